@@ -1,0 +1,33 @@
+-- Histories of calls: what each shard's replies replay, and what all shards' together.
+use Rattle.std.specs.Prelude.{◌≡◌, ℕ, ◌<◌, ◌==◌, if◌then◌else◌, List, [], ◌∷◌}
+use Rattle.zy_base.specs.declared.entry.Entry.{Entry}
+use Rattle.zy_base.specs.Shard.{State, empty_state, reply_to, state_after}
+
+-- ---- one shard
+
+-- each entry's reply is that of its call, where the entries before it left the shard
+abbrev pub IsReplay : ℕ → ℕ → State → List Entry → Type 0
+IsReplay shards number state [] = Unit {0}
+IsReplay shards number state (e ∷ es) = (e.reply ≡ reply_to state e.call) × IsReplay shards number (state_after shards number state e.call) es
+
+-- the shard after the calls of these entries
+abbrev pub replayed : ℕ → ℕ → State → List Entry → State
+replayed shards number state [] = state
+replayed shards number state (e ∷ es) = replayed shards number (state_after shards number state e.call) es
+
+-- ---- all shards
+
+-- the shards after a call on one of them
+abbrev pub states_after : ℕ → (ℕ → State) → Entry → ℕ → State
+states_after shards states e number =
+    if number == e.shard then state_after shards e.shard (states e.shard) e.call else states number
+
+-- each entry's shard is one of so many, and its reply is that of its call, where the entries before it left that shard
+abbrev pub IsLegalFrom : ℕ → (ℕ → State) → List Entry → Type 0
+IsLegalFrom shards states [] = Unit {0}
+IsLegalFrom shards states (e ∷ es) =
+    (e.shard < shards) × (e.reply ≡ reply_to (states e.shard) e.call) × IsLegalFrom shards (states_after shards states e) es
+
+-- the entries are those of one run of calls on so many shards, which were empty at first
+abbrev pub IsLegal : ℕ → List Entry → Type 0
+IsLegal shards es = IsLegalFrom shards (λ number. empty_state) es

@@ -1,0 +1,51 @@
+-- Sources and sinks in memory, which fail at the calls that a test names.
+use Rattle.std.specs.Prelude.{ℕ, ◌+◌, ◌-◌, ◌^◌, min, Bool, ◌==◌, nat_le, if◌then◌else◌, List, ◌++◌, length, Option, None, Some}
+use Rattle.std.specs.List.{list_any}
+
+-- a source in memory
+pub record Reading : Type 0 where
+  -- the bytes that are still to come
+  pub rest : List ℕ
+  -- how many bytes one call gives at most
+  pub most : ℕ
+  -- the numbers of the calls that fail, from 0
+  pub failing : List ℕ
+  -- how many calls were made
+  pub calls : ℕ
+  -- how many of them failed
+  pub faults : ℕ
+
+-- a sink in memory
+pub record Writing : Type 0 where
+  -- the bytes taken, unless one of them was not kept
+  pub holds : Option (List ℕ)
+  -- how many bytes are kept at most
+  pub room : ℕ
+  -- how many bytes one call takes at most
+  pub most : ℕ
+  -- the numbers of the calls that fail, from 0
+  pub failing : List ℕ
+  -- how many calls were made
+  pub calls : ℕ
+  -- how many of them failed
+  pub faults : ℕ
+
+-- a sink in memory that never fails
+pub record Keeping : Type 0 where
+  -- the bytes taken, unless one of them was not kept
+  pub holds : Option (List ℕ)
+  -- how many bytes are kept at most
+  pub room : ℕ
+
+-- the call with this number is one of those that fail
+abbrev pub is_failing : List ℕ → ℕ → Bool
+is_failing failing call = list_any (λ n. n == call) failing
+
+-- a count after one more, which stands still at its last value
+abbrev pub one_more : ℕ → ℕ
+one_more count = min (count + 1) (2 ^ 64 - 1)
+
+-- the bytes held after a piece was taken: a piece that doesn't fit is not kept, and then nothing is told
+abbrev pub held_after : Option (List ℕ) → ℕ → List ℕ → Option (List ℕ)
+held_after None room piece = None
+held_after (Some held) room piece = if nat_le (length held + length piece) room then Some (held ++ piece) else None

@@ -1,0 +1,54 @@
+-- Lists of entries: those of a connection, those of a shard, and their order by stamp.
+use Rattle.std.specs.Prelude.{◌≡◌, ◌⊎◌, ℕ, ◌<◌, ◌==◌, List, [], ◌∷◌, filter, unwrap_or}
+use Rattle.std.specs.List.{slice_get}
+use Rattle.zy_base.specs.declared.entry.Entry.{Entry}
+
+-- the entries of a connection, in the list's order
+abbrev pub of_connection : ℕ → List Entry → List Entry
+of_connection connection es = filter (λ e. e.tag.conn == connection) es
+
+-- the entries at a shard, in the list's order
+abbrev pub at_shard : ℕ → List Entry → List Entry
+at_shard shard es = filter (λ e. e.shard == shard) es
+
+-- every entry is at this shard
+abbrev pub AreAt : ℕ → List Entry → Type 0
+AreAt shard [] = Unit {0}
+AreAt shard (e ∷ es) = (e.shard ≡ shard) × AreAt shard es
+
+-- the entries of one of several lists, and none where there is no such list
+abbrev pub history_of : List (List Entry) → ℕ → List Entry
+history_of histories shard = unwrap_or (slice_get histories shard) []
+
+-- the entries of each list are at the shard whose number is the list's place
+abbrev pub AreByShard : List (List Entry) → Type 0
+AreByShard histories = (shard : ℕ) → AreAt shard (history_of histories shard)
+
+-- the stamp of the last entry, or the one before all where there is none
+abbrev pub last_stamp : ℕ → List Entry → ℕ
+last_stamp before [] = before
+last_stamp before (e ∷ es) = last_stamp e.stamp es
+
+-- the stamps rise strictly, and are above the one before
+abbrev pub StampsRise : ℕ → List Entry → Type 0
+StampsRise before [] = Unit {0}
+StampsRise before (e ∷ es) = (before < e.stamp) × StampsRise e.stamp es
+
+-- an entry stands before another: its stamp is lower, or the stamps are equal and its shard is lower
+abbrev pub IsBefore : Entry → Entry → Type 0
+IsBefore x y = (x.stamp < y.stamp) ⊎ ((x.stamp ≡ y.stamp) × (x.shard < y.shard))
+
+-- an entry stands before the first of a list
+abbrev pub IsBeforeFirst : Entry → List Entry → Type 0
+IsBeforeFirst x [] = Unit {0}
+IsBeforeFirst x (y ∷ ys) = IsBefore x y
+
+-- the entries stand in order of stamp and, where stamps are equal, of shard
+abbrev pub IsOrdered : List Entry → Type 0
+IsOrdered [] = Unit {0}
+IsOrdered (x ∷ xs) = IsBeforeFirst x xs × IsOrdered xs
+
+-- the list is in order, and has at each shard the entries of that shard's history and no others
+pub record IsMergeOf (histories : List (List Entry)) (es : List Entry) : Type 0 where
+  pub ordered : IsOrdered es
+  pub parts : (shard : ℕ) → at_shard shard es ≡ history_of histories shard

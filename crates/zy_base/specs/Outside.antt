@@ -1,0 +1,40 @@
+-- What a source gives, what a sink takes, and when they fail.
+use Rattle.std.specs.Prelude.{◌≡◌, ◌⊎◌, ℕ, ◌-◌, ◌^◌, ◌<◌, ◌≤◌, List, [], ◌++◌, length, take, ⊤, Option, None, Some, Result, MatchResult, OnOk, OnErr}
+
+-- the count of faults rose, or stands at its last value
+abbrev pub Rose : ℕ → ℕ → Type 0
+Rose before after = (before < after) ⊎ (2 ^ 64 - 1 ≤ after)
+
+-- where the bytes held are told afterwards, they were told before, and grew by these
+abbrev pub Grew : Option (List ℕ) → Option (List ℕ) → List ℕ → Type 0
+Grew before None bytes = ⊤
+Grew None (Some after) bytes = ⊥
+Grew (Some before) (Some after) bytes = after ≡ before ++ bytes
+
+-- the same, by some first of these bytes
+abbrev pub GrewByPrefix : Option (List ℕ) → Option (List ℕ) → List ℕ → Type 0
+GrewByPrefix before after bytes = (n : ℕ) × (n ≤ length bytes) × Grew before after (take n bytes)
+
+-- a write took its first n bytes at `Ok(n)`, and none at `Err`
+abbrev pub WriteGrew : {E : Type 0} → Option (List ℕ) → Option (List ℕ) → Result ℕ E → List ℕ → Type 0
+WriteGrew before after result from = MatchResult result (λ n. Grew before after (take n from)) (λ _. Grew before after [])
+
+-- `Ok(n)` took at most the whole piece, and something of a piece that is not empty
+abbrev pub TakesSome : {E : Type 0} → Result ℕ E → List ℕ → Type 0
+TakesSome result from = MatchResult result (λ n. (n ≤ length from) × (0 < length from → 0 < n)) (λ _. ⊤)
+
+-- what is told now, by an object that told something at first
+abbrev pub told_since : Option (List ℕ) → Option (List ℕ) → Option (List ℕ)
+told_since None now = None
+told_since (Some first) now = now
+
+-- a call that writes a text wrote it whole, or failed after some first part of it
+pub record Writes {K E : Type 0} (holds : K → Option (List ℕ)) (faults : K → ℕ) (old new : K) (result : Result ⊤ E) (text : List ℕ) : Type 0 where
+  -- at `Ok` the sink grew by the text
+  pub whole : OnOk result (Grew (holds old) (holds new) text)
+  -- at `Err` it grew by a prefix of the text
+  pub part : OnErr result (GrewByPrefix (holds old) (holds new) text)
+  -- the count of faults didn't fall
+  pub count : faults old ≤ faults new
+  -- `Err` comes only where the count rose, or stands at its last value
+  pub cause : OnErr result (Rose (faults old) (faults new))

@@ -1,0 +1,136 @@
+-- What each call answers and does on one shard of the store: memcached's protocol.txt, "Storage commands",
+-- "Retrieval command", "Deletion" and "Increment/Decrement". Uniques, the limit of a value and the form of
+-- counted values are this project's (docs/PROFILE.md).
+use Rattle.std.specs.Prelude.{ℕ, ◌+◌, ◌-◌, ◌*◌, ◌%◌, ◌^◌, ◌==◌, nat_lt, if◌then◌else◌, List, ◌++◌, length, decimal, Option, None, Some}
+use Rattle.std.specs.Ordering.{nat_cmp}
+use Rattle.std.specs.Cmp.Lexicographic.{slice_cmp}
+use Rattle.std.specs.FinMap.{FinMap, empty, get, insert, remove}
+use Rattle.zy_base.specs.declared.item.Item.{Item}
+use Rattle.zy_base.specs.declared.call.Call.{Call}
+use Rattle.zy_base.specs.declared.call.Call.TheVariants.{Get, Set, Add, Replace, Append, Prepend, Cas, Incr, Decr, Delete, Flush}
+use Rattle.zy_base.specs.declared.call_reply.CallReply.{CallReply}
+use Rattle.zy_base.specs.declared.call_reply.CallReply.TheVariants.{Miss, Hit, Stored, NotStored, Exists, NotFound, Deleted, Number, NotNumber, TooLarge, Flushed}
+use Rattle.zy_base.specs.Call.{key_of}
+use Rattle.zy_base.specs.Number.{number_of}
+
+-- ---- values
+
+-- the items of a shard, by the bytes of their keys
+abbrev pub Items : Type 0
+Items = FinMap (slice_cmp nat_cmp) Item
+
+-- a shard: its items, and how many items it ever stored
+pub record State : Type 0 where
+  pub items : Items
+  pub count : ℕ
+
+-- a shard on which no call was made
+abbrev pub empty_state : State
+empty_state = record { items = empty; count = 0 }
+
+-- the most bytes that a value may have
+abbrev pub value_limit : ℕ
+value_limit = 1048576
+
+-- the unique of the item that a shard stores with this count, of so many shards
+abbrev pub unique_of : ℕ → ℕ → ℕ → ℕ
+unique_of shards number count = shards * count + number
+
+-- ---- the table of calls
+
+-- what a call does to the items of its shard
+pub data Effect : Type 0 where
+  -- nothing
+  keeps : Effect
+  -- the key gets an item with these flags and this value, and a unique of its own
+  stores : List ℕ → ℕ → List ℕ → Effect
+  -- the key's item is removed
+  removes : List ℕ → Effect
+  -- all items are removed
+  empties : Effect
+
+-- what a call answers, and what it does
+pub record Outcome : Type 0 where
+  pub reply : CallReply
+  pub effect : Effect
+
+-- an answer, and nothing changes
+abbrev pub answers : CallReply → Outcome
+answers reply = record { reply = reply; effect = keeps }
+
+-- the item is stored
+abbrev pub stored : List ℕ → ℕ → List ℕ → Outcome
+stored key flags value = record { reply = Stored; effect = stores key flags value }
+
+-- the value that two values make is stored, with the flags of the item that was there
+abbrev pub joined : List ℕ → Item → List ℕ → Outcome
+joined key item value = if nat_lt value_limit (length value) then answers TooLarge else stored key item.flags value
+
+-- the number is stored as digits without padding, with the flags of the item that was there
+abbrev pub counted : List ℕ → Item → ℕ → Outcome
+counted key item number = record { reply = Number number; effect = stores key item.flags (decimal number) }
+
+-- a value that is a number is counted up, modulo 2^64
+abbrev pub counted_up : List ℕ → Item → ℕ → Option ℕ → Outcome
+counted_up key item amount None = answers NotNumber
+counted_up key item amount (Some number) = counted key item ((number + amount) % 2 ^ 64)
+
+-- a value that is a number is counted down, and not below 0
+abbrev pub counted_down : List ℕ → Item → ℕ → Option ℕ → Outcome
+counted_down key item amount None = answers NotNumber
+counted_down key item amount (Some number) = counted key item (number - amount)
+
+-- an item is exchanged where it has the unique that the caller saw
+abbrev pub exchanged : List ℕ → Item → ℕ → ℕ → List ℕ → Outcome
+exchanged key item flags unique value = if item.unique == unique then stored key flags value else answers Exists
+
+-- the table: each call, where its key has no item and where it has one
+abbrev pub outcome_of : Call → Option Item → Outcome
+outcome_of (Get key) None = answers Miss
+outcome_of (Get key) (Some item) = answers (Hit item.flags item.unique item.value)
+outcome_of (Set key flags value) found = stored key flags value
+outcome_of (Add key flags value) None = stored key flags value
+outcome_of (Add key flags value) (Some item) = answers NotStored
+outcome_of (Replace key flags value) None = answers NotStored
+outcome_of (Replace key flags value) (Some item) = stored key flags value
+outcome_of (Append key value) None = answers NotStored
+outcome_of (Append key value) (Some item) = joined key item (item.value ++ value)
+outcome_of (Prepend key value) None = answers NotStored
+outcome_of (Prepend key value) (Some item) = joined key item (value ++ item.value)
+outcome_of (Cas key flags unique value) None = answers NotFound
+outcome_of (Cas key flags unique value) (Some item) = exchanged key item flags unique value
+outcome_of (Incr key amount) None = answers NotFound
+outcome_of (Incr key amount) (Some item) = counted_up key item amount (number_of item.value)
+outcome_of (Decr key amount) None = answers NotFound
+outcome_of (Decr key amount) (Some item) = counted_down key item amount (number_of item.value)
+outcome_of (Delete key) None = answers NotFound
+outcome_of (Delete key) (Some item) = record { reply = Deleted; effect = removes key }
+outcome_of Flush found = record { reply = Flushed; effect = empties }
+
+-- ---- the step
+
+-- the item of a call's key
+abbrev pub item_at : Items → Option (List ℕ) → Option Item
+item_at items None = None
+item_at items (Some key) = get items key
+
+-- what a call answers, and what it does, on these items
+abbrev pub outcome_on : Items → Call → Outcome
+outcome_on items call = outcome_of call (item_at items (key_of call))
+
+-- the shard after an effect: what is stored counts up, and nothing else does
+abbrev pub state_with : ℕ → ℕ → State → Effect → State
+state_with shards number state keeps = state
+state_with shards number state (stores key flags value) =
+    let item : Item = record { flags = flags; value = value; unique = unique_of shards number (state.count + 1) } in
+    record { items = insert state.items key item; count = state.count + 1 }
+state_with shards number state (removes key) = record { items = remove state.items key; count = state.count }
+state_with shards number state empties = record { items = empty; count = state.count }
+
+-- what the shard answers to a call
+abbrev pub reply_to : State → Call → CallReply
+reply_to state call = (outcome_on state.items call).reply
+
+-- the shard with this number, of so many, after a call
+abbrev pub state_after : ℕ → ℕ → State → Call → State
+state_after shards number state call = state_with shards number state (outcome_on state.items call).effect

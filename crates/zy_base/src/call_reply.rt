@@ -1,0 +1,67 @@
+//! What a shard answers to a call.
+ghost use Rattle.std.specs.Prelude.{◌≡◌, IfOk};
+
+use crate::blob::Blob;
+use crate::outside::NoMemory;
+
+/// What a shard answers to a call.
+#[derive(Debug, PartialEq, Eq, Drop)]
+pub enum CallReply {
+    /// A get found no item.
+    Miss,
+    /// A get found this item.
+    Hit {
+        flags: u32,
+        unique: u64,
+        value: Blob,
+    },
+    /// An item was stored.
+    Stored,
+    /// The key has an item where none is wanted, or none where one is.
+    NotStored,
+    /// The item there has another unique.
+    Exists,
+    /// The key has no item.
+    NotFound,
+    /// The item was removed.
+    Deleted,
+    /// The number that the value is now.
+    Number {
+        number: u64,
+    },
+    /// The value there is no number.
+    NotNumber,
+    /// The joined value would be too large.
+    TooLarge,
+    /// All items of the shard were removed.
+    Flushed,
+}
+
+impl CallReply {
+    /// The same reply.
+    pub fn copy(&self) -> Result<CallReply, NoMemory>
+        ensures value { IfOk result (λ copy. copy ≡ self.now) }
+    {
+        match self {
+            CallReply::Miss => Ok(CallReply::Miss),
+            CallReply::Hit {
+                flags,
+                unique,
+                value,
+            } => Ok(CallReply::Hit {
+                flags: *flags,
+                unique: *unique,
+                value: value.copy()?,
+            }),
+            CallReply::Stored => Ok(CallReply::Stored),
+            CallReply::NotStored => Ok(CallReply::NotStored),
+            CallReply::Exists => Ok(CallReply::Exists),
+            CallReply::NotFound => Ok(CallReply::NotFound),
+            CallReply::Deleted => Ok(CallReply::Deleted),
+            CallReply::Number { number } => Ok(CallReply::Number { number: *number }),
+            CallReply::NotNumber => Ok(CallReply::NotNumber),
+            CallReply::TooLarge => Ok(CallReply::TooLarge),
+            CallReply::Flushed => Ok(CallReply::Flushed),
+        }
+    }
+}

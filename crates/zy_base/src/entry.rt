@@ -1,0 +1,43 @@
+//! Entries of the journal: calls with their replies.
+ghost use Rattle.std.specs.Prelude.{◌≡◌, IfOk};
+
+use crate::call::Call;
+use crate::call_reply::CallReply;
+use crate::outside::NoMemory;
+
+/// Whose call it is: the connection, the number of its command, and the call's number within the
+/// command, all from 0.
+#[derive(Clone, Copy, Debug, PartialEq, Eq)]
+pub struct Tag {
+    pub conn: u32,
+    pub index: u64,
+    pub part: u32,
+}
+
+/// One call on a shard, with what the shard answered. Along a shard, and along the calls of a
+/// connection, stamps rise.
+#[derive(Debug, PartialEq, Eq, Drop)]
+pub struct Entry {
+    pub tag: Tag,
+    pub shard: u32,
+    pub call: Call,
+    pub reply: CallReply,
+    pub stamp: u64,
+}
+
+impl Entry {
+    /// The same entry.
+    pub fn copy(&self) -> Result<Entry, NoMemory>
+        ensures value { IfOk result (λ copy. copy ≡ self.now) }
+    {
+        let call = self.call.copy()?;
+        let reply = self.reply.copy()?;
+        Ok(Entry {
+            tag: self.tag,
+            shard: self.shard,
+            call,
+            reply,
+            stamp: self.stamp,
+        })
+    }
+}

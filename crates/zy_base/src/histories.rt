@@ -1,0 +1,71 @@
+//! The histories of all shards.
+ghost use Rattle.std.specs.Prelude.{◌≡◌, ◌<◌, [], ◌∷◌, ◌++◌, length, ◌≤◌, OnOk, OnErr, IfErr};
+ghost use Rattle.zy_base.specs.Order.{AreAt, history_of};
+
+use crate::entries::Entries;
+use crate::entry::Entry;
+use crate::outside::NoMemory;
+use std::alloc::Global;
+use std::marker::Model;
+
+/// A list of entries for each shard, at most 256. Contracts see it as the list of these lists.
+/// Every entry of a list is at the shard whose number is the list's place.
+#[derive(Debug, Drop)]
+pub struct Histories {
+    lists: Vec<Entries>,
+}
+
+impl Model for Histories {
+    ghost use Rattle.std.specs.Prelude.{List, ◌≤◌, length};
+    ghost use Rattle.zy_base.specs.declared.entry.Entry.{Entry};
+
+    ghost Value = { List (List Entry) };
+
+    ghost use Rattle.zy_base.specs.Order.{AreByShard};
+
+    ghost view = { λ h. h.lists.items };
+
+    ghost invariant = { λ h. (length h.lists.items ≤ 256) × AreByShard h.lists.items };
+}
+
+impl Histories {
+    /// No list. Takes no memory.
+    pub fn new(alloc: Global) -> Histories
+        ensures value { result ≡ [] }
+    {
+        Histories {
+            lists: Vec::new(alloc),
+        }
+    }
+
+    /// Appends the history of the next shard; after a refusal it is handed back.
+    pub fn add(&mut self, list: Entries) -> Result<(), (Entries, NoMemory)>
+        requires room { length self.old < 256 }
+        requires shard { AreAt (length self.old) list }
+        ensures ok { OnOk result (self.new ≡ self.old ++ list ∷ []) }
+        ensures err { OnErr result (self.new ≡ self.old) }
+        ensures returned { IfErr result (λ e. e.0 ≡ list) }
+    {
+        match self.lists.push(list) {
+            Ok(()) => Ok(()),
+            Err(e) => Err((e.value, NoMemory)),
+        }
+    }
+
+    /// The number of lists.
+    pub fn count(&self) -> u32
+        ensures value { result ≡ length self.now }
+        ensures limit { result ≤ 256 }
+    {
+        self.lists.len() as u32
+    }
+
+    /// The history of a shard.
+    pub fn list(&self, shard: u32) -> &[Entry]
+        requires within { shard < length self.now }
+        ensures value { result.now ≡ history_of self.now shard }
+        ensures shard { AreAt shard result.now }
+    {
+        self.lists[shard as usize].items()
+    }
+}

@@ -1,0 +1,32 @@
+//! The types that every layer shares, the outside, and the definitions that several crates cite.
+#![tactic(auto)]
+
+mod blob;
+mod call;
+mod call_numbers;
+mod call_reply;
+mod entries;
+mod entry;
+mod file_fault;
+mod histories;
+mod hold;
+mod item;
+mod key;
+mod number;
+mod outside;
+mod replies;
+
+pub use blob::Blob;
+pub use call::Call;
+pub use call_numbers::CallNumbers;
+pub use call_reply::CallReply;
+pub use entries::Entries;
+pub use entry::{Entry, Tag};
+pub use file_fault::{FileFault, FileFeed};
+pub use histories::Histories;
+pub use hold::{Hold, Holds};
+pub use item::Item;
+pub use key::shard_of;
+pub use number::{number_text, read_number};
+pub use outside::{Failed, Gate, NoMemory, Sink, Source, Ungated};
+pub use replies::Replies;
