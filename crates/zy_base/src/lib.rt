@@ -15,6 +15,7 @@ mod key;
 mod number;
 mod outside;
 mod replies;
+mod writing;
 
 pub use blob::Blob;
 pub use call::Call;
@@ -30,3 +31,4 @@ pub use key::shard_of;
 pub use number::{number_text, read_number};
 pub use outside::{Failed, Gate, NoMemory, Sink, Source, Ungated};
 pub use replies::Replies;
+pub use writing::{write_pieces, write_whole};

@@ -1,0 +1,31 @@
+//! Writing whole texts to a sink.
+ghost use Rattle.std.specs.Prelude.{flat_map};
+ghost use Rattle.zy_base.specs.Outside.{Writes};
+
+use crate::outside::{Failed, Sink};
+
+/// Writes the whole piece, in as many writes as the sink wants. Takes no memory.
+pub fn write_whole<K: Sink>(sink: &mut K, piece: &[u8]) -> Result<(), Failed>
+    ensures writes { Writes K.holds K.faults sink.old sink.new result piece.now }
+{
+    let mut at = 0;
+    while at < piece.len() {
+        match sink.write(&piece[at..]) {
+            Ok(taken) => at += taken,
+            Err(failed) => return Err(failed),
+        }
+    }
+    Ok(())
+}
+
+/// Writes the pieces one after another, each whole. Takes no memory.
+pub fn write_pieces<K: Sink>(sink: &mut K, pieces: &[&[u8]]) -> Result<(), Failed>
+    ensures writes { Writes K.holds K.faults sink.old sink.new result (flat_map (λ piece. piece.now) pieces.now) }
+{
+    for piece in pieces {
+        if let Err(failed) = write_whole(sink, *piece) {
+            return Err(failed);
+        }
+    }
+    Ok(())
+}
