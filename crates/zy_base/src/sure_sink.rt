@@ -1,0 +1,90 @@
+//! Sinks in memory that never fail.
+ghost use Rattle.std.specs.Prelude.{◌≡◌, ℕ, ◌≤◌, [], length, option_map, Some, IsOk, IfOk};
+ghost use Rattle.zy_base.specs.Outside.{Grew, WriteGrew, TakesSome};
+ghost use Rattle.zy_base.specs.Memory.{held_after};
+
+use crate::outside::{Failed, NoMemory, Sink};
+use std::alloc::Global;
+use std::marker::Model;
+
+/// A sink in memory, which never fails. A piece that doesn't fit into what is left of its room is taken
+/// and not kept, and from then on the sink doesn't tell its bytes.
+#[derive(Debug, Drop)]
+pub struct SureSink {
+    bytes: Vec<u8>,
+    room: usize,
+    is_told: bool,
+}
+
+impl Model for SureSink {
+    ghost use Rattle.std.specs.Prelude.{◌≤◌, length, None, Some, if◌then◌else◌, vec_capacity};
+    ghost use Rattle.zy_base.specs.Memory.{Keeping};
+
+    ghost Value = { Keeping };
+
+    ghost view = { λ s. record { holds = if s.is_told then Some s.bytes.items else None; room = s.room } };
+
+    ghost invariant = { λ s. record { within : length s.bytes.items ≤ s.room; reserved : s.room ≤ vec_capacity s.bytes } };
+}
+
+impl SureSink {
+    /// Keeps at most so many bytes, for which the room is reserved here.
+    pub fn new(alloc: Global, room: usize) -> Result<SureSink, NoMemory>
+        ensures value { IfOk result (λ sink. sink ≡ record { holds = Some []; room = room }) }
+    {
+        match Vec::with_capacity(alloc, room) {
+            Ok(bytes) => Ok(SureSink {
+                bytes,
+                room,
+                is_told: true,
+            }),
+            Err(_) => Err(NoMemory),
+        }
+    }
+
+    /// The bytes taken, unless one of them was not kept.
+    pub fn bytes(&self) -> Option<&[u8]>
+        ensures value { option_map (λ bytes. bytes.now) result ≡ self.now.holds }
+    {
+        if self.is_told {
+            Some(self.bytes.as_slice())
+        } else {
+            None
+        }
+    }
+
+    // Takes the piece, and keeps it where it fits.
+    pub(crate) fn take(&mut self, piece: &[u8])
+        ensures value { self.new ≡ record self.old { holds = held_after self.old.holds self.old.room piece.now } }
+    {
+        if self.is_told && piece.len() <= self.room - self.bytes.len() {
+            self.is_told = self.bytes.extend_from_slice(piece).is_ok();
+        } else {
+            self.is_told = false;
+        }
+    }
+}
+
+impl Sink for SureSink {
+    ghost holds = { λ s. s.holds };
+
+    ghost faults = { λ _. 0 };
+
+    fn write(&mut self, from: &[u8]) -> Result<usize, Failed>
+        ensures bound { TakesSome result from.now }
+        ensures bytes { WriteGrew self.old.holds self.new.holds result from.now }
+        ensures takes { result ≡ Ok (length from.now) }
+        ensures kept { self.new ≡ record self.old { holds = held_after self.old.holds self.old.room from.now } }
+    {
+        self.take(from);
+        Ok(from.len())
+    }
+
+    fn finish(&mut self) -> Result<(), Failed>
+        ensures bytes { Grew self.old.holds self.new.holds [] }
+        ensures succeeds { IsOk result }
+        ensures kept { self.new ≡ self.old }
+    {
+        Ok(())
+    }
+}
