@@ -6,3 +6,4 @@ pub mod Call
 pub mod Shard
 pub mod History
 pub mod Order
+pub mod PlainShard
