@@ -1,0 +1,66 @@
+//! Serves a recorded capture of memcached text traffic.
+#![tactic(auto)]
+
+use std::alloc::Global;
+use std::env::{Env, FillError};
+use std::process::ExitCode;
+use zy_base::{Blob, NoMemory, Ungated};
+use zygos_run::{StdSink, StdSource, serve, status};
+
+// The exit status where the words themselves find no memory.
+const OUT_OF_MEMORY: u8 = 6;
+
+fn main(rt: HostRuntime) -> ExitCode {
+    let alloc = rt.alloc();
+    match words(&rt, alloc) {
+        Ok(words) => {
+            let answer = serve(
+                &rt,
+                alloc,
+                words.as_slice(),
+                &mut StdSource::new(rt.stdin()),
+                &mut StdSink::new(rt.stdout()),
+                &mut StdSink::new(rt.stderr()),
+                &Ungated,
+            );
+            ExitCode::from(status(&answer))
+        }
+        Err(NoMemory) => ExitCode::from(OUT_OF_MEMORY),
+    }
+}
+
+// The words after the program's name, as bytes.
+fn words<R: Env>(rt: &R, alloc: Global) -> Result<Vec<Blob>, NoMemory> {
+    let mut words = Vec::new(alloc);
+    for i in 1..usize::MAX {
+        match word(rt, alloc, i)? {
+            Some(word) => {
+                if words.push(word).is_err() {
+                    return Err(NoMemory);
+                }
+            }
+            None => break,
+        }
+    }
+    Ok(words)
+}
+
+// One word, by a buffer that doubles until the word fits.
+fn word<R: Env>(rt: &R, alloc: Global, i: usize) -> Result<Option<Blob>, NoMemory> {
+    let mut size = 256usize;
+    for _ in 0..usize::BITS {
+        let mut buffer = match vec![in alloc; 0u8; size] {
+            Ok(buffer) => buffer,
+            Err(_) => return Err(NoMemory),
+        };
+        match rt.arg(i, buffer.as_mut_slice()) {
+            Ok(length) => {
+                buffer.truncate(length);
+                return Ok(Some(Blob::from_vec(buffer)));
+            }
+            Err(FillError::NotPresent) => return Ok(None),
+            Err(FillError::TooLong) => size = size.saturating_add(size),
+        }
+    }
+    Err(NoMemory)
+}

@@ -1,0 +1,92 @@
+//! Sources and sinks over the standard library's readers and writers.
+ghost use Rattle.std.specs.Prelude.{◌≡◌, IsSome};
+ghost use Rattle.zy_base.specs.Outside.{told_since};
+
+use std::io::{Read, Write};
+use std::snapshot::Snapshot;
+use zy_base::{Failed, Sink, Source};
+
+/// Reads from a reader, and counts its errors. It tells the bytes that the reader tells: over memory
+/// all of them, over standard input none.
+#[derive(Drop)]
+pub struct StdSource<R> {
+    reader: R,
+    faults: u64,
+}
+
+impl<R> StdSource<R> {
+    /// Reads from this reader. Takes no memory.
+    pub fn new(reader: R) -> StdSource<R>
+        ensures reader { result.reader ≡ reader }
+        ensures faults { result.faults ≡ 0 }
+    {
+        StdSource { reader, faults: 0 }
+    }
+}
+
+impl<R: Read> Source for StdSource<R> {
+    ghost rest = { λ s. R.remaining s.reader };
+
+    ghost faults = { λ s. s.faults };
+
+    fn read(&mut self, into: &mut [u8]) -> Result<usize, Failed> {
+        match self.reader.read(into) {
+            Ok(n) => Ok(n),
+            Err(_) => {
+                self.faults = self.faults.saturating_add(1);
+                Err(Failed)
+            }
+        }
+    }
+}
+
+/// Writes to a writer, and counts its errors and the writes that take nothing of a piece. It tells the
+/// bytes that the writer tells: over memory all of them, over standard output none.
+#[derive(Drop)]
+pub struct StdSink<W: Write> {
+    writer: W,
+    faults: u64,
+    first: Snapshot<W>,
+    ghost tells: { IsSome (W.contents first.value) → IsSome (W.contents writer) },
+}
+
+impl<W: Write> StdSink<W> {
+    /// Writes to this writer. Takes no memory.
+    pub fn new(writer: W) -> StdSink<W>
+        ensures writer { result.writer ≡ writer }
+        ensures faults { result.faults ≡ 0 }
+    {
+        let first = Snapshot::of(&writer);
+        StdSink {
+            writer,
+            faults: 0,
+            first,
+        }
+    }
+}
+
+impl<W: Write> Sink for StdSink<W> {
+    ghost holds = { λ s. told_since (W.contents s.first.value) (W.contents s.writer) };
+
+    ghost faults = { λ s. s.faults };
+
+    fn write(&mut self, from: &[u8]) -> Result<usize, Failed> {
+        match self.writer.write(from) {
+            Ok(n) if n > 0 || from.is_empty() => Ok(n),
+            _ => {
+                self.faults = self.faults.saturating_add(1);
+                Err(Failed)
+            }
+        }
+    }
+
+    fn finish(&mut self) -> Result<(), Failed> {
+        match self.writer.flush() {
+            Ok(()) => Ok(()),
+            Err(_) => {
+                self.faults = self.faults.saturating_add(1);
+                Err(Failed)
+            }
+        }
+    }
+}
