@@ -1,3 +1,5 @@
+pub mod LegalLemmas
+pub mod MergeLemmas
 pub mod NumberLemmas
 pub mod PlainLemmas
 pub mod WritingLemmas

@@ -1,9 +1,10 @@
 -- What reading a number digit by digit shows of the whole text.
-use Rattle.std.proofs.Common.{◌≡◌, ℕ, ◌+◌, ◌-◌, ◌*◌, ◌^◌, ◌<◌, ◌≤◌, true, List, [], ◌∷◌, length, drop, get_or, sym, ap, ◌∙◌, arith}
-use Rattle.std.specs.Prelude.{None, Some}
+use Rattle.std.proofs.Common.{◌≡◌, ℕ, ◌+◌, ◌-◌, ◌*◌, ◌^◌, ◌<◌, ◌≤◌, true, List, [], ◌∷◌, length, drop, get_or, sym, ap, ◌∙◌, arith, refl}
+use Rattle.std.specs.Prelude.{None, Some, decimal}
 use Rattle.std.specs.Char.{digit_value}
 use Rattle.std.specs.Str.{all_ascii_digits}
-use Rattle.std.specs.Str.Parse.{digits_value, digits_value_after}
+use Rattle.std.specs.Str.Parse.{AllDigits, digits_value, digits_value_after}
+use Rattle.std.proofs.lemmas.Fmt.{decimal_is_IsNumeral, length-decimal-le}
 use Rattle.std.proofs.lemmas.Bool.Decides.{nat_tests}
 use Rattle.std.proofs.lemmas.List.{drop_more, drop_all}
 use Rattle.zy_base.specs.Number.{number_of}
@@ -40,3 +41,14 @@ pub read_whole : (text : List ℕ) (i number : ℕ) → length text ≤ i → 0 
 read_whole text i number end some few fits value digits =
     let nothing : drop i text ≡ [] = drop_all i text end in
     number_of-found text number (omega arith) few (sym digits ∙ ap all_ascii_digits nothing) (sym (ap (digits_value_after 10 number) nothing) ∙ value) fits
+
+all_digits : (text : List ℕ) → AllDigits 10 text → all_ascii_digits text ≡ true
+all_digits [] digits = refl
+all_digits (c ∷ cs) digits =
+    let rest = all_digits cs digits.1 in let value = digits.0 in grind (arith, nat_tests)
+
+-- a number is read back from its digits
+pub number_of-decimal : (number : ℕ) → number < 2 ^ 64 → number_of (decimal number) ≡ Some number
+number_of-decimal number fits =
+    let numeral = decimal_is_IsNumeral number fits in
+    sym (number_of-found (decimal number) number numeral.0.0 (length-decimal-le 20 number (omega arith) (omega arith) fits) (all_digits (decimal number) numeral.0.1) (sym numeral.1) fits)

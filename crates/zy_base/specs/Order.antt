@@ -16,6 +16,11 @@ abbrev pub AreAt : ℕ → List Entry → Type 0
 AreAt shard [] = Unit {0}
 AreAt shard (e ∷ es) = (e.shard ≡ shard) × AreAt shard es
 
+-- every entry's shard is one of so many
+abbrev pub AreBelow : ℕ → List Entry → Type 0
+AreBelow shards [] = Unit {0}
+AreBelow shards (e ∷ es) = (e.shard < shards) × AreBelow shards es
+
 -- the entries of one of several lists, and none where there is no such list
 abbrev pub history_of : List (List Entry) → ℕ → List Entry
 history_of histories shard = unwrap_or (slice_get histories shard) []

@@ -12,6 +12,7 @@ mod histories;
 mod hold;
 mod item;
 mod key;
+pub mod laws;
 mod mem_sink;
 mod mem_source;
 mod number;
@@ -20,6 +21,8 @@ mod plain_shard;
 mod replies;
 mod sure_sink;
 mod sure_source;
+#[cfg(test)]
+mod tests;
 mod writing;
 
 pub use blob::Blob;

@@ -53,6 +53,13 @@ impl PlainShard {
         }
     }
 
+    /// How many items were ever stored.
+    pub fn count(&self) -> u64
+        ensures value { result ≡ self.now.count }
+    {
+        self.count
+    }
+
     /// Answers a call and carries it out.
     pub fn step(&mut self, call: &Call) -> Result<CallReply, NoMemory>
         requires room { self.old.count < 2 ^ 52 }
@@ -100,11 +107,11 @@ impl PlainShard {
             }
             Call::Incr { key, amount } => match read_number(item.value.bytes()) {
                 None => Ok(CallReply::NotNumber),
-                Some(number) => self.count(key, item, number.wrapping_add(*amount)),
+                Some(number) => self.store_number(key, item, number.wrapping_add(*amount)),
             },
             Call::Decr { key, amount } => match read_number(item.value.bytes()) {
                 None => Ok(CallReply::NotNumber),
-                Some(number) => self.count(key, item, number.saturating_sub(*amount)),
+                Some(number) => self.store_number(key, item, number.saturating_sub(*amount)),
             },
             _ => unreachable!(),
         }
@@ -163,7 +170,7 @@ impl PlainShard {
     }
 
     // Stores a number, with the flags of the item there.
-    fn count(&mut self, key: &Blob, item: &Item, number: u64) -> Result<CallReply, NoMemory>
+    fn store_number(&mut self, key: &Blob, item: &Item, number: u64) -> Result<CallReply, NoMemory>
         requires room { self.old.count < 2 ^ 52 }
         ensures step { Has self.old self.new (counted key.now item.now number) result }
     {
