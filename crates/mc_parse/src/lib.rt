@@ -1,0 +1,23 @@
+//! From a command line, and its block, to the command it means, and from the command to its calls on the shards.
+#![tactic(auto)]
+
+mod command;
+mod error_line;
+mod exptime;
+mod key_list;
+mod line;
+mod name;
+mod need;
+mod number;
+mod reading;
+mod shard_call;
+mod tail;
+mod verb;
+mod word;
+
+pub use command::Command;
+pub use error_line::ErrorLine;
+pub use key_list::Keys;
+pub use need::{Need, need_of};
+pub use shard_call::{Calls, ShardCall};
+pub use verb::Verb;
