@@ -5,3 +5,4 @@ pub mod Form
 pub mod Line
 pub mod Need
 pub mod Meaning
+pub mod Calls

@@ -1,10 +1,13 @@
 -- The command of a line, of a line with its block, and of what is too long or too large (docs/PROFILE.md, "Commands").
-use Rattle.std.specs.Prelude.{ℕ, ◌-◌, Bool, false, if◌then◌else◌, List, [], ◌∷◌, length, take, drop}
+use Rattle.std.specs.Prelude.{◌≡◌, ℕ, ◌+◌, ◌-◌, ◌<◌, ◌≤◌, Bool, false, if◌then◌else◌, List, [], ◌∷◌, length, take, drop}
 use Rattle.std.specs.Str.{bytes_eq}
 use Rattle.mc_parse.specs.declared.command.Command.{Command}
 use Rattle.mc_parse.specs.declared.command.Command.TheVariants.{Store, Cas, Get, Delete, Count, Version, Verbosity, Flush, Fault}
 use Rattle.mc_parse.specs.declared.error_line.ErrorLine.{ErrorLine}
 use Rattle.mc_parse.specs.declared.error_line.ErrorLine.TheVariants.{Unknown, LongLine, BadChunk, TooLarge}
+use Rattle.zy_base.specs.Shard.{value_limit}
+use Rattle.mc_parse.specs.declared.need.Need.{Need}
+use Rattle.mc_parse.specs.declared.need.Need.TheVariants.{Nothing, Block, Quit}
 use Rattle.mc_parse.specs.Words.{words}
 use Rattle.mc_parse.specs.Form.{Form, form_of, faulty, stores, exchanges, gets, deletes, counts, tells_version, sets_verbosity, flushes, quits}
 
@@ -26,6 +29,18 @@ is_ended block = bytes_eq (drop (length block - 2) block) line_end
 abbrev pub with_block : List ℕ → Bool → Command → Command
 with_block block quiet command = if is_ended block then command else Fault BadChunk quiet
 
+-- the block is that of a line with this need, and its value is within the limit
+abbrev pub IsBlockFor : Need → List ℕ → Type 0
+IsBlockFor Nothing block = ⊥
+IsBlockFor (Block bytes) block = (bytes ≤ value_limit) × (length block ≡ bytes + 2)
+IsBlockFor Quit block = ⊥
+
+-- a line with this need has a block of which the value is over the limit
+abbrev pub IsTooLarge : Need → Type 0
+IsTooLarge Nothing = ⊥
+IsTooLarge (Block bytes) = value_limit < bytes
+IsTooLarge Quit = ⊥
+
 -- ---- what a line says, as a command
 
 -- a fault of a line by itself
@@ -45,17 +60,17 @@ command_for (sets_verbosity quiet) = Verbosity quiet
 command_for (flushes quiet) = Flush quiet
 command_for quits = fault Unknown
 
--- a line with a block; one that wants none is what it is by itself
+-- a line with a block; one that wants no block is no such request, and counts as unknown
 abbrev pub block_command_for : List ℕ → Form → Command
 block_command_for block (stores verb key flags bytes quiet) = with_block block quiet (Store verb key flags (value_of block) quiet)
 block_command_for block (exchanges key flags bytes unique quiet) = with_block block quiet (Cas key flags unique (value_of block) quiet)
-block_command_for block form = command_for form
+block_command_for block form = fault Unknown
 
--- a line with a block that is too large, whatever the block is
+-- a line with a block that is too large, whatever the block is; one that wants no block counts as unknown
 abbrev pub large_command_for : Form → Command
 large_command_for (stores verb key flags bytes quiet) = Fault TooLarge quiet
 large_command_for (exchanges key flags bytes unique quiet) = Fault TooLarge quiet
-large_command_for form = command_for form
+large_command_for form = fault Unknown
 
 -- ---- requests
 

@@ -6,7 +6,7 @@ use crate::verb::Verb;
 use zy_base::Blob;
 
 /// What a request asks for. A quiet command is not answered.
-#[derive(Debug, Drop)]
+#[derive(Debug, PartialEq, Eq, Drop)]
 pub enum Command {
     /// Stores the value, as the verb says.
     Store {

@@ -1,5 +1,7 @@
 //! Lists of keys.
-ghost use Rattle.std.specs.Prelude.{◌≡◌, [], ◌∷◌, ◌++◌, OnOk, OnErr, IfErr};
+ghost use Rattle.std.specs.Prelude.{◌≡◌, [], ◌∷◌, ◌++◌, OnOk, OnErr, IfErr, nat_eq};
+ghost use Rattle.std.specs.Cmp.{partial_equiv_from_equiv};
+ghost use Rattle.std.specs.Cmp.Lexicographic.{pointwise, lists_equiv, nat_list_eq_equiv};
 
 use std::alloc::Global;
 use std::marker::Model;
@@ -61,4 +63,18 @@ impl Keys {
     {
         self.items
     }
+}
+
+impl PartialEq for Keys {
+    ghost eq = { pointwise (pointwise nat_eq) };
+
+    ghost laws = { partial_equiv_from_equiv (lists_equiv nat_list_eq_equiv) };
+
+    fn eq(&self, other: &Keys) -> bool {
+        self.items() == other.items()
+    }
+}
+
+impl Eq for Keys {
+    ghost laws = { lists_equiv nat_list_eq_equiv };
 }

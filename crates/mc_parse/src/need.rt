@@ -18,6 +18,7 @@ pub enum Need {
 }
 
 /// What a line needs. The line is given without the bytes that end it. Takes no memory.
+#[tactic(auto, unfolding(crate::specs::Need::need))]
 pub fn need_of(line: &[u8]) -> Need
     requires within { length line.now ≤ 65536 }
     ensures value { result ≡ need line.now }

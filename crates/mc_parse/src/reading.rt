@@ -135,10 +135,10 @@ fn read_cas(text: &[u8]) -> Line<'_>
 fn read_get(unique: bool, text: &[u8]) -> Line<'_>
     ensures value { form_seen result ≡ get_form unique (words text.now) }
 {
-    if next_word(text).is_none() {
+    let Some(first) = next_word(text) else {
         return Line::Fault(ErrorLine::Unknown);
-    }
-    if !are_keys(text) {
+    };
+    if !is_key(first.word) || !are_keys(first.rest) {
         return Line::Fault(ErrorLine::BadLine);
     }
     Line::Get { keys: text, unique }
