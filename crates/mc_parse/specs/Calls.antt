@@ -1,9 +1,10 @@
 -- The calls of a command on the shards, and the calls due of a connection (docs/PROFILE.md, "Calls").
-use Rattle.std.specs.Prelude.{ℕ, ◌+◌, Bool, true, false, List, [], ◌∷◌, ◌++◌, map}
+use Rattle.std.specs.Prelude.{◌≡◌, ℕ, ◌+◌, Bool, true, false, List, [], ◌∷◌, ◌++◌, map, IfSome}
 use Rattle.std.specs.List.{range_with_len}
 use Rattle.zy_base.specs.declared.call.Call.{Call}
 use Rattle.zy_base.specs.declared.call.Call.TheVariants.{Get as GetCall, Set as SetCall, Add as AddCall, Replace as ReplaceCall, Append as AppendCall, Prepend as PrependCall, Cas as CasCall, Incr, Decr, Delete as DeleteCall, Flush as FlushCall}
 use Rattle.zy_base.specs.declared.entry.Tag.{Tag}
+use Rattle.zy_base.specs.Call.{key_of}
 use Rattle.zy_base.specs.Key.{shard_of}
 use Rattle.mc_parse.specs.declared.verb.Verb.{Verb}
 use Rattle.mc_parse.specs.declared.verb.Verb.TheVariants.{Set, Add, Replace, Append, Prepend}
@@ -49,6 +50,10 @@ calls_of shards Version = []
 calls_of shards (Verbosity quiet) = []
 calls_of shards (Flush quiet) = map (on_shard FlushCall) (range_with_len 0 shards)
 calls_of shards (Fault line quiet) = []
+
+-- a call is on the shard of its key, where it has one
+abbrev pub IsAtKey : ℕ → ShardCall → Type 0
+IsAtKey shards call = IfSome (key_of call.call) (λ key. call.shard ≡ shard_of key shards)
 
 -- ---- a connection's commands
 

@@ -6,3 +6,4 @@ pub mod Line
 pub mod Need
 pub mod Meaning
 pub mod Calls
+pub mod Noreply

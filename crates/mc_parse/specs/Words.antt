@@ -1,5 +1,6 @@
 -- The words of a line: its maximal runs of bytes other than a space (docs/PROFILE.md, "Lines and words").
-use Rattle.std.specs.Prelude.{ℕ, Bool, true, false, ◌==◌, if◌then◌else◌, List, [], ◌∷◌, filter, codes}
+use Rattle.std.specs.Prelude.{ℕ, Bool, true, false, not, ◌&&◌, ◌==◌, if◌then◌else◌, List, [], ◌∷◌, filter, codes}
+use Rattle.std.specs.List.{list_all}
 use Rattle.std.specs.Str.{bytes_eq}
 
 -- the byte between words
@@ -20,6 +21,10 @@ pieces_of (byte ∷ bytes) = if byte == space then [] ∷ pieces_of bytes else p
 abbrev pub has_byte : List ℕ → Bool
 has_byte [] = false
 has_byte (byte ∷ bytes) = true
+
+-- a text of a byte at least, and of no space
+abbrev pub is_word : List ℕ → Bool
+is_word text = has_byte text && list_all (λ byte. not (byte == space)) text
 
 -- the words of a line: its pieces between spaces that have a byte
 unfoldable pub words : List ℕ → List (List ℕ)
