@@ -15,6 +15,8 @@ mod parse;
 mod reading;
 mod shard_call;
 mod tail;
+#[cfg(test)]
+mod tests;
 mod verb;
 mod word;
 
