@@ -10,11 +10,12 @@ use Rattle.mc_parse.specs.declared.command.Command.TheVariants.{Store as StoreCo
 use Rattle.mc_parse.specs.declared.verb.Verb.{Verb}
 use Rattle.mc_parse.specs.declared.name.Name.{Name}
 use Rattle.mc_parse.specs.declared.name.Name.TheVariants.{Store, Cas, Get, Delete, Count, Version, Verbosity, Flush, Quit}
+use Rattle.mc_parse.specs.declared.sizes.Sizes.{Sizes}
 use Rattle.mc_parse.specs.declared.tail.Tail.{Tail}
 use Rattle.mc_parse.specs.Words.{words, is_noreply}
 use Rattle.mc_parse.specs.Name.{name_of}
-use Rattle.mc_parse.specs.Number.{small_number_of, is_zero, is_exptime}
-use Rattle.mc_parse.specs.Form.{Form, faulty, stores, exchanges, gets, deletes, counts, tells_version, sets_verbosity, flushes, quits, is_key, check, find, quiet_of, tail, tail_of, store_form, cas_form, get_form, delete_form, count_form, bare_form, verbosity_form, flush_form, form_after, form_of}
+use Rattle.mc_parse.specs.Number.{small_number_of, is_zero}
+use Rattle.mc_parse.specs.Form.{Form, faulty, stores, exchanges, gets, deletes, counts, tells_version, sets_verbosity, flushes, quits, is_key, check, find, quiet_of, tail, tail_of, sizes_of, store_form, cas_form, get_form, delete_form, count_form, bare_form, verbosity_form, flush_form, form_after, form_of}
 use Rattle.mc_parse.specs.Need.{need_for}
 use Rattle.mc_parse.specs.Meaning.{command_for, block_command_for, large_command_for, is_ended, value_of, IsBlockFor, IsTooLarge}
 use Rattle.mc_parse.specs.Noreply.{is_loud, silent, silenced, with_noreply}
@@ -62,26 +63,20 @@ silences_tail make (word ∷ next ∷ last ∷ more) never same loud = cc
 
 -- ---- storage lines
 
-stored : Verb → List ℕ → Bool → Option ℕ → Bool → Option ℕ → Bool → Form
-stored verb key key_is flags exptime bytes quiet =
-    check key_is BadLine (find flags BadLine (λ flags. check exptime BadLine (find bytes BadLine (λ bytes. stores verb key flags bytes quiet))))
+stored : Verb → List ℕ → Bool → Option Sizes → Bool → Form
+stored verb key key_is sizes quiet = check key_is BadLine (find sizes BadLine (λ sizes. stores verb key sizes.flags sizes.bytes quiet))
 
-stored_never : (verb : Verb) (key : List ℕ) (key_is : Bool) (flags : Option ℕ) (exptime : Bool) (bytes : Option ℕ) → is_loud (stored verb key key_is flags exptime bytes true) ≡ false
+stored_never : (verb : Verb) (key : List ℕ) (key_is : Bool) (sizes : Option Sizes) → is_loud (stored verb key key_is sizes true) ≡ false
 unfolding stored
-stored_never verb key false flags exptime bytes = refl
-stored_never verb key true None exptime bytes = refl
-stored_never verb key true (Some flags) false bytes = refl
-stored_never verb key true (Some flags) true None = refl
-stored_never verb key true (Some flags) true (Some bytes) = refl
+stored_never verb key false sizes = refl
+stored_never verb key true None = refl
+stored_never verb key true (Some sizes) = refl
 
-stored_same : (verb : Verb) (key : List ℕ) (key_is : Bool) (flags : Option ℕ) (exptime : Bool) (bytes : Option ℕ)
-    → stored verb key key_is flags exptime bytes true ≡ silent (stored verb key key_is flags exptime bytes false)
+stored_same : (verb : Verb) (key : List ℕ) (key_is : Bool) (sizes : Option Sizes) → stored verb key key_is sizes true ≡ silent (stored verb key key_is sizes false)
 unfolding stored
-stored_same verb key false flags exptime bytes = refl
-stored_same verb key true None exptime bytes = refl
-stored_same verb key true (Some flags) false bytes = refl
-stored_same verb key true (Some flags) true None = refl
-stored_same verb key true (Some flags) true (Some bytes) = refl
+stored_same verb key false sizes = refl
+stored_same verb key true None = refl
+stored_same verb key true (Some sizes) = refl
 
 silences_store : (verb : Verb) (args : List (List ℕ)) → is_loud (store_form verb args) ≡ true → store_form verb (args ++ noreply ∷ []) ≡ silent (store_form verb args)
 unfolding stored
@@ -90,34 +85,28 @@ silences_store verb (key ∷ []) loud = cc
 silences_store verb (key ∷ flags ∷ []) loud = cc
 silences_store verb (key ∷ flags ∷ exptime ∷ []) loud = cc
 silences_store verb (key ∷ flags ∷ exptime ∷ bytes ∷ rest) loud =
-    silences_end (λ quiet. stored verb key (is_key key) (small_number_of flags) (is_exptime exptime) (small_number_of bytes) quiet) rest
-    (stored_never verb key (is_key key) (small_number_of flags) (is_exptime exptime) (small_number_of bytes))
-    (stored_same verb key (is_key key) (small_number_of flags) (is_exptime exptime) (small_number_of bytes)) loud
+    silences_end (stored verb key (is_key key) (sizes_of flags exptime bytes)) rest (stored_never verb key (is_key key) (sizes_of flags exptime bytes)) (stored_same verb key (is_key key) (sizes_of flags exptime bytes)) loud
 
 -- ---- cas lines
 
-exchanged : List ℕ → Bool → Option ℕ → Bool → Option ℕ → Option ℕ → Bool → Form
-exchanged key key_is flags exptime bytes unique quiet =
-    check key_is BadLine (find flags BadLine (λ flags. check exptime BadLine (find bytes BadLine (λ bytes. find unique BadLine (λ unique. exchanges key flags bytes unique quiet)))))
+exchanged : List ℕ → Bool → Option Sizes → Option ℕ → Bool → Form
+exchanged key key_is sizes unique quiet =
+    check key_is BadLine (find sizes BadLine (λ sizes. find unique BadLine (λ unique. exchanges key sizes.flags sizes.bytes unique quiet)))
 
-exchanged_never : (key : List ℕ) (key_is : Bool) (flags : Option ℕ) (exptime : Bool) (bytes unique : Option ℕ) → is_loud (exchanged key key_is flags exptime bytes unique true) ≡ false
+exchanged_never : (key : List ℕ) (key_is : Bool) (sizes : Option Sizes) (unique : Option ℕ) → is_loud (exchanged key key_is sizes unique true) ≡ false
 unfolding exchanged
-exchanged_never key false flags exptime bytes unique = refl
-exchanged_never key true None exptime bytes unique = refl
-exchanged_never key true (Some flags) false bytes unique = refl
-exchanged_never key true (Some flags) true None unique = refl
-exchanged_never key true (Some flags) true (Some bytes) None = refl
-exchanged_never key true (Some flags) true (Some bytes) (Some unique) = refl
+exchanged_never key false sizes unique = refl
+exchanged_never key true None unique = refl
+exchanged_never key true (Some sizes) None = refl
+exchanged_never key true (Some sizes) (Some unique) = refl
 
-exchanged_same : (key : List ℕ) (key_is : Bool) (flags : Option ℕ) (exptime : Bool) (bytes unique : Option ℕ)
-    → exchanged key key_is flags exptime bytes unique true ≡ silent (exchanged key key_is flags exptime bytes unique false)
+exchanged_same : (key : List ℕ) (key_is : Bool) (sizes : Option Sizes) (unique : Option ℕ)
+    → exchanged key key_is sizes unique true ≡ silent (exchanged key key_is sizes unique false)
 unfolding exchanged
-exchanged_same key false flags exptime bytes unique = refl
-exchanged_same key true None exptime bytes unique = refl
-exchanged_same key true (Some flags) false bytes unique = refl
-exchanged_same key true (Some flags) true None unique = refl
-exchanged_same key true (Some flags) true (Some bytes) None = refl
-exchanged_same key true (Some flags) true (Some bytes) (Some unique) = refl
+exchanged_same key false sizes unique = refl
+exchanged_same key true None unique = refl
+exchanged_same key true (Some sizes) None = refl
+exchanged_same key true (Some sizes) (Some unique) = refl
 
 silences_cas : (args : List (List ℕ)) → is_loud (cas_form args) ≡ true → cas_form (args ++ noreply ∷ []) ≡ silent (cas_form args)
 unfolding exchanged
@@ -127,9 +116,9 @@ silences_cas (key ∷ flags ∷ []) loud = cc
 silences_cas (key ∷ flags ∷ exptime ∷ []) loud = cc
 silences_cas (key ∷ flags ∷ exptime ∷ bytes ∷ []) loud = cc
 silences_cas (key ∷ flags ∷ exptime ∷ bytes ∷ unique ∷ rest) loud =
-    silences_end (λ quiet. exchanged key (is_key key) (small_number_of flags) (is_exptime exptime) (small_number_of bytes) (number_of unique) quiet) rest
-    (exchanged_never key (is_key key) (small_number_of flags) (is_exptime exptime) (small_number_of bytes) (number_of unique))
-    (exchanged_same key (is_key key) (small_number_of flags) (is_exptime exptime) (small_number_of bytes) (number_of unique)) loud
+    silences_end (exchanged key (is_key key) (sizes_of flags exptime bytes) (number_of unique)) rest
+    (exchanged_never key (is_key key) (sizes_of flags exptime bytes) (number_of unique))
+    (exchanged_same key (is_key key) (sizes_of flags exptime bytes) (number_of unique)) loud
 
 -- ---- delete and flush_all lines
 

@@ -7,6 +7,7 @@ use Rattle.mc_parse.specs.declared.error_line.ErrorLine.TheVariants.{Unknown, Ba
 use Rattle.mc_parse.specs.declared.verb.Verb.{Verb}
 use Rattle.mc_parse.specs.declared.name.Name.{Name}
 use Rattle.mc_parse.specs.declared.name.Name.TheVariants.{Store, Cas, Get, Delete, Count, Version, Verbosity, Flush, Quit}
+use Rattle.mc_parse.specs.declared.sizes.Sizes.{Sizes}
 use Rattle.mc_parse.specs.declared.tail.Tail.{Tail}
 use Rattle.mc_parse.specs.Words.{is_noreply}
 use Rattle.mc_parse.specs.Name.{name_of}
@@ -82,14 +83,21 @@ tail_of (word ∷ next ∷ last ∷ more) = None
 
 -- ---- the commands, each after its name
 
+-- flags and bytes that were found
+abbrev pub sizes : Option ℕ → Option ℕ → Option Sizes
+sizes (Some flags) (Some bytes) = Some (record { flags = flags; bytes = bytes })
+sizes flags bytes = None
+
+-- flags and bytes, where both are numbers below 2^32 and an exptime stands between them
+abbrev pub sizes_of : List ℕ → List ℕ → List ℕ → Option Sizes
+sizes_of flags exptime bytes = if is_exptime exptime then sizes (small_number_of flags) (small_number_of bytes) else None
+
 -- a storage line: key, flags, exptime and bytes
 abbrev pub store_form : Verb → List (List ℕ) → Form
 store_form verb (key ∷ flags ∷ exptime ∷ bytes ∷ rest) =
     find (quiet_of rest) Unknown (λ quiet.
     check (is_key key) BadLine (
-    find (small_number_of flags) BadLine (λ flags.
-    check (is_exptime exptime) BadLine (
-    find (small_number_of bytes) BadLine (λ bytes. stores verb key flags bytes quiet)))))
+    find (sizes_of flags exptime bytes) BadLine (λ sizes. stores verb key sizes.flags sizes.bytes quiet)))
 store_form verb args = faulty Unknown
 
 -- a cas line: key, flags, exptime, bytes and unique
@@ -97,10 +105,8 @@ abbrev pub cas_form : List (List ℕ) → Form
 cas_form (key ∷ flags ∷ exptime ∷ bytes ∷ unique ∷ rest) =
     find (quiet_of rest) Unknown (λ quiet.
     check (is_key key) BadLine (
-    find (small_number_of flags) BadLine (λ flags.
-    check (is_exptime exptime) BadLine (
-    find (small_number_of bytes) BadLine (λ bytes.
-    find (number_of unique) BadLine (λ unique. exchanges key flags bytes unique quiet))))))
+    find (sizes_of flags exptime bytes) BadLine (λ sizes.
+    find (number_of unique) BadLine (λ unique. exchanges key sizes.flags sizes.bytes unique quiet))))
 cas_form args = faulty Unknown
 
 -- a retrieval line: keys

@@ -14,6 +14,7 @@ mod number;
 mod parse;
 mod reading;
 mod shard_call;
+mod sizes;
 mod tail;
 #[cfg(test)]
 mod tests;

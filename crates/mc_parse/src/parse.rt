@@ -6,13 +6,14 @@ ghost use Rattle.mc_parse.specs.declared.error_line.ErrorLine.{ErrorLine};
 ghost use Rattle.mc_parse.specs.Words.{words};
 ghost use Rattle.mc_parse.specs.Need.{need};
 ghost use Rattle.mc_parse.specs.Line.{form_seen};
-ghost use Rattle.mc_parse.specs.Meaning.{line_command, block_command, large_command, command_for, block_command_for, large_command_for, fault, is_ended, value_of, IsBlockFor, IsTooLarge};
+ghost use Rattle.mc_parse.specs.Meaning.{line_command, block_command, large_command, command_for, block_command_for, large_command_for, fault, is_ended, value_of, with_block, IsBlockFor, IsTooLarge};
 
 use crate::command::Command;
 use crate::error_line::ErrorLine;
 use crate::key_list::Keys;
 use crate::line::Line;
 use crate::reading::read_line;
+use crate::verb::Verb;
 use crate::word::next_word;
 use std::alloc::Global;
 use zy_base::{Blob, NoMemory};
@@ -102,43 +103,69 @@ fn block_command_for(
             flags,
             quiet,
             ..
-        } => {
-            if !is_ended(&block) {
-                return Ok(bad_chunk(quiet));
-            }
-            match Blob::copy_of(alloc, key) {
-                Ok(key) => Ok(Command::Store {
-                    verb,
-                    key,
-                    flags,
-                    value: value_of(block),
-                    quiet,
-                }),
-                Err(e) => Err((block, e)),
-            }
-        }
+        } => stored(alloc, verb, key, flags, quiet, block),
         Line::Cas {
             key,
             flags,
             unique,
             quiet,
             ..
-        } => {
-            if !is_ended(&block) {
-                return Ok(bad_chunk(quiet));
-            }
-            match Blob::copy_of(alloc, key) {
-                Ok(key) => Ok(Command::Cas {
-                    key,
-                    flags,
-                    unique,
-                    value: value_of(block),
-                    quiet,
-                }),
-                Err(e) => Err((block, e)),
-            }
-        }
+        } => exchanged(alloc, key, flags, unique, quiet, block),
         _ => Ok(fault(ErrorLine::Unknown)),
+    }
+}
+
+// The command that stores a block.
+fn stored(
+    alloc: Global,
+    verb: Verb,
+    key: &[u8],
+    flags: u32,
+    quiet: bool,
+    block: Blob,
+) -> Result<Command, (Blob, NoMemory)>
+    ensures value { IfOk result (λ command. command ≡ with_block block quiet (Command.Store verb key.now flags (value_of block) quiet)) }
+    ensures returned { IfErr result (λ e. e.0 ≡ block) }
+{
+    if !is_ended(&block) {
+        return Ok(bad_chunk(quiet));
+    }
+    match Blob::copy_of(alloc, key) {
+        Ok(key) => Ok(Command::Store {
+            verb,
+            key,
+            flags,
+            value: value_of(block),
+            quiet,
+        }),
+        Err(e) => Err((block, e)),
+    }
+}
+
+// The command that stores a block over the item with this unique.
+fn exchanged(
+    alloc: Global,
+    key: &[u8],
+    flags: u32,
+    unique: u64,
+    quiet: bool,
+    block: Blob,
+) -> Result<Command, (Blob, NoMemory)>
+    ensures value { IfOk result (λ command. command ≡ with_block block quiet (Command.Cas key.now flags unique (value_of block) quiet)) }
+    ensures returned { IfErr result (λ e. e.0 ≡ block) }
+{
+    if !is_ended(&block) {
+        return Ok(bad_chunk(quiet));
+    }
+    match Blob::copy_of(alloc, key) {
+        Ok(key) => Ok(Command::Cas {
+            key,
+            flags,
+            unique,
+            value: value_of(block),
+            quiet,
+        }),
+        Err(e) => Err((block, e)),
     }
 }
 

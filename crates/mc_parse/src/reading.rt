@@ -2,7 +2,7 @@
 ghost use Rattle.std.specs.Prelude.{◌≡◌};
 ghost use Rattle.std.specs.List.{list_all};
 ghost use Rattle.mc_parse.specs.Words.{words};
-ghost use Rattle.mc_parse.specs.Form.{is_key, quiet_of, last_tail, tail_of, store_form, cas_form, get_form, delete_form, count_form, bare_form, verbosity_form, flush_form, form_after, form_of};
+ghost use Rattle.mc_parse.specs.Form.{is_key, quiet_of, last_tail, tail_of, sizes_of, store_form, cas_form, get_form, delete_form, count_form, bare_form, verbosity_form, flush_form, form_after, form_of};
 ghost use Rattle.mc_parse.specs.Line.{form_seen};
 
 use crate::error_line::ErrorLine;
@@ -10,6 +10,7 @@ use crate::exptime::is_exptime;
 use crate::line::Line;
 use crate::name::{Name, name_of};
 use crate::number::{is_zero, read_small_number};
+use crate::sizes::Sizes;
 use crate::tail::Tail;
 use crate::verb::Verb;
 use crate::word::{is_noreply, next_word};
@@ -67,20 +68,14 @@ fn read_store(verb: Verb, text: &[u8]) -> Line<'_>
     if !is_key(key.word) {
         return Line::Fault(ErrorLine::BadLine);
     }
-    let Some(flags) = read_small_number(flags.word) else {
-        return Line::Fault(ErrorLine::BadLine);
-    };
-    if !is_exptime(exptime.word) {
-        return Line::Fault(ErrorLine::BadLine);
-    }
-    let Some(bytes) = read_small_number(bytes.word) else {
+    let Some(sizes) = read_sizes(flags.word, exptime.word, bytes.word) else {
         return Line::Fault(ErrorLine::BadLine);
     };
     Line::Store {
         verb,
         key: key.word,
-        flags,
-        bytes,
+        flags: sizes.flags,
+        bytes: sizes.bytes,
         quiet,
     }
 }
@@ -110,13 +105,7 @@ fn read_cas(text: &[u8]) -> Line<'_>
     if !is_key(key.word) {
         return Line::Fault(ErrorLine::BadLine);
     }
-    let Some(flags) = read_small_number(flags.word) else {
-        return Line::Fault(ErrorLine::BadLine);
-    };
-    if !is_exptime(exptime.word) {
-        return Line::Fault(ErrorLine::BadLine);
-    }
-    let Some(bytes) = read_small_number(bytes.word) else {
+    let Some(sizes) = read_sizes(flags.word, exptime.word, bytes.word) else {
         return Line::Fault(ErrorLine::BadLine);
     };
     let Some(unique) = read_number(unique.word) else {
@@ -124,11 +113,23 @@ fn read_cas(text: &[u8]) -> Line<'_>
     };
     Line::Cas {
         key: key.word,
-        flags,
-        bytes,
+        flags: sizes.flags,
+        bytes: sizes.bytes,
         unique,
         quiet,
     }
+}
+
+// Flags and bytes, where the exptime between them is one.
+fn read_sizes(flags: &[u8], exptime: &[u8], bytes: &[u8]) -> Option<Sizes>
+    ensures value { result ≡ sizes_of flags.now exptime.now bytes.now }
+{
+    let flags = read_small_number(flags)?;
+    if !is_exptime(exptime) {
+        return None;
+    }
+    let bytes = read_small_number(bytes)?;
+    Some(Sizes { flags, bytes })
 }
 
 // Keys, one at least.

@@ -2,84 +2,97 @@
 mod says;
 mod tables;
 
-use crate::error_line::ErrorLine;
 use crate::key_list::Keys;
 use crate::listing::calls;
-use crate::need::need_of;
+use crate::need::{Need, need_of};
 use crate::shard_call::{Calls, ShardCall};
-use says::{Says, command_of};
+use says::{command_of, cut, text_of};
 use std::alloc::Global;
 use std::process::Abort;
 use std::test::Fail;
 use zy_base::{Blob, Call, NoMemory};
 
-// The lines of a table mean what it says.
-fn mean(rt: &impl Abort, alloc: Global, table: &[(&'static [u8], Says)]) -> Result<(), NoMemory> {
-    for (line, says) in table {
-        assert!(rt; line.len() <= 65_536);
-        let command = command_of(alloc, line, b"")?;
-        assert!(rt; says.is(&command), "{line:?}");
+// The rows of a table mean what it says.
+fn mean(rt: &impl Abort, alloc: Global, table: &[u8]) -> Result<(), NoMemory> {
+    let mut rest = table;
+    for _ in 0..100 {
+        if rest.is_empty() {
+            return Ok(());
+        }
+        let row = cut(rest, b'|');
+        let line = cut(row.front, b'~');
+        let block = cut(line.back, b'~');
+        assert!(rt; line.front.len() <= 65_536);
+        let command = command_of(alloc, line.front, block.front)?;
+        let text = text_of(alloc, &command)?;
+        assert!(rt; text.bytes() == block.back, "{:?}", row.front);
+        rest = row.back;
     }
+    assert!(rt; false, "the table has too many rows");
     Ok(())
 }
 
 #[test]
 fn retrieval_lines_ask_for_their_keys(rt: HostRuntime) -> Result<(), Fail> {
-    mean(&rt, rt.alloc(), &tables::RETRIEVAL)?;
+    mean(&rt, rt.alloc(), tables::RETRIEVAL)?;
     Ok(())
 }
 
 #[test]
 fn deletion_lines_may_end_in_a_zero_and_noreply(rt: HostRuntime) -> Result<(), Fail> {
-    mean(&rt, rt.alloc(), &tables::DELETION)?;
+    mean(&rt, rt.alloc(), tables::DELETION)?;
     Ok(())
 }
 
 #[test]
 fn counting_lines_have_an_amount(rt: HostRuntime) -> Result<(), Fail> {
-    mean(&rt, rt.alloc(), &tables::COUNTING)?;
+    mean(&rt, rt.alloc(), tables::COUNTING)?;
     Ok(())
 }
 
 #[test]
 fn version_verbosity_and_flush_lines_are_read(rt: HostRuntime) -> Result<(), Fail> {
-    mean(&rt, rt.alloc(), &tables::OTHER)?;
+    mean(&rt, rt.alloc(), tables::OTHER)?;
     Ok(())
 }
 
 #[test]
 fn lines_of_no_known_command_are_errors(rt: HostRuntime) -> Result<(), Fail> {
-    mean(&rt, rt.alloc(), &tables::UNKNOWN)?;
+    mean(&rt, rt.alloc(), tables::UNKNOWN)?;
     Ok(())
 }
 
 #[test]
 fn faulty_storage_lines_take_no_block(rt: HostRuntime) -> Result<(), Fail> {
-    mean(&rt, rt.alloc(), &tables::FAULTY_STORAGE)?;
+    mean(&rt, rt.alloc(), tables::FAULTY_STORAGE)?;
     Ok(())
 }
 
 #[test]
 fn values_over_the_limit_are_refused(rt: HostRuntime) -> Result<(), Fail> {
-    mean(&rt, rt.alloc(), &tables::TOO_LARGE)?;
+    mean(&rt, rt.alloc(), tables::TOO_LARGE)?;
     Ok(())
 }
 
 #[test]
 fn storage_lines_take_their_block(rt: HostRuntime) -> Result<(), Fail> {
-    for sent in tables::STORAGE {
-        assert!(rt; sent.line.len() <= 65_536);
-        let command = command_of(rt.alloc(), sent.line, sent.block)?;
-        assert!(rt; sent.says.is(&command), "{:?} {:?}", sent.line, sent.block);
-    }
+    mean(&rt, rt.alloc(), tables::STORAGE)?;
     Ok(())
 }
 
+const BLOCKS: [(&[u8], u32); 5] = [
+    (b"set a 0 0 0", 0),
+    (b"set a 0 0 1048576", 1_048_576),
+    (b"set a 0 0 1048577 noreply", 1_048_577),
+    (b"set a 0 0 2147483646", 2_147_483_646),
+    (b"cas a 0 0 4294967295 1", 4_294_967_295),
+];
+
 #[test]
-fn a_line_needs_a_block_or_nothing_or_ends_the_connection(rt: HostRuntime) {
-    for (line, need) in tables::NEEDS {
+fn a_storage_line_needs_a_block_of_up_to_4294967295_bytes(rt: HostRuntime) {
+    for (line, bytes) in BLOCKS {
         assert!(rt; line.len() <= 65_536);
-        assert_eq!(rt; need_of(line), need, "{line:?}");
+        assert!(rt; need_of(line) == Need::Block { bytes }, "{line:?}");
     }
 }
 
@@ -93,42 +106,47 @@ fn keyed(alloc: Global, front: &[u8], length: usize, back: &[u8]) -> Result<Blob
     Ok(line)
 }
 
-const KEYED: [(&[u8], &[u8], &[u8]); 7] = [
-    (b"set ", b" 0 0 1 noreply", b"x\r\n"),
-    (b"cas ", b" 0 0 1 7", b"x\r\n"),
-    (b"get ", b"", b""),
-    (b"gets a ", b" b", b""),
-    (b"delete ", b" 0", b""),
-    (b"incr ", b" 1", b""),
-    (b"decr ", b" 1 noreply", b""),
+// What a request says whose key has so many bytes.
+fn says_keyed(
+    rt: &impl Abort,
+    alloc: Global,
+    front: &[u8],
+    length: usize,
+    back: &[u8],
+) -> Result<Blob, NoMemory> {
+    let line = keyed(alloc, front, length, back)?;
+    assert!(rt; line.bytes().len() <= 65_536);
+    let command = command_of(alloc, line.bytes(), b"x\r\n")?;
+    text_of(alloc, &command)
+}
+
+const KEYED: [(&[u8], &[u8]); 7] = [
+    (b"set ", b" 0 0 1 noreply"),
+    (b"cas ", b" 0 0 1 7"),
+    (b"get ", b""),
+    (b"gets a ", b" b"),
+    (b"delete ", b" 0"),
+    (b"incr ", b" 1"),
+    (b"decr ", b" 1 noreply"),
 ];
 
 #[test]
 fn keys_have_at_most_250_bytes(rt: HostRuntime) -> Result<(), Fail> {
-    let refused = Says::Fault(ErrorLine::BadLine, false);
-    for (front, back, block) in KEYED {
-        let line = keyed(rt.alloc(), front, 250, back)?;
-        assert!(rt; line.bytes().len() <= 65_536);
-        let command = command_of(rt.alloc(), line.bytes(), block)?;
-        assert!(rt; command.is_some() && !refused.is(&command), "{front:?}");
-        let line = keyed(rt.alloc(), front, 251, back)?;
-        assert!(rt; line.bytes().len() <= 65_536);
-        let command = command_of(rt.alloc(), line.bytes(), block)?;
-        assert!(rt; refused.is(&command), "{front:?}");
+    for (front, back) in KEYED {
+        let within = says_keyed(&rt, rt.alloc(), front, 250, back)?;
+        assert!(rt; within.bytes() != b"bad line".as_slice(), "{front:?}");
+        let beyond = says_keyed(&rt, rt.alloc(), front, 251, back)?;
+        assert!(rt; beyond.bytes() == b"bad line".as_slice(), "{front:?}");
     }
     Ok(())
 }
 
 #[test]
-fn a_key_is_checked_before_numbers(rt: HostRuntime) -> Result<(), Fail> {
-    let line = keyed(rt.alloc(), b"incr ", 251, b" x")?;
-    assert!(rt; line.bytes().len() <= 65_536);
-    let command = command_of(rt.alloc(), line.bytes(), b"")?;
-    assert!(rt; Says::Fault(ErrorLine::BadLine, false).is(&command));
-    let line = keyed(rt.alloc(), b"delete ", 251, b" 5 x")?;
-    assert!(rt; line.bytes().len() <= 65_536);
-    let command = command_of(rt.alloc(), line.bytes(), b"")?;
-    assert!(rt; Says::Fault(ErrorLine::Unknown, false).is(&command));
+fn a_key_is_checked_after_the_words_and_before_the_numbers(rt: HostRuntime) -> Result<(), Fail> {
+    let amount = says_keyed(&rt, rt.alloc(), b"incr ", 251, b" x")?;
+    assert!(rt; amount.bytes() == b"bad line".as_slice());
+    let last = says_keyed(&rt, rt.alloc(), b"delete ", 251, b" 5 x")?;
+    assert!(rt; last.bytes() == b"unknown".as_slice());
     Ok(())
 }
 

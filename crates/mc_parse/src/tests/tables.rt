@@ -1,502 +1,216 @@
-//! Lines and blocks as clients send them, with what they mean.
-use super::says::Says;
-use crate::error_line::ErrorLine;
-use crate::need::Need;
-use crate::verb::Verb;
+//! Lines and blocks as clients send them, with what they mean. A row is a line, a `~`, its block, a
+//! `~`, and what they mean; a `|` ends it.
 
-// Retrieval lines.
-pub const RETRIEVAL: [(&[u8], Says); 18] = [
-    (b"get a", Says::Get(&[b"a"], false)),
-    (b"gets a", Says::Get(&[b"a"], true)),
-    (b"get a a b a", Says::Get(&[b"a", b"a", b"b", b"a"], false)),
-    (b"  get  b   a  ", Says::Get(&[b"b", b"a"], false)),
-    (b"get noreply", Says::Get(&[b"noreply"], false)),
-    (
-        b"gets noreply noreply",
-        Says::Get(&[b"noreply", b"noreply"], true),
-    ),
-    (b"get a\rb", Says::Get(&[b"a\rb"], false)),
-    (b"get a\r", Says::Get(&[b"a\r"], false)),
-    (b"get a\x00b", Says::Get(&[b"a\x00b"], false)),
-    (b"get \xff\xfe", Says::Get(&[b"\xff\xfe"], false)),
-    (b"get a\tb", Says::Get(&[b"a\tb"], false)),
-    (b"get", Says::Fault(ErrorLine::Unknown, false)),
-    (b"get ", Says::Fault(ErrorLine::Unknown, false)),
-    (b"gets", Says::Fault(ErrorLine::Unknown, false)),
-    (b"get\ta", Says::Fault(ErrorLine::Unknown, false)),
-    (b"GET a", Says::Fault(ErrorLine::Unknown, false)),
-    (b"GET / HTTP/1.1", Says::Fault(ErrorLine::Unknown, false)),
-    (b"bget a", Says::Fault(ErrorLine::Unknown, false)),
-];
+/// Retrieval lines.
+pub const RETRIEVAL: &[u8] = b"\
+get a~~get a|\
+gets a~~gets a|\
+get a a b a~~get a a b a|\
+\x20 get  b   a  ~~get b a|\
+get noreply~~get noreply|\
+gets noreply noreply~~gets noreply noreply|\
+get a\rb~~get a\rb|\
+get a\r~~get a\r|\
+get a\x00b~~get a\x00b|\
+get \xff\xfe~~get \xff\xfe|\
+get a\tb~~get a\tb|\
+get~~unknown|\
+get ~~unknown|\
+gets~~unknown|\
+get\ta~~unknown|\
+GET a~~unknown|\
+GET / HTTP/1.1~~unknown|\
+bget a~~unknown|\
+";
 
-// Deletion lines.
-pub const DELETION: [(&[u8], Says); 20] = [
-    (b"delete a", Says::Delete(b"a", false)),
-    (b"delete a 0", Says::Delete(b"a", false)),
-    (b"delete a 00", Says::Delete(b"a", false)),
-    (b"delete a 00000000000000000000", Says::Delete(b"a", false)),
-    (
-        b"delete session:42 noreply",
-        Says::Delete(b"session:42", true),
-    ),
-    (b"delete a 0 noreply", Says::Delete(b"a", true)),
-    (b"delete noreply", Says::Delete(b"noreply", false)),
-    (b"delete noreply noreply", Says::Delete(b"noreply", true)),
-    (b"delete noreply 0", Says::Delete(b"noreply", false)),
-    (b"delete noreply 0 noreply", Says::Delete(b"noreply", true)),
-    (
-        b"delete a noreply noreply",
-        Says::Fault(ErrorLine::BadLine, false),
-    ),
-    (b"delete a 5", Says::Fault(ErrorLine::BadLine, false)),
-    (b"delete a x", Says::Fault(ErrorLine::BadLine, false)),
-    (b"delete a -0", Says::Fault(ErrorLine::BadLine, false)),
-    (
-        b"delete a 5 noreply",
-        Says::Fault(ErrorLine::BadLine, false),
-    ),
-    (
-        b"delete a 000000000000000000000",
-        Says::Fault(ErrorLine::BadLine, false),
-    ),
-    (b"delete a 0 x", Says::Fault(ErrorLine::Unknown, false)),
-    (b"delete a 5 x", Says::Fault(ErrorLine::Unknown, false)),
-    (b"delete", Says::Fault(ErrorLine::Unknown, false)),
-    (
-        b"delete a 0 0 noreply",
-        Says::Fault(ErrorLine::Unknown, false),
-    ),
-];
+/// Deletion lines.
+pub const DELETION: &[u8] = b"\
+delete a~~delete a|\
+delete a 0~~delete a|\
+delete a 00~~delete a|\
+delete a 00000000000000000000~~delete a|\
+delete session:42 noreply~~delete session:42 quiet|\
+delete a 0 noreply~~delete a quiet|\
+delete noreply~~delete noreply|\
+delete noreply noreply~~delete noreply quiet|\
+delete noreply 0~~delete noreply|\
+delete noreply 0 noreply~~delete noreply quiet|\
+delete a noreply noreply~~bad line|\
+delete a 5~~bad line|\
+delete a x~~bad line|\
+delete a -0~~bad line|\
+delete a 5 noreply~~bad line|\
+delete a 000000000000000000000~~bad line|\
+delete a 0 x~~unknown|\
+delete a 5 x~~unknown|\
+delete~~unknown|\
+delete a 0 0 noreply~~unknown|\
+";
 
-// Lines that count.
-pub const COUNTING: [(&[u8], Says); 21] = [
-    (b"incr a 1", Says::Count(b"a", true, 1, false)),
-    (b"decr a 5", Says::Count(b"a", false, 5, false)),
-    (b"incr a 1 noreply", Says::Count(b"a", true, 1, true)),
-    (
-        b"decr noreply 0 noreply",
-        Says::Count(b"noreply", false, 0, true),
-    ),
-    (
-        b"incr a 18446744073709551615",
-        Says::Count(b"a", true, 18446744073709551615, false),
-    ),
-    (
-        b"incr a 00000000000000000001",
-        Says::Count(b"a", true, 1, false),
-    ),
-    (
-        b"incr a 18446744073709551616",
-        Says::Fault(ErrorLine::BadDelta, false),
-    ),
-    (
-        b"incr a 000000000000000000001",
-        Says::Fault(ErrorLine::BadDelta, false),
-    ),
-    (b"incr a z", Says::Fault(ErrorLine::BadDelta, false)),
-    (b"incr a -1", Says::Fault(ErrorLine::BadDelta, false)),
-    (b"incr a +1", Says::Fault(ErrorLine::BadDelta, false)),
-    (b"incr a 1\t", Says::Fault(ErrorLine::BadDelta, false)),
-    (b"incr a 1\r", Says::Fault(ErrorLine::BadDelta, false)),
-    (b"incr a noreply", Says::Fault(ErrorLine::BadDelta, false)),
-    (b"incr a x noreply", Says::Fault(ErrorLine::BadDelta, false)),
-    (b"decr a x", Says::Fault(ErrorLine::BadDelta, false)),
-    (b"incr a 1 foo", Says::Fault(ErrorLine::Unknown, false)),
-    (b"incr a x foo", Says::Fault(ErrorLine::Unknown, false)),
-    (
-        b"incr a 1 noreply noreply",
-        Says::Fault(ErrorLine::Unknown, false),
-    ),
-    (b"incr a", Says::Fault(ErrorLine::Unknown, false)),
-    (b"decr", Says::Fault(ErrorLine::Unknown, false)),
-];
+/// Lines that count.
+pub const COUNTING: &[u8] = b"\
+incr a 1~~incr a 1|\
+decr a 5~~decr a 5|\
+incr a 1 noreply~~incr a 1 quiet|\
+decr noreply 0 noreply~~decr noreply 0 quiet|\
+incr a 18446744073709551615~~incr a 18446744073709551615|\
+incr a 00000000000000000001~~incr a 1|\
+incr a 18446744073709551616~~bad delta|\
+incr a 000000000000000000001~~bad delta|\
+incr a z~~bad delta|\
+incr a -1~~bad delta|\
+incr a +1~~bad delta|\
+incr a 1\t~~bad delta|\
+incr a 1\r~~bad delta|\
+incr a noreply~~bad delta|\
+incr a x noreply~~bad delta|\
+decr a x~~bad delta|\
+incr a 1 foo~~unknown|\
+incr a x foo~~unknown|\
+incr a 1 noreply noreply~~unknown|\
+incr a~~unknown|\
+decr~~unknown|\
+";
 
-// Lines of version, verbosity and flush_all.
-pub const OTHER: [(&[u8], Says); 28] = [
-    (b"version", Says::Version),
-    (b" version ", Says::Version),
-    (b"version foo", Says::Fault(ErrorLine::Unknown, false)),
-    (b"version noreply", Says::Fault(ErrorLine::Unknown, false)),
-    (b"VERSION", Says::Fault(ErrorLine::Unknown, false)),
-    (b"verbosity 1", Says::Verbosity(false)),
-    (b"verbosity 4294967295 noreply", Says::Verbosity(true)),
-    (b"verbosity noreply", Says::Fault(ErrorLine::BadLine, false)),
-    (
-        b"verbosity noreply noreply",
-        Says::Fault(ErrorLine::BadLine, false),
-    ),
-    (b"verbosity x", Says::Fault(ErrorLine::BadLine, false)),
-    (
-        b"verbosity x noreply",
-        Says::Fault(ErrorLine::BadLine, false),
-    ),
-    (b"verbosity -1", Says::Fault(ErrorLine::BadLine, false)),
-    (
-        b"verbosity 4294967296",
-        Says::Fault(ErrorLine::BadLine, false),
-    ),
-    (b"verbosity", Says::Fault(ErrorLine::Unknown, false)),
-    (b"verbosity 1 foo", Says::Fault(ErrorLine::Unknown, false)),
-    (b"flush_all", Says::Flush(false)),
-    (b"flush_all 0", Says::Flush(false)),
-    (b"flush_all 00", Says::Flush(false)),
-    (b"flush_all noreply", Says::Flush(true)),
-    (b"flush_all 0 noreply", Says::Flush(true)),
-    (b"flush_all x", Says::Fault(ErrorLine::BadLine, false)),
-    (b"flush_all 100", Says::Fault(ErrorLine::BadLine, false)),
-    (b"flush_all -1", Says::Fault(ErrorLine::BadLine, false)),
-    (
-        b"flush_all noreply noreply",
-        Says::Fault(ErrorLine::BadLine, false),
-    ),
-    (
-        b"flush_all x noreply",
-        Says::Fault(ErrorLine::BadLine, false),
-    ),
-    (
-        b"flush_all noreply 0",
-        Says::Fault(ErrorLine::Unknown, false),
-    ),
-    (b"flush_all 0 foo", Says::Fault(ErrorLine::Unknown, false)),
-    (
-        b"flush_all 0 0 noreply",
-        Says::Fault(ErrorLine::Unknown, false),
-    ),
-];
+/// Lines of version, verbosity and flush_all.
+pub const OTHER: &[u8] = b"\
+version~~version|\
+\x20version ~~version|\
+version foo~~unknown|\
+version noreply~~unknown|\
+VERSION~~unknown|\
+verbosity 1~~verbosity|\
+verbosity 4294967295 noreply~~verbosity quiet|\
+verbosity noreply~~bad line|\
+verbosity noreply noreply~~bad line|\
+verbosity x~~bad line|\
+verbosity x noreply~~bad line|\
+verbosity -1~~bad line|\
+verbosity 4294967296~~bad line|\
+verbosity~~unknown|\
+verbosity 1 foo~~unknown|\
+flush_all~~flush_all|\
+flush_all 0~~flush_all|\
+flush_all 00~~flush_all|\
+flush_all noreply~~flush_all quiet|\
+flush_all 0 noreply~~flush_all quiet|\
+flush_all x~~bad line|\
+flush_all 100~~bad line|\
+flush_all -1~~bad line|\
+flush_all noreply noreply~~bad line|\
+flush_all x noreply~~bad line|\
+flush_all noreply 0~~unknown|\
+flush_all 0 foo~~unknown|\
+flush_all 0 0 noreply~~unknown|\
+";
 
-// Lines of no known command, and of quit.
-pub const UNKNOWN: [(&[u8], Says); 19] = [
-    (b"", Says::Fault(ErrorLine::Unknown, false)),
-    (b"   ", Says::Fault(ErrorLine::Unknown, false)),
-    (b"\r", Says::Fault(ErrorLine::Unknown, false)),
-    (b"a", Says::Fault(ErrorLine::Unknown, false)),
-    (b"stats", Says::Fault(ErrorLine::Unknown, false)),
-    (b"stats reset", Says::Fault(ErrorLine::Unknown, false)),
-    (b"touch a 0", Says::Fault(ErrorLine::Unknown, false)),
-    (b"gat 0 a", Says::Fault(ErrorLine::Unknown, false)),
-    (b"gats 0 a", Says::Fault(ErrorLine::Unknown, false)),
-    (b"slabs automove 0", Says::Fault(ErrorLine::Unknown, false)),
-    (b"mg a v", Says::Fault(ErrorLine::Unknown, false)),
-    (b"ms a 1", Says::Fault(ErrorLine::Unknown, false)),
-    (b"shutdown", Says::Fault(ErrorLine::Unknown, false)),
-    (b"foo noreply", Says::Fault(ErrorLine::Unknown, false)),
-    (b"\x80get a", Says::Fault(ErrorLine::Unknown, false)),
-    (b"quit foo", Says::Fault(ErrorLine::Unknown, false)),
-    (b"quit noreply", Says::Fault(ErrorLine::Unknown, false)),
-    (b"quit", Says::Quit),
-    (b" quit ", Says::Quit),
-];
+/// Lines of no known command, and of quit.
+pub const UNKNOWN: &[u8] = b"\
+~~unknown|\
+\x20  ~~unknown|\
+\r~~unknown|\
+a~~unknown|\
+stats~~unknown|\
+stats reset~~unknown|\
+touch a 0~~unknown|\
+gat 0 a~~unknown|\
+gats 0 a~~unknown|\
+slabs automove 0~~unknown|\
+mg a v~~unknown|\
+ms a 1~~unknown|\
+shutdown~~unknown|\
+foo noreply~~unknown|\
+\x80get a~~unknown|\
+quit foo~~unknown|\
+quit noreply~~unknown|\
+quit~~quit|\
+\x20quit ~~quit|\
+";
 
-// Storage lines with a fault, which take no block.
-pub const FAULTY_STORAGE: [(&[u8], Says); 37] = [
-    (b"set a 0 0", Says::Fault(ErrorLine::Unknown, false)),
-    (b"set a 0 noreply", Says::Fault(ErrorLine::Unknown, false)),
-    (b"set a 0 0 1 foo", Says::Fault(ErrorLine::Unknown, false)),
-    (
-        b"set a 0 0 1 noreply noreply",
-        Says::Fault(ErrorLine::Unknown, false),
-    ),
-    (b"cas a 0 0 1", Says::Fault(ErrorLine::Unknown, false)),
-    (b"cas a 0 0 1 0 foo", Says::Fault(ErrorLine::Unknown, false)),
-    (
-        b"cas a 0 0 1 0 noreply x",
-        Says::Fault(ErrorLine::Unknown, false),
-    ),
-    (b"set a x 0 1", Says::Fault(ErrorLine::BadLine, false)),
-    (
-        b"set a x 0 1 noreply",
-        Says::Fault(ErrorLine::BadLine, false),
-    ),
-    (b"set a x 0 1 foo", Says::Fault(ErrorLine::Unknown, false)),
-    (
-        b"set a 4294967296 0 1",
-        Says::Fault(ErrorLine::BadLine, false),
-    ),
-    (b"set a +5 0 1", Says::Fault(ErrorLine::BadLine, false)),
-    (b"set a -1 0 1", Says::Fault(ErrorLine::BadLine, false)),
-    (b"set a 5a 0 1", Says::Fault(ErrorLine::BadLine, false)),
-    (
-        b"set a 000000000000000000005 0 1",
-        Says::Fault(ErrorLine::BadLine, false),
-    ),
-    (b"set a 0\t 0 1", Says::Fault(ErrorLine::BadLine, false)),
-    (b"set a 0 x 1", Says::Fault(ErrorLine::BadLine, false)),
-    (b"set a 0 - 1", Says::Fault(ErrorLine::BadLine, false)),
-    (b"set a 0 --1 1", Says::Fault(ErrorLine::BadLine, false)),
-    (b"set a 0 +100 1", Says::Fault(ErrorLine::BadLine, false)),
-    (
-        b"set a 0 00000000000000000001 1",
-        Says::Fault(ErrorLine::BadLine, false),
-    ),
-    (
-        b"set a 0 -00000000000000000001 1",
-        Says::Fault(ErrorLine::BadLine, false),
-    ),
-    (b"set a 0 0 x", Says::Fault(ErrorLine::BadLine, false)),
-    (b"set a 0 0 noreply", Says::Fault(ErrorLine::BadLine, false)),
-    (
-        b"set a 0 0 x noreply",
-        Says::Fault(ErrorLine::BadLine, false),
-    ),
-    (b"set a 0 0 -1", Says::Fault(ErrorLine::BadLine, false)),
-    (b"set a 0 0 -0", Says::Fault(ErrorLine::BadLine, false)),
-    (b"set a 0 0 +1", Says::Fault(ErrorLine::BadLine, false)),
-    (b"set a 0 0 1\r", Says::Fault(ErrorLine::BadLine, false)),
-    (b"set a 0 0 1\tfoo", Says::Fault(ErrorLine::BadLine, false)),
-    (
-        b"set a 0 0 4294967296",
-        Says::Fault(ErrorLine::BadLine, false),
-    ),
-    (
-        b"set a 0 0 000000000000000000001",
-        Says::Fault(ErrorLine::BadLine, false),
-    ),
-    (b"cas a 0 0 1 x", Says::Fault(ErrorLine::BadLine, false)),
-    (
-        b"cas a 0 0 1 x noreply",
-        Says::Fault(ErrorLine::BadLine, false),
-    ),
-    (
-        b"cas a 0 0 1 noreply",
-        Says::Fault(ErrorLine::BadLine, false),
-    ),
-    (b"cas a 0 0 1 -1", Says::Fault(ErrorLine::BadLine, false)),
-    (
-        b"cas a 0 0 1 18446744073709551616",
-        Says::Fault(ErrorLine::BadLine, false),
-    ),
-];
+/// Storage lines with a fault, which take no block.
+pub const FAULTY_STORAGE: &[u8] = b"\
+set a 0 0~~unknown|\
+set a 0 noreply~~unknown|\
+set a 0 0 1 foo~~unknown|\
+set a 0 0 1 noreply noreply~~unknown|\
+cas a 0 0 1~~unknown|\
+cas a 0 0 1 0 foo~~unknown|\
+cas a 0 0 1 0 noreply x~~unknown|\
+set a x 0 1~~bad line|\
+set a x 0 1 noreply~~bad line|\
+set a x 0 1 foo~~unknown|\
+set a 4294967296 0 1~~bad line|\
+set a +5 0 1~~bad line|\
+set a -1 0 1~~bad line|\
+set a 5a 0 1~~bad line|\
+set a 000000000000000000005 0 1~~bad line|\
+set a 0\t 0 1~~bad line|\
+set a 0 x 1~~bad line|\
+set a 0 - 1~~bad line|\
+set a 0 --1 1~~bad line|\
+set a 0 +100 1~~bad line|\
+set a 0 00000000000000000001 1~~bad line|\
+set a 0 -00000000000000000001 1~~bad line|\
+set a 0 0 x~~bad line|\
+set a 0 0 noreply~~bad line|\
+set a 0 0 x noreply~~bad line|\
+set a 0 0 -1~~bad line|\
+set a 0 0 -0~~bad line|\
+set a 0 0 +1~~bad line|\
+set a 0 0 1\r~~bad line|\
+set a 0 0 1\tfoo~~bad line|\
+set a 0 0 4294967296~~bad line|\
+set a 0 0 000000000000000000001~~bad line|\
+cas a 0 0 1 x~~bad line|\
+cas a 0 0 1 x noreply~~bad line|\
+cas a 0 0 1 noreply~~bad line|\
+cas a 0 0 1 -1~~bad line|\
+cas a 0 0 1 18446744073709551616~~bad line|\
+";
 
-// Storage lines whose value is over the limit.
-pub const TOO_LARGE: [(&[u8], Says); 5] = [
-    (
-        b"set b 0 0 1048577",
-        Says::Fault(ErrorLine::TooLarge, false),
-    ),
-    (
-        b"set b 0 0 1048577 noreply",
-        Says::Fault(ErrorLine::TooLarge, true),
-    ),
-    (
-        b"append a 0 0 1048577",
-        Says::Fault(ErrorLine::TooLarge, false),
-    ),
-    (
-        b"cas a 0 0 1048577 1",
-        Says::Fault(ErrorLine::TooLarge, false),
-    ),
-    (
-        b"cas a 0 0 4294967295 1 noreply",
-        Says::Fault(ErrorLine::TooLarge, true),
-    ),
-];
+/// Storage lines with their blocks.
+pub const STORAGE: &[u8] = b"\
+set a 0 0 1~x\r\n~set a 0 x|\
+set session:42 0 3600 11~hello world\r\n~set session:42 0 hello world|\
+add a 7 0 1~x\r\n~add a 7 x|\
+replace a 0 0 1~x\r\n~replace a 0 x|\
+append a 9 0 2~yz\r\n~append a 9 yz|\
+prepend a 9 0 1~w\r\n~prepend a 9 w|\
+\x20 set  a 0 0   1  ~x\r\n~set a 0 x|\
+set a 0 0 1 noreply~x\r\n~set a 0 x quiet|\
+append noreply 0 0 1 noreply~x\r\n~append noreply 0 x quiet|\
+set noreply 0 0 1~x\r\n~set noreply 0 x|\
+set a\rb 0 0 1~x\r\n~set a\rb 0 x|\
+set a\x00b 0 0 1~x\r\n~set a\x00b 0 x|\
+set a 4294967295 0 1~x\r\n~set a 4294967295 x|\
+set a 00000000000000000005 0 1~x\r\n~set a 5 x|\
+set a 0 -1 1~x\r\n~set a 0 x|\
+set a 0 -0 1~x\r\n~set a 0 x|\
+set a 0 4294967296 1~x\r\n~set a 0 x|\
+set a 0 9999999999999999999 1~x\r\n~set a 0 x|\
+set a 0 -9999999999999999999 1~x\r\n~set a 0 x|\
+set a 0 0 0~\r\n~set a 0 |\
+set a 0 0 11~x\r\nget a\r\nz\r\n~set a 0 x\r\nget a\r\nz|\
+set a 0 0 00000000000000000001~x\r\n~set a 0 x|\
+cas a 0 0 1 99~y\r\n~cas a 0 99 y|\
+cas a 3 0 1 18446744073709551615 noreply~y\r\n~cas a 3 18446744073709551615 y quiet|\
+cas noreply 0 0 1 0 noreply~y\r\n~cas noreply 0 0 y quiet|\
+set a 0 0 3~abcXY~bad chunk|\
+set a 0 0 1~x\nv~bad chunk|\
+set a 0 0 1~x\r\r~bad chunk|\
+set a 0 0 1~xy\n~bad chunk|\
+set a 0 0 1~xy\r~bad chunk|\
+set a 0 0 0~XY~bad chunk|\
+set a 0 0 1 noreply~xyz~bad chunk quiet|\
+cas a 0 0 1 1~xyz~bad chunk|\
+cas a 0 0 1 1 noreply~xyz~bad chunk quiet|\
+";
 
-// Lines, with what must come with them.
-pub const NEEDS: [(&[u8], Need); 11] = [
-    (b"set a 0 0 0", Need::Block { bytes: 0 }),
-    (b"set a 0 0 1048576", Need::Block { bytes: 1_048_576 }),
-    (
-        b"set a 0 0 1048577 noreply",
-        Need::Block { bytes: 1_048_577 },
-    ),
-    (
-        b"set a 0 0 2147483646",
-        Need::Block {
-            bytes: 2_147_483_646,
-        },
-    ),
-    (
-        b"cas a 0 0 4294967295 1",
-        Need::Block {
-            bytes: 4_294_967_295,
-        },
-    ),
-    (b"set a 0 0 4294967296", Need::Nothing),
-    (b"set a 0 0 1 foo", Need::Nothing),
-    (b"get a", Need::Nothing),
-    (b"", Need::Nothing),
-    (b"quit", Need::Quit),
-    (b"quit foo", Need::Nothing),
-];
-
-// Storage lines, each with a block.
-pub const STORAGE: [Sent; 34] = [
-    Sent {
-        line: b"set a 0 0 1",
-        block: b"x\r\n",
-        says: Says::Store(Verb::Set, b"a", 0, b"x", false),
-    },
-    Sent {
-        line: b"set session:42 0 3600 11",
-        block: b"hello world\r\n",
-        says: Says::Store(Verb::Set, b"session:42", 0, b"hello world", false),
-    },
-    Sent {
-        line: b"add a 7 0 1",
-        block: b"x\r\n",
-        says: Says::Store(Verb::Add, b"a", 7, b"x", false),
-    },
-    Sent {
-        line: b"replace a 0 0 1",
-        block: b"x\r\n",
-        says: Says::Store(Verb::Replace, b"a", 0, b"x", false),
-    },
-    Sent {
-        line: b"append a 9 0 2",
-        block: b"yz\r\n",
-        says: Says::Store(Verb::Append, b"a", 9, b"yz", false),
-    },
-    Sent {
-        line: b"prepend a 9 0 1",
-        block: b"w\r\n",
-        says: Says::Store(Verb::Prepend, b"a", 9, b"w", false),
-    },
-    Sent {
-        line: b"  set  a 0 0   1  ",
-        block: b"x\r\n",
-        says: Says::Store(Verb::Set, b"a", 0, b"x", false),
-    },
-    Sent {
-        line: b"set a 0 0 1 noreply",
-        block: b"x\r\n",
-        says: Says::Store(Verb::Set, b"a", 0, b"x", true),
-    },
-    Sent {
-        line: b"append noreply 0 0 1 noreply",
-        block: b"x\r\n",
-        says: Says::Store(Verb::Append, b"noreply", 0, b"x", true),
-    },
-    Sent {
-        line: b"set noreply 0 0 1",
-        block: b"x\r\n",
-        says: Says::Store(Verb::Set, b"noreply", 0, b"x", false),
-    },
-    Sent {
-        line: b"set a\rb 0 0 1",
-        block: b"x\r\n",
-        says: Says::Store(Verb::Set, b"a\rb", 0, b"x", false),
-    },
-    Sent {
-        line: b"set a\x00b 0 0 1",
-        block: b"x\r\n",
-        says: Says::Store(Verb::Set, b"a\x00b", 0, b"x", false),
-    },
-    Sent {
-        line: b"set a 4294967295 0 1",
-        block: b"x\r\n",
-        says: Says::Store(Verb::Set, b"a", 4294967295, b"x", false),
-    },
-    Sent {
-        line: b"set a 00000000000000000005 0 1",
-        block: b"x\r\n",
-        says: Says::Store(Verb::Set, b"a", 5, b"x", false),
-    },
-    Sent {
-        line: b"set a 0 -1 1",
-        block: b"x\r\n",
-        says: Says::Store(Verb::Set, b"a", 0, b"x", false),
-    },
-    Sent {
-        line: b"set a 0 -0 1",
-        block: b"x\r\n",
-        says: Says::Store(Verb::Set, b"a", 0, b"x", false),
-    },
-    Sent {
-        line: b"set a 0 4294967296 1",
-        block: b"x\r\n",
-        says: Says::Store(Verb::Set, b"a", 0, b"x", false),
-    },
-    Sent {
-        line: b"set a 0 9999999999999999999 1",
-        block: b"x\r\n",
-        says: Says::Store(Verb::Set, b"a", 0, b"x", false),
-    },
-    Sent {
-        line: b"set a 0 -9999999999999999999 1",
-        block: b"x\r\n",
-        says: Says::Store(Verb::Set, b"a", 0, b"x", false),
-    },
-    Sent {
-        line: b"set a 0 0 0",
-        block: b"\r\n",
-        says: Says::Store(Verb::Set, b"a", 0, b"", false),
-    },
-    Sent {
-        line: b"set a 0 0 11",
-        block: b"x\r\nget a\r\nz\r\n",
-        says: Says::Store(Verb::Set, b"a", 0, b"x\r\nget a\r\nz", false),
-    },
-    Sent {
-        line: b"set a 0 0 00000000000000000001",
-        block: b"x\r\n",
-        says: Says::Store(Verb::Set, b"a", 0, b"x", false),
-    },
-    Sent {
-        line: b"cas a 0 0 1 99",
-        block: b"y\r\n",
-        says: Says::Cas(b"a", 0, 99, b"y", false),
-    },
-    Sent {
-        line: b"cas a 3 0 1 18446744073709551615 noreply",
-        block: b"y\r\n",
-        says: Says::Cas(b"a", 3, 18446744073709551615, b"y", true),
-    },
-    Sent {
-        line: b"cas noreply 0 0 1 0 noreply",
-        block: b"y\r\n",
-        says: Says::Cas(b"noreply", 0, 0, b"y", true),
-    },
-    Sent {
-        line: b"set a 0 0 3",
-        block: b"abcXY",
-        says: Says::Fault(ErrorLine::BadChunk, false),
-    },
-    Sent {
-        line: b"set a 0 0 1",
-        block: b"x\nv",
-        says: Says::Fault(ErrorLine::BadChunk, false),
-    },
-    Sent {
-        line: b"set a 0 0 1",
-        block: b"x\r\r",
-        says: Says::Fault(ErrorLine::BadChunk, false),
-    },
-    Sent {
-        line: b"set a 0 0 1",
-        block: b"xy\n",
-        says: Says::Fault(ErrorLine::BadChunk, false),
-    },
-    Sent {
-        line: b"set a 0 0 1",
-        block: b"xy\r",
-        says: Says::Fault(ErrorLine::BadChunk, false),
-    },
-    Sent {
-        line: b"set a 0 0 0",
-        block: b"XY",
-        says: Says::Fault(ErrorLine::BadChunk, false),
-    },
-    Sent {
-        line: b"set a 0 0 1 noreply",
-        block: b"xyz",
-        says: Says::Fault(ErrorLine::BadChunk, true),
-    },
-    Sent {
-        line: b"cas a 0 0 1 1",
-        block: b"xyz",
-        says: Says::Fault(ErrorLine::BadChunk, false),
-    },
-    Sent {
-        line: b"cas a 0 0 1 1 noreply",
-        block: b"xyz",
-        says: Says::Fault(ErrorLine::BadChunk, true),
-    },
-];
-
-// A storage line with its block, and what they mean.
-#[derive(Clone, Copy)]
-pub struct Sent {
-    pub line: &'static [u8],
-    pub block: &'static [u8],
-    pub says: Says,
-}
+/// Storage lines whose value is over the limit, without the block.
+pub const TOO_LARGE: &[u8] = b"\
+set b 0 0 1048577~~too large|\
+set b 0 0 1048577 noreply~~too large quiet|\
+append a 0 0 1048577~~too large|\
+cas a 0 0 1048577 1~~too large|\
+cas a 0 0 4294967295 1 noreply~~too large quiet|\
+";
