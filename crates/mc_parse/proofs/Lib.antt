@@ -1,0 +1,3 @@
+pub mod WordLemmas
+pub mod CallLemmas
+pub mod NoreplyLemmas

@@ -1,0 +1,82 @@
+-- The calls of a command on the shards, and the calls due of a connection (docs/PROFILE.md, "Calls").
+use Rattle.std.specs.Prelude.{◌≡◌, ℕ, ◌+◌, Bool, true, false, List, [], ◌∷◌, ◌++◌, map, IfSome}
+use Rattle.std.specs.List.{range_with_len}
+use Rattle.zy_base.specs.declared.call.Call.{Call}
+use Rattle.zy_base.specs.declared.call.Call.TheVariants.{Get as GetCall, Set as SetCall, Add as AddCall, Replace as ReplaceCall, Append as AppendCall, Prepend as PrependCall, Cas as CasCall, Incr, Decr, Delete as DeleteCall, Flush as FlushCall}
+use Rattle.zy_base.specs.declared.entry.Tag.{Tag}
+use Rattle.zy_base.specs.Call.{key_of}
+use Rattle.zy_base.specs.Key.{shard_of}
+use Rattle.mc_parse.specs.declared.verb.Verb.{Verb}
+use Rattle.mc_parse.specs.declared.verb.Verb.TheVariants.{Set, Add, Replace, Append, Prepend}
+use Rattle.mc_parse.specs.declared.shard_call.ShardCall.{ShardCall}
+use Rattle.mc_parse.specs.declared.command.Command.{Command}
+use Rattle.mc_parse.specs.declared.command.Command.TheVariants.{Store, Cas, Get, Delete, Count, Version, Verbosity, Flush, Fault}
+
+-- ---- one command
+
+-- a call on a shard
+abbrev pub on_shard : Call → ℕ → ShardCall
+on_shard call shard = record { shard = shard; call = call }
+
+-- a call on the shard of its key, of so many shards
+abbrev pub at_key : ℕ → List ℕ → Call → ShardCall
+at_key shards key call = on_shard call (shard_of key shards)
+
+-- the call that stores as a verb says
+abbrev pub stored_by : Verb → List ℕ → ℕ → List ℕ → Call
+stored_by Set key flags value = SetCall key flags value
+stored_by Add key flags value = AddCall key flags value
+stored_by Replace key flags value = ReplaceCall key flags value
+stored_by Append key flags value = AppendCall key value
+stored_by Prepend key flags value = PrependCall key value
+
+-- the call that counts up or down
+abbrev pub counted_by : Bool → List ℕ → ℕ → Call
+counted_by true key amount = Incr key amount
+counted_by false key amount = Decr key amount
+
+-- the call that gets a key's item
+abbrev pub get_at : ℕ → List ℕ → ShardCall
+get_at shards key = at_key shards key (GetCall key)
+
+-- the calls of a command, in their order, on so many shards
+abbrev pub calls_of : ℕ → Command → List ShardCall
+calls_of shards (Store verb key flags value quiet) = at_key shards key (stored_by verb key flags value) ∷ []
+calls_of shards (Cas key flags unique value quiet) = at_key shards key (CasCall key flags unique value) ∷ []
+calls_of shards (Get keys unique) = map (get_at shards) keys
+calls_of shards (Delete key quiet) = at_key shards key (DeleteCall key) ∷ []
+calls_of shards (Count key up amount quiet) = at_key shards key (counted_by up key amount) ∷ []
+calls_of shards Version = []
+calls_of shards (Verbosity quiet) = []
+calls_of shards (Flush quiet) = map (on_shard FlushCall) (range_with_len 0 shards)
+calls_of shards (Fault line quiet) = []
+
+-- a call is on the shard of its key, where it has one
+abbrev pub IsAtKey : ℕ → ShardCall → Type 0
+IsAtKey shards call = IfSome (key_of call.call) (λ key. call.shard ≡ shard_of key shards)
+
+-- ---- a connection's commands
+
+-- a call that is due: whose it is, and the call with its shard
+pub record Due : Type 0 where
+  pub tag : Tag
+  pub call : ShardCall
+
+-- the tag of a command's call
+abbrev pub tag_of : ℕ → ℕ → ℕ → Tag
+tag_of connection index part = record { conn = connection; index = index; part = part }
+
+-- calls of one command, tagged from a part on
+abbrev pub tagged : ℕ → ℕ → ℕ → List ShardCall → List Due
+tagged connection index part [] = []
+tagged connection index part (call ∷ calls) = record { tag = tag_of connection index part; call = call } ∷ tagged connection index (part + 1) calls
+
+-- the calls due of commands, of which the first has this index
+abbrev pub due_from : ℕ → ℕ → ℕ → List Command → List Due
+due_from shards connection index [] = []
+due_from shards connection index (command ∷ commands) =
+    tagged connection index 0 (calls_of shards command) ++ due_from shards connection (index + 1) commands
+
+-- the calls due of a connection's commands, in order of commands and then of parts
+abbrev pub due : ℕ → ℕ → List Command → List Due
+due shards connection commands = due_from shards connection 0 commands

@@ -1,0 +1,24 @@
+-- The names of commands, byte for byte: memcached's protocol.txt, "Commands".
+use Rattle.std.specs.Prelude.{ℕ, true, false, if◌then◌else◌, List, [], ◌∷◌, codes, Option, None, Some}
+use Rattle.std.specs.Str.{bytes_eq}
+use Rattle.mc_parse.specs.declared.verb.Verb.TheVariants.{Set, Add, Replace, Append, Prepend}
+use Rattle.mc_parse.specs.declared.name.Name.{Name}
+use Rattle.mc_parse.specs.declared.name.Name.TheVariants.{Store, Cas, Get, Delete, Count, Version, Verbosity, Flush, Quit}
+
+-- the names, each with how it is written
+abbrev pub names : List (List ℕ × Name)
+names =
+    (codes "set", Store Set) ∷ (codes "add", Store Add) ∷ (codes "replace", Store Replace)
+    ∷ (codes "append", Store Append) ∷ (codes "prepend", Store Prepend) ∷ (codes "cas", Cas)
+    ∷ (codes "get", Get false) ∷ (codes "gets", Get true) ∷ (codes "delete", Delete)
+    ∷ (codes "incr", Count true) ∷ (codes "decr", Count false) ∷ (codes "version", Version)
+    ∷ (codes "verbosity", Verbosity) ∷ (codes "flush_all", Flush) ∷ (codes "quit", Quit) ∷ []
+
+-- the name that a word is, of some names
+abbrev pub name_among : List ℕ → List (List ℕ × Name) → Option Name
+name_among word [] = None
+name_among word (entry ∷ entries) = if bytes_eq word entry.0 then Some entry.1 else name_among word entries
+
+-- the name that a word is
+abbrev pub name_of : List ℕ → Option Name
+name_of word = name_among word names

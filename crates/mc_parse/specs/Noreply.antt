@@ -1,0 +1,56 @@
+-- Lines that may ask for no answer, and what the word noreply makes of them (docs/PROFILE.md, "noreply").
+use Rattle.std.specs.Prelude.{ℕ, Bool, true, false, not, List, ◌++◌, codes}
+use Rattle.mc_parse.specs.declared.command.Command.{Command}
+use Rattle.mc_parse.specs.declared.command.Command.TheVariants.{Store, Cas, Get, Delete, Count, Version, Verbosity, Flush, Fault}
+use Rattle.mc_parse.specs.Words.{words}
+use Rattle.mc_parse.specs.Form.{Form, form_of, faulty, stores, exchanges, gets, deletes, counts, tells_version, sets_verbosity, flushes, quits}
+
+-- ---- lines
+
+-- a line with one word more, which asks for no answer
+abbrev pub with_noreply : List ℕ → List ℕ
+with_noreply line = line ++ codes " noreply"
+
+-- what a line says may be asked for without an answer, and is not
+abbrev pub is_loud : Form → Bool
+is_loud (stores verb key flags bytes quiet) = not quiet
+is_loud (exchanges key flags bytes unique quiet) = not quiet
+is_loud (deletes key quiet) = not quiet
+is_loud (counts key up amount quiet) = not quiet
+is_loud (sets_verbosity quiet) = not quiet
+is_loud (flushes quiet) = not quiet
+is_loud (faulty line) = false
+is_loud (gets keys unique) = false
+is_loud tells_version = false
+is_loud quits = false
+
+-- a line without a fault that may ask for no answer, and does not
+abbrev pub takes_noreply : List ℕ → Bool
+takes_noreply line = is_loud (form_of (words line))
+
+-- the same, asked for without an answer
+abbrev pub silent : Form → Form
+silent (stores verb key flags bytes quiet) = stores verb key flags bytes true
+silent (exchanges key flags bytes unique quiet) = exchanges key flags bytes unique true
+silent (deletes key quiet) = deletes key true
+silent (counts key up amount quiet) = counts key up amount true
+silent (sets_verbosity quiet) = sets_verbosity true
+silent (flushes quiet) = flushes true
+silent (faulty line) = faulty line
+silent (gets keys unique) = gets keys unique
+silent tells_version = tells_version
+silent quits = quits
+
+-- ---- commands
+
+-- a command but for its answer; a retrieval and the version always have one
+abbrev pub silenced : Command → Command
+silenced (Store verb key flags value quiet) = Store verb key flags value true
+silenced (Cas key flags unique value quiet) = Cas key flags unique value true
+silenced (Get keys unique) = Get keys unique
+silenced (Delete key quiet) = Delete key true
+silenced (Count key up amount quiet) = Count key up amount true
+silenced Version = Version
+silenced (Verbosity quiet) = Verbosity true
+silenced (Flush quiet) = Flush true
+silenced (Fault line quiet) = Fault line true

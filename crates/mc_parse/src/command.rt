@@ -1,0 +1,59 @@
+//! Commands.
+
+use crate::error_line::ErrorLine;
+use crate::key_list::Keys;
+use crate::verb::Verb;
+use zy_base::Blob;
+
+/// What a request asks for. A quiet command is not answered.
+#[derive(Debug, PartialEq, Eq, Drop)]
+pub enum Command {
+    /// Stores the value, as the verb says.
+    Store {
+        verb: Verb,
+        key: Blob,
+        flags: u32,
+        value: Blob,
+        quiet: bool,
+    },
+    /// Stores the value where the item there has this unique.
+    Cas {
+        key: Blob,
+        flags: u32,
+        unique: u64,
+        value: Blob,
+        quiet: bool,
+    },
+    /// The items of the keys, with their uniques where these are asked for.
+    Get {
+        keys: Keys,
+        unique: bool,
+    },
+    /// Removes the item of the key.
+    Delete {
+        key: Blob,
+        quiet: bool,
+    },
+    /// Counts a value up or down by the amount.
+    Count {
+        key: Blob,
+        up: bool,
+        amount: u64,
+        quiet: bool,
+    },
+    /// The version's text.
+    Version,
+    /// Nothing, but an answer.
+    Verbosity {
+        quiet: bool,
+    },
+    /// Removes all items.
+    Flush {
+        quiet: bool,
+    },
+    /// A fault of the client, answered with this error line.
+    Fault {
+        line: ErrorLine,
+        quiet: bool,
+    },
+}

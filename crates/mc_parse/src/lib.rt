@@ -1,0 +1,35 @@
+//! From a command line, and its block, to the command it means, and from the command to its calls on the shards.
+#![tactic(auto)]
+
+mod command;
+mod error_line;
+mod exptime;
+mod key_list;
+mod laws;
+mod line;
+mod listing;
+mod name;
+mod need;
+mod number;
+mod parse;
+mod reading;
+mod shard_call;
+mod sizes;
+mod tail;
+#[cfg(test)]
+mod tests;
+mod verb;
+mod word;
+
+pub use command::Command;
+pub use error_line::ErrorLine;
+pub use key_list::Keys;
+pub use laws::{
+    a_fault_has_no_calls, a_faulty_line_is_answered, a_get_calls_for_each_key,
+    calls_are_at_their_keys, noreply_only_silences, spaces_part_words,
+};
+pub use listing::calls;
+pub use need::{Need, need_of};
+pub use parse::{parse_block, parse_large, parse_line};
+pub use shard_call::{Calls, ShardCall};
+pub use verb::Verb;

@@ -1,0 +1,234 @@
+//! The command of a line, and of a line with its block.
+ghost use Rattle.std.specs.Prelude.{◌≡◌, ◌≤◌, length, IfOk, IfErr};
+ghost use Rattle.mc_parse.specs.declared.need.Need.{Need};
+ghost use Rattle.mc_parse.specs.declared.command.Command.{Command};
+ghost use Rattle.mc_parse.specs.declared.error_line.ErrorLine.{ErrorLine};
+ghost use Rattle.mc_parse.specs.Words.{words};
+ghost use Rattle.mc_parse.specs.Need.{need};
+ghost use Rattle.mc_parse.specs.Line.{form_seen};
+ghost use Rattle.mc_parse.specs.Meaning.{line_command, block_command, large_command, command_for, block_command_for, large_command_for, fault, is_ended, value_of, with_block, IsBlockFor, IsTooLarge};
+
+use crate::command::Command;
+use crate::error_line::ErrorLine;
+use crate::key_list::Keys;
+use crate::line::Line;
+use crate::reading::read_line;
+use crate::verb::Verb;
+use crate::word::next_word;
+use std::alloc::Global;
+use zy_base::{Blob, NoMemory};
+
+/// The command of a line that needs nothing. The line is given without the bytes that end it.
+/// A fault of the client is a command.
+#[tactic(auto, unfolding(crate::specs::Meaning::line_command))]
+pub fn parse_line(alloc: Global, line: &[u8]) -> Result<Command, NoMemory>
+    requires within { length line.now ≤ 65536 }
+    requires alone { need line.now ≡ Need.Nothing }
+    ensures value { IfOk result (λ command. command ≡ line_command line.now) }
+{
+    command_for(alloc, read_line(line))
+}
+
+/// The command of a line that needs a block, with its block: the value, and the two bytes that must
+/// end it. The value is taken over without a copy. After a refusal the block is handed back.
+#[tactic(auto, unfolding(crate::specs::Meaning::block_command))]
+pub fn parse_block(alloc: Global, line: &[u8], block: Blob) -> Result<Command, (Blob, NoMemory)>
+    requires within { length line.now ≤ 65536 }
+    requires fits { IsBlockFor (need line.now) block }
+    ensures value { IfOk result (λ command. command ≡ block_command line.now block) }
+    ensures returned { IfErr result (λ e. e.0 ≡ block) }
+{
+    block_command_for(alloc, read_line(line), block)
+}
+
+/// The command of a line that needs a block whose value is over the limit; what the block is does
+/// not count. Takes no memory.
+#[tactic(auto, unfolding(crate::specs::Meaning::large_command))]
+pub fn parse_large(line: &[u8]) -> Command
+    requires within { length line.now ≤ 65536 }
+    requires large { IsTooLarge (need line.now) }
+    ensures value { result ≡ large_command line.now }
+{
+    large_command_for(read_line(line))
+}
+
+// The command of a line that says this.
+fn command_for(alloc: Global, line: Line<'_>) -> Result<Command, NoMemory>
+    ensures value { IfOk result (λ command. command ≡ command_for (form_seen line.entry)) }
+{
+    match line {
+        Line::Fault(line) => Ok(fault(line)),
+        Line::Get { keys, unique } => match copy_words(alloc, keys) {
+            Ok(keys) => Ok(Command::Get { keys, unique }),
+            Err(e) => Err(e),
+        },
+        Line::Delete { key, quiet } => match Blob::copy_of(alloc, key) {
+            Ok(key) => Ok(Command::Delete { key, quiet }),
+            Err(e) => Err(e),
+        },
+        Line::Count {
+            key,
+            up,
+            amount,
+            quiet,
+        } => match Blob::copy_of(alloc, key) {
+            Ok(key) => Ok(Command::Count {
+                key,
+                up,
+                amount,
+                quiet,
+            }),
+            Err(e) => Err(e),
+        },
+        Line::Version => Ok(Command::Version),
+        Line::Verbosity { quiet } => Ok(Command::Verbosity { quiet }),
+        Line::Flush { quiet } => Ok(Command::Flush { quiet }),
+        Line::Store { .. } | Line::Cas { .. } | Line::Quit => Ok(fault(ErrorLine::Unknown)),
+    }
+}
+
+// The command of a line that says this, with its block.
+fn block_command_for(
+    alloc: Global,
+    line: Line<'_>,
+    block: Blob,
+) -> Result<Command, (Blob, NoMemory)>
+    ensures value { IfOk result (λ command. command ≡ block_command_for block (form_seen line.entry)) }
+    ensures returned { IfErr result (λ e. e.0 ≡ block) }
+{
+    match line {
+        Line::Store {
+            verb,
+            key,
+            flags,
+            quiet,
+            ..
+        } => stored(alloc, verb, key, flags, quiet, block),
+        Line::Cas {
+            key,
+            flags,
+            unique,
+            quiet,
+            ..
+        } => exchanged(alloc, key, flags, unique, quiet, block),
+        _ => Ok(fault(ErrorLine::Unknown)),
+    }
+}
+
+// The command that stores a block.
+fn stored(
+    alloc: Global,
+    verb: Verb,
+    key: &[u8],
+    flags: u32,
+    quiet: bool,
+    block: Blob,
+) -> Result<Command, (Blob, NoMemory)>
+    ensures value { IfOk result (λ command. command ≡ with_block block quiet (Command.Store verb key.now flags (value_of block) quiet)) }
+    ensures returned { IfErr result (λ e. e.0 ≡ block) }
+{
+    if !is_ended(&block) {
+        return Ok(bad_chunk(quiet));
+    }
+    match Blob::copy_of(alloc, key) {
+        Ok(key) => Ok(Command::Store {
+            verb,
+            key,
+            flags,
+            value: value_of(block),
+            quiet,
+        }),
+        Err(e) => Err((block, e)),
+    }
+}
+
+// The command that stores a block over the item with this unique.
+fn exchanged(
+    alloc: Global,
+    key: &[u8],
+    flags: u32,
+    unique: u64,
+    quiet: bool,
+    block: Blob,
+) -> Result<Command, (Blob, NoMemory)>
+    ensures value { IfOk result (λ command. command ≡ with_block block quiet (Command.Cas key.now flags unique (value_of block) quiet)) }
+    ensures returned { IfErr result (λ e. e.0 ≡ block) }
+{
+    if !is_ended(&block) {
+        return Ok(bad_chunk(quiet));
+    }
+    match Blob::copy_of(alloc, key) {
+        Ok(key) => Ok(Command::Cas {
+            key,
+            flags,
+            unique,
+            value: value_of(block),
+            quiet,
+        }),
+        Err(e) => Err((block, e)),
+    }
+}
+
+// The command of a line that says this, with a block that is too large.
+fn large_command_for(line: Line<'_>) -> Command
+    ensures value { result ≡ large_command_for (form_seen line.entry) }
+{
+    match line {
+        Line::Store { quiet, .. } | Line::Cas { quiet, .. } => Command::Fault {
+            line: ErrorLine::TooLarge,
+            quiet,
+        },
+        _ => fault(ErrorLine::Unknown),
+    }
+}
+
+// A fault of a line, which is never quiet.
+fn fault(line: ErrorLine) -> Command
+    ensures value { result ≡ fault line }
+{
+    Command::Fault { line, quiet: false }
+}
+
+// A fault of a block, which is quiet as its line is.
+fn bad_chunk(quiet: bool) -> Command
+    ensures value { result ≡ Command.Fault ErrorLine.BadChunk quiet }
+{
+    Command::Fault {
+        line: ErrorLine::BadChunk,
+        quiet,
+    }
+}
+
+// Whether a block ends in the two bytes that must end it.
+fn is_ended(block: &Blob) -> bool
+    ensures value { result ≡ is_ended block.now }
+{
+    let bytes = block.bytes();
+    &bytes[bytes.len().saturating_sub(2)..] == b"\r\n".as_slice()
+}
+
+// The value in a block, which is taken over.
+fn value_of(block: Blob) -> Blob
+    ensures value { result ≡ value_of block }
+{
+    let mut bytes = block.into_vec();
+    let length = bytes.len().saturating_sub(2);
+    bytes.truncate(length);
+    Blob::from_vec(bytes)
+}
+
+// Copies of the words of a text.
+fn copy_words(alloc: Global, text: &[u8]) -> Result<Keys, NoMemory>
+    ensures value { IfOk result (λ keys. keys ≡ words text.now) }
+{
+    let mut keys = Keys::new(alloc);
+    let mut rest = text;
+    while let Some(split) = next_word(rest) {
+        let key = Blob::copy_of(alloc, split.word)?;
+        if let Err((_, e)) = keys.push(key) {
+            return Err(e);
+        }
+        rest = split.rest;
+    }
+    Ok(keys)
+}

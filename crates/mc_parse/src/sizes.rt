@@ -1,0 +1,8 @@
+//! The flags of an item, and the bytes of its value.
+
+/// The flags and the bytes of the value, as a storage line has them.
+#[derive(Clone, Copy, Debug, PartialEq, Eq)]
+pub struct Sizes {
+    pub flags: u32,
+    pub bytes: u32,
+}
