@@ -1,2 +1,4 @@
 pub mod Shard
 pub mod Effect
+pub mod Uniques
+pub mod KeyReplies
