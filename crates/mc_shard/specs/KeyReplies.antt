@@ -3,9 +3,9 @@ use Rattle.std.specs.Prelude.{◌≡◌, ℕ, Bool, true, false, if◌then◌els
 use Rattle.std.specs.Ordering.{nat_cmp, eq_by_cmp}
 use Rattle.std.specs.Cmp.Lexicographic.{slice_cmp}
 use Rattle.zy_base.specs.declared.call.Call.{Call}
-use Rattle.zy_base.specs.declared.call.Call.TheVariants.{Get, Set, Add, Replace, Append, Prepend, Cas, Incr, Decr, Delete, Flush}
+use Rattle.zy_base.specs.declared.call.Call.TheVariants.{Cas}
 use Rattle.zy_base.specs.declared.call_reply.CallReply.{CallReply}
-use Rattle.zy_base.specs.declared.call_reply.CallReply.TheVariants.{Miss, Hit, Stored, NotStored, Exists, NotFound, Deleted, Number, NotNumber, TooLarge, Flushed}
+use Rattle.zy_base.specs.declared.call_reply.CallReply.TheVariants.{Hit}
 use Rattle.zy_base.specs.Call.{key_of}
 use Rattle.zy_base.specs.Shard.{State, reply_to, state_after}
 
