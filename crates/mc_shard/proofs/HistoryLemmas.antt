@@ -1,5 +1,5 @@
 -- A history that is one entry longer is one of the same shard.
-use Rattle.std.proofs.Common.{◌≡◌, ℕ, ◌+◌, ◌<◌, List, [], ◌∷◌, ◌++◌, refl, sym, ap, subst, ◌∙◌}
+use Rattle.std.proofs.Common.{◌≡◌, ℕ, ◌+◌, ◌<◌, ◌≤◌, List, [], ◌∷◌, ◌++◌, length, arith, refl, sym, ap, subst, ◌∙◌}
 use Rattle.zy_base.specs.declared.call.Call.{Call}
 use Rattle.zy_base.specs.declared.entry.Entry.{Entry}
 use Rattle.zy_base.specs.declared.item.Item.{Item}
@@ -101,3 +101,22 @@ IsSound-applied number shards last last' count count' unique entries entries' es
     IsSound-after number shards last last' count count' entries entries' es es' e sound longer here stamp above
     (reply ∙ ap (λ o. o.reply) outcome_is ∙ ap (λ s. reply_to s e.call) sound.state_is)
     (state_is-after shards number count entries entries' count' unique es e.call outcome.effect sound.state_is (ap (λ o. o.effect) outcome_is) unique_is items_is count_is)
+
+-- ---- the counter
+
+count-state_with : (shards number : ℕ) (state : State) (effect : table.Effect) → (state_with shards number state effect).count ≤ state.count + 1
+count-state_with shards number state keeps = omega arith
+count-state_with shards number state (stores key flags value) = omega arith
+count-state_with shards number state (removes key) = omega arith
+count-state_with shards number state empties = omega arith
+
+count_by : (shards number : ℕ) (state : State) (es : List Entry) → (replayed shards number state es).count ≤ state.count + length es
+count_by shards number state [] = omega arith
+count_by shards number state (e ∷ es) =
+    let one = count-state_with shards number state (outcome_on state.items e.call).effect in
+    let more = count_by shards number (state_after shards number state e.call) es in
+    omega arith
+
+-- each call counts at most one up
+pub counts_calls : (shards number : ℕ) (es : List Entry) → (replayed shards number empty_state es).count ≤ length es
+counts_calls shards number es = let most = count_by shards number empty_state es in omega arith

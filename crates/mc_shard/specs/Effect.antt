@@ -1,5 +1,5 @@
 -- The outcomes that the code computes, as those of the table of calls, and what they do to items and counter.
-use Rattle.std.specs.Prelude.{ℕ, ◌+◌}
+use Rattle.std.specs.Prelude.{◌≡◌, ℕ, ◌+◌, Result, IfOk}
 use Rattle.std.specs.FinMap.{empty, insert, remove}
 use Rattle.zy_base.specs.Shard as table
 use Rattle.zy_base.specs.Shard.{Items, keeps, stores, removes, empties}
@@ -17,6 +17,10 @@ effect_in Empties = empties
 -- what an outcome is in the table
 abbrev pub outcome_in : Outcome → table.Outcome
 outcome_in outcome = record { reply = outcome.reply; effect = effect_in outcome.effect }
+
+-- an answer, unless memory was wanted, is this outcome of the table
+abbrev pub Gives : {E : Type 0} → Result Outcome E → table.Outcome → Type 0
+Gives result outcome = IfOk result (λ o. outcome_in o ≡ outcome)
 
 -- the items after an effect, where an item that is stored gets this unique
 abbrev pub items_with : ℕ → Items → table.Effect → Items

@@ -1,9 +1,11 @@
 -- What a shard is to contracts: its number among so many, and the history of its calls.
-use Rattle.std.specs.Prelude.{◌≡◌, ℕ, ◌<◌, ◌≤◌, List}
+use Rattle.std.specs.Prelude.{◌≡◌, ℕ, ◌<◌, ◌≤◌, List, [], ◌∷◌, ◌++◌}
 use Rattle.std.specs.FinMap.{from_entries}
 use Rattle.zy_base.specs.declared.item.Item.{Item}
+use Rattle.zy_base.specs.declared.call.Call.{Call}
+use Rattle.zy_base.specs.declared.call_reply.CallReply.{CallReply}
 use Rattle.zy_base.specs.declared.entry.Entry.{Entry}
-use Rattle.zy_base.specs.Shard.{Items, State, empty_state}
+use Rattle.zy_base.specs.Shard.{Items, State, empty_state, reply_to, state_after}
 use Rattle.zy_base.specs.History.{IsReplay, replayed}
 use Rattle.zy_base.specs.Order.{AreAt, StampsRise, last_stamp}
 
@@ -28,6 +30,18 @@ state_of shard = replayed shard.shards shard.number empty_state shard.history
 -- the stamp of its last entry, 0 without entries
 abbrev pub last_of : Kept → ℕ
 last_of shard = last_stamp 0 shard.history
+
+-- the shard with one more entry in its history
+abbrev pub with_entry : Kept → Entry → Kept
+with_entry shard entry = kept shard.number shard.shards (shard.history ++ entry ∷ [])
+
+-- what the shard answers to a call
+abbrev pub reply_of : Kept → Call → CallReply
+reply_of shard call = reply_to (state_of shard) call
+
+-- its items and its counter after a call
+abbrev pub state_past : Kept → Call → State
+state_past shard call = state_after shard.shards shard.number (state_of shard) call
 
 -- ---- what holds of every shard
 

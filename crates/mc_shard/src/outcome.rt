@@ -1,9 +1,9 @@
 //! What each call answers and does, where its key has no item and where it has one.
-ghost use Rattle.std.specs.Prelude.{◌≡◌, ◌++◌, IfOk, None, Some, option_copied};
+ghost use Rattle.std.specs.Prelude.{◌≡◌, ◌++◌, None, Some, option_copied};
 ghost use Rattle.zy_base.specs.declared.call_reply.CallReply.TheVariants.{Hit, Deleted, Flushed};
 ghost use Rattle.zy_base.specs.Number.{number_of};
 ghost use Rattle.zy_base.specs.Shard.{outcome_of, answers, stored, joined, counted, counted_up, counted_down, exchanged, stores, removes, empties};
-ghost use Rattle.mc_shard.specs.Effect.{outcome_in};
+ghost use Rattle.mc_shard.specs.Effect.{outcome_in, Gives};
 
 use crate::effect::{Effect, Outcome};
 use std::alloc::Global;
@@ -14,7 +14,7 @@ const VALUE_LIMIT: usize = 1_048_576;
 
 /// What a call answers and does, where its key has this item or none.
 pub fn outcome(alloc: Global, call: &Call, found: Option<&Item>) -> Result<Outcome, NoMemory>
-    ensures value { IfOk result (λ outcome. outcome_in outcome ≡ outcome_of call.now (option_copied found.entry)) }
+    ensures value { Gives result (outcome_of call.now (option_copied found.entry)) }
 {
     match found {
         None => outcome_without(call),
@@ -24,7 +24,7 @@ pub fn outcome(alloc: Global, call: &Call, found: Option<&Item>) -> Result<Outco
 
 // What a call answers and does where its key has no item.
 fn outcome_without(call: &Call) -> Result<Outcome, NoMemory>
-    ensures value { IfOk result (λ outcome. outcome_in outcome ≡ outcome_of call.now None) }
+    ensures value { Gives result (outcome_of call.now None) }
 {
     match call {
         Call::Get { .. } => Ok(answers(CallReply::Miss)),
@@ -43,7 +43,7 @@ fn outcome_without(call: &Call) -> Result<Outcome, NoMemory>
 
 // What a call answers and does where its key has this item.
 fn outcome_with(alloc: Global, call: &Call, item: &Item) -> Result<Outcome, NoMemory>
-    ensures value { IfOk result (λ outcome. outcome_in outcome ≡ outcome_of call.now (Some item.now)) }
+    ensures value { Gives result (outcome_of call.now (Some item.now)) }
 {
     match call {
         Call::Get { .. } => hit(item),
@@ -77,7 +77,7 @@ fn answers(reply: CallReply) -> Outcome
 
 // The item is answered.
 fn hit(item: &Item) -> Result<Outcome, NoMemory>
-    ensures value { IfOk result (λ outcome. outcome_in outcome ≡ answers (Hit item.now.flags item.now.unique item.now.value)) }
+    ensures value { Gives result (answers (Hit item.now.flags item.now.unique item.now.value)) }
 {
     Ok(answers(CallReply::Hit {
         flags: item.flags,
@@ -88,7 +88,7 @@ fn hit(item: &Item) -> Result<Outcome, NoMemory>
 
 // The item is stored.
 fn stored(key: &Blob, flags: u32, value: &Blob) -> Result<Outcome, NoMemory>
-    ensures value { IfOk result (λ outcome. outcome_in outcome ≡ stored key.now flags value.now) }
+    ensures value { Gives result (stored key.now flags value.now) }
 {
     Ok(stores(CallReply::Stored, key.copy()?, flags, value.copy()?))
 }
@@ -105,7 +105,7 @@ fn stores(reply: CallReply, key: Blob, flags: u32, value: Blob) -> Outcome
 
 // The value that two values make is stored with the item's flags, where it is not too large.
 fn joined(key: &Blob, item: &Item, front: &Blob, back: &Blob) -> Result<Outcome, NoMemory>
-    ensures value { IfOk result (λ o. outcome_in o ≡ joined key.now item.now (front.now ++ back.now)) }
+    ensures value { Gives result (joined key.now item.now (front.now ++ back.now)) }
 {
     if front.bytes().len() + back.bytes().len() > VALUE_LIMIT {
         return Ok(answers(CallReply::TooLarge));
@@ -123,7 +123,7 @@ fn exchanged(
     unique: u64,
     value: &Blob,
 ) -> Result<Outcome, NoMemory>
-    ensures value { IfOk result (λ o. outcome_in o ≡ exchanged key.now item.now flags unique value.now) }
+    ensures value { Gives result (exchanged key.now item.now flags unique value.now) }
 {
     if item.unique == unique {
         stored(key, flags, value)
@@ -134,7 +134,7 @@ fn exchanged(
 
 // A value that is a number is counted up, modulo 2^64.
 fn counted_up(alloc: Global, key: &Blob, item: &Item, amount: u64) -> Result<Outcome, NoMemory>
-    ensures value { IfOk result (λ o. outcome_in o ≡ counted_up key.now item.now amount (number_of item.now.value)) }
+    ensures value { Gives result (counted_up key.now item.now amount (number_of item.now.value)) }
 {
     match read_number(item.value.bytes()) {
         Some(number) => counted(alloc, key, item, number.wrapping_add(amount)),
@@ -144,7 +144,7 @@ fn counted_up(alloc: Global, key: &Blob, item: &Item, amount: u64) -> Result<Out
 
 // A value that is a number is counted down, and not below 0.
 fn counted_down(alloc: Global, key: &Blob, item: &Item, amount: u64) -> Result<Outcome, NoMemory>
-    ensures value { IfOk result (λ o. outcome_in o ≡ counted_down key.now item.now amount (number_of item.now.value)) }
+    ensures value { Gives result (counted_down key.now item.now amount (number_of item.now.value)) }
 {
     match read_number(item.value.bytes()) {
         Some(number) => counted(alloc, key, item, number.saturating_sub(amount)),
@@ -154,7 +154,7 @@ fn counted_down(alloc: Global, key: &Blob, item: &Item, amount: u64) -> Result<O
 
 // The number is stored as digits with the item's flags.
 fn counted(alloc: Global, key: &Blob, item: &Item, number: u64) -> Result<Outcome, NoMemory>
-    ensures value { IfOk result (λ outcome. outcome_in outcome ≡ counted key.now item.now number) }
+    ensures value { Gives result (counted key.now item.now number) }
 {
     let mut value = Blob::new(alloc);
     number_text(&mut value, number)?;
@@ -163,7 +163,7 @@ fn counted(alloc: Global, key: &Blob, item: &Item, number: u64) -> Result<Outcom
 
 // The item of the key is removed.
 fn removed(key: &Blob) -> Result<Outcome, NoMemory>
-    ensures value { IfOk result (λ o. outcome_in o ≡ record { reply = Deleted; effect = removes key.now }) }
+    ensures value { Gives result (record { reply = Deleted; effect = removes key.now }) }
 {
     Ok(Outcome {
         reply: CallReply::Deleted,

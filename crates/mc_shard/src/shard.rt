@@ -1,7 +1,7 @@
 //! A shard of the store with the history of its calls.
-ghost use Rattle.std.specs.Prelude.{◌≡◌, ◌+◌, ◌^◌, ◌<◌, ◌≤◌, [], ◌∷◌, ◌++◌, max, IfOk, OnOk, OnErr};
-ghost use Rattle.zy_base.specs.Shard.{unique_of, reply_to, state_after};
-ghost use Rattle.mc_shard.specs.Shard.{kept, state_of, last_of, IsHistory};
+ghost use Rattle.std.specs.Prelude.{◌≡◌, ◌+◌, ◌^◌, ◌<◌, ◌≤◌, [], ◌∷◌, ◌++◌, length, max, IfOk, OnOk, OnErr};
+ghost use Rattle.zy_base.specs.Shard.{unique_of};
+ghost use Rattle.mc_shard.specs.Shard.{kept, state_of, last_of, reply_of, with_entry, state_past, IsHistory};
 
 use crate::items::{carry_out, count_after, found};
 use crate::outcome::outcome;
@@ -61,6 +61,7 @@ impl Shard {
     pub fn history(&self) -> &[Entry]
         ensures value { result.now ≡ self.now.history }
         ensures sound { IsHistory self.now.shards self.now.number self.now.history }
+        ensures count { (state_of self.now).count ≤ length self.now.history }
     {
         self.history.as_slice()
     }
@@ -76,12 +77,12 @@ impl Shard {
         ensures tag { IfOk result (λ entry. entry.tag ≡ tag) }
         ensures shard { IfOk result (λ entry. entry.shard ≡ self.old.number) }
         ensures call { IfOk result (λ entry. entry.call ≡ call) }
-        ensures reply { IfOk result (λ entry. entry.reply ≡ reply_to (state_of self.old) call) }
+        ensures reply { IfOk result (λ entry. entry.reply ≡ reply_of self.old call) }
         ensures stamp { IfOk result (λ entry. entry.stamp ≡ max (last_of self.old) seen + 1) }
 
         // The shard.
-        ensures ok { IfOk result (λ entry. self.new ≡ kept self.old.number self.old.shards (self.old.history ++ entry ∷ [])) }
-        ensures state { OnOk result (state_of self.new ≡ state_after self.old.shards self.old.number (state_of self.old) call) }
+        ensures ok { IfOk result (λ entry. self.new ≡ with_entry self.old entry) }
+        ensures state { OnOk result (state_of self.new ≡ state_past self.old call) }
         ensures err { OnErr result (self.new ≡ self.old) }
         ensures sound { IsHistory self.new.shards self.new.number self.new.history }
     {
