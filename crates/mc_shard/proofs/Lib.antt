@@ -1,0 +1,4 @@
+pub mod MapLemmas
+pub mod HistoryLemmas
+pub mod UniqueLemmas
+pub mod KeyLemmas

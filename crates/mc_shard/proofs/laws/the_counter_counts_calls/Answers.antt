@@ -1,0 +1,5 @@
+use Rattle.mc_shard.proofs.HistoryLemmas.{counts_calls}
+use Rattle.mc_shard.proofs.laws.the_counter_counts_calls.Goals as goal
+
+pub returns : goal.returns
+returns c = record { count = counts_calls }

@@ -1,0 +1,49 @@
+-- What the calls on one key answer, uniques aside.
+use Rattle.std.specs.Prelude.{◌≡◌, ℕ, Bool, true, false, if◌then◌else◌, List, [], ◌∷◌, Option, None, Some, filter}
+use Rattle.std.specs.Ordering.{nat_cmp, eq_by_cmp}
+use Rattle.std.specs.Cmp.Lexicographic.{slice_cmp}
+use Rattle.zy_base.specs.declared.call.Call.{Call}
+use Rattle.zy_base.specs.declared.call.Call.TheVariants.{Cas}
+use Rattle.zy_base.specs.declared.call_reply.CallReply.{CallReply}
+use Rattle.zy_base.specs.declared.call_reply.CallReply.TheVariants.{Hit}
+use Rattle.zy_base.specs.Call.{key_of}
+use Rattle.zy_base.specs.Shard.{State, reply_to, state_after}
+
+-- a call is a cas
+abbrev pub is_cas : Call → Bool
+is_cas (Cas key flags unique value) = true
+is_cas call = false
+
+-- none of the calls is a cas
+abbrev pub AreWithoutCas : List Call → Type 0
+AreWithoutCas [] = Unit {0}
+AreWithoutCas (call ∷ calls) = (is_cas call ≡ false) × AreWithoutCas calls
+
+-- two keys are the same
+abbrev pub is_same : List ℕ → List ℕ → Bool
+is_same key other = eq_by_cmp (slice_cmp nat_cmp) key other
+
+-- the key is that of the call, or the call is a flush
+abbrev pub is_key : List ℕ → Option (List ℕ) → Bool
+is_key key None = true
+is_key key (Some other) = is_same key other
+
+-- a call is on the key, or is a flush
+abbrev pub is_about : List ℕ → Call → Bool
+is_about key call = is_key key (key_of call)
+
+-- the calls on the key, and the flushes, in the list's order
+abbrev pub calls_about : List ℕ → List Call → List Call
+calls_about key calls = filter (is_about key) calls
+
+-- a reply without the unique that it shows
+abbrev pub without_unique : CallReply → CallReply
+without_unique (Hit flags unique value) = Hit flags 0 value
+without_unique reply = reply
+
+-- what the calls on the key and the flushes answer, uniques aside, where all of these calls are made in turn
+abbrev pub replies_about : ℕ → ℕ → State → List ℕ → List Call → List CallReply
+replies_about shards number state key [] = []
+replies_about shards number state key (call ∷ calls) =
+    let rest = replies_about shards number (state_after shards number state call) key calls in
+    if is_about key call then without_unique (reply_to state call) ∷ rest else rest

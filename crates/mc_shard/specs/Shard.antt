@@ -1,0 +1,67 @@
+-- What a shard is to contracts: its number among so many, and the history of its calls.
+use Rattle.std.specs.Prelude.{◌≡◌, ℕ, ◌<◌, ◌≤◌, List, [], ◌∷◌, ◌++◌}
+use Rattle.std.specs.FinMap.{from_entries}
+use Rattle.zy_base.specs.declared.item.Item.{Item}
+use Rattle.zy_base.specs.declared.call.Call.{Call}
+use Rattle.zy_base.specs.declared.call_reply.CallReply.{CallReply}
+use Rattle.zy_base.specs.declared.entry.Entry.{Entry}
+use Rattle.zy_base.specs.Shard.{Items, State, empty_state, reply_to, state_after}
+use Rattle.zy_base.specs.History.{IsReplay, replayed}
+use Rattle.zy_base.specs.Order.{AreAt, StampsRise, last_stamp}
+
+-- ---- values
+
+-- a shard as its callers see it
+pub record Kept : Type 0 where
+  pub number : ℕ
+  -- how many shards there are
+  pub shards : ℕ
+  -- its calls with its answers, the oldest first
+  pub history : List Entry
+
+-- the shard with this number, of so many, with this history
+abbrev pub kept : ℕ → ℕ → List Entry → Kept
+kept number shards history = record { number = number; shards = shards; history = history }
+
+-- its items and its counter: what its history leaves of an empty shard
+abbrev pub state_of : Kept → State
+state_of shard = replayed shard.shards shard.number empty_state shard.history
+
+-- the stamp of its last entry, 0 without entries
+abbrev pub last_of : Kept → ℕ
+last_of shard = last_stamp 0 shard.history
+
+-- the shard with one more entry in its history
+abbrev pub with_entry : Kept → Entry → Kept
+with_entry shard entry = kept shard.number shard.shards (shard.history ++ entry ∷ [])
+
+-- what the shard answers to a call
+abbrev pub reply_of : Kept → Call → CallReply
+reply_of shard call = reply_to (state_of shard) call
+
+-- its items and its counter after a call
+abbrev pub state_past : Kept → Call → State
+state_past shard call = state_after shard.shards shard.number (state_of shard) call
+
+-- ---- what holds of every shard
+
+-- the history is one of the shard with this number, of so many
+pub record IsHistory (shards number : ℕ) (history : List Entry) : Type 0 where
+  -- each reply is that of the replay
+  pub replay : IsReplay shards number empty_state history
+  -- each entry names the shard
+  pub place : AreAt number history
+  -- the stamps rise strictly, from 1 or more
+  pub stamps : StampsRise 0 history
+
+-- the items that the entries of a map make
+abbrev pub items_in : List (List ℕ × Item) → Items
+items_in entries = from_entries entries
+
+-- the counter and the map have what the history leaves, and the last stamp is the history's
+pub record IsSound (number shards last count : ℕ) (entries : List (List ℕ × Item)) (history : List Entry) : Type 0 where
+  pub within : number < shards
+  pub few : shards ≤ 256
+  pub history_is : IsHistory shards number history
+  pub state_is : record { items = items_in entries; count = count } ≡ replayed shards number empty_state history
+  pub last_is : last ≡ last_stamp 0 history

@@ -1,0 +1,37 @@
+-- The uniques that the calls of a list give.
+use Rattle.std.specs.Prelude.{◌≡◌, ◌⊎◌, ℕ, ◌+◌, ◌<◌, ◌==◌, if◌then◌else◌, List, [], ◌∷◌, ◌++◌}
+use Rattle.zy_base.specs.declared.entry.Entry.{Entry}
+use Rattle.zy_base.specs.Shard.{State, Effect, keeps, stores, removes, empties, empty_state, unique_of, outcome_on}
+use Rattle.zy_base.specs.History.{states_after}
+
+-- the unique that an effect gives, where the next is this one; only what is stored gets one
+abbrev pub given_by : ℕ → Effect → List ℕ
+given_by unique keeps = []
+given_by unique (stores key flags value) = unique ∷ []
+given_by unique (removes key) = []
+given_by unique empties = []
+
+-- the unique that an entry's call gives, where the shards are in these states
+abbrev pub given : ℕ → (ℕ → State) → Entry → List ℕ
+given shards states e =
+    given_by (unique_of shards e.shard ((states e.shard).count + 1)) (outcome_on (states e.shard).items e.call).effect
+
+-- the uniques that the calls on one shard give, in the list's order, where the shards begin in these states
+abbrev pub uniques_from : ℕ → ℕ → (ℕ → State) → List Entry → List ℕ
+uniques_from shards number states [] = []
+uniques_from shards number states (e ∷ es) =
+    (if e.shard == number then given shards states e else []) ++ uniques_from shards number (states_after shards states e) es
+
+-- the uniques that the calls on one shard give, in the list's order, where all shards are empty at first
+abbrev pub uniques_at : ℕ → ℕ → List Entry → List ℕ
+uniques_at shards number es = uniques_from shards number (λ number. empty_state) es
+
+-- the numbers rise strictly, and are above the one before
+abbrev pub AreRising : ℕ → List ℕ → Type 0
+AreRising before [] = Unit {0}
+AreRising before (x ∷ xs) = (before < x) × AreRising x xs
+
+-- a number is one of a list
+abbrev pub IsIn : List ℕ → ℕ → Type 0
+IsIn [] x = ⊥
+IsIn (y ∷ ys) x = (x ≡ y) ⊎ IsIn ys x

@@ -1,0 +1,15 @@
+//! One shard of the store, with the history of its calls.
+#![tactic(auto)]
+
+mod effect;
+mod items;
+mod laws;
+mod outcome;
+mod shard;
+
+pub use laws::{
+    a_flush_empties_and_keeps_the_counter, a_key_depends_on_its_own_calls,
+    the_counter_counts_calls, uniques_of_a_shard_rise, uniques_of_two_shards_differ,
+    what_is_not_stored_changes_nothing,
+};
+pub use shard::Shard;
