@@ -1,0 +1,67 @@
+//! Laws of cutting.
+ghost use Rattle.std.specs.Prelude.{◌≡◌, ◌<◌, ◌≤◌, ◌+◌, ◌↔◌, ℕ, true, List, [], ◌∷◌, ◌++◌, length, map, None};
+ghost use Rattle.std.specs.List.{AllByRecursion};
+ghost use Rattle.mc_parse.specs.declared.need.Need.TheVariants as Needs;
+ghost use Rattle.mc_parse.specs.Need.{need};
+ghost use Rattle.zy_frame.specs.declared.frame_kind.FrameKind.{FrameKind};
+ghost use Rattle.zy_frame.specs.Line.{first_line, chomped, line_feed, line_limit};
+ghost use Rattle.zy_frame.specs.Frame.{IsFrameText, IsQuitLine, frame_of, command_of};
+ghost use Rattle.zy_frame.specs.Cut.{Splits, BeginsWithQuit, cut_of, frames_of, commands_of, meets_quit, joined};
+
+/// No frame text is a proper prefix of another.
+#[tactic(auto, using(crate::proofs::CutLemmas::no_proper_prefix))]
+pub fn no_frame_text_is_a_proper_prefix()
+    ensures law { (text more : List ℕ) → IsFrameText text → IsFrameText (text ++ more) → more ≡ [] }
+{}
+
+/// Each stream has a cut.
+pub fn each_stream_has_a_cut()
+    ensures law { (stream : List ℕ) → Splits stream (cut_of stream).pieces (cut_of stream).rest }
+{}
+
+/// No stream has two cuts.
+pub fn no_stream_has_two_cuts()
+    ensures law { (stream : List ℕ) (pieces others : List (List ℕ)) (rest left : List ℕ)
+        → Splits stream pieces rest → Splits stream others left → (pieces ≡ others) × (rest ≡ left) }
+{}
+
+/// The pieces of a prefix of a stream are a prefix of its pieces.
+#[tactic(auto, using(crate::proofs::CutLaws::pieces_first))]
+pub fn pieces_of_a_prefix_come_first()
+    ensures law { (stream more : List ℕ) (pieces others : List (List ℕ)) (rest left : List ℕ)
+        → Splits stream pieces rest → Splits (stream ++ more) others left
+        → (later : List (List ℕ)) × (others ≡ pieces ++ later) }
+{}
+
+/// The frames of a prefix of a stream are a prefix of its frames.
+#[tactic(auto, using(crate::proofs::CutLaws::frames_first))]
+pub fn frames_of_a_prefix_come_first()
+    ensures law { (stream more : List ℕ) → (later : List FrameKind) × (frames_of (stream ++ more) ≡ frames_of stream ++ later) }
+{}
+
+/// A quit line and all that comes after it are in the rest.
+#[tactic(auto, using(crate::proofs::CutLaws::quit_rest))]
+pub fn a_quit_line_begins_the_rest()
+    ensures law { (pieces : List (List ℕ)) (line after : List ℕ) → AllByRecursion IsFrameText pieces → IsQuitLine line
+        → Splits (joined pieces ++ (line ++ line_feed ∷ after)) pieces (line ++ line_feed ∷ after) }
+{}
+
+/// A quit line is met exactly where the rest begins with one.
+pub fn quit_is_met_where_the_rest_begins_with_it()
+    ensures law { (stream : List ℕ) (pieces : List (List ℕ)) (rest : List ℕ) → Splits stream pieces rest
+        → (meets_quit stream ≡ true) ↔ BeginsWithQuit rest }
+{}
+
+/// The frames of a stream are those of the pieces of its cut.
+#[tactic(auto, using(crate::proofs::CutLaws::frames_of_splits))]
+pub fn frames_are_those_of_the_cut()
+    ensures law { (stream : List ℕ) (pieces : List (List ℕ)) (rest : List ℕ) → Splits stream pieces rest
+        → frames_of stream ≡ map frame_of pieces }
+{}
+
+/// The commands of a stream are the meanings of the pieces of its cut.
+#[tactic(auto, using(crate::proofs::CutLaws::commands_of_splits))]
+pub fn commands_are_those_of_the_cut()
+    ensures law { (stream : List ℕ) (pieces : List (List ℕ)) (rest : List ℕ) → Splits stream pieces rest
+        → commands_of stream ≡ map (λ piece. command_of (frame_of piece)) pieces }
+{}
