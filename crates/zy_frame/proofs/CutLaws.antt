@@ -59,10 +59,10 @@ commands_of_splits stream pieces rest s = ap (map command_of) (frames_of_splits 
 -- ---- quit lines
 
 quit_tail : (line : List ℕ) → IsQuitLine line → tail_length line ≡ None
-quit_tail line q = rw (le-ltb line_limit (length line) q.short) (ap tail_by q.quits)
+quit_tail line q = rw (le-ltb line_limit (length line) q.short.short) (ap tail_by q.quits)
 
 quit_first_piece : (line after : List ℕ) → IsQuitLine line → first_piece (line ++ line_feed ∷ after) ≡ None
-quit_first_piece line after q = rw (first_line-ended line after q.no_feed) (ap (λ (t : Option ℕ). piece_with line t after) (quit_tail line q))
+quit_first_piece line after q = rw (first_line-ended line after q.short.no_feed) (ap (λ (t : Option ℕ). piece_with line t after) (quit_tail line q))
 
 pub quit_rest : (pieces : List (List ℕ)) (line after : List ℕ) → AllByRecursion IsFrameText pieces → IsQuitLine line
     → Splits (joined pieces ++ (line ++ line_feed ∷ after)) pieces (line ++ line_feed ∷ after)
@@ -83,11 +83,11 @@ quits_by rest None is quits = cc
 quits_by rest (Some e) is quits =
     let s = spelled rest e is in
     let h = no_tail (nat_lt line_limit (length e.line)) e.line refl quits in
-    record { line = e.line; after = e.after; split = s.text_is; quits = record { no_feed = s.no_feed; short = h.0; quits = h.1 } }
+    record { line = e.line; after = e.after; split = s.text_is; quits = record { short = record { no_feed = s.no_feed; short = h.0 }; quits = h.1 } }
 
 quit_begins : (rest : List ℕ) → BeginsWithQuit rest → quits_in (first_line rest) ≡ true
 quit_begins rest b =
-    ap (λ (x : List ℕ). quits_in (first_line x)) b.split ∙ ap quits_in (first_line-ended b.line b.after b.quits.no_feed) ∙ ap is_none (quit_tail b.line b.quits)
+    ap (λ (x : List ℕ). quits_in (first_line x)) b.split ∙ ap quits_in (first_line-ended b.line b.after b.quits.short.no_feed) ∙ ap is_none (quit_tail b.line b.quits)
 
 pub quit_exactly : (stream : List ℕ) (pieces : List (List ℕ)) (rest : List ℕ) → Splits stream pieces rest → (meets_quit stream ≡ true) ↔ BeginsWithQuit rest
 unfolding meets_quit

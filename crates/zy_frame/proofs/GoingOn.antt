@@ -10,10 +10,10 @@ use Rattle.mc_parse.specs.declared.need.Need.TheVariants as Needs
 use Rattle.mc_parse.specs.Need.{need}
 use Rattle.zy_frame.specs.declared.frame_kind.FrameKind.{FrameKind}
 use Rattle.zy_frame.specs.declared.frame_kind.FrameKind.TheVariants as Kinds
-use Rattle.zy_frame.specs.Line.{Ended, first_line, begun_by, chomped, line_feed, line_limit}
+use Rattle.zy_frame.specs.Line.{IsShort, Ended, first_line, begun_by, chomped, line_feed, line_limit}
 use Rattle.zy_frame.specs.Frame.{tail_length, tail_by, IsFrameText, IsFrame, frame_of, frame_at, frame_in, frame_by}
 use Rattle.zy_frame.specs.Cut.{Cut, first_piece, piece_with, piece_in, frames_of, meets_quit, quits_in}
-use Rattle.zy_frame.specs.Progress.{Outcome, outcome_of, no_outcome, with_frames, ends_long, ends_frame, IsShort}
+use Rattle.zy_frame.specs.Progress.{Outcome, outcome_of, no_outcome, with_frames, ends_long, ends_frame}
 use Rattle.zy_frame.proofs.LineLemmas.{begun_with, spelled, first_line-ended, first_line-append_none}
 use Rattle.zy_frame.proofs.CutLemmas.{is_text, cut_of-text, cut_of-none}
 
@@ -44,10 +44,10 @@ outcome_of-unended stream none = outcome_of-none stream (ap piece_in none) ∙ a
 
 -- ---- lines that are too long
 
-long_tail : (line : List ℕ) → line_limit < length line → tail_length line ≡ Some 0
+pub long_tail : (line : List ℕ) → line_limit < length line → tail_length line ≡ Some 0
 long_tail line long = rw (lt-ltb line_limit (length line) long) refl
 
-long_frame : (line after : List ℕ) → line_limit < length line → frame_at line after ≡ Kinds.Long
+pub long_frame : (line after : List ℕ) → line_limit < length line → frame_at line after ≡ Kinds.Long
 long_frame line after long = rw (lt-ltb line_limit (length line) long) refl
 
 -- a line that is too long has ended
@@ -108,10 +108,10 @@ ends_frame-all left kind bytes more enough =
 looked_at : (line : List ℕ) → length line ≤ line_limit → nat_lt line_limit (length line) ≡ false
 looked_at line short = le-ltb line_limit (length line) short
 
-tail_is : (line : List ℕ) (what : Need) → length line ≤ line_limit → need (chomped line) ≡ what → tail_length line ≡ tail_by what
+pub tail_is : (line : List ℕ) (what : Need) → length line ≤ line_limit → need (chomped line) ≡ what → tail_length line ≡ tail_by what
 tail_is line what short is = rw (looked_at line short) (ap tail_by is)
 
-frame_is : (line after : List ℕ) (what : Need) → length line ≤ line_limit → need (chomped line) ≡ what → frame_at line after ≡ frame_by what (chomped line) after
+pub frame_is : (line after : List ℕ) (what : Need) → length line ≤ line_limit → need (chomped line) ≡ what → frame_at line after ≡ frame_by what (chomped line) after
 frame_is line after what short is = rw (looked_at line short) (ap (λ (n : Need). frame_by n (chomped line) after) is)
 
 -- a line by itself

@@ -6,3 +6,5 @@ pub mod StepLemmas
 pub mod Feeding
 pub mod CutLaws
 pub mod FrameFits
+
+pub mod TextKinds

@@ -1,5 +1,5 @@
 -- Lines of a stream: memcached's protocol.txt, "Protocol". The limit of a line's length is this project's.
-use Rattle.std.specs.Prelude.{ℕ, ◌==◌, if◌then◌else◌, List, [], ◌∷◌, Option, None, Some}
+use Rattle.std.specs.Prelude.{◌≡◌, ℕ, ◌≤◌, length, ◌==◌, if◌then◌else◌, List, [], ◌∷◌, Option, None, Some}
 
 -- the byte that ends a line
 abbrev pub line_feed : ℕ
@@ -33,3 +33,8 @@ abbrev pub chomped : List ℕ → List ℕ
 chomped [] = []
 chomped (byte ∷ []) = if byte == carriage_return then [] else byte ∷ []
 chomped (byte ∷ next ∷ bytes) = byte ∷ chomped (next ∷ bytes)
+
+-- no line feed stands in the line, and it is not too long
+pub record IsShort (line : List ℕ) : Type 0 where
+  pub no_feed : first_line line ≡ None
+  pub short : length line ≤ line_limit

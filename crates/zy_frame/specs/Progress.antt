@@ -10,7 +10,7 @@ use Rattle.zy_frame.specs.declared.wanted.Wanted.{Wanted}
 use Rattle.zy_frame.specs.declared.state.State.{State}
 use Rattle.zy_frame.specs.declared.state.State.TheVariants.{Line, Long, Block, Large, Quit, Refused}
 use Rattle.zy_frame.specs.declared.step.Step.{Step}
-use Rattle.zy_frame.specs.Line.{Ended, first_line, chomped, line_feed, line_limit}
+use Rattle.zy_frame.specs.Line.{Ended, first_line, chomped, line_feed, line_limit, IsShort}
 use Rattle.zy_frame.specs.Cut.{frames_of, meets_quit}
 
 -- ---- what cutting gives
@@ -59,11 +59,6 @@ unfoldable pub StandsFor : State → List ℕ → Type 0
 StandsFor framer fed = (more : List ℕ) → outcome_of (fed ++ more) ≡ with_frames (frames_of fed) (goes_on framer more)
 
 -- ---- what is true of each framer
-
--- no line feed stands in the line, and it isn't too long
-pub record IsShort (line : List ℕ) : Type 0 where
-  pub no_feed : first_line line ≡ None
-  pub short : length line ≤ line_limit
 
 -- the line takes a block of this size, of which some bytes are still to come
 pub record Wants (wanted : Wanted) : Type 0 where

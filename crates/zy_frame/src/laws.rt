@@ -1,11 +1,11 @@
 //! Laws of cutting.
-ghost use Rattle.std.specs.Prelude.{◌≡◌, ◌<◌, ◌≤◌, ◌+◌, ◌↔◌, ℕ, true, List, [], ◌∷◌, ◌++◌, length, map, None};
+ghost use Rattle.std.specs.Prelude.{◌≡◌, ◌<◌, ◌≤◌, ◌+◌, ◌↔◌, ◌⊎◌, ℕ, true, List, [], ◌∷◌, ◌++◌, length, map, None};
 ghost use Rattle.std.specs.List.{AllByRecursion};
-ghost use Rattle.mc_parse.specs.declared.need.Need.TheVariants as Needs;
-ghost use Rattle.mc_parse.specs.Need.{need};
+ghost use Rattle.zy_base.specs.Shard.{value_limit};
 ghost use Rattle.zy_frame.specs.declared.frame_kind.FrameKind.{FrameKind};
-ghost use Rattle.zy_frame.specs.Line.{first_line, chomped, line_feed, line_limit};
-ghost use Rattle.zy_frame.specs.Frame.{IsFrameText, IsQuitLine, frame_of, command_of};
+ghost use Rattle.zy_frame.specs.declared.frame_kind.FrameKind.TheVariants as Kinds;
+ghost use Rattle.zy_frame.specs.Line.{chomped, line_feed};
+ghost use Rattle.zy_frame.specs.Frame.{IsFrameText, IsQuitLine, IsLongText, IsLineText, IsBlockText, frame_of, command_of};
 ghost use Rattle.zy_frame.specs.Cut.{Splits, BeginsWithQuit, cut_of, frames_of, commands_of, meets_quit, joined};
 
 /// No frame text is a proper prefix of another.
@@ -65,3 +65,18 @@ pub fn commands_are_those_of_the_cut()
     ensures law { (stream : List ℕ) (pieces : List (List ℕ)) (rest : List ℕ) → Splits stream pieces rest
         → commands_of stream ≡ map (λ piece. command_of (frame_of piece)) pieces }
 {}
+
+/// A frame text is a line that is too long, a line that takes no block, or a storage line with its block.
+pub fn frame_texts_are_of_three_kinds()
+    ensures law { (text : List ℕ) → IsFrameText text ↔ (IsLongText text ⊎ IsLineText text ⊎ IsBlockText text) }
+{
+}
+
+/// The frame of each kind of frame text.
+pub fn each_kind_of_frame_text_has_its_frame()
+    ensures long { (text : List ℕ) (t : IsLongText text) → frame_of text ≡ Kinds.Long }
+    ensures line { (text : List ℕ) (t : IsLineText text) → frame_of text ≡ Kinds.Line (chomped t.line) }
+    ensures block { (text : List ℕ) (t : IsBlockText text) → t.size ≤ value_limit → frame_of text ≡ Kinds.Block (chomped t.line) t.block }
+    ensures large { (text : List ℕ) (t : IsBlockText text) → value_limit < t.size → frame_of text ≡ Kinds.Large (chomped t.line) }
+{
+}
