@@ -1,6 +1,6 @@
 -- The three kinds of frame texts, and the frame of each.
 use Rattle.std.proofs.Common.{◌≡◌, inl, inr, ℕ, ◌+◌, ◌<◌, ◌≤◌, true, false, List, [], ◌∷◌, ◌++◌, length, refl, sym, ap, ◌∙◌, subst, arith}
-use Rattle.std.specs.Prelude.{Option, None, Some, nat_lt, if◌then◌else◌, Bool, ◌↔◌, ◌⊎◌}
+use Rattle.std.specs.Prelude.{None, Some, nat_lt, if◌then◌else◌, Bool, ◌↔◌, ◌⊎◌}
 use Rattle.std.proofs.lemmas.Bool.{ltb-true, ltb-false}
 use Rattle.zy_base.specs.Shard.{value_limit}
 use Rattle.mc_parse.specs.declared.need.Need.{Need}
@@ -8,7 +8,7 @@ use Rattle.mc_parse.specs.declared.need.Need.TheVariants as Needs
 use Rattle.mc_parse.specs.Need.{need}
 use Rattle.zy_frame.specs.declared.frame_kind.FrameKind.TheVariants.{Line, Block, Large, Long}
 use Rattle.zy_frame.specs.Line.{IsShort, first_line, chomped, line_feed, line_limit}
-use Rattle.zy_frame.specs.Frame.{tail_length, tail_by, IsFrameText, IsLongText, IsLineText, IsBlockText, frame_of, frame_at, frame_in}
+use Rattle.zy_frame.specs.Frame.{tail_by, IsFrameText, IsLongText, IsLineText, IsBlockText, frame_of, frame_at, frame_in}
 use Rattle.zy_frame.proofs.LineLemmas.{first_line-ended}
 use Rattle.zy_frame.proofs.CutLemmas.{Text, text_of, is_text}
 use Rattle.zy_frame.proofs.GoingOn.{tail_is, frame_is, long_tail, long_frame, kept_block, large_block}
@@ -49,7 +49,7 @@ from_kind text (inl t) = subst IsFrameText (sym t.split) (is_text t.line [] t.no
 from_kind text (inr (inl t)) = subst IsFrameText (sym t.split) (is_text t.line [] t.short.no_feed (tail_is t.line Needs.Nothing t.short.short t.alone))
 from_kind text (inr (inr t)) =
     subst IsFrameText (sym t.split) (is_text t.line t.block t.short.no_feed
-      (tail_is t.line (Needs.Block t.size) t.short.short t.sized ∙ ap (λ (n : ℕ). Some n) (sym t.whole)))
+    (tail_is t.line (Needs.Block t.size) t.short.short t.sized ∙ ap (λ (n : ℕ). Some n) (sym t.whole)))
 
 pub three_kinds : (text : List ℕ) → IsFrameText text ↔ (IsLongText text ⊎ IsLineText text ⊎ IsBlockText text)
 three_kinds text = (λ h. kind_of_text text (text_of text h), from_kind text)

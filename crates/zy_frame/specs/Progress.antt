@@ -10,7 +10,7 @@ use Rattle.zy_frame.specs.declared.wanted.Wanted.{Wanted}
 use Rattle.zy_frame.specs.declared.state.State.{State}
 use Rattle.zy_frame.specs.declared.state.State.TheVariants.{Line, Long, Block, Large, Quit, Refused}
 use Rattle.zy_frame.specs.declared.step.Step.{Step}
-use Rattle.zy_frame.specs.Line.{Ended, first_line, chomped, line_feed, line_limit, IsShort}
+use Rattle.zy_frame.specs.Line.{Ended, first_line, chomped, line_feed, IsShort}
 use Rattle.zy_frame.specs.Cut.{frames_of, meets_quit}
 
 -- ---- what cutting gives

@@ -69,8 +69,7 @@ pub fn commands_are_those_of_the_cut()
 /// A frame text is a line that is too long, a line that takes no block, or a storage line with its block.
 pub fn frame_texts_are_of_three_kinds()
     ensures law { (text : List ℕ) → IsFrameText text ↔ (IsLongText text ⊎ IsLineText text ⊎ IsBlockText text) }
-{
-}
+{}
 
 /// The frame of each kind of frame text.
 pub fn each_kind_of_frame_text_has_its_frame()
@@ -78,5 +77,4 @@ pub fn each_kind_of_frame_text_has_its_frame()
     ensures line { (text : List ℕ) (t : IsLineText text) → frame_of text ≡ Kinds.Line (chomped t.line) }
     ensures block { (text : List ℕ) (t : IsBlockText text) → t.size ≤ value_limit → frame_of text ≡ Kinds.Block (chomped t.line) t.block }
     ensures large { (text : List ℕ) (t : IsBlockText text) → value_limit < t.size → frame_of text ≡ Kinds.Large (chomped t.line) }
-{
-}
+{}
