@@ -1,0 +1,96 @@
+-- The laws of cutting.
+use Rattle.std.proofs.Common.{◌≡◌, ℕ, ◌≤◌, true, false, List, [], ◌∷◌, ◌++◌, length, map, refl, sym, ap, ◌∙◌, append_assoc}
+use Rattle.std.specs.Prelude.{Option, None, Some, nat_lt, if◌then◌else◌, Bool, is_none, ◌↔◌}
+use Rattle.std.specs.List.{AllByRecursion}
+use Rattle.std.proofs.lemmas.Bool.{le-ltb, ltb-false}
+use Rattle.std.proofs.lemmas.List.{map-append}
+use Rattle.mc_parse.specs.declared.need.Need.{Need}
+use Rattle.mc_parse.specs.declared.need.Need.TheVariants as Needs
+use Rattle.mc_parse.specs.Need.{need}
+use Rattle.mc_parse.specs.declared.command.Command.{Command}
+use Rattle.zy_frame.specs.declared.frame_kind.FrameKind.{FrameKind}
+use Rattle.zy_frame.specs.Line.{Ended, first_line, chomped, line_feed, line_limit}
+use Rattle.zy_frame.specs.Frame.{tail_length, tail_by, IsFrameText, IsQuitLine, frame_of, command_of}
+use Rattle.zy_frame.specs.Cut.{Cut, Splits, BeginsWithQuit, first_piece, piece_with, cut_of, frames_of, commands_of, meets_quit, quits_in, joined}
+use Rattle.zy_frame.proofs.LineLemmas.{spelled, first_line-ended}
+use Rattle.zy_frame.proofs.CutLemmas.{splits_only, splits_cut, cut_of-joined, begins_with_none}
+
+-- ---- one cut
+
+pub one_cut : (stream : List ℕ) (pieces others : List (List ℕ)) (rest left : List ℕ) → Splits stream pieces rest → Splits stream others left → (pieces ≡ others) × (rest ≡ left)
+one_cut stream pieces others rest left one two =
+    let same = sym (splits_only stream pieces rest one) ∙ splits_only stream others left two in
+    (ap (λ (c : Cut). c.pieces) same, ap (λ (c : Cut). c.rest) same)
+
+cut_of-front : (stream more rest : List ℕ) (pieces : List (List ℕ)) → Splits stream pieces rest → (cut_of (stream ++ more)).pieces ≡ pieces ++ (cut_of (rest ++ more)).pieces
+cut_of-front stream more rest pieces s =
+    ap (λ (x : List ℕ). (cut_of (x ++ more)).pieces) s.whole ∙ ap (λ (x : List ℕ). (cut_of x).pieces) (append_assoc (joined pieces) rest more)
+    ∙ ap (λ (c : Cut). c.pieces) (cut_of-joined pieces (rest ++ more) s.each)
+
+pub pieces_first : (stream more : List ℕ) (pieces others : List (List ℕ)) (rest left : List ℕ) → Splits stream pieces rest → Splits (stream ++ more) others left
+    → (later : List (List ℕ)) × (others ≡ pieces ++ later)
+pieces_first stream more pieces others rest left one two = (
+  (cut_of (rest ++ more)).pieces,
+  ap (λ (c : Cut). c.pieces) (sym (splits_only (stream ++ more) others left two)) ∙ cut_of-front stream more rest pieces one,
+)
+
+-- ---- frames
+
+pub frames_of_splits : (stream : List ℕ) (pieces : List (List ℕ)) (rest : List ℕ) → Splits stream pieces rest → frames_of stream ≡ map frame_of pieces
+unfolding frames_of
+frames_of_splits stream pieces rest s = ap (λ (c : Cut). map frame_of c.pieces) (splits_only stream pieces rest s)
+
+pub frames_first : (stream more : List ℕ) → (later : List FrameKind) × (frames_of (stream ++ more) ≡ frames_of stream ++ later)
+unfolding frames_of
+frames_first stream more = (
+  map frame_of (cut_of ((cut_of stream).rest ++ more)).pieces,
+  ap (map frame_of) (cut_of-front stream more (cut_of stream).rest (cut_of stream).pieces (splits_cut stream))
+      ∙ map-append frame_of (cut_of stream).pieces (cut_of ((cut_of stream).rest ++ more)).pieces,
+)
+
+commands_by : (pieces : List (List ℕ)) → map command_of (map frame_of pieces) ≡ map (λ piece. command_of (frame_of piece)) pieces
+commands_by [] = refl
+commands_by (piece ∷ pieces) = ap (λ (l : List Command). command_of (frame_of piece) ∷ l) (commands_by pieces)
+
+pub commands_of_splits : (stream : List ℕ) (pieces : List (List ℕ)) (rest : List ℕ) → Splits stream pieces rest
+    → commands_of stream ≡ map (λ piece. command_of (frame_of piece)) pieces
+commands_of_splits stream pieces rest s = ap (map command_of) (frames_of_splits stream pieces rest s) ∙ commands_by pieces
+
+-- ---- quit lines
+
+quit_tail : (line : List ℕ) → IsQuitLine line → tail_length line ≡ None
+quit_tail line q = rw (le-ltb line_limit (length line) q.short.short) (ap tail_by q.quits)
+
+quit_first_piece : (line after : List ℕ) → IsQuitLine line → first_piece (line ++ line_feed ∷ after) ≡ None
+quit_first_piece line after q = rw (first_line-ended line after q.short.no_feed) (ap (λ (t : Option ℕ). piece_with line t after) (quit_tail line q))
+
+pub quit_rest : (pieces : List (List ℕ)) (line after : List ℕ) → AllByRecursion IsFrameText pieces → IsQuitLine line
+    → Splits (joined pieces ++ (line ++ line_feed ∷ after)) pieces (line ++ line_feed ∷ after)
+quit_rest pieces line after each q = record { whole = refl; each = each; partial = begins_with_none (line ++ line_feed ∷ after) (quit_first_piece line after q) }
+
+no_tail_by : (what : Need) (line : List ℕ) → need (chomped line) ≡ what → is_none (tail_by what) ≡ true → need (chomped line) ≡ Needs.Quit
+no_tail_by Needs.Nothing line is none = cc
+no_tail_by (Needs.Block size) line is none = cc
+no_tail_by Needs.Quit line is none = is
+
+no_tail : (test : Bool) (line : List ℕ) → nat_lt line_limit (length line) ≡ test → is_none (if test then Some 0 else tail_by (need (chomped line))) ≡ true
+    → (length line ≤ line_limit) × (need (chomped line) ≡ Needs.Quit)
+no_tail true line is none = cc
+no_tail false line is none = (ltb-false line_limit (length line) is, no_tail_by (need (chomped line)) line refl none)
+
+quits_by : (rest : List ℕ) (found : Option Ended) → first_line rest ≡ found → quits_in found ≡ true → BeginsWithQuit rest
+quits_by rest None is quits = cc
+quits_by rest (Some e) is quits =
+    let s = spelled rest e is in
+    let h = no_tail (nat_lt line_limit (length e.line)) e.line refl quits in
+    record { line = e.line; after = e.after; split = s.text_is; quits = record { short = record { no_feed = s.no_feed; short = h.0 }; quits = h.1 } }
+
+quit_begins : (rest : List ℕ) → BeginsWithQuit rest → quits_in (first_line rest) ≡ true
+quit_begins rest b =
+    ap (λ (x : List ℕ). quits_in (first_line x)) b.split ∙ ap quits_in (first_line-ended b.line b.after b.quits.short.no_feed) ∙ ap is_none (quit_tail b.line b.quits)
+
+pub quit_exactly : (stream : List ℕ) (pieces : List (List ℕ)) (rest : List ℕ) → Splits stream pieces rest → (meets_quit stream ≡ true) ↔ BeginsWithQuit rest
+unfolding meets_quit
+quit_exactly stream pieces rest s =
+    let same = ap (λ (c : Cut). quits_in (first_line c.rest)) (splits_only stream pieces rest s) in
+    (λ yes. quits_by rest (first_line rest) refl (sym same ∙ yes), λ begins. same ∙ quit_begins rest begins)

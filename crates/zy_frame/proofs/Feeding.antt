@@ -1,0 +1,140 @@
+-- What several steps give together, and what feeding a piece means for all that a framer stands for.
+use Rattle.std.proofs.Common.{◌≡◌, ℕ, ◌+◌, ◌≤◌, false, List, [], ◌++◌, length, drop, refl, sym, ap, ◌∙◌, subst, append_assoc}
+use Rattle.std.specs.Prelude.{option_to_list}
+use Rattle.std.proofs.lemmas.Bool.{lt-ltb}
+use Rattle.std.proofs.lemmas.List.{append-nil, drop-drop, drop_all}
+use Rattle.zy_frame.specs.declared.frame_kind.FrameKind.{FrameKind}
+use Rattle.zy_frame.specs.declared.state.State.{State}
+use Rattle.zy_frame.specs.declared.state.State.TheVariants.{Line, Long, Block, Large, Quit, Refused}
+use Rattle.zy_frame.specs.declared.step.Step.{Step}
+use Rattle.zy_frame.specs.Cut.{frames_of, meets_quit}
+use Rattle.zy_frame.specs.Progress.{Outcome, outcome_of, with_frames, goes_on, StandsFor, Keeps, Goes, Gives, Appends, AppendsFirst, is_quit}
+use Rattle.zy_frame.proofs.GoingOn.{outcome_of-unended}
+
+with_frames-append : (given more : List FrameKind) (o : Outcome) → with_frames given (with_frames more o) ≡ with_frames (given ++ more) o
+with_frames-append given more o = ap (λ (l : List FrameKind). record { frames = l; quit = o.quit }) (sym (append_assoc given more o.frames))
+
+-- ---- with no byte more
+
+-- no frame comes
+pub at_rest : (state : State) → Keeps state → goes_on state [] ≡ record { frames = []; quit = is_quit state }
+unfolding goes_on
+at_rest (Line kept) keeps = ap outcome_of (append-nil kept) ∙ outcome_of-unended kept keeps.no_feed
+at_rest Long keeps = refl
+at_rest (Block wanted block) keeps = rw (lt-ltb 0 wanted.left keeps.0.some) refl
+at_rest (Large wanted) keeps = rw (lt-ltb 0 wanted.left keeps.0.some) refl
+at_rest Quit keeps = refl
+at_rest Refused keeps = refl
+
+-- a quit line was met where the framer says so
+pub quit_exact : (state : State) (fed : List ℕ) → Keeps state → StandsFor state fed → is_quit state ≡ meets_quit fed
+unfolding StandsFor
+quit_exact state fed keeps stands =
+    sym (ap meets_quit (sym (append-nil fed)) ∙ ap (λ (o : Outcome). o.quit) (stands []) ∙ ap (λ (o : Outcome). o.quit) (at_rest state keeps))
+
+-- ---- several steps
+
+-- a step whose frame was appended
+pub gives_step : (old : State) (bytes : List ℕ) (step : Step) (before after : List FrameKind) → Goes old bytes step → after ≡ before ++ option_to_list step.frame
+    → Gives old step.state before after bytes step.taken
+gives_step old bytes step before after goes appended = record { keeps = goes.keeps; given = option_to_list step.frame; appended = appended; on = goes.on }
+
+-- nothing was taken yet
+pub gives_nothing : (state : State) (frames : List FrameKind) (bytes : List ℕ) → Keeps state → Gives state state frames frames bytes 0
+gives_nothing state frames bytes keeps = record { keeps = keeps; given = []; appended = sym (append-nil frames); on = λ more. refl }
+
+-- a step more
+pub gives_more : (old middle new : State) (before between after : List FrameKind) (bytes : List ℕ) (at taken : ℕ)
+    → Gives old middle before between bytes at → Gives middle new between after (drop at bytes) taken → Gives old new before after bytes (at + taken)
+gives_more old middle new before between after bytes at taken one two = record {
+  keeps = two.keeps;
+  given = one.given ++ two.given;
+  appended = two.appended ∙ ap (λ (l : List FrameKind). l ++ two.given) one.appended ∙ append_assoc before one.given two.given;
+  on = λ more. one.on more ∙ ap (with_frames one.given) (two.on more)
+      ∙ ap (λ (l : List ℕ). with_frames one.given (with_frames two.given (goes_on new (l ++ more)))) (drop-drop taken at bytes)
+      ∙ with_frames-append one.given two.given (goes_on new (drop (at + taken) bytes ++ more));
+}
+
+-- ---- a whole piece
+
+-- all of a piece was taken
+pub record Taken (old new : State) (before after : List FrameKind) (piece : List ℕ) : Type 0 where
+  pub keeps : Keeps new
+  pub given : List FrameKind
+  pub appended : after ≡ before ++ given
+  pub on : (more : List ℕ) → goes_on old (piece ++ more) ≡ with_frames given (goes_on new more)
+
+pub taken_all : (old new : State) (before after : List FrameKind) (piece : List ℕ) (at : ℕ) → length piece ≤ at → Gives old new before after piece at → Taken old new before after piece
+taken_all old new before after piece at all g = record {
+  keeps = g.keeps;
+  given = g.given;
+  appended = g.appended;
+  on = λ more. g.on more ∙ ap (λ (l : List ℕ). with_frames g.given (goes_on new (l ++ more))) (drop_all at piece all);
+}
+
+joined_on : (old : State) (fed piece more : List ℕ) → ((rest : List ℕ) → outcome_of (fed ++ rest) ≡ with_frames (frames_of fed) (goes_on old rest))
+    → outcome_of ((fed ++ piece) ++ more) ≡ with_frames (frames_of fed) (goes_on old (piece ++ more))
+joined_on old fed piece more stands = ap outcome_of (append_assoc fed piece more) ∙ stands (piece ++ more)
+
+-- what the stream with the piece gives, whatever follows
+whole : (old new : State) (before after : List FrameKind) (fed piece : List ℕ) (t : Taken old new before after piece)
+    → ((rest : List ℕ) → outcome_of (fed ++ rest) ≡ with_frames (frames_of fed) (goes_on old rest))
+    → (more : List ℕ) → outcome_of ((fed ++ piece) ++ more) ≡ with_frames (frames_of fed ++ t.given) (goes_on new more)
+whole old new before after fed piece t stands more =
+    joined_on old fed piece more stands ∙ ap (with_frames (frames_of fed)) (t.on more) ∙ with_frames-append (frames_of fed) t.given (goes_on new more)
+
+-- the frames appended are those due
+due : (old new : State) (before after : List FrameKind) (fed piece : List ℕ) (t : Taken old new before after piece)
+    → ((rest : List ℕ) → outcome_of (fed ++ rest) ≡ with_frames (frames_of fed) (goes_on old rest))
+    → frames_of (fed ++ piece) ≡ frames_of fed ++ t.given
+due old new before after fed piece t stands =
+    ap frames_of (sym (append-nil (fed ++ piece))) ∙ ap (λ (o : Outcome). o.frames) (whole old new before after fed piece t stands [])
+    ∙ ap (λ (o : Outcome). (frames_of fed ++ t.given) ++ o.frames) (at_rest new t.keeps) ∙ append-nil (frames_of fed ++ t.given)
+
+pub appends : (old new : State) (before after : List FrameKind) (fed piece : List ℕ) → Taken old new before after piece → StandsFor old fed → Appends fed piece before after
+unfolding StandsFor
+appends old new before after fed piece t stands = record { given = t.given; appended = t.appended; due = due old new before after fed piece t stands }
+
+-- the framer stands for the stream with the piece
+pub stands_on : (old new : State) (before after : List FrameKind) (fed piece : List ℕ) → Taken old new before after piece → StandsFor old fed → StandsFor new (fed ++ piece)
+unfolding StandsFor
+stands_on old new before after fed piece t stands more =
+    whole old new before after fed piece t stands more
+    ∙ ap (λ (l : List FrameKind). with_frames l (goes_on new more)) (sym (due old new before after fed piece t stands))
+
+-- a part of the piece was taken, and then memory was refused
+pub appends_first : (old middle : State) (before after : List FrameKind) (fed piece : List ℕ) (at : ℕ) → Gives old middle before after piece at → StandsFor old fed → AppendsFirst fed piece before after
+unfolding StandsFor
+appends_first old middle before after fed piece at g stands = record {
+  given = g.given;
+  lost = (goes_on middle (drop at piece ++ [])).frames;
+  appended = g.appended;
+  due = ap frames_of (sym (append-nil (fed ++ piece))) ∙ ap (λ (o : Outcome). o.frames) (joined_on old fed piece [] stands ∙ ap (with_frames (frames_of fed)) (g.on []));
+}
+
+-- nothing was taken, and memory had been refused before
+pub appends_none : (old : State) (frames : List FrameKind) (fed piece : List ℕ) → StandsFor old fed → AppendsFirst fed piece frames frames
+unfolding StandsFor
+appends_none old frames fed piece stands = record {
+  given = [];
+  lost = (goes_on old (piece ++ [])).frames;
+  appended = sym (append-nil frames);
+  due = ap frames_of (sym (append-nil (fed ++ piece))) ∙ ap (λ (o : Outcome). o.frames) (joined_on old fed piece [] stands);
+}
+
+taken_behind_quit : (frames : List FrameKind) (piece : List ℕ) → Taken Quit Quit frames frames piece
+unfolding goes_on
+taken_behind_quit frames piece = record { keeps = tt; given = []; appended = sym (append-nil frames); on = λ more. refl }
+
+-- behind a quit line
+pub taken_quit : (state : State) (frames : List FrameKind) (piece : List ℕ) → state ≡ Quit → Taken state state frames frames piece
+taken_quit state frames piece is = subst (λ (s : State). Taken s s frames frames piece) (sym is) (taken_behind_quit frames piece)
+
+-- any other state
+pub not_quit : (state : State) → (state ≡ Quit → ⊥) → false ≡ is_quit state
+not_quit (Line kept) other = refl
+not_quit Long other = refl
+not_quit (Block wanted block) other = refl
+not_quit (Large wanted) other = refl
+not_quit Quit other = absurd (other refl)
+not_quit Refused other = refl

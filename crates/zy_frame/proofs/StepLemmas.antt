@@ -1,0 +1,232 @@
+-- What each step of a framer gives, over the values that it leads from and to.
+use Rattle.std.proofs.Common.{◌≡◌, ℕ, ◌+◌, ◌-◌, ◌<◌, ◌≤◌, true, false, List, [], ◌∷◌, ◌++◌, length, take, drop, refl, sym, ap, ◌∙◌, arith, append_assoc, length-append}
+use Rattle.std.specs.Prelude.{Option, None, Some, nat_lt, if◌then◌else◌, Bool, option_to_list}
+use Rattle.std.proofs.lemmas.Bool.{ltb-true, ltb-false}
+use Rattle.std.proofs.lemmas.List.{length-take}
+use Rattle.std.proofs.Math.Seq.{drop-length}
+use Rattle.zy_base.specs.Shard.{value_limit}
+use Rattle.mc_parse.specs.declared.need.Need.TheVariants as Needs
+use Rattle.mc_parse.specs.Need.{need}
+use Rattle.zy_frame.specs.declared.frame_kind.FrameKind.{FrameKind}
+use Rattle.zy_frame.specs.declared.frame_kind.FrameKind.TheVariants as Kinds
+use Rattle.zy_frame.specs.declared.wanted.Wanted.{Wanted}
+use Rattle.zy_frame.specs.declared.state.State.{State}
+use Rattle.zy_frame.specs.declared.state.State.TheVariants.{Line, Long, Block, Large, Quit}
+use Rattle.zy_frame.specs.declared.step.Step.{Step}
+use Rattle.zy_frame.specs.Line.{IsShort, first_line, chomped, line_feed, line_limit}
+use Rattle.zy_frame.specs.Frame.{frame_at}
+use Rattle.zy_frame.specs.Progress.{outcome_of, with_frames, ends_long, ends_frame, goes_on, Wants, Keeps, Goes, Closes, waiting}
+use Rattle.zy_frame.proofs.LineLemmas.{ended, spelled, first_line-append, first_line-append_none, first_line-ended}
+use Rattle.zy_frame.proofs.GoingOn.{in_long, long_ends, ends_long-begun_with, ends_frame-part, ends_frame-all, line_ends, quit_ends, block_begins, kept_block, large_block, ends_frame-same}
+
+abbrev pub step : State → ℕ → Option FrameKind → Step
+step state taken frame = record { state = state; taken = taken; frame = frame }
+
+all_taken : (bytes more : List ℕ) → more ≡ drop (length bytes) bytes ++ more
+all_taken bytes more = rw (drop-length bytes) refl
+
+-- the empty line
+pub is_short-nil : IsShort []
+is_short-nil = record { no_feed = refl; short = omega arith }
+
+-- ---- in a line
+
+-- it goes on
+pub line_grows : (kept bytes : List ℕ) → IsShort kept → 0 < length bytes → first_line bytes ≡ None → length kept + length bytes ≤ line_limit
+    → Goes (Line kept) bytes (step (Line (kept ++ bytes)) (length bytes) None)
+unfolding goes_on
+line_grows kept bytes s some none fits = record {
+  keeps = record { no_feed = first_line-append_none kept bytes s.no_feed none; short = omega (arith, length-append kept bytes) };
+  some = some;
+  within = omega arith;
+  on = λ more. ap outcome_of (sym (append_assoc kept bytes more)) ∙ ap (λ (x : List ℕ). outcome_of ((kept ++ bytes) ++ x)) (all_taken bytes more);
+}
+
+-- it becomes too long
+pub line_too_long : (kept bytes : List ℕ) → IsShort kept → 0 < length bytes → first_line bytes ≡ None → line_limit < length kept + length bytes
+    → Goes (Line kept) bytes (step Long (length bytes) None)
+unfolding goes_on
+line_too_long kept bytes s some none long =
+    let longer : line_limit < length (kept ++ bytes) = omega (arith, length-append kept bytes) in
+    record {
+      keeps = tt;
+      some = some;
+      within = omega arith;
+      on = λ more. ap outcome_of (sym (append_assoc kept bytes more)) ∙ in_long (kept ++ bytes) more (first_line-append_none kept bytes s.no_feed none) longer
+          ∙ ap (λ (x : List ℕ). ends_long (first_line x)) (all_taken bytes more);
+    }
+
+-- bytes that end a line at a place
+pub record LineAt (bytes : List ℕ) (at : ℕ) : Type 0 where
+  pub within : at < length bytes
+  pub ends : first_line bytes ≡ Some (ended (take at bytes) (drop (at + 1) bytes))
+
+front_no_feed : (bytes : List ℕ) (at : ℕ) → LineAt bytes at → first_line (take at bytes) ≡ None
+front_no_feed bytes at h = (spelled bytes (ended (take at bytes) (drop (at + 1) bytes)) h.ends).no_feed
+
+split_at : (kept bytes more : List ℕ) (at : ℕ) → LineAt bytes at → kept ++ (bytes ++ more) ≡ (kept ++ take at bytes) ++ line_feed ∷ (drop (at + 1) bytes ++ more)
+split_at kept bytes more at h =
+    let front = take at bytes in
+    let back = drop (at + 1) bytes in
+    let text = (spelled bytes (ended front back) h.ends).text_is in
+    ap (λ (x : List ℕ). kept ++ (x ++ more)) text ∙ ap (λ (x : List ℕ). kept ++ x) (append_assoc front (line_feed ∷ back) more)
+    ∙ sym (append_assoc kept front (line_feed ∷ (back ++ more)))
+
+front_length : (kept bytes : List ℕ) (at : ℕ) → LineAt bytes at → length (kept ++ take at bytes) ≡ length kept + at
+front_length kept bytes at h = let within = h.within in omega (arith, length-append kept (take at bytes), length-take at bytes)
+
+-- it ends, and is too long
+pub line_past : (kept bytes : List ℕ) (at : ℕ) → IsShort kept → LineAt bytes at → line_limit < length kept + at
+    → Goes (Line kept) bytes (step (Line []) (at + 1) (Some Kinds.Long))
+unfolding goes_on
+line_past kept bytes at s h long =
+    let within = h.within in
+    let longer : line_limit < length (kept ++ take at bytes) = omega (arith, front_length kept bytes at h) in
+    record {
+      keeps = is_short-nil;
+      some = omega arith;
+      within = omega arith;
+      on = λ more. ap outcome_of (split_at kept bytes more at h)
+          ∙ long_ends (kept ++ take at bytes) (drop (at + 1) bytes ++ more) (first_line-append_none kept (take at bytes) s.no_feed (front_no_feed bytes at h)) longer;
+    }
+
+-- it ends, and is looked at
+pub line_closes : (kept bytes : List ℕ) (at : ℕ) (result : Step) → IsShort kept → LineAt bytes at → Closes (kept ++ take at bytes) result → result.taken ≡ at + 1
+    → Goes (Line kept) bytes result
+unfolding goes_on
+line_closes kept bytes at result s h closes taken =
+    let within = h.within in
+    record {
+      keeps = closes.keeps;
+      some = omega arith;
+      within = omega arith;
+      on = λ more. ap outcome_of (split_at kept bytes more at h) ∙ closes.on (drop (at + 1) bytes ++ more)
+          ∙ ap (λ (n : ℕ). with_frames (option_to_list result.frame) (goes_on result.state (drop n bytes ++ more))) (sym taken);
+    }
+
+-- what has come of it, with what ends it
+pub line_whole : (kept bytes : List ℕ) (at : ℕ) → IsShort kept → LineAt bytes at → length kept + at ≤ line_limit → IsShort (kept ++ take at bytes)
+line_whole kept bytes at s h fits = record {
+  no_feed = first_line-append_none kept (take at bytes) s.no_feed (front_no_feed bytes at h);
+  short = omega (arith, front_length kept bytes at h);
+}
+
+-- ---- at the end of a line
+
+-- a line by itself
+pub closes_alone : (line : List ℕ) (taken : ℕ) → IsShort line → need (chomped line) ≡ Needs.Nothing → Closes line (step (Line []) taken (Some (Kinds.Line (chomped line))))
+unfolding goes_on
+closes_alone line taken s is = record { keeps = is_short-nil; on = λ more. line_ends line more s is }
+
+-- a quit line
+pub closes_quit : (line : List ℕ) (taken : ℕ) → IsShort line → need (chomped line) ≡ Needs.Quit → Closes line (step Quit taken None)
+unfolding goes_on
+closes_quit line taken s is = record { keeps = tt; on = λ more. quit_ends line more s is }
+
+waiting_by : (test : Bool) (line : List ℕ) (size taken : ℕ) → nat_lt value_limit size ≡ test → IsShort line → need (chomped line) ≡ Needs.Block size
+    → let wanted : Wanted = record { line = line; size = size; left = size + 2 } in Closes line (step (if test then Large wanted else Block wanted []) taken None)
+unfolding goes_on
+waiting_by true line size taken test s is =
+    let large : value_limit < size = ltb-true value_limit size test in
+    record {
+      keeps = (record { line = s; sized = is; some = omega arith }, large);
+      on = λ more. block_begins line more size s is
+          ∙ ends_frame-same (size + 2) (frame_at line) (λ rest. Kinds.Large (chomped line)) more (λ after. large_block line after size s is large);
+    }
+waiting_by false line size taken test s is =
+    let small : size ≤ value_limit = ltb-false value_limit size test in
+    record {
+      keeps = (record { line = s; sized = is; some = omega arith }, small, omega arith);
+      on = λ more. block_begins line more size s is
+          ∙ ends_frame-same (size + 2) (frame_at line) (λ rest. Kinds.Block (chomped line) rest) more (λ after. kept_block line after size s is small);
+    }
+
+-- a storage line
+pub closes_storage : (line : List ℕ) (size taken : ℕ) → IsShort line → need (chomped line) ≡ Needs.Block size → Closes line (step (waiting line size) taken None)
+closes_storage line size taken s is = waiting_by (nat_lt value_limit size) line size taken refl s is
+
+-- ---- in a line that is too long
+
+pub long_grows : (bytes : List ℕ) → 0 < length bytes → first_line bytes ≡ None → Goes Long bytes (step Long (length bytes) None)
+unfolding goes_on
+long_grows bytes some none = record {
+  keeps = tt;
+  some = some;
+  within = omega arith;
+  on = λ more. ap ends_long (first_line-append bytes more none) ∙ ends_long-begun_with bytes (first_line more) ∙ ap (λ (x : List ℕ). ends_long (first_line x)) (all_taken bytes more);
+}
+
+pub long_over : (bytes : List ℕ) (at : ℕ) → LineAt bytes at → Goes Long bytes (step (Line []) (at + 1) (Some Kinds.Long))
+unfolding goes_on
+long_over bytes at h =
+    let within = h.within in
+    record {
+      keeps = is_short-nil;
+      some = omega arith;
+      within = omega arith;
+      on = λ more. ap (λ (x : List ℕ). ends_long (first_line x)) (split_at [] bytes more at h)
+          ∙ ap ends_long (first_line-ended (take at bytes) (drop (at + 1) bytes ++ more) (front_no_feed bytes at h));
+    }
+
+-- ---- in a block
+
+abbrev pub wanted : List ℕ → ℕ → ℕ → Wanted
+wanted line size left = record { line = line; size = size; left = left }
+
+fewer : (line : List ℕ) (size left came : ℕ) → came < left → Wants (wanted line size left) → Wants (wanted line size (left - came))
+fewer line size left came few w = record { line = w.line; sized = w.sized; some = omega arith }
+
+pub block_grows : (line block bytes : List ℕ) (size left : ℕ) → Keeps (Block (wanted line size left) block) → 0 < length bytes → length bytes < left
+    → Goes (Block (wanted line size left) block) bytes (step (Block (wanted line size (left - length bytes)) (block ++ bytes)) (length bytes) None)
+unfolding goes_on
+block_grows line block bytes size left keeps some few = record {
+  keeps = (fewer line size left (length bytes) few keeps.0, keeps.1, omega (arith, length-append block bytes, keeps.2));
+  some = some;
+  within = omega arith;
+  on = λ more. ends_frame-part left (λ rest. Kinds.Block (chomped line) (block ++ rest)) bytes more (omega arith)
+      ∙ ends_frame-same (left - length bytes) (λ rest. Kinds.Block (chomped line) (block ++ (bytes ++ rest))) (λ rest. Kinds.Block (chomped line) ((block ++ bytes) ++ rest)) more
+      (λ after. ap (Kinds.Block (chomped line)) (sym (append_assoc block bytes after)))
+      ∙ ap (ends_frame (left - length bytes) (λ rest. Kinds.Block (chomped line) ((block ++ bytes) ++ rest))) (all_taken bytes more);
+}
+
+pub block_over : (line block bytes : List ℕ) (size left : ℕ) → Keeps (Block (wanted line size left) block) → left ≤ length bytes
+    → Goes (Block (wanted line size left) block) bytes (step (Line []) left (Some (Kinds.Block (chomped line) (block ++ take left bytes))))
+unfolding goes_on
+block_over line block bytes size left keeps all = record {
+  keeps = is_short-nil;
+  some = keeps.0.some;
+  within = all;
+  on = λ more. ends_frame-all left (λ rest. Kinds.Block (chomped line) (block ++ rest)) bytes more all;
+}
+
+pub block_length : (line block bytes : List ℕ) (size left : ℕ) → Keeps (Block (wanted line size left) block) → left ≤ length bytes → length (block ++ take left bytes) ≡ size + 2
+block_length line block bytes size left keeps all = omega (arith, length-append block (take left bytes), length-take left bytes, keeps.2)
+
+-- ---- in a block that is too large
+
+pub large_grows : (line bytes : List ℕ) (size left : ℕ) → Keeps (Large (wanted line size left)) → 0 < length bytes → length bytes < left
+    → Goes (Large (wanted line size left)) bytes (step (Large (wanted line size (left - length bytes))) (length bytes) None)
+unfolding goes_on
+large_grows line bytes size left keeps some few = record {
+  keeps = (fewer line size left (length bytes) few keeps.0, keeps.1);
+  some = some;
+  within = omega arith;
+  on = λ more. ends_frame-part left (λ rest. Kinds.Large (chomped line)) bytes more (omega arith)
+      ∙ ap (ends_frame (left - length bytes) (λ rest. Kinds.Large (chomped line))) (all_taken bytes more);
+}
+
+pub large_over : (line bytes : List ℕ) (size left : ℕ) → Keeps (Large (wanted line size left)) → left ≤ length bytes
+    → Goes (Large (wanted line size left)) bytes (step (Line []) left (Some (Kinds.Large (chomped line))))
+unfolding goes_on
+large_over line bytes size left keeps all = record {
+  keeps = is_short-nil;
+  some = keeps.0.some;
+  within = all;
+  on = λ more. ends_frame-all left (λ rest. Kinds.Large (chomped line)) bytes more all;
+}
+
+-- ---- behind a quit line
+
+pub quit_stays : (bytes : List ℕ) → 0 < length bytes → Goes Quit bytes (step Quit (length bytes) None)
+unfolding goes_on
+quit_stays bytes some = record { keeps = tt; some = some; within = omega arith; on = λ more. refl }

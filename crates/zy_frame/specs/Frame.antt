@@ -1,0 +1,95 @@
+-- Frames: which bytes of a stream make one, and what it stands for. Too long lines, blocks of values that are too
+-- large and the bytes at which cutting goes on after them are this project's.
+use Rattle.std.specs.Prelude.{◌≡◌, ℕ, ◌+◌, ◌<◌, nat_lt, if◌then◌else◌, List, [], ◌∷◌, ◌++◌, length, Option, None, Some, MatchOption}
+use Rattle.zy_base.specs.Shard.{value_limit}
+use Rattle.mc_parse.specs.declared.need.Need.{Need}
+use Rattle.mc_parse.specs.declared.need.Need.TheVariants as Needs
+use Rattle.mc_parse.specs.declared.command.Command.{Command}
+use Rattle.mc_parse.specs.Need.{need}
+use Rattle.mc_parse.specs.Meaning.{line_command, block_command, large_command, long_command}
+use Rattle.zy_frame.specs.declared.frame_kind.FrameKind.{FrameKind}
+use Rattle.zy_frame.specs.declared.frame_kind.FrameKind.TheVariants.{Line, Block, Large, Long}
+use Rattle.zy_frame.specs.Line.{Ended, IsShort, first_line, chomped, line_feed, line_limit}
+
+-- ---- frame texts
+
+-- how many bytes after its line feed belong to the frame of a line with this need; nothing where it has no frame
+abbrev pub tail_by : Need → Option ℕ
+tail_by Needs.Nothing = Some 0
+tail_by (Needs.Block bytes) = Some (bytes + 2)
+tail_by Needs.Quit = None
+
+-- how many bytes after its line feed belong to a line's frame: none to that of a line that is too long, and a quit line has no frame
+abbrev pub tail_length : List ℕ → Option ℕ
+tail_length line = if nat_lt line_limit (length line) then Some 0 else tail_by (need (chomped line))
+
+-- a first line, its line feed, and after it exactly the bytes that belong to the line's frame
+abbrev pub IsFrameText : List ℕ → Type 0
+IsFrameText text = MatchOption (first_line text) ⊥ (λ ended. tail_length ended.line ≡ Some (length ended.after))
+
+-- a line that ends the connection
+pub record IsQuitLine (line : List ℕ) : Type 0 where
+  pub short : IsShort line
+  pub quits : need (chomped line) ≡ Needs.Quit
+
+-- ---- the kinds of frame texts
+
+-- a line that is too long
+pub record IsLongText (text : List ℕ) : Type 0 where
+  pub line : List ℕ
+  pub split : text ≡ line ++ line_feed ∷ []
+  pub no_feed : first_line line ≡ None
+  pub long : line_limit < length line
+
+-- a line that takes no block
+pub record IsLineText (text : List ℕ) : Type 0 where
+  pub line : List ℕ
+  pub split : text ≡ line ++ line_feed ∷ []
+  pub short : IsShort line
+  pub alone : need (chomped line) ≡ Needs.Nothing
+
+-- a storage line with its block: the value and two bytes
+pub record IsBlockText (text : List ℕ) : Type 0 where
+  pub line : List ℕ
+  pub block : List ℕ
+  pub size : ℕ
+  pub split : text ≡ line ++ line_feed ∷ block
+  pub short : IsShort line
+  pub sized : need (chomped line) ≡ Needs.Block size
+  pub whole : length block ≡ size + 2
+
+-- ---- the frame of a frame text
+
+-- the frame of a line with this need, its carriage return dropped, and of the bytes after its line feed; a quit line has none, which any value may stand for
+abbrev pub frame_by : Need → List ℕ → List ℕ → FrameKind
+frame_by Needs.Nothing line after = Line line
+frame_by (Needs.Block bytes) line after = if nat_lt value_limit bytes then Large line else Block line after
+frame_by Needs.Quit line after = Long
+
+-- the frame of a line and of the bytes after its line feed
+abbrev pub frame_at : List ℕ → List ℕ → FrameKind
+frame_at line after = if nat_lt line_limit (length line) then Long else frame_by (need (chomped line)) (chomped line) after
+
+-- the frame of a line, where it has ended
+abbrev pub frame_in : Option Ended → FrameKind
+frame_in None = Long
+frame_in (Some ended) = frame_at ended.line ended.after
+
+-- the frame of a frame text; of another text it says nothing
+abbrev pub frame_of : List ℕ → FrameKind
+frame_of text = frame_in (first_line text)
+
+-- the frame of some frame text
+pub record IsFrame (kind : FrameKind) : Type 0 where
+  pub text : List ℕ
+  pub is_text : IsFrameText text
+  pub of_text : kind ≡ frame_of text
+
+-- ---- commands
+
+-- the command of a frame
+abbrev pub command_of : FrameKind → Command
+command_of (Line line) = line_command line
+command_of (Block line block) = block_command line block
+command_of (Large line) = large_command line
+command_of Long = long_command

@@ -1,0 +1,4 @@
+pub mod Line
+pub mod Frame
+pub mod Cut
+pub mod Progress

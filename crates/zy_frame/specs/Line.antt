@@ -1,0 +1,40 @@
+-- Lines of a stream: memcached's protocol.txt, "Protocol". The limit of a line's length is this project's.
+use Rattle.std.specs.Prelude.{◌≡◌, ℕ, ◌≤◌, length, ◌==◌, if◌then◌else◌, List, [], ◌∷◌, Option, None, Some}
+
+-- the byte that ends a line
+abbrev pub line_feed : ℕ
+line_feed = 10
+
+-- the byte that is dropped where it stands right before a line's end
+abbrev pub carriage_return : ℕ
+carriage_return = 13
+
+-- the most bytes that may stand before the line feed of a line that is looked at
+abbrev pub line_limit : ℕ
+line_limit = 65536
+
+-- a line that a line feed ended, and the bytes after that line feed
+pub record Ended : Type 0 where
+  pub line : List ℕ
+  pub after : List ℕ
+
+-- one more byte stands in front of the line
+abbrev pub begun_by : ℕ → Option Ended → Option Ended
+begun_by byte None = None
+begun_by byte (Some ended) = Some (record { line = byte ∷ ended.line; after = ended.after })
+
+-- the bytes before the first line feed, and those after it; nothing where no line feed has come
+abbrev pub first_line : List ℕ → Option Ended
+first_line [] = None
+first_line (byte ∷ bytes) = if byte == line_feed then Some (record { line = []; after = bytes }) else begun_by byte (first_line bytes)
+
+-- the line without one carriage return at its end
+abbrev pub chomped : List ℕ → List ℕ
+chomped [] = []
+chomped (byte ∷ []) = if byte == carriage_return then [] else byte ∷ []
+chomped (byte ∷ next ∷ bytes) = byte ∷ chomped (next ∷ bytes)
+
+-- no line feed stands in the line, and it is not too long
+pub record IsShort (line : List ℕ) : Type 0 where
+  pub no_feed : first_line line ≡ None
+  pub short : length line ≤ line_limit

@@ -1,0 +1,36 @@
+//! Frames.
+ghost use Rattle.std.specs.Prelude.{◌≡◌, IfOk};
+
+use crate::frame_kind::FrameKind;
+use std::alloc::Global;
+use std::marker::Model;
+use zy_base::{Blob, NoMemory};
+
+/// A frame of a stream. Contracts see it as its kind, which is that of some frame text.
+#[derive(Debug, Drop)]
+pub struct Frame {
+    pub kind: FrameKind,
+}
+
+impl Model for Frame {
+    ghost use Rattle.zy_frame.specs.declared.frame_kind.FrameKind.{FrameKind};
+    ghost use Rattle.zy_frame.specs.Frame.{IsFrame};
+
+    ghost Value = { FrameKind };
+
+    ghost view = { λ frame. frame.kind };
+
+    ghost invariant = { λ frame. IsFrame frame.kind };
+}
+
+impl Frame {
+    /// The same frame.
+    pub fn copy(&self) -> Result<Frame, NoMemory>
+        ensures value { IfOk result (λ copy. copy ≡ self.now) }
+    {
+        match self.kind.copy() {
+            Ok(kind) => Ok(Frame { kind }),
+            Err(e) => Err(e),
+        }
+    }
+}

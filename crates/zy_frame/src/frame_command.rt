@@ -1,0 +1,41 @@
+//! The command of a frame.
+ghost use Rattle.std.specs.Prelude.{◌≡◌, IfOk, IfErr};
+ghost use Rattle.zy_frame.specs.Frame.{command_of};
+
+use crate::frame::Frame;
+use crate::frame_kind::FrameKind;
+use mc_parse::{Command, ErrorLine, parse_block, parse_large, parse_line};
+use std::alloc::Global;
+use zy_base::NoMemory;
+
+/// The command of a frame. A block is taken over without a copy. After a refusal the frame is handed back.
+pub fn meaning(alloc: Global, frame: Frame) -> Result<Command, (Frame, NoMemory)>
+    ensures value { IfOk result (λ command. command ≡ command_of frame) }
+    ensures returned { IfErr result (λ e. e.0 ≡ frame) }
+{
+    match frame.kind {
+        FrameKind::Line { line } => match parse_line(alloc, line.bytes()) {
+            Ok(command) => Ok(command),
+            Err(e) => Err((
+                Frame {
+                    kind: FrameKind::Line { line },
+                },
+                e,
+            )),
+        },
+        FrameKind::Block { line, block } => match parse_block(alloc, line.bytes(), block) {
+            Ok(command) => Ok(command),
+            Err((block, e)) => Err((
+                Frame {
+                    kind: FrameKind::Block { line, block },
+                },
+                e,
+            )),
+        },
+        FrameKind::Large { line } => Ok(parse_large(line.bytes())),
+        FrameKind::Long => Ok(Command::Fault {
+            line: ErrorLine::LongLine,
+            quiet: false,
+        }),
+    }
+}

@@ -1,0 +1,124 @@
+//! Cutting a stream as its pieces come.
+ghost use Rattle.std.specs.Prelude.{◌≡◌, ◌<◌, ◌≤◌, ℕ, List, [], ◌++◌, length, Ok, IsErr, OnOk, OnErr};
+ghost use Rattle.zy_frame.specs.Cut.{frames_of, meets_quit};
+ghost use Rattle.zy_frame.specs.Progress.{StandsFor, Advances, Appends, AppendsFirst, IsQuit, IsRefused, kept_by, is_quit};
+
+use crate::frames::Frames;
+use crate::state::State;
+use crate::step::Step;
+use crate::stepping::step;
+use std::alloc::Global;
+use std::marker::Model;
+use std::mem;
+use zy_base::{Blob, NoMemory};
+
+/// Cuts a stream into frames as its pieces come. Contracts see what it is in the middle of, and
+/// which streams may have brought it there (`StandsFor`).
+#[derive(Debug, Drop)]
+pub struct Framer {
+    alloc: Global,
+    state: State,
+}
+
+impl Model for Framer {
+    ghost use Rattle.zy_frame.specs.declared.state.State.{State};
+    ghost use Rattle.zy_frame.specs.Progress.{Keeps};
+
+    ghost Value = { State };
+
+    ghost view = { λ framer. framer.state };
+
+    ghost invariant = { λ framer. Keeps framer.state };
+}
+
+impl Framer {
+    /// At the start of a stream. Takes no memory.
+    pub fn new(alloc: Global) -> Framer
+        ensures empty { StandsFor result [] }
+        ensures kept { kept_by result ≡ 0 }
+    {
+        Framer {
+            alloc,
+            state: State::Line {
+                kept: Blob::new(alloc),
+            },
+        }
+    }
+
+    /// Takes the next piece of the stream, and appends the frames that the stream now has beyond those
+    /// that it had.
+    ///
+    /// Want of memory is free. After it the first of those frames were appended, and every later call
+    /// answers it and appends nothing.
+    pub fn feed(&mut self, piece: &[u8], frames: &mut Frames) -> Result<(), NoMemory>
+        // For every stream that may have brought the framer here.
+        ensures fed { OnOk result ((fed : List ℕ) → StandsFor self.old fed → StandsFor self.new (fed ++ piece.now)) }
+        ensures due { OnOk result ((fed : List ℕ) → StandsFor self.old fed → Appends fed piece.now frames.old frames.new) }
+
+        // Behind a quit line.
+        ensures quit { IsQuit self.old → (result ≡ Ok tt) × IsQuit self.new × (frames.new ≡ frames.old) }
+
+        // When memory was wanted, and after that.
+        ensures first { OnErr result ((fed : List ℕ) → StandsFor self.old fed → AppendsFirst fed piece.now frames.old frames.new) }
+        ensures refused { OnErr result (IsRefused self.new) }
+        ensures stays { IsRefused self.old → IsErr result × (frames.new ≡ frames.old) }
+    {
+        match self.state {
+            State::Quit => return Ok(()),
+            State::Refused => return Err(NoMemory),
+            _ => {}
+        }
+        let mut at = 0;
+        while at < piece.len() {
+            match self.advance(&piece[at..], frames) {
+                Ok(taken) => at += taken,
+                Err(e) => return Err(e),
+            }
+        }
+        Ok(())
+    }
+
+    // Takes some first bytes, at least one.
+    fn advance(&mut self, bytes: &[u8], frames: &mut Frames) -> Result<usize, NoMemory>
+        requires some { 0 < length bytes.now }
+        ensures value { Advances self.old self.new frames.old frames.new bytes.now result }
+    {
+        let state = mem::replace(&mut self.state, State::Refused);
+        let Step {
+            state,
+            taken,
+            frame,
+        } = match step(self.alloc, state, bytes) {
+            Ok(step) => step,
+            Err(e) => return Err(e),
+        };
+        if let Some(frame) = frame {
+            if let Err(e) = frames.push(frame) {
+                return Err(e);
+            }
+        }
+        self.state = state;
+        Ok(taken)
+    }
+
+    /// Whether a quit line was met: then no frame comes any more.
+    pub fn is_quit(&self) -> bool
+        ensures value { result ≡ is_quit self.now }
+        ensures exact { (fed : List ℕ) → StandsFor self.now fed → result ≡ meets_quit fed }
+    {
+        matches!(self.state, State::Quit)
+    }
+
+    /// The number of bytes that are kept: at most 1,114,114, whatever was fed.
+    pub fn kept(&self) -> usize
+        ensures value { result ≡ kept_by self.now }
+        ensures limit { result ≤ 1114114 }
+    {
+        match &self.state {
+            State::Line { kept } => kept.bytes().len(),
+            State::Block { wanted, block } => wanted.line.bytes().len() + block.bytes().len(),
+            State::Large { wanted } => wanted.line.bytes().len(),
+            _ => 0,
+        }
+    }
+}

@@ -1,0 +1,80 @@
+//! Laws of cutting.
+ghost use Rattle.std.specs.Prelude.{◌≡◌, ◌<◌, ◌≤◌, ◌+◌, ◌↔◌, ◌⊎◌, ℕ, true, List, [], ◌∷◌, ◌++◌, length, map, None};
+ghost use Rattle.std.specs.List.{AllByRecursion};
+ghost use Rattle.zy_base.specs.Shard.{value_limit};
+ghost use Rattle.zy_frame.specs.declared.frame_kind.FrameKind.{FrameKind};
+ghost use Rattle.zy_frame.specs.declared.frame_kind.FrameKind.TheVariants as Kinds;
+ghost use Rattle.zy_frame.specs.Line.{chomped, line_feed};
+ghost use Rattle.zy_frame.specs.Frame.{IsFrameText, IsQuitLine, IsLongText, IsLineText, IsBlockText, frame_of, command_of};
+ghost use Rattle.zy_frame.specs.Cut.{Splits, BeginsWithQuit, cut_of, frames_of, commands_of, meets_quit, joined};
+
+/// No frame text is a proper prefix of another.
+#[tactic(auto, using(crate::proofs::CutLemmas::no_proper_prefix))]
+pub fn no_frame_text_is_a_proper_prefix()
+    ensures law { (text more : List ℕ) → IsFrameText text → IsFrameText (text ++ more) → more ≡ [] }
+{}
+
+/// Each stream has a cut.
+pub fn each_stream_has_a_cut()
+    ensures law { (stream : List ℕ) → Splits stream (cut_of stream).pieces (cut_of stream).rest }
+{}
+
+/// No stream has two cuts.
+pub fn no_stream_has_two_cuts()
+    ensures law { (stream : List ℕ) (pieces others : List (List ℕ)) (rest left : List ℕ)
+        → Splits stream pieces rest → Splits stream others left → (pieces ≡ others) × (rest ≡ left) }
+{}
+
+/// The pieces of a prefix of a stream are a prefix of its pieces.
+#[tactic(auto, using(crate::proofs::CutLaws::pieces_first))]
+pub fn pieces_of_a_prefix_come_first()
+    ensures law { (stream more : List ℕ) (pieces others : List (List ℕ)) (rest left : List ℕ)
+        → Splits stream pieces rest → Splits (stream ++ more) others left
+        → (later : List (List ℕ)) × (others ≡ pieces ++ later) }
+{}
+
+/// The frames of a prefix of a stream are a prefix of its frames.
+#[tactic(auto, using(crate::proofs::CutLaws::frames_first))]
+pub fn frames_of_a_prefix_come_first()
+    ensures law { (stream more : List ℕ) → (later : List FrameKind) × (frames_of (stream ++ more) ≡ frames_of stream ++ later) }
+{}
+
+/// A quit line and all that comes after it are in the rest.
+#[tactic(auto, using(crate::proofs::CutLaws::quit_rest))]
+pub fn a_quit_line_begins_the_rest()
+    ensures law { (pieces : List (List ℕ)) (line after : List ℕ) → AllByRecursion IsFrameText pieces → IsQuitLine line
+        → Splits (joined pieces ++ (line ++ line_feed ∷ after)) pieces (line ++ line_feed ∷ after) }
+{}
+
+/// A quit line is met exactly where the rest begins with one.
+pub fn quit_is_met_where_the_rest_begins_with_it()
+    ensures law { (stream : List ℕ) (pieces : List (List ℕ)) (rest : List ℕ) → Splits stream pieces rest
+        → (meets_quit stream ≡ true) ↔ BeginsWithQuit rest }
+{}
+
+/// The frames of a stream are those of the pieces of its cut.
+#[tactic(auto, using(crate::proofs::CutLaws::frames_of_splits))]
+pub fn frames_are_those_of_the_cut()
+    ensures law { (stream : List ℕ) (pieces : List (List ℕ)) (rest : List ℕ) → Splits stream pieces rest
+        → frames_of stream ≡ map frame_of pieces }
+{}
+
+/// The commands of a stream are the meanings of the pieces of its cut.
+#[tactic(auto, using(crate::proofs::CutLaws::commands_of_splits))]
+pub fn commands_are_those_of_the_cut()
+    ensures law { (stream : List ℕ) (pieces : List (List ℕ)) (rest : List ℕ) → Splits stream pieces rest
+        → commands_of stream ≡ map (λ piece. command_of (frame_of piece)) pieces }
+{}
+
+/// A frame text is a line that is too long, a line that takes no block, or a storage line with its block.
+pub fn frame_texts_are_of_three_kinds()
+    ensures law { (text : List ℕ) → IsFrameText text ↔ (IsLongText text ⊎ IsLineText text ⊎ IsBlockText text) }
+{}
+
+/// The frame of each kind of frame text.
+pub fn each_kind_of_frame_text_has_its_frame()
+    ensures long { (text : List ℕ) (t : IsLongText text) → frame_of text ≡ Kinds.Long }
+    ensures line { (text : List ℕ) (t : IsLineText text) → frame_of text ≡ Kinds.Line (chomped t.line) }
+    ensures block { (text : List ℕ) (t : IsBlockText text) → t.size ≤ value_limit → frame_of text ≡ Kinds.Block (chomped t.line) t.block }
+    ensures large { (text : List ℕ) (t : IsBlockText text) → value_limit < t.size → frame_of text ≡ Kinds.Large (chomped t.line) }
+{}
