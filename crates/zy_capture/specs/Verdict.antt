@@ -57,12 +57,12 @@ abbrev pub refuses : Progress → CaptureFault → Step
 refuses p fault = record { next = record p { due = Broken fault }; gave = None }
 
 -- the byte is one of a number, and not the last one
-abbrev pub keeps : Progress → ℕ → Step
-keeps p byte = record { next = record p { field = p.field ++ byte ∷ []; at = p.at + 1 }; gave = None }
+abbrev pub keeps : Progress → Due → ℕ → Step
+keeps p due byte = record { next = record p { due = due; field = p.field ++ byte ∷ []; at = p.at + 1 }; gave = None }
 
 -- the byte is one of a segment, and not the last one
-abbrev pub grows : Progress → ℕ → Step
-grows p byte = record { next = record p { payload = p.payload ++ byte ∷ []; at = p.at + 1 }; gave = None }
+abbrev pub grows : Progress → Due → ℕ → Step
+grows p due byte = record { next = record p { due = due; payload = p.payload ++ byte ∷ []; at = p.at + 1 }; gave = None }
 
 -- ---- what a byte does, by what is due
 
@@ -107,12 +107,12 @@ judged due p number = goes p due
 -- a byte of a number of four bytes
 abbrev pub number : Due → Progress → ℕ → Step
 number due p byte =
-    if nat_lt (length p.field) 3 then keeps p byte else judged due p (from_be_bytes w32 (p.field ++ byte ∷ []))
+    if nat_lt (length p.field) 3 then keeps p due byte else judged due p (from_be_bytes w32 (p.field ++ byte ∷ []))
 
 -- a byte of a segment
 abbrev pub segment : ℕ → ℕ → Progress → ℕ → Step
 segment conn size p byte =
-    if nat_lt (length p.payload + 1) size then grows p byte
+    if nat_lt (length p.payload + 1) size then grows p (Payload conn size) byte
     else gives p (Kinds.Segment (record { conn = conn; bytes = p.payload ++ byte ∷ [] }))
 
 -- a byte, where this is due

@@ -185,7 +185,7 @@ impl Reader {
         requires room { self.old.at < capture_limit }
         requires within { IsWithin self.old.due (self.old.at + 1) [] 0 }
         requires short { length self.old.field < 3 }
-        ensures value { self.new ≡ (keeps self.old byte).next }
+        ensures value { self.new ≡ (keeps self.old self.old.due byte).next }
     {
         self.field[self.seen] = byte;
         self.seen += 1;
