@@ -1,6 +1,6 @@
 -- What a byte that is fed means for all that a reader stands for.
 use Rattle.std.proofs.Common.{◌≡◌, ℕ, List, [], ◌∷◌, ◌++◌, refl, sym, ◌∙◌, ap, append_assoc}
-use Rattle.std.specs.Prelude.{Option, None, option_to_list, Result, Ok, Err}
+use Rattle.std.specs.Prelude.{Some, Option, None, option_to_list, Result, Ok, Err}
 use Rattle.std.proofs.lemmas.List.{append-nil}
 use Rattle.zy_capture.specs.declared.record.Record.{Record}
 use Rattle.zy_capture.specs.declared.capture_fault.CaptureFault.{CaptureFault}
@@ -100,3 +100,21 @@ count_here p given b stands = ap (λ (r : Reading). count_in r.last.due r.last.c
 pub starts : StandsFor start [] []
 unfolding StandsFor reading read_from
 starts = refl
+
+-- ---- laws
+
+pub same_given : (p q : Progress) (given others : List Record) (b : List ℕ) → StandsFor p given b → StandsFor q others b → given ≡ others
+unfolding StandsFor
+same_given p q given others b one two = ap (λ (r : Reading). r.given) (sym one ∙ two)
+
+pub same_state : (p q : Progress) (given others : List Record) (b : List ℕ) → StandsFor p given b → StandsFor q others b → p ≡ q
+unfolding StandsFor
+same_state p q given others b one two = ap (λ (r : Reading). r.last) (sym one ∙ two)
+
+is_broken : (due : Due) (fault : CaptureFault) → fault_in due ≡ Some fault → due ≡ Broken fault
+is_broken (Broken found) fault is = cc
+is_broken due fault is = cc
+
+pub fault_lasts : (text more : List ℕ) (fault : CaptureFault) → fault_of text ≡ Some fault → verdict (text ++ more) ≡ Bad fault
+unfolding fault_of StandsFor
+fault_lasts text more fault is = broken_lasts (reading text).last (reading text).given text more fault (is_broken (reading text).last.due fault is) refl

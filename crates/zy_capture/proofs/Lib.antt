@@ -1,3 +1,4 @@
 pub mod Bounds
 pub mod Feeding
 pub mod WholeLemmas
+pub mod SpelledLemmas

@@ -1,6 +1,6 @@
 -- A text without a fault is the bytes that spell what was read of it.
-use Rattle.std.proofs.Common.{◌≡◌, ◌≢◌, ◌⊎◌, inl, inr, ℕ, ◌+◌, ◌<◌, ◌≤◌, Bool, true, false, suc, zero, List, [], ◌∷◌, ◌++◌, length, take, get_or, refl, sym, ◌∙◌, ap, subst, arith, append_assoc, length-append}
-use Rattle.std.specs.Prelude.{◌==◌, ◌&&◌, nat_lt, nat_le, if◌then◌else◌, Option, None, Some, option_to_list, flat_map, ⊤}
+use Rattle.std.proofs.Common.{◌≡◌, ◌⊎◌, inl, inr, ℕ, ◌+◌, ◌<◌, ◌≤◌, Bool, true, false, suc, zero, List, [], ◌∷◌, ◌++◌, length, take, get_or, refl, sym, ◌∙◌, ap, subst, arith, append_assoc, length-append}
+use Rattle.std.specs.Prelude.{◌==◌, ◌&&◌, nat_lt, nat_le, if◌then◌else◌, option_to_list, flat_map, ⊤}
 use Rattle.std.specs.List.{AllByRecursion, slice_index}
 use Rattle.std.specs.Int.{to_be_bytes, from_be_bytes, w32}
 use Rattle.std.proofs.lemmas.List.{append-nil}
@@ -10,19 +10,13 @@ use Rattle.std.proofs.lemmas.Nat.{be_bytes_4}
 use Rattle.std.proofs.lemmas.Grind.{common_steps, flat_map-append}
 use Rattle.zy_capture.specs.declared.record.Record.{Record}
 use Rattle.zy_capture.specs.declared.record.Record.TheVariants as Kinds
-use Rattle.zy_capture.specs.declared.capture_fault.CaptureFault.{CaptureFault}
-use Rattle.zy_capture.specs.declared.capture_fault.CaptureFault.TheVariants.{TooLong}
 use Rattle.zy_capture.specs.declared.due.Due.{Due}
 use Rattle.zy_capture.specs.declared.due.Due.TheVariants.{Letters, Digit, LineFeed, Count, Tag, Connection, Length, Payload, Closed, Nothing, Broken}
-use Rattle.zy_capture.specs.Capture.{letters, magic, spelled, spelling, IsRecordOf, IsCapture, Spells, capture_limit, connection_limit, segment_limit}
-use Rattle.zy_capture.specs.Verdict.{Progress, Step, Reading, Verdict, start, goes, gives, refuses, keeps, grows, after_record, letter, digit, line_feed, tag, judged, number, segment, taken, is_open, is_full, step, read_from, reading, with_front, ended, verdict}
-use Rattle.zy_capture.specs.Verdict.Verdict.{Good, Bad}
+use Rattle.zy_capture.specs.Capture.{AreBytes, letters, magic, spelled, spelling, IsRecordOf, IsCapture, Spells, capture_limit, connection_limit, segment_limit}
+use Rattle.zy_capture.specs.Verdict.{Progress, Step, Reading, start, goes, keeps, grows, letter, digit, line_feed, tag, number, segment, taken, is_open, is_full, step, read_from, reading, ended, verdict}
+use Rattle.zy_capture.specs.Verdict.Verdict.{Good}
 
 -- ---- bytes
-
--- each is a byte
-abbrev pub AreBytes : List ℕ → Type 0
-AreBytes bytes = AllByRecursion (λ byte. byte < 256) bytes
 
 bytes_on : (bytes : List ℕ) (byte : ℕ) → AreBytes bytes → byte < 256 → AreBytes (bytes ++ byte ∷ [])
 bytes_on [] byte all small = (small, tt)
@@ -117,7 +111,7 @@ stays due p given text read = subst (λ (l : List Record). IsReadTo due p l text
 letters_on : (at byte : ℕ) → at < 6 → byte ≡ slice_index letters at → take at letters ++ byte ∷ [] ≡ take (at + 1) letters
 letters_on at byte within is = grind (arith, common_steps)
 
-assoc_twice : (x y z s : List ℕ) → (x ++ (y ++ z)) ++ s ≡ x ++ (y ++ (z ++ s))
+pub assoc_twice : (x y z s : List ℕ) → (x ++ (y ++ z)) ++ s ≡ x ++ (y ++ (z ++ s))
 assoc_twice x y z s = append_assoc x (y ++ z) s ∙ ap (λ (l : List ℕ). x ++ l) (append_assoc y z s)
 
 -- one record more
@@ -151,10 +145,10 @@ from_letters : (p : Progress) (given : List Record) (text : List ℕ) (byte : �
 from_letters p given text byte room parts =
     chosen (Leads given text byte) (byte == slice_index letters p.at) _ _
     (λ same.
-      let grown : text ++ byte ∷ [] ≡ take (p.at + 1) letters = ap (λ (l : List ℕ). l ++ byte ∷ []) parts.bytes ∙ letters_on p.at byte parts.valid.0 (eqb-true byte (slice_index letters p.at) same) in
-      chosen (Leads given text byte) (p.at == 5) (goes p Digit) (goes p Letters)
-      (λ last. stays Digit (goes p Digit).next given (text ++ byte ∷ []) (record { bytes = grown ∙ ap (λ (n : ℕ). take (n + 1) letters) (eqb-true p.at 5 last); count = counted text p.at byte parts.count; short = omega arith; valid = parts.valid.1 }))
-      (λ more. stays Letters (goes p Letters).next given (text ++ byte ∷ []) (record { bytes = grown; count = counted text p.at byte parts.count; short = omega arith; valid = (grind (arith, nat_tests, parts.valid.0), parts.valid.1) })))
+    let grown : text ++ byte ∷ [] ≡ take (p.at + 1) letters = ap (λ (l : List ℕ). l ++ byte ∷ []) parts.bytes ∙ letters_on p.at byte parts.valid.0 (eqb-true byte (slice_index letters p.at) same) in
+    chosen (Leads given text byte) (p.at == 5) (goes p Digit) (goes p Letters)
+    (λ last. stays Digit (goes p Digit).next given (text ++ byte ∷ []) (record { bytes = grown ∙ ap (λ (n : ℕ). take (n + 1) letters) (eqb-true p.at 5 last); count = counted text p.at byte parts.count; short = omega arith; valid = parts.valid.1 }))
+    (λ more. stays Letters (goes p Letters).next given (text ++ byte ∷ []) (record { bytes = grown; count = counted text p.at byte parts.count; short = omega arith; valid = (grind (arith, nat_tests, parts.valid.0), parts.valid.1) })))
     (λ differs. tt)
 
 from_digit : (p : Progress) (given : List Record) (text : List ℕ) (byte : ℕ) → p.at < capture_limit → Parts Digit p given text → Leads given text byte (digit p byte)
@@ -163,8 +157,8 @@ from_digit p given text byte room parts =
     chosen (Leads given text byte) (byte == 49) _ _
     (λ one. stays (LineFeed 1) (goes p (LineFeed 1)).next given (text ++ byte ∷ []) (record { bytes = grown ∙ ap (λ (b : ℕ). letters ++ b ∷ []) (eqb-true byte 49 one); count = counted text p.at byte parts.count; short = omega arith; valid = (inl refl, parts.valid) }))
     (λ other. chosen (Leads given text byte) (byte == 50) _ _
-      (λ two. stays (LineFeed 2) (goes p (LineFeed 2)).next given (text ++ byte ∷ []) (record { bytes = grown ∙ ap (λ (b : ℕ). letters ++ b ∷ []) (eqb-true byte 50 two); count = counted text p.at byte parts.count; short = omega arith; valid = (inr refl, parts.valid) }))
-      (λ differs. tt))
+    (λ two. stays (LineFeed 2) (goes p (LineFeed 2)).next given (text ++ byte ∷ []) (record { bytes = grown ∙ ap (λ (b : ℕ). letters ++ b ∷ []) (eqb-true byte 50 two); count = counted text p.at byte parts.count; short = omega arith; valid = (inr refl, parts.valid) }))
+    (λ differs. tt))
 
 from_line_feed : (version : ℕ) (p : Progress) (given : List Record) (text : List ℕ) (byte : ℕ) → p.at < capture_limit → Parts (LineFeed version) p given text → Leads given text byte (line_feed version p byte)
 from_line_feed version p given text byte room parts =
@@ -180,16 +174,16 @@ from_count p given text byte small room parts =
     chosen (Leads given text byte) (nat_lt (length p.field) 3) _ _
     (λ short. stays Count (keeps p Count byte).next given (text ++ byte ∷ []) (record { bytes = grown; count = counted text p.at byte parts.count; short = omega arith; valid = (parts.valid.0, parts.valid.1, field_on p.field byte parts.valid.2 small (ltb-true (length p.field) 3 short)) }))
     (λ long. chosen (Leads given text byte) (nat_lt connection_limit n) _ _
-      (λ over. tt)
-      (λ few.
-        let next : Progress = (goes (record p { count = n }) Tag).next in
-        let whole : to_be_bytes w32 n ≡ p.field ++ byte ∷ [] = number_is p.field byte parts.valid.2 small (ltb-false (length p.field) 3 long) in
-        stays Tag next given (text ++ byte ∷ []) (subst (λ (l : List Record). IsReadTo Tag next l (text ++ byte ∷ [])) (sym parts.valid.1) (record {
-          bytes = grown ∙ ap (λ (l : List ℕ). magic p.version ++ l) (sym whole ∙ sym (append-nil (to_be_bytes w32 n)));
-          count = counted text p.at byte parts.count;
-          short = omega arith;
-          valid = record { known = parts.valid.0; few = ltb-false connection_limit n few; lawful = tt };
-        }))))
+    (λ over. tt)
+    (λ few.
+    let next : Progress = (goes (record p { count = n }) Tag).next in
+    let whole : to_be_bytes w32 n ≡ p.field ++ byte ∷ [] = number_is p.field byte parts.valid.2 small (ltb-false (length p.field) 3 long) in
+    stays Tag next given (text ++ byte ∷ []) (subst (λ (l : List Record). IsReadTo Tag next l (text ++ byte ∷ [])) (sym parts.valid.1) (record {
+      bytes = grown ∙ ap (λ (l : List ℕ). magic p.version ++ l) (sym whole ∙ sym (append-nil (to_be_bytes w32 n)));
+      count = counted text p.at byte parts.count;
+      short = omega arith;
+      valid = record { known = parts.valid.0; few = ltb-false connection_limit n few; lawful = tt };
+    }))))
 
 -- ---- records
 
@@ -201,12 +195,12 @@ from_tag p given text byte room parts =
     chosen (Leads given text byte) (byte == 83) _ _
     (λ is. stays Connection (goes p Connection).next given (text ++ byte ∷ []) (record { bytes = becomes 83 (eqb-true byte 83 is); count = counted text p.at byte parts.count; short = omega arith; valid = (parts.valid, empty) }))
     (λ no. chosen (Leads given text byte) (byte == 69) _ _
-      (λ is. stays Nothing (goes p Nothing).next given (text ++ byte ∷ []) (record { bytes = becomes 69 (eqb-true byte 69 is); count = counted text p.at byte parts.count; short = omega arith; valid = parts.valid }))
-      (λ neither. chosen (Leads given text byte) (byte == 67 && p.version == 2) _ _
-        (λ is.
-          let both : (byte ≡ 67) × (p.version ≡ 2) = both_true byte 67 p.version 2 is in
-          stays Closed (goes p Closed).next given (text ++ byte ∷ []) (record { bytes = becomes 67 both.0; count = counted text p.at byte parts.count; short = omega arith; valid = (parts.valid, empty, both.1) }))
-        (λ none. tt)))
+    (λ is. stays Nothing (goes p Nothing).next given (text ++ byte ∷ []) (record { bytes = becomes 69 (eqb-true byte 69 is); count = counted text p.at byte parts.count; short = omega arith; valid = parts.valid }))
+    (λ neither. chosen (Leads given text byte) (byte == 67 && p.version == 2) _ _
+    (λ is.
+    let both : (byte ≡ 67) × (p.version ≡ 2) = both_true byte 67 p.version 2 is in
+    stays Closed (goes p Closed).next given (text ++ byte ∷ []) (record { bytes = becomes 67 both.0; count = counted text p.at byte parts.count; short = omega arith; valid = (parts.valid, empty, both.1) }))
+    (λ none. tt)))
 
 from_connection : (p : Progress) (given : List Record) (text : List ℕ) (byte : ℕ) → byte < 256 → p.at < capture_limit → Parts Connection p given text → Leads given text byte (number Connection p byte)
 from_connection p given text byte small room parts =
@@ -215,15 +209,15 @@ from_connection p given text byte small room parts =
     chosen (Leads given text byte) (nat_lt (length p.field) 3) _ _
     (λ short. stays Connection (keeps p Connection byte).next given (text ++ byte ∷ []) (record { bytes = grown; count = counted text p.at byte parts.count; short = omega arith; valid = (parts.valid.0, field_on p.field byte parts.valid.1 small (ltb-true (length p.field) 3 short)) }))
     (λ long. chosen (Leads given text byte) (nat_lt n p.count) _ _
-      (λ below.
-        let whole : to_be_bytes w32 n ≡ p.field ++ byte ∷ [] = number_is p.field byte parts.valid.1 small (ltb-false (length p.field) 3 long) in
-        stays (Length n) (goes p (Length n)).next given (text ++ byte ∷ []) (record {
-          bytes = grown ∙ ap (λ (l : List ℕ). front p given ++ 83 ∷ l) (sym whole ∙ sym (append-nil (to_be_bytes w32 n)));
-          count = counted text p.at byte parts.count;
-          short = omega arith;
-          valid = (parts.valid.0, (omega arith, tt), ltb-true n p.count below);
-        }))
-      (λ over. tt))
+    (λ below.
+    let whole : to_be_bytes w32 n ≡ p.field ++ byte ∷ [] = number_is p.field byte parts.valid.1 small (ltb-false (length p.field) 3 long) in
+    stays (Length n) (goes p (Length n)).next given (text ++ byte ∷ []) (record {
+      bytes = grown ∙ ap (λ (l : List ℕ). front p given ++ 83 ∷ l) (sym whole ∙ sym (append-nil (to_be_bytes w32 n)));
+      count = counted text p.at byte parts.count;
+      short = omega arith;
+      valid = (parts.valid.0, (omega arith, tt), ltb-true n p.count below);
+    }))
+    (λ over. tt))
 
 from_closed : (p : Progress) (given : List Record) (text : List ℕ) (byte : ℕ) → byte < 256 → p.at < capture_limit → Parts Closed p given text → Leads given text byte (number Closed p byte)
 from_closed p given text byte small room parts =
@@ -232,15 +226,15 @@ from_closed p given text byte small room parts =
     chosen (Leads given text byte) (nat_lt (length p.field) 3) _ _
     (λ short. stays Closed (keeps p Closed byte).next given (text ++ byte ∷ []) (record { bytes = grown; count = counted text p.at byte parts.count; short = omega arith; valid = (parts.valid.0, field_on p.field byte parts.valid.1 small (ltb-true (length p.field) 3 short), parts.valid.2) }))
     (λ long. chosen (Leads given text byte) (nat_lt n p.count) _ _
-      (λ below.
-        let whole : to_be_bytes w32 n ≡ p.field ++ byte ∷ [] = number_is p.field byte parts.valid.1 small (ltb-false (length p.field) 3 long) in
-        record {
-          bytes = grown ∙ ap (λ (l : List ℕ). front p given ++ 67 ∷ l) (sym whole) ∙ front_on p given (Kinds.Close n);
-          count = counted text p.at byte parts.count;
-          short = omega arith;
-          valid = capture_on p.version p.count given (Kinds.Close n) parts.valid.0 (parts.valid.2, ltb-true n p.count below);
-        })
-      (λ over. tt))
+    (λ below.
+    let whole : to_be_bytes w32 n ≡ p.field ++ byte ∷ [] = number_is p.field byte parts.valid.1 small (ltb-false (length p.field) 3 long) in
+    record {
+      bytes = grown ∙ ap (λ (l : List ℕ). front p given ++ 67 ∷ l) (sym whole) ∙ front_on p given (Kinds.Close n);
+      count = counted text p.at byte parts.count;
+      short = omega arith;
+      valid = capture_on p.version p.count given (Kinds.Close n) parts.valid.0 (parts.valid.2, ltb-true n p.count below);
+    })
+    (λ over. tt))
 
 from_length : (conn : ℕ) (p : Progress) (given : List Record) (text : List ℕ) (byte : ℕ) → byte < 256 → p.at < capture_limit → Parts (Length conn) p given text → Leads given text byte (number (Length conn) p byte)
 from_length conn p given text byte small room parts =
@@ -249,26 +243,26 @@ from_length conn p given text byte small room parts =
     chosen (Leads given text byte) (nat_lt (length p.field) 3) _ _
     (λ short. stays (Length conn) (keeps p (Length conn) byte).next given (text ++ byte ∷ []) (record { bytes = grown; count = counted text p.at byte parts.count; short = omega arith; valid = (parts.valid.0, field_on p.field byte parts.valid.1 small (ltb-true (length p.field) 3 short), parts.valid.2) }))
     (λ long.
-      let whole : to_be_bytes w32 n ≡ p.field ++ byte ∷ [] = number_is p.field byte parts.valid.1 small (ltb-false (length p.field) 3 long) in
-      chosen (Leads given text byte) (nat_lt segment_limit n) _ _
-      (λ over. tt)
-      (λ few. chosen (Leads given text byte) (n == 0) _ _
-        (λ empty.
-          let item : Record = Kinds.Segment (record { conn = conn; bytes = [] }) in
-          let zero_is : p.field ++ byte ∷ [] ≡ to_be_bytes w32 0 ++ [] = sym whole ∙ ap (λ (k : ℕ). to_be_bytes w32 k) (eqb-true n 0 empty) in
-          record {
-            bytes = grown ∙ ap (λ (l : List ℕ). front p given ++ 83 ∷ (to_be_bytes w32 conn ++ l)) zero_is ∙ front_on p given item;
-            count = counted text p.at byte parts.count;
-            short = omega arith;
-            valid = capture_on p.version p.count given item parts.valid.0 (parts.valid.2, omega arith);
-          })
-        (λ some.
-          stays (Payload conn n) (goes (record p { payload = [] }) (Payload conn n)).next given (text ++ byte ∷ []) (record {
-            bytes = grown ∙ ap (λ (l : List ℕ). front p given ++ 83 ∷ (to_be_bytes w32 conn ++ l)) (sym whole ∙ sym (append-nil (to_be_bytes w32 n)));
-            count = counted text p.at byte parts.count;
-            short = omega arith;
-            valid = (parts.valid.0, parts.valid.2, ltb-false segment_limit n few, positive n some);
-          }))))
+    let whole : to_be_bytes w32 n ≡ p.field ++ byte ∷ [] = number_is p.field byte parts.valid.1 small (ltb-false (length p.field) 3 long) in
+    chosen (Leads given text byte) (nat_lt segment_limit n) _ _
+    (λ over. tt)
+    (λ few. chosen (Leads given text byte) (n == 0) _ _
+    (λ empty.
+    let item : Record = Kinds.Segment (record { conn = conn; bytes = [] }) in
+    let zero_is : p.field ++ byte ∷ [] ≡ to_be_bytes w32 0 ++ [] = sym whole ∙ ap (λ (k : ℕ). to_be_bytes w32 k) (eqb-true n 0 empty) in
+    record {
+      bytes = grown ∙ ap (λ (l : List ℕ). front p given ++ 83 ∷ (to_be_bytes w32 conn ++ l)) zero_is ∙ front_on p given item;
+      count = counted text p.at byte parts.count;
+      short = omega arith;
+      valid = capture_on p.version p.count given item parts.valid.0 (parts.valid.2, omega arith);
+    })
+    (λ some.
+    stays (Payload conn n) (goes (record p { payload = [] }) (Payload conn n)).next given (text ++ byte ∷ []) (record {
+      bytes = grown ∙ ap (λ (l : List ℕ). front p given ++ 83 ∷ (to_be_bytes w32 conn ++ l)) (sym whole ∙ sym (append-nil (to_be_bytes w32 n)));
+      count = counted text p.at byte parts.count;
+      short = omega arith;
+      valid = (parts.valid.0, parts.valid.2, ltb-false segment_limit n few, positive n some);
+    }))))
 
 from_payload : (conn size : ℕ) (p : Progress) (given : List Record) (text : List ℕ) (byte : ℕ) → p.at < capture_limit → Parts (Payload conn size) p given text → Leads given text byte (segment conn size p byte)
 from_payload conn size p given text byte room parts =
@@ -278,14 +272,14 @@ from_payload conn size p given text byte room parts =
     chosen (Leads given text byte) (nat_lt (length p.payload + 1) size) _ _
     (λ short. stays (Payload conn size) (grows p (Payload conn size) byte).next given (text ++ byte ∷ []) (record { bytes = grown; count = counted text p.at byte parts.count; short = omega arith; valid = (parts.valid.0, parts.valid.1, parts.valid.2, omega (arith, length-append p.payload (byte ∷ []), ltb-true (length p.payload + 1) size short)) }))
     (λ long.
-      let item : Record = Kinds.Segment (record { conn = conn; bytes = p.payload ++ byte ∷ [] }) in
-      let all : size ≡ length (p.payload ++ byte ∷ []) = omega (arith, length-append p.payload (byte ∷ []), ltb-false (length p.payload + 1) size long, parts.valid.3) in
-      record {
-        bytes = grown ∙ ap (λ (k : ℕ). front p given ++ 83 ∷ (to_be_bytes w32 conn ++ (to_be_bytes w32 k ++ (p.payload ++ byte ∷ [])))) all ∙ front_on p given item;
-        count = counted text p.at byte parts.count;
-        short = omega arith;
-        valid = capture_on p.version p.count given item parts.valid.0 (parts.valid.1, omega (arith, parts.valid.2, all));
-      })
+    let item : Record = Kinds.Segment (record { conn = conn; bytes = p.payload ++ byte ∷ [] }) in
+    let all : size ≡ length (p.payload ++ byte ∷ []) = omega (arith, length-append p.payload (byte ∷ []), ltb-false (length p.payload + 1) size long, parts.valid.3) in
+    record {
+      bytes = grown ∙ ap (λ (k : ℕ). front p given ++ 83 ∷ (to_be_bytes w32 conn ++ (to_be_bytes w32 k ++ (p.payload ++ byte ∷ [])))) all ∙ front_on p given item;
+      count = counted text p.at byte parts.count;
+      short = omega arith;
+      valid = capture_on p.version p.count given item parts.valid.0 (parts.valid.1, omega (arith, parts.valid.2, all));
+    })
 
 -- ---- a whole text
 

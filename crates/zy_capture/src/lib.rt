@@ -3,9 +3,14 @@
 
 mod capture_fault;
 mod due;
+mod laws;
 mod reader;
 mod record;
 
 pub use capture_fault::{CaptureFault, FeedFault};
+pub use laws::{
+    a_capture_is_good_exactly_where_it_is_a_spelling, the_first_fault_of_a_capture_counts,
+    what_is_given_depends_on_the_bytes_alone,
+};
 pub use reader::Reader;
 pub use record::{Record, Segment};

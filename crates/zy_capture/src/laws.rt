@@ -1,0 +1,27 @@
+//! Laws over the definitions of this crate.
+ghost use Rattle.std.specs.Prelude.{◌≡◌, ◌↔◌, ℕ, List, ◌++◌, Some};
+ghost use Rattle.zy_capture.specs.declared.record.Record.{Record};
+ghost use Rattle.zy_capture.specs.declared.capture_fault.CaptureFault.{CaptureFault};
+ghost use Rattle.zy_capture.specs.Capture.{AreBytes, Spells};
+ghost use Rattle.zy_capture.specs.Verdict.{Progress, verdict, fault_of};
+ghost use Rattle.zy_capture.specs.Verdict.Verdict.{Good, Bad};
+ghost use Rattle.zy_capture.specs.Standing.{StandsFor};
+
+/// A text is good, with a version, a count and records, exactly where it is their spelling, they are those of a
+/// capture, and it has at most 4,294,967,295 bytes.
+pub fn a_capture_is_good_exactly_where_it_is_a_spelling()
+    ensures exactly { (text : List ℕ) (version count : ℕ) (items : List Record) → AreBytes text
+        → verdict text ≡ Good version count items ↔ Spells text version count items }
+{}
+
+/// Two readers to which the same bytes were fed gave the same records, and are in the same state. So it does not matter
+/// when memory was refused, or what was asked of them between the bytes.
+pub fn what_is_given_depends_on_the_bytes_alone()
+    ensures given { (p q : Progress) (given others : List Record) (b : List ℕ) → StandsFor p given b → StandsFor q others b → given ≡ others }
+    ensures state { (p q : Progress) (given others : List Record) (b : List ℕ) → StandsFor p given b → StandsFor q others b → p ≡ q }
+{}
+
+/// The fault that was met in a text is the verdict on every longer one: the first fault counts.
+pub fn the_first_fault_of_a_capture_counts()
+    ensures lasts { (text more : List ℕ) (fault : CaptureFault) → fault_of text ≡ Some fault → verdict (text ++ more) ≡ Bad fault }
+{}
