@@ -2,3 +2,4 @@ pub mod Bounds
 pub mod Feeding
 pub mod WholeLemmas
 pub mod SpelledLemmas
+pub mod StreamLemmas

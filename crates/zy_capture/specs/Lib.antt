@@ -1,3 +1,5 @@
 pub mod Capture
 pub mod Verdict
 pub mod Standing
+pub mod Streams
+pub mod Outputs

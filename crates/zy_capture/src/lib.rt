@@ -4,13 +4,18 @@
 mod capture_fault;
 mod due;
 mod laws;
+mod outputs;
 mod reader;
 mod record;
+mod sessions;
+mod streams;
 
 pub use capture_fault::{CaptureFault, FeedFault};
 pub use laws::{
-    a_capture_is_good_exactly_where_it_is_a_spelling, the_first_fault_of_a_capture_counts,
-    what_is_given_depends_on_the_bytes_alone,
+    a_capture_is_good_exactly_where_it_is_a_spelling, each_session_holds_its_stream,
+    the_first_fault_of_a_capture_counts, what_is_given_depends_on_the_bytes_alone,
 };
+pub use outputs::Outputs;
 pub use reader::Reader;
 pub use record::{Record, Segment};
+pub use streams::Streams;
