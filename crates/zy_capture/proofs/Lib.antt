@@ -3,3 +3,4 @@ pub mod Feeding
 pub mod WholeLemmas
 pub mod SpelledLemmas
 pub mod StreamLemmas
+pub mod NumberedLemmas

@@ -3,3 +3,4 @@ pub mod Verdict
 pub mod Standing
 pub mod Streams
 pub mod Outputs
+pub mod Replies

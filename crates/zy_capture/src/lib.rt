@@ -9,6 +9,7 @@ mod reader;
 mod record;
 mod sessions;
 mod streams;
+mod writing;
 
 pub use capture_fault::{CaptureFault, FeedFault};
 pub use laws::{
@@ -19,3 +20,4 @@ pub use outputs::Outputs;
 pub use reader::Reader;
 pub use record::{Record, Segment};
 pub use streams::Streams;
+pub use writing::write_replies;
