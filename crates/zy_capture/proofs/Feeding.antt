@@ -89,9 +89,9 @@ pub verdict_here : (p : Progress) (given : List Record) (b : List ℕ) → Stand
 unfolding verdict StandsFor
 verdict_here p given b stands = ap (λ (r : Reading). ended r.last.due r.last r.given) stands
 
-pub version_here : (p : Progress) (given : List Record) (b : List ℕ) → StandsFor p given b → version_of b ≡ version_in p.due p.version
+pub version_here : (p : Progress) (given : List Record) (b : List ℕ) → StandsFor p given b → version_of b ≡ version_in p.version
 unfolding version_of StandsFor
-version_here p given b stands = ap (λ (r : Reading). version_in r.last.due r.last.version) stands
+version_here p given b stands = ap (λ (r : Reading). version_in r.last.version) stands
 
 pub count_here : (p : Progress) (given : List Record) (b : List ℕ) → StandsFor p given b → count_of b ≡ count_in p.due p.count
 unfolding count_of StandsFor

@@ -4,3 +4,4 @@ pub mod WholeLemmas
 pub mod SpelledLemmas
 pub mod StreamLemmas
 pub mod NumberedLemmas
+pub mod RepliesFeeding

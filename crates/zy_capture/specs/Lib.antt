@@ -4,3 +4,5 @@ pub mod Standing
 pub mod Streams
 pub mod Outputs
 pub mod Replies
+pub mod RepliesVerdict
+pub mod RepliesStanding

@@ -187,13 +187,9 @@ abbrev pub fault_in : Due → Option CaptureFault
 fault_in (Broken fault) = Some fault
 fault_in due = None
 
--- the version, where the magic was read whole
-abbrev pub version_in : Due → ℕ → Option ℕ
-version_in Letters version = None
-version_in Digit version = None
-version_in (LineFeed found) version = None
-version_in (Broken (BadMagic at)) version = None
-version_in due version = Some version
+-- the version, where the magic was read whole; it is 0 before
+abbrev pub version_in : ℕ → Option ℕ
+version_in version = if version == 0 then None else Some version
 
 -- the connection count, where it was read whole and not refused
 abbrev pub count_in : Due → ℕ → Option ℕ
@@ -215,7 +211,7 @@ fault_of text = fault_in (reading text).last.due
 
 -- the version of a text's magic
 unfoldable pub version_of : List ℕ → Option ℕ
-version_of text = version_in (reading text).last.due (reading text).last.version
+version_of text = version_in (reading text).last.version
 
 -- the connection count of a text
 unfoldable pub count_of : List ℕ → Option ℕ

@@ -7,6 +7,9 @@ mod laws;
 mod outputs;
 mod reader;
 mod record;
+mod replies_due;
+mod replies_reader;
+mod session_bytes;
 mod sessions;
 mod streams;
 mod writing;
@@ -19,5 +22,7 @@ pub use laws::{
 pub use outputs::Outputs;
 pub use reader::Reader;
 pub use record::{Record, Segment};
+pub use replies_reader::RepliesReader;
+pub use session_bytes::SessionBytes;
 pub use streams::Streams;
 pub use writing::write_replies;

@@ -115,12 +115,10 @@ impl Reader {
     pub fn version(&self) -> Option<u32>
         ensures value { (given : List Record) (b : List ℕ) → StandsFor self.now given b → result ≡ version_of b }
     {
-        match self.due {
-            Due::Letters
-            | Due::Digit
-            | Due::LineFeed { .. }
-            | Due::Broken(CaptureFault::BadMagic { .. }) => None,
-            _ => Some(self.version),
+        if self.version == 0 {
+            None
+        } else {
+            Some(self.version)
         }
     }
 
