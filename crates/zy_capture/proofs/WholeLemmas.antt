@@ -1,0 +1,342 @@
+-- A text without a fault is the bytes that spell what was read of it.
+use Rattle.std.proofs.Common.{◌≡◌, ◌⊎◌, inl, inr, ℕ, ◌+◌, ◌<◌, ◌≤◌, Bool, true, false, suc, zero, List, [], ◌∷◌, ◌++◌, length, take, get_or, refl, sym, ◌∙◌, ap, subst, arith, append_assoc, length-append}
+use Rattle.std.specs.Prelude.{◌==◌, ◌&&◌, nat_lt, nat_le, if◌then◌else◌, option_to_list, flat_map, ⊤}
+use Rattle.std.specs.List.{AllByRecursion, slice_index}
+use Rattle.std.specs.Int.{to_be_bytes, from_be_bytes, w32}
+use Rattle.std.proofs.lemmas.List.{append-nil}
+use Rattle.std.proofs.lemmas.Bool.{eqb-true, ltb-false, ltb-true}
+use Rattle.std.proofs.lemmas.Bool.Decides.{nat_tests}
+use Rattle.std.proofs.lemmas.Nat.{be_bytes_4}
+use Rattle.std.proofs.lemmas.Grind.{common_steps, flat_map-append}
+use Rattle.zy_capture.specs.declared.record.Record.{Record}
+use Rattle.zy_capture.specs.declared.record.Record.TheVariants as Kinds
+use Rattle.zy_capture.specs.declared.due.Due.{Due}
+use Rattle.zy_capture.specs.declared.due.Due.TheVariants.{Letters, Digit, LineFeed, Count, Tag, Connection, Length, Payload, Closed, Nothing, Broken}
+use Rattle.zy_capture.specs.Capture.{AreBytes, letters, magic, spelled, spelling, IsRecordOf, IsCapture, Spells, capture_limit, connection_limit, segment_limit}
+use Rattle.zy_capture.specs.Verdict.{Progress, Step, Reading, start, goes, keeps, grows, letter, digit, line_feed, tag, number, segment, taken, is_open, is_full, step, read_from, reading, ended, verdict}
+use Rattle.zy_capture.specs.Verdict.Verdict.{Good}
+
+-- ---- bytes
+
+bytes_on : (bytes : List ℕ) (byte : ℕ) → AreBytes bytes → byte < 256 → AreBytes (bytes ++ byte ∷ [])
+bytes_on [] byte all small = (small, tt)
+bytes_on (x ∷ bytes) byte all small = (all.0, bytes_on bytes byte all.1 small)
+
+byte_at : (bytes : List ℕ) → AreBytes bytes → (i : ℕ) → get_or bytes i 0 < 256
+byte_at [] all i = omega arith
+byte_at (x ∷ bytes) all zero = all.0
+byte_at (x ∷ bytes) all (suc i) = byte_at bytes all.1 i
+
+-- ---- what was read
+
+-- the bytes that lead to the records of a capture
+abbrev front : Progress → List Record → List ℕ
+front p given = magic p.version ++ to_be_bytes w32 p.count ++ flat_map spelled given
+
+-- the bytes that lead to where this is due
+abbrev pub bytes_of : Due → Progress → List Record → List ℕ
+bytes_of Letters p given = take p.at letters
+bytes_of Digit p given = letters
+bytes_of (LineFeed version) p given = letters ++ (48 + version) ∷ []
+bytes_of Count p given = magic p.version ++ p.field
+bytes_of Tag p given = front p given
+bytes_of Connection p given = front p given ++ 83 ∷ p.field
+bytes_of (Length conn) p given = front p given ++ 83 ∷ (to_be_bytes w32 conn ++ p.field)
+bytes_of (Payload conn size) p given = front p given ++ 83 ∷ (to_be_bytes w32 conn ++ (to_be_bytes w32 size ++ p.payload))
+bytes_of Closed p given = front p given ++ 67 ∷ p.field
+bytes_of Nothing p given = front p given ++ 69 ∷ []
+bytes_of (Broken fault) p given = []
+
+-- a version is 1 or 2
+abbrev IsVersion : ℕ → Type 0
+IsVersion version = (version ≡ 1) ⊎ (version ≡ 2)
+
+-- the bytes of a number that is not whole
+abbrev IsField : List ℕ → Type 0
+IsField field = (length field ≤ 3) × AreBytes field
+
+-- what holds where this is due
+abbrev pub IsSoFar : Due → Progress → List Record → Type 0
+IsSoFar Letters p given = (p.at < 6) × (given ≡ [])
+IsSoFar Digit p given = given ≡ []
+IsSoFar (LineFeed version) p given = IsVersion version × (given ≡ [])
+IsSoFar Count p given = IsVersion p.version × (given ≡ []) × IsField p.field
+IsSoFar Tag p given = IsCapture p.version p.count given
+IsSoFar Connection p given = IsCapture p.version p.count given × IsField p.field
+IsSoFar (Length conn) p given = IsCapture p.version p.count given × IsField p.field × (conn < p.count)
+IsSoFar (Payload conn size) p given =
+    IsCapture p.version p.count given × (conn < p.count) × (size ≤ segment_limit) × (length p.payload < size)
+IsSoFar Closed p given = IsCapture p.version p.count given × IsField p.field × (p.version ≡ 2)
+IsSoFar Nothing p given = IsCapture p.version p.count given
+IsSoFar (Broken fault) p given = ⊤
+
+-- a text, read up to there without a fault
+pub record Parts (due : Due) (p : Progress) (given : List Record) (text : List ℕ) : Type 0 where
+  pub bytes : text ≡ bytes_of due p given
+  pub count : p.at ≡ length text
+  pub short : p.at ≤ capture_limit
+  pub valid : IsSoFar due p given
+
+-- a text, read up to there
+abbrev pub IsReadTo : Due → Progress → List Record → List ℕ → Type 0
+IsReadTo (Broken fault) p given text = ⊤
+IsReadTo due p given text = Parts due p given text
+
+-- ---- tests
+
+both_true : (a b c d : ℕ) → (a == b && c == d) ≡ true → (a ≡ b) × (c ≡ d)
+both_true a b c d is = grind (arith, nat_tests)
+
+positive : (n : ℕ) → (n == 0) ≡ false → 0 < n
+positive n is = grind (arith, nat_tests)
+
+-- ---- one byte
+
+-- where a byte leads from there
+abbrev Leads : List Record → List ℕ → ℕ → Step → Type 0
+Leads given text byte s = IsReadTo s.next.due s.next (given ++ option_to_list s.gave) (text ++ byte ∷ [])
+
+-- a fact of either way that a test goes
+chosen : (P : Step → Type 0) (test : Bool) (x y : Step) → (test ≡ true → P x) → (test ≡ false → P y) → P (if test then x else y)
+chosen P test x y first second =
+    elim test as (λ (t : Bool). (t ≡ true → P x) → (t ≡ false → P y) → P (if t then x else y)) [ true ↦ λ one two. one refl | false ↦ λ one two. two refl ] first second
+
+counted : (text : List ℕ) (at byte : ℕ) → at ≡ length text → at + 1 ≡ length (text ++ byte ∷ [])
+counted text at byte is = omega (arith, length-append text (byte ∷ []), is)
+
+-- no record more
+stays : (due : Due) (p : Progress) (given : List Record) (text : List ℕ) → IsReadTo due p given text → IsReadTo due p (given ++ []) text
+stays due p given text read = subst (λ (l : List Record). IsReadTo due p l text) (sym (append-nil given)) read
+
+letters_on : (at byte : ℕ) → at < 6 → byte ≡ slice_index letters at → take at letters ++ byte ∷ [] ≡ take (at + 1) letters
+letters_on at byte within is = grind (arith, common_steps)
+
+pub assoc_twice : (x y z s : List ℕ) → (x ++ (y ++ z)) ++ s ≡ x ++ (y ++ (z ++ s))
+assoc_twice x y z s = append_assoc x (y ++ z) s ∙ ap (λ (l : List ℕ). x ++ l) (append_assoc y z s)
+
+-- one record more
+front_on : (p : Progress) (given : List Record) (item : Record) → front p given ++ spelled item ≡ front p (given ++ item ∷ [])
+front_on p given item =
+    let all : flat_map spelled given ++ spelled item ≡ flat_map spelled (given ++ item ∷ []) = ap (λ (l : List ℕ). flat_map spelled given ++ l) (sym (append-nil (spelled item))) ∙ sym (flat_map-append spelled given (item ∷ [])) in
+    assoc_twice (magic p.version) (to_be_bytes w32 p.count) (flat_map spelled given) (spelled item) ∙ ap (λ (l : List ℕ). magic p.version ++ (to_be_bytes w32 p.count ++ l)) all
+
+all_on : (version count : ℕ) (given : List Record) (item : Record) → AllByRecursion (IsRecordOf version count) given → IsRecordOf version count item → AllByRecursion (IsRecordOf version count) (given ++ item ∷ [])
+all_on version count [] item all one = (one, tt)
+all_on version count (first ∷ given) item all one = (all.0, all_on version count given item all.1 one)
+
+capture_on : (version count : ℕ) (given : List Record) (item : Record) → IsCapture version count given → IsRecordOf version count item → IsCapture version count (given ++ item ∷ [])
+capture_on version count given item valid one = record { known = valid.known; few = valid.few; lawful = all_on version count given item valid.lawful one }
+
+-- a byte after text that ends in the bytes of a part
+on_part : (text x y : List ℕ) (byte : ℕ) → text ≡ x ++ y → text ++ byte ∷ [] ≡ x ++ (y ++ byte ∷ [])
+on_part text x y byte is = ap (λ (l : List ℕ). l ++ byte ∷ []) is ∙ append_assoc x y (byte ∷ [])
+
+field_on : (field : List ℕ) (byte : ℕ) → IsField field → byte < 256 → length field < 3 → IsField (field ++ byte ∷ [])
+field_on field byte is small short = (omega (arith, length-append field (byte ∷ [])), bytes_on field byte is.1 small)
+
+-- the last byte of a number
+number_is : (field : List ℕ) (byte : ℕ) → IsField field → byte < 256 → 3 ≤ length field → to_be_bytes w32 (from_be_bytes w32 (field ++ byte ∷ [])) ≡ field ++ byte ∷ []
+number_is field byte is small long =
+    be_bytes_4 (field ++ byte ∷ []) (from_be_bytes w32 (field ++ byte ∷ [])) (omega (arith, length-append field (byte ∷ []), is.0)) (byte_at (field ++ byte ∷ []) (bytes_on field byte is.1 small)) refl
+
+-- ---- the magic
+
+from_letters : (p : Progress) (given : List Record) (text : List ℕ) (byte : ℕ) → p.at < capture_limit → Parts Letters p given text → Leads given text byte (letter p byte)
+from_letters p given text byte room parts =
+    chosen (Leads given text byte) (byte == slice_index letters p.at) _ _
+    (λ same.
+    let grown : text ++ byte ∷ [] ≡ take (p.at + 1) letters = ap (λ (l : List ℕ). l ++ byte ∷ []) parts.bytes ∙ letters_on p.at byte parts.valid.0 (eqb-true byte (slice_index letters p.at) same) in
+    chosen (Leads given text byte) (p.at == 5) (goes p Digit) (goes p Letters)
+    (λ last. stays Digit (goes p Digit).next given (text ++ byte ∷ []) (record { bytes = grown ∙ ap (λ (n : ℕ). take (n + 1) letters) (eqb-true p.at 5 last); count = counted text p.at byte parts.count; short = omega arith; valid = parts.valid.1 }))
+    (λ more. stays Letters (goes p Letters).next given (text ++ byte ∷ []) (record { bytes = grown; count = counted text p.at byte parts.count; short = omega arith; valid = (grind (arith, nat_tests, parts.valid.0), parts.valid.1) })))
+    (λ differs. tt)
+
+from_digit : (p : Progress) (given : List Record) (text : List ℕ) (byte : ℕ) → p.at < capture_limit → Parts Digit p given text → Leads given text byte (digit p byte)
+from_digit p given text byte room parts =
+    let grown : text ++ byte ∷ [] ≡ letters ++ byte ∷ [] = ap (λ (l : List ℕ). l ++ byte ∷ []) parts.bytes in
+    chosen (Leads given text byte) (byte == 49) _ _
+    (λ one. stays (LineFeed 1) (goes p (LineFeed 1)).next given (text ++ byte ∷ []) (record { bytes = grown ∙ ap (λ (b : ℕ). letters ++ b ∷ []) (eqb-true byte 49 one); count = counted text p.at byte parts.count; short = omega arith; valid = (inl refl, parts.valid) }))
+    (λ other. chosen (Leads given text byte) (byte == 50) _ _
+    (λ two. stays (LineFeed 2) (goes p (LineFeed 2)).next given (text ++ byte ∷ []) (record { bytes = grown ∙ ap (λ (b : ℕ). letters ++ b ∷ []) (eqb-true byte 50 two); count = counted text p.at byte parts.count; short = omega arith; valid = (inr refl, parts.valid) }))
+    (λ differs. tt))
+
+from_line_feed : (version : ℕ) (p : Progress) (given : List Record) (text : List ℕ) (byte : ℕ) → p.at < capture_limit → Parts (LineFeed version) p given text → Leads given text byte (line_feed version p byte)
+from_line_feed version p given text byte room parts =
+    let next : Progress = (goes (record p { version = version }) Count).next in
+    chosen (Leads given text byte) (byte == 10) _ _
+    (λ same. stays Count next given (text ++ byte ∷ []) (record { bytes = ap (λ (l : List ℕ). l ++ byte ∷ []) parts.bytes ∙ ap (λ (b : ℕ). (letters ++ (48 + version) ∷ []) ++ b ∷ []) (eqb-true byte 10 same); count = counted text p.at byte parts.count; short = omega arith; valid = (parts.valid.0, parts.valid.1, (omega arith, tt)) }))
+    (λ differs. tt)
+
+from_count : (p : Progress) (given : List Record) (text : List ℕ) (byte : ℕ) → byte < 256 → p.at < capture_limit → Parts Count p given text → Leads given text byte (number Count p byte)
+from_count p given text byte small room parts =
+    let grown : text ++ byte ∷ [] ≡ magic p.version ++ (p.field ++ byte ∷ []) = on_part text (magic p.version) p.field byte parts.bytes in
+    let n : ℕ = from_be_bytes w32 (p.field ++ byte ∷ []) in
+    chosen (Leads given text byte) (nat_lt (length p.field) 3) _ _
+    (λ short. stays Count (keeps p Count byte).next given (text ++ byte ∷ []) (record { bytes = grown; count = counted text p.at byte parts.count; short = omega arith; valid = (parts.valid.0, parts.valid.1, field_on p.field byte parts.valid.2 small (ltb-true (length p.field) 3 short)) }))
+    (λ long. chosen (Leads given text byte) (nat_lt connection_limit n) _ _
+    (λ over. tt)
+    (λ few.
+    let next : Progress = (goes (record p { count = n }) Tag).next in
+    let whole : to_be_bytes w32 n ≡ p.field ++ byte ∷ [] = number_is p.field byte parts.valid.2 small (ltb-false (length p.field) 3 long) in
+    stays Tag next given (text ++ byte ∷ []) (subst (λ (l : List Record). IsReadTo Tag next l (text ++ byte ∷ [])) (sym parts.valid.1) (record {
+      bytes = grown ∙ ap (λ (l : List ℕ). magic p.version ++ l) (sym whole ∙ sym (append-nil (to_be_bytes w32 n)));
+      count = counted text p.at byte parts.count;
+      short = omega arith;
+      valid = record { known = parts.valid.0; few = ltb-false connection_limit n few; lawful = tt };
+    }))))
+
+-- ---- records
+
+from_tag : (p : Progress) (given : List Record) (text : List ℕ) (byte : ℕ) → p.at < capture_limit → Parts Tag p given text → Leads given text byte (tag p byte)
+from_tag p given text byte room parts =
+    let grown : text ++ byte ∷ [] ≡ front p given ++ byte ∷ [] = ap (λ (l : List ℕ). l ++ byte ∷ []) parts.bytes in
+    let becomes : (due : ℕ) → byte ≡ due → text ++ byte ∷ [] ≡ front p given ++ due ∷ [] = λ due is. grown ∙ ap (λ (b : ℕ). front p given ++ b ∷ []) is in
+    let empty : IsField [] = (omega arith, tt) in
+    chosen (Leads given text byte) (byte == 83) _ _
+    (λ is. stays Connection (goes p Connection).next given (text ++ byte ∷ []) (record { bytes = becomes 83 (eqb-true byte 83 is); count = counted text p.at byte parts.count; short = omega arith; valid = (parts.valid, empty) }))
+    (λ no. chosen (Leads given text byte) (byte == 69) _ _
+    (λ is. stays Nothing (goes p Nothing).next given (text ++ byte ∷ []) (record { bytes = becomes 69 (eqb-true byte 69 is); count = counted text p.at byte parts.count; short = omega arith; valid = parts.valid }))
+    (λ neither. chosen (Leads given text byte) (byte == 67 && p.version == 2) _ _
+    (λ is.
+    let both : (byte ≡ 67) × (p.version ≡ 2) = both_true byte 67 p.version 2 is in
+    stays Closed (goes p Closed).next given (text ++ byte ∷ []) (record { bytes = becomes 67 both.0; count = counted text p.at byte parts.count; short = omega arith; valid = (parts.valid, empty, both.1) }))
+    (λ none. tt)))
+
+from_connection : (p : Progress) (given : List Record) (text : List ℕ) (byte : ℕ) → byte < 256 → p.at < capture_limit → Parts Connection p given text → Leads given text byte (number Connection p byte)
+from_connection p given text byte small room parts =
+    let grown : text ++ byte ∷ [] ≡ front p given ++ 83 ∷ (p.field ++ byte ∷ []) = on_part text (front p given) (83 ∷ p.field) byte parts.bytes in
+    let n : ℕ = from_be_bytes w32 (p.field ++ byte ∷ []) in
+    chosen (Leads given text byte) (nat_lt (length p.field) 3) _ _
+    (λ short. stays Connection (keeps p Connection byte).next given (text ++ byte ∷ []) (record { bytes = grown; count = counted text p.at byte parts.count; short = omega arith; valid = (parts.valid.0, field_on p.field byte parts.valid.1 small (ltb-true (length p.field) 3 short)) }))
+    (λ long. chosen (Leads given text byte) (nat_lt n p.count) _ _
+    (λ below.
+    let whole : to_be_bytes w32 n ≡ p.field ++ byte ∷ [] = number_is p.field byte parts.valid.1 small (ltb-false (length p.field) 3 long) in
+    stays (Length n) (goes p (Length n)).next given (text ++ byte ∷ []) (record {
+      bytes = grown ∙ ap (λ (l : List ℕ). front p given ++ 83 ∷ l) (sym whole ∙ sym (append-nil (to_be_bytes w32 n)));
+      count = counted text p.at byte parts.count;
+      short = omega arith;
+      valid = (parts.valid.0, (omega arith, tt), ltb-true n p.count below);
+    }))
+    (λ over. tt))
+
+from_closed : (p : Progress) (given : List Record) (text : List ℕ) (byte : ℕ) → byte < 256 → p.at < capture_limit → Parts Closed p given text → Leads given text byte (number Closed p byte)
+from_closed p given text byte small room parts =
+    let grown : text ++ byte ∷ [] ≡ front p given ++ 67 ∷ (p.field ++ byte ∷ []) = on_part text (front p given) (67 ∷ p.field) byte parts.bytes in
+    let n : ℕ = from_be_bytes w32 (p.field ++ byte ∷ []) in
+    chosen (Leads given text byte) (nat_lt (length p.field) 3) _ _
+    (λ short. stays Closed (keeps p Closed byte).next given (text ++ byte ∷ []) (record { bytes = grown; count = counted text p.at byte parts.count; short = omega arith; valid = (parts.valid.0, field_on p.field byte parts.valid.1 small (ltb-true (length p.field) 3 short), parts.valid.2) }))
+    (λ long. chosen (Leads given text byte) (nat_lt n p.count) _ _
+    (λ below.
+    let whole : to_be_bytes w32 n ≡ p.field ++ byte ∷ [] = number_is p.field byte parts.valid.1 small (ltb-false (length p.field) 3 long) in
+    record {
+      bytes = grown ∙ ap (λ (l : List ℕ). front p given ++ 67 ∷ l) (sym whole) ∙ front_on p given (Kinds.Close n);
+      count = counted text p.at byte parts.count;
+      short = omega arith;
+      valid = capture_on p.version p.count given (Kinds.Close n) parts.valid.0 (parts.valid.2, ltb-true n p.count below);
+    })
+    (λ over. tt))
+
+from_length : (conn : ℕ) (p : Progress) (given : List Record) (text : List ℕ) (byte : ℕ) → byte < 256 → p.at < capture_limit → Parts (Length conn) p given text → Leads given text byte (number (Length conn) p byte)
+from_length conn p given text byte small room parts =
+    let grown : text ++ byte ∷ [] ≡ front p given ++ 83 ∷ (to_be_bytes w32 conn ++ (p.field ++ byte ∷ [])) = on_part text (front p given) (83 ∷ (to_be_bytes w32 conn ++ p.field)) byte parts.bytes ∙ ap (λ (l : List ℕ). front p given ++ 83 ∷ l) (append_assoc (to_be_bytes w32 conn) p.field (byte ∷ [])) in
+    let n : ℕ = from_be_bytes w32 (p.field ++ byte ∷ []) in
+    chosen (Leads given text byte) (nat_lt (length p.field) 3) _ _
+    (λ short. stays (Length conn) (keeps p (Length conn) byte).next given (text ++ byte ∷ []) (record { bytes = grown; count = counted text p.at byte parts.count; short = omega arith; valid = (parts.valid.0, field_on p.field byte parts.valid.1 small (ltb-true (length p.field) 3 short), parts.valid.2) }))
+    (λ long.
+    let whole : to_be_bytes w32 n ≡ p.field ++ byte ∷ [] = number_is p.field byte parts.valid.1 small (ltb-false (length p.field) 3 long) in
+    chosen (Leads given text byte) (nat_lt segment_limit n) _ _
+    (λ over. tt)
+    (λ few. chosen (Leads given text byte) (n == 0) _ _
+    (λ empty.
+    let item : Record = Kinds.Segment (record { conn = conn; bytes = [] }) in
+    let zero_is : p.field ++ byte ∷ [] ≡ to_be_bytes w32 0 ++ [] = sym whole ∙ ap (λ (k : ℕ). to_be_bytes w32 k) (eqb-true n 0 empty) in
+    record {
+      bytes = grown ∙ ap (λ (l : List ℕ). front p given ++ 83 ∷ (to_be_bytes w32 conn ++ l)) zero_is ∙ front_on p given item;
+      count = counted text p.at byte parts.count;
+      short = omega arith;
+      valid = capture_on p.version p.count given item parts.valid.0 (parts.valid.2, omega arith);
+    })
+    (λ some.
+    stays (Payload conn n) (goes (record p { payload = [] }) (Payload conn n)).next given (text ++ byte ∷ []) (record {
+      bytes = grown ∙ ap (λ (l : List ℕ). front p given ++ 83 ∷ (to_be_bytes w32 conn ++ l)) (sym whole ∙ sym (append-nil (to_be_bytes w32 n)));
+      count = counted text p.at byte parts.count;
+      short = omega arith;
+      valid = (parts.valid.0, parts.valid.2, ltb-false segment_limit n few, positive n some);
+    }))))
+
+from_payload : (conn size : ℕ) (p : Progress) (given : List Record) (text : List ℕ) (byte : ℕ) → p.at < capture_limit → Parts (Payload conn size) p given text → Leads given text byte (segment conn size p byte)
+from_payload conn size p given text byte room parts =
+    let head : List ℕ = 83 ∷ (to_be_bytes w32 conn ++ (to_be_bytes w32 size ++ p.payload)) in
+    let grown : text ++ byte ∷ [] ≡ front p given ++ 83 ∷ (to_be_bytes w32 conn ++ (to_be_bytes w32 size ++ (p.payload ++ byte ∷ []))) =
+    on_part text (front p given) head byte parts.bytes ∙ ap (λ (l : List ℕ). front p given ++ 83 ∷ l) (assoc_twice (to_be_bytes w32 conn) (to_be_bytes w32 size) p.payload (byte ∷ [])) in
+    chosen (Leads given text byte) (nat_lt (length p.payload + 1) size) _ _
+    (λ short. stays (Payload conn size) (grows p (Payload conn size) byte).next given (text ++ byte ∷ []) (record { bytes = grown; count = counted text p.at byte parts.count; short = omega arith; valid = (parts.valid.0, parts.valid.1, parts.valid.2, omega (arith, length-append p.payload (byte ∷ []), ltb-true (length p.payload + 1) size short)) }))
+    (λ long.
+    let item : Record = Kinds.Segment (record { conn = conn; bytes = p.payload ++ byte ∷ [] }) in
+    let all : size ≡ length (p.payload ++ byte ∷ []) = omega (arith, length-append p.payload (byte ∷ []), ltb-false (length p.payload + 1) size long, parts.valid.3) in
+    record {
+      bytes = grown ∙ ap (λ (k : ℕ). front p given ++ 83 ∷ (to_be_bytes w32 conn ++ (to_be_bytes w32 k ++ (p.payload ++ byte ∷ [])))) all ∙ front_on p given item;
+      count = counted text p.at byte parts.count;
+      short = omega arith;
+      valid = capture_on p.version p.count given item parts.valid.0 (parts.valid.1, omega (arith, parts.valid.2, all));
+    })
+
+-- ---- a whole text
+
+-- a byte, where there is room
+from_taken : (due : Due) (p : Progress) (given : List Record) (text : List ℕ) (byte : ℕ) → p.due ≡ due → byte < 256 → (is_open due ≡ true → p.at < capture_limit) → IsReadTo due p given text → Leads given text byte (taken due p byte)
+from_taken Letters p given text byte is small room read = from_letters p given text byte (room refl) read
+from_taken Digit p given text byte is small room read = from_digit p given text byte (room refl) read
+from_taken (LineFeed version) p given text byte is small room read = from_line_feed version p given text byte (room refl) read
+from_taken Count p given text byte is small room read = from_count p given text byte small (room refl) read
+from_taken Tag p given text byte is small room read = from_tag p given text byte (room refl) read
+from_taken Connection p given text byte is small room read = from_connection p given text byte small (room refl) read
+from_taken (Length conn) p given text byte is small room read = from_length conn p given text byte small (room refl) read
+from_taken (Payload conn size) p given text byte is small room read = from_payload conn size p given text byte (room refl) read
+from_taken Closed p given text byte is small room read = from_closed p given text byte small (room refl) read
+from_taken Nothing p given text byte is small room read = tt
+from_taken (Broken fault) p given text byte is small room read =
+    subst (λ (d : Due). IsReadTo d p (given ++ []) (text ++ byte ∷ [])) (sym is) tt
+
+has_room : (due : Due) (at : ℕ) → (is_open due && nat_le capture_limit at) ≡ false → is_open due ≡ true → at < capture_limit
+has_room due at full open_still = grind (arith, nat_tests)
+
+from_step : (p : Progress) (given : List Record) (text : List ℕ) (byte : ℕ) → byte < 256 → IsReadTo p.due p given text → Leads given text byte (step p byte)
+from_step p given text byte small read =
+    chosen (Leads given text byte) (is_full p) _ _
+    (λ full. tt)
+    (λ room. from_taken p.due p given text byte refl small (has_room p.due p.at room) read)
+
+pub read_whole : (p : Progress) (given : List Record) (text more : List ℕ) → AreBytes more → IsReadTo p.due p given text
+    → IsReadTo (read_from p more).last.due (read_from p more).last (given ++ (read_from p more).given) (text ++ more)
+unfolding read_from
+read_whole p given text [] all read = subst (λ (l : List ℕ). IsReadTo p.due p (given ++ []) l) (sym (append-nil text)) (stays p.due p given text read)
+read_whole p given text (byte ∷ more) all read =
+    let s : Step = step p byte in
+    let r : Reading = read_from s.next more in
+    let on : IsReadTo r.last.due r.last ((given ++ option_to_list s.gave) ++ r.given) ((text ++ byte ∷ []) ++ more) = read_whole s.next (given ++ option_to_list s.gave) (text ++ byte ∷ []) more all.1 (from_step p given text byte all.0 read) in
+    subst (λ (l : List ℕ). IsReadTo r.last.due r.last (given ++ (option_to_list s.gave ++ r.given)) l) (append_assoc text (byte ∷ []) more)
+    (subst (λ (l : List Record). IsReadTo r.last.due r.last l ((text ++ byte ∷ []) ++ more)) (append_assoc given (option_to_list s.gave) r.given) on)
+
+-- the whole of a text that was read up to its end
+spells : (due : Due) (p : Progress) (given : List Record) (text : List ℕ) (version count : ℕ) (items : List Record) → IsReadTo due p given text → ended due p given ≡ Good version count items → Spells text version count items
+unfolding spelling
+spells Nothing p given text version count items read is =
+    let version_is : p.version ≡ version = cc in
+    let count_is : p.count ≡ count = cc in
+    let items_is : given ≡ items = cc in
+    subst (λ (l : List Record). Spells text version count l) items_is
+    (subst (λ (n : ℕ). Spells text version n given) count_is
+    (subst (λ (v : ℕ). Spells text v p.count given) version_is (record {
+      valid = read.valid;
+      spelled = read.bytes ∙ assoc_twice (magic p.version) (to_be_bytes w32 p.count) (flat_map spelled given) (69 ∷ []);
+      short = omega (arith, read.count, read.short);
+    })))
+spells due p given text version count items read is = cc
+
+-- a good text is a spelling
+pub good_spells : (text : List ℕ) (version count : ℕ) (items : List Record) → AreBytes text → verdict text ≡ Good version count items → Spells text version count items
+unfolding verdict reading
+good_spells text version count items all good =
+    let r : Reading = read_from start text in
+    spells r.last.due r.last r.given text version count items (read_whole start [] [] text all (record { bytes = refl; count = refl; short = omega arith; valid = (omega arith, refl) })) good

@@ -1,0 +1,83 @@
+-- The replies format, docs/FORMATS.md, "Replies": its values, their one spelling, and which values have one.
+use Rattle.std.specs.Prelude.{◌≡◌, ◌⊎◌, ℕ, ◌+◌, ◌-◌, ◌^◌, ◌<◌, ◌≤◌, ◌==◌, if◌then◌else◌, List, [], ◌∷◌, ◌++◌, length, flat_map, codes, ⊤}
+use Rattle.std.specs.Int.{to_be_bytes, w32, w64}
+use Rattle.zy_capture.specs.declared.session_bytes.SessionBytes.{SessionBytes}
+use Rattle.zy_capture.specs.Capture.{connection_limit}
+use Rattle.zy_capture.specs.Outputs.{AllOutputs}
+
+-- ---- spelling
+
+-- the letters with which each magic begins
+abbrev pub letters : List ℕ
+letters = codes "ZYGREP"
+
+-- the magic of a version: the letters, the version's digit and a line feed
+abbrev pub magic : ℕ → List ℕ
+magic version = letters ++ (48 + version) ∷ 10 ∷ []
+
+-- the session of a record, which only version 2 writes
+abbrev pub session_text : ℕ → ℕ → List ℕ
+session_text version session = if version == 2 then to_be_bytes w32 session else []
+
+-- a record: its tag, its connection, its session, the length of the output, and the output
+abbrev pub output_text : ℕ → ℕ → ℕ → List ℕ → List ℕ
+output_text version conn session bytes =
+    82 ∷ (to_be_bytes w32 conn ++ session_text version session ++ to_be_bytes w64 (length bytes) ++ bytes)
+
+-- ---- the text of all outputs
+
+-- the texts of things that are numbered from some number on
+abbrev pub numbered_from : {X : Type 0} → (ℕ → X → List ℕ) → ℕ → List X → List ℕ
+numbered_from text number [] = []
+numbered_from text number (x ∷ xs) = text number x ++ numbered_from text (number + 1) xs
+
+-- the records of one connection, session by session
+abbrev pub connection_text : ℕ → ℕ → List (List ℕ) → List ℕ
+connection_text version conn sessions = numbered_from (output_text version conn) 0 sessions
+
+-- a replies file: its magic, its records, connection by connection, and the end
+unfoldable pub replies_bytes : AllOutputs → List ℕ
+replies_bytes outputs = magic outputs.version ++ numbered_from (connection_text outputs.version) 0 outputs.sessions ++ 69 ∷ []
+
+-- ---- files by their records
+
+-- the record of the output of a session
+abbrev pub spelled : ℕ → SessionBytes → List ℕ
+spelled version item = output_text version item.conn item.session item.bytes
+
+-- a replies file with these records
+unfoldable pub spelling : ℕ → List SessionBytes → List ℕ
+spelling version items = magic version ++ flat_map (spelled version) items ++ 69 ∷ []
+
+-- ---- validity
+
+-- the most bytes of a replies file
+abbrev pub replies_limit : ℕ
+replies_limit = 2 ^ 63 - 1
+
+-- the session after the last one of so many connections, of which the last has so many sessions: the first one of the
+-- next connection or, in version 2, the next one of the last connection
+abbrev pub IsNext : ℕ → ℕ → ℕ → SessionBytes → Type 0
+IsNext version connections sessions item =
+    ((item.conn ≡ connections) × (item.session ≡ 0)) ⊎ ((version ≡ 2) × (item.conn + 1 ≡ connections) × (item.session ≡ sessions))
+
+-- the numbers are within their bounds
+abbrev pub IsWithinBounds : SessionBytes → Type 0
+IsWithinBounds item = (item.conn < connection_limit) × (item.session < 2 ^ 31)
+
+-- each session is the next one after those before it
+abbrev pub AreInOrder : ℕ → ℕ → ℕ → List SessionBytes → Type 0
+AreInOrder version connections sessions [] = ⊤
+AreInOrder version connections sessions (item ∷ items) =
+    IsNext version connections sessions item × IsWithinBounds item × AreInOrder version (item.conn + 1) (item.session + 1) items
+
+-- the version and the outputs are those of a replies file
+pub record IsRepliesFile (version : ℕ) (items : List SessionBytes) : Type 0 where
+  pub known : (version ≡ 1) ⊎ (version ≡ 2)
+  pub ordered : AreInOrder version 0 0 items
+
+-- the text is the spelling of these outputs, and not too long
+pub record SpellsReplies (text : List ℕ) (version : ℕ) (items : List SessionBytes) : Type 0 where
+  pub valid : IsRepliesFile version items
+  pub spelled : text ≡ spelling version items
+  pub short : length text ≤ replies_limit

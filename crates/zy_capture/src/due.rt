@@ -1,0 +1,30 @@
+//! What is due next in a capture.
+
+use crate::capture_fault::CaptureFault;
+
+/// What is due next.
+#[derive(Clone, Copy, Debug, PartialEq, Eq)]
+pub(crate) enum Due {
+    /// A letter of the magic.
+    Letters,
+    /// The digit of the magic.
+    Digit,
+    /// The line feed that ends the magic of this version.
+    LineFeed { version: u32 },
+    /// The connection count.
+    Count,
+    /// A record or the end.
+    Tag,
+    /// The connection of a segment.
+    Connection,
+    /// The length of a segment of this connection.
+    Length { conn: u32 },
+    /// The bytes of a segment of this connection and length.
+    Payload { conn: u32, length: u32 },
+    /// The connection of a close record.
+    Closed,
+    /// Nothing: the end was read.
+    Nothing,
+    /// Nothing: the text has this fault.
+    Broken(CaptureFault),
+}

@@ -1,0 +1,38 @@
+//! Laws over the definitions of this crate.
+ghost use Rattle.std.specs.Prelude.{◌≡◌, ◌↔◌, ◌+◌, ◌<◌, ℕ, List, [], ◌++◌, length, Some};
+ghost use Rattle.std.specs.List.{slice_index_or};
+ghost use Rattle.zy_capture.specs.declared.record.Record.{Record};
+ghost use Rattle.zy_capture.specs.declared.capture_fault.CaptureFault.{CaptureFault};
+ghost use Rattle.zy_capture.specs.Capture.{AreBytes, Spells};
+ghost use Rattle.zy_capture.specs.Verdict.{Progress, verdict, fault_of};
+ghost use Rattle.zy_capture.specs.Verdict.Verdict.{Good, Bad};
+ghost use Rattle.zy_capture.specs.Standing.{StandsFor};
+ghost use Rattle.zy_capture.specs.Streams.{closes, stream, sessions_of, no_bytes, with_records};
+
+/// A text is good, with a version, a count and records, exactly where it is their spelling, they are those of a
+/// capture, and it has at most 4,294,967,295 bytes.
+pub fn a_capture_is_good_exactly_where_it_is_a_spelling()
+    ensures exactly { (text : List ℕ) (version count : ℕ) (items : List Record) → AreBytes text
+        → verdict text ≡ Good version count items ↔ Spells text version count items }
+{}
+
+/// Two readers to which the same bytes were fed gave the same records, and are in the same state. So it does not matter
+/// when memory was refused, or what was asked of them between the bytes.
+pub fn what_is_given_depends_on_the_bytes_alone()
+    ensures given { (p q : Progress) (given others : List Record) (b : List ℕ) → StandsFor p given b → StandsFor q others b → given ≡ others }
+    ensures state { (p q : Progress) (given others : List Record) (b : List ℕ) → StandsFor p given b → StandsFor q others b → p ≡ q }
+{}
+
+/// The fault that was met in a text is the verdict on every longer one: the first fault counts.
+pub fn the_first_fault_of_a_capture_counts()
+    ensures lasts { (text more : List ℕ) (fault : CaptureFault) → fault_of text ≡ Some fault → verdict (text ++ more) ≡ Bad fault }
+{}
+
+/// The sessions of a connection to whose streams records were added are as many as its close records and one more, and
+/// each session holds its stream.
+pub fn each_session_holds_its_stream()
+    ensures count { (count conn : ℕ) (items : List Record) → conn < count
+        → length (sessions_of (with_records (no_bytes count) items) conn) ≡ closes conn items + 1 }
+    ensures bytes { (count conn session : ℕ) (items : List Record) → conn < count
+        → slice_index_or (sessions_of (with_records (no_bytes count) items) conn) session [] ≡ stream conn session items }
+{}

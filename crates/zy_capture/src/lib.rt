@@ -1,0 +1,28 @@
+//! Capture files and replies files: readers that are fed byte by byte, streams, outputs and a writer.
+#![tactic(auto)]
+
+mod capture_fault;
+mod due;
+mod laws;
+mod outputs;
+mod reader;
+mod record;
+mod replies_due;
+mod replies_reader;
+mod session_bytes;
+mod sessions;
+mod streams;
+mod writing;
+
+pub use capture_fault::{CaptureFault, FeedFault};
+pub use laws::{
+    a_capture_is_good_exactly_where_it_is_a_spelling, each_session_holds_its_stream,
+    the_first_fault_of_a_capture_counts, what_is_given_depends_on_the_bytes_alone,
+};
+pub use outputs::Outputs;
+pub use reader::Reader;
+pub use record::{Record, Segment};
+pub use replies_reader::RepliesReader;
+pub use session_bytes::SessionBytes;
+pub use streams::Streams;
+pub use writing::write_replies;

@@ -1,0 +1,21 @@
+//! Records of a capture.
+
+use zy_base::Blob;
+
+/// Bytes that came on a connection.
+#[derive(Debug, Drop)]
+pub struct Segment {
+    /// The connection's number, below the capture's count.
+    pub conn: u32,
+    /// At most 65,535 bytes.
+    pub bytes: Blob,
+}
+
+/// A record of a capture.
+#[derive(Debug, Drop)]
+pub enum Record {
+    /// Bytes came on a connection.
+    Segment(Segment),
+    /// A connection closed, and the next bytes with its number are those of a new session. In version 2 alone.
+    Close { conn: u32 },
+}
