@@ -1,4 +1,4 @@
 pub mod Answers
 pub mod Ends
-pub mod Replies
+pub mod Reply
 pub mod Words

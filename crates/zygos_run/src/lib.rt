@@ -2,13 +2,16 @@
 #![tactic(auto)]
 
 mod answer;
-mod capture;
+mod intake;
 mod reading;
-mod replies;
-mod running;
+mod reply;
+mod request;
 mod saying;
+mod server;
 mod serving;
 mod standard;
+mod stop;
+mod store;
 mod words;
 
 pub use answer::{Answer, Journal, Refusal, status};

@@ -1,28 +1,28 @@
-//! Reading the whole input.
+//! Reading the capture.
 ghost use Rattle.std.specs.Prelude.{◌≡◌, ◌≤◌, length, IfOk, IfErr};
 ghost use Rattle.zygos_run.specs.Ends.{ReadEnds};
 
+use crate::intake::{Intake, Run};
+use crate::stop::Stop;
 use std::alloc::Global;
-use zy_base::Source;
+use zy_base::{Gate, Source};
 
 // The most bytes that one read asks for.
 const PIECE: usize = 65_536;
 
-// Why reading stopped before the end.
-#[derive(Clone, Copy, Debug, PartialEq, Eq)]
-pub(crate) enum ReadStop {
-    // A read failed.
-    Failed,
-    // Memory was wanted and not found.
-    NoMemory,
-}
-
-// Reads to the end of the input, in pieces of 64 KiB.
-pub(crate) fn read_all<S: Source>(alloc: Global, source: &mut S) -> Result<Vec<u8>, ReadStop>
+// Reads a capture to its end, in pieces of 64 KiB, and carries out its commands.
+pub(crate) fn run_capture<S: Source, G: Gate>(
+    alloc: Global,
+    source: &mut S,
+    gate: &G,
+) -> Result<Run, Stop>
     ensures count { S.faults source.old ≤ S.faults source.new }
     ensures ends { ReadEnds S.rest S.faults source.old source.new result }
 {
-    let mut bytes = Vec::new(alloc);
+    let mut intake = match Intake::new(alloc) {
+        Ok(intake) => intake,
+        Err(stop) => return Err(stop),
+    };
     let mut piece = match buffer(alloc, PIECE) {
         Ok(piece) => piece,
         Err(stop) => return Err(stop),
@@ -30,24 +30,25 @@ pub(crate) fn read_all<S: Source>(alloc: Global, source: &mut S) -> Result<Vec<u
     for _ in 0..u64::MAX {
         let n = match source.read(piece.as_mut_slice()) {
             Ok(n) => n,
-            Err(_) => return Err(ReadStop::Failed),
+            Err(_) => return Err(Stop::Failed),
         };
         if n == 0 {
-            return Ok(bytes);
+            return intake.finish();
         }
-        if bytes.extend_from_slice(&piece[..n]).is_err() {
-            return Err(ReadStop::NoMemory);
+        if let Err(stop) = intake.take(&piece[..n], gate) {
+            return Err(stop);
         }
     }
-    unreachable!()
+    // No capture has so many bytes.
+    Err(Stop::Unbuilt)
 }
 
-fn buffer(alloc: Global, size: usize) -> Result<Vec<u8>, ReadStop>
+fn buffer(alloc: Global, size: usize) -> Result<Vec<u8>, Stop>
     ensures size { IfOk result (λ buffer. length buffer.items ≡ size) }
-    ensures err { IfErr result (λ stop. stop ≡ ReadStop.NoMemory) }
+    ensures err { IfErr result (λ stop. stop ≡ Stop.NoMemory) }
 {
     match vec![in alloc; 0u8; size] {
         Ok(buffer) => Ok(buffer),
-        Err(_) => Err(ReadStop::NoMemory),
+        Err(_) => Err(Stop::NoMemory),
     }
 }

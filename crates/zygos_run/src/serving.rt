@@ -1,21 +1,22 @@
 //! The top call.
 ghost use Rattle.std.specs.Prelude.{◌≡◌, ◌↔◌, false};
 ghost use Rattle.std.specs.Io.KnownBytes.{IsAtEnd};
-ghost use Rattle.zy_base.specs.Outside.{Rose};
+ghost use Rattle.zy_base.specs.Outside.{Rose, Writes};
+ghost use Rattle.zy_capture.specs.Replies.{replies_bytes};
 ghost use Rattle.zygos_run.specs.Words.{is_lawful as lawful};
 ghost use Rattle.zygos_run.specs.Answers.{line_of};
 ghost use Rattle.zygos_run.specs.Ends.{HasCause, LeavesSink, Said, WroteReplies, WrotePart};
 
 use crate::answer::{Answer, Refusal};
-use crate::reading::{ReadStop, read_all};
-use crate::replies::write_replies;
-use crate::running::{Stop, run_capture};
+use crate::reading::run_capture;
 use crate::saying::say;
+use crate::stop::Stop;
 use crate::words::is_lawful;
 use std::alloc::Global;
 use std::sync::Wait;
 use std::thread::Threads;
-use zy_base::{Blob, Gate, Sink, Source};
+use zy_base::{Blob, Failed, Gate, Sink, Source};
+use zy_capture::{Outputs, write_replies};
 
 /// Carries out the commands of a capture and writes the replies of each connection.
 ///
@@ -36,7 +37,6 @@ pub fn serve<R: Threads + Wait + Sync, S: Source, K: Sink, E: Sink, G: Gate + Sy
     ensures usage { (result ≡ Answer.Usage) ↔ (lawful words.now ≡ false) }
     ensures served { (j : _) → result ≡ Answer.Served j → IsAtEnd (S.rest source.new) }
     ensures written { (j : _) → result ≡ Answer.Served j → WroteReplies (K.holds sink.old) (K.holds sink.new) }
-    ensures refused { (r : _) → result ≡ Answer.Refused r → IsAtEnd (S.rest source.new) }
     ensures read_fault { result ≡ Answer.ReadFault → Rose (S.faults source.old) (S.faults source.new) }
     ensures write_fault { result ≡ Answer.WriteFault → Rose (K.faults sink.old) (K.faults sink.new) }
     ensures write_part { result ≡ Answer.WriteFault → WrotePart (K.holds sink.old) (K.holds sink.new) }
@@ -65,17 +65,23 @@ fn carry_out<S: Source, K: Sink, G: Gate>(
     if !is_lawful(words) {
         return Answer::Usage;
     }
-    let capture = match read_all(alloc, source) {
-        Ok(capture) => capture,
-        Err(ReadStop::Failed) => return Answer::ReadFault,
-        Err(ReadStop::NoMemory) => return Answer::OutOfMemory,
-    };
-    match run_capture(alloc, capture.as_slice(), gate) {
+    match run_capture(alloc, source, gate) {
         Err(Stop::Unbuilt) => Answer::Refused(Refusal::Unbuilt),
+        Err(Stop::Failed) => Answer::ReadFault,
         Err(Stop::NoMemory) => Answer::OutOfMemory,
-        Ok(run) => match write_replies(sink, &run.output) {
+        Ok(run) => match write_all(sink, &run.outputs) {
             Ok(()) => Answer::Served(run.journal),
             Err(_) => Answer::WriteFault,
         },
     }
+}
+
+// Writes the replies file, and finishes. Takes no memory.
+fn write_all<K: Sink>(sink: &mut K, outputs: &Outputs) -> Result<(), Failed>
+    ensures { Writes K.holds K.faults sink.old sink.new result (replies_bytes outputs.now) }
+{
+    if let Err(failed) = write_replies(sink, outputs) {
+        return Err(failed);
+    }
+    sink.finish()
 }
