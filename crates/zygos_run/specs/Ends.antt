@@ -4,18 +4,17 @@ use Rattle.std.specs.Io.KnownBytes.{IsAtEnd}
 use Rattle.zy_base.specs.Outside.{Rose, Grew, GrewByPrefix}
 use Rattle.zygos_run.specs.declared.answer.Answer.{Answer}
 use Rattle.zygos_run.specs.declared.answer.Answer.TheVariants.{Served, Usage, Refused, ReadFault, WriteFault, OutOfMemory}
-use Rattle.zygos_run.specs.declared.stop.Stop.{Stop}
-use Rattle.zygos_run.specs.declared.stop.Stop.TheVariants.{Unbuilt, Failed, NoMemory}
+use Rattle.zygos_run.specs.declared.stop.ReadStop.{ReadStop}
+use Rattle.zygos_run.specs.declared.stop.ReadStop.TheVariants.{Failed, Stopped}
 use Rattle.zygos_run.specs.Words.{is_lawful}
 use Rattle.zy_capture.specs.Outputs.{AllOutputs}
 use Rattle.zy_capture.specs.Replies.{replies_bytes}
 
--- reading came to the end, or a read failed; that the input isn't served, or memory was not found, is free
-abbrev pub ReadEnds : {S R : Type 0} → (S → Option (List ℕ)) → (S → ℕ) → S → S → Result R Stop → Type 0
+-- reading came to the end, or a read failed; when an input isn't served is free
+abbrev pub ReadEnds : {S R : Type 0} → (S → Option (List ℕ)) → (S → ℕ) → S → S → Result R ReadStop → Type 0
 ReadEnds rest faults old new (Ok run) = IsAtEnd (rest new)
 ReadEnds rest faults old new (Err Failed) = Rose (faults old) (faults new)
-ReadEnds rest faults old new (Err Unbuilt) = ⊤
-ReadEnds rest faults old new (Err NoMemory) = ⊤
+ReadEnds rest faults old new (Err (Stopped stop)) = ⊤
 
 -- the sink grew by a replies file
 abbrev pub WroteReplies : Option (List ℕ) → Option (List ℕ) → Type 0

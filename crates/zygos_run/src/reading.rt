@@ -1,9 +1,9 @@
 //! Reading the capture.
-ghost use Rattle.std.specs.Prelude.{◌≡◌, ◌≤◌, length, IfOk, IfErr};
+ghost use Rattle.std.specs.Prelude.{◌≡◌, ◌≢◌, ◌≤◌, length, IfOk, IfErr};
 ghost use Rattle.zygos_run.specs.Ends.{ReadEnds};
 
 use crate::intake::{Intake, Run};
-use crate::stop::Stop;
+use crate::stop::{ReadStop, Stop};
 use std::alloc::Global;
 use zy_base::{Gate, Source};
 
@@ -15,37 +15,61 @@ pub(crate) fn run_capture<S: Source, G: Gate>(
     alloc: Global,
     source: &mut S,
     gate: &G,
-) -> Result<Run, Stop>
+) -> Result<Run, ReadStop>
     ensures count { S.faults source.old ≤ S.faults source.new }
     ensures ends { ReadEnds S.rest S.faults source.old source.new result }
 {
     let mut intake = match Intake::new(alloc) {
         Ok(intake) => intake,
-        Err(stop) => return Err(stop),
+        Err(stop) => return Err(ReadStop::Stopped(stop)),
     };
+    match take_all(alloc, source, &mut intake, gate) {
+        Ok(()) => finished(intake),
+        Err(stop) => Err(stop),
+    }
+}
+
+fn finished(intake: Intake) -> Result<Run, ReadStop>
+    ensures { IfErr result (λ stop. stop ≢ ReadStop.Failed) }
+{
+    match intake.finish() {
+        Ok(run) => Ok(run),
+        Err(stop) => Err(ReadStop::Stopped(stop)),
+    }
+}
+
+// Reads to the end of the source, piece after piece.
+fn take_all<S: Source, G: Gate>(
+    alloc: Global,
+    source: &mut S,
+    intake: &mut Intake,
+    gate: &G,
+) -> Result<(), ReadStop>
+    ensures count { S.faults source.old ≤ S.faults source.new }
+    ensures ends { ReadEnds S.rest S.faults source.old source.new result }
+{
     let mut piece = match buffer(alloc, PIECE) {
         Ok(piece) => piece,
-        Err(stop) => return Err(stop),
+        Err(stop) => return Err(ReadStop::Stopped(stop)),
     };
     for _ in 0..u64::MAX {
         let n = match source.read(piece.as_mut_slice()) {
             Ok(n) => n,
-            Err(_) => return Err(Stop::Failed),
+            Err(_) => return Err(ReadStop::Failed),
         };
         if n == 0 {
-            return intake.finish();
+            return Ok(());
         }
         if let Err(stop) = intake.take(&piece[..n], gate) {
-            return Err(stop);
+            return Err(ReadStop::Stopped(stop));
         }
     }
     // No capture has so many bytes.
-    Err(Stop::Unbuilt)
+    Err(ReadStop::Stopped(Stop::Unbuilt))
 }
 
 fn buffer(alloc: Global, size: usize) -> Result<Vec<u8>, Stop>
     ensures size { IfOk result (λ buffer. length buffer.items ≡ size) }
-    ensures err { IfErr result (λ stop. stop ≡ Stop.NoMemory) }
 {
     match vec![in alloc; 0u8; size] {
         Ok(buffer) => Ok(buffer),

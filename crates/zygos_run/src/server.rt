@@ -16,7 +16,6 @@ const HOLD_LIMIT: u64 = 64;
 pub(crate) struct Server {
     alloc: Global,
     framer: Framer,
-    frames: Frames,
     store: Store,
     entries: Entries,
     output: Blob,
@@ -36,7 +35,6 @@ impl Server {
         Ok(Server {
             alloc,
             framer: Framer::new(alloc),
-            frames: Frames::new(alloc),
             store: Store::new(alloc)?,
             entries: Entries::new(alloc),
             output: Blob::new(alloc),
@@ -47,7 +45,8 @@ impl Server {
 
     // Takes the next bytes of the stream, and carries out the commands that they complete.
     pub(crate) fn take<G: Gate>(&mut self, bytes: &[u8], gate: &G) -> Result<(), Stop> {
-        if self.framer.feed(bytes, &mut self.frames).is_err() {
+        let mut frames = Frames::new(self.alloc);
+        if self.framer.feed(bytes, &mut frames).is_err() {
             return Err(Stop::NoMemory);
         }
         if self.framer.is_quit() {
@@ -56,7 +55,7 @@ impl Server {
         if let Some(last) = bytes.last() {
             self.is_at_line_end = *last == b'\n';
         }
-        while let Some(frame) = self.frames.pop() {
+        while let Some(frame) = frames.pop() {
             self.carry_out(frame, gate)?;
         }
         Ok(())

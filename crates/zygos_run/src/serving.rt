@@ -10,7 +10,7 @@ ghost use Rattle.zygos_run.specs.Ends.{HasCause, LeavesSink, Said, WroteReplies,
 use crate::answer::{Answer, Refusal};
 use crate::reading::run_capture;
 use crate::saying::say;
-use crate::stop::Stop;
+use crate::stop::{ReadStop, Stop};
 use crate::words::is_lawful;
 use std::alloc::Global;
 use std::sync::Wait;
@@ -66,9 +66,9 @@ fn carry_out<S: Source, K: Sink, G: Gate>(
         return Answer::Usage;
     }
     match run_capture(alloc, source, gate) {
-        Err(Stop::Unbuilt) => Answer::Refused(Refusal::Unbuilt),
-        Err(Stop::Failed) => Answer::ReadFault,
-        Err(Stop::NoMemory) => Answer::OutOfMemory,
+        Err(ReadStop::Failed) => Answer::ReadFault,
+        Err(ReadStop::Stopped(Stop::Unbuilt)) => Answer::Refused(Refusal::Unbuilt),
+        Err(ReadStop::Stopped(Stop::NoMemory)) => Answer::OutOfMemory,
         Ok(run) => match write_all(sink, &run.outputs) {
             Ok(()) => Answer::Served(run.journal),
             Err(_) => Answer::WriteFault,

@@ -1,12 +1,19 @@
 //! Why a run stops before its end.
 
-// Why nothing is served.
+// Why an input isn't served.
 #[derive(Clone, Copy, Debug, PartialEq, Eq)]
 pub(crate) enum Stop {
-    // The input isn't one that is served.
+    // It isn't one that is served.
     Unbuilt,
-    // A read failed.
-    Failed,
     // Memory was wanted and not found.
     NoMemory,
+}
+
+// Why nothing is served.
+#[derive(Clone, Copy, Debug, PartialEq, Eq)]
+pub(crate) enum ReadStop {
+    // A read failed.
+    Failed,
+    // The input isn't served.
+    Stopped(Stop),
 }

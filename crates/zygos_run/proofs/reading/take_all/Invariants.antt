@@ -1,5 +1,5 @@
 use Rattle.std.proofs.Common.{◌≤◌, ◌<◌, length}
-use Rattle.zygos_run.proofs.reading.run_capture.Given as goal
+use Rattle.zygos_run.proofs.reading.take_all.Given as goal
 
 -- no read so far lowered the count of faults
 abbrev pub invariant-loop : goal.invariant-loop
