@@ -12,6 +12,8 @@ mod serving;
 mod standard;
 mod stop;
 mod store;
+#[cfg(test)]
+mod tests;
 mod words;
 
 pub use answer::{Answer, Journal, Refusal, status};
