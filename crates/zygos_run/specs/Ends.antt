@@ -1,5 +1,5 @@
 -- How the top call ends, by its answer: the causes of each answer, and what it leaves of source and sink.
-use Rattle.std.specs.Prelude.{◌≡◌, ◌⊎◌, ℕ, false, true, List, Option, Result, Ok, Err, ⊤}
+use Rattle.std.specs.Prelude.{◌≡◌, ◌⊎◌, ℕ, ◌≤◌, false, true, List, length, Option, Result, Ok, Err, ⊤}
 use Rattle.std.specs.Io.KnownBytes.{IsAtEnd}
 use Rattle.zy_base.specs.Outside.{Rose, Grew, GrewByPrefix}
 use Rattle.zygos_run.specs.declared.answer.Answer.{Answer}
@@ -16,13 +16,17 @@ ReadEnds rest faults old new (Ok run) = IsAtEnd (rest new)
 ReadEnds rest faults old new (Err Failed) = Rose (faults old) (faults new)
 ReadEnds rest faults old new (Err (Stopped stop)) = ⊤
 
--- the sink grew by a replies file
-abbrev pub WroteReplies : Option (List ℕ) → Option (List ℕ) → Type 0
-WroteReplies before after = (outputs : AllOutputs) × Grew before after (replies_bytes outputs)
+-- the outputs are those of a capture of version 1 with at most one connection
+abbrev pub AreServed : AllOutputs → Type 0
+AreServed outputs = (outputs.version ≡ 1) × (length outputs.sessions ≤ 1)
 
--- the sink grew by a prefix of a replies file
+-- the sink grew by the replies file of such outputs
+abbrev pub WroteReplies : Option (List ℕ) → Option (List ℕ) → Type 0
+WroteReplies before after = (outputs : AllOutputs) × AreServed outputs × Grew before after (replies_bytes outputs)
+
+-- the sink grew by a prefix of it
 abbrev pub WrotePart : Option (List ℕ) → Option (List ℕ) → Type 0
-WrotePart before after = (outputs : AllOutputs) × GrewByPrefix before after (replies_bytes outputs)
+WrotePart before after = (outputs : AllOutputs) × AreServed outputs × GrewByPrefix before after (replies_bytes outputs)
 
 -- each answer has its cause, and leaves source and sink as it says
 abbrev pub HasCause : {S K : Type 0} → (S → Option (List ℕ)) → (S → ℕ) → (K → Option (List ℕ)) → (K → ℕ) → List (List ℕ) → S → S → K → K → Answer → Type 0

@@ -1,4 +1,7 @@
 //! Taking in a capture of at most one connection.
+ghost use Rattle.std.specs.Prelude.{IfOk};
+ghost use Rattle.zygos_run.specs.Ends.{AreServed};
+
 use crate::answer::Journal;
 use crate::server::Server;
 use crate::stop::Stop;
@@ -61,7 +64,9 @@ impl Intake {
     }
 
     // What was served, where the capture is whole.
-    pub(crate) fn finish(self) -> Result<Run, Stop> {
+    pub(crate) fn finish(self) -> Result<Run, Stop>
+        ensures { IfOk result (λ run. AreServed run.outputs) }
+    {
         if !self.reader.is_done() || !self.is_served() {
             return Err(Stop::Unbuilt);
         }

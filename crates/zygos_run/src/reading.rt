@@ -1,6 +1,6 @@
 //! Reading the capture.
 ghost use Rattle.std.specs.Prelude.{◌≡◌, ◌≢◌, ◌≤◌, length, IfOk, IfErr};
-ghost use Rattle.zygos_run.specs.Ends.{ReadEnds};
+ghost use Rattle.zygos_run.specs.Ends.{AreServed, ReadEnds};
 
 use crate::intake::{Intake, Run};
 use crate::stop::{ReadStop, Stop};
@@ -18,6 +18,7 @@ pub(crate) fn run_capture<S: Source, G: Gate>(
 ) -> Result<Run, ReadStop>
     ensures count { S.faults source.old ≤ S.faults source.new }
     ensures ends { ReadEnds S.rest S.faults source.old source.new result }
+    ensures served { IfOk result (λ run. AreServed run.outputs) }
 {
     let mut intake = match Intake::new(alloc) {
         Ok(intake) => intake,
@@ -30,7 +31,8 @@ pub(crate) fn run_capture<S: Source, G: Gate>(
 }
 
 fn finished(intake: Intake) -> Result<Run, ReadStop>
-    ensures { IfErr result (λ stop. stop ≢ ReadStop.Failed) }
+    ensures served { IfOk result (λ run. AreServed run.outputs) }
+    ensures stopped { IfErr result (λ stop. stop ≢ ReadStop.Failed) }
 {
     match intake.finish() {
         Ok(run) => Ok(run),
