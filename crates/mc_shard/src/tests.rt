@@ -346,7 +346,7 @@ fn mixed_calls_answer_as_on_the_plain_shard(rt: HostRuntime) -> Result<(), Fail>
     let mut plain = PlainShard::new(rt.alloc(), 3, 16);
     let mut draws = Draws { state: 2024 };
     let mut unique = 19;
-    for turn in 0..600 {
+    for turn in 0..600u64 {
         let ask = drawn(&mut draws, unique);
         let call = call_of(rt.alloc(), ask)?;
         let answer = plain_answer(&mut plain, &call)?;
