@@ -104,7 +104,7 @@ IsSound-applied number shards last last' count count' unique entries entries' es
 
 -- ---- the counter
 
-count-state_with : (shards number : ℕ) (state : State) (effect : table.Effect) → (state_with shards number state effect).count ≤ state.count + 1
+pub count-state_with : (shards number : ℕ) (state : State) (effect : table.Effect) → (state_with shards number state effect).count ≤ state.count + 1
 count-state_with shards number state keeps = omega arith
 count-state_with shards number state (stores key flags value) = omega arith
 count-state_with shards number state (removes key) = omega arith

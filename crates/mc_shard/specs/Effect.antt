@@ -1,8 +1,10 @@
--- The outcomes that the code computes, as those of the table of calls, and what they do to items and counter.
-use Rattle.std.specs.Prelude.{◌≡◌, ℕ, ◌+◌, Result, IfOk}
+-- The outcomes that the code computes, as those of the table of calls, and what they do.
+use Rattle.std.specs.Prelude.{◌≡◌, ℕ, ◌+◌, List, Result, IfOk}
 use Rattle.std.specs.FinMap.{empty, insert, remove}
 use Rattle.zy_base.specs.Shard as table
 use Rattle.zy_base.specs.Shard.{Items, keeps, stores, removes, empties}
+use Rattle.zy_base.specs.declared.item.Item.{Item}
+use Rattle.mc_shard.specs.Shard.{items_in}
 use Rattle.mc_shard.specs.declared.effect.Effect.{Effect}
 use Rattle.mc_shard.specs.declared.effect.Effect.TheVariants.{Keeps, Stores, Removes, Empties}
 use Rattle.mc_shard.specs.declared.effect.Outcome.{Outcome}
@@ -25,7 +27,8 @@ Gives result outcome = IfOk result (λ o. outcome_in o ≡ outcome)
 -- the items after an effect, where an item that is stored gets this unique
 abbrev pub items_with : ℕ → Items → table.Effect → Items
 items_with unique items keeps = items
-items_with unique items (stores key flags value) = insert items key (record { flags = flags; value = value; unique = unique })
+items_with unique items (stores key flags value) =
+    insert items key (record { flags = flags; value = value; unique = unique })
 items_with unique items (removes key) = remove items key
 items_with unique items empties = empty
 
@@ -35,3 +38,11 @@ count_with count keeps = count
 count_with count (stores key flags value) = count + 1
 count_with count (removes key) = count
 count_with count empties = count
+
+-- the new entries have what an effect makes of the old ones, where an item that is stored gets this unique
+abbrev pub IsCarriedOut : ℕ → Effect → List (List ℕ × Item) → List (List ℕ × Item) → Type 0
+IsCarriedOut unique effect old new = items_in new ≡ items_with unique (items_in old) (effect_in effect)
+
+-- the new entries have the item at the key, and else what the old ones have
+abbrev pub IsPut : List ℕ → Item → List (List ℕ × Item) → List (List ℕ × Item) → Type 0
+IsPut key item old new = items_in new ≡ insert (items_in old) key item

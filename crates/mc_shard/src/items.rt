@@ -1,10 +1,10 @@
 //! The items of a shard, and what an effect makes of them.
 ghost use Rattle.std.specs.Prelude.{◌≡◌, ◌^◌, ◌<◌, OnOk, OnErr, option_copied};
 ghost use Rattle.zy_base.specs.Call.{key_of};
-ghost use Rattle.std.specs.FinMap.{insert, remove, empty};
+ghost use Rattle.std.specs.FinMap.{remove, empty};
 ghost use Rattle.zy_base.specs.Shard.{item_at};
 ghost use Rattle.mc_shard.specs.Shard.{items_in};
-ghost use Rattle.mc_shard.specs.Effect.{effect_in, items_with, count_with};
+ghost use Rattle.mc_shard.specs.Effect.{effect_in, count_with, IsCarriedOut, IsPut};
 
 use crate::effect::Effect;
 use std::collections::BTreeMap;
@@ -26,7 +26,7 @@ pub fn carry_out(
     unique: u64,
     effect: Effect,
 ) -> Result<(), NoMemory>
-    ensures ok { OnOk result (items_in items.new.entries ≡ items_with unique (items_in items.old.entries) (effect_in effect)) }
+    ensures ok { OnOk result (IsCarriedOut unique effect items.old.entries items.new.entries) }
     ensures err { OnErr result (items.new.entries ≡ items.old.entries) }
 {
     match effect {
@@ -53,7 +53,7 @@ pub fn carry_out(
 
 // Puts the item at the key.
 fn store(items: &mut BTreeMap<Blob, Item>, key: Blob, item: Item) -> Result<(), NoMemory>
-    ensures ok { OnOk result (items_in items.new.entries ≡ insert (items_in items.old.entries) key item) }
+    ensures ok { OnOk result (IsPut key item items.old.entries items.new.entries) }
     ensures err { OnErr result (items.new.entries ≡ items.old.entries) }
 {
     match items.insert(key, item) {

@@ -24,8 +24,8 @@ pub fn a_flush_empties_and_keeps_the_counter()
     ensures count { FlushKeepsCount }
 {}
 
-/// Where no call is a cas, what the calls on a key and the flushes answer, uniques aside, depends on
-/// these calls alone.
+/// Where no call is a cas, what the calls on a key and the flushes answer, uniques aside, depends
+/// on these calls alone.
 pub fn a_key_depends_on_its_own_calls()
     ensures alone { KeyStandsAlone }
 {}

@@ -6,6 +6,8 @@ mod items;
 mod laws;
 mod outcome;
 mod shard;
+#[cfg(test)]
+mod tests;
 
 pub use laws::{
     a_flush_empties_and_keeps_the_counter, a_key_depends_on_its_own_calls,

@@ -67,7 +67,8 @@ impl Shard {
     }
 
     /// Makes a call, with a stamp above all that the caller has seen, and answers its entry, which
-    /// is appended to the history. All memory is taken first: after a refusal the shard is as it was.
+    /// is appended to the history. All memory is taken first: after a refusal the shard is as it
+    /// was.
     pub fn apply(&mut self, tag: Tag, call: Call, seen: u64) -> Result<Entry, NoMemory>
         requires last { last_of self.old < 2 ^ 60 }
         requires seen { seen < 2 ^ 60 }
