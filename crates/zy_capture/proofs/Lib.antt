@@ -5,3 +5,5 @@ pub mod SpelledLemmas
 pub mod StreamLemmas
 pub mod NumberedLemmas
 pub mod RepliesFeeding
+pub mod ByteLemmas
+pub mod RepliesWholeLemmas
