@@ -7,3 +7,4 @@ pub mod NumberedLemmas
 pub mod RepliesFeeding
 pub mod ByteLemmas
 pub mod RepliesWholeLemmas
+pub mod RepliesSpelledLemmas
