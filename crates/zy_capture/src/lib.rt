@@ -5,6 +5,8 @@ mod capture_fault;
 mod due;
 mod laws;
 mod outputs;
+#[cfg(test)]
+mod plain;
 mod reader;
 mod record;
 mod replies_due;
@@ -12,6 +14,8 @@ mod replies_reader;
 mod session_bytes;
 mod sessions;
 mod streams;
+#[cfg(test)]
+mod tests;
 mod writing;
 
 pub use capture_fault::{CaptureFault, FeedFault};

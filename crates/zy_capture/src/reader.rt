@@ -158,6 +158,15 @@ impl Reader {
         }
     }
 
+    // The place is further on, as though more bytes had been read before.
+    #[cfg(test)]
+    pub(crate) fn at_place(mut self, at: u64) -> Reader {
+        if self.at <= at && !matches!(self.due, Due::Letters) {
+            self.at = at;
+        }
+        self
+    }
+
     // The capture has its most bytes, and its end was not read.
     fn is_full(&self) -> bool
         ensures value { result ≡ is_full self.now }

@@ -146,6 +146,15 @@ impl RepliesReader {
         }
     }
 
+    // The place is further on, as though more bytes had been read before.
+    #[cfg(test)]
+    pub(crate) fn at_place(mut self, at: u64) -> RepliesReader {
+        if self.at <= at && !matches!(self.due, RepliesDue::Letters) {
+            self.at = at;
+        }
+        self
+    }
+
     // The file has its most bytes, and its end was not read.
     fn is_full(&self) -> bool
         ensures value { result ≡ is_full self.now }
