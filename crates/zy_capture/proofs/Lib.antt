@@ -5,3 +5,6 @@ pub mod SpelledLemmas
 pub mod StreamLemmas
 pub mod NumberedLemmas
 pub mod RepliesFeeding
+pub mod ByteLemmas
+pub mod RepliesWholeLemmas
+pub mod RepliesSpelledLemmas

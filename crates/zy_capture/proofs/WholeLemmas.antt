@@ -1,6 +1,6 @@
 -- A text without a fault is the bytes that spell what was read of it.
-use Rattle.std.proofs.Common.{◌≡◌, ◌⊎◌, inl, inr, ℕ, ◌+◌, ◌<◌, ◌≤◌, Bool, true, false, suc, zero, List, [], ◌∷◌, ◌++◌, length, take, get_or, refl, sym, ◌∙◌, ap, subst, arith, append_assoc, length-append}
-use Rattle.std.specs.Prelude.{◌==◌, ◌&&◌, nat_lt, nat_le, if◌then◌else◌, option_to_list, flat_map, ⊤}
+use Rattle.std.proofs.Common.{◌≡◌, ◌⊎◌, inl, inr, ℕ, ◌+◌, ◌<◌, ◌≤◌, true, false, List, [], ◌∷◌, ◌++◌, length, take, refl, sym, ◌∙◌, ap, subst, arith, append_assoc, length-append}
+use Rattle.std.specs.Prelude.{◌==◌, ◌&&◌, nat_lt, nat_le, option_to_list, flat_map, ⊤}
 use Rattle.std.specs.List.{AllByRecursion, slice_index}
 use Rattle.std.specs.Int.{to_be_bytes, from_be_bytes, w32}
 use Rattle.std.proofs.lemmas.List.{append-nil}
@@ -15,17 +15,7 @@ use Rattle.zy_capture.specs.declared.due.Due.TheVariants.{Letters, Digit, LineFe
 use Rattle.zy_capture.specs.Capture.{AreBytes, letters, magic, spelled, spelling, IsRecordOf, IsCapture, Spells, capture_limit, connection_limit, segment_limit}
 use Rattle.zy_capture.specs.Verdict.{Progress, Step, Reading, start, goes, keeps, grows, letter, digit, line_feed, tag, number, segment, taken, is_open, is_full, step, read_from, reading, ended, verdict}
 use Rattle.zy_capture.specs.Verdict.Verdict.{Good}
-
--- ---- bytes
-
-bytes_on : (bytes : List ℕ) (byte : ℕ) → AreBytes bytes → byte < 256 → AreBytes (bytes ++ byte ∷ [])
-bytes_on [] byte all small = (small, tt)
-bytes_on (x ∷ bytes) byte all small = (all.0, bytes_on bytes byte all.1 small)
-
-byte_at : (bytes : List ℕ) → AreBytes bytes → (i : ℕ) → get_or bytes i 0 < 256
-byte_at [] all i = omega arith
-byte_at (x ∷ bytes) all zero = all.0
-byte_at (x ∷ bytes) all (suc i) = byte_at bytes all.1 i
+use Rattle.zy_capture.proofs.ByteLemmas.{bytes_on, byte_at, both_true, positive, chosen, counted, assoc_twice, on_part}
 
 -- ---- what was read
 
@@ -82,27 +72,11 @@ abbrev pub IsReadTo : Due → Progress → List Record → List ℕ → Type 0
 IsReadTo (Broken fault) p given text = ⊤
 IsReadTo due p given text = Parts due p given text
 
--- ---- tests
-
-both_true : (a b c d : ℕ) → (a == b && c == d) ≡ true → (a ≡ b) × (c ≡ d)
-both_true a b c d is = grind (arith, nat_tests)
-
-positive : (n : ℕ) → (n == 0) ≡ false → 0 < n
-positive n is = grind (arith, nat_tests)
-
 -- ---- one byte
 
 -- where a byte leads from there
 abbrev Leads : List Record → List ℕ → ℕ → Step → Type 0
 Leads given text byte s = IsReadTo s.next.due s.next (given ++ option_to_list s.gave) (text ++ byte ∷ [])
-
--- a fact of either way that a test goes
-chosen : (P : Step → Type 0) (test : Bool) (x y : Step) → (test ≡ true → P x) → (test ≡ false → P y) → P (if test then x else y)
-chosen P test x y first second =
-    elim test as (λ (t : Bool). (t ≡ true → P x) → (t ≡ false → P y) → P (if t then x else y)) [ true ↦ λ one two. one refl | false ↦ λ one two. two refl ] first second
-
-counted : (text : List ℕ) (at byte : ℕ) → at ≡ length text → at + 1 ≡ length (text ++ byte ∷ [])
-counted text at byte is = omega (arith, length-append text (byte ∷ []), is)
 
 -- no record more
 stays : (due : Due) (p : Progress) (given : List Record) (text : List ℕ) → IsReadTo due p given text → IsReadTo due p (given ++ []) text
@@ -110,9 +84,6 @@ stays due p given text read = subst (λ (l : List Record). IsReadTo due p l text
 
 letters_on : (at byte : ℕ) → at < 6 → byte ≡ slice_index letters at → take at letters ++ byte ∷ [] ≡ take (at + 1) letters
 letters_on at byte within is = grind (arith, common_steps)
-
-pub assoc_twice : (x y z s : List ℕ) → (x ++ (y ++ z)) ++ s ≡ x ++ (y ++ (z ++ s))
-assoc_twice x y z s = append_assoc x (y ++ z) s ∙ ap (λ (l : List ℕ). x ++ l) (append_assoc y z s)
 
 -- one record more
 front_on : (p : Progress) (given : List Record) (item : Record) → front p given ++ spelled item ≡ front p (given ++ item ∷ [])
@@ -126,10 +97,6 @@ all_on version count (first ∷ given) item all one = (all.0, all_on version cou
 
 capture_on : (version count : ℕ) (given : List Record) (item : Record) → IsCapture version count given → IsRecordOf version count item → IsCapture version count (given ++ item ∷ [])
 capture_on version count given item valid one = record { known = valid.known; few = valid.few; lawful = all_on version count given item valid.lawful one }
-
--- a byte after text that ends in the bytes of a part
-on_part : (text x y : List ℕ) (byte : ℕ) → text ≡ x ++ y → text ++ byte ∷ [] ≡ x ++ (y ++ byte ∷ [])
-on_part text x y byte is = ap (λ (l : List ℕ). l ++ byte ∷ []) is ∙ append_assoc x y (byte ∷ [])
 
 field_on : (field : List ℕ) (byte : ℕ) → IsField field → byte < 256 → length field < 3 → IsField (field ++ byte ∷ [])
 field_on field byte is small short = (omega (arith, length-append field (byte ∷ [])), bytes_on field byte is.1 small)

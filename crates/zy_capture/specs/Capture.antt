@@ -31,7 +31,7 @@ magic version = letters ++ (48 + version) ∷ 10 ∷ []
 
 -- a record: its tag, its connection and, of a segment, its length and its bytes
 abbrev pub spelled : Record → List ℕ
-spelled (Kinds.Segment s) = 83 ∷ (to_be_bytes w32 s.conn ++ to_be_bytes w32 (length s.bytes) ++ s.bytes)
+spelled (Kinds.Segment s) = 83 ∷ (to_be_bytes w32 s.conn ++ (to_be_bytes w32 (length s.bytes) ++ s.bytes))
 spelled (Kinds.Close conn) = 67 ∷ to_be_bytes w32 conn
 
 -- a capture: its magic, its connection count, its records and the end

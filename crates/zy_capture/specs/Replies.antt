@@ -22,7 +22,7 @@ session_text version session = if version == 2 then to_be_bytes w32 session else
 -- a record: its tag, its connection, its session, the length of the output, and the output
 abbrev pub output_text : ℕ → ℕ → ℕ → List ℕ → List ℕ
 output_text version conn session bytes =
-    82 ∷ (to_be_bytes w32 conn ++ session_text version session ++ to_be_bytes w64 (length bytes) ++ bytes)
+    82 ∷ (to_be_bytes w32 conn ++ (session_text version session ++ (to_be_bytes w64 (length bytes) ++ bytes)))
 
 -- ---- the text of all outputs
 
@@ -55,21 +55,22 @@ spelling version items = magic version ++ flat_map (spelled version) items ++ 69
 abbrev pub replies_limit : ℕ
 replies_limit = 2 ^ 63 - 1
 
--- the session after the last one of so many connections, of which the last has so many sessions: the first one of the
--- next connection or, in version 2, the next one of the last connection
-abbrev pub IsNext : ℕ → ℕ → ℕ → SessionBytes → Type 0
-IsNext version connections sessions item =
-    ((item.conn ≡ connections) × (item.session ≡ 0)) ⊎ ((version ≡ 2) × (item.conn + 1 ≡ connections) × (item.session ≡ sessions))
+-- this session comes after so many connections, of which the last has so many sessions: it is the first one of the next
+-- connection or, in version 2, the next one of the last connection
+abbrev pub IsNext : ℕ → ℕ → ℕ → ℕ → ℕ → Type 0
+IsNext version connections sessions conn session =
+    ((conn ≡ connections) × (session ≡ 0)) ⊎ ((version ≡ 2) × (conn + 1 ≡ connections) × (session ≡ sessions))
 
--- the numbers are within their bounds
-abbrev pub IsWithinBounds : SessionBytes → Type 0
-IsWithinBounds item = (item.conn < connection_limit) × (item.session < 2 ^ 31)
+-- a connection and a session are within their bounds
+abbrev pub AreNumbers : ℕ → ℕ → Type 0
+AreNumbers conn session = (conn < connection_limit) × (session < 2 ^ 31)
 
--- each session is the next one after those before it
+-- each session comes after those before it
 abbrev pub AreInOrder : ℕ → ℕ → ℕ → List SessionBytes → Type 0
 AreInOrder version connections sessions [] = ⊤
 AreInOrder version connections sessions (item ∷ items) =
-    IsNext version connections sessions item × IsWithinBounds item × AreInOrder version (item.conn + 1) (item.session + 1) items
+    IsNext version connections sessions item.conn item.session × AreNumbers item.conn item.session
+    × AreInOrder version (item.conn + 1) (item.session + 1) items
 
 -- the version and the outputs are those of a replies file
 pub record IsRepliesFile (version : ℕ) (items : List SessionBytes) : Type 0 where

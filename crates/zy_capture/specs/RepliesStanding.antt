@@ -1,5 +1,5 @@
 -- Which bytes brought a reader of replies files to where it is, and what it gave for them.
-use Rattle.std.specs.Prelude.{◌≡◌, ℕ, ◌^◌, ◌<◌, List, [], length, Option, None, Some, option_to_list, Result, Ok, Err, ⊤}
+use Rattle.std.specs.Prelude.{◌≡◌, ℕ, ◌<◌, List, [], length, Option, None, Some, option_to_list, Result, Ok, Err, ⊤}
 use Rattle.zy_base.specs.declared.file_fault.FileFault.{FileFault}
 use Rattle.zy_base.specs.declared.file_fault.FileFeed.{FileFeed}
 use Rattle.zy_base.specs.declared.file_fault.FileFeed.TheVariants.{Fault, NoMemory}
@@ -7,6 +7,7 @@ use Rattle.zy_capture.specs.declared.session_bytes.SessionBytes.{SessionBytes}
 use Rattle.zy_capture.specs.declared.replies_due.RepliesDue.{RepliesDue}
 use Rattle.zy_capture.specs.declared.replies_due.RepliesDue.TheVariants.{Letters, Connection, Session, Length, Output, Broken}
 use Rattle.zy_capture.specs.Capture.{connection_limit}
+use Rattle.zy_capture.specs.Replies.{AreNumbers}
 use Rattle.zy_capture.specs.RepliesVerdict.{Progress, Step, Verdict, reading, fault_in}
 use Rattle.zy_capture.specs.RepliesVerdict.Verdict.{Good, Bad}
 
@@ -39,10 +40,6 @@ abbrev pub Follows : Step → Progress → Progress → Result (Option SessionBy
 Follows step old new (Ok gave) = (new ≡ step.next) × (gave ≡ step.gave) × (fault_in new.due ≡ None)
 Follows step old new (Err (Fault fault)) = (new ≡ step.next) × (step.gave ≡ None) × (new.due ≡ Broken fault)
 Follows step old new (Err NoMemory) = (new ≡ old) × IsInOutput old
-
--- a connection and a session are within their bounds
-abbrev pub AreNumbers : ℕ → ℕ → Type 0
-AreNumbers conn session = (conn < connection_limit) × (session < 2 ^ 31)
 
 -- what is due is within its bounds: the place of a letter, the bytes of a number, the numbers, and the bytes of an output
 abbrev pub IsWithin : RepliesDue → ℕ → ℕ → List ℕ → Type 0

@@ -7,6 +7,11 @@ ghost use Rattle.zy_capture.specs.Capture.{AreBytes, Spells};
 ghost use Rattle.zy_capture.specs.Verdict.{Progress, verdict, fault_of};
 ghost use Rattle.zy_capture.specs.Verdict.Verdict.{Good, Bad};
 ghost use Rattle.zy_capture.specs.Standing.{StandsFor};
+ghost use Rattle.zy_base.specs.declared.file_fault.FileFault.{FileFault};
+ghost use Rattle.zy_capture.specs.declared.session_bytes.SessionBytes.{SessionBytes};
+ghost use Rattle.zy_capture.specs.Replies.{SpellsReplies};
+ghost use Rattle.zy_capture.specs.RepliesVerdict as Replies;
+ghost use Rattle.zy_capture.specs.RepliesStanding.{StandsForReplies};
 ghost use Rattle.zy_capture.specs.Streams.{closes, stream, sessions_of, no_bytes, with_records};
 
 /// A text is good, with a version, a count and records, exactly where it is their spelling, they are those of a
@@ -35,4 +40,25 @@ pub fn each_session_holds_its_stream()
         → length (sessions_of (with_records (no_bytes count) items) conn) ≡ closes conn items + 1 }
     ensures bytes { (count conn session : ℕ) (items : List Record) → conn < count
         → slice_index_or (sessions_of (with_records (no_bytes count) items) conn) session [] ≡ stream conn session items }
+{}
+
+/// A text is a good replies file, with a version and outputs, exactly where it is their spelling, they are those of a
+/// replies file, and it has at most 2^63 - 1 bytes.
+pub fn a_replies_file_is_good_exactly_where_it_is_a_spelling()
+    ensures exactly { (text : List ℕ) (version : ℕ) (items : List SessionBytes) → AreBytes text
+        → Replies.verdict text ≡ Replies.Verdict.Good version items ↔ SpellsReplies text version items }
+{}
+
+/// Two readers of replies files to which the same bytes were fed gave the same outputs, and are in the same state.
+pub fn what_is_given_of_replies_depends_on_the_bytes_alone()
+    ensures given { (p q : Replies.Progress) (given others : List SessionBytes) (b : List ℕ)
+        → StandsForReplies p given b → StandsForReplies q others b → given ≡ others }
+    ensures state { (p q : Replies.Progress) (given others : List SessionBytes) (b : List ℕ)
+        → StandsForReplies p given b → StandsForReplies q others b → p ≡ q }
+{}
+
+/// The fault that was met in a replies file is the verdict on every longer one: the first fault counts.
+pub fn the_first_fault_of_a_replies_file_counts()
+    ensures lasts { (text more : List ℕ) (fault : FileFault) → Replies.fault_of text ≡ Some fault
+        → Replies.verdict (text ++ more) ≡ Replies.Verdict.Bad fault }
 {}

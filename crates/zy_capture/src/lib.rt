@@ -5,6 +5,8 @@ mod capture_fault;
 mod due;
 mod laws;
 mod outputs;
+#[cfg(test)]
+mod plain;
 mod reader;
 mod record;
 mod replies_due;
@@ -12,12 +14,16 @@ mod replies_reader;
 mod session_bytes;
 mod sessions;
 mod streams;
+#[cfg(test)]
+mod tests;
 mod writing;
 
 pub use capture_fault::{CaptureFault, FeedFault};
 pub use laws::{
-    a_capture_is_good_exactly_where_it_is_a_spelling, each_session_holds_its_stream,
-    the_first_fault_of_a_capture_counts, what_is_given_depends_on_the_bytes_alone,
+    a_capture_is_good_exactly_where_it_is_a_spelling,
+    a_replies_file_is_good_exactly_where_it_is_a_spelling, each_session_holds_its_stream,
+    the_first_fault_of_a_capture_counts, the_first_fault_of_a_replies_file_counts,
+    what_is_given_depends_on_the_bytes_alone, what_is_given_of_replies_depends_on_the_bytes_alone,
 };
 pub use outputs::Outputs;
 pub use reader::Reader;

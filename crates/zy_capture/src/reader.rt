@@ -158,6 +158,15 @@ impl Reader {
         }
     }
 
+    // The place is further on, as though more bytes had been read before.
+    #[cfg(test)]
+    pub(crate) fn at_place(mut self, at: u64) -> Reader {
+        if self.at <= at && !matches!(self.due, Due::Letters) {
+            self.at = at;
+        }
+        self
+    }
+
     // The capture has its most bytes, and its end was not read.
     fn is_full(&self) -> bool
         ensures value { result ≡ is_full self.now }
@@ -310,14 +319,14 @@ impl Reader {
             self.keep(byte);
             return Ok(None);
         }
-        let number = self.number(byte);
-        if number >= self.count {
+        let conn = self.number(byte);
+        if conn >= self.count {
             return self.refuse(CaptureFault::ConnRange {
                 at: self.at - 3,
-                number,
+                number: conn,
             });
         }
-        self.go_on(Due::Length { conn: number });
+        self.go_on(Due::Length { conn });
         Ok(None)
     }
 
@@ -352,23 +361,21 @@ impl Reader {
             self.keep(byte);
             return Ok(None);
         }
-        let number = self.number(byte);
-        if number > SEGMENT_LIMIT {
-            return self.refuse(CaptureFault::SegmentLength {
-                at: self.at - 3,
-                number,
-            });
+        let length = self.number(byte);
+        if length > SEGMENT_LIMIT {
+            let at = self.at - 3;
+            return self.refuse(CaptureFault::SegmentLength { at, number: length });
         }
-        if number == 0 {
+        if length == 0 {
             self.end_record();
             return Ok(Some(Record::Segment(Segment {
                 conn,
                 bytes: Blob::new(self.alloc),
             })));
         }
-        match Vec::with_capacity(self.alloc, number as usize) {
+        match Vec::with_capacity(self.alloc, length as usize) {
             Ok(bytes) => {
-                self.begin_segment(conn, number, bytes);
+                self.begin_segment(conn, length, bytes);
                 Ok(None)
             }
             Err(_) => Err(FeedFault::NoMemory),

@@ -3,10 +3,10 @@ ghost use Rattle.std.specs.Prelude.{◌≡◌, ℕ, ◌+◌, ◌<◌, ◌≤◌,
 ghost use Rattle.std.specs.Int.{from_be_bytes, w32, w64};
 ghost use Rattle.zy_base.specs.declared.file_fault.FileFault.{FileFault};
 ghost use Rattle.zy_capture.specs.Capture.{connection_limit};
-ghost use Rattle.zy_capture.specs.Replies.{replies_limit};
+ghost use Rattle.zy_capture.specs.Replies.{replies_limit, AreNumbers};
 ghost use Rattle.zy_capture.specs.RepliesVerdict.{goes, after_output, refuses, keeps, step, taken, is_full, may_come, due_session, verdict, fault_of, version_of, is_good};
 ghost use Rattle.zy_capture.specs.RepliesVerdict.Verdict.{Bad};
-ghost use Rattle.zy_capture.specs.RepliesStanding.{StandsForReplies, Follows, IsWithin, AreNumbers, IsNotMemory, IsInOutput, outputs_in, fault_told, EndsAs};
+ghost use Rattle.zy_capture.specs.RepliesStanding.{StandsForReplies, Follows, IsWithin, IsNotMemory, IsInOutput, outputs_in, fault_told, EndsAs};
 ghost use Rattle.zy_capture.specs.declared.replies_due.RepliesDue.TheVariants as Dues;
 ghost use Rattle.zy_capture.specs.declared.session_bytes.SessionBytes.{SessionBytes};
 
@@ -144,6 +144,15 @@ impl RepliesReader {
             RepliesDue::Broken(fault) => Err(fault),
             _ => Err(FileFault::Truncated { at: self.at }),
         }
+    }
+
+    // The place is further on, as though more bytes had been read before.
+    #[cfg(test)]
+    pub(crate) fn at_place(mut self, at: u64) -> RepliesReader {
+        if self.at <= at && !matches!(self.due, RepliesDue::Letters) {
+            self.at = at;
+        }
+        self
     }
 
     // The file has its most bytes, and its end was not read.
