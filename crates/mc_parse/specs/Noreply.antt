@@ -1,5 +1,5 @@
 -- Lines that may ask for no answer, and what the word noreply makes of them (docs/PROFILE.md, "noreply").
-use Rattle.std.specs.Prelude.{ℕ, Bool, true, false, not, List, ◌++◌, codes}
+use Rattle.std.specs.Prelude.{◌≡◌, ℕ, Bool, true, false, not, List, [], ◌∷◌, ◌++◌, codes}
 use Rattle.mc_parse.specs.declared.command.Command.{Command}
 use Rattle.mc_parse.specs.declared.command.Command.TheVariants.{Store, Cas, Get, Delete, Count, Version, Verbosity, Flush, Fault}
 use Rattle.mc_parse.specs.Words.{words}
@@ -40,6 +40,28 @@ silent (faulty line) = faulty line
 silent (gets keys unique) = gets keys unique
 silent tells_version = tells_version
 silent quits = quits
+
+-- what a line says is asked for without an answer
+abbrev pub is_quiet : Form → Bool
+is_quiet (stores verb key flags bytes quiet) = quiet
+is_quiet (exchanges key flags bytes unique quiet) = quiet
+is_quiet (deletes key quiet) = quiet
+is_quiet (counts key up amount quiet) = quiet
+is_quiet (sets_verbosity quiet) = quiet
+is_quiet (flushes quiet) = quiet
+is_quiet (faulty line) = false
+is_quiet (gets keys unique) = false
+is_quiet tells_version = false
+is_quiet quits = false
+
+-- words that end in noreply, and say quietly what those before it say
+pub record IsSilenced (form : List (List ℕ) → Form) (front all : List (List ℕ)) : Type 0 where
+  -- they are those before it, and noreply
+  pub ends : all ≡ front ++ codes "noreply" ∷ []
+  -- those before it say something that may be asked for without an answer
+  pub loud : is_loud (form front) ≡ true
+  -- with it they say the same, without an answer
+  pub says : form all ≡ silent (form front)
 
 -- ---- commands
 
