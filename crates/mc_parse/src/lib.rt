@@ -1,4 +1,4 @@
-//! From a command line, and its block, to the command it means, and from the command to its calls on the shards.
+//! From a line, with its block, to the command it means, and from the command to its calls.
 #![tactic(auto)]
 
 mod command;
