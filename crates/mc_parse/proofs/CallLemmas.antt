@@ -1,5 +1,5 @@
 -- What the calls of a command have in common.
-use Rattle.std.proofs.Common.{◌≡◌, ℕ, ◌+◌, ◌<◌, ◌≤◌, true, false, List, [], ◌∷◌, map, refl, ap, sym, subst, zero, suc, arith}
+use Rattle.std.proofs.Common.{◌≡◌, ℕ, ◌+◌, ◌<◌, ◌≤◌, true, false, List, [], ◌∷◌, ◌++◌, length, append_assoc, append-nil, ◌∙◌, map, refl, ap, sym, subst, zero, suc, arith}
 use Rattle.std.specs.Prelude.{All, Option, Some, IfSome}
 use Rattle.std.proofs.lemmas.List.Elements.{All-nil, All-cons}
 use Rattle.std.specs.List.{range_with_len}
@@ -11,7 +11,7 @@ use Rattle.mc_parse.specs.declared.verb.Verb.TheVariants.{Set, Add, Replace, App
 use Rattle.mc_parse.specs.declared.command.Command.{Command}
 use Rattle.mc_parse.specs.declared.command.Command.TheVariants.{Store, Cas, Get, Delete, Count, Version, Verbosity, Flush, Fault}
 use Rattle.mc_parse.specs.declared.shard_call.ShardCall.{ShardCall}
-use Rattle.mc_parse.specs.Calls.{calls_of, at_key, get_at, on_shard, IsAtKey}
+use Rattle.mc_parse.specs.Calls.{calls_of, Due, due, due_from, tagged, at_key, get_at, on_shard, IsAtKey}
 
 -- the keys of gets are the keys asked for
 pub keys_of-gets : (shards : ℕ) (keys : List (List ℕ)) → map (λ (c : ShardCall). key_of c.call) (map (get_at shards) keys) ≡ map Some keys
@@ -62,3 +62,25 @@ all_at_keys shards command = all_calls (IsAtKey shards) shards (at_its_key shard
 -- every call is on one of the shards
 pub all_within : (shards : ℕ) (command : Command) → 1 ≤ shards → All (λ (c : ShardCall). c.shard < shards) (calls_of shards command)
 all_within shards command some = all_calls (λ (c : ShardCall). c.shard < shards) shards (λ key call is. omega arith) (λ shard within. within) command
+
+-- ---- calls due
+
+due_from-more : (shards connection index : ℕ) (commands : List Command) (command : Command)
+    → due_from shards connection index (commands ++ command ∷ []) ≡ due_from shards connection index commands ++ tagged connection (index + length commands) 0 (calls_of shards command)
+due_from-more shards connection index [] command =
+    let at : index ≡ index + 0 = omega arith in
+    append-nil (tagged connection index 0 (calls_of shards command)) ∙ ap (λ (number : ℕ). tagged connection number 0 (calls_of shards command)) at
+due_from-more shards connection index (first ∷ commands) command =
+    let calls : List Due = tagged connection index 0 (calls_of shards first) in
+    let rest : List Due = due_from shards connection (index + 1) commands in
+    let at : index + 1 + length commands ≡ index + length (first ∷ commands) = omega arith in
+    ap (λ (more : List Due). calls ++ more) (due_from-more shards connection (index + 1) commands command)
+    ∙ sym (append_assoc calls rest (tagged connection (index + 1 + length commands) 0 (calls_of shards command)))
+    ∙ ap (λ (number : ℕ). (calls ++ rest) ++ tagged connection number 0 (calls_of shards command)) at
+
+-- one command more makes its calls due after those before it
+pub due-more : (shards connection : ℕ) (commands : List Command) (command : Command)
+    → due shards connection (commands ++ command ∷ []) ≡ due shards connection commands ++ tagged connection (length commands) 0 (calls_of shards command)
+due-more shards connection commands command =
+    let at : 0 + length commands ≡ length commands = omega arith in
+    due_from-more shards connection 0 commands command ∙ ap (λ (number : ℕ). due shards connection commands ++ tagged connection number 0 (calls_of shards command)) at

@@ -1,3 +1,4 @@
 pub mod WordLemmas
 pub mod CallLemmas
 pub mod NoreplyLemmas
+pub mod QuietLemmas

@@ -63,7 +63,7 @@ silences_tail make (word ∷ next ∷ last ∷ more) never same loud = cc
 
 -- ---- storage lines
 
-stored : Verb → List ℕ → Bool → Option Sizes → Bool → Form
+unfoldable pub stored : Verb → List ℕ → Bool → Option Sizes → Bool → Form
 stored verb key key_is sizes quiet = check key_is BadLine (find sizes BadLine (λ sizes. stores verb key sizes.flags sizes.bytes quiet))
 
 stored_never : (verb : Verb) (key : List ℕ) (key_is : Bool) (sizes : Option Sizes) → is_loud (stored verb key key_is sizes true) ≡ false
@@ -72,7 +72,7 @@ stored_never verb key false sizes = refl
 stored_never verb key true None = refl
 stored_never verb key true (Some sizes) = refl
 
-stored_same : (verb : Verb) (key : List ℕ) (key_is : Bool) (sizes : Option Sizes) → stored verb key key_is sizes true ≡ silent (stored verb key key_is sizes false)
+pub stored_same : (verb : Verb) (key : List ℕ) (key_is : Bool) (sizes : Option Sizes) → stored verb key key_is sizes true ≡ silent (stored verb key key_is sizes false)
 unfolding stored
 stored_same verb key false sizes = refl
 stored_same verb key true None = refl
@@ -89,7 +89,7 @@ silences_store verb (key ∷ flags ∷ exptime ∷ bytes ∷ rest) loud =
 
 -- ---- cas lines
 
-exchanged : List ℕ → Bool → Option Sizes → Option ℕ → Bool → Form
+unfoldable pub exchanged : List ℕ → Bool → Option Sizes → Option ℕ → Bool → Form
 exchanged key key_is sizes unique quiet =
     check key_is BadLine (find sizes BadLine (λ sizes. find unique BadLine (λ unique. exchanges key sizes.flags sizes.bytes unique quiet)))
 
@@ -100,7 +100,7 @@ exchanged_never key true None unique = refl
 exchanged_never key true (Some sizes) None = refl
 exchanged_never key true (Some sizes) (Some unique) = refl
 
-exchanged_same : (key : List ℕ) (key_is : Bool) (sizes : Option Sizes) (unique : Option ℕ)
+pub exchanged_same : (key : List ℕ) (key_is : Bool) (sizes : Option Sizes) (unique : Option ℕ)
     → exchanged key key_is sizes unique true ≡ silent (exchanged key key_is sizes unique false)
 unfolding exchanged
 exchanged_same key false sizes unique = refl
@@ -122,7 +122,7 @@ silences_cas (key ∷ flags ∷ exptime ∷ bytes ∷ unique ∷ rest) loud =
 
 -- ---- delete and flush_all lines
 
-deleted : List ℕ → Bool → Tail → Form
+unfoldable pub deleted : List ℕ → Bool → Tail → Form
 deleted key key_is end = check key_is BadLine (check end.lawful BadLine (deletes key end.quiet))
 
 deleted_never : (key : List ℕ) (key_is lawful : Bool) → is_loud (deleted key key_is (tail lawful true)) ≡ false
@@ -131,7 +131,7 @@ deleted_never key false lawful = refl
 deleted_never key true false = refl
 deleted_never key true true = refl
 
-deleted_same : (key : List ℕ) (key_is lawful : Bool) → deleted key key_is (tail lawful true) ≡ silent (deleted key key_is (tail lawful false))
+pub deleted_same : (key : List ℕ) (key_is lawful : Bool) → deleted key key_is (tail lawful true) ≡ silent (deleted key key_is (tail lawful false))
 unfolding deleted
 deleted_same key false lawful = refl
 deleted_same key true false = refl
@@ -142,7 +142,7 @@ unfolding deleted
 silences_delete [] loud = cc
 silences_delete (key ∷ rest) loud = silences_tail (deleted key (is_key key)) rest (deleted_never key (is_key key)) (deleted_same key (is_key key)) loud
 
-flushed : Tail → Form
+unfoldable pub flushed : Tail → Form
 flushed end = check end.lawful BadLine (flushes end.quiet)
 
 flushed_never : (lawful : Bool) → is_loud (flushed (tail lawful true)) ≡ false
@@ -150,7 +150,7 @@ unfolding flushed
 flushed_never false = refl
 flushed_never true = refl
 
-flushed_same : (lawful : Bool) → flushed (tail lawful true) ≡ silent (flushed (tail lawful false))
+pub flushed_same : (lawful : Bool) → flushed (tail lawful true) ≡ silent (flushed (tail lawful false))
 unfolding flushed
 flushed_same false = refl
 flushed_same true = refl
@@ -161,7 +161,7 @@ silences_flush rest loud = silences_tail flushed rest flushed_never flushed_same
 
 -- ---- incr and decr lines, and verbosity lines
 
-counted : List ℕ → Bool → Bool → Option ℕ → Bool → Form
+unfoldable pub counted : List ℕ → Bool → Bool → Option ℕ → Bool → Form
 counted key up key_is amount quiet = check key_is BadLine (find amount BadDelta (λ amount. counts key up amount quiet))
 
 counted_never : (key : List ℕ) (up key_is : Bool) (amount : Option ℕ) → is_loud (counted key up key_is amount true) ≡ false
@@ -170,7 +170,7 @@ counted_never key up false amount = refl
 counted_never key up true None = refl
 counted_never key up true (Some amount) = refl
 
-counted_same : (key : List ℕ) (up key_is : Bool) (amount : Option ℕ) → counted key up key_is amount true ≡ silent (counted key up key_is amount false)
+pub counted_same : (key : List ℕ) (up key_is : Bool) (amount : Option ℕ) → counted key up key_is amount true ≡ silent (counted key up key_is amount false)
 unfolding counted
 counted_same key up false amount = refl
 counted_same key up true None = refl
@@ -183,7 +183,7 @@ silences_count up (key ∷ []) loud = cc
 silences_count up (key ∷ amount ∷ rest) loud =
     silences_end (counted key up (is_key key) (number_of amount)) rest (counted_never key up (is_key key) (number_of amount)) (counted_same key up (is_key key) (number_of amount)) loud
 
-verbose : Option ℕ → Bool → Form
+unfoldable pub verbose : Option ℕ → Bool → Form
 verbose number quiet = find number BadLine (λ _. sets_verbosity quiet)
 
 verbose_never : (number : Option ℕ) → is_loud (verbose number true) ≡ false
@@ -191,7 +191,7 @@ unfolding verbose
 verbose_never None = refl
 verbose_never (Some number) = refl
 
-verbose_same : (number : Option ℕ) → verbose number true ≡ silent (verbose number false)
+pub verbose_same : (number : Option ℕ) → verbose number true ≡ silent (verbose number false)
 unfolding verbose
 verbose_same None = refl
 verbose_same (Some number) = refl

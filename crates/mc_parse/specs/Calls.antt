@@ -1,5 +1,5 @@
--- The calls of a command on the shards, and the calls due of a connection (docs/PROFILE.md, "Calls").
-use Rattle.std.specs.Prelude.{◌≡◌, ℕ, ◌+◌, Bool, true, false, List, [], ◌∷◌, ◌++◌, map, IfSome}
+-- The calls of a command, and the calls due of a connection (docs/PROFILE.md, "Calls").
+use Rattle.std.specs.Prelude.{◌≡◌, ℕ, ◌+◌, ◌<◌, length, Option, Bool, true, false, List, [], ◌∷◌, ◌++◌, map, IfSome}
 use Rattle.std.specs.List.{range_with_len}
 use Rattle.zy_base.specs.declared.call.Call.{Call}
 use Rattle.zy_base.specs.declared.call.Call.TheVariants.{Get as GetCall, Set as SetCall, Add as AddCall, Replace as ReplaceCall, Append as AppendCall, Prepend as PrependCall, Cas as CasCall, Incr, Decr, Delete as DeleteCall, Flush as FlushCall}
@@ -39,21 +39,39 @@ counted_by false key amount = Decr key amount
 abbrev pub get_at : ℕ → List ℕ → ShardCall
 get_at shards key = at_key shards key (GetCall key)
 
+-- the calls that get the items of keys
+abbrev pub get_calls : ℕ → List (List ℕ) → List ShardCall
+get_calls shards keys = map (get_at shards) keys
+
+-- the calls that remove all items, one on each shard
+abbrev pub flush_calls : ℕ → List ShardCall
+flush_calls shards = map (on_shard FlushCall) (range_with_len 0 shards)
+
 -- the calls of a command, in their order, on so many shards
 abbrev pub calls_of : ℕ → Command → List ShardCall
-calls_of shards (Store verb key flags value quiet) = at_key shards key (stored_by verb key flags value) ∷ []
-calls_of shards (Cas key flags unique value quiet) = at_key shards key (CasCall key flags unique value) ∷ []
-calls_of shards (Get keys unique) = map (get_at shards) keys
+calls_of shards (Store verb key flags value quiet) =
+    at_key shards key (stored_by verb key flags value) ∷ []
+calls_of shards (Cas key flags unique value quiet) =
+    at_key shards key (CasCall key flags unique value) ∷ []
+calls_of shards (Get keys unique) = get_calls shards keys
 calls_of shards (Delete key quiet) = at_key shards key (DeleteCall key) ∷ []
 calls_of shards (Count key up amount quiet) = at_key shards key (counted_by up key amount) ∷ []
 calls_of shards Version = []
 calls_of shards (Verbosity quiet) = []
-calls_of shards (Flush quiet) = map (on_shard FlushCall) (range_with_len 0 shards)
+calls_of shards (Flush quiet) = flush_calls shards
 calls_of shards (Fault line quiet) = []
 
 -- a call is on the shard of its key, where it has one
 abbrev pub IsAtKey : ℕ → ShardCall → Type 0
 IsAtKey shards call = IfSome (key_of call.call) (λ key. call.shard ≡ shard_of key shards)
+
+-- a call is on one of so many shards
+abbrev pub IsOnShard : ℕ → ShardCall → Type 0
+IsOnShard shards call = call.shard < shards
+
+-- the keys that calls are about
+abbrev pub keys_of : List ShardCall → List (Option (List ℕ))
+keys_of calls = map (λ (call : ShardCall). key_of call.call) calls
 
 -- ---- a connection's commands
 
@@ -69,14 +87,26 @@ tag_of connection index part = record { conn = connection; index = index; part =
 -- calls of one command, tagged from a part on
 abbrev pub tagged : ℕ → ℕ → ℕ → List ShardCall → List Due
 tagged connection index part [] = []
-tagged connection index part (call ∷ calls) = record { tag = tag_of connection index part; call = call } ∷ tagged connection index (part + 1) calls
+tagged connection index part (call ∷ calls) =
+    record { tag = tag_of connection index part; call = call }
+    ∷ tagged connection index (part + 1) calls
+
+-- the calls due of the command with this index
+abbrev pub due_at : ℕ → ℕ → ℕ → Command → List Due
+due_at shards connection index command = tagged connection index 0 (calls_of shards command)
 
 -- the calls due of commands, of which the first has this index
 abbrev pub due_from : ℕ → ℕ → ℕ → List Command → List Due
 due_from shards connection index [] = []
 due_from shards connection index (command ∷ commands) =
-    tagged connection index 0 (calls_of shards command) ++ due_from shards connection (index + 1) commands
+    due_at shards connection index command ++ due_from shards connection (index + 1) commands
 
 -- the calls due of a connection's commands, in order of commands and then of parts
 abbrev pub due : ℕ → ℕ → List Command → List Due
 due shards connection commands = due_from shards connection 0 commands
+
+-- one command more makes its calls due after those of the commands before it
+abbrev pub FollowsAll : ℕ → ℕ → List Command → Command → Type 0
+FollowsAll shards connection commands command =
+    due shards connection (commands ++ command ∷ [])
+    ≡ due shards connection commands ++ due_at shards connection (length commands) command

@@ -1,4 +1,4 @@
--- What the words of a line say, and its first fault (docs/PROFILE.md, "Commands" and "The order of checks").
+-- What the words of a line say, or their first fault (docs/PROFILE.md, "The order of checks").
 use Rattle.std.specs.Prelude.{ℕ, Bool, true, false, nat_le, if◌then◌else◌, List, [], ◌∷◌, length, Option, None, Some}
 use Rattle.std.specs.List.{list_all}
 use Rattle.zy_base.specs.Number.{number_of}
@@ -9,7 +9,7 @@ use Rattle.mc_parse.specs.declared.name.Name.{Name}
 use Rattle.mc_parse.specs.declared.name.Name.TheVariants.{Store, Cas, Get, Delete, Count, Version, Verbosity, Flush, Quit}
 use Rattle.mc_parse.specs.declared.sizes.Sizes.{Sizes}
 use Rattle.mc_parse.specs.declared.tail.Tail.{Tail}
-use Rattle.mc_parse.specs.Words.{is_noreply}
+use Rattle.mc_parse.specs.Words.{words, is_noreply}
 use Rattle.mc_parse.specs.Name.{name_of}
 use Rattle.mc_parse.specs.Number.{small_number_of, is_zero, is_exptime}
 
@@ -21,7 +21,7 @@ pub data Form : Type 0 where
   faulty : ErrorLine → Form
   -- store a block: the verb, the key, the flags, the bytes of the value, and whether it is quiet
   stores : Verb → List ℕ → ℕ → ℕ → Bool → Form
-  -- store a block over an item: the key, the flags, the bytes of the value, the item's unique, and whether it is quiet
+  -- the same over an item: the key, the flags, the bytes, the unique, and whether it is quiet
   exchanges : List ℕ → ℕ → ℕ → ℕ → Bool → Form
   -- get the items of these keys, with their uniques or not
   gets : List (List ℕ) → Bool → Form
@@ -60,7 +60,7 @@ find None fault form = faulty fault
 
 -- ---- the end of a line
 
--- after the words that must stand: whether the line is quiet, where there is no more than the word noreply
+-- after the words that must stand: whether the line is quiet, where no more than noreply follows
 abbrev pub quiet_of : List (List ℕ) → Option Bool
 quiet_of [] = Some false
 quiet_of (last ∷ []) = if is_noreply last then Some true else None
@@ -74,7 +74,7 @@ tail lawful quiet = record { lawful = lawful; quiet = quiet }
 abbrev pub last_tail : List ℕ → Tail
 last_tail last = if is_noreply last then tail true true else tail (is_zero last) false
 
--- after the words that must stand: whether the zero is lawful and the line is quiet, where both may stand
+-- after the words that must stand: whether a zero is lawful and the line quiet, where both may follow
 abbrev pub tail_of : List (List ℕ) → Option Tail
 tail_of [] = Some (tail true false)
 tail_of (last ∷ []) = Some (last_tail last)
@@ -90,14 +90,16 @@ sizes flags bytes = None
 
 -- flags and bytes, where both are numbers below 2^32 and an exptime stands between them
 abbrev pub sizes_of : List ℕ → List ℕ → List ℕ → Option Sizes
-sizes_of flags exptime bytes = if is_exptime exptime then sizes (small_number_of flags) (small_number_of bytes) else None
+sizes_of flags exptime bytes =
+    if is_exptime exptime then sizes (small_number_of flags) (small_number_of bytes) else None
 
 -- a storage line: key, flags, exptime and bytes
 abbrev pub store_form : Verb → List (List ℕ) → Form
 store_form verb (key ∷ flags ∷ exptime ∷ bytes ∷ rest) =
     find (quiet_of rest) Unknown (λ quiet.
     check (is_key key) BadLine (
-    find (sizes_of flags exptime bytes) BadLine (λ sizes. stores verb key sizes.flags sizes.bytes quiet)))
+    find (sizes_of flags exptime bytes) BadLine (λ sizes.
+    stores verb key sizes.flags sizes.bytes quiet)))
 store_form verb args = faulty Unknown
 
 -- a cas line: key, flags, exptime, bytes and unique
@@ -106,19 +108,23 @@ cas_form (key ∷ flags ∷ exptime ∷ bytes ∷ unique ∷ rest) =
     find (quiet_of rest) Unknown (λ quiet.
     check (is_key key) BadLine (
     find (sizes_of flags exptime bytes) BadLine (λ sizes.
-    find (number_of unique) BadLine (λ unique. exchanges key sizes.flags sizes.bytes unique quiet))))
+    find (number_of unique) BadLine (λ unique.
+    exchanges key sizes.flags sizes.bytes unique quiet))))
 cas_form args = faulty Unknown
 
 -- a retrieval line: keys
 abbrev pub get_form : Bool → List (List ℕ) → Form
 get_form unique [] = faulty Unknown
-get_form unique (key ∷ keys) = check (list_all is_key (key ∷ keys)) BadLine (gets (key ∷ keys) unique)
+get_form unique (key ∷ keys) =
+    check (list_all is_key (key ∷ keys)) BadLine (gets (key ∷ keys) unique)
 
 -- a delete line: key
 abbrev pub delete_form : List (List ℕ) → Form
 delete_form [] = faulty Unknown
 delete_form (key ∷ rest) =
-    find (tail_of rest) Unknown (λ tail. check (is_key key) BadLine (check tail.lawful BadLine (deletes key tail.quiet)))
+    find (tail_of rest) Unknown (λ tail.
+    check (is_key key) BadLine (
+    check tail.lawful BadLine (deletes key tail.quiet)))
 
 -- an incr or decr line: key and amount
 abbrev pub count_form : Bool → List (List ℕ) → Form
@@ -137,11 +143,13 @@ bare_form form (word ∷ more) = faulty Unknown
 abbrev pub verbosity_form : List (List ℕ) → Form
 verbosity_form [] = faulty Unknown
 verbosity_form (number ∷ rest) =
-    find (quiet_of rest) Unknown (λ quiet. find (small_number_of number) BadLine (λ _. sets_verbosity quiet))
+    find (quiet_of rest) Unknown (λ quiet.
+    find (small_number_of number) BadLine (λ _. sets_verbosity quiet))
 
 -- a flush_all line
 abbrev pub flush_form : List (List ℕ) → Form
-flush_form rest = find (tail_of rest) Unknown (λ tail. check tail.lawful BadLine (flushes tail.quiet))
+flush_form rest =
+    find (tail_of rest) Unknown (λ tail. check tail.lawful BadLine (flushes tail.quiet))
 
 -- ---- any line
 
@@ -161,3 +169,7 @@ form_after Quit args = bare_form quits args
 abbrev pub form_of : List (List ℕ) → Form
 form_of [] = faulty Unknown
 form_of (name ∷ args) = find (name_of name) Unknown (λ name. form_after name args)
+
+-- what a line says
+abbrev pub line_form : List ℕ → Form
+line_form line = form_of (words line)

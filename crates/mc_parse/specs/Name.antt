@@ -17,7 +17,8 @@ names =
 -- the name that a word is, of some names
 abbrev pub name_among : List ℕ → List (List ℕ × Name) → Option Name
 name_among word [] = None
-name_among word (entry ∷ entries) = if bytes_eq word entry.0 then Some entry.1 else name_among word entries
+name_among word (entry ∷ entries) =
+    if bytes_eq word entry.0 then Some entry.1 else name_among word entries
 
 -- the name that a word is
 abbrev pub name_of : List ℕ → Option Name

@@ -2,8 +2,7 @@
 use Rattle.std.specs.Prelude.{ℕ, List}
 use Rattle.mc_parse.specs.declared.need.Need.{Need}
 use Rattle.mc_parse.specs.declared.need.Need.TheVariants.{Nothing, Block, Quit}
-use Rattle.mc_parse.specs.Words.{words}
-use Rattle.mc_parse.specs.Form.{Form, form_of, faulty, stores, exchanges, gets, deletes, counts, tells_version, sets_verbosity, flushes, quits}
+use Rattle.mc_parse.specs.Form.{Form, line_form, faulty, stores, exchanges, gets, deletes, counts, tells_version, sets_verbosity, flushes, quits}
 
 -- what a line that says this needs
 abbrev pub need_for : Form → Need
@@ -20,4 +19,4 @@ need_for quits = Quit
 
 -- what a line needs
 unfoldable pub need : List ℕ → Need
-need line = need_for (form_of (words line))
+need line = need_for (line_form line)

@@ -1,9 +1,12 @@
--- Lines that may ask for no answer, and what the word noreply makes of them (docs/PROFILE.md, "noreply").
-use Rattle.std.specs.Prelude.{ℕ, Bool, true, false, not, List, ◌++◌, codes}
+-- Lines that may ask for no answer, and the word noreply (docs/PROFILE.md, "noreply").
+use Rattle.std.specs.Prelude.{◌≡◌, ℕ, Bool, true, false, not, List, [], ◌∷◌, ◌++◌, codes}
+use Rattle.mc_parse.specs.declared.need.Need.TheVariants.{Nothing}
 use Rattle.mc_parse.specs.declared.command.Command.{Command}
 use Rattle.mc_parse.specs.declared.command.Command.TheVariants.{Store, Cas, Get, Delete, Count, Version, Verbosity, Flush, Fault}
 use Rattle.mc_parse.specs.Words.{words}
-use Rattle.mc_parse.specs.Form.{Form, form_of, faulty, stores, exchanges, gets, deletes, counts, tells_version, sets_verbosity, flushes, quits}
+use Rattle.mc_parse.specs.Need.{need}
+use Rattle.mc_parse.specs.Meaning.{line_command, block_command, large_command, IsBlockFor, IsTooLarge}
+use Rattle.mc_parse.specs.Form.{Form, form_of, line_form, faulty, stores, exchanges, gets, deletes, counts, tells_version, sets_verbosity, flushes, quits}
 
 -- ---- lines
 
@@ -26,7 +29,7 @@ is_loud quits = false
 
 -- a line without a fault that may ask for no answer, and does not
 abbrev pub takes_noreply : List ℕ → Bool
-takes_noreply line = is_loud (form_of (words line))
+takes_noreply line = is_loud (line_form line)
 
 -- the same, asked for without an answer
 abbrev pub silent : Form → Form
@@ -41,6 +44,28 @@ silent (gets keys unique) = gets keys unique
 silent tells_version = tells_version
 silent quits = quits
 
+-- what a line says is asked for without an answer
+abbrev pub is_quiet : Form → Bool
+is_quiet (stores verb key flags bytes quiet) = quiet
+is_quiet (exchanges key flags bytes unique quiet) = quiet
+is_quiet (deletes key quiet) = quiet
+is_quiet (counts key up amount quiet) = quiet
+is_quiet (sets_verbosity quiet) = quiet
+is_quiet (flushes quiet) = quiet
+is_quiet (faulty line) = false
+is_quiet (gets keys unique) = false
+is_quiet tells_version = false
+is_quiet quits = false
+
+-- words that end in noreply, and say quietly what those before it say
+pub record IsSilenced (form : List (List ℕ) → Form) (front all : List (List ℕ)) : Type 0 where
+  -- they are those before it, and noreply
+  pub ends : all ≡ front ++ codes "noreply" ∷ []
+  -- those before it say something that may be asked for without an answer
+  pub loud : is_loud (form front) ≡ true
+  -- with it they say the same, without an answer
+  pub says : form all ≡ silent (form front)
+
 -- ---- commands
 
 -- a command but for its answer; a retrieval and the version always have one
@@ -54,3 +79,20 @@ silenced Version = Version
 silenced (Verbosity quiet) = Verbosity true
 silenced (Flush quiet) = Flush true
 silenced (Fault line quiet) = Fault line true
+
+-- with the word noreply behind it, a line means the same, but is quiet
+pub record OnlyFallsSilent (line : List ℕ) : Type 0 where
+  -- the same must come with it
+  pub wants : need (with_noreply line) ≡ need line
+  -- a line by itself
+  pub alone : need line ≡ Nothing → line_command (with_noreply line) ≡ silenced (line_command line)
+  -- a line with its block
+  pub with_its_block : (block : List ℕ) → IsBlockFor (need line) block
+      → block_command (with_noreply line) block ≡ silenced (block_command line block)
+  -- a line with a block that is too large
+  pub too_large : IsTooLarge (need line)
+      → large_command (with_noreply line) ≡ silenced (large_command line)
+
+-- the words of a line end in noreply, and say quietly what those before it say
+abbrev pub EndsInNoreply : List ℕ → Type 0
+EndsInNoreply line = (front : List (List ℕ)) × IsSilenced form_of front (words line)

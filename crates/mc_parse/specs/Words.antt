@@ -1,4 +1,4 @@
--- The words of a line: its maximal runs of bytes other than a space (docs/PROFILE.md, "Lines and words").
+-- The words of a line, which spaces part (docs/PROFILE.md, "Lines and words").
 use Rattle.std.specs.Prelude.{ℕ, Bool, true, false, not, ◌&&◌, ◌==◌, if◌then◌else◌, List, [], ◌∷◌, filter, codes}
 use Rattle.std.specs.List.{list_all}
 use Rattle.std.specs.Str.{bytes_eq}
@@ -15,7 +15,8 @@ put_before byte (piece ∷ pieces) = (byte ∷ piece) ∷ pieces
 -- the pieces of a text, which ends a piece at each space
 abbrev pub pieces_of : List ℕ → List (List ℕ)
 pieces_of [] = [] ∷ []
-pieces_of (byte ∷ bytes) = if byte == space then [] ∷ pieces_of bytes else put_before byte (pieces_of bytes)
+pieces_of (byte ∷ bytes) =
+    if byte == space then [] ∷ pieces_of bytes else put_before byte (pieces_of bytes)
 
 -- a piece has a byte
 abbrev pub has_byte : List ℕ → Bool
@@ -26,7 +27,7 @@ has_byte (byte ∷ bytes) = true
 abbrev pub is_word : List ℕ → Bool
 is_word text = has_byte text && list_all (λ byte. not (byte == space)) text
 
--- the words of a line: its pieces between spaces that have a byte
+-- the words of a line, its maximal runs of bytes other than a space: the pieces that have a byte
 unfoldable pub words : List ℕ → List (List ℕ)
 words line = filter has_byte (pieces_of line)
 

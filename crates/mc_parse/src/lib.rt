@@ -1,4 +1,4 @@
-//! From a command line, and its block, to the command it means, and from the command to its calls on the shards.
+//! From a line, with its block, to the command it means, and from the command to its calls.
 #![tactic(auto)]
 
 mod command;
@@ -26,7 +26,8 @@ pub use error_line::ErrorLine;
 pub use key_list::Keys;
 pub use laws::{
     a_fault_has_no_calls, a_faulty_line_is_answered, a_get_calls_for_each_key,
-    calls_are_at_their_keys, noreply_only_silences, spaces_part_words,
+    calls_are_at_their_keys, commands_are_due_in_order, noreply_is_a_last_word,
+    noreply_only_silences, spaces_part_words,
 };
 pub use listing::calls;
 pub use need::{Need, need_of};

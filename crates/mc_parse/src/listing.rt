@@ -1,8 +1,7 @@
 //! The calls of a command.
-ghost use Rattle.std.specs.Prelude.{◌≡◌, ◌≤◌, [], ◌∷◌, ◌++◌, map, IfOk};
-ghost use Rattle.std.specs.List.{range_with_len};
+ghost use Rattle.std.specs.Prelude.{◌≡◌, ◌≤◌, [], ◌∷◌, ◌++◌, IfOk};
 ghost use Rattle.zy_base.specs.declared.call.Call.{Call};
-ghost use Rattle.mc_parse.specs.Calls.{calls_of, at_key, get_at, on_shard, stored_by, counted_by};
+ghost use Rattle.mc_parse.specs.Calls.{calls_of, at_key, get_calls, flush_calls, stored_by, counted_by};
 
 use crate::command::Command;
 use crate::shard_call::{Calls, ShardCall};
@@ -115,7 +114,7 @@ fn one_call(alloc: Global, key: &Blob, call: Call, shards: u32) -> Result<Calls,
 // A get for each key.
 fn get_calls(alloc: Global, keys: &[Blob], shards: u32) -> Result<Calls, NoMemory>
     requires some { 1 ≤ shards }
-    ensures value { IfOk result (λ calls. calls ≡ map (get_at shards) keys.now) }
+    ensures value { IfOk result (λ calls. calls ≡ get_calls shards keys.now) }
 {
     let mut calls = Calls::new(alloc);
     for key in keys {
@@ -130,7 +129,7 @@ fn get_calls(alloc: Global, keys: &[Blob], shards: u32) -> Result<Calls, NoMemor
 
 // A flush of each shard.
 fn flush_calls(alloc: Global, shards: u32) -> Result<Calls, NoMemory>
-    ensures value { IfOk result (λ calls. calls ≡ map (on_shard Call.Flush) (range_with_len 0 shards)) }
+    ensures value { IfOk result (λ calls. calls ≡ flush_calls shards) }
 {
     let mut calls = Calls::new(alloc);
     for shard in 0..shards {

@@ -6,7 +6,7 @@ ghost use Rattle.mc_parse.specs.declared.error_line.ErrorLine.{ErrorLine};
 ghost use Rattle.mc_parse.specs.Words.{words};
 ghost use Rattle.mc_parse.specs.Need.{need};
 ghost use Rattle.mc_parse.specs.Line.{form_seen};
-ghost use Rattle.mc_parse.specs.Meaning.{line_command, block_command, large_command, command_for, block_command_for, large_command_for, fault, is_ended, value_of, with_block, IsBlockFor, IsTooLarge};
+ghost use Rattle.mc_parse.specs.Meaning.{line_command, block_command, large_command, command_for, block_command_for, large_command_for, fault, is_ended, value_of, store_command, cas_command, IsBlockFor, IsTooLarge};
 
 use crate::command::Command;
 use crate::error_line::ErrorLine;
@@ -124,7 +124,7 @@ fn stored(
     quiet: bool,
     block: Blob,
 ) -> Result<Command, (Blob, NoMemory)>
-    ensures value { IfOk result (λ command. command ≡ with_block block quiet (Command.Store verb key.now flags (value_of block) quiet)) }
+    ensures value { IfOk result (λ command. command ≡ store_command verb key.now flags quiet block) }
     ensures returned { IfErr result (λ e. e.0 ≡ block) }
 {
     if !is_ended(&block) {
@@ -151,7 +151,7 @@ fn exchanged(
     quiet: bool,
     block: Blob,
 ) -> Result<Command, (Blob, NoMemory)>
-    ensures value { IfOk result (λ command. command ≡ with_block block quiet (Command.Cas key.now flags unique (value_of block) quiet)) }
+    ensures value { IfOk result (λ command. command ≡ cas_command key.now flags unique quiet block) }
     ensures returned { IfErr result (λ e. e.0 ≡ block) }
 {
     if !is_ended(&block) {

@@ -10,7 +10,7 @@ use crate::verb::Verb;
 use std::alloc::Global;
 use zy_base::{Blob, NoMemory, number_text};
 
-/// The command of a request; none where the line ends the connection, or the block has another size.
+/// The command of a request; none where the line ends the connection or the block is of no such size.
 pub fn command_of(alloc: Global, line: &[u8], block: &[u8]) -> Result<Option<Command>, NoMemory>
     requires within { length line.now ≤ 65536 }
 {
