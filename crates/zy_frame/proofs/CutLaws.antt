@@ -94,3 +94,42 @@ unfolding meets_quit
 quit_exactly stream pieces rest s =
     let same = ap (λ (c : Cut). quits_in (first_line c.rest)) (splits_only stream pieces rest s) in
     (λ yes. quits_by rest (first_line rest) refl (sym same ∙ yes), λ begins. same ∙ quit_begins rest begins)
+
+-- ---- the empty stream, and what comes after quit
+
+pub frames_of_nil : frames_of [] ≡ []
+unfolding frames_of cut_of
+frames_of_nil = refl
+
+pub meets_quit_nil : meets_quit [] ≡ false
+unfolding meets_quit cut_of
+meets_quit_nil = refl
+
+begins_longer : (rest more : List ℕ) → BeginsWithQuit rest → BeginsWithQuit (rest ++ more)
+begins_longer rest more b = record {
+  line = b.line;
+  after = b.after ++ more;
+  split = ap (λ (x : List ℕ). x ++ more) b.split ∙ append_assoc b.line (line_feed ∷ b.after) more;
+  quits = b.quits;
+}
+
+splits_longer : (stream more rest : List ℕ) (pieces : List (List ℕ)) → Splits stream pieces rest → BeginsWithQuit (rest ++ more) → Splits (stream ++ more) pieces (rest ++ more)
+splits_longer stream more rest pieces s b = record {
+  whole = ap (λ (x : List ℕ). x ++ more) s.whole ∙ append_assoc (joined pieces) rest more;
+  each = s.each;
+  partial = begins_with_none (rest ++ more) (ap first_piece b.split ∙ quit_first_piece b.line b.after b.quits);
+}
+
+after_quit_by : (stream more rest : List ℕ) (pieces : List (List ℕ)) → Splits stream pieces rest → BeginsWithQuit rest
+    → (frames_of (stream ++ more) ≡ frames_of stream) × (meets_quit (stream ++ more) ≡ true)
+after_quit_by stream more rest pieces s b =
+    let longer = begins_longer rest more b in
+    let t = splits_longer stream more rest pieces s longer in (
+      frames_of_splits (stream ++ more) pieces (rest ++ more) t ∙ sym (frames_of_splits stream pieces rest s),
+      (quit_exactly (stream ++ more) pieces (rest ++ more) t).1 longer,
+    )
+
+pub after_quit : (stream more : List ℕ) → meets_quit stream ≡ true → (frames_of (stream ++ more) ≡ frames_of stream) × (meets_quit (stream ++ more) ≡ true)
+after_quit stream more is =
+    let s = splits_cut stream in
+    after_quit_by stream more (cut_of stream).rest (cut_of stream).pieces s ((quit_exactly stream (cut_of stream).pieces (cut_of stream).rest s).0 is)

@@ -8,7 +8,8 @@ use Rattle.zy_frame.specs.declared.state.State.{State}
 use Rattle.zy_frame.specs.declared.state.State.TheVariants.{Line, Long, Block, Large, Quit, Refused}
 use Rattle.zy_frame.specs.declared.step.Step.{Step}
 use Rattle.zy_frame.specs.Cut.{frames_of, meets_quit}
-use Rattle.zy_frame.specs.Progress.{Outcome, outcome_of, with_frames, goes_on, StandsFor, Keeps, Goes, Gives, Appends, AppendsFirst, is_quit}
+use Rattle.zy_frame.specs.Progress.{Outcome, outcome_of, with_frames, goes_on, StandsFor, Appends, AppendsFirst, is_quit}
+use Rattle.zy_frame.specs.Steps.{Keeps, Goes, Gives}
 use Rattle.zy_frame.proofs.GoingOn.{outcome_of-unended}
 
 with_frames-append : (given more : List FrameKind) (o : Outcome) → with_frames given (with_frames more o) ≡ with_frames (given ++ more) o

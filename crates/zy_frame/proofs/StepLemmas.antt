@@ -15,7 +15,8 @@ use Rattle.zy_frame.specs.declared.state.State.TheVariants.{Line, Long, Block, L
 use Rattle.zy_frame.specs.declared.step.Step.{Step}
 use Rattle.zy_frame.specs.Line.{IsShort, first_line, chomped, line_feed, line_limit}
 use Rattle.zy_frame.specs.Frame.{frame_at}
-use Rattle.zy_frame.specs.Progress.{outcome_of, with_frames, ends_long, ends_frame, goes_on, Wants, Keeps, Goes, Closes, waiting}
+use Rattle.zy_frame.specs.Progress.{outcome_of, with_frames, ends_long, ends_frame, goes_on}
+use Rattle.zy_frame.specs.Steps.{Wants, Keeps, Goes, Closes, waiting}
 use Rattle.zy_frame.proofs.LineLemmas.{ended, spelled, first_line-append, first_line-append_none, first_line-ended}
 use Rattle.zy_frame.proofs.GoingOn.{in_long, long_ends, ends_long-begun_with, ends_frame-part, ends_frame-all, line_ends, quit_ends, block_begins, kept_block, large_block, ends_frame-same}
 

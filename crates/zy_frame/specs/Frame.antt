@@ -1,5 +1,4 @@
--- Frames: which bytes of a stream make one, and what it stands for. Too long lines, blocks of values that are too
--- large and the bytes at which cutting goes on after them are this project's.
+-- Frames: which bytes of a stream make one, and what it stands for (docs/PROFILE.md, "Lines and words" and "Commands").
 use Rattle.std.specs.Prelude.{◌≡◌, ℕ, ◌+◌, ◌<◌, nat_lt, if◌then◌else◌, List, [], ◌∷◌, ◌++◌, length, Option, None, Some, MatchOption}
 use Rattle.zy_base.specs.Shard.{value_limit}
 use Rattle.mc_parse.specs.declared.need.Need.{Need}

@@ -2,3 +2,4 @@ pub mod Line
 pub mod Frame
 pub mod Cut
 pub mod Progress
+pub mod Steps

@@ -1,4 +1,4 @@
--- Lines of a stream: memcached's protocol.txt, "Protocol". The limit of a line's length is this project's.
+-- Lines of a stream (docs/PROFILE.md, "Lines and words").
 use Rattle.std.specs.Prelude.{◌≡◌, ℕ, ◌≤◌, length, ◌==◌, if◌then◌else◌, List, [], ◌∷◌, Option, None, Some}
 
 -- the byte that ends a line

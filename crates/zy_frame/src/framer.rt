@@ -1,7 +1,8 @@
 //! Cutting a stream as its pieces come.
 ghost use Rattle.std.specs.Prelude.{◌≡◌, ◌<◌, ◌≤◌, ℕ, List, [], ◌++◌, length, Ok, IsErr, OnOk, OnErr};
 ghost use Rattle.zy_frame.specs.Cut.{frames_of, meets_quit};
-ghost use Rattle.zy_frame.specs.Progress.{StandsFor, Advances, Appends, AppendsFirst, IsQuit, IsRefused, kept_by, is_quit};
+ghost use Rattle.zy_frame.specs.Progress.{StandsFor, Appends, AppendsFirst, IsQuit, IsRefused, kept_by, is_quit};
+ghost use Rattle.zy_frame.specs.Steps.{Advances};
 
 use crate::frames::Frames;
 use crate::state::State;
@@ -22,7 +23,7 @@ pub struct Framer {
 
 impl Model for Framer {
     ghost use Rattle.zy_frame.specs.declared.state.State.{State};
-    ghost use Rattle.zy_frame.specs.Progress.{Keeps};
+    ghost use Rattle.zy_frame.specs.Steps.{Keeps};
 
     ghost Value = { State };
 

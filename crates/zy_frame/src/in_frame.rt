@@ -1,7 +1,7 @@
 //! Steps in a line that is too long, and in blocks.
 ghost use Rattle.std.specs.Prelude.{◌≡◌, ◌<◌, ◌≤◌, ◌+◌, length, IfOk};
 ghost use Rattle.zy_frame.specs.declared.state.State.TheVariants.{Long, Block, Large};
-ghost use Rattle.zy_frame.specs.Progress.{Goes, Keeps};
+ghost use Rattle.zy_frame.specs.Steps.{Goes, Keeps};
 
 use crate::frame::Frame;
 use crate::frame_kind::FrameKind;

@@ -2,7 +2,7 @@
 ghost use Rattle.std.specs.Prelude.{◌≡◌, ◌<◌, ◌≤◌, ◌+◌, Some, None, [], take, drop, length, IfOk};
 ghost use Rattle.zy_frame.specs.declared.state.State.TheVariants.{Line, Long};
 ghost use Rattle.zy_frame.specs.Line.{first_line, IsShort};
-ghost use Rattle.zy_frame.specs.Progress.{Goes, Closes, waiting};
+ghost use Rattle.zy_frame.specs.Steps.{Goes, Closes, waiting};
 
 use crate::frame::Frame;
 use crate::frame_kind::FrameKind;

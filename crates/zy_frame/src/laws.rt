@@ -1,5 +1,5 @@
 //! Laws of cutting.
-ghost use Rattle.std.specs.Prelude.{◌≡◌, ◌<◌, ◌≤◌, ◌+◌, ◌↔◌, ◌⊎◌, ℕ, true, List, [], ◌∷◌, ◌++◌, length, map, None};
+ghost use Rattle.std.specs.Prelude.{◌≡◌, ◌<◌, ◌≤◌, ◌+◌, ◌↔◌, ◌⊎◌, ℕ, true, false, List, [], ◌∷◌, ◌++◌, length, map, None};
 ghost use Rattle.std.specs.List.{AllByRecursion};
 ghost use Rattle.zy_base.specs.Shard.{value_limit};
 ghost use Rattle.zy_frame.specs.declared.frame_kind.FrameKind.{FrameKind};
@@ -50,6 +50,18 @@ pub fn a_quit_line_begins_the_rest()
 pub fn quit_is_met_where_the_rest_begins_with_it()
     ensures law { (stream : List ℕ) (pieces : List (List ℕ)) (rest : List ℕ) → Splits stream pieces rest
         → (meets_quit stream ≡ true) ↔ BeginsWithQuit rest }
+{}
+
+/// The empty stream has no frame, and no quit line.
+pub fn the_empty_stream_has_no_frame()
+    ensures frames { frames_of [] ≡ [] }
+    ensures quit { meets_quit [] ≡ false }
+{}
+
+/// No frame comes after a quit line.
+pub fn no_frame_comes_after_quit()
+    ensures frames { (stream more : List ℕ) → meets_quit stream ≡ true → frames_of (stream ++ more) ≡ frames_of stream }
+    ensures quit { (stream more : List ℕ) → meets_quit stream ≡ true → meets_quit (stream ++ more) ≡ true }
 {}
 
 /// The frames of a stream are those of the pieces of its cut.

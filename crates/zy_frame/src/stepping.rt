@@ -1,6 +1,6 @@
 //! Steps in every state.
 ghost use Rattle.std.specs.Prelude.{◌≡◌, ◌<◌, length, IfOk};
-ghost use Rattle.zy_frame.specs.Progress.{Goes, Keeps};
+ghost use Rattle.zy_frame.specs.Steps.{Goes, Keeps};
 
 use crate::in_frame::{step_in_block, step_in_large, step_in_long};
 use crate::in_line::step_in_line;

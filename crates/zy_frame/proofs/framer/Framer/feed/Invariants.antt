@@ -1,5 +1,5 @@
 use Rattle.std.proofs.Common.{◌≤◌, ◌-◌, length}
-use Rattle.zy_frame.specs.Progress.{Gives}
+use Rattle.zy_frame.specs.Steps.{Gives}
 use Rattle.zy_frame.proofs.framer.Framer.feed.Given as goal
 
 abbrev pub invariant-loop-at : goal.invariant-loop-at

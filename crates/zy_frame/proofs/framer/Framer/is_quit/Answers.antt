@@ -1,5 +1,6 @@
 use Rattle.std.proofs.Common.{sym, ap, ◌∙◌, subst}
-use Rattle.zy_frame.specs.Progress.{Keeps, is_quit}
+use Rattle.zy_frame.specs.Progress.{is_quit}
+use Rattle.zy_frame.specs.Steps.{Keeps}
 use Rattle.zy_frame.proofs.Feeding.{quit_exact, not_quit}
 use Rattle.zy_frame.proofs.framer.Framer.is_quit.Goals as goal
 
