@@ -1,18 +1,37 @@
 -- How the top call ends, by its answer: the causes of each answer, and what it leaves of source and sink.
-use Rattle.std.specs.Prelude.{◌≡◌, ◌⊎◌, ℕ, ◌≤◌, false, true, List, length, Option, Result, Ok, Err, ⊤}
-use Rattle.std.specs.Io.KnownBytes.{IsAtEnd}
+use Rattle.std.specs.Prelude.{◌≡◌, ◌⊎◌, ℕ, ◌≤◌, false, true, List, length, Option, Some, IfSome, Result, Ok, Err, ⊤}
+use Rattle.std.specs.Io.KnownBytes.{Consumes, IsAtEnd}
 use Rattle.zy_base.specs.Outside.{Rose, Grew, GrewByPrefix}
 use Rattle.zygos_run.specs.declared.answer.Answer.{Answer}
 use Rattle.zygos_run.specs.declared.answer.Answer.TheVariants.{Served, Usage, Refused, ReadFault, WriteFault, OutOfMemory}
 use Rattle.zygos_run.specs.declared.stop.ReadStop.{ReadStop}
 use Rattle.zygos_run.specs.declared.stop.ReadStop.TheVariants.{Failed, Stopped}
 use Rattle.zygos_run.specs.Words.{is_lawful}
+use Rattle.zy_capture.specs.declared.record.Record.{Record}
 use Rattle.zy_capture.specs.Outputs.{AllOutputs}
+use Rattle.zy_capture.specs.Standing.{StandsFor}
+use Rattle.zy_capture.specs.Verdict.{Progress, verdict, is_good, version_of}
 use Rattle.zy_capture.specs.Replies.{replies_bytes}
 
--- reading came to the end, or a read failed; when an input isn't served is free
+-- these bytes brought a reader of captures to where it is
+abbrev pub HasRead : Progress → List ℕ → Type 0
+HasRead reader bytes = (given : List Record) × StandsFor reader given bytes
+
+-- a reader has read some bytes, which the source gave where it tells them, and the source is at its end
+abbrev pub HasTaken : Option (List ℕ) → Option (List ℕ) → Progress → Type 0
+HasTaken before after reader = ((bytes : List ℕ) × Consumes before after bytes × HasRead reader bytes) × IsAtEnd after
+
+-- the bytes are a capture of version 1
+abbrev pub IsCapture : List ℕ → Type 0
+IsCapture bytes = (is_good (verdict bytes) ≡ true) × (version_of bytes ≡ Some 1)
+
+-- a source that told its bytes told a capture of version 1, and nothing of it is left
+abbrev pub ReadCapture : Option (List ℕ) → Option (List ℕ) → Type 0
+ReadCapture before after = IfSome before IsCapture × IsAtEnd after
+
+-- reading came to the end of a capture, or a read failed; when an input isn't served is free
 abbrev pub ReadEnds : {S R : Type 0} → (S → Option (List ℕ)) → (S → ℕ) → S → S → Result R ReadStop → Type 0
-ReadEnds rest faults old new (Ok run) = IsAtEnd (rest new)
+ReadEnds rest faults old new (Ok run) = ReadCapture (rest old) (rest new)
 ReadEnds rest faults old new (Err Failed) = Rose (faults old) (faults new)
 ReadEnds rest faults old new (Err (Stopped stop)) = ⊤
 
@@ -31,7 +50,7 @@ WrotePart before after = (outputs : AllOutputs) × AreServed outputs × GrewByPr
 -- each answer has its cause, and leaves source and sink as it says
 abbrev pub HasCause : {S K : Type 0} → (S → Option (List ℕ)) → (S → ℕ) → (K → Option (List ℕ)) → (K → ℕ) → List (List ℕ) → S → S → K → K → Answer → Type 0
 HasCause rest read holds wrote words source source' sink sink' (Served journal) =
-    (is_lawful words ≡ true) × IsAtEnd (rest source') × WroteReplies (holds sink) (holds sink')
+    (is_lawful words ≡ true) × ReadCapture (rest source) (rest source') × WroteReplies (holds sink) (holds sink')
 HasCause rest read holds wrote words source source' sink sink' Usage =
     (is_lawful words ≡ false) × (source' ≡ source) × (sink' ≡ sink)
 HasCause rest read holds wrote words source source' sink sink' (Refused refusal) =
@@ -39,7 +58,7 @@ HasCause rest read holds wrote words source source' sink sink' (Refused refusal)
 HasCause rest read holds wrote words source source' sink sink' ReadFault =
     (is_lawful words ≡ true) × Rose (read source) (read source') × (sink' ≡ sink)
 HasCause rest read holds wrote words source source' sink sink' WriteFault =
-    (is_lawful words ≡ true) × IsAtEnd (rest source') × WrotePart (holds sink) (holds sink') × Rose (wrote sink) (wrote sink')
+    (is_lawful words ≡ true) × ReadCapture (rest source) (rest source') × WrotePart (holds sink) (holds sink') × Rose (wrote sink) (wrote sink')
 HasCause rest read holds wrote words source source' sink sink' OutOfMemory =
     (is_lawful words ≡ true) × (sink' ≡ sink)
 

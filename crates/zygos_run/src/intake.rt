@@ -1,6 +1,7 @@
 //! Taking in a capture of at most one connection.
-ghost use Rattle.std.specs.Prelude.{IfOk};
-ghost use Rattle.zygos_run.specs.Ends.{AreServed};
+ghost use Rattle.std.specs.Prelude.{◌≡◌, ℕ, List, [], ◌∷◌, ◌++◌, Some, true, IfOk, OnOk};
+ghost use Rattle.zy_capture.specs.Verdict.{version_of};
+ghost use Rattle.zygos_run.specs.Ends.{AreServed, HasRead, IsCapture};
 
 use crate::answer::Journal;
 use crate::server::Server;
@@ -25,7 +26,9 @@ pub(crate) struct Run {
 }
 
 impl Intake {
-    pub(crate) fn new(alloc: Global) -> Result<Intake, Stop> {
+    pub(crate) fn new(alloc: Global) -> Result<Intake, Stop>
+        ensures empty { IfOk result (λ intake. HasRead intake.reader []) }
+    {
         Ok(Intake {
             alloc,
             reader: Reader::new(alloc),
@@ -34,19 +37,31 @@ impl Intake {
     }
 
     // Takes the next bytes of the capture.
-    pub(crate) fn take<G: Gate>(&mut self, bytes: &[u8], gate: &G) -> Result<(), Stop> {
+    pub(crate) fn take<G: Gate>(&mut self, bytes: &[u8], gate: &G) -> Result<(), Stop>
+        ensures fed { OnOk result ((b : List ℕ) → HasRead self.old.reader b → HasRead self.new.reader (b ++ bytes.now)) }
+    {
         for byte in bytes {
-            match self.reader.feed(*byte) {
-                Ok(None) => {}
-                Ok(Some(record)) => self.take_record(record, gate)?,
-                Err(FeedFault::Fault(_)) => return Err(Stop::Unbuilt),
-                Err(FeedFault::NoMemory) => return Err(Stop::NoMemory),
+            if let Err(stop) = self.take_byte(*byte, gate) {
+                return Err(stop);
             }
         }
         Ok(())
     }
 
-    fn take_record<G: Gate>(&mut self, record: Record, gate: &G) -> Result<(), Stop> {
+    fn take_byte<G: Gate>(&mut self, byte: u8, gate: &G) -> Result<(), Stop>
+        ensures fed { OnOk result ((b : List ℕ) → HasRead self.old.reader b → HasRead self.new.reader (b ++ byte ∷ [])) }
+    {
+        match self.reader.feed(byte) {
+            Ok(None) => Ok(()),
+            Ok(Some(record)) => self.take_record(record, gate),
+            Err(FeedFault::Fault(_)) => Err(Stop::Unbuilt),
+            Err(FeedFault::NoMemory) => Err(Stop::NoMemory),
+        }
+    }
+
+    fn take_record<G: Gate>(&mut self, record: Record, gate: &G) -> Result<(), Stop>
+        ensures reader { self.new.reader ≡ self.old.reader }
+    {
         match record {
             Record::Segment(segment) if self.is_served() => {
                 self.server.take(segment.bytes.bytes(), gate)
@@ -56,7 +71,9 @@ impl Intake {
     }
 
     // A capture of version 1 with at most one connection is served.
-    fn is_served(&self) -> bool {
+    fn is_served(&self) -> bool
+        ensures version { (b : List ℕ) → HasRead self.now.reader b → result ≡ true → version_of b ≡ Some 1 }
+    {
         match (self.reader.version(), self.reader.count()) {
             (Some(1), Some(count)) => count <= 1,
             _ => false,
@@ -65,7 +82,8 @@ impl Intake {
 
     // What was served, where the capture is whole.
     pub(crate) fn finish(self) -> Result<Run, Stop>
-        ensures { IfOk result (λ run. AreServed run.outputs) }
+        ensures outputs { IfOk result (λ run. AreServed run.outputs) }
+        ensures good { (b : List ℕ) → HasRead self.reader b → OnOk result (IsCapture b) }
     {
         if !self.reader.is_done() || !self.is_served() {
             return Err(Stop::Unbuilt);

@@ -1,6 +1,7 @@
 //! Reading the capture.
-ghost use Rattle.std.specs.Prelude.{◌≡◌, ◌≢◌, ◌≤◌, length, IfOk, IfErr};
-ghost use Rattle.zygos_run.specs.Ends.{AreServed, ReadEnds};
+ghost use Rattle.std.specs.Prelude.{◌≡◌, ◌≢◌, ◌<◌, ◌≤◌, ℕ, List, [], length, Err, IfOk, IfErr, OnOk};
+ghost use Rattle.zy_base.specs.Outside.{Rose};
+ghost use Rattle.zygos_run.specs.Ends.{AreServed, HasRead, HasTaken, IsCapture, ReadEnds};
 
 use crate::intake::{Intake, Run};
 use crate::stop::{ReadStop, Stop};
@@ -24,7 +25,11 @@ pub(crate) fn run_capture<S: Source, G: Gate>(
         Ok(intake) => intake,
         Err(stop) => return Err(ReadStop::Stopped(stop)),
     };
-    match take_all(alloc, source, &mut intake, gate) {
+    let mut piece = match buffer(alloc, PIECE) {
+        Ok(piece) => piece,
+        Err(stop) => return Err(ReadStop::Stopped(stop)),
+    };
+    match take_all(source, piece.as_mut_slice(), &mut intake, gate) {
         Ok(()) => finished(intake),
         Err(stop) => Err(stop),
     }
@@ -32,6 +37,7 @@ pub(crate) fn run_capture<S: Source, G: Gate>(
 
 fn finished(intake: Intake) -> Result<Run, ReadStop>
     ensures served { IfOk result (λ run. AreServed run.outputs) }
+    ensures good { (b : List ℕ) → HasRead intake.reader b → OnOk result (IsCapture b) }
     ensures stopped { IfErr result (λ stop. stop ≢ ReadStop.Failed) }
 {
     match intake.finish() {
@@ -42,20 +48,19 @@ fn finished(intake: Intake) -> Result<Run, ReadStop>
 
 // Reads to the end of the source, piece after piece.
 fn take_all<S: Source, G: Gate>(
-    alloc: Global,
     source: &mut S,
+    piece: &mut [u8],
     intake: &mut Intake,
     gate: &G,
 ) -> Result<(), ReadStop>
+    requires some { 0 < length piece.old }
+    requires fresh { HasRead intake.old.reader [] }
     ensures count { S.faults source.old ≤ S.faults source.new }
-    ensures ends { ReadEnds S.rest S.faults source.old source.new result }
+    ensures ok { OnOk result (HasTaken (S.rest source.old) (S.rest source.new) intake.new.reader) }
+    ensures failed { result ≡ Err ReadStop.Failed → Rose (S.faults source.old) (S.faults source.new) }
 {
-    let mut piece = match buffer(alloc, PIECE) {
-        Ok(piece) => piece,
-        Err(stop) => return Err(ReadStop::Stopped(stop)),
-    };
     for _ in 0..u64::MAX {
-        let n = match source.read(piece.as_mut_slice()) {
+        let n = match source.read(piece) {
             Ok(n) => n,
             Err(_) => return Err(ReadStop::Failed),
         };

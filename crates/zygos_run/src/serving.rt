@@ -1,11 +1,10 @@
 //! The top call.
 ghost use Rattle.std.specs.Prelude.{◌≡◌, ◌↔◌, false};
-ghost use Rattle.std.specs.Io.KnownBytes.{IsAtEnd};
 ghost use Rattle.zy_base.specs.Outside.{Rose, Writes};
 ghost use Rattle.zy_capture.specs.Replies.{replies_bytes};
 ghost use Rattle.zygos_run.specs.Words.{is_lawful as lawful};
 ghost use Rattle.zygos_run.specs.Answers.{line_of};
-ghost use Rattle.zygos_run.specs.Ends.{HasCause, LeavesSink, Said, WroteReplies, WrotePart};
+ghost use Rattle.zygos_run.specs.Ends.{HasCause, LeavesSink, ReadCapture, Said, WroteReplies, WrotePart};
 
 use crate::answer::{Answer, Refusal};
 use crate::reading::run_capture;
@@ -35,7 +34,7 @@ pub fn serve<R: Threads + Wait + Sync, S: Source, K: Sink, E: Sink, G: Gate + Sy
 ) -> Answer
     // Each answer, with its cause.
     ensures usage { (result ≡ Answer.Usage) ↔ (lawful words.now ≡ false) }
-    ensures served { (j : _) → result ≡ Answer.Served j → IsAtEnd (S.rest source.new) }
+    ensures served { (j : _) → result ≡ Answer.Served j → ReadCapture (S.rest source.old) (S.rest source.new) }
     ensures written { (j : _) → result ≡ Answer.Served j → WroteReplies (K.holds sink.old) (K.holds sink.new) }
     ensures read_fault { result ≡ Answer.ReadFault → Rose (S.faults source.old) (S.faults source.new) }
     ensures write_fault { result ≡ Answer.WriteFault → Rose (K.faults sink.old) (K.faults sink.new) }
