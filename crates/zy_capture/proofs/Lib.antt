@@ -8,3 +8,4 @@ pub mod RepliesFeeding
 pub mod ByteLemmas
 pub mod RepliesWholeLemmas
 pub mod RepliesSpelledLemmas
+pub mod AgainLemmas

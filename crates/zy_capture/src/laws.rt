@@ -1,5 +1,5 @@
 //! Laws over the definitions of this crate.
-ghost use Rattle.std.specs.Prelude.{◌≡◌, ◌↔◌, ◌+◌, ◌<◌, ℕ, List, [], ◌++◌, length, Some};
+ghost use Rattle.std.specs.Prelude.{◌≡◌, ◌⊎◌, ◌≤◌, ◌↔◌, ◌+◌, ◌<◌, ℕ, List, [], ◌++◌, length, Some};
 ghost use Rattle.std.specs.List.{slice_index_or};
 ghost use Rattle.zy_capture.specs.declared.record.Record.{Record};
 ghost use Rattle.zy_capture.specs.declared.capture_fault.CaptureFault.{CaptureFault};
@@ -9,7 +9,8 @@ ghost use Rattle.zy_capture.specs.Verdict.Verdict.{Good, Bad};
 ghost use Rattle.zy_capture.specs.Standing.{StandsFor};
 ghost use Rattle.zy_base.specs.declared.file_fault.FileFault.{FileFault};
 ghost use Rattle.zy_capture.specs.declared.session_bytes.SessionBytes.{SessionBytes};
-ghost use Rattle.zy_capture.specs.Replies.{SpellsReplies};
+ghost use Rattle.zy_capture.specs.Outputs.{AllOutputs, AreOutputs, MayAdd, with_output};
+ghost use Rattle.zy_capture.specs.Replies.{SpellsReplies, replies_bytes, replies_limit, items_of};
 ghost use Rattle.zy_capture.specs.RepliesVerdict as Replies;
 ghost use Rattle.zy_capture.specs.RepliesStanding.{StandsForReplies};
 ghost use Rattle.zy_capture.specs.Streams.{closes, stream, sessions_of, no_bytes, with_records};
@@ -62,3 +63,19 @@ pub fn the_first_fault_of_a_replies_file_counts()
     ensures lasts { (text more : List ℕ) (fault : FileFault) → Replies.fault_of text ≡ Some fault
         → Replies.verdict (text ++ more) ≡ Replies.Verdict.Bad fault }
 {}
+
+/// What is written of outputs is a good replies file of their version, which gives each session's output again, where it
+/// is not too long.
+pub fn written_replies_are_read_again()
+    ensures again { (outputs : AllOutputs) → AreOutputs outputs → length (replies_bytes outputs) ≤ replies_limit
+        → Replies.verdict (replies_bytes outputs) ≡ Replies.Verdict.Good outputs.version (items_of outputs) }
+{
+}
+
+/// Outputs to which one was added, and those without any, can be written and read again.
+pub fn outputs_stay_outputs()
+    ensures none { (version : ℕ) → (version ≡ 1) ⊎ (version ≡ 2) → AreOutputs (record { version = version; sessions = [] }) }
+    ensures added { (outputs : AllOutputs) (conn : ℕ) (bytes : List ℕ) → AreOutputs outputs → MayAdd outputs conn
+        → AreOutputs (with_output outputs conn bytes) }
+{
+}

@@ -19,7 +19,7 @@ mod tests;
 mod writing;
 
 pub use capture_fault::{CaptureFault, FeedFault};
-pub use laws::{
+pub use laws::{outputs_stay_outputs, written_replies_are_read_again, 
     a_capture_is_good_exactly_where_it_is_a_spelling,
     a_replies_file_is_good_exactly_where_it_is_a_spelling, each_session_holds_its_stream,
     the_first_fault_of_a_capture_counts, the_first_fault_of_a_replies_file_counts,
