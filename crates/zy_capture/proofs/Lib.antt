@@ -9,3 +9,4 @@ pub mod ByteLemmas
 pub mod RepliesWholeLemmas
 pub mod RepliesSpelledLemmas
 pub mod AgainLemmas
+pub mod FaultLemmas

@@ -6,3 +6,4 @@ pub mod Outputs
 pub mod Replies
 pub mod RepliesVerdict
 pub mod RepliesStanding
+pub mod Faults
