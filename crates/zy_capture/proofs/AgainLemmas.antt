@@ -1,6 +1,6 @@
 -- What is written of outputs is the spelling of their sessions, which are in order.
-use Rattle.std.proofs.Common.{◌≡◌, ◌⊎◌, inl, inr, ℕ, zero, suc, ◌+◌, ◌<◌, ◌≤◌, ◌^◌, List, [], ◌∷◌, ◌++◌, length, set, get_or, refl, sym, ◌∙◌, ap, subst, arith, append_assoc, length-append}
-use Rattle.std.specs.Prelude.{flat_map, ◌==◌, if◌then◌else◌, false}
+use Rattle.std.proofs.Common.{◌≡◌, ◌⊎◌, inl, inr, ℕ, zero, suc, ◌+◌, ◌<◌, ◌≤◌, ◌^◌, List, [], ◌∷◌, ◌++◌, length, set, get_or, refl, sym, ◌∙◌, ap, arith, length-append}
+use Rattle.std.specs.Prelude.{flat_map, ◌==◌, false}
 use Rattle.std.specs.List.{AllByRecursion, slice_set}
 use Rattle.std.proofs.lemmas.List.{length-set}
 use Rattle.std.proofs.lemmas.Bool.{eq-eqb}
@@ -10,7 +10,7 @@ use Rattle.zy_capture.specs.declared.session_bytes.SessionBytes.{SessionBytes}
 use Rattle.zy_capture.specs.Capture.{connection_limit}
 use Rattle.zy_capture.specs.Outputs.{AllOutputs, AreOutputs, HasSessions, MayAdd, with_session, with_output}
 use Rattle.zy_capture.specs.Streams.{sessions_of}
-use Rattle.zy_capture.specs.Replies.{replies_limit, SpellsReplies, magic, output_text, connection_text, numbered_from, replies_bytes, spelled, spelling, IsNext, AreNumbers, AreInOrder, IsRepliesFile, session_items, all_items, items_of}
+use Rattle.zy_capture.specs.Replies.{replies_limit, SpellsReplies, magic, output_text, connection_text, numbered_from, replies_bytes, spelled, spelling, AreInOrder, IsRepliesFile, session_items, all_items, items_of}
 
 -- ---- the text
 
@@ -52,7 +52,7 @@ all_in_order : (version conn last : ℕ) (connections : List (List (List ℕ))) 
 all_in_order version conn last [] known all few = tt
 all_in_order version conn last (sessions ∷ connections) known all few =
     next_sessions version conn last sessions (all_items (conn + 1) connections) known all.0 (omega (arith, few))
-      (λ more. all_in_order version (conn + 1) more connections known all.1 (omega (arith, few)))
+    (λ more. all_in_order version (conn + 1) more connections known all.1 (omega (arith, few)))
 
 pub items_in_order : (outputs : AllOutputs) → AreOutputs outputs → IsRepliesFile outputs.version (items_of outputs)
 items_in_order outputs are = record { known = are.known; ordered = all_in_order outputs.version 0 0 outputs.sessions are.known are.sessions (omega (arith, are.few)) }

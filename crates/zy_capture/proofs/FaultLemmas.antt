@@ -1,10 +1,9 @@
 -- A text whose verdict is a fault has that fault.
-use Rattle.std.proofs.Common.{◌≡◌, ◌⊎◌, inl, inr, ℕ, zero, suc, ◌+◌, ◌-◌, ◌<◌, ◌≤◌, ◌^◌, Bool, true, false, List, [], ◌∷◌, ◌++◌, length, take, drop, get_or, refl, sym, ◌∙◌, ap, subst, arith, append_assoc, length-append, take-append-drop}
-use Rattle.std.specs.Prelude.{◌==◌, ◌&&◌, nat_lt, nat_le, if◌then◌else◌, Option, None, Some, option_to_list, flat_map}
-use Rattle.std.specs.List.{AllByRecursion, slice_index}
+use Rattle.std.proofs.Common.{◌≡◌, ◌⊎◌, inl, inr, ℕ, zero, suc, ◌+◌, ◌-◌, ◌<◌, ◌≤◌, ◌^◌, true, false, List, [], ◌∷◌, ◌++◌, length, take, drop, get_or, refl, sym, ◌∙◌, ap, subst, arith, append_assoc, length-append, take-append-drop}
+use Rattle.std.specs.Prelude.{◌==◌, ◌&&◌, nat_lt, nat_le, Option, None, Some, option_to_list, flat_map}
+use Rattle.std.specs.List.{slice_index}
 use Rattle.std.specs.Int.{to_be_bytes, from_be_bytes, w32}
-use Rattle.std.proofs.lemmas.List.{append-nil}
-use Rattle.std.proofs.lemmas.Bool.{eqb-true, ltb-false, ltb-true}
+use Rattle.std.proofs.lemmas.Bool.{ltb-false, ltb-true}
 use Rattle.std.proofs.lemmas.Bool.Decides.{nat_tests}
 use Rattle.zy_capture.specs.declared.record.Record.{Record}
 use Rattle.zy_capture.specs.declared.capture_fault.CaptureFault.{CaptureFault}
@@ -12,17 +11,17 @@ use Rattle.zy_capture.specs.declared.capture_fault.CaptureFault.TheVariants.{Bad
 use Rattle.zy_capture.specs.declared.due.Due.{Due}
 use Rattle.zy_capture.specs.declared.due.Due.TheVariants.{Letters, Digit, LineFeed, Count, Tag, Connection, Length, Payload, Closed, Nothing, Broken}
 use Rattle.zy_capture.specs.Capture.{AreBytes, letters, magic, spelled, spelling, IsCapture, capture_limit, connection_limit, segment_limit}
-use Rattle.zy_capture.specs.Verdict.{Progress, Step, Reading, Verdict, start, goes, gives, refuses, keeps, grows, letter, digit, line_feed, tag, number, segment, taken, is_open, is_full, step, read_from, reading, with_front, ended, verdict, fault_in, fault_of, is_good}
-use Rattle.zy_capture.specs.Verdict.Verdict.{Good, Bad}
+use Rattle.zy_capture.specs.Verdict.{Progress, Step, Reading, Verdict, start, goes, refuses, letter, digit, line_feed, tag, number, segment, taken, is_open, is_full, step, read_from, reading, ended, verdict, fault_in, fault_of, is_good}
+use Rattle.zy_capture.specs.Verdict.Verdict.{Bad}
 use Rattle.zy_capture.specs.Standing.{StandsFor}
-use Rattle.zy_capture.specs.Faults.{BeginsMagic, front_text, GoesOn, IsBadMagic, IsConnCount, IsBadTag, IsConnRange, IsSegmentLength, IsCut, IsTrailing, IsTooLong, HasFault}
-use Rattle.zy_capture.proofs.ByteLemmas.{chosen, on_part, bytes_on, byte_at, assoc_twice}
+use Rattle.zy_capture.specs.Faults.{BeginsMagic, IsConnRange, IsCut, HasFault}
+use Rattle.zy_capture.proofs.ByteLemmas.{chosen, bytes_on, byte_at, assoc_twice}
 use Rattle.zy_capture.proofs.Feeding.{fed_step, read_broken, verdict_here, starts}
-use Rattle.zy_capture.proofs.WholeLemmas.{front, IsField, IsSoFar, Parts, IsReadTo, number_is, from_step, read_whole}
+use Rattle.zy_capture.proofs.WholeLemmas.{front, IsField, Parts, IsReadTo, number_is, from_step, read_whole}
 
 -- ---- beginnings of a magic
 
-begins_letters : (at : ℕ) → BeginsMagic (take at letters)
+pub begins_letters : (at : ℕ) → BeginsMagic (take at letters)
 begins_letters at = record {
   version = 1;
   rest = drop at letters ++ 49 ∷ 10 ∷ [];
@@ -30,7 +29,7 @@ begins_letters at = record {
   whole = sym (append_assoc (take at letters) (drop at letters) (49 ∷ 10 ∷ [])) ∙ ap (λ (l : List ℕ). l ++ 49 ∷ 10 ∷ []) (take-append-drop at letters);
 }
 
-begins_digit : (version : ℕ) → (version ≡ 1) ⊎ (version ≡ 2) → BeginsMagic (letters ++ (48 + version) ∷ [])
+pub begins_digit : (version : ℕ) → (version ≡ 1) ⊎ (version ≡ 2) → BeginsMagic (letters ++ (48 + version) ∷ [])
 begins_digit version known = record { version = version; rest = 10 ∷ []; known = known; whole = refl }
 
 letter_is : (at byte version : ℕ) (rest : List ℕ) → at < 6 → (take at letters ++ byte ∷ []) ++ rest ≡ magic version → byte ≡ slice_index letters at
@@ -51,8 +50,8 @@ differs_digit : (byte : ℕ) → (byte == 49) ≡ false → (byte == 50) ≡ fal
 differs_digit byte one two begins =
     let same : byte ≡ 48 + begins.version = ap (λ (l : List ℕ). get_or l 6 0) begins.whole in
     elim begins.known [
-      inl first ↦ let is : byte ≡ 49 = omega (arith, same, first) in grind (arith, nat_tests)
-    | inr second ↦ let is : byte ≡ 50 = omega (arith, same, second) in grind (arith, nat_tests)
+      | inl first ↦ let is : byte ≡ 49 = omega (arith, same, first) in grind (arith, nat_tests)
+      | inr second ↦ let is : byte ≡ 50 = omega (arith, same, second) in grind (arith, nat_tests)
     ]
 
 differs_line_feed : (version byte : ℕ) → (byte == 10) ≡ false → BeginsMagic ((letters ++ (48 + version) ∷ []) ++ byte ∷ []) → ⊥
@@ -91,6 +90,7 @@ from_letters p before rest given byte fault parts =
       rest = rest;
       whole = ap (λ (l : List ℕ). l ++ byte ∷ rest) parts.bytes;
       place = parts.count ∙ ap (λ (l : List ℕ). length l) parts.bytes;
+      within = omega (arith, parts.valid.0);
       begins = begins_letters p.at;
       differs = differs_letter p.at byte parts.valid.0 differs;
     }))
@@ -100,16 +100,17 @@ from_digit p before rest given byte fault parts =
     chosen (Faults (before ++ byte ∷ rest) fault) (byte == 49) _ _
     (λ one is. cc)
     (λ not_one. chosen (Faults (before ++ byte ∷ rest) fault) (byte == 50) _ _
-      (λ two is. cc)
-      (λ not_two. told (before ++ byte ∷ rest) p (BadMagic p.at) fault (record {
-        front = letters;
-        byte = byte;
-        rest = rest;
-        whole = ap (λ (l : List ℕ). l ++ byte ∷ rest) parts.bytes;
-        place = parts.count ∙ ap (λ (l : List ℕ). length l) parts.bytes;
-        begins = begins_letters 6;
-        differs = differs_digit byte not_one not_two;
-      })))
+    (λ two is. cc)
+    (λ not_two. told (before ++ byte ∷ rest) p (BadMagic p.at) fault (record {
+      front = letters;
+      byte = byte;
+      rest = rest;
+      whole = ap (λ (l : List ℕ). l ++ byte ∷ rest) parts.bytes;
+      place = parts.count ∙ ap (λ (l : List ℕ). length l) parts.bytes;
+      within = omega (arith, parts.count, ap (λ (l : List ℕ). length l) parts.bytes);
+      begins = begins_letters 6;
+      differs = differs_digit byte not_one not_two;
+    })))
 
 from_line_feed : (version : ℕ) (p : Progress) (before rest : List ℕ) (given : List Record) (byte : ℕ) (fault : CaptureFault) → Parts (LineFeed version) p given before → Faults (before ++ byte ∷ rest) fault (line_feed version p byte)
 from_line_feed version p before rest given byte fault parts =
@@ -121,6 +122,7 @@ from_line_feed version p before rest given byte fault parts =
       rest = rest;
       whole = ap (λ (l : List ℕ). l ++ byte ∷ rest) parts.bytes;
       place = parts.count ∙ ap (λ (l : List ℕ). length l) parts.bytes;
+      within = omega (arith, parts.count, ap (λ (l : List ℕ). length l) parts.bytes);
       begins = begins_digit version parts.valid.0;
       differs = differs_line_feed version byte differs;
     }))
@@ -131,35 +133,35 @@ from_count p before rest given byte fault small parts =
     chosen (Faults (before ++ byte ∷ rest) fault) (nat_lt (length p.field) 3) _ _
     (λ short is. cc)
     (λ long. chosen (Faults (before ++ byte ∷ rest) fault) (nat_lt connection_limit n) _ _
-      (λ over. told (before ++ byte ∷ rest) p (ConnCount n) fault (record {
-        version = p.version;
-        rest = rest;
-        known = parts.valid.0;
-        whole = ap (λ (l : List ℕ). l ++ byte ∷ rest) parts.bytes ∙ number_text (magic p.version) p.field rest byte n (number_is p.field byte parts.valid.2 small (ltb-false (length p.field) 3 long));
-        over = ltb-true connection_limit n over;
-        fits = small_number p.field byte parts.valid.2 small (ltb-false (length p.field) 3 long);
-      }))
-      (λ few is. cc))
+    (λ over. told (before ++ byte ∷ rest) p (ConnCount n) fault (record {
+      version = p.version;
+      rest = rest;
+      known = parts.valid.0;
+      whole = ap (λ (l : List ℕ). l ++ byte ∷ rest) parts.bytes ∙ number_text (magic p.version) p.field rest byte n (number_is p.field byte parts.valid.2 small (ltb-false (length p.field) 3 long));
+      over = ltb-true connection_limit n over;
+      fits = small_number p.field byte parts.valid.2 small (ltb-false (length p.field) 3 long);
+    }))
+    (λ few is. cc))
 
 from_tag : (p : Progress) (before rest : List ℕ) (given : List Record) (byte : ℕ) (fault : CaptureFault) → p.at < capture_limit → Parts Tag p given before → Faults (before ++ byte ∷ rest) fault (tag p byte)
 from_tag p before rest given byte fault room parts =
     chosen (Faults (before ++ byte ∷ rest) fault) (byte == 83) _ _
     (λ yes_segment is. cc)
     (λ segment_not. chosen (Faults (before ++ byte ∷ rest) fault) (byte == 69) _ _
-      (λ yes_end is. cc)
-      (λ end_not. chosen (Faults (before ++ byte ∷ rest) fault) (byte == 67 && p.version == 2) _ _
-        (λ yes_close is. cc)
-        (λ close_not. told (before ++ byte ∷ rest) p (BadTag p.at byte) fault (record {
-          version = p.version;
-          count = p.count;
-          items = given;
-          rest = rest;
-          front = record { valid = parts.valid; whole = ap (λ (l : List ℕ). l ++ byte ∷ rest) parts.bytes; place = parts.count ∙ ap (λ (l : List ℕ). length l) parts.bytes };
-          no_segment = λ e. grind (arith, nat_tests);
-          no_end = λ e. grind (arith, nat_tests);
-          no_close = λ e f. grind (arith, nat_tests);
-          within = room;
-        }))))
+    (λ yes_end is. cc)
+    (λ end_not. chosen (Faults (before ++ byte ∷ rest) fault) (byte == 67 && p.version == 2) _ _
+    (λ yes_close is. cc)
+    (λ close_not. told (before ++ byte ∷ rest) p (BadTag p.at byte) fault (record {
+      version = p.version;
+      count = p.count;
+      items = given;
+      rest = rest;
+      front = record { valid = parts.valid; whole = ap (λ (l : List ℕ). l ++ byte ∷ rest) parts.bytes; place = parts.count ∙ ap (λ (l : List ℕ). length l) parts.bytes };
+      no_segment = λ e. grind (arith, nat_tests);
+      no_end = λ e. grind (arith, nat_tests);
+      no_close = λ e f. grind (arith, nat_tests);
+      within = room;
+    }))))
 
 -- the place of a number's first byte, and that of the record's tag
 tag_place : (p : Progress) (given : List Record) (text : List ℕ) (tag_byte : ℕ) (middle : List ℕ) → p.at ≡ length text → text ≡ front p given ++ tag_byte ∷ (middle ++ p.field) → IsField p.field → 3 ≤ length p.field
@@ -184,7 +186,7 @@ from_range p before rest given tag_byte byte small room count bytes valid is lon
       front = record {
         valid = valid;
         whole = ap (λ (l : List ℕ). l ++ byte ∷ rest) bytes ∙ ap (λ (l : List ℕ). l ++ byte ∷ rest) (sym (append_assoc (front p given) (tag_byte ∷ []) p.field))
-          ∙ number_text (front p given ++ tag_byte ∷ []) p.field rest byte n (number_is p.field byte is small long) ∙ append_assoc (front p given) (tag_byte ∷ []) (to_be_bytes w32 n ++ rest);
+            ∙ number_text (front p given ++ tag_byte ∷ []) p.field rest byte n (number_is p.field byte is small long) ∙ append_assoc (front p given) (tag_byte ∷ []) (to_be_bytes w32 n ++ rest);
         place = refl;
       };
       known = known;
@@ -200,9 +202,9 @@ from_connection p before rest given byte fault small room parts =
     chosen (Faults (before ++ byte ∷ rest) fault) (nat_lt (length p.field) 3) _ _
     (λ short is. cc)
     (λ long. chosen (Faults (before ++ byte ∷ rest) fault) (nat_lt n p.count) _ _
-      (λ below is. cc)
-      (λ over. told (before ++ byte ∷ rest) p (ConnRange (p.at - 3) n) fault
-        (from_range p before rest given 83 byte small room parts.count parts.bytes parts.valid.0 parts.valid.1 (ltb-false (length p.field) 3 long) (inl refl) (ltb-false n p.count over))))
+    (λ below is. cc)
+    (λ over. told (before ++ byte ∷ rest) p (ConnRange (p.at - 3) n) fault
+    (from_range p before rest given 83 byte small room parts.count parts.bytes parts.valid.0 parts.valid.1 (ltb-false (length p.field) 3 long) (inl refl) (ltb-false n p.count over))))
 
 from_closed : (p : Progress) (before rest : List ℕ) (given : List Record) (byte : ℕ) (fault : CaptureFault) → byte < 256 → p.at < capture_limit → Parts Closed p given before → Faults (before ++ byte ∷ rest) fault (number Closed p byte)
 from_closed p before rest given byte fault small room parts =
@@ -210,9 +212,9 @@ from_closed p before rest given byte fault small room parts =
     chosen (Faults (before ++ byte ∷ rest) fault) (nat_lt (length p.field) 3) _ _
     (λ short is. cc)
     (λ long. chosen (Faults (before ++ byte ∷ rest) fault) (nat_lt n p.count) _ _
-      (λ below is. cc)
-      (λ over. told (before ++ byte ∷ rest) p (ConnRange (p.at - 3) n) fault
-        (from_range p before rest given 67 byte small room parts.count parts.bytes parts.valid.0 parts.valid.1 (ltb-false (length p.field) 3 long) (inr (refl, parts.valid.2)) (ltb-false n p.count over))))
+    (λ below is. cc)
+    (λ over. told (before ++ byte ∷ rest) p (ConnRange (p.at - 3) n) fault
+    (from_range p before rest given 67 byte small room parts.count parts.bytes parts.valid.0 parts.valid.1 (ltb-false (length p.field) 3 long) (inr (refl, parts.valid.2)) (ltb-false n p.count over))))
 
 from_length : (conn : ℕ) (p : Progress) (before rest : List ℕ) (given : List Record) (byte : ℕ) (fault : CaptureFault) → byte < 256 → p.at < capture_limit → Parts (Length conn) p given before → Faults (before ++ byte ∷ rest) fault (number (Length conn) p byte)
 from_length conn p before rest given byte fault small room parts =
@@ -222,29 +224,29 @@ from_length conn p before rest given byte fault small room parts =
     chosen (Faults (before ++ byte ∷ rest) fault) (nat_lt (length p.field) 3) _ _
     (λ short is. cc)
     (λ long. chosen (Faults (before ++ byte ∷ rest) fault) (nat_lt segment_limit n) _ _
-      (λ over.
-        let full : 3 ≤ length p.field = ltb-false (length p.field) 3 long in
-        let place : p.at ≡ length (front p given) + 1 + length middle + 3 = tag_place p given before 83 middle parts.count parts.bytes parts.valid.1 full in
-        told (before ++ byte ∷ rest) p (SegmentLength (p.at - 3) n) fault (record {
-          version = p.version;
-          count = p.count;
-          items = given;
-          tag_at = length (front p given);
-          conn = conn;
-          rest = rest;
-          front = record {
-            valid = parts.valid.0;
-            whole = ap (λ (l : List ℕ). l ++ byte ∷ rest) (parts.bytes ∙ sym (append_assoc (front p given) (83 ∷ middle) p.field))
-              ∙ number_text head p.field rest byte n (number_is p.field byte parts.valid.1 small full) ∙ append_assoc (front p given) (83 ∷ middle) (to_be_bytes w32 n ++ rest);
-            place = refl;
-          };
-          below = parts.valid.2;
-          place = omega (arith, place);
-          over = ltb-true segment_limit n over;
-          fits = small_number p.field byte parts.valid.1 small full;
-          within = omega (arith, place, room);
-        }))
-      (λ few. chosen (Faults (before ++ byte ∷ rest) fault) (n == 0) _ _ (λ empty is. cc) (λ some is. cc)))
+    (λ over.
+    let full : 3 ≤ length p.field = ltb-false (length p.field) 3 long in
+    let place : p.at ≡ length (front p given) + 1 + length middle + 3 = tag_place p given before 83 middle parts.count parts.bytes parts.valid.1 full in
+    told (before ++ byte ∷ rest) p (SegmentLength (p.at - 3) n) fault (record {
+      version = p.version;
+      count = p.count;
+      items = given;
+      tag_at = length (front p given);
+      conn = conn;
+      rest = rest;
+      front = record {
+        valid = parts.valid.0;
+        whole = ap (λ (l : List ℕ). l ++ byte ∷ rest) (parts.bytes ∙ sym (append_assoc (front p given) (83 ∷ middle) p.field))
+            ∙ number_text head p.field rest byte n (number_is p.field byte parts.valid.1 small full) ∙ append_assoc (front p given) (83 ∷ middle) (to_be_bytes w32 n ++ rest);
+        place = refl;
+      };
+      below = parts.valid.2;
+      place = omega (arith, place);
+      over = ltb-true segment_limit n over;
+      fits = small_number p.field byte parts.valid.1 small full;
+      within = omega (arith, place, room);
+    }))
+    (λ few. chosen (Faults (before ++ byte ∷ rest) fault) (n == 0) _ _ (λ empty is. cc) (λ some is. cc)))
 
 from_payload : (conn size : ℕ) (p : Progress) (before rest : List ℕ) (byte : ℕ) (fault : CaptureFault) → Faults (before ++ byte ∷ rest) fault (segment conn size p byte)
 from_payload conn size p before rest byte fault =
@@ -327,13 +329,13 @@ first (byte ∷ more) p given before fault all none read stands is =
     let on = from_step p given before byte all.0 read in
     let next = fed_step p given before byte stands in
     elim (fault_in s.next.due) as (λ (o : Option CaptureFault). fault_in s.next.due ≡ o → HasFault (before ++ byte ∷ more) fault) [
-      None ↦ λ still. subst (λ (l : List ℕ). HasFault l fault) (append_assoc before (byte ∷ []) more)
-        (first more s.next (given ++ option_to_list s.gave) (before ++ byte ∷ []) fault all.1 still on next is)
-    | (Some found) ↦ λ met.
-      let broken : s.next.due ≡ Broken found = is_broken s.next.due found met in
-      let last : fault_in (read_from s.next more).last.due ≡ Some found = ap (λ (r : Reading). fault_in r.last.due) (read_broken s.next found more broken) ∙ met in
-      let same : found ≡ fault = cc in
-      subst (λ (f : CaptureFault). HasFault (before ++ byte ∷ more) f) same (from_step_fault p before more given byte found none all.0 read stands broken)
+      | None ↦ λ still. subst (λ (l : List ℕ). HasFault l fault) (append_assoc before (byte ∷ []) more)
+          (first more s.next (given ++ option_to_list s.gave) (before ++ byte ∷ []) fault all.1 still on next is)
+      | (Some found) ↦ λ met.
+          let broken : s.next.due ≡ Broken found = is_broken s.next.due found met in
+          let last : fault_in (read_from s.next more).last.due ≡ Some found = ap (λ (r : Reading). fault_in r.last.due) (read_broken s.next found more broken) ∙ met in
+          let same : found ≡ fault = cc in
+          subst (λ (f : CaptureFault). HasFault (before ++ byte ∷ more) f) same (from_step_fault p before more given byte found none all.0 read stands broken)
     ] refl
 
 -- ---- each fault
@@ -371,9 +373,9 @@ bad_has text fault all bad =
     let r : Reading = read_from start text in
     let begun : Parts Letters start [] [] = record { bytes = refl; count = refl; short = omega arith; valid = (omega arith, refl) } in
     elim (fault_in r.last.due) as (λ (o : Option CaptureFault). fault_in r.last.due ≡ o → HasFault text fault) [
-      None ↦ λ none. cut_has r.last.due r.last r.given text fault none (read_whole start [] [] text all begun) refl refl bad
-    | (Some found) ↦ λ met.
-      let ends : Bad found ≡ Bad fault = sym (ap (λ (d : Due). ended d r.last r.given) (is_broken r.last.due found met)) ∙ bad in
-      let same : found ≡ fault = cc in
-      first text start [] [] fault all refl begun starts (met ∙ ap (λ (f : CaptureFault). Some f) same)
+      | None ↦ λ none. cut_has r.last.due r.last r.given text fault none (read_whole start [] [] text all begun) refl refl bad
+      | (Some found) ↦ λ met.
+          let ends : Bad found ≡ Bad fault = sym (ap (λ (d : Due). ended d r.last r.given) (is_broken r.last.due found met)) ∙ bad in
+          let same : found ≡ fault = cc in
+          first text start [] [] fault all refl begun starts (met ∙ ap (λ (f : CaptureFault). Some f) same)
     ] refl

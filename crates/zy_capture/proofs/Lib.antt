@@ -10,3 +10,4 @@ pub mod RepliesWholeLemmas
 pub mod RepliesSpelledLemmas
 pub mod AgainLemmas
 pub mod FaultLemmas
+pub mod FaultReadLemmas

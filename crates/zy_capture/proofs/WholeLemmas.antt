@@ -82,7 +82,7 @@ Leads given text byte s = IsReadTo s.next.due s.next (given ++ option_to_list s.
 stays : (due : Due) (p : Progress) (given : List Record) (text : List ℕ) → IsReadTo due p given text → IsReadTo due p (given ++ []) text
 stays due p given text read = subst (λ (l : List Record). IsReadTo due p l text) (sym (append-nil given)) read
 
-letters_on : (at byte : ℕ) → at < 6 → byte ≡ slice_index letters at → take at letters ++ byte ∷ [] ≡ take (at + 1) letters
+pub letters_on : (at byte : ℕ) → at < 6 → byte ≡ slice_index letters at → take at letters ++ byte ∷ [] ≡ take (at + 1) letters
 letters_on at byte within is = grind (arith, common_steps)
 
 -- one record more

@@ -1,7 +1,7 @@
 -- The faults of a capture, docs/FORMATS.md, "Capture": what a text is that has one of them. Each comes after bytes that
 -- spell the beginning of a capture, where the first wrong byte or number follows. That the verdict on a text is bad with
 -- a fault exactly where the text has it is a law in src/laws.rt.
-use Rattle.std.specs.Prelude.{◌≡◌, ◌⊎◌, ℕ, ◌+◌, ◌^◌, ◌<◌, ◌≤◌, Bool, false, List, [], ◌∷◌, ◌++◌, length, flat_map, None}
+use Rattle.std.specs.Prelude.{◌≡◌, ◌⊎◌, ℕ, ◌+◌, ◌^◌, ◌<◌, ◌≤◌, false, List, [], ◌∷◌, ◌++◌, length, flat_map, None}
 use Rattle.std.specs.Int.{to_be_bytes, w32}
 use Rattle.zy_capture.specs.declared.record.Record.{Record}
 use Rattle.zy_capture.specs.declared.capture_fault.CaptureFault.{CaptureFault}
@@ -38,6 +38,7 @@ pub record IsBadMagic (text : List ℕ) (at : ℕ) : Type 0 where
   pub rest : List ℕ
   pub whole : text ≡ front ++ byte ∷ rest
   pub place : at ≡ length front
+  pub within : at < 8
   pub begins : BeginsMagic front
   pub differs : BeginsMagic (front ++ byte ∷ []) → ⊥
 

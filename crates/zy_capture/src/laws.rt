@@ -4,6 +4,7 @@ ghost use Rattle.std.specs.List.{slice_index_or};
 ghost use Rattle.zy_capture.specs.declared.record.Record.{Record};
 ghost use Rattle.zy_capture.specs.declared.capture_fault.CaptureFault.{CaptureFault};
 ghost use Rattle.zy_capture.specs.Capture.{AreBytes, Spells};
+ghost use Rattle.zy_capture.specs.Faults.{HasFault};
 ghost use Rattle.zy_capture.specs.Verdict.{Progress, verdict, fault_of};
 ghost use Rattle.zy_capture.specs.Verdict.Verdict.{Good, Bad};
 ghost use Rattle.zy_capture.specs.Standing.{StandsFor};
@@ -20,6 +21,11 @@ ghost use Rattle.zy_capture.specs.Streams.{closes, stream, sessions_of, no_bytes
 pub fn a_capture_is_good_exactly_where_it_is_a_spelling()
     ensures exactly { (text : List ℕ) (version count : ℕ) (items : List Record) → AreBytes text
         → verdict text ≡ Good version count items ↔ Spells text version count items }
+{}
+
+/// The verdict on a text is bad with a fault exactly where the text has that fault.
+pub fn a_capture_is_bad_exactly_where_it_has_a_fault()
+    ensures exactly { (text : List ℕ) (fault : CaptureFault) → AreBytes text → verdict text ≡ Bad fault ↔ HasFault text fault }
 {}
 
 /// Two readers to which the same bytes were fed gave the same records, and are in the same state. So it does not matter
@@ -69,13 +75,11 @@ pub fn the_first_fault_of_a_replies_file_counts()
 pub fn written_replies_are_read_again()
     ensures again { (outputs : AllOutputs) → AreOutputs outputs → length (replies_bytes outputs) ≤ replies_limit
         → Replies.verdict (replies_bytes outputs) ≡ Replies.Verdict.Good outputs.version (items_of outputs) }
-{
-}
+{}
 
 /// Outputs to which one was added, and those without any, can be written and read again.
 pub fn outputs_stay_outputs()
     ensures none { (version : ℕ) → (version ≡ 1) ⊎ (version ≡ 2) → AreOutputs (record { version = version; sessions = [] }) }
     ensures added { (outputs : AllOutputs) (conn : ℕ) (bytes : List ℕ) → AreOutputs outputs → MayAdd outputs conn
         → AreOutputs (with_output outputs conn bytes) }
-{
-}
+{}

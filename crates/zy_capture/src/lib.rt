@@ -19,11 +19,13 @@ mod tests;
 mod writing;
 
 pub use capture_fault::{CaptureFault, FeedFault};
-pub use laws::{outputs_stay_outputs, written_replies_are_read_again, 
+pub use laws::{
+    a_capture_is_bad_exactly_where_it_has_a_fault,
     a_capture_is_good_exactly_where_it_is_a_spelling,
     a_replies_file_is_good_exactly_where_it_is_a_spelling, each_session_holds_its_stream,
-    the_first_fault_of_a_capture_counts, the_first_fault_of_a_replies_file_counts,
-    what_is_given_depends_on_the_bytes_alone, what_is_given_of_replies_depends_on_the_bytes_alone,
+    outputs_stay_outputs, the_first_fault_of_a_capture_counts,
+    the_first_fault_of_a_replies_file_counts, what_is_given_depends_on_the_bytes_alone,
+    what_is_given_of_replies_depends_on_the_bytes_alone, written_replies_are_read_again,
 };
 pub use outputs::Outputs;
 pub use reader::Reader;

@@ -1,4 +1,3 @@
-use Rattle.zy_capture.specs.Outputs.{AllOutputs}
 use Rattle.zy_capture.specs.Replies.{replies_bytes, items_of}
 use Rattle.zy_capture.proofs.RepliesSpelledLemmas.{spells_good}
 use Rattle.zy_capture.proofs.AgainLemmas.{written_spells}
