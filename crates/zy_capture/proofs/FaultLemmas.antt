@@ -11,7 +11,8 @@ use Rattle.zy_capture.specs.declared.capture_fault.CaptureFault.TheVariants.{Bad
 use Rattle.zy_capture.specs.declared.due.Due.{Due}
 use Rattle.zy_capture.specs.declared.due.Due.TheVariants.{Letters, Digit, LineFeed, Count, Tag, Connection, Length, Payload, Closed, Nothing, Broken}
 use Rattle.zy_capture.specs.Capture.{AreBytes, letters, magic, spelled, spelling, IsCapture, capture_limit, connection_limit, segment_limit}
-use Rattle.zy_capture.specs.Verdict.{Progress, Step, Reading, Verdict, start, goes, refuses, letter, digit, line_feed, tag, number, segment, taken, is_open, is_full, step, read_from, reading, ended, verdict, fault_in, fault_of, is_good}
+use Rattle.zy_capture.specs.Steps.{Progress, Step, start, goes, refuses, letter, digit, line_feed, tag, number, segment, taken, is_open, is_full, step}
+use Rattle.zy_capture.specs.Verdict.{Reading, Verdict, read_from, reading, ended, verdict, fault_in, fault_of, is_good}
 use Rattle.zy_capture.specs.Verdict.Verdict.{Bad}
 use Rattle.zy_capture.specs.Standing.{StandsFor}
 use Rattle.zy_capture.specs.Faults.{BeginsMagic, IsConnRange, IsCut, HasFault}

@@ -12,7 +12,8 @@ use Rattle.zy_capture.specs.declared.capture_fault.CaptureFault.TheVariants.{Bad
 use Rattle.zy_capture.specs.declared.due.Due.{Due}
 use Rattle.zy_capture.specs.declared.due.Due.TheVariants.{Letters, Digit, LineFeed, Count, Tag, Connection, Length, Closed, Nothing, Broken}
 use Rattle.zy_capture.specs.Capture.{AreBytes, letters, magic, spelled, spelling, IsCapture, Spells, capture_limit, connection_limit, segment_limit}
-use Rattle.zy_capture.specs.Verdict.{Progress, Step, Reading, start, goes, refuses, letter, digit, line_feed, tag, judged, is_open, step, read_from, reading, ended, verdict, fault_in, fault_of, is_good}
+use Rattle.zy_capture.specs.Steps.{Progress, Step, start, goes, refuses, letter, digit, line_feed, tag, judged, is_open, step}
+use Rattle.zy_capture.specs.Verdict.{Reading, read_from, reading, ended, verdict, fault_in, fault_of, is_good}
 use Rattle.zy_capture.specs.Verdict.Verdict.{Good, Bad}
 use Rattle.zy_capture.specs.Standing.{StandsFor}
 use Rattle.zy_capture.specs.Faults.{BeginsMagic, front_text, IsBadMagic, IsConnCount, IsBadTag, IsConnRange, IsSegmentLength, IsCut, IsTrailing, IsTooLong, HasFault}

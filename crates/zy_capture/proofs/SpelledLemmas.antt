@@ -12,7 +12,8 @@ use Rattle.zy_capture.specs.declared.record.Record.TheVariants as Kinds
 use Rattle.zy_capture.specs.declared.due.Due.{Due}
 use Rattle.zy_capture.specs.declared.due.Due.TheVariants.{Count, Tag, Connection, Length, Payload, Closed, Nothing}
 use Rattle.zy_capture.specs.Capture.{magic, spelled, spelling, IsRecordOf, IsCapture, Spells, capture_limit, connection_limit, segment_limit}
-use Rattle.zy_capture.specs.Verdict.{Progress, Step, Reading, start, goes, gives, grows, tag, judged, number, segment, taken, is_open, step, read_from, reading, with_front, ended, verdict}
+use Rattle.zy_capture.specs.Steps.{Progress, Step, start, goes, gives, grows, tag, judged, number, segment, taken, is_open, step}
+use Rattle.zy_capture.specs.Verdict.{Reading, read_from, reading, with_front, ended, verdict}
 use Rattle.zy_capture.specs.Verdict.Verdict.{Good}
 use Rattle.zy_capture.proofs.ByteLemmas.{assoc_twice}
 

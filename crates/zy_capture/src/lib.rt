@@ -1,4 +1,4 @@
-//! Capture files and replies files: readers that are fed byte by byte, streams, outputs and a writer.
+//! Capture and replies files: readers fed byte by byte, streams, outputs and the writer.
 #![tactic(auto)]
 
 mod capture_fault;
@@ -7,6 +7,8 @@ mod laws;
 mod outputs;
 #[cfg(test)]
 mod plain;
+#[cfg(test)]
+mod plain_tests;
 mod reader;
 mod record;
 mod replies_due;

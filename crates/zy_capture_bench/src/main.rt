@@ -18,7 +18,9 @@ impl Tally {
         match found {
             Record::Segment(segment) => {
                 self.segments = self.segments.saturating_add(1);
-                self.bytes = self.bytes.saturating_add(segment.bytes.bytes().len() as u64);
+                self.bytes = self
+                    .bytes
+                    .saturating_add(segment.bytes.bytes().len() as u64);
             }
             Record::Close { .. } => self.closes = self.closes.saturating_add(1),
         }
@@ -37,7 +39,11 @@ fn feed_all(reader: &mut Reader, tally: &mut Tally, bytes: &[u8]) -> Result<(), 
 }
 
 // Reads to the end of the input.
-fn read_all<R: Read>(input: &mut R, reader: &mut Reader, tally: &mut Tally) -> Result<(), FeedFault> {
+fn read_all<R: Read>(
+    input: &mut R,
+    reader: &mut Reader,
+    tally: &mut Tally,
+) -> Result<(), FeedFault> {
     let mut buffer = [0u8; 65_536];
     for _ in 0..u64::MAX {
         match input.read(&mut buffer) {
@@ -56,7 +62,11 @@ fn main(rt: HostRuntime) -> ExitCode {
         bytes: 0,
     };
     let fed = read_all(&mut rt.stdin(), &mut reader, &mut tally);
-    let Tally { segments, closes, bytes } = tally;
+    let Tally {
+        segments,
+        closes,
+        bytes,
+    } = tally;
     let _ = println!(rt; "segments {segments} closes {closes} bytes {bytes}");
     match (fed, reader.end()) {
         (Ok(()), Ok(())) => ExitCode::SUCCESS,
