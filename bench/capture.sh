@@ -15,9 +15,9 @@ while len(out) < 80_000_000:
 out += b"E"
 open(sys.argv[1], "wb").write(out)
 PY
-cd "$top/crates/zy_capture_bench"
+cd "$top/crates/capture_bench"
 rt run < stdin > /dev/null
-program="out/zy_capture_bench"
+program="out/capture_bench"
 python3 - "$work/capture" "$program" <<'PY'
 import os, subprocess, sys, time
 size, best = os.path.getsize(sys.argv[1]), None

@@ -1,6 +1,6 @@
 -- What a whole text is as a replies file: the outputs that it spells, or its first fault. A text is read from its first
 -- byte to its last. That it is good exactly where it is a spelling is a law in src/laws.rt.
-use Rattle.std.specs.Prelude.{ℕ, ◌+◌, ◌==◌, if◌then◌else◌, Bool, true, false, List, [], ◌∷◌, ◌++◌, Option, None, Some, option_to_list}
+use Rattle.std.specs.Prelude.{ℕ, ◌==◌, if◌then◌else◌, Bool, true, false, List, [], ◌∷◌, ◌++◌, Option, None, Some, option_to_list}
 use Rattle.zy_base.specs.declared.file_fault.FileFault.{FileFault}
 use Rattle.zy_base.specs.declared.file_fault.FileFault.TheVariants.{Truncated}
 use Rattle.zy_capture.specs.declared.session_bytes.SessionBytes.{SessionBytes}

@@ -19,7 +19,8 @@ pub(crate) const SESSIONS: &[u8] =
 
 pub(crate) const NO_OUTPUT: &[u8] = b"ZYGREP1\nE";
 
-pub(crate) const OUTPUTS: &[u8] = b"ZYGREP1\nR\0\0\0\0\0\0\0\0\0\0\0\x02okR\0\0\0\x01\0\0\0\0\0\0\0\0E";
+pub(crate) const OUTPUTS: &[u8] =
+    b"ZYGREP1\nR\0\0\0\0\0\0\0\0\0\0\0\x02okR\0\0\0\x01\0\0\0\0\0\0\0\0E";
 
 pub(crate) const NO_SESSION: &[u8] = b"ZYGREP2\nE";
 

@@ -46,7 +46,13 @@ impl Model for Reader {
     ghost Value = { Progress };
 
     ghost view = { λ r. record {
-        due = r.due; field = take r.seen r.field; payload = r.payload.items; version = r.version; count = r.count; at = r.at } };
+      due = r.due;
+      field = take r.seen r.field;
+      payload = r.payload.items;
+      version = r.version;
+      count = r.count;
+      at = r.at;
+    } };
 
     ghost invariant = { λ r. (r.seen < 4) × (r.seen ≤ r.at)
         × IsWithin r.due r.at r.payload.items (vec_capacity r.payload) };

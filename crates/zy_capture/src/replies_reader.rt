@@ -48,8 +48,14 @@ impl Model for RepliesReader {
     ghost Value = { Progress };
 
     ghost view = { λ r. record {
-        due = r.due; field = take r.seen r.field; payload = r.payload.items;
-        version = r.version; connections = r.connections; sessions = r.sessions; at = r.at } };
+      due = r.due;
+      field = take r.seen r.field;
+      payload = r.payload.items;
+      version = r.version;
+      connections = r.connections;
+      sessions = r.sessions;
+      at = r.at;
+    } };
 
     ghost invariant = { λ r. (r.seen < 8) × (r.seen ≤ r.at)
         × IsWithin r.due r.at r.seen r.payload.items };
