@@ -8,7 +8,8 @@ use Rattle.zy_capture.specs.declared.capture_fault.FeedFault.TheVariants.{Fault,
 use Rattle.zy_capture.specs.declared.capture_fault.FeedFault.{FeedFault}
 use Rattle.zy_capture.specs.declared.due.Due.{Due}
 use Rattle.zy_capture.specs.declared.due.Due.TheVariants.{Broken}
-use Rattle.zy_capture.specs.Verdict.{Progress, Step, Reading, start, step, read_from, reading, with_front, ended, verdict, fault_in, fault_of, version_of, version_in, count_of, count_in}
+use Rattle.zy_capture.specs.Steps.{Progress, Step, start, step}
+use Rattle.zy_capture.specs.Verdict.{Reading, read_from, reading, with_front, ended, verdict, fault_in, fault_of, version_of, version_in, count_of, count_in}
 use Rattle.zy_capture.specs.Verdict.Verdict.{Bad}
 use Rattle.zy_capture.specs.Standing.{StandsFor, Follows, IsNotMemory, records_in, fault_told}
 

@@ -8,3 +8,6 @@ pub mod RepliesFeeding
 pub mod ByteLemmas
 pub mod RepliesWholeLemmas
 pub mod RepliesSpelledLemmas
+pub mod AgainLemmas
+pub mod FaultLemmas
+pub mod FaultReadLemmas

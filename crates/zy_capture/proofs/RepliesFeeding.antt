@@ -8,7 +8,8 @@ use Rattle.zy_base.specs.declared.file_fault.FileFeed.TheVariants.{Fault, NoMemo
 use Rattle.zy_base.specs.declared.file_fault.FileFeed.{FileFeed}
 use Rattle.zy_capture.specs.declared.replies_due.RepliesDue.{RepliesDue}
 use Rattle.zy_capture.specs.declared.replies_due.RepliesDue.TheVariants.{Broken}
-use Rattle.zy_capture.specs.RepliesVerdict.{Progress, Step, Reading, start, step, read_from, reading, with_front, ended, verdict, fault_in, fault_of, version_of, version_in}
+use Rattle.zy_capture.specs.RepliesSteps.{Progress, Step, start, step}
+use Rattle.zy_capture.specs.RepliesVerdict.{Reading, read_from, reading, with_front, ended, verdict, fault_in, fault_of, version_of, version_in}
 use Rattle.zy_capture.specs.RepliesVerdict.Verdict.{Bad}
 use Rattle.zy_capture.specs.RepliesStanding.{StandsForReplies, Follows, IsNotMemory, outputs_in, fault_told}
 

@@ -11,7 +11,8 @@ use Rattle.zy_capture.specs.declared.replies_due.RepliesDue.{RepliesDue}
 use Rattle.zy_capture.specs.declared.replies_due.RepliesDue.TheVariants.{Tag, Connection, Session, Length, Output, Nothing}
 use Rattle.zy_capture.specs.Capture.{connection_limit}
 use Rattle.zy_capture.specs.Replies.{magic, session_text, spelled, spelling, IsNext, AreNumbers, AreInOrder, SpellsReplies, replies_limit}
-use Rattle.zy_capture.specs.RepliesVerdict.{Progress, Step, Reading, start, goes, gives, grows, connection, session, size_read, four, eight, output, taken, is_open, step, read_from, reading, with_front, ended, verdict}
+use Rattle.zy_capture.specs.RepliesSteps.{Progress, Step, start, goes, gives, grows, connection, session, size_read, four, eight, output, taken, is_open, step}
+use Rattle.zy_capture.specs.RepliesVerdict.{Reading, read_from, reading, with_front, ended, verdict}
 use Rattle.zy_capture.specs.RepliesVerdict.Verdict.{Good}
 use Rattle.zy_capture.proofs.ByteLemmas.{assoc_twice}
 

@@ -13,7 +13,8 @@ use Rattle.zy_capture.specs.declared.replies_due.RepliesDue.{RepliesDue}
 use Rattle.zy_capture.specs.declared.replies_due.RepliesDue.TheVariants.{Letters, Digit, LineFeed, Tag, Connection, Session, Length, Output, Nothing, Broken}
 use Rattle.zy_capture.specs.Capture.{AreBytes, connection_limit}
 use Rattle.zy_capture.specs.Replies.{letters, magic, session_text, spelled, spelling, IsNext, AreNumbers, AreInOrder, SpellsReplies, replies_limit}
-use Rattle.zy_capture.specs.RepliesVerdict.{Progress, Step, Reading, start, goes, gives, keeps, grows, letter, digit, line_feed, tag, may_come, due_session, connection, session, size_read, four, eight, output, taken, is_open, is_full, step, read_from, reading, ended, verdict}
+use Rattle.zy_capture.specs.RepliesSteps.{Progress, Step, start, goes, gives, keeps, grows, letter, digit, line_feed, tag, may_come, due_session, connection, session, size_read, four, eight, output, taken, is_open, is_full, step}
+use Rattle.zy_capture.specs.RepliesVerdict.{Reading, read_from, reading, ended, verdict}
 use Rattle.zy_capture.specs.RepliesVerdict.Verdict.{Good}
 use Rattle.zy_capture.proofs.ByteLemmas.{bytes_on, byte_at, positive, chosen, counted, on_part, assoc_twice}
 

@@ -12,7 +12,8 @@ use Rattle.zy_capture.specs.declared.record.Record.TheVariants as Kinds
 use Rattle.zy_capture.specs.declared.due.Due.{Due}
 use Rattle.zy_capture.specs.declared.due.Due.TheVariants.{Count, Tag, Connection, Length, Payload, Closed, Nothing}
 use Rattle.zy_capture.specs.Capture.{magic, spelled, spelling, IsRecordOf, IsCapture, Spells, capture_limit, connection_limit, segment_limit}
-use Rattle.zy_capture.specs.Verdict.{Progress, Step, Reading, start, goes, gives, grows, tag, judged, number, segment, taken, is_open, step, read_from, reading, with_front, ended, verdict}
+use Rattle.zy_capture.specs.Steps.{Progress, Step, start, goes, gives, grows, tag, judged, number, segment, taken, is_open, step}
+use Rattle.zy_capture.specs.Verdict.{Reading, read_from, reading, with_front, ended, verdict}
 use Rattle.zy_capture.specs.Verdict.Verdict.{Good}
 use Rattle.zy_capture.proofs.ByteLemmas.{assoc_twice}
 
@@ -25,20 +26,20 @@ byte_of n worth = (n / worth) % 256
 -- ---- one byte
 
 -- a place where no number and no segment is half read
-abbrev at_place : Due → ℕ → ℕ → ℕ → Progress
+abbrev pub at_place : Due → ℕ → ℕ → ℕ → Progress
 at_place due version count at = record { due = due; field = []; payload = []; version = version; count = count; at = at }
 
 -- what is read after a step
-abbrev goes_on : Step → List ℕ → Reading
+abbrev pub goes_on : Step → List ℕ → Reading
 goes_on s more = with_front s.gave (read_from s.next more)
 
 zero_no : (n : ℕ) → 0 < n → (n == 0) ≡ false
 zero_no n some = grind (arith, nat_tests)
 
-not_full : (is : Bool) (at : ℕ) → at < capture_limit → (is && nat_le capture_limit at) ≡ false
+pub not_full : (is : Bool) (at : ℕ) → at < capture_limit → (is && nat_le capture_limit at) ≡ false
 not_full is at room = grind (arith, nat_tests)
 
-read_byte : (p : Progress) (byte : ℕ) (more : List ℕ) → p.at < capture_limit → read_from p (byte ∷ more) ≡ goes_on (taken p.due p byte) more
+pub read_byte : (p : Progress) (byte : ℕ) (more : List ℕ) → p.at < capture_limit → read_from p (byte ∷ more) ≡ goes_on (taken p.due p byte) more
 unfolding read_from
 read_byte p byte more room =
     let open_step : step p byte ≡ taken p.due p byte = rw (not_full (is_open p.due) p.at room) refl in
@@ -47,14 +48,14 @@ read_byte p byte more room =
 -- ---- numbers
 
 -- a number of four bytes is due
-abbrev IsNumber : Due → Type 0
+abbrev pub IsNumber : Due → Type 0
 IsNumber due = (p : Progress) (byte : ℕ) → taken due p byte ≡ number due p byte
 
 read_digit : (p : Progress) (byte : ℕ) (more : List ℕ) → IsNumber p.due → p.at < capture_limit → read_from p (byte ∷ more) ≡ goes_on (number p.due p byte) more
 read_digit p byte more is room = read_byte p byte more room ∙ ap (λ (s : Step). goes_on s more) (is p byte)
 
 -- a place where some bytes of a number are read
-abbrev halfway : Due → ℕ → ℕ → ℕ → List ℕ → Progress
+abbrev pub halfway : Due → ℕ → ℕ → ℕ → List ℕ → Progress
 halfway due version count at field = record { due = due; field = field; payload = []; version = version; count = count; at = at }
 
 read_four : (due : Due) (version count at a b c d : ℕ) (more : List ℕ) → IsNumber due → at + 3 < capture_limit
@@ -68,11 +69,11 @@ read_four due version count at a b c d more is room =
     ∙ read_digit (halfway due version count (at + 3) (a ∷ b ∷ c ∷ [])) d more is room
 
 -- a number that is read is the one that was written
-record IsNumberRead (due : Due) (version count at n : ℕ) (more : List ℕ) : Type 0 where
-  field : List ℕ
-  reads : read_from (at_place due version count at) (to_be_bytes w32 n ++ more) ≡ goes_on (judged due (halfway due version count (at + 3) field) n) more
+pub record IsNumberRead (due : Due) (version count at n : ℕ) (more : List ℕ) : Type 0 where
+  pub field : List ℕ
+  pub reads : read_from (at_place due version count at) (to_be_bytes w32 n ++ more) ≡ goes_on (judged due (halfway due version count (at + 3) field) n) more
 
-read_number : (due : Due) (version count at n : ℕ) (more : List ℕ) → IsNumber due → at + 3 < capture_limit → n < 2 ^ 32 → IsNumberRead due version count at n more
+pub read_number : (due : Due) (version count at n : ℕ) (more : List ℕ) → IsNumber due → at + 3 < capture_limit → n < 2 ^ 32 → IsNumberRead due version count at n more
 read_number due version count at n more is room small =
     let a : ℕ = byte_of n 16777216 in let b : ℕ = byte_of n 65536 in let c : ℕ = byte_of n 256 in let d : ℕ = n % 256 in
     record {
@@ -113,10 +114,10 @@ read_payload conn size version count at stop payload (byte ∷ next ∷ bytes) m
 length_read : (p : Progress) (conn size : ℕ) → size ≤ segment_limit → 0 < size → judged (Length conn) p size ≡ goes (record p { payload = [] }) (Payload conn size)
 length_read p conn size small some = rw (le-ltb segment_limit size small, zero_no size some) refl
 
-connection_read : (p : Progress) (conn : ℕ) → conn < p.count → judged Connection p conn ≡ goes p (Length conn)
+pub connection_read : (p : Progress) (conn : ℕ) → conn < p.count → judged Connection p conn ≡ goes p (Length conn)
 connection_read p conn below = rw (lt-ltb conn p.count below) refl
 
-closed_read : (p : Progress) (conn : ℕ) → conn < p.count → judged Closed p conn ≡ gives p (Kinds.Close conn)
+pub closed_read : (p : Progress) (conn : ℕ) → conn < p.count → judged Closed p conn ≡ gives p (Kinds.Close conn)
 closed_read p conn below = rw (lt-ltb conn p.count below) refl
 
 -- the length of a segment, and its bytes
@@ -160,10 +161,10 @@ read_record (Kinds.Close conn) version count at stop more valid few stops room =
     ∙ ap (λ (k : ℕ). with_front (Some (Kinds.Close conn)) (read_from (at_place Tag version count k) more)) (omega arith)
 
 -- records in front of a reading
-abbrev with_records : List Record → Reading → Reading
+abbrev pub with_records : List Record → Reading → Reading
 with_records items r = record { given = items ++ r.given; last = r.last }
 
-read_records : (items : List Record) (version count at stop : ℕ) (more : List ℕ) → AllByRecursion (IsRecordOf version count) items → count ≤ connection_limit → stop ≡ at + length (flat_map spelled items) → stop ≤ capture_limit
+pub read_records : (items : List Record) (version count at stop : ℕ) (more : List ℕ) → AllByRecursion (IsRecordOf version count) items → count ≤ connection_limit → stop ≡ at + length (flat_map spelled items) → stop ≤ capture_limit
     → read_from (at_place Tag version count at) (flat_map spelled items ++ more) ≡ with_records items (read_from (at_place Tag version count stop) more)
 read_records [] version count at stop more valid few stops room = ap (λ (k : ℕ). read_from (at_place Tag version count k) more) (omega arith)
 read_records (item ∷ items) version count at stop more valid few stops room =
@@ -180,12 +181,12 @@ read_end : (version count at : ℕ) → goes_on (goes (at_place Tag version coun
 unfolding read_from
 read_end version count at = refl
 
-read_magic : (version : ℕ) (more : List ℕ) → (version ≡ 1) ⊎ (version ≡ 2) → read_from start (magic version ++ more) ≡ read_from (at_place Count version 0 8) more
+pub read_magic : (version : ℕ) (more : List ℕ) → (version ≡ 1) ⊎ (version ≡ 2) → read_from start (magic version ++ more) ≡ read_from (at_place Count version 0 8) more
 unfolding read_from
 read_magic version more (inl one) = rw one refl
 read_magic version more (inr two) = rw two refl
 
-count_read : (p : Progress) (n : ℕ) → n ≤ connection_limit → judged Count p n ≡ goes (record p { count = n }) Tag
+pub count_read : (p : Progress) (n : ℕ) → n ≤ connection_limit → judged Count p n ≡ goes (record p { count = n }) Tag
 count_read p n few = rw (le-ltb connection_limit n few) refl
 
 -- what the text of a capture gives, and where it ends

@@ -13,14 +13,15 @@ use Rattle.zy_capture.specs.declared.record.Record.TheVariants as Kinds
 use Rattle.zy_capture.specs.declared.due.Due.{Due}
 use Rattle.zy_capture.specs.declared.due.Due.TheVariants.{Letters, Digit, LineFeed, Count, Tag, Connection, Length, Payload, Closed, Nothing, Broken}
 use Rattle.zy_capture.specs.Capture.{AreBytes, letters, magic, spelled, spelling, IsRecordOf, IsCapture, Spells, capture_limit, connection_limit, segment_limit}
-use Rattle.zy_capture.specs.Verdict.{Progress, Step, Reading, start, goes, keeps, grows, letter, digit, line_feed, tag, number, segment, taken, is_open, is_full, step, read_from, reading, ended, verdict}
+use Rattle.zy_capture.specs.Steps.{Progress, Step, start, goes, keeps, grows, letter, digit, line_feed, tag, number, segment, taken, is_open, is_full, step}
+use Rattle.zy_capture.specs.Verdict.{Reading, read_from, reading, ended, verdict}
 use Rattle.zy_capture.specs.Verdict.Verdict.{Good}
 use Rattle.zy_capture.proofs.ByteLemmas.{bytes_on, byte_at, both_true, positive, chosen, counted, assoc_twice, on_part}
 
 -- ---- what was read
 
 -- the bytes that lead to the records of a capture
-abbrev front : Progress → List Record → List ℕ
+abbrev pub front : Progress → List Record → List ℕ
 front p given = magic p.version ++ to_be_bytes w32 p.count ++ flat_map spelled given
 
 -- the bytes that lead to where this is due
@@ -38,11 +39,11 @@ bytes_of Nothing p given = front p given ++ 69 ∷ []
 bytes_of (Broken fault) p given = []
 
 -- a version is 1 or 2
-abbrev IsVersion : ℕ → Type 0
+abbrev pub IsVersion : ℕ → Type 0
 IsVersion version = (version ≡ 1) ⊎ (version ≡ 2)
 
 -- the bytes of a number that is not whole
-abbrev IsField : List ℕ → Type 0
+abbrev pub IsField : List ℕ → Type 0
 IsField field = (length field ≤ 3) × AreBytes field
 
 -- what holds where this is due
@@ -75,14 +76,14 @@ IsReadTo due p given text = Parts due p given text
 -- ---- one byte
 
 -- where a byte leads from there
-abbrev Leads : List Record → List ℕ → ℕ → Step → Type 0
+abbrev pub Leads : List Record → List ℕ → ℕ → Step → Type 0
 Leads given text byte s = IsReadTo s.next.due s.next (given ++ option_to_list s.gave) (text ++ byte ∷ [])
 
 -- no record more
 stays : (due : Due) (p : Progress) (given : List Record) (text : List ℕ) → IsReadTo due p given text → IsReadTo due p (given ++ []) text
 stays due p given text read = subst (λ (l : List Record). IsReadTo due p l text) (sym (append-nil given)) read
 
-letters_on : (at byte : ℕ) → at < 6 → byte ≡ slice_index letters at → take at letters ++ byte ∷ [] ≡ take (at + 1) letters
+pub letters_on : (at byte : ℕ) → at < 6 → byte ≡ slice_index letters at → take at letters ++ byte ∷ [] ≡ take (at + 1) letters
 letters_on at byte within is = grind (arith, common_steps)
 
 -- one record more
@@ -102,7 +103,7 @@ field_on : (field : List ℕ) (byte : ℕ) → IsField field → byte < 256 → 
 field_on field byte is small short = (omega (arith, length-append field (byte ∷ [])), bytes_on field byte is.1 small)
 
 -- the last byte of a number
-number_is : (field : List ℕ) (byte : ℕ) → IsField field → byte < 256 → 3 ≤ length field → to_be_bytes w32 (from_be_bytes w32 (field ++ byte ∷ [])) ≡ field ++ byte ∷ []
+pub number_is : (field : List ℕ) (byte : ℕ) → IsField field → byte < 256 → 3 ≤ length field → to_be_bytes w32 (from_be_bytes w32 (field ++ byte ∷ [])) ≡ field ++ byte ∷ []
 number_is field byte is small long =
     be_bytes_4 (field ++ byte ∷ []) (from_be_bytes w32 (field ++ byte ∷ [])) (omega (arith, length-append field (byte ∷ []), is.0)) (byte_at (field ++ byte ∷ []) (bytes_on field byte is.1 small)) refl
 
@@ -268,7 +269,7 @@ from_taken (Broken fault) p given text byte is small room read =
 has_room : (due : Due) (at : ℕ) → (is_open due && nat_le capture_limit at) ≡ false → is_open due ≡ true → at < capture_limit
 has_room due at full open_still = grind (arith, nat_tests)
 
-from_step : (p : Progress) (given : List Record) (text : List ℕ) (byte : ℕ) → byte < 256 → IsReadTo p.due p given text → Leads given text byte (step p byte)
+pub from_step : (p : Progress) (given : List Record) (text : List ℕ) (byte : ℕ) → byte < 256 → IsReadTo p.due p given text → Leads given text byte (step p byte)
 from_step p given text byte small read =
     chosen (Leads given text byte) (is_full p) _ _
     (λ full. tt)

@@ -1,8 +1,11 @@
 pub mod Capture
+pub mod Steps
 pub mod Verdict
 pub mod Standing
 pub mod Streams
 pub mod Outputs
 pub mod Replies
+pub mod RepliesSteps
 pub mod RepliesVerdict
 pub mod RepliesStanding
+pub mod Faults

@@ -1,6 +1,6 @@
 -- The outputs of all connections, session by session.
-use Rattle.std.specs.Prelude.{◌≡◌, ◌⊎◌, ℕ, ◌+◌, ◌^◌, ◌<◌, ◌==◌, if◌then◌else◌, List, [], ◌∷◌, ◌++◌, length}
-use Rattle.std.specs.List.{slice_set}
+use Rattle.std.specs.Prelude.{◌≡◌, ◌⊎◌, ℕ, ◌+◌, ◌^◌, ◌<◌, ◌≤◌, ◌==◌, if◌then◌else◌, List, [], ◌∷◌, ◌++◌, length}
+use Rattle.std.specs.List.{AllByRecursion, slice_set}
 use Rattle.zy_capture.specs.Capture.{connection_limit}
 use Rattle.zy_capture.specs.Streams.{sessions_of}
 
@@ -25,3 +25,15 @@ with_session sessions conn bytes =
 -- the outputs with one more
 abbrev pub with_output : AllOutputs → ℕ → List ℕ → AllOutputs
 with_output outputs conn bytes = record outputs { sessions = with_session outputs.sessions conn bytes }
+
+-- the outputs of a connection's sessions: there is one in version 1, and some in version 2
+pub record HasSessions (version : ℕ) (outputs : List (List ℕ)) : Type 0 where
+  pub some : 0 < length outputs
+  pub few : length outputs ≤ 2 ^ 31
+  pub one : version ≡ 1 → length outputs ≡ 1
+
+-- the outputs that can be added, one after another
+pub record AreOutputs (outputs : AllOutputs) : Type 0 where
+  pub known : (outputs.version ≡ 1) ⊎ (outputs.version ≡ 2)
+  pub few : length outputs.sessions ≤ connection_limit
+  pub sessions : AllByRecursion (HasSessions outputs.version) outputs.sessions

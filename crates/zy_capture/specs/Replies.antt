@@ -49,6 +49,20 @@ spelled version item = output_text version item.conn item.session item.bytes
 unfoldable pub spelling : ℕ → List SessionBytes → List ℕ
 spelling version items = magic version ++ flat_map (spelled version) items ++ 69 ∷ []
 
+-- the sessions of a connection from some session on
+abbrev pub session_items : ℕ → ℕ → List (List ℕ) → List SessionBytes
+session_items conn number [] = []
+session_items conn number (bytes ∷ sessions) = record { conn = conn; session = number; bytes = bytes } ∷ session_items conn (number + 1) sessions
+
+-- the sessions of all connections from some connection on
+abbrev pub all_items : ℕ → List (List (List ℕ)) → List SessionBytes
+all_items conn [] = []
+all_items conn (sessions ∷ connections) = session_items conn 0 sessions ++ all_items (conn + 1) connections
+
+-- the outputs, session by session
+abbrev pub items_of : AllOutputs → List SessionBytes
+items_of outputs = all_items 0 outputs.sessions
+
 -- ---- validity
 
 -- the most bytes of a replies file

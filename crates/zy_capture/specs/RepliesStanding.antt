@@ -1,5 +1,5 @@
 -- Which bytes brought a reader of replies files to where it is, and what it gave for them.
-use Rattle.std.specs.Prelude.{◌≡◌, ℕ, ◌<◌, List, [], length, Option, None, Some, option_to_list, Result, Ok, Err, ⊤}
+use Rattle.std.specs.Prelude.{◌≡◌, ℕ, ◌<◌, List, [], ◌∷◌, ◌++◌, length, Option, None, Some, option_to_list, Result, Ok, Err, ⊤}
 use Rattle.zy_base.specs.declared.file_fault.FileFault.{FileFault}
 use Rattle.zy_base.specs.declared.file_fault.FileFeed.{FileFeed}
 use Rattle.zy_base.specs.declared.file_fault.FileFeed.TheVariants.{Fault, NoMemory}
@@ -8,7 +8,8 @@ use Rattle.zy_capture.specs.declared.replies_due.RepliesDue.{RepliesDue}
 use Rattle.zy_capture.specs.declared.replies_due.RepliesDue.TheVariants.{Letters, Connection, Session, Length, Output, Broken}
 use Rattle.zy_capture.specs.Capture.{connection_limit}
 use Rattle.zy_capture.specs.Replies.{AreNumbers}
-use Rattle.zy_capture.specs.RepliesVerdict.{Progress, Step, Verdict, reading, fault_in}
+use Rattle.zy_capture.specs.RepliesSteps.{Progress, Step}
+use Rattle.zy_capture.specs.RepliesVerdict.{Verdict, reading, verdict, fault_in, fault_of}
 use Rattle.zy_capture.specs.RepliesVerdict.Verdict.{Good, Bad}
 
 -- these bytes were fed, one after another, and these outputs were given for them
@@ -35,6 +36,36 @@ IsNotMemory answer = ⊤
 abbrev pub IsInOutput : Progress → Type 0
 IsInOutput p = (conn session size : ℕ) × (p.due ≡ Output conn session size)
 
+-- an answer at the end of the bytes is their verdict, and what was given are their outputs
+abbrev pub EndsAs : List SessionBytes → Result ⊤ FileFault → Verdict → Type 0
+EndsAs given (Ok done) found = (version : ℕ) × (found ≡ Good version given)
+EndsAs given (Err fault) found = found ≡ Bad fault
+
+-- ---- what an answer means for the bytes fed
+
+-- with a byte more, these outputs more were given
+abbrev pub Feeds : Progress → Progress → ℕ → List SessionBytes → Type 0
+Feeds old new byte gave = (given : List SessionBytes) (b : List ℕ) → StandsForReplies old given b → StandsForReplies new (given ++ gave) (b ++ byte ∷ [])
+
+-- with a byte more, this is the fault that was met
+abbrev pub TellsFault : Progress → ℕ → Option FileFault → Type 0
+TellsFault old byte told = (given : List SessionBytes) (b : List ℕ) → StandsForReplies old given b → told ≡ fault_of (b ++ byte ∷ [])
+
+-- with a byte more, this is the fault of every longer text
+abbrev pub LastsAsFault : Progress → ℕ → FileFault → Type 0
+LastsAsFault old byte fault =
+    (given : List SessionBytes) (b more : List ℕ) → StandsForReplies old given b → verdict (b ++ byte ∷ more) ≡ Bad fault
+
+-- the answer is a function of the bytes fed
+abbrev pub AnswersBy : {X : Type 0} → Progress → (List ℕ → X) → X → Type 0
+AnswersBy p of answer = (given : List SessionBytes) (b : List ℕ) → StandsForReplies p given b → answer ≡ of b
+
+-- the bytes fed are a replies file with the outputs that were given, or have this fault as they end
+abbrev pub EndsBy : Progress → Result ⊤ FileFault → Type 0
+EndsBy p answer = (given : List SessionBytes) (b : List ℕ) → StandsForReplies p given b → EndsAs given answer (verdict b)
+
+-- ---- for the reader alone
+
 -- an answer and a new state are those of a step; want of memory changes nothing
 abbrev pub Follows : Step → Progress → Progress → Result (Option SessionBytes) FileFeed → Type 0
 Follows step old new (Ok gave) = (new ≡ step.next) × (gave ≡ step.gave) × (fault_in new.due ≡ None)
@@ -49,8 +80,3 @@ IsWithin (Session conn) at seen payload = (seen < 4) × (conn < connection_limit
 IsWithin (Length conn session) at seen payload = AreNumbers conn session
 IsWithin (Output conn session size) at seen payload = AreNumbers conn session × (length payload < size)
 IsWithin due at seen payload = ⊤
-
--- an answer at the end of the bytes is their verdict, and what was given are their outputs
-abbrev pub EndsAs : List SessionBytes → Result ⊤ FileFault → Verdict → Type 0
-EndsAs given (Ok done) found = (version : ℕ) × (found ≡ Good version given)
-EndsAs given (Err fault) found = found ≡ Bad fault

@@ -17,7 +17,8 @@ pub enum CaptureFault {
     Truncated { at: u64 },
     /// A byte follows the end byte, at this place.
     Trailing { at: u64 },
-    /// A byte was given beyond the 4,294,967,295 that a capture may have, and the end byte was not read.
+    /// A byte was given beyond the 4,294,967,295 that a capture may have, and the end byte was not
+    /// read.
     TooLong,
 }
 

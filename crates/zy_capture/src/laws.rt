@@ -1,64 +1,97 @@
 //! Laws over the definitions of this crate.
-ghost use Rattle.std.specs.Prelude.{◌≡◌, ◌↔◌, ◌+◌, ◌<◌, ℕ, List, [], ◌++◌, length, Some};
+ghost use Rattle.std.specs.Prelude.{◌≡◌, ◌⊎◌, ◌≤◌, ◌↔◌, ◌+◌, ◌<◌, ℕ, List, [], ◌++◌, length, Some};
 ghost use Rattle.std.specs.List.{slice_index_or};
 ghost use Rattle.zy_capture.specs.declared.record.Record.{Record};
 ghost use Rattle.zy_capture.specs.declared.capture_fault.CaptureFault.{CaptureFault};
 ghost use Rattle.zy_capture.specs.Capture.{AreBytes, Spells};
-ghost use Rattle.zy_capture.specs.Verdict.{Progress, verdict, fault_of};
+ghost use Rattle.zy_capture.specs.Faults.{HasFault};
+ghost use Rattle.zy_capture.specs.Steps.{Progress};
+ghost use Rattle.zy_capture.specs.Verdict.{verdict, fault_of};
 ghost use Rattle.zy_capture.specs.Verdict.Verdict.{Good, Bad};
 ghost use Rattle.zy_capture.specs.Standing.{StandsFor};
 ghost use Rattle.zy_base.specs.declared.file_fault.FileFault.{FileFault};
 ghost use Rattle.zy_capture.specs.declared.session_bytes.SessionBytes.{SessionBytes};
-ghost use Rattle.zy_capture.specs.Replies.{SpellsReplies};
+ghost use Rattle.zy_capture.specs.Outputs.{AllOutputs, AreOutputs, MayAdd, with_output};
+ghost use Rattle.zy_capture.specs.Replies.{SpellsReplies, replies_bytes, replies_limit, items_of};
 ghost use Rattle.zy_capture.specs.RepliesVerdict as Replies;
+ghost use Rattle.zy_capture.specs.RepliesSteps as RepliesProgress;
 ghost use Rattle.zy_capture.specs.RepliesStanding.{StandsForReplies};
 ghost use Rattle.zy_capture.specs.Streams.{closes, stream, sessions_of, no_bytes, with_records};
 
-/// A text is good, with a version, a count and records, exactly where it is their spelling, they are those of a
-/// capture, and it has at most 4,294,967,295 bytes.
+/// A text is good, with a version, a count and records, exactly where it is their spelling, they
+/// are those of a capture, and it has at most 4,294,967,295 bytes.
 pub fn a_capture_is_good_exactly_where_it_is_a_spelling()
     ensures exactly { (text : List ℕ) (version count : ℕ) (items : List Record) → AreBytes text
         → verdict text ≡ Good version count items ↔ Spells text version count items }
 {}
 
-/// Two readers to which the same bytes were fed gave the same records, and are in the same state. So it does not matter
-/// when memory was refused, or what was asked of them between the bytes.
+/// The verdict on a text is bad with a fault exactly where the text has that fault.
+pub fn a_capture_is_bad_exactly_where_it_has_a_fault()
+    ensures exactly { (text : List ℕ) (fault : CaptureFault) → AreBytes text
+        → verdict text ≡ Bad fault ↔ HasFault text fault }
+{}
+
+/// Two readers to which the same bytes were fed gave the same records, and are in the same state.
+/// So it does not matter when memory was refused, or what was asked of them between the bytes.
 pub fn what_is_given_depends_on_the_bytes_alone()
-    ensures given { (p q : Progress) (given others : List Record) (b : List ℕ) → StandsFor p given b → StandsFor q others b → given ≡ others }
-    ensures state { (p q : Progress) (given others : List Record) (b : List ℕ) → StandsFor p given b → StandsFor q others b → p ≡ q }
+    ensures given { (p q : Progress) (given others : List Record) (b : List ℕ)
+        → StandsFor p given b → StandsFor q others b → given ≡ others }
+    ensures state { (p q : Progress) (given others : List Record) (b : List ℕ)
+        → StandsFor p given b → StandsFor q others b → p ≡ q }
 {}
 
 /// The fault that was met in a text is the verdict on every longer one: the first fault counts.
 pub fn the_first_fault_of_a_capture_counts()
-    ensures lasts { (text more : List ℕ) (fault : CaptureFault) → fault_of text ≡ Some fault → verdict (text ++ more) ≡ Bad fault }
+    ensures lasts { (text more : List ℕ) (fault : CaptureFault)
+        → fault_of text ≡ Some fault → verdict (text ++ more) ≡ Bad fault }
 {}
 
-/// The sessions of a connection to whose streams records were added are as many as its close records and one more, and
-/// each session holds its stream.
+/// The sessions of a connection to whose streams records were added are as many as its close
+/// records and one more, and each session holds its stream.
 pub fn each_session_holds_its_stream()
     ensures count { (count conn : ℕ) (items : List Record) → conn < count
         → length (sessions_of (with_records (no_bytes count) items) conn) ≡ closes conn items + 1 }
     ensures bytes { (count conn session : ℕ) (items : List Record) → conn < count
-        → slice_index_or (sessions_of (with_records (no_bytes count) items) conn) session [] ≡ stream conn session items }
+        → slice_index_or (sessions_of (with_records (no_bytes count) items) conn) session []
+        ≡ stream conn session items }
 {}
 
-/// A text is a good replies file, with a version and outputs, exactly where it is their spelling, they are those of a
-/// replies file, and it has at most 2^63 - 1 bytes.
+/// A text is a good replies file, with a version and outputs, exactly where it is their spelling,
+/// they are those of a replies file, and it has at most 2^63 - 1 bytes.
 pub fn a_replies_file_is_good_exactly_where_it_is_a_spelling()
     ensures exactly { (text : List ℕ) (version : ℕ) (items : List SessionBytes) → AreBytes text
         → Replies.verdict text ≡ Replies.Verdict.Good version items ↔ SpellsReplies text version items }
 {}
 
-/// Two readers of replies files to which the same bytes were fed gave the same outputs, and are in the same state.
+/// Two readers of replies files to which the same bytes were fed gave the same outputs, and are in
+/// the same state.
 pub fn what_is_given_of_replies_depends_on_the_bytes_alone()
-    ensures given { (p q : Replies.Progress) (given others : List SessionBytes) (b : List ℕ)
+    ensures given { (p q : RepliesProgress.Progress) (given others : List SessionBytes) (b : List ℕ)
         → StandsForReplies p given b → StandsForReplies q others b → given ≡ others }
-    ensures state { (p q : Replies.Progress) (given others : List SessionBytes) (b : List ℕ)
+    ensures state { (p q : RepliesProgress.Progress) (given others : List SessionBytes) (b : List ℕ)
         → StandsForReplies p given b → StandsForReplies q others b → p ≡ q }
 {}
 
-/// The fault that was met in a replies file is the verdict on every longer one: the first fault counts.
+/// The fault that was met in a replies file is the verdict on every longer one: the first fault
+/// counts.
 pub fn the_first_fault_of_a_replies_file_counts()
     ensures lasts { (text more : List ℕ) (fault : FileFault) → Replies.fault_of text ≡ Some fault
         → Replies.verdict (text ++ more) ≡ Replies.Verdict.Bad fault }
+{}
+
+/// What is written of outputs is a good replies file of their version, which gives each session's
+/// output again, where it is not too long.
+pub fn written_replies_are_read_again()
+    ensures again { (outputs : AllOutputs) → AreOutputs outputs
+        → length (replies_bytes outputs) ≤ replies_limit
+        → Replies.verdict (replies_bytes outputs)
+        ≡ Replies.Verdict.Good outputs.version (items_of outputs) }
+{}
+
+/// Outputs to which one was added, and those without any, can be written and read again.
+pub fn outputs_stay_outputs()
+    ensures none { (version : ℕ) → (version ≡ 1) ⊎ (version ≡ 2)
+        → AreOutputs (record { version = version; sessions = [] }) }
+    ensures added { (outputs : AllOutputs) (conn : ℕ) (bytes : List ℕ)
+        → AreOutputs outputs → MayAdd outputs conn → AreOutputs (with_output outputs conn bytes) }
 {}

@@ -1,4 +1,4 @@
-//! Capture files and replies files: readers that are fed byte by byte, streams, outputs and a writer.
+//! Capture and replies files: readers fed byte by byte, streams, outputs and the writer.
 #![tactic(auto)]
 
 mod capture_fault;
@@ -7,6 +7,8 @@ mod laws;
 mod outputs;
 #[cfg(test)]
 mod plain;
+#[cfg(test)]
+mod plain_tests;
 mod reader;
 mod record;
 mod replies_due;
@@ -20,10 +22,12 @@ mod writing;
 
 pub use capture_fault::{CaptureFault, FeedFault};
 pub use laws::{
+    a_capture_is_bad_exactly_where_it_has_a_fault,
     a_capture_is_good_exactly_where_it_is_a_spelling,
     a_replies_file_is_good_exactly_where_it_is_a_spelling, each_session_holds_its_stream,
-    the_first_fault_of_a_capture_counts, the_first_fault_of_a_replies_file_counts,
-    what_is_given_depends_on_the_bytes_alone, what_is_given_of_replies_depends_on_the_bytes_alone,
+    outputs_stay_outputs, the_first_fault_of_a_capture_counts,
+    the_first_fault_of_a_replies_file_counts, what_is_given_depends_on_the_bytes_alone,
+    what_is_given_of_replies_depends_on_the_bytes_alone, written_replies_are_read_again,
 };
 pub use outputs::Outputs;
 pub use reader::Reader;

@@ -10,8 +10,8 @@ use std::alloc::Global;
 use std::marker::Model;
 use zy_base::{Blob, NoMemory};
 
-/// The output of each session of each connection. Contracts see it as the version, and the list of the connections'
-/// lists of outputs.
+/// The output of each session of each connection. Contracts see it as the version, and the list of
+/// the connections' lists of outputs.
 #[derive(Debug, Drop)]
 pub struct Outputs {
     alloc: Global,
@@ -28,7 +28,8 @@ impl Model for Outputs {
 
     ghost view = { λ o. record { version = o.version; sessions = o.connections.items } };
 
-    ghost invariant = { λ o. ((o.version ≡ 1) ⊎ (o.version ≡ 2)) × (length o.connections.items ≤ connection_limit) };
+    ghost invariant = { λ o. ((o.version ≡ 1) ⊎ (o.version ≡ 2))
+        × (length o.connections.items ≤ connection_limit) };
 }
 
 impl Outputs {
@@ -45,8 +46,8 @@ impl Outputs {
         }
     }
 
-    /// Adds the output of the next connection's first session or, in version 2, of the last connection's next session.
-    /// After a refusal it is handed back.
+    /// Adds the output of the next connection's first session or, in version 2, of the last
+    /// connection's next session. After a refusal it is handed back.
     pub fn add(&mut self, conn: u32, bytes: Blob) -> Result<(), (Blob, NoMemory)>
         requires next { MayAdd self.old conn }
         ensures ok { OnOk result (self.new ≡ with_output self.old conn bytes) }

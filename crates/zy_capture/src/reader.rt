@@ -1,15 +1,13 @@
 //! The reader of captures.
-ghost use Rattle.std.specs.Prelude.{vec_capacity, ◌≡◌, ℕ, ◌+◌, ◌<◌, ◌≤◌, ◌^◌, List, [], ◌∷◌, ◌++◌, length, Result, Ok, Err, true, false};
+ghost use Rattle.std.specs.Prelude.{◌≡◌, ◌+◌, ◌<◌, ◌≤◌, [], ◌∷◌, ◌++◌, length, vec_capacity, Err};
 ghost use Rattle.std.specs.Int.{from_be_bytes, w32};
-ghost use Rattle.zy_capture.specs.Capture.{capture_limit};
-ghost use Rattle.zy_capture.specs.Verdict.{goes, after_record, refuses, keeps, grows, step, taken, judged, number, segment, is_full, verdict};
-ghost use Rattle.zy_capture.specs.Standing.{StandsFor, Follows, IsWithin, IsNotMemory, IsAtLengthEnd, records_in, fault_told};
-ghost use Rattle.zy_capture.specs.Verdict.{fault_of, version_of, count_of, is_good};
-ghost use Rattle.zy_capture.specs.Verdict.Verdict.{Bad};
-ghost use Rattle.zy_capture.specs.Standing.{EndsAs};
 ghost use Rattle.zy_capture.specs.declared.due.Due.TheVariants as Dues;
-ghost use Rattle.zy_capture.specs.declared.record.Record.{Record};
 ghost use Rattle.zy_capture.specs.declared.capture_fault.CaptureFault.{CaptureFault};
+ghost use Rattle.zy_capture.specs.Capture.{capture_limit};
+ghost use Rattle.zy_capture.specs.Steps.{goes, after_record, refuses, keeps, step, taken, is_full};
+ghost use Rattle.zy_capture.specs.Verdict.{verdict, version_of, count_of, is_good};
+ghost use Rattle.zy_capture.specs.Standing.{StandsFor, Feeds, TellsFault, LastsAsFault, AnswersBy, EndsBy};
+ghost use Rattle.zy_capture.specs.Standing.{records_in, fault_told, IsNotMemory, IsAtLengthEnd, Follows, IsWithin};
 
 use crate::capture_fault::{CaptureFault, FeedFault};
 use crate::due::Due;
@@ -42,14 +40,22 @@ pub struct Reader {
 
 impl Model for Reader {
     ghost use Rattle.std.specs.Prelude.{◌<◌, ◌≤◌, take, vec_capacity};
-    ghost use Rattle.zy_capture.specs.Verdict.{Progress};
+    ghost use Rattle.zy_capture.specs.Steps.{Progress};
     ghost use Rattle.zy_capture.specs.Standing.{IsWithin};
 
     ghost Value = { Progress };
 
-    ghost view = { λ r. record { due = r.due; field = take r.seen r.field; payload = r.payload.items; version = r.version; count = r.count; at = r.at } };
+    ghost view = { λ r. record {
+      due = r.due;
+      field = take r.seen r.field;
+      payload = r.payload.items;
+      version = r.version;
+      count = r.count;
+      at = r.at;
+    } };
 
-    ghost invariant = { λ r. (r.seen < 4) × (r.seen ≤ r.at) × IsWithin r.due r.at r.payload.items (vec_capacity r.payload) };
+    ghost invariant = { λ r. (r.seen < 4) × (r.seen ≤ r.at)
+        × IsWithin r.due r.at r.payload.items (vec_capacity r.payload) };
 }
 
 impl Reader {
@@ -69,17 +75,15 @@ impl Reader {
         }
     }
 
-    /// Takes the next byte, and gives the record that it ends: a close record at its last byte, and a segment at its
-    /// last byte, which of an empty one is the last byte of its length.
+    /// Takes the next byte, and gives the record that it ends: a close record at its last byte, and
+    /// a segment at its last byte, which of an empty one is the last byte of its length.
     ///
-    /// After a fault each call answers that same fault. Want of memory is free, at the last byte of a length alone.
+    /// After a fault each call answers that same fault. Want of memory is free, at the last byte of
+    /// a length alone.
     pub fn feed(&mut self, byte: u8) -> Result<Option<Record>, FeedFault>
-        ensures fed { IsNotMemory result → (given : List Record) (b : List ℕ) → StandsFor self.old given b
-            → StandsFor self.new (given ++ records_in result) (b ++ byte ∷ []) }
-        ensures exact { IsNotMemory result → (given : List Record) (b : List ℕ) → StandsFor self.old given b
-            → fault_told result ≡ fault_of (b ++ byte ∷ []) }
-        ensures lasts { (fault : CaptureFault) → result ≡ Err (FeedFault.Fault fault) → (given : List Record) (b more : List ℕ) → StandsFor self.old given b
-            → verdict (b ++ byte ∷ more) ≡ Bad fault }
+        ensures fed { IsNotMemory result → Feeds self.old self.new byte (records_in result) }
+        ensures exact { IsNotMemory result → TellsFault self.old byte (fault_told result) }
+        ensures lasts { (fault : CaptureFault) → result ≡ Err (FeedFault.Fault fault) → LastsAsFault self.old byte fault }
 
         // Want of memory.
         ensures kept { result ≡ Err FeedFault.NoMemory → self.new ≡ self.old }
@@ -113,7 +117,7 @@ impl Reader {
     #[tactic(auto, using(crate::proofs::Feeding::version_here))]
     /// 1 or 2; `None` exactly where the magic was not read whole or was refused.
     pub fn version(&self) -> Option<u32>
-        ensures value { (given : List Record) (b : List ℕ) → StandsFor self.now given b → result ≡ version_of b }
+        ensures value { AnswersBy self.now version_of result }
     {
         if self.version == 0 {
             None
@@ -125,7 +129,7 @@ impl Reader {
     #[tactic(auto, using(crate::proofs::Feeding::count_here))]
     /// The connection count; `None` exactly where it was not read whole or was refused.
     pub fn count(&self) -> Option<u32>
-        ensures value { (given : List Record) (b : List ℕ) → StandsFor self.now given b → result ≡ count_of b }
+        ensures value { AnswersBy self.now count_of result }
     {
         match self.due {
             Due::Letters
@@ -141,7 +145,7 @@ impl Reader {
     #[tactic(auto, using(crate::proofs::Feeding::verdict_here))]
     /// True exactly where the end was read and no fault was met.
     pub fn is_done(&self) -> bool
-        ensures value { (given : List Record) (b : List ℕ) → StandsFor self.now given b → result ≡ is_good (verdict b) }
+        ensures value { AnswersBy self.now (λ b. is_good (verdict b)) result }
     {
         matches!(self.due, Due::Nothing)
     }
@@ -149,7 +153,7 @@ impl Reader {
     #[tactic(auto, using(crate::proofs::Feeding::verdict_here))]
     /// Whether the bytes that were fed are a whole capture, and their fault otherwise.
     pub fn end(&self) -> Result<(), CaptureFault>
-        ensures value { (given : List Record) (b : List ℕ) → StandsFor self.now given b → EndsAs given result (verdict b) }
+        ensures value { EndsBy self.now result }
     {
         match self.due {
             Due::Nothing => Ok(()),

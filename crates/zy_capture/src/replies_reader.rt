@@ -1,14 +1,14 @@
 //! The reader of replies files.
-ghost use Rattle.std.specs.Prelude.{◌≡◌, ℕ, ◌+◌, ◌<◌, ◌≤◌, ◌^◌, List, [], ◌∷◌, ◌++◌, length, Err};
+ghost use Rattle.std.specs.Prelude.{◌≡◌, ◌+◌, ◌<◌, [], ◌∷◌, ◌++◌, length, Err};
 ghost use Rattle.std.specs.Int.{from_be_bytes, w32, w64};
 ghost use Rattle.zy_base.specs.declared.file_fault.FileFault.{FileFault};
-ghost use Rattle.zy_capture.specs.Capture.{connection_limit};
-ghost use Rattle.zy_capture.specs.Replies.{replies_limit, AreNumbers};
-ghost use Rattle.zy_capture.specs.RepliesVerdict.{goes, after_output, refuses, keeps, step, taken, is_full, may_come, due_session, verdict, fault_of, version_of, is_good};
-ghost use Rattle.zy_capture.specs.RepliesVerdict.Verdict.{Bad};
-ghost use Rattle.zy_capture.specs.RepliesStanding.{StandsForReplies, Follows, IsWithin, IsNotMemory, IsInOutput, outputs_in, fault_told, EndsAs};
 ghost use Rattle.zy_capture.specs.declared.replies_due.RepliesDue.TheVariants as Dues;
-ghost use Rattle.zy_capture.specs.declared.session_bytes.SessionBytes.{SessionBytes};
+ghost use Rattle.zy_capture.specs.Replies.{replies_limit, AreNumbers};
+ghost use Rattle.zy_capture.specs.RepliesSteps.{goes, after_output, refuses, keeps, step, taken, is_full};
+ghost use Rattle.zy_capture.specs.RepliesSteps.{may_come, due_session};
+ghost use Rattle.zy_capture.specs.RepliesVerdict.{verdict, version_of, is_good};
+ghost use Rattle.zy_capture.specs.RepliesStanding.{StandsForReplies, Feeds, TellsFault, LastsAsFault, AnswersBy, EndsBy};
+ghost use Rattle.zy_capture.specs.RepliesStanding.{outputs_in, fault_told, IsNotMemory, IsInOutput, Follows, IsWithin};
 
 use crate::replies_due::RepliesDue;
 use crate::session_bytes::SessionBytes;
@@ -42,14 +42,23 @@ pub struct RepliesReader {
 impl Model for RepliesReader {
     ghost use Rattle.std.specs.Prelude.{◌<◌, ◌≤◌, ◌^◌, take};
     ghost use Rattle.zy_capture.specs.Capture.{connection_limit};
-    ghost use Rattle.zy_capture.specs.RepliesVerdict.{Progress};
+    ghost use Rattle.zy_capture.specs.RepliesSteps.{Progress};
     ghost use Rattle.zy_capture.specs.RepliesStanding.{IsWithin};
 
     ghost Value = { Progress };
 
-    ghost view = { λ r. record { due = r.due; field = take r.seen r.field; payload = r.payload.items; version = r.version; connections = r.connections; sessions = r.sessions; at = r.at } };
+    ghost view = { λ r. record {
+      due = r.due;
+      field = take r.seen r.field;
+      payload = r.payload.items;
+      version = r.version;
+      connections = r.connections;
+      sessions = r.sessions;
+      at = r.at;
+    } };
 
-    ghost invariant = { λ r. (r.seen < 8) × (r.seen ≤ r.at) × IsWithin r.due r.at r.seen r.payload.items };
+    ghost invariant = { λ r. (r.seen < 8) × (r.seen ≤ r.at)
+        × IsWithin r.due r.at r.seen r.payload.items };
 }
 
 impl RepliesReader {
@@ -70,17 +79,15 @@ impl RepliesReader {
         }
     }
 
-    /// Takes the next byte, and gives the output that it ends: at its last byte, which of an empty one is the last byte
-    /// of its length.
+    /// Takes the next byte, and gives the output that it ends: at its last byte, which of an empty
+    /// one is the last byte of its length.
     ///
-    /// After a fault each call answers that same fault. Want of memory is free, at the bytes of an output alone.
+    /// After a fault each call answers that same fault. Want of memory is free, at the bytes of an
+    /// output alone.
     pub fn feed(&mut self, byte: u8) -> Result<Option<SessionBytes>, FileFeed>
-        ensures fed { IsNotMemory result → (given : List SessionBytes) (b : List ℕ) → StandsForReplies self.old given b
-            → StandsForReplies self.new (given ++ outputs_in result) (b ++ byte ∷ []) }
-        ensures exact { IsNotMemory result → (given : List SessionBytes) (b : List ℕ) → StandsForReplies self.old given b
-            → fault_told result ≡ fault_of (b ++ byte ∷ []) }
-        ensures lasts { (fault : FileFault) → result ≡ Err (FileFeed.Fault fault) → (given : List SessionBytes) (b more : List ℕ)
-            → StandsForReplies self.old given b → verdict (b ++ byte ∷ more) ≡ Bad fault }
+        ensures fed { IsNotMemory result → Feeds self.old self.new byte (outputs_in result) }
+        ensures exact { IsNotMemory result → TellsFault self.old byte (fault_told result) }
+        ensures lasts { (fault : FileFault) → result ≡ Err (FileFeed.Fault fault) → LastsAsFault self.old byte fault }
 
         // Want of memory.
         ensures kept { result ≡ Err FileFeed.NoMemory → self.new ≡ self.old }
@@ -117,7 +124,7 @@ impl RepliesReader {
     #[tactic(auto, using(crate::proofs::RepliesFeeding::version_here))]
     /// 1 or 2; `None` exactly where the magic was not read whole or was refused.
     pub fn version(&self) -> Option<u32>
-        ensures value { (given : List SessionBytes) (b : List ℕ) → StandsForReplies self.now given b → result ≡ version_of b }
+        ensures value { AnswersBy self.now version_of result }
     {
         if self.version == 0 {
             None
@@ -129,7 +136,7 @@ impl RepliesReader {
     #[tactic(auto, using(crate::proofs::RepliesFeeding::verdict_here))]
     /// True exactly where the end was read and no fault was met.
     pub fn is_done(&self) -> bool
-        ensures value { (given : List SessionBytes) (b : List ℕ) → StandsForReplies self.now given b → result ≡ is_good (verdict b) }
+        ensures value { AnswersBy self.now (λ b. is_good (verdict b)) result }
     {
         matches!(self.due, RepliesDue::Nothing)
     }
@@ -137,7 +144,7 @@ impl RepliesReader {
     #[tactic(auto, using(crate::proofs::RepliesFeeding::verdict_here))]
     /// Whether the bytes that were fed are a whole replies file, and their fault otherwise.
     pub fn end(&self) -> Result<(), FileFault>
-        ensures value { (given : List SessionBytes) (b : List ℕ) → StandsForReplies self.now given b → EndsAs given result (verdict b) }
+        ensures value { EndsBy self.now result }
     {
         match self.due {
             RepliesDue::Nothing => Ok(()),
@@ -185,7 +192,8 @@ impl RepliesReader {
         self.at += 1;
     }
 
-    // The byte ends the record of this session. Gives the bytes of the output that were read before it.
+    // The byte ends the record of this session. Gives the bytes of the output that were read before
+    // it.
     fn end_output(&mut self, conn: u32, session: u32) -> Vec<u8>
         requires room { self.old.at < replies_limit }
         requires within { AreNumbers conn session }

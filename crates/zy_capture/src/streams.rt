@@ -10,7 +10,8 @@ use std::alloc::Global;
 use std::marker::Model;
 use zy_base::{Blob, NoMemory};
 
-/// The bytes of each session of each connection. Contracts see it as the list of the connections' lists of sessions.
+/// The bytes of each session of each connection. Contracts see it as the list of the connections'
+/// lists of sessions.
 #[derive(Debug, Drop)]
 pub struct Streams {
     alloc: Global,

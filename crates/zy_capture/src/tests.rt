@@ -1,163 +1,16 @@
-//! Worked files, the tables of faults, and both readers against the plain ones.
-use crate::plain::{Piece, read_capture, read_replies};
+//! Worked files and the tables of faults.
+use crate::plain_tests::{OUTPUT_SESSIONS, OUTPUTS, SEGMENTS, SESSIONS};
 use crate::{
-    CaptureFault, FeedFault, Outputs, Reader, Record, RepliesReader, Segment, SessionBytes,
-    Streams, write_replies,
+    CaptureFault, FeedFault, Outputs, Reader, Record, RepliesReader, Streams, write_replies,
 };
 use std::alloc::Global;
 use std::test::Fail;
 use zy_base::{Blob, CallNumbers, FileFault, FileFeed, MemSink, SureSink};
 
-// ---- files
-
-const NO_CONNECTION: &[u8] = b"ZYGCAP1\n\0\0\0\0E";
-
-const MOST_CONNECTIONS: &[u8] = b"ZYGCAP1\n\0\0\x10\0S\0\0\x0f\xff\0\0\0\x01xE";
-
-const SEGMENTS: &[u8] =
-    b"ZYGCAP1\n\0\0\0\x02S\0\0\0\x01\0\0\0\x03abcS\0\0\0\0\0\0\0\0S\0\0\0\x01\0\0\0\x01dE";
-
-const SESSIONS: &[u8] =
-    b"ZYGCAP2\n\0\0\0\x02S\0\0\0\0\0\0\0\x02abC\0\0\0\0C\0\0\0\x01S\0\0\0\0\0\0\0\x01cE";
-
-const NO_OUTPUT: &[u8] = b"ZYGREP1\nE";
-
-const OUTPUTS: &[u8] = b"ZYGREP1\nR\0\0\0\0\0\0\0\0\0\0\0\x02okR\0\0\0\x01\0\0\0\0\0\0\0\0E";
-
-const NO_SESSION: &[u8] = b"ZYGREP2\nE";
-
-const OUTPUT_SESSIONS: &[u8] =
-    b"ZYGREP2\nR\0\0\0\0\0\0\0\0\0\0\0\0\0\0\0\x02okR\0\0\0\0\0\0\0\x01\0\0\0\0\0\0\0\0R\0\0\0\x01\0\0\0\0\0\0\0\0\0\0\0\x01xE";
-
-// ---- readers against the plain ones
-
-fn is_piece(text: &[u8], piece: Option<&Piece>, found: &Record) -> bool {
-    match (piece, found) {
-        (Some(Piece::Segment { conn, from, to }), Record::Segment(segment)) => {
-            *conn == segment.conn && text.get(*from..*to) == Some(segment.bytes.bytes())
-        }
-        (Some(Piece::Close { conn }), Record::Close { conn: found }) => conn == found,
-        _ => false,
-    }
-}
-
-fn is_output(text: &[u8], piece: Option<&Piece>, found: &SessionBytes) -> bool {
-    match piece {
-        Some(
-            Piece::Output {
-                conn,
-                session,
-                from,
-                to,
-            },
-        ) => {
-            *conn == found.conn
-                && *session == found.session
-                && text.get(*from..*to) == Some(found.bytes.bytes())
-        }
-        _ => false,
-    }
-}
-
-// The reader of captures answers as the plain one, at each byte and at the end.
-fn reads_as_plain(alloc: Global, text: &[u8]) -> bool {
-    let Some(plain) = read_capture(alloc, text) else {
-        return false;
-    };
-    let mut reader = Reader::new(alloc);
-    let mut pieces = plain.pieces.as_slice();
-    for byte in text {
-        match reader.feed(*byte) {
-            Ok(None) => {}
-            Ok(Some(found)) => match pieces {
-                [piece, rest @ ..] if is_piece(text, Some(piece), &found) => pieces = rest,
-                _ => return false,
-            },
-            Err(FeedFault::Fault(fault)) if plain.fault == Some(fault) => {}
-            Err(_) => return false,
-        }
-    }
-    pieces.is_empty()
-        && reader.end().err() == plain.fault
-        && reader.version() == plain.version
-        && reader.count() == plain.count
-        && reader.is_done() == plain.fault.is_none()
-}
-
-// The reader of replies files answers as the plain one, at each byte and at the end.
-fn reads_replies_as_plain(alloc: Global, text: &[u8]) -> bool {
-    let Some(plain) = read_replies(alloc, text) else {
-        return false;
-    };
-    let mut reader = RepliesReader::new(alloc);
-    let mut pieces = plain.pieces.as_slice();
-    for byte in text {
-        match reader.feed(*byte) {
-            Ok(None) => {}
-            Ok(Some(found)) => match pieces {
-                [piece, rest @ ..] if is_output(text, Some(piece), &found) => pieces = rest,
-                _ => return false,
-            },
-            Err(FileFeed::Fault(fault)) if plain.fault == Some(fault) => {}
-            Err(_) => return false,
-        }
-    }
-    pieces.is_empty()
-        && reader.end().err() == plain.fault
-        && reader.version() == plain.version
-        && reader.is_done() == plain.fault.is_none()
-}
-
-fn is_read_as_plainly(alloc: Global, text: &[u8], is_capture: bool) -> bool {
-    if is_capture {
-        reads_as_plain(alloc, text)
-    } else {
-        reads_replies_as_plain(alloc, text)
-    }
-}
-
-// The first place where a prefix of the text, or a change of the byte there, is not read as plainly.
-fn first_difference(alloc: Global, text: &[u8], is_capture: bool) -> Result<Option<usize>, Fail> {
-    let mut bytes = Vec::from_slice(alloc, text)?;
-    for at in 0..text.len() {
-        if !is_read_as_plainly(alloc, &text[..at], is_capture) {
-            return Ok(Some(at));
-        }
-        for byte in 0..=255u8 {
-            if let Some(place) = bytes.get_mut(at) {
-                *place = byte;
-            }
-            if !is_read_as_plainly(alloc, bytes.as_slice(), is_capture) {
-                return Ok(Some(at));
-            }
-        }
-        if let Some(place) = bytes.get_mut(at) {
-            *place = text[at];
-        }
-    }
-    Ok(None)
-}
-
-#[test]
-fn captures_are_read_as_plainly(rt: HostRuntime) -> Result<(), Fail> {
-    for text in [NO_CONNECTION, MOST_CONNECTIONS, SEGMENTS, SESSIONS] {
-        assert_eq!(rt; first_difference(rt.alloc(), text, true)?, None);
-    }
-    Ok(())
-}
-
-#[test]
-fn replies_files_are_read_as_plainly(rt: HostRuntime) -> Result<(), Fail> {
-    for text in [NO_OUTPUT, OUTPUTS, NO_SESSION, OUTPUT_SESSIONS] {
-        assert_eq!(rt; first_difference(rt.alloc(), text, false)?, None);
-    }
-    Ok(())
-}
-
 // ---- the tables of faults
 
 // The fault of a text, which each byte after it and the end tell again.
-fn fault_of(alloc: Global, mut reader: Reader, text: &[u8]) -> Option<CaptureFault> {
+fn fault_of(mut reader: Reader, text: &[u8]) -> Option<CaptureFault> {
     let mut met = None;
     for byte in text {
         match reader.feed(*byte) {
@@ -168,7 +21,6 @@ fn fault_of(alloc: Global, mut reader: Reader, text: &[u8]) -> Option<CaptureFau
             _ => return None,
         }
     }
-    let _ = alloc;
     match (met, reader.end()) {
         (None, Err(fault)) => Some(fault),
         (Some(met), Err(fault)) if met == fault => Some(fault),
@@ -257,7 +109,7 @@ fn each_fault_of_a_capture_has_its_place(rt: HostRuntime) {
     ];
     let alloc = rt.alloc();
     for (text, fault) in cases {
-        assert_eq!(rt; fault_of(alloc, Reader::new(alloc), text), Some(fault));
+        assert_eq!(rt; fault_of(Reader::new(alloc), text), Some(fault));
     }
 }
 
@@ -292,7 +144,7 @@ fn a_capture_of_more_than_its_most_bytes_is_too_long(rt: HostRuntime) {
         ),
     ];
     for (at, text, fault) in cases {
-        assert_eq!(rt; fault_of(alloc, reader_at(alloc, at), text), Some(fault));
+        assert_eq!(rt; fault_of(reader_at(alloc, at), text), Some(fault));
     }
 }
 
@@ -485,7 +337,7 @@ fn replies_are_written_in_their_version(rt: HostRuntime) -> Result<(), Fail> {
 fn a_failed_write_leaves_a_prefix(rt: HostRuntime) -> Result<(), Fail> {
     let outputs = some_outputs(rt.alloc(), 2)?;
     let mut failing = CallNumbers::new(rt.alloc());
-    failing.push(7).map_err(|e| e)?;
+    failing.push(7)?;
     let mut sink = MemSink::new(rt.alloc(), 1_000, 3, failing)?;
     assert!(rt; write_replies(&mut sink, &outputs).is_err());
     assert!(rt; sink.bytes() == Some(&OUTPUT_SESSIONS[..16]));

@@ -9,8 +9,8 @@ use zy_base::{Failed, Sink, write_pieces, write_whole};
 
 /// Writes the replies file of the outputs, in their version. Takes no memory.
 ///
-/// `Failed` comes only where the sink's count of faults rose, or stands at its last value; then the sink has grown by a
-/// prefix of that text.
+/// `Failed` comes only where the sink's count of faults rose, or stands at its last value; then the
+/// sink has grown by a prefix of that text.
 pub fn write_replies<K: Sink>(sink: &mut K, outputs: &Outputs) -> Result<(), Failed>
     ensures writes { Writes K.holds K.faults sink.old sink.new result (replies_bytes outputs.now) }
 {
@@ -37,7 +37,8 @@ fn magic_of(version: u32) -> &'static [u8]
 
 // The records of all connections.
 fn write_connections<K: Sink>(sink: &mut K, outputs: &Outputs) -> Result<(), Failed>
-    ensures writes { Writes K.holds K.faults sink.old sink.new result (numbered_from (connection_text outputs.now.version) 0 outputs.now.sessions) }
+    ensures writes { Writes K.holds K.faults sink.old sink.new result
+        (numbered_from (connection_text outputs.now.version) 0 outputs.now.sessions) }
 {
     for conn in 0..outputs.count() {
         if let Err(failed) = write_connection(sink, outputs, conn) {
@@ -50,7 +51,8 @@ fn write_connections<K: Sink>(sink: &mut K, outputs: &Outputs) -> Result<(), Fai
 // The records of a connection.
 fn write_connection<K: Sink>(sink: &mut K, outputs: &Outputs, conn: u32) -> Result<(), Failed>
     requires within { conn < length outputs.now.sessions }
-    ensures writes { Writes K.holds K.faults sink.old sink.new result (connection_text outputs.now.version conn (sessions_of outputs.now.sessions conn)) }
+    ensures writes { Writes K.holds K.faults sink.old sink.new result
+        (connection_text outputs.now.version conn (sessions_of outputs.now.sessions conn)) }
 {
     for session in 0..outputs.sessions(conn) {
         if let Err(failed) = write_output(
@@ -74,7 +76,8 @@ fn write_output<K: Sink>(
     session: u32,
     bytes: &[u8],
 ) -> Result<(), Failed>
-    ensures writes { Writes K.holds K.faults sink.old sink.new result (output_text version conn session bytes.now) }
+    ensures writes { Writes K.holds K.faults sink.old sink.new result
+        (output_text version conn session bytes.now) }
 {
     let conn = conn.to_be_bytes();
     let session = session.to_be_bytes();

@@ -1,5 +1,5 @@
 use Rattle.std.proofs.Common.{subst}
-use Rattle.zy_capture.specs.Verdict.{step}
+use Rattle.zy_capture.specs.Steps.{step}
 use Rattle.zy_capture.specs.Standing.{Follows}
 use Rattle.zy_capture.proofs.Feeding.{fed, exact, lasts}
 use Rattle.zy_capture.proofs.reader.Reader.feed.Goals as goal

@@ -1,5 +1,5 @@
 use Rattle.std.proofs.Common.{subst}
-use Rattle.zy_capture.specs.RepliesVerdict.{step}
+use Rattle.zy_capture.specs.RepliesSteps.{step}
 use Rattle.zy_capture.specs.RepliesStanding.{Follows}
 use Rattle.zy_capture.proofs.RepliesFeeding.{fed, exact, lasts}
 use Rattle.zy_capture.proofs.replies_reader.RepliesReader.feed.Goals as goal

@@ -1,0 +1,31 @@
+#!/usr/bin/env bash
+# Makes a capture of 80 MB (200 connections, segments of 0 to 65,535 bytes), has the reader of captures read it from
+# standard input, and prints megabytes per second: the best of three runs.
+set -eu
+top="$(git -C "$(dirname "$0")" rev-parse --show-toplevel)"
+work="$(mktemp -d)"
+trap 'rm -rf "$work"' EXIT
+python3 - "$work/capture" <<'PY'
+import random, struct, sys
+draws = random.Random(42)
+out = bytearray(b"ZYGCAP1\n" + struct.pack(">I", 200))
+while len(out) < 80_000_000:
+    length = draws.randrange(65_536)
+    out += b"S" + struct.pack(">II", draws.randrange(200), length) + draws.randbytes(length)
+out += b"E"
+open(sys.argv[1], "wb").write(out)
+PY
+cd "$top/crates/capture_bench"
+rt run < stdin > /dev/null
+program="out/capture_bench"
+python3 - "$work/capture" "$program" <<'PY'
+import os, subprocess, sys, time
+size, best = os.path.getsize(sys.argv[1]), None
+for _ in range(3):
+    with open(sys.argv[1], "rb") as capture:
+        begin = time.perf_counter()
+        said = subprocess.run([sys.argv[2]], stdin=capture, check=True, capture_output=True).stdout.decode().strip()
+        took = time.perf_counter() - begin
+    best = took if best is None else min(best, took)
+print(f"{size} bytes, {said}: {size / best / 1e6:.0f} MB/s")
+PY

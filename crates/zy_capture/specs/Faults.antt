@@ -1,0 +1,131 @@
+-- The faults of a capture, docs/FORMATS.md, "Capture": what a text is that has one of them. Each comes after bytes that
+-- spell the beginning of a capture, where the first wrong byte or number follows. That the verdict on a text is bad with
+-- a fault exactly where the text has it is a law in src/laws.rt.
+use Rattle.std.specs.Prelude.{◌≡◌, ◌⊎◌, ℕ, ◌+◌, ◌^◌, ◌<◌, ◌≤◌, false, List, [], ◌∷◌, ◌++◌, length, flat_map, None}
+use Rattle.std.specs.Int.{to_be_bytes, w32}
+use Rattle.zy_capture.specs.declared.record.Record.{Record}
+use Rattle.zy_capture.specs.declared.capture_fault.CaptureFault.{CaptureFault}
+use Rattle.zy_capture.specs.declared.capture_fault.CaptureFault.TheVariants.{BadMagic, ConnCount, BadTag, ConnRange, SegmentLength, Truncated, Trailing, TooLong}
+use Rattle.zy_capture.specs.Capture.{magic, spelled, spelling, IsCapture, capture_limit, connection_limit, segment_limit}
+use Rattle.zy_capture.specs.Verdict.{verdict, fault_of, is_good}
+use Rattle.zy_capture.specs.Verdict.Verdict.{Bad}
+
+-- ---- beginnings
+
+-- the bytes are the first ones of a magic
+pub record BeginsMagic (bytes : List ℕ) : Type 0 where
+  pub version : ℕ
+  pub rest : List ℕ
+  pub known : (version ≡ 1) ⊎ (version ≡ 2)
+  pub whole : bytes ++ rest ≡ magic version
+
+-- the bytes of a capture up to its end, or up to a further record
+abbrev pub front_text : ℕ → ℕ → List Record → List ℕ
+front_text version count items = magic version ++ to_be_bytes w32 count ++ flat_map spelled items
+
+-- a text goes on so after the records of a capture, which have so many bytes with what is before them
+pub record GoesOn (text : List ℕ) (version count : ℕ) (items : List Record) (at : ℕ) (tail : List ℕ) : Type 0 where
+  pub valid : IsCapture version count items
+  pub whole : text ≡ front_text version count items ++ tail
+  pub place : at ≡ length (front_text version count items)
+
+-- ---- faults
+
+-- a byte of the first eight follows the first ones of a magic, and is the next one of none
+pub record IsBadMagic (text : List ℕ) (at : ℕ) : Type 0 where
+  pub front : List ℕ
+  pub byte : ℕ
+  pub rest : List ℕ
+  pub whole : text ≡ front ++ byte ∷ rest
+  pub place : at ≡ length front
+  pub within : at < 8
+  pub begins : BeginsMagic front
+  pub differs : BeginsMagic (front ++ byte ∷ []) → ⊥
+
+-- a count of over 4,096 follows the magic
+pub record IsConnCount (text : List ℕ) (number : ℕ) : Type 0 where
+  pub version : ℕ
+  pub rest : List ℕ
+  pub known : (version ≡ 1) ⊎ (version ≡ 2)
+  pub whole : text ≡ magic version ++ to_be_bytes w32 number ++ rest
+  pub over : connection_limit < number
+  pub fits : number < 2 ^ 32
+
+-- the byte where a record or the end is due is neither tag, nor the end
+pub record IsBadTag (text : List ℕ) (at byte : ℕ) : Type 0 where
+  pub version : ℕ
+  pub count : ℕ
+  pub items : List Record
+  pub rest : List ℕ
+  pub front : GoesOn text version count items at (byte ∷ rest)
+  pub no_segment : byte ≡ 83 → ⊥
+  pub no_end : byte ≡ 69 → ⊥
+  pub no_close : version ≡ 2 → byte ≡ 67 → ⊥
+  pub within : at < capture_limit
+
+-- the connection of a segment or, in version 2, of a close record is not below the count
+pub record IsConnRange (text : List ℕ) (at number : ℕ) : Type 0 where
+  pub version : ℕ
+  pub count : ℕ
+  pub items : List Record
+  pub tag_at : ℕ
+  pub tag : ℕ
+  pub rest : List ℕ
+  pub front : GoesOn text version count items tag_at (tag ∷ (to_be_bytes w32 number ++ rest))
+  pub known : (tag ≡ 83) ⊎ ((tag ≡ 67) × (version ≡ 2))
+  pub place : at ≡ tag_at + 1
+  pub over : count ≤ number
+  pub fits : number < 2 ^ 32
+  pub within : at + 3 < capture_limit
+
+-- the length of a segment is over 65,535
+pub record IsSegmentLength (text : List ℕ) (at number : ℕ) : Type 0 where
+  pub version : ℕ
+  pub count : ℕ
+  pub items : List Record
+  pub tag_at : ℕ
+  pub conn : ℕ
+  pub rest : List ℕ
+  pub front : GoesOn text version count items tag_at (83 ∷ (to_be_bytes w32 conn ++ (to_be_bytes w32 number ++ rest)))
+  pub below : conn < count
+  pub place : at ≡ tag_at + 5
+  pub over : segment_limit < number
+  pub fits : number < 2 ^ 32
+  pub within : at + 3 < capture_limit
+
+-- the text ends before the end byte, and has no fault
+pub record IsCut (text : List ℕ) (at : ℕ) : Type 0 where
+  pub place : at ≡ length text
+  pub no_fault : fault_of text ≡ None
+  pub no_capture : is_good (verdict text) ≡ false
+
+-- a byte follows a capture
+pub record IsTrailing (text : List ℕ) (at : ℕ) : Type 0 where
+  pub version : ℕ
+  pub count : ℕ
+  pub items : List Record
+  pub byte : ℕ
+  pub rest : List ℕ
+  pub valid : IsCapture version count items
+  pub whole : text ≡ spelling version count items ++ byte ∷ rest
+  pub place : at ≡ length (spelling version count items)
+  pub within : at ≤ capture_limit
+
+-- a byte follows as many as a capture may have, and these end before the end byte
+pub record IsTooLong (text : List ℕ) : Type 0 where
+  pub front : List ℕ
+  pub byte : ℕ
+  pub rest : List ℕ
+  pub whole : text ≡ front ++ byte ∷ rest
+  pub cut : verdict front ≡ Bad (Truncated capture_limit)
+
+-- the text has this fault
+abbrev pub HasFault : List ℕ → CaptureFault → Type 0
+HasFault text (BadMagic at) = IsBadMagic text at
+HasFault text (ConnCount number) = IsConnCount text number
+HasFault text (BadTag at byte) = IsBadTag text at byte
+HasFault text (ConnRange at number) = IsConnRange text at number
+HasFault text (SegmentLength at number) = IsSegmentLength text at number
+HasFault text (Truncated at) = IsCut text at
+HasFault text (Trailing at) = IsTrailing text at
+HasFault text TooLong = IsTooLong text
