@@ -1,9 +1,9 @@
 -- What was read of a capture, byte after byte and piece after piece.
-use Rattle.std.proofs.Common.{◌≡◌, ◌≢◌, ℕ, ◌+◌, ◌<◌, ◌≤◌, List, [], ◌∷◌, ◌++◌, length, take, get_or, refl, sym, ◌∙◌, ap, subst, append_assoc}
+use Rattle.std.proofs.Common.{◌≢◌, ℕ, ◌+◌, ◌<◌, ◌≤◌, List, [], ◌∷◌, ◌++◌, length, take, get_or, refl, sym, ◌∙◌, ap, subst, append_assoc}
 use Rattle.std.specs.Prelude.{Option, None, Some, Result, Ok, Err, OnOk, IfErr, IfSome}
 use Rattle.std.specs.Io.KnownBytes.{Consumes, IsAtEnd}
 use Rattle.std.proofs.lemmas.List.{append-nil, take_all, take_more}
-use Rattle.zy_capture.specs.Verdict.{Progress}
+use Rattle.zy_capture.specs.Steps.{Progress}
 use Rattle.zygos_run.specs.declared.stop.ReadStop.{ReadStop}
 use Rattle.zygos_run.specs.declared.stop.ReadStop.TheVariants.{Failed, Stopped}
 use Rattle.zygos_run.specs.Ends.{HasRead, HasTaken, IsCapture, ReadEnds}

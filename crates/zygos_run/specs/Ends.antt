@@ -10,7 +10,8 @@ use Rattle.zygos_run.specs.Words.{is_lawful}
 use Rattle.zy_capture.specs.declared.record.Record.{Record}
 use Rattle.zy_capture.specs.Outputs.{AllOutputs}
 use Rattle.zy_capture.specs.Standing.{StandsFor}
-use Rattle.zy_capture.specs.Verdict.{Progress, verdict, is_good, version_of}
+use Rattle.zy_capture.specs.Steps.{Progress}
+use Rattle.zy_capture.specs.Verdict.{verdict, is_good, version_of}
 use Rattle.zy_capture.specs.Replies.{replies_bytes}
 
 -- these bytes brought a reader of captures to where it is
