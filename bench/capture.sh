@@ -1,6 +1,6 @@
 #!/usr/bin/env bash
 # Makes a capture of 80 MB (200 connections, segments of 0 to 65,535 bytes), has the reader of captures read it from
-# standard input, and prints megabytes per second: the best of three runs.
+# standard input, and prints megabytes per second and per second of processor time: the best of three runs.
 set -eu
 top="$(git -C "$(dirname "$0")" rev-parse --show-toplevel)"
 work="$(mktemp -d)"
@@ -19,13 +19,18 @@ cd "$top/crates/capture_bench"
 rt run < stdin > /dev/null
 program="out/capture_bench"
 python3 - "$work/capture" "$program" <<'PY'
-import os, subprocess, sys, time
-size, best = os.path.getsize(sys.argv[1]), None
+import os, resource, subprocess, sys, time
+
+def processor():
+    used = resource.getrusage(resource.RUSAGE_CHILDREN)
+    return used.ru_utime + used.ru_stime
+
+size, taken, worked = os.path.getsize(sys.argv[1]), [], []
 for _ in range(3):
     with open(sys.argv[1], "rb") as capture:
-        begin = time.perf_counter()
+        begin, before = time.perf_counter(), processor()
         said = subprocess.run([sys.argv[2]], stdin=capture, check=True, capture_output=True).stdout.decode().strip()
-        took = time.perf_counter() - begin
-    best = took if best is None else min(best, took)
-print(f"{size} bytes, {said}: {size / best / 1e6:.0f} MB/s")
+        taken.append(time.perf_counter() - begin)
+        worked.append(processor() - before)
+print(f"{size} bytes, {said}: {size / min(taken) / 1e6:.0f} MB/s, {size / min(worked) / 1e6:.0f} MB per processor second")
 PY
