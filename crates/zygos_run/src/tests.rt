@@ -1,7 +1,8 @@
 //! Whole runs over memory, and what the real streams do.
 use crate::{StdSink, StdSource, serve, status};
 use std::alloc::Global;
-use std::io::Cursor;
+use std::io;
+use std::io::{Cursor, ErrorKind, Write};
 use std::sync::Wait;
 use std::test::Fail;
 use std::thread::Threads;
@@ -143,4 +144,25 @@ fn real_streams_pass_calls_on(rt: HostRuntime) {
     assert_eq!(rt; sink.write(b"abc"), Ok(2));
     assert_eq!(rt; sink.write(b"c"), Err(Failed));
     assert_eq!(rt; sink.finish(), Ok(()));
+}
+
+// Takes every byte, and fails to flush them.
+#[derive(Drop)]
+struct Stuck;
+
+impl Write for Stuck {
+    fn write(&mut self, from: &[u8]) -> io::Result<usize> {
+        Ok(from.len())
+    }
+
+    fn flush(&mut self) -> io::Result<()> {
+        Err(io::Error::from(ErrorKind::Other))
+    }
+}
+
+#[test]
+fn to_finish_is_to_flush(rt: HostRuntime) {
+    let mut sink = StdSink::new(Stuck);
+    assert_eq!(rt; sink.write(b"abc"), Ok(3));
+    assert_eq!(rt; sink.finish(), Err(Failed));
 }
