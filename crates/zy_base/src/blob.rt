@@ -1,5 +1,5 @@
 //! Byte strings.
-ghost use Rattle.std.specs.Prelude.{◌≡◌, ℕ, List, [], ◌++◌, IfOk, OnOk, OnErr, Some, refl};
+ghost use Rattle.std.specs.Prelude.{◌≡◌, ℕ, List, [], ◌++◌, take, IfOk, OnOk, OnErr, Some, refl};
 ghost use Rattle.std.specs.Ordering.{nat_cmp};
 ghost use Rattle.std.specs.Prelude.{nat_eq};
 ghost use Rattle.std.specs.Cmp.{partial_equiv_from_equiv};
@@ -64,6 +64,13 @@ impl Blob {
             Ok(()) => Ok(()),
             Err(_) => Err(NoMemory),
         }
+    }
+
+    /// Cuts the end off, so that so many bytes are left at most. Takes no memory.
+    pub fn truncate(&mut self, len: usize)
+        ensures value { self.new ≡ take len self.old }
+    {
+        self.bytes.truncate(len);
     }
 
     /// The bytes.

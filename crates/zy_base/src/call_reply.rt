@@ -2,6 +2,7 @@
 ghost use Rattle.std.specs.Prelude.{◌≡◌, IfOk};
 
 use crate::blob::Blob;
+use crate::items::Items;
 use crate::outside::NoMemory;
 
 /// What a shard answers to a call.
@@ -65,3 +66,6 @@ impl CallReply {
         }
     }
 }
+
+/// A list of replies.
+pub type Replies = Items<CallReply>;

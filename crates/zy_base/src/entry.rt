@@ -3,6 +3,7 @@ ghost use Rattle.std.specs.Prelude.{◌≡◌, IfOk};
 
 use crate::call::Call;
 use crate::call_reply::CallReply;
+use crate::items::Items;
 use crate::outside::NoMemory;
 
 /// Whose call it is: the connection, the number of its command, and the call's number within the
@@ -41,3 +42,6 @@ impl Entry {
         })
     }
 }
+
+/// A list of entries.
+pub type Entries = Items<Entry>;

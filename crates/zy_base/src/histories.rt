@@ -2,8 +2,7 @@
 ghost use Rattle.std.specs.Prelude.{◌≡◌, ◌<◌, [], ◌∷◌, ◌++◌, length, ◌≤◌, OnOk, OnErr, IfErr};
 ghost use Rattle.zy_base.specs.Order.{AreAt, history_of};
 
-use crate::entries::Entries;
-use crate::entry::Entry;
+use crate::entry::{Entries, Entry};
 use crate::outside::NoMemory;
 use std::alloc::Global;
 use std::marker::Model;

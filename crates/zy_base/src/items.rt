@@ -1,45 +1,44 @@
-//! Lists of replies.
+//! Lists that contracts see as lists.
 ghost use Rattle.std.specs.Prelude.{◌≡◌, [], ◌∷◌, ◌++◌, OnOk, OnErr, IfErr};
+ghost use Rattle.std.specs.Cmp.Lexicographic.{pointwise, lists_per, lists_equiv};
 
-use crate::call_reply::CallReply;
 use crate::outside::NoMemory;
 use std::alloc::Global;
 use std::marker::Model;
 
-/// A list of replies. Contracts see it as the list.
+/// A list. Contracts see it as the list.
 #[derive(Debug, Drop)]
-pub struct Replies {
-    items: Vec<CallReply>,
+pub struct Items<T> {
+    items: Vec<T>,
 }
 
-impl Model for Replies {
+impl<T> Model for Items<T> {
     ghost use Rattle.std.specs.Prelude.{List};
-    ghost use Rattle.zy_base.specs.declared.call_reply.CallReply.{CallReply};
 
-    ghost Value = { List CallReply };
+    ghost Value = { List T };
 
     ghost view = { λ list. list.items.items };
 }
 
-impl Replies {
+impl<T> Items<T> {
     /// The empty list. Takes no memory.
-    pub fn new(alloc: Global) -> Replies
+    pub fn new(alloc: Global) -> Items<T>
         ensures value { result ≡ [] }
     {
-        Replies {
+        Items {
             items: Vec::new(alloc),
         }
     }
 
     /// The list of a vector, which it takes over. Takes no memory.
-    pub fn from_vec(items: Vec<CallReply>) -> Replies
+    pub fn from_vec(items: Vec<T>) -> Items<T>
         ensures value { result ≡ items.items }
     {
-        Replies { items }
+        Items { items }
     }
 
     /// Appends; after a refusal the item is handed back.
-    pub fn push(&mut self, item: CallReply) -> Result<(), (CallReply, NoMemory)>
+    pub fn push(&mut self, item: T) -> Result<(), (T, NoMemory)>
         ensures ok { OnOk result (self.new ≡ self.old ++ item ∷ []) }
         ensures err { OnErr result (self.new ≡ self.old) }
         ensures returned { IfErr result (λ e. e.0 ≡ item) }
@@ -51,16 +50,30 @@ impl Replies {
     }
 
     /// The list.
-    pub fn items(&self) -> &[CallReply]
+    pub fn items(&self) -> &[T]
         ensures value { result.now ≡ self.now }
     {
         self.items.as_slice()
     }
 
     /// The vector of the list. Takes no memory.
-    pub fn into_vec(self) -> Vec<CallReply>
+    pub fn into_vec(self) -> Vec<T>
         ensures value { result.items ≡ self }
     {
         self.items
     }
+}
+
+impl<T: PartialEq> PartialEq for Items<T> {
+    ghost eq = { pointwise T.eq };
+
+    ghost laws = { lists_per T.laws };
+
+    fn eq(&self, other: &Items<T>) -> bool {
+        self.items == other.items
+    }
+}
+
+impl<T: Eq> Eq for Items<T> {
+    ghost laws = { lists_equiv T.Eq.laws };
 }
