@@ -6,16 +6,9 @@ use Rattle.zy_base.specs.declared.entry.Entry.{Entry}
 use Rattle.zy_base.specs.Shard.{State, reply_to, state_after}
 use Rattle.zy_base.specs.History.{IsReplay, IsLegalFrom, states_after}
 use Rattle.zy_base.specs.Order.{at_shard, AreBelow}
+use Rattle.zy_base.proofs.EntryLemmas.{at_shard-here, at_shard-other}
 
 -- ---- one entry
-
--- an entry at the shard is in the shard's part
-pub at_shard-here : (shard : ℕ) (e : Entry) (es : List Entry) → e.shard ≡ shard → at_shard shard (e ∷ es) ≡ e ∷ at_shard shard es
-at_shard-here shard e es is = ap (λ b. cond b (e ∷ at_shard shard es) (at_shard shard es)) (eq-eqb e.shard shard is)
-
--- an entry at another shard is not
-pub at_shard-other : (shard : ℕ) (e : Entry) (es : List Entry) → e.shard ≢ shard → at_shard shard (e ∷ es) ≡ at_shard shard es
-at_shard-other shard e es other = ap (λ b. cond b (e ∷ at_shard shard es) (at_shard shard es)) (ne_eqb e.shard shard other)
 
 -- a call changes its own shard
 states_after-here : (shards : ℕ) (states : ℕ → State) (e : Entry) (shard : ℕ) → e.shard ≡ shard → states_after shards states e shard ≡ state_after shards shard (states shard) e.call

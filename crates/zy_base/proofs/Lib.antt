@@ -1,5 +1,11 @@
+pub mod SetLemmas
+pub mod EntryLemmas
+pub mod KindLemmas
 pub mod LegalLemmas
+pub mod ReplayLemmas
 pub mod MergeLemmas
+pub mod MergingLemmas
 pub mod NumberLemmas
+pub mod RisingLemmas
 pub mod PlainLemmas
 pub mod WritingLemmas

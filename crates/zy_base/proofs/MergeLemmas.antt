@@ -1,11 +1,15 @@
--- Two lists in order that have the same entries at each shard are one list.
-use Rattle.std.specs.Prelude.{◌==◌, filter}
-use Rattle.std.proofs.Common.{◌≡◌, ℕ, ◌<◌, List, [], ◌∷◌, Bool, true, false, cond, refl, sym, ◌∙◌, subst, inl, inr, ⊎_elim, arith}
+-- Two lists in order that have the same entries at each shard are one list; what a merge keeps of its histories.
+use Rattle.std.specs.Prelude.{◌==◌, filter, Option, None, Some, unwrap_or}
+use Rattle.std.proofs.Common.{◌≡◌, ℕ, ◌^◌, ◌<◌, ◌≤◌, List, [], ◌∷◌, length, Bool, true, false, cond, refl, sym, ap, ◌∙◌, subst, inl, inr, ⊎_elim, arith}
+use Rattle.std.proofs.lemmas.Option.{slice_get_past}
 use mathlib.Core.Logic.{dite}
 use native.Mathlib.Decide.{ℕ_discrete}
 use Rattle.zy_base.specs.declared.entry.Entry.{Entry}
-use Rattle.zy_base.specs.Order.{at_shard, IsBefore, IsOrdered, IsMergeOf}
-use Rattle.zy_base.proofs.LegalLemmas.{at_shard-here, at_shard-other}
+use Rattle.zy_base.specs.Shard.{empty_state}
+use Rattle.zy_base.specs.Order.{of_connection, at_shard, AreBelow, history_of, StampsRise, AreStampsBelow, IsBefore, IsOrdered, IsMergeOf, AreCallsOf}
+use Rattle.zy_base.specs.History.{IsReplay, IsLegal, AreHistories}
+use Rattle.zy_base.proofs.EntryLemmas.{at_shard-here, at_shard-other}
+use Rattle.zy_base.proofs.LegalLemmas.{legal_whole}
 
 -- an entry stands before each of a list
 abbrev pub IsBeforeAll : Entry → List Entry → Type 0
@@ -34,11 +38,18 @@ before_all_through x y [] first rest = tt
 before_all_through x y (z ∷ zs) first rest = (before_through x y z first rest.0, before_all_through x y zs first rest.1)
 
 -- a list in order is sorted
-pub sorted : (es : List Entry) → IsOrdered es → IsSorted es
-sorted [] ordered = tt
-sorted (x ∷ []) ordered = (tt, tt)
-sorted (x ∷ y ∷ ys) ordered =
-    let rest = sorted (y ∷ ys) ordered.1 in ((ordered.0, before_all_through x y ys ordered.0 rest.0), rest)
+pub sorted : (before : Option Entry) (es : List Entry) → IsOrdered before es → IsSorted es
+sorted before [] ordered = tt
+sorted before (x ∷ []) ordered = (tt, tt)
+sorted before (x ∷ y ∷ ys) ordered =
+    let rest = sorted (Some x) (y ∷ ys) ordered.1 in ((ordered.1.0, before_all_through x y ys ordered.1.0 rest.0), rest)
+
+-- where stamps rise, a list is sorted
+pub sorted_by_stamp : (before : ℕ) (es : List Entry) → StampsRise before es → IsSorted es
+sorted_by_stamp before [] stamps = tt
+sorted_by_stamp before (x ∷ []) stamps = (tt, tt)
+sorted_by_stamp before (x ∷ y ∷ ys) stamps =
+    let rest = sorted_by_stamp x.stamp (y ∷ ys) stamps.1 in let next : IsBefore x y = inl stamps.1.0 in ((next, before_all_through x y ys next rest.0), rest)
 
 module _ (p : Entry → Bool) where
   -- the first that passes a test stands behind what stands before all
@@ -49,6 +60,34 @@ module _ (p : Entry → Bool) where
       go : (b : Bool) → cond b (z ∷ filter p zs) (filter p zs) ≡ x ∷ rest → (filter p zs ≡ x ∷ rest → IsBefore y x) → IsBefore y x
       go true here later = let same : z ≡ x = cc in subst (IsBefore y) same before.0
       go false here later = later here
+
+  before_all_filter : (x : Entry) (ys : List Entry) → IsBeforeAll x ys → IsBeforeAll x (filter p ys)
+  before_all_filter x [] before = tt
+  before_all_filter x (y ∷ ys) before = go (p y) (before_all_filter x ys before.1)
+    where
+      go : (b : Bool) → IsBeforeAll x (filter p ys) → IsBeforeAll x (cond b (y ∷ filter p ys) (filter p ys))
+      go true rest = (before.0, rest)
+      go false rest = rest
+
+  -- what passes a test of a sorted list is sorted
+  sorted_filter : (es : List Entry) → IsSorted es → IsSorted (filter p es)
+  sorted_filter [] is = tt
+  sorted_filter (x ∷ xs) is = go (p x) (before_all_filter x xs is.0) (sorted_filter xs is.1)
+    where
+      go : (b : Bool) → IsBeforeAll x (filter p xs) → IsSorted (filter p xs) → IsSorted (cond b (x ∷ filter p xs) (filter p xs))
+      go true before rest = (before, rest)
+      go false before rest = rest
+
+  -- two tests, in either order
+  filter_swap : (q : Entry → Bool) (es : List Entry) → filter p (filter q es) ≡ filter q (filter p es)
+  filter_swap q [] = refl
+  filter_swap q (x ∷ xs) = go (p x) (q x) refl refl (filter_swap q xs)
+    where
+      go : (a b : Bool) → p x ≡ a → q x ≡ b → filter p (filter q xs) ≡ filter q (filter p xs) → filter p (cond (q x) (x ∷ filter q xs) (filter q xs)) ≡ filter q (cond (p x) (x ∷ filter p xs) (filter p xs))
+      go true true of_p of_q rest = rw (of_q, of_p, of_q) (ap (λ l. x ∷ l) rest)
+      go true false of_p of_q rest = rw (of_q, of_p, of_q) rest
+      go false true of_p of_q rest = rw (of_q, of_p) rest
+      go false false of_p of_q rest = rw (of_q, of_p) rest
 
 -- two sorted lists with the same entries at each shard are one list
 pub same_sorted : (xs ys : List Entry) → IsSorted xs → IsSorted ys → ((shard : ℕ) → at_shard shard xs ≡ at_shard shard ys) → xs ≡ ys
@@ -71,4 +110,55 @@ same_sorted (x ∷ xs) (y ∷ ys) a b same = dite (ℕ_discrete x.shard y.shard)
 -- histories have one merged list at most
 pub merge_is_one : (histories : List (List Entry)) (es others : List Entry) → IsMergeOf histories es → IsMergeOf histories others → es ≡ others
 merge_is_one histories es others one other =
-    same_sorted es others (sorted es one.ordered) (sorted others other.ordered) (λ shard. one.parts shard ∙ sym (other.parts shard))
+    same_sorted es others (sorted None es one.ordered) (sorted None others other.ordered) (λ shard. one.parts shard ∙ sym (other.parts shard))
+
+-- the merged list has the calls of a connection, each once and in their order
+pub merge_keeps_calls : (connection : ℕ) (histories : List (List Entry)) (es calls : List Entry)
+    → IsMergeOf histories es → AreCallsOf connection histories calls → of_connection connection es ≡ calls
+merge_keeps_calls connection histories es calls merge own =
+    same_sorted (of_connection connection es) calls
+    (sorted_filter (λ e. e.tag.conn == connection) es (sorted None es merge.ordered))
+    (sorted_by_stamp 0 calls own.stamps)
+    (λ shard. filter_swap (λ e. e.shard == shard) (λ e. e.tag.conn == connection) es ∙ ap (of_connection connection) (merge.parts shard) ∙ own.parts shard)
+
+-- ---- legal
+
+-- a list whose parts from a shard on are empty is on the shards below
+pub below_of_parts : (shards : ℕ) (es : List Entry) → ((shard : ℕ) → shards ≤ shard → at_shard shard es ≡ []) → AreBelow shards es
+below_of_parts shards [] none = tt
+below_of_parts shards (e ∷ es) none = (
+  (let beyond : shards ≤ e.shard → ⊥ = (λ past. let some : e ∷ at_shard e.shard es ≡ [] = sym (at_shard-here e.shard e es refl) ∙ none e.shard past in absurd (cc)) in omega arith),
+  below_of_parts shards es (λ shard past. rest_none shard (e.shard == shard) (none shard past)),
+)
+  where
+    rest_none : (shard : ℕ) (b : Bool) → cond b (e ∷ at_shard shard es) (at_shard shard es) ≡ [] → at_shard shard es ≡ []
+    rest_none shard true is = absurd (cc)
+    rest_none shard false is = is
+
+-- there is no history past the last
+pub history_of-past : (histories : List (List Entry)) (shard : ℕ) → length histories ≤ shard → history_of histories shard ≡ []
+history_of-past histories shard past = ap (λ found. unwrap_or found []) (slice_get_past histories shard past)
+
+-- the merged list of histories is legal
+pub merge_is_legal : (shards : ℕ) (histories : List (List Entry)) (es : List Entry) → AreHistories shards histories → IsMergeOf histories es → IsLegal shards es
+merge_is_legal shards histories es all merge =
+    legal_whole shards (λ number. empty_state) es
+    (below_of_parts shards es (λ shard past. merge.parts shard ∙ history_of-past histories shard (subst (λ n. n ≤ shard) (sym all.count) past)))
+    (λ shard. subst (IsReplay shards shard empty_state) (sym (merge.parts shard)) (all.each shard).replay)
+
+-- what is below a limit in each part is below it in the list
+pub stamps_of_parts : (limit : ℕ) (es : List Entry) → ((shard : ℕ) → AreStampsBelow limit (at_shard shard es)) → AreStampsBelow limit es
+stamps_of_parts limit [] parts = tt
+stamps_of_parts limit (e ∷ es) parts = (
+  (subst (AreStampsBelow limit) (at_shard-here e.shard e es refl) (parts e.shard)).0,
+  stamps_of_parts limit es (λ shard. rest (e.shard == shard) (at_shard shard es) (parts shard)),
+)
+  where
+    rest : (b : Bool) (part : List Entry) → AreStampsBelow limit (cond b (e ∷ part) part) → AreStampsBelow limit part
+    rest true part below = below.1
+    rest false part below = below
+
+-- the stamps of the merged list are those of the histories
+pub merge_is_below : (shards : ℕ) (histories : List (List Entry)) (es : List Entry) → AreHistories shards histories → IsMergeOf histories es → AreStampsBelow (2 ^ 60) es
+merge_is_below shards histories es all merge =
+    stamps_of_parts (2 ^ 60) es (λ shard. subst (AreStampsBelow (2 ^ 60)) (sym (merge.parts shard)) (all.limit shard))

@@ -1,7 +1,8 @@
 -- Histories of calls: what each shard's replies replay, and what all shards' together.
-use Rattle.std.specs.Prelude.{◌≡◌, ℕ, ◌<◌, ◌==◌, if◌then◌else◌, List, [], ◌∷◌}
+use Rattle.std.specs.Prelude.{◌≡◌, ℕ, ◌<◌, ◌^◌, ◌==◌, if◌then◌else◌, List, [], ◌∷◌, length}
 use Rattle.zy_base.specs.declared.entry.Entry.{Entry}
 use Rattle.zy_base.specs.Shard.{State, empty_state, reply_to, state_after}
+use Rattle.zy_base.specs.Order.{AreAt, StampsRise, AreStampsBelow, history_of}
 
 -- ---- one shard
 
@@ -14,6 +15,15 @@ IsReplay shards number state (e ∷ es) = (e.reply ≡ reply_to state e.call) ×
 abbrev pub replayed : ℕ → ℕ → State → List Entry → State
 replayed shards number state [] = state
 replayed shards number state (e ∷ es) = replayed shards number (state_after shards number state e.call) es
+
+-- the history is one of the shard with this number, of so many
+pub record IsHistory (shards number : ℕ) (history : List Entry) : Type 0 where
+  -- each reply is that of the replay
+  pub replay : IsReplay shards number empty_state history
+  -- each entry names the shard
+  pub place : AreAt number history
+  -- the stamps rise strictly, from 1 or more
+  pub stamps : StampsRise 0 history
 
 -- ---- all shards
 
@@ -31,3 +41,12 @@ IsLegalFrom shards states (e ∷ es) =
 -- the entries are those of one run of calls on so many shards, which were empty at first
 abbrev pub IsLegal : ℕ → List Entry → Type 0
 IsLegal shards es = IsLegalFrom shards (λ number. empty_state) es
+
+-- the histories are those of so many shards
+pub record AreHistories (shards : ℕ) (histories : List (List Entry)) : Type 0 where
+  -- there is one for each shard
+  pub count : length histories ≡ shards
+  -- and it is a history of that shard
+  pub each : (shard : ℕ) → IsHistory shards shard (history_of histories shard)
+  -- its stamps are at most 2^60 - 1
+  pub limit : (shard : ℕ) → AreStampsBelow (2 ^ 60) (history_of histories shard)

@@ -4,6 +4,8 @@ pub mod Key
 pub mod Number
 pub mod Call
 pub mod Shard
-pub mod History
+pub mod Kind
 pub mod Order
+pub mod Replies
+pub mod History
 pub mod PlainShard

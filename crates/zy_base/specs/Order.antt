@@ -1,5 +1,5 @@
 -- Lists of entries: those of a connection, those of a shard, and their order by stamp.
-use Rattle.std.specs.Prelude.{◌≡◌, ◌⊎◌, ℕ, ◌<◌, ◌==◌, List, [], ◌∷◌, filter, unwrap_or}
+use Rattle.std.specs.Prelude.{◌≡◌, ◌⊎◌, ℕ, ◌<◌, ◌==◌, List, [], ◌∷◌, filter, Option, None, Some, unwrap_or}
 use Rattle.std.specs.List.{slice_get}
 use Rattle.zy_base.specs.declared.entry.Entry.{Entry}
 
@@ -39,21 +39,33 @@ abbrev pub StampsRise : ℕ → List Entry → Type 0
 StampsRise before [] = Unit {0}
 StampsRise before (e ∷ es) = (before < e.stamp) × StampsRise e.stamp es
 
+-- every stamp is below a limit
+abbrev pub AreStampsBelow : ℕ → List Entry → Type 0
+AreStampsBelow limit [] = Unit {0}
+AreStampsBelow limit (e ∷ es) = (e.stamp < limit) × AreStampsBelow limit es
+
 -- an entry stands before another: its stamp is lower, or the stamps are equal and its shard is lower
 abbrev pub IsBefore : Entry → Entry → Type 0
 IsBefore x y = (x.stamp < y.stamp) ⊎ ((x.stamp ≡ y.stamp) × (x.shard < y.shard))
 
--- an entry stands before the first of a list
-abbrev pub IsBeforeFirst : Entry → List Entry → Type 0
-IsBeforeFirst x [] = Unit {0}
-IsBeforeFirst x (y ∷ ys) = IsBefore x y
+-- an entry stands behind the one before, where there is one
+abbrev pub IsBehind : Option Entry → Entry → Type 0
+IsBehind None e = Unit {0}
+IsBehind (Some before) e = IsBefore before e
 
--- the entries stand in order of stamp and, where stamps are equal, of shard
-abbrev pub IsOrdered : List Entry → Type 0
-IsOrdered [] = Unit {0}
-IsOrdered (x ∷ xs) = IsBeforeFirst x xs × IsOrdered xs
+-- the entries stand in order of stamp and, where stamps are equal, of shard, behind the one before
+abbrev pub IsOrdered : Option Entry → List Entry → Type 0
+IsOrdered before [] = Unit {0}
+IsOrdered before (e ∷ es) = IsBehind before e × IsOrdered (Some e) es
 
 -- the list is in order, and has at each shard the entries of that shard's history and no others
 pub record IsMergeOf (histories : List (List Entry)) (es : List Entry) : Type 0 where
-  pub ordered : IsOrdered es
+  pub ordered : IsOrdered None es
   pub parts : (shard : ℕ) → at_shard shard es ≡ history_of histories shard
+
+-- the calls are those of a connection in these histories, in the order of their stamps
+pub record AreCallsOf (connection : ℕ) (histories : List (List Entry)) (calls : List Entry) : Type 0 where
+  -- at each shard they are the connection's part of that shard's history
+  pub parts : (shard : ℕ) → of_connection connection (history_of histories shard) ≡ at_shard shard calls
+  -- their stamps rise strictly, from 1 or more
+  pub stamps : StampsRise 0 calls

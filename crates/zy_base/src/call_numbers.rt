@@ -1,5 +1,6 @@
 //! The calls at which a source or a sink in memory fails.
-ghost use Rattle.std.specs.Prelude.{◌≡◌, [], ◌∷◌, ◌++◌, OnOk, OnErr, IfErr};
+ghost use Rattle.std.specs.Prelude.{◌≡◌, ◌<◌, [], ◌∷◌, ◌++◌, None, IfSome, OnOk, OnErr, IfErr};
+ghost use Rattle.std.specs.List.{last_or};
 ghost use Rattle.std.specs.List.Sorted.{IsStrictlyIncreasing};
 
 use crate::outside::NoMemory;
@@ -34,8 +35,9 @@ impl CallNumbers {
     }
 
     /// Appends a number above the last one; after a refusal it is handed back.
+    #[tactic(auto, using(crate::proofs::RisingLemmas::increasing_push))]
     pub fn push(&mut self, number: u64) -> Result<(), (u64, NoMemory)>
-        requires rising { IsStrictlyIncreasing (self.old ++ number ∷ []) }
+        requires above { IfSome (last_or None self.old) (λ last. last < number) }
         ensures ok { OnOk result (self.new ≡ self.old ++ number ∷ []) }
         ensures err { OnErr result (self.new ≡ self.old) }
         ensures returned { IfErr result (λ e. e.0 ≡ number) }

@@ -1,6 +1,6 @@
 //! The histories of all shards.
 ghost use Rattle.std.specs.Prelude.{◌≡◌, ◌<◌, [], ◌∷◌, ◌++◌, length, ◌≤◌, OnOk, OnErr, IfErr};
-ghost use Rattle.zy_base.specs.Order.{AreAt, history_of};
+ghost use Rattle.zy_base.specs.Order.{AreAt, AreByShard, history_of};
 
 use crate::entry::{Entries, Entry};
 use crate::outside::NoMemory;
@@ -37,6 +37,15 @@ impl Histories {
         }
     }
 
+    /// The histories of a vector, which it takes over. Takes no memory.
+    pub fn from_vec(lists: Vec<Entries>) -> Histories
+        requires few { length lists.items ≤ 256 }
+        requires shards { AreByShard lists.items }
+        ensures value { result ≡ lists.items }
+    {
+        Histories { lists }
+    }
+
     /// Appends the history of the next shard; after a refusal it is handed back.
     pub fn add(&mut self, list: Entries) -> Result<(), (Entries, NoMemory)>
         requires room { length self.old < 256 }
@@ -66,5 +75,14 @@ impl Histories {
         ensures shard { AreAt shard result.now }
     {
         self.lists[shard as usize].items()
+    }
+
+    /// The vector of the histories. Takes no memory.
+    pub fn into_vec(self) -> Vec<Entries>
+        ensures value { result.items ≡ self }
+        ensures shards { AreByShard result.items }
+        ensures limit { length result.items ≤ 256 }
+    {
+        self.lists
     }
 }

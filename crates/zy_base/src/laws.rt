@@ -1,10 +1,54 @@
 //! Laws of the definitions: each is the contract of a function without a body.
-ghost use Rattle.std.specs.Prelude.{◌≡◌, ℕ, ◌<◌, ◌^◌, List, decimal, Some};
+ghost use Rattle.std.specs.Prelude.{◌≡◌, ◌≢◌, ℕ, ◌<◌, ◌^◌, List, [], ◌∷◌, ◌++◌, decimal, Some};
+ghost use Rattle.zy_base.specs.declared.call.Call.{Call};
 ghost use Rattle.zy_base.specs.declared.entry.Entry.{Entry};
 ghost use Rattle.zy_base.specs.Number.{number_of};
-ghost use Rattle.zy_base.specs.Shard.{empty_state};
-ghost use Rattle.zy_base.specs.History.{IsReplay, IsLegal};
-ghost use Rattle.zy_base.specs.Order.{at_shard, AreBelow, IsMergeOf};
+ghost use Rattle.zy_base.specs.Shard.{State, empty_state, reply_to};
+ghost use Rattle.zy_base.specs.Kind.{MayAnswer, AreAnswers};
+ghost use Rattle.zy_base.specs.Replies.{replies_at};
+ghost use Rattle.zy_base.specs.History.{IsReplay, IsLegal, replayed, AreHistories};
+ghost use Rattle.zy_base.specs.Order.{of_connection, at_shard, AreBelow, AreByShard, StampsRise, AreStampsBelow, history_of, IsMergeOf, AreCallsOf};
+
+// ---- parts of a list
+
+/// The entries of a connection are those whose tag names it.
+pub fn a_connection_has_its_entries()
+    ensures none { (connection : ℕ) → of_connection connection [] ≡ [] }
+    ensures here { (connection : ℕ) (e : Entry) (es : List Entry) → e.tag.conn ≡ connection
+        → of_connection connection (e ∷ es) ≡ e ∷ of_connection connection es }
+    ensures other { (connection : ℕ) (e : Entry) (es : List Entry) → e.tag.conn ≢ connection
+        → of_connection connection (e ∷ es) ≡ of_connection connection es }
+{}
+
+/// The entries at a shard are those that name it.
+pub fn a_shard_has_its_entries()
+    ensures none { (shard : ℕ) → at_shard shard [] ≡ [] }
+    ensures here { (shard : ℕ) (e : Entry) (es : List Entry) → e.shard ≡ shard
+        → at_shard shard (e ∷ es) ≡ e ∷ at_shard shard es }
+    ensures other { (shard : ℕ) (e : Entry) (es : List Entry) → e.shard ≢ shard
+        → at_shard shard (e ∷ es) ≡ at_shard shard es }
+{}
+
+/// The replies of a command are those of the entries whose tag has its number.
+pub fn a_command_has_its_replies()
+    ensures none { (index : ℕ) → replies_at index [] ≡ [] }
+    ensures here { (index : ℕ) (e : Entry) (es : List Entry) → e.tag.index ≡ index
+        → replies_at index (e ∷ es) ≡ e.reply ∷ replies_at index es }
+    ensures other { (index : ℕ) (e : Entry) (es : List Entry) → e.tag.index ≢ index
+        → replies_at index (e ∷ es) ≡ replies_at index es }
+{}
+
+// ---- replies
+
+/// A shard answers a call with a reply of a kind that the table gives for it.
+pub fn replies_are_of_the_table()
+    ensures one { (state : State) (call : Call) → MayAnswer call (reply_to state call) }
+    ensures replay { (shards number : ℕ) (state : State) (es : List Entry)
+        → IsReplay shards number state es → AreAnswers es }
+    ensures legal { (shards : ℕ) (es : List Entry) → IsLegal shards es → AreAnswers es }
+{}
+
+// ---- legal lists
 
 /// A list of entries is legal exactly where each shard's part is a replay on that shard.
 pub fn a_list_is_legal_shard_by_shard()
@@ -14,11 +58,58 @@ pub fn a_list_is_legal_shard_by_shard()
         → ((shard : ℕ) → IsReplay shards shard empty_state (at_shard shard es)) → IsLegal shards es }
 {}
 
+/// A list with one more entry is legal exactly where the list is, and the entry's shard is one of
+/// those that there are and answers the call so.
+pub fn a_legal_list_grows_by_a_reply()
+    ensures more { (shards : ℕ) (es : List Entry) (e : Entry) → IsLegal shards es → e.shard < shards
+        → e.reply ≡ reply_to (replayed shards e.shard empty_state (at_shard e.shard es)) e.call
+        → IsLegal shards (es ++ e ∷ []) }
+    ensures front { (shards : ℕ) (xs ys : List Entry) → IsLegal shards (xs ++ ys) → IsLegal shards xs }
+    ensures within { (shards : ℕ) (es : List Entry) (e : Entry)
+        → IsLegal shards (es ++ e ∷ []) → e.shard < shards }
+    ensures reply { (shards : ℕ) (es : List Entry) (e : Entry) → IsLegal shards (es ++ e ∷ [])
+        → e.reply ≡ reply_to (replayed shards e.shard empty_state (at_shard e.shard es)) e.call }
+{}
+
+// ---- merges
+
 /// Histories have one merged list at most.
 pub fn histories_have_one_merge()
     ensures same { (histories : List (List Entry)) (es others : List Entry)
         → IsMergeOf histories es → IsMergeOf histories others → es ≡ others }
 {}
+
+/// Histories of shards have a merged list.
+pub fn histories_have_a_merge()
+    ensures some { (histories : List (List Entry)) → AreByShard histories
+        → ((shard : ℕ) → StampsRise 0 (history_of histories shard))
+        → (es : List Entry) × IsMergeOf histories es }
+{}
+
+/// Of two entries the one with the lower stamp is first, and of equal stamps that of the lower shard.
+pub fn two_entries_are_merged_by_stamp_and_shard()
+    ensures lower { (x y : Entry) → x.shard ≡ 0 → y.shard ≡ 1 → y.stamp < x.stamp
+        → IsMergeOf ((x ∷ []) ∷ (y ∷ []) ∷ []) (y ∷ x ∷ []) }
+    ensures level { (x y : Entry) → x.shard ≡ 0 → y.shard ≡ 1 → x.stamp ≡ y.stamp
+        → IsMergeOf ((x ∷ []) ∷ (y ∷ []) ∷ []) (x ∷ y ∷ []) }
+{}
+
+/// The merged list of the histories of so many shards is legal, with their stamps.
+pub fn a_merge_of_histories_is_legal()
+    ensures legal { (shards : ℕ) (histories : List (List Entry)) (es : List Entry)
+        → AreHistories shards histories → IsMergeOf histories es → IsLegal shards es }
+    ensures limit { (shards : ℕ) (histories : List (List Entry)) (es : List Entry)
+        → AreHistories shards histories → IsMergeOf histories es → AreStampsBelow (2 ^ 60) es }
+{}
+
+/// The merged list has the calls of each connection, each once and in their order.
+pub fn a_merge_keeps_the_calls_of_a_connection()
+    ensures calls { (connection : ℕ) (histories : List (List Entry)) (es calls : List Entry)
+        → IsMergeOf histories es → AreCallsOf connection histories calls
+        → of_connection connection es ≡ calls }
+{}
+
+// ---- numbers
 
 /// A number below 2^64 is read back from its digits.
 pub fn digits_are_read_back()

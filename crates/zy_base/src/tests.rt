@@ -22,9 +22,8 @@ fn keys_have_the_shards_of_their_hashes(rt: HostRuntime) {
         (b"foobar", 256, 0x68),
     ];
     for (key, shards, shard) in cases {
-        if shards > 0 {
-            assert_eq!(rt; shard_of(key, shards), shard);
-        }
+        assert!(rt; shards > 0, "a shard of none");
+        assert_eq!(rt; shard_of(key, shards), shard);
     }
 }
 
@@ -61,6 +60,8 @@ fn numbers_are_written_without_padding(rt: HostRuntime) -> Result<(), Fail> {
 enum Ask {
     Get,
     Set,
+    // A set of a value of so many bytes.
+    SetLong,
     Add,
     Replace,
     Append,
@@ -83,14 +84,16 @@ enum Told {
     Deleted,
     Number(u64),
     NotNumber,
+    TooLarge,
     Flushed,
 }
 
-// A call on a key, with its number (flags, a unique or an amount) and its value, and what is answered.
+// A call on a key, with its number (flags, a unique, an amount or a length) and its value, and what
+// is answered.
 struct Case(Ask, &'static [u8], u32, &'static [u8], Told);
 
 // Calls on shard 12 of 16, one after the other.
-const CASES: [Case; 34] = [
+const CASES: [Case; 39] = [
     Case(Ask::Get, b"a", 0, b"", Told::Miss),
     Case(Ask::Set, b"a", 0, b"x", Told::Stored),
     Case(Ask::Cas, b"a", 99, b"y", Told::Exists),
@@ -125,16 +128,33 @@ const CASES: [Case; 34] = [
     Case(Ask::Get, b"b", 0, b"", Told::Miss),
     Case(Ask::Set, b"a", 0, b"", Told::Stored),
     Case(Ask::Get, b"a", 0, b"", Told::Hit(0, 220, b"")),
+    Case(Ask::SetLong, b"e", 1_048_576, b"", Told::Stored),
+    Case(Ask::Append, b"e", 0, b"x", Told::TooLarge),
+    Case(Ask::Prepend, b"e", 0, b"x", Told::TooLarge),
+    Case(Ask::Append, b"e", 0, b"", Told::Stored),
+    Case(Ask::Incr, b"e", 1, b"", Told::NotNumber),
 ];
+
+// A value of so many bytes.
+fn long_value(alloc: Global, length: u32) -> Result<Blob, NoMemory> {
+    let mut value = Blob::new(alloc);
+    for _ in 0..length / 1024 {
+        value.append(&[b'v'; 1024])?;
+    }
+    Ok(value)
+}
 
 fn call_of(alloc: Global, case: &Case) -> Result<Call, NoMemory> {
     let key = Blob::copy_of(alloc, case.1)?;
-    let value = Blob::copy_of(alloc, case.3)?;
+    let value = match case.0 {
+        Ask::SetLong => long_value(alloc, case.2)?,
+        _ => Blob::copy_of(alloc, case.3)?,
+    };
     let flags = case.2;
     let amount = flags as u64;
     Ok(match case.0 {
         Ask::Get => Call::Get { key },
-        Ask::Set => Call::Set { key, flags, value },
+        Ask::Set | Ask::SetLong => Call::Set { key, flags, value },
         Ask::Add => Call::Add { key, flags, value },
         Ask::Replace => Call::Replace { key, flags, value },
         Ask::Append => Call::Append { key, value },
@@ -161,6 +181,7 @@ fn is_told(reply: &CallReply, told: Told) -> bool {
         (CallReply::NotFound, Told::NotFound) => true,
         (CallReply::Deleted, Told::Deleted) => true,
         (CallReply::NotNumber, Told::NotNumber) => true,
+        (CallReply::TooLarge, Told::TooLarge) => true,
         (CallReply::Flushed, Told::Flushed) => true,
         (CallReply::Number { number }, Told::Number(expected)) => *number == expected,
         (
@@ -232,6 +253,8 @@ fn entries_keep_what_was_pushed(rt: HostRuntime) -> Result<(), Fail> {
 fn histories_keep_what_was_added(rt: HostRuntime) {
     let mut histories = Histories::new(rt.alloc());
     assert!(rt; histories.add(Entries::new(rt.alloc())).is_ok());
+    assert_eq!(rt; histories.count(), 1);
+    let histories = Histories::from_vec(histories.into_vec());
     assert_eq!(rt; histories.count(), 1);
 }
 

@@ -1,0 +1,69 @@
+-- Each call gets a reply of a kind that the table of calls gives for it.
+use Rattle.std.specs.Prelude.{Option, None, Some, nat_lt, ◌==◌}
+use Rattle.std.proofs.Common.{ℕ, Bool, true, false, cond, List, [], ◌∷◌, ◌++◌, length, sym, subst}
+use Rattle.zy_base.specs.declared.item.Item.{Item}
+use Rattle.zy_base.specs.declared.call.Call.{Call}
+use Rattle.zy_base.specs.declared.call.Call.TheVariants.{Get, Set, Add, Replace, Append, Prepend, Cas, Incr, Decr, Delete, Flush}
+use Rattle.zy_base.specs.declared.entry.Entry.{Entry}
+use Rattle.zy_base.specs.Number.{number_of}
+use Rattle.zy_base.specs.Shard.{State, Outcome, value_limit, counted_up, counted_down, outcome_of, item_at, reply_to, state_after}
+use Rattle.zy_base.specs.Call.{key_of}
+use Rattle.zy_base.specs.Kind.{MayAnswer, AreAnswers}
+use Rattle.zy_base.specs.History.{IsReplay, IsLegalFrom, states_after}
+
+chosen : (call : Call) (b : Bool) (x y : Outcome) → MayAnswer call x.reply → MayAnswer call y.reply → MayAnswer call (cond b x y).reply
+chosen call true x y here there = here
+chosen call false x y here there = there
+
+counted_up_answers : (key : List ℕ) (item : Item) (amount : ℕ) (number : Option ℕ) → MayAnswer (Incr key amount) (counted_up key item amount number).reply
+counted_up_answers key item amount None = tt
+counted_up_answers key item amount (Some number) = tt
+
+counted_down_answers : (key : List ℕ) (item : Item) (amount : ℕ) (number : Option ℕ) → MayAnswer (Decr key amount) (counted_down key item amount number).reply
+counted_down_answers key item amount None = tt
+counted_down_answers key item amount (Some number) = tt
+
+-- the reply of each row of the table
+pub outcome_answers : (call : Call) (found : Option Item) → MayAnswer call (outcome_of call found).reply
+outcome_answers (Get key) None = tt
+outcome_answers (Get key) (Some item) = tt
+outcome_answers (Set key flags value) None = tt
+outcome_answers (Set key flags value) (Some item) = tt
+outcome_answers (Add key flags value) None = tt
+outcome_answers (Add key flags value) (Some item) = tt
+outcome_answers (Replace key flags value) None = tt
+outcome_answers (Replace key flags value) (Some item) = tt
+outcome_answers (Append key value) None = tt
+outcome_answers (Append key value) (Some item) = chosen (Append key value) (nat_lt value_limit (length (item.value ++ value))) _ _ tt tt
+outcome_answers (Prepend key value) None = tt
+outcome_answers (Prepend key value) (Some item) = chosen (Prepend key value) (nat_lt value_limit (length (value ++ item.value))) _ _ tt tt
+outcome_answers (Cas key flags unique value) None = tt
+outcome_answers (Cas key flags unique value) (Some item) = chosen (Cas key flags unique value) (item.unique == unique) _ _ tt tt
+outcome_answers (Incr key amount) None = tt
+outcome_answers (Incr key amount) (Some item) = counted_up_answers key item amount (number_of item.value)
+outcome_answers (Decr key amount) None = tt
+outcome_answers (Decr key amount) (Some item) = counted_down_answers key item amount (number_of item.value)
+outcome_answers (Delete key) None = tt
+outcome_answers (Delete key) (Some item) = tt
+outcome_answers Flush None = tt
+outcome_answers Flush (Some item) = tt
+
+-- the reply of a shard
+pub reply_answers : (state : State) (call : Call) → MayAnswer call (reply_to state call)
+reply_answers state call = outcome_answers call (item_at state.items (key_of call))
+
+-- the replies of a replay
+pub replay_answers : (shards number : ℕ) (state : State) (es : List Entry) → IsReplay shards number state es → AreAnswers es
+replay_answers shards number state [] replay = tt
+replay_answers shards number state (e ∷ es) replay = (
+  subst (MayAnswer e.call) (sym replay.0) (reply_answers state e.call),
+  replay_answers shards number (state_after shards number state e.call) es replay.1,
+)
+
+-- the replies of a legal list
+pub legal_answers : (shards : ℕ) (states : ℕ → State) (es : List Entry) → IsLegalFrom shards states es → AreAnswers es
+legal_answers shards states [] legal = tt
+legal_answers shards states (e ∷ es) legal = (
+  subst (MayAnswer e.call) (sym legal.1) (reply_answers (states e.shard) e.call),
+  legal_answers shards (states_after shards states e) es legal.2,
+)
