@@ -1,36 +1,16 @@
 -- A history that is one entry longer is one of the same shard.
-use Rattle.std.proofs.Common.{◌≡◌, ℕ, ◌+◌, ◌<◌, ◌≤◌, List, [], ◌∷◌, ◌++◌, length, arith, refl, sym, ap, subst, ◌∙◌}
+use Rattle.std.proofs.Common.{◌≡◌, ℕ, ◌+◌, ◌<◌, List, [], ◌∷◌, ◌++◌, refl, sym, ap, subst, ◌∙◌}
 use Rattle.zy_base.specs.declared.call.Call.{Call}
 use Rattle.zy_base.specs.declared.entry.Entry.{Entry}
 use Rattle.zy_base.specs.declared.item.Item.{Item}
 use Rattle.zy_base.specs.Shard as table
 use Rattle.zy_base.specs.Shard.{State, empty_state, reply_to, state_after, state_with, outcome_on, unique_of, Items, keeps, stores, removes, empties}
-use Rattle.zy_base.specs.History.{IsReplay, replayed}
-use Rattle.zy_base.specs.Order.{AreAt, StampsRise, last_stamp}
-use Rattle.mc_shard.specs.Shard.{IsHistory, IsSound, items_in}
+use Rattle.zy_base.specs.History.{IsHistory, replayed}
+use Rattle.zy_base.specs.Order.{last_stamp}
+use Rattle.zy_base.proofs.EntryLemmas.{last_stamp-push}
+use Rattle.zy_base.proofs.ReplayLemmas.{replayed-push, IsHistory-push}
+use Rattle.mc_shard.specs.Shard.{IsSound, items_in}
 use Rattle.mc_shard.specs.Effect.{items_with, count_with}
-
--- ---- one entry more
-
-pub replayed-push : (shards number : ℕ) (state : State) (es : List Entry) (e : Entry) → replayed shards number state (es ++ e ∷ []) ≡ state_after shards number (replayed shards number state es) e.call
-replayed-push shards number state [] e = refl
-replayed-push shards number state (x ∷ xs) e = replayed-push shards number (state_after shards number state x.call) xs e
-
-pub last_stamp-push : (before : ℕ) (es : List Entry) (e : Entry) → last_stamp before (es ++ e ∷ []) ≡ e.stamp
-last_stamp-push before [] e = refl
-last_stamp-push before (x ∷ xs) e = last_stamp-push x.stamp xs e
-
-pub IsReplay-push : (shards number : ℕ) (state : State) (es : List Entry) (e : Entry) → IsReplay shards number state es → e.reply ≡ reply_to (replayed shards number state es) e.call → IsReplay shards number state (es ++ e ∷ [])
-IsReplay-push shards number state [] e replay reply = (reply, tt)
-IsReplay-push shards number state (x ∷ xs) e replay reply = (replay.0, IsReplay-push shards number (state_after shards number state x.call) xs e replay.1 reply)
-
-pub AreAt-push : (number : ℕ) (es : List Entry) (e : Entry) → AreAt number es → e.shard ≡ number → AreAt number (es ++ e ∷ [])
-AreAt-push number [] e place here = (here, tt)
-AreAt-push number (x ∷ xs) e place here = (place.0, AreAt-push number xs e place.1 here)
-
-pub StampsRise-push : (before : ℕ) (es : List Entry) (e : Entry) → StampsRise before es → last_stamp before es < e.stamp → StampsRise before (es ++ e ∷ [])
-StampsRise-push before [] e stamps above = (above, tt)
-StampsRise-push before (x ∷ xs) e stamps above = (stamps.0, StampsRise-push x.stamp xs e stamps.1 above)
 
 -- ---- the shard after a call
 
@@ -55,15 +35,6 @@ state_is-after shards number count entries entries' count' unique es call effect
     ∙ (λ i. record { items = items_with (unique_is i) (items_in entries) (effect_is i); count = count_with count (effect_is i) })
     ∙ sym (state_with-parts shards number (record { items = items_in entries; count = count }) (outcome_on (items_in entries) call).effect)
     ∙ ap (λ s. state_after shards number s call) state
-
--- the history after a call
-pub IsHistory-push : (shards number : ℕ) (es : List Entry) (e : Entry) → IsHistory shards number es
-    → e.shard ≡ number → last_stamp 0 es < e.stamp → e.reply ≡ reply_to (replayed shards number empty_state es) e.call → IsHistory shards number (es ++ e ∷ [])
-IsHistory-push shards number es e history here above reply = record {
-  replay = IsReplay-push shards number empty_state es e history.replay reply;
-  place = AreAt-push number es e history.place here;
-  stamps = StampsRise-push 0 es e history.stamps above;
-}
 
 -- a shard is sound after a call
 pub IsSound-after : (number shards last last' count count' : ℕ) (entries entries' : List (List ℕ × Item)) (es es' : List Entry) (e : Entry)
@@ -101,22 +72,3 @@ IsSound-applied number shards last last' count count' unique entries entries' es
     IsSound-after number shards last last' count count' entries entries' es es' e sound longer here stamp above
     (reply ∙ ap (λ o. o.reply) outcome_is ∙ ap (λ s. reply_to s e.call) sound.state_is)
     (state_is-after shards number count entries entries' count' unique es e.call outcome.effect sound.state_is (ap (λ o. o.effect) outcome_is) unique_is items_is count_is)
-
--- ---- the counter
-
-pub count-state_with : (shards number : ℕ) (state : State) (effect : table.Effect) → (state_with shards number state effect).count ≤ state.count + 1
-count-state_with shards number state keeps = omega arith
-count-state_with shards number state (stores key flags value) = omega arith
-count-state_with shards number state (removes key) = omega arith
-count-state_with shards number state empties = omega arith
-
-count_by : (shards number : ℕ) (state : State) (es : List Entry) → (replayed shards number state es).count ≤ state.count + length es
-count_by shards number state [] = omega arith
-count_by shards number state (e ∷ es) =
-    let one = count-state_with shards number state (outcome_on state.items e.call).effect in
-    let more = count_by shards number (state_after shards number state e.call) es in
-    omega arith
-
--- each call counts at most one up
-pub counts_calls : (shards number : ℕ) (es : List Entry) → (replayed shards number empty_state es).count ≤ length es
-counts_calls shards number es = let most = count_by shards number empty_state es in omega arith

@@ -6,8 +6,8 @@ use Rattle.zy_base.specs.declared.call.Call.{Call}
 use Rattle.zy_base.specs.declared.call_reply.CallReply.{CallReply}
 use Rattle.zy_base.specs.declared.entry.Entry.{Entry}
 use Rattle.zy_base.specs.Shard.{Items, State, empty_state, reply_to, state_after}
-use Rattle.zy_base.specs.History.{IsReplay, replayed}
-use Rattle.zy_base.specs.Order.{AreAt, StampsRise, last_stamp}
+use Rattle.zy_base.specs.History.{IsHistory, replayed}
+use Rattle.zy_base.specs.Order.{last_stamp}
 
 -- ---- values
 
@@ -44,15 +44,6 @@ abbrev pub state_past : Kept → Call → State
 state_past shard call = state_after shard.shards shard.number (state_of shard) call
 
 -- ---- what holds of every shard
-
--- the history is one of the shard with this number, of so many
-pub record IsHistory (shards number : ℕ) (history : List Entry) : Type 0 where
-  -- each reply is that of the replay
-  pub replay : IsReplay shards number empty_state history
-  -- each entry names the shard
-  pub place : AreAt number history
-  -- the stamps rise strictly, from 1 or more
-  pub stamps : StampsRise 0 history
 
 -- the items that the entries of a map make
 abbrev pub items_in : List (List ℕ × Item) → Items

@@ -1,7 +1,8 @@
 //! A shard of the store with the history of its calls.
 ghost use Rattle.std.specs.Prelude.{◌≡◌, ◌+◌, ◌^◌, ◌<◌, ◌≤◌, [], ◌∷◌, ◌++◌, length, max, IfOk, OnOk, OnErr};
 ghost use Rattle.zy_base.specs.Shard.{unique_of};
-ghost use Rattle.mc_shard.specs.Shard.{kept, state_of, last_of, reply_of, with_entry, state_past, IsHistory};
+ghost use Rattle.zy_base.specs.History.{IsHistory};
+ghost use Rattle.mc_shard.specs.Shard.{kept, state_of, last_of, reply_of, with_entry, state_past};
 
 use crate::items::{carry_out, count_after, found};
 use crate::outcome::outcome;

@@ -1,4 +1,4 @@
-use Rattle.mc_shard.proofs.HistoryLemmas.{counts_calls}
+use Rattle.zy_base.proofs.ReplayLemmas.{counts_calls}
 use Rattle.mc_shard.proofs.laws.the_counter_counts_calls.Goals as goal
 
 pub returns : goal.returns

@@ -3,7 +3,8 @@ use Rattle.zy_base.specs.Shard.{empty_state, outcome_of, state_after}
 use Rattle.zy_base.specs.History.{replayed}
 use Rattle.mc_shard.specs.Shard.{state_of}
 use Rattle.mc_shard.specs.Effect.{outcome_in}
-use Rattle.mc_shard.proofs.HistoryLemmas.{replayed-push, IsSound-applied}
+use Rattle.zy_base.proofs.ReplayLemmas.{replayed-push}
+use Rattle.mc_shard.proofs.HistoryLemmas.{IsSound-applied}
 use Rattle.mc_shard.proofs.shard.Shard.apply.Goals as goal
 
 pub invariant_of-self-2 : goal.invariant_of-self-2

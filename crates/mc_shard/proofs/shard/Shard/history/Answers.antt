@@ -1,4 +1,4 @@
-use Rattle.mc_shard.proofs.HistoryLemmas.{counts_calls}
+use Rattle.zy_base.proofs.ReplayLemmas.{counts_calls}
 use Rattle.mc_shard.proofs.shard.Shard.history.Goals as goal
 
 pub returns-clause-count : goal.returns-clause-count
