@@ -4,7 +4,6 @@
 mod command;
 mod error_line;
 mod exptime;
-mod key_list;
 mod laws;
 mod line;
 mod listing;
@@ -21,9 +20,8 @@ mod tests;
 mod verb;
 mod word;
 
-pub use command::Command;
+pub use command::{Command, Keys};
 pub use error_line::ErrorLine;
-pub use key_list::Keys;
 pub use laws::{
     a_fault_has_no_calls, a_faulty_line_is_answered, a_get_calls_for_each_key,
     calls_are_at_their_keys, commands_are_due_in_order, noreply_is_a_last_word,

@@ -8,9 +8,8 @@ ghost use Rattle.mc_parse.specs.Need.{need};
 ghost use Rattle.mc_parse.specs.Line.{form_seen};
 ghost use Rattle.mc_parse.specs.Meaning.{line_command, block_command, large_command, command_for, block_command_for, large_command_for, fault, is_ended, value_of, store_command, cas_command, IsBlockFor, IsTooLarge};
 
-use crate::command::Command;
+use crate::command::{Command, Keys};
 use crate::error_line::ErrorLine;
-use crate::key_list::Keys;
 use crate::line::Line;
 use crate::reading::read_line;
 use crate::verb::Verb;
@@ -208,13 +207,12 @@ fn is_ended(block: &Blob) -> bool
 }
 
 // The value in a block, which is taken over.
-fn value_of(block: Blob) -> Blob
+fn value_of(mut block: Blob) -> Blob
     ensures value { result ≡ value_of block }
 {
-    let mut bytes = block.into_vec();
-    let length = bytes.len().saturating_sub(2);
-    bytes.truncate(length);
-    Blob::from_vec(bytes)
+    let len = block.bytes().len().saturating_sub(2);
+    block.truncate(len);
+    block
 }
 
 // Copies of the words of a text.
