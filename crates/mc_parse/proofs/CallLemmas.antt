@@ -1,7 +1,7 @@
 -- What the calls of a command have in common.
 use Rattle.std.proofs.Common.{◌≡◌, ℕ, ◌+◌, ◌<◌, ◌≤◌, true, false, List, [], ◌∷◌, ◌++◌, length, append_assoc, append-nil, ◌∙◌, map, refl, ap, sym, subst, zero, suc, arith}
 use Rattle.std.specs.Prelude.{All, Option, Some, IfSome}
-use Rattle.std.proofs.lemmas.List.Elements.{All-nil, All-cons}
+use Rattle.std.proofs.lemmas.List.Elements.{All-nil, All-cons, All-head, All-tail, All-append}
 use Rattle.std.specs.List.{range_with_len}
 use Rattle.zy_base.specs.Key.{shard_of}
 use Rattle.zy_base.specs.Call.{key_of}
@@ -11,12 +11,14 @@ use Rattle.mc_parse.specs.declared.verb.Verb.TheVariants.{Set, Add, Replace, App
 use Rattle.mc_parse.specs.declared.command.Command.{Command}
 use Rattle.mc_parse.specs.declared.command.Command.TheVariants.{Store, Cas, Get, Delete, Count, Version, Verbosity, Flush, Fault}
 use Rattle.mc_parse.specs.declared.shard_call.ShardCall.{ShardCall}
-use Rattle.mc_parse.specs.Calls.{calls_of, Due, due, due_from, tagged, at_key, get_at, on_shard, IsAtKey}
+use Rattle.zy_base.specs.declared.entry.Entry.{Entry}
+use Rattle.std.proofs.lemmas.List.{map-append}
+use Rattle.mc_parse.specs.Calls.{calls_of, asked_by, Due, due, due_at, due_from, due_of, dues_of, tag_of, tagged, at_key, get_at, on_shard, IsAtKey, IsOnShard, IsDueOn}
 
--- the keys of gets are the keys asked for
-pub keys_of-gets : (shards : ℕ) (keys : List (List ℕ)) → map (λ (c : ShardCall). key_of c.call) (map (get_at shards) keys) ≡ map Some keys
-keys_of-gets shards [] = refl
-keys_of-gets shards (key ∷ keys) = ap (λ rest. Some key ∷ rest) (keys_of-gets shards keys)
+-- the calls of gets are the gets of the keys asked for
+pub asked_by-gets : (shards : ℕ) (keys : List (List ℕ)) → asked_by (map (get_at shards) keys) ≡ map GetCall keys
+asked_by-gets shards [] = refl
+asked_by-gets shards (key ∷ keys) = ap (λ (rest : List Call). GetCall key ∷ rest) (asked_by-gets shards keys)
 
 -- ---- a property of every call
 
@@ -65,22 +67,74 @@ all_within shards command some = all_calls (λ (c : ShardCall). c.shard < shards
 
 -- ---- calls due
 
-due_from-more : (shards connection index : ℕ) (commands : List Command) (command : Command)
-    → due_from shards connection index (commands ++ command ∷ []) ≡ due_from shards connection index commands ++ tagged connection (index + length commands) 0 (calls_of shards command)
-due_from-more shards connection index [] command =
-    let at : index ≡ index + 0 = omega arith in
-    append-nil (tagged connection index 0 (calls_of shards command)) ∙ ap (λ (number : ℕ). tagged connection number 0 (calls_of shards command)) at
-due_from-more shards connection index (first ∷ commands) command =
-    let calls : List Due = tagged connection index 0 (calls_of shards first) in
-    let rest : List Due = due_from shards connection (index + 1) commands in
-    let at : index + 1 + length commands ≡ index + length (first ∷ commands) = omega arith in
-    ap (λ (more : List Due). calls ++ more) (due_from-more shards connection (index + 1) commands command)
-    ∙ sym (append_assoc calls rest (tagged connection (index + 1 + length commands) 0 (calls_of shards command)))
-    ∙ ap (λ (number : ℕ). (calls ++ rest) ++ tagged connection number 0 (calls_of shards command)) at
+-- the calls of further commands are due after those of the commands before them
+pub due_from-append : (shards connection index : ℕ) (front commands : List Command)
+    → due_from shards connection index (front ++ commands) ≡ due_from shards connection index front ++ due_from shards connection (index + length front) commands
+due_from-append shards connection index [] commands =
+    let at : index ≡ index + length {A = Command} [] = omega arith in
+    ap (λ (number : ℕ). due_from shards connection number commands) at
+due_from-append shards connection index (first ∷ front) commands =
+    let calls : List Due = due_at shards connection index first in
+    let rest : List Due = due_from shards connection (index + 1) front in
+    let at : index + 1 + length front ≡ index + length (first ∷ front) = omega arith in
+    ap (λ (more : List Due). calls ++ more) (due_from-append shards connection (index + 1) front commands)
+    ∙ sym (append_assoc calls rest (due_from shards connection (index + 1 + length front) commands))
+    ∙ ap (λ (number : ℕ). (calls ++ rest) ++ due_from shards connection number commands) at
+
+-- the same from the first command on
+pub due-append : (shards connection : ℕ) (front commands : List Command)
+    → due shards connection (front ++ commands) ≡ due shards connection front ++ due_from shards connection (length front) commands
+due-append shards connection front commands =
+    let at : 0 + length front ≡ length front = omega arith in
+    due_from-append shards connection 0 front commands ∙ ap (λ (number : ℕ). due shards connection front ++ due_from shards connection number commands) at
 
 -- one command more makes its calls due after those before it
 pub due-more : (shards connection : ℕ) (commands : List Command) (command : Command)
-    → due shards connection (commands ++ command ∷ []) ≡ due shards connection commands ++ tagged connection (length commands) 0 (calls_of shards command)
+    → due shards connection (commands ++ command ∷ []) ≡ due shards connection commands ++ due_at shards connection (length commands) command
 due-more shards connection commands command =
-    let at : 0 + length commands ≡ length commands = omega arith in
-    due_from-more shards connection 0 commands command ∙ ap (λ (number : ℕ). due shards connection commands ++ tagged connection number 0 (calls_of shards command)) at
+    due-append shards connection commands (command ∷ [])
+    ∙ ap (λ (last : List Due). due shards connection commands ++ last) (append-nil (due_at shards connection (length commands) command))
+
+-- calls behind others of one command are tagged with the parts behind theirs
+pub tagged-append : (connection index part : ℕ) (front calls : List ShardCall)
+    → tagged connection index part (front ++ calls) ≡ tagged connection index part front ++ tagged connection index (part + length front) calls
+tagged-append connection index part [] calls =
+    let at : part ≡ part + length {A = ShardCall} [] = omega arith in
+    ap (λ (number : ℕ). tagged connection index number calls) at
+tagged-append connection index part (first ∷ front) calls =
+    let at : part + 1 + length front ≡ part + length (first ∷ front) = omega arith in
+    ap (λ (more : List Due). record { tag = tag_of connection index part; call = first } ∷ more)
+    (tagged-append connection index (part + 1) front calls ∙ ap (λ (number : ℕ). tagged connection index (part + 1) front ++ tagged connection index number calls) at)
+
+-- so many calls of one command are due
+pub length-tagged : (connection index part : ℕ) (calls : List ShardCall) → length (tagged connection index part calls) ≡ length calls
+length-tagged connection index part [] = refl
+length-tagged connection index part (call ∷ calls) = ap suc (length-tagged connection index (part + 1) calls)
+
+-- ---- the shards of calls due
+
+tagged_within : (shards connection index part : ℕ) (calls : List ShardCall) → All (IsOnShard shards) calls → All (IsDueOn shards) (tagged connection index part calls)
+tagged_within shards connection index part [] within = All-nil (IsDueOn shards)
+tagged_within shards connection index part (call ∷ calls) within =
+    All-cons (IsDueOn shards) (record { tag = tag_of connection index part; call = call }) (tagged connection index (part + 1) calls)
+    (All-head (IsOnShard shards) call calls within) (tagged_within shards connection index (part + 1) calls (All-tail (IsOnShard shards) call calls within))
+
+due_from_within : (shards connection index : ℕ) (commands : List Command) → 1 ≤ shards → All (IsDueOn shards) (due_from shards connection index commands)
+due_from_within shards connection index [] some = All-nil (IsDueOn shards)
+due_from_within shards connection index (command ∷ commands) some =
+    All-append (IsDueOn shards) (due_at shards connection index command) (due_from shards connection (index + 1) commands)
+    (tagged_within shards connection index 0 (calls_of shards command) (all_within shards command some)) (due_from_within shards connection (index + 1) commands some)
+
+-- every call due is on one of the shards
+pub due_within : (shards connection : ℕ) (commands : List Command) → 1 ≤ shards → All (IsDueOn shards) (due shards connection commands)
+due_within shards connection commands some = due_from_within shards connection 0 commands some
+
+-- ---- entries
+
+-- what further entries were asked stands behind what those before them were
+pub dues_of-append : (front entries : List Entry) → dues_of (front ++ entries) ≡ dues_of front ++ dues_of entries
+dues_of-append front entries = map-append due_of front entries
+
+-- the same of one more entry
+pub dues_of-more : (entries : List Entry) (entry : Entry) → dues_of (entries ++ entry ∷ []) ≡ dues_of entries ++ due_of entry ∷ []
+dues_of-more entries entry = map-append due_of entries (entry ∷ [])

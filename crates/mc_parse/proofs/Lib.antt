@@ -1,4 +1,5 @@
 pub mod WordLemmas
-pub mod CallLemmas
+pub mod ArityLemmas
 pub mod NoreplyLemmas
-pub mod QuietLemmas
+pub mod CheckLemmas
+pub mod CallLemmas

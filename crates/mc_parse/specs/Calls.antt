@@ -4,6 +4,7 @@ use Rattle.std.specs.List.{range_with_len}
 use Rattle.zy_base.specs.declared.call.Call.{Call}
 use Rattle.zy_base.specs.declared.call.Call.TheVariants.{Get as GetCall, Set as SetCall, Add as AddCall, Replace as ReplaceCall, Append as AppendCall, Prepend as PrependCall, Cas as CasCall, Incr, Decr, Delete as DeleteCall, Flush as FlushCall}
 use Rattle.zy_base.specs.declared.entry.Tag.{Tag}
+use Rattle.zy_base.specs.declared.entry.Entry.{Entry}
 use Rattle.zy_base.specs.Call.{key_of}
 use Rattle.zy_base.specs.Key.{shard_of}
 use Rattle.mc_parse.specs.declared.verb.Verb.{Verb}
@@ -69,9 +70,9 @@ IsAtKey shards call = IfSome (key_of call.call) (λ key. call.shard ≡ shard_of
 abbrev pub IsOnShard : ℕ → ShardCall → Type 0
 IsOnShard shards call = call.shard < shards
 
--- the keys that calls are about
-abbrev pub keys_of : List ShardCall → List (Option (List ℕ))
-keys_of calls = map (λ (call : ShardCall). key_of call.call) calls
+-- the calls, without their shards
+abbrev pub asked_by : List ShardCall → List Call
+asked_by calls = map (λ (call : ShardCall). call.call) calls
 
 -- ---- a connection's commands
 
@@ -104,6 +105,24 @@ due_from shards connection index (command ∷ commands) =
 -- the calls due of a connection's commands, in order of commands and then of parts
 abbrev pub due : ℕ → ℕ → List Command → List Due
 due shards connection commands = due_from shards connection 0 commands
+
+-- what an entry was asked, as a call that is due
+abbrev pub due_of : Entry → Due
+due_of entry = record { tag = entry.tag; call = on_shard entry.call entry.shard }
+
+-- what entries were asked
+abbrev pub dues_of : List Entry → List Due
+dues_of entries = map due_of entries
+
+-- a due call is on one of so many shards
+abbrev pub IsDueOn : ℕ → Due → Type 0
+IsDueOn shards due = IsOnShard shards due.call
+
+-- the calls of commands are due after those of the commands before them
+abbrev pub FollowAll : ℕ → ℕ → List Command → List Command → Type 0
+FollowAll shards connection front commands =
+    due shards connection (front ++ commands)
+    ≡ due shards connection front ++ due_from shards connection (length front) commands
 
 -- one command more makes its calls due after those of the commands before it
 abbrev pub FollowsAll : ℕ → ℕ → List Command → Command → Type 0

@@ -1,5 +1,5 @@
 -- What the words of a line say, or their first fault (docs/PROFILE.md, "The order of checks").
-use Rattle.std.specs.Prelude.{ℕ, Bool, true, false, nat_le, if◌then◌else◌, List, [], ◌∷◌, length, Option, None, Some}
+use Rattle.std.specs.Prelude.{ℕ, Bool, true, false, nat_le, if◌then◌else◌, List, [], ◌∷◌, length, Option, None, Some, option_map}
 use Rattle.std.specs.List.{list_all}
 use Rattle.zy_base.specs.Number.{number_of}
 use Rattle.mc_parse.specs.declared.error_line.ErrorLine.{ErrorLine}
@@ -8,37 +8,42 @@ use Rattle.mc_parse.specs.declared.verb.Verb.{Verb}
 use Rattle.mc_parse.specs.declared.name.Name.{Name}
 use Rattle.mc_parse.specs.declared.name.Name.TheVariants.{Store, Cas, Get, Delete, Count, Version, Verbosity, Flush, Quit}
 use Rattle.mc_parse.specs.declared.sizes.Sizes.{Sizes}
-use Rattle.mc_parse.specs.declared.tail.Tail.{Tail}
-use Rattle.mc_parse.specs.Words.{words, is_noreply}
+use Rattle.mc_parse.specs.Words.{words}
 use Rattle.mc_parse.specs.Name.{name_of}
 use Rattle.mc_parse.specs.Number.{small_number_of, is_zero, is_exptime}
+use Rattle.mc_parse.specs.Arity.{Following, arity_of, following_of}
 
 -- ---- what a line can say
+
+-- what a line asks for
+pub data Ask : Type 0 where
+  -- store a block: the verb, the key, the flags, and the bytes of the value
+  stores : Verb → List ℕ → ℕ → ℕ → Ask
+  -- the same over an item: the key, the flags, the bytes, and the item's unique
+  exchanges : List ℕ → ℕ → ℕ → ℕ → Ask
+  -- get the items of these keys, with their uniques or not
+  gets : List (List ℕ) → Bool → Ask
+  -- remove the item of a key
+  deletes : List ℕ → Ask
+  -- count the value of a key, up or down, by an amount
+  counts : List ℕ → Bool → ℕ → Ask
+  -- tell the version
+  tells_version : Ask
+  -- set the verbosity
+  sets_verbosity : Ask
+  -- remove all items
+  flushes : Ask
+  -- end the connection
+  quits : Ask
 
 -- what a line says
 pub data Form : Type 0 where
   -- nothing: it has this fault
   faulty : ErrorLine → Form
-  -- store a block: the verb, the key, the flags, the bytes of the value, and whether it is quiet
-  stores : Verb → List ℕ → ℕ → ℕ → Bool → Form
-  -- the same over an item: the key, the flags, the bytes, the unique, and whether it is quiet
-  exchanges : List ℕ → ℕ → ℕ → ℕ → Bool → Form
-  -- get the items of these keys, with their uniques or not
-  gets : List (List ℕ) → Bool → Form
-  -- remove the item of a key, quiet or not
-  deletes : List ℕ → Bool → Form
-  -- count the value of a key: up or down, by an amount, quiet or not
-  counts : List ℕ → Bool → ℕ → Bool → Form
-  -- tell the version
-  tells_version : Form
-  -- set the verbosity, quiet or not
-  sets_verbosity : Bool → Form
-  -- remove all items, quiet or not
-  flushes : Bool → Form
-  -- end the connection
-  quits : Form
+  -- it asks for this, quietly or not
+  asks : Ask → Bool → Form
 
--- ---- checks
+-- ---- keys
 
 -- the most bytes that a key may have
 abbrev pub key_limit : ℕ
@@ -48,40 +53,21 @@ key_limit = 250
 abbrev pub is_key : List ℕ → Bool
 is_key word = nat_le (length word) key_limit
 
--- a check that must pass, with its fault: what is said where it passes
-abbrev pub check : Bool → ErrorLine → Form → Form
-check true fault form = form
-check false fault form = faulty fault
+-- the first word, where there is one
+abbrev pub first_word : List (List ℕ) → List (List ℕ)
+first_word [] = []
+first_word (word ∷ words) = word ∷ []
 
--- something that must be found, with the fault where it is not: what is said of it
-abbrev pub find : {A : Type 0} → Option A → ErrorLine → (A → Form) → Form
-find (Some found) fault form = form found
-find None fault form = faulty fault
+-- the keys among the words that follow a name
+abbrev pub keys_among : Name → List (List ℕ) → List (List ℕ)
+keys_among (Store verb) words = first_word words
+keys_among Cas words = first_word words
+keys_among (Get unique) words = words
+keys_among Delete words = first_word words
+keys_among (Count up) words = first_word words
+keys_among name words = []
 
--- ---- the end of a line
-
--- after the words that must stand: whether the line is quiet, where no more than noreply follows
-abbrev pub quiet_of : List (List ℕ) → Option Bool
-quiet_of [] = Some false
-quiet_of (last ∷ []) = if is_noreply last then Some true else None
-quiet_of (word ∷ next ∷ more) = None
-
--- the end of a line with a zero, or with none
-abbrev pub tail : Bool → Bool → Tail
-tail lawful quiet = record { lawful = lawful; quiet = quiet }
-
--- the end of a line with one more word than must stand: the word noreply, or a zero
-abbrev pub last_tail : List ℕ → Tail
-last_tail last = if is_noreply last then tail true true else tail (is_zero last) false
-
--- after the words that must stand: whether a zero is lawful and the line quiet, where both may follow
-abbrev pub tail_of : List (List ℕ) → Option Tail
-tail_of [] = Some (tail true false)
-tail_of (last ∷ []) = Some (last_tail last)
-tail_of (zero ∷ last ∷ []) = if is_noreply last then Some (tail (is_zero zero) true) else None
-tail_of (word ∷ next ∷ last ∷ more) = None
-
--- ---- the commands, each after its name
+-- ---- numbers, from left to right
 
 -- flags and bytes that were found
 abbrev pub sizes : Option ℕ → Option ℕ → Option Sizes
@@ -93,82 +79,93 @@ abbrev pub sizes_of : List ℕ → List ℕ → List ℕ → Option Sizes
 sizes_of flags exptime bytes =
     if is_exptime exptime then sizes (small_number_of flags) (small_number_of bytes) else None
 
--- a storage line: key, flags, exptime and bytes
-abbrev pub store_form : Verb → List (List ℕ) → Form
-store_form verb (key ∷ flags ∷ exptime ∷ bytes ∷ rest) =
-    find (quiet_of rest) Unknown (λ quiet.
-    check (is_key key) BadLine (
-    find (sizes_of flags exptime bytes) BadLine (λ sizes.
-    stores verb key sizes.flags sizes.bytes quiet)))
-store_form verb args = faulty Unknown
+-- storing under a key, with the sizes that were found
+abbrev pub store_ask : Verb → List ℕ → Sizes → Ask
+store_ask verb key sizes = stores verb key sizes.flags sizes.bytes
 
--- a cas line: key, flags, exptime, bytes and unique
-abbrev pub cas_form : List (List ℕ) → Form
-cas_form (key ∷ flags ∷ exptime ∷ bytes ∷ unique ∷ rest) =
-    find (quiet_of rest) Unknown (λ quiet.
-    check (is_key key) BadLine (
-    find (sizes_of flags exptime bytes) BadLine (λ sizes.
-    find (number_of unique) BadLine (λ unique.
-    exchanges key sizes.flags sizes.bytes unique quiet))))
-cas_form args = faulty Unknown
+-- the same over an item, with its unique
+abbrev pub cas_ask : List ℕ → Option Sizes → Option ℕ → Option Ask
+cas_ask key (Some sizes) (Some unique) = Some (exchanges key sizes.flags sizes.bytes unique)
+cas_ask key sizes unique = None
 
--- a retrieval line: keys
-abbrev pub get_form : Bool → List (List ℕ) → Form
-get_form unique [] = faulty Unknown
-get_form unique (key ∷ keys) =
-    check (list_all is_key (key ∷ keys)) BadLine (gets (key ∷ keys) unique)
+-- key, flags, exptime and bytes
+abbrev pub store_words : Verb → List (List ℕ) → Option Ask
+store_words verb (key ∷ flags ∷ exptime ∷ bytes ∷ []) =
+    option_map (store_ask verb key) (sizes_of flags exptime bytes)
+store_words verb words = None
 
--- a delete line: key
-abbrev pub delete_form : List (List ℕ) → Form
-delete_form [] = faulty Unknown
-delete_form (key ∷ rest) =
-    find (tail_of rest) Unknown (λ tail.
-    check (is_key key) BadLine (
-    check tail.lawful BadLine (deletes key tail.quiet)))
+-- key, flags, exptime, bytes and unique
+abbrev pub cas_words : List (List ℕ) → Option Ask
+cas_words (key ∷ flags ∷ exptime ∷ bytes ∷ unique ∷ []) =
+    cas_ask key (sizes_of flags exptime bytes) (number_of unique)
+cas_words words = None
 
--- an incr or decr line: key and amount
-abbrev pub count_form : Bool → List (List ℕ) → Form
-count_form up (key ∷ amount ∷ rest) =
-    find (quiet_of rest) Unknown (λ quiet.
-    check (is_key key) BadLine (
-    find (number_of amount) BadDelta (λ amount. counts key up amount quiet)))
-count_form up args = faulty Unknown
+-- something, where the word that may stand behind it is a zero
+abbrev pub with_zero : Ask → List (List ℕ) → Option Ask
+with_zero ask [] = Some ask
+with_zero ask (zero ∷ []) = if is_zero zero then Some ask else None
+with_zero ask words = None
 
--- a line that is its name alone
-abbrev pub bare_form : Form → List (List ℕ) → Form
-bare_form form [] = form
-bare_form form (word ∷ more) = faulty Unknown
+-- key, and a zero that may stand
+abbrev pub delete_words : List (List ℕ) → Option Ask
+delete_words (key ∷ words) = with_zero (deletes key) words
+delete_words words = None
 
--- a verbosity line: a number
-abbrev pub verbosity_form : List (List ℕ) → Form
-verbosity_form [] = faulty Unknown
-verbosity_form (number ∷ rest) =
-    find (quiet_of rest) Unknown (λ quiet.
-    find (small_number_of number) BadLine (λ _. sets_verbosity quiet))
+-- key and amount
+abbrev pub count_words : Bool → List (List ℕ) → Option Ask
+count_words up (key ∷ amount ∷ []) = option_map (counts key up) (number_of amount)
+count_words up words = None
 
--- a flush_all line
-abbrev pub flush_form : List (List ℕ) → Form
-flush_form rest =
-    find (tail_of rest) Unknown (λ tail. check tail.lawful BadLine (flushes tail.quiet))
+-- a number, which has no effect
+abbrev pub verbosity_words : List (List ℕ) → Option Ask
+verbosity_words (number ∷ []) = option_map (λ _. sets_verbosity) (small_number_of number)
+verbosity_words words = None
 
--- ---- any line
+-- what a name asks for with the words that follow, noreply left out; none where a number is bad
+abbrev pub ask_of : Name → List (List ℕ) → Option Ask
+ask_of (Store verb) words = store_words verb words
+ask_of Cas words = cas_words words
+ask_of (Get unique) words = Some (gets words unique)
+ask_of Delete words = delete_words words
+ask_of (Count up) words = count_words up words
+ask_of Version words = Some tells_version
+ask_of Verbosity words = verbosity_words words
+ask_of Flush words = with_zero flushes words
+ask_of Quit words = Some quits
 
--- what the words after a name say
+-- the fault of a bad number
+abbrev pub number_fault : Name → ErrorLine
+number_fault (Count up) = BadDelta
+number_fault name = BadLine
+
+-- ---- the checks in their order
+
+-- a check that must pass, with its fault: what is said where it passes
+abbrev pub check : Bool → ErrorLine → Form → Form
+check true fault form = form
+check false fault form = faulty fault
+
+-- something that must be found, with the fault where it is not: what is said of it
+abbrev pub find : {A : Type 0} → Option A → ErrorLine → (A → Form) → Form
+find (Some found) fault form = form found
+find None fault form = faulty fault
+
+-- a name with the words that follow: first the keys, then the numbers
+abbrev pub form_with : Name → Following → Form
+form_with name following =
+    check (list_all is_key (keys_among name following.words)) BadLine (
+    find (ask_of name following.words) (number_fault name) (λ ask.
+    asks ask following.quiet))
+
+-- what a name says with the words after it: first their count, and noreply where it must stand
 abbrev pub form_after : Name → List (List ℕ) → Form
-form_after (Store verb) args = store_form verb args
-form_after Cas args = cas_form args
-form_after (Get unique) args = get_form unique args
-form_after Delete args = delete_form args
-form_after (Count up) args = count_form up args
-form_after Version args = bare_form tells_version args
-form_after Verbosity args = verbosity_form args
-form_after Flush args = flush_form args
-form_after Quit args = bare_form quits args
+form_after name words =
+    find (following_of (arity_of name) words) Unknown (λ following. form_with name following)
 
 -- what the words of a line say
 abbrev pub form_of : List (List ℕ) → Form
 form_of [] = faulty Unknown
-form_of (name ∷ args) = find (name_of name) Unknown (λ name. form_after name args)
+form_of (name ∷ words) = find (name_of name) Unknown (λ name. form_after name words)
 
 -- what a line says
 abbrev pub line_form : List ℕ → Form

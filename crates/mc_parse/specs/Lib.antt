@@ -1,7 +1,9 @@
 pub mod Words
 pub mod Name
 pub mod Number
+pub mod Arity
 pub mod Form
+pub mod Checks
 pub mod Line
 pub mod Need
 pub mod Meaning

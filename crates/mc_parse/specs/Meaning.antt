@@ -9,7 +9,7 @@ use Rattle.mc_parse.specs.declared.error_line.ErrorLine.TheVariants.{Unknown, Lo
 use Rattle.zy_base.specs.Shard.{value_limit}
 use Rattle.mc_parse.specs.declared.need.Need.{Need}
 use Rattle.mc_parse.specs.declared.need.Need.TheVariants.{Nothing, Block, Quit}
-use Rattle.mc_parse.specs.Form.{Form, line_form, faulty, stores, exchanges, gets, deletes, counts, tells_version, sets_verbosity, flushes, quits}
+use Rattle.mc_parse.specs.Form.{Ask, stores, exchanges, gets, deletes, counts, tells_version, sets_verbosity, flushes, quits, Form, line_form, faulty, asks}
 
 -- ---- blocks
 
@@ -24,10 +24,6 @@ value_of block = take (length block - 2) block
 -- a block ends in the two bytes that must end it
 abbrev pub is_ended : List ℕ → Bool
 is_ended block = bytes_eq (drop (length block - 2) block) line_end
-
--- the command that a block makes, where it is ended
-abbrev pub with_block : List ℕ → Bool → Command → Command
-with_block block quiet command = if is_ended block then command else Fault BadChunk quiet
 
 -- the block is that of a line with this need, and its value is within the limit
 abbrev pub IsBlockFor : Need → List ℕ → Type 0
@@ -47,42 +43,39 @@ IsTooLarge Quit = ⊥
 abbrev pub fault : ErrorLine → Command
 fault line = Fault line false
 
--- a line by itself; one that wants a block, or ends the connection, counts as unknown
+-- what is asked for by a line alone; what wants a block, or ends the connection, counts as unknown
+abbrev pub alone_command : Ask → Bool → Command
+alone_command (stores verb key flags bytes) quiet = fault Unknown
+alone_command (exchanges key flags bytes unique) quiet = fault Unknown
+alone_command (gets keys unique) quiet = Get keys unique
+alone_command (deletes key) quiet = Delete key quiet
+alone_command (counts key up amount) quiet = Count key up amount quiet
+alone_command tells_version quiet = Version
+alone_command sets_verbosity quiet = Verbosity quiet
+alone_command flushes quiet = Flush quiet
+alone_command quits quiet = fault Unknown
+
+-- what is asked for with a value; what wants none counts as unknown
+abbrev pub value_command : Ask → Bool → List ℕ → Command
+value_command (stores verb key flags bytes) quiet value = Store verb key flags value quiet
+value_command (exchanges key flags bytes unique) quiet value = Cas key flags unique value quiet
+value_command ask quiet value = fault Unknown
+
+-- a line by itself
 abbrev pub command_for : Form → Command
 command_for (faulty line) = fault line
-command_for (stores verb key flags bytes quiet) = fault Unknown
-command_for (exchanges key flags bytes unique quiet) = fault Unknown
-command_for (gets keys unique) = Get keys unique
-command_for (deletes key quiet) = Delete key quiet
-command_for (counts key up amount quiet) = Count key up amount quiet
-command_for tells_version = Version
-command_for (sets_verbosity quiet) = Verbosity quiet
-command_for (flushes quiet) = Flush quiet
-command_for quits = fault Unknown
+command_for (asks ask quiet) = alone_command ask quiet
 
--- a storage line with its block
-abbrev pub store_command : Verb → List ℕ → ℕ → Bool → List ℕ → Command
-store_command verb key flags quiet block =
-    with_block block quiet (Store verb key flags (value_of block) quiet)
-
--- a cas line with its block
-abbrev pub cas_command : List ℕ → ℕ → ℕ → Bool → List ℕ → Command
-cas_command key flags unique quiet block =
-    with_block block quiet (Cas key flags unique (value_of block) quiet)
-
--- a line with a block; one that wants no block counts as unknown
+-- a line with a block
 abbrev pub block_command_for : List ℕ → Form → Command
-block_command_for block (stores verb key flags bytes quiet) =
-    store_command verb key flags quiet block
-block_command_for block (exchanges key flags bytes unique quiet) =
-    cas_command key flags unique quiet block
-block_command_for block form = fault Unknown
+block_command_for block (faulty line) = fault line
+block_command_for block (asks ask quiet) =
+    if is_ended block then value_command ask quiet (value_of block) else Fault BadChunk quiet
 
--- a line with a block that is too large, whatever it is; one that wants no block counts as unknown
+-- a line with a block that is too large, whatever it is
 abbrev pub large_command_for : Form → Command
-large_command_for (stores verb key flags bytes quiet) = Fault TooLarge quiet
-large_command_for (exchanges key flags bytes unique quiet) = Fault TooLarge quiet
-large_command_for form = fault Unknown
+large_command_for (faulty line) = fault line
+large_command_for (asks ask quiet) = Fault TooLarge quiet
 
 -- ---- requests
 

@@ -2,20 +2,24 @@
 use Rattle.std.specs.Prelude.{ℕ, List}
 use Rattle.mc_parse.specs.declared.need.Need.{Need}
 use Rattle.mc_parse.specs.declared.need.Need.TheVariants.{Nothing, Block, Quit}
-use Rattle.mc_parse.specs.Form.{Form, line_form, faulty, stores, exchanges, gets, deletes, counts, tells_version, sets_verbosity, flushes, quits}
+use Rattle.mc_parse.specs.Form.{Ask, stores, exchanges, gets, deletes, counts, tells_version, sets_verbosity, flushes, quits, Form, line_form, faulty, asks}
+
+-- what must come with what is asked for
+abbrev pub ask_need : Ask → Need
+ask_need (stores verb key flags bytes) = Block bytes
+ask_need (exchanges key flags bytes unique) = Block bytes
+ask_need (gets keys unique) = Nothing
+ask_need (deletes key) = Nothing
+ask_need (counts key up amount) = Nothing
+ask_need tells_version = Nothing
+ask_need sets_verbosity = Nothing
+ask_need flushes = Nothing
+ask_need quits = Quit
 
 -- what a line that says this needs
 abbrev pub need_for : Form → Need
 need_for (faulty fault) = Nothing
-need_for (stores verb key flags bytes quiet) = Block bytes
-need_for (exchanges key flags bytes unique quiet) = Block bytes
-need_for (gets keys unique) = Nothing
-need_for (deletes key quiet) = Nothing
-need_for (counts key up amount quiet) = Nothing
-need_for tells_version = Nothing
-need_for (sets_verbosity quiet) = Nothing
-need_for (flushes quiet) = Nothing
-need_for quits = Quit
+need_for (asks ask quiet) = ask_need ask
 
 -- what a line needs
 unfoldable pub need : List ℕ → Need

@@ -1,12 +1,12 @@
 -- Lines that may ask for no answer, and the word noreply (docs/PROFILE.md, "noreply").
-use Rattle.std.specs.Prelude.{◌≡◌, ℕ, Bool, true, false, not, List, [], ◌∷◌, ◌++◌, codes}
+use Rattle.std.specs.Prelude.{◌≡◌, ℕ, Bool, true, false, not, ◌&&◌, List, [], ◌∷◌, ◌++◌, codes}
 use Rattle.mc_parse.specs.declared.need.Need.TheVariants.{Nothing}
 use Rattle.mc_parse.specs.declared.command.Command.{Command}
 use Rattle.mc_parse.specs.declared.command.Command.TheVariants.{Store, Cas, Get, Delete, Count, Version, Verbosity, Flush, Fault}
 use Rattle.mc_parse.specs.Words.{words}
 use Rattle.mc_parse.specs.Need.{need}
 use Rattle.mc_parse.specs.Meaning.{line_command, block_command, large_command, IsBlockFor, IsTooLarge}
-use Rattle.mc_parse.specs.Form.{Form, form_of, line_form, faulty, stores, exchanges, gets, deletes, counts, tells_version, sets_verbosity, flushes, quits}
+use Rattle.mc_parse.specs.Form.{Ask, gets, tells_version, quits, Form, form_of, line_form, faulty, asks}
 
 -- ---- lines
 
@@ -14,57 +14,41 @@ use Rattle.mc_parse.specs.Form.{Form, form_of, line_form, faulty, stores, exchan
 abbrev pub with_noreply : List ℕ → List ℕ
 with_noreply line = line ++ codes " noreply"
 
+-- what is asked for may be asked for without an answer
+abbrev pub may_be_quiet : Ask → Bool
+may_be_quiet (gets keys unique) = false
+may_be_quiet tells_version = false
+may_be_quiet quits = false
+may_be_quiet ask = true
+
 -- what a line says may be asked for without an answer, and is not
 abbrev pub is_loud : Form → Bool
-is_loud (stores verb key flags bytes quiet) = not quiet
-is_loud (exchanges key flags bytes unique quiet) = not quiet
-is_loud (deletes key quiet) = not quiet
-is_loud (counts key up amount quiet) = not quiet
-is_loud (sets_verbosity quiet) = not quiet
-is_loud (flushes quiet) = not quiet
 is_loud (faulty line) = false
-is_loud (gets keys unique) = false
-is_loud tells_version = false
-is_loud quits = false
+is_loud (asks ask quiet) = may_be_quiet ask && not quiet
 
 -- a line without a fault that may ask for no answer, and does not
 abbrev pub takes_noreply : List ℕ → Bool
 takes_noreply line = is_loud (line_form line)
 
--- the same, asked for without an answer
-abbrev pub silent : Form → Form
-silent (stores verb key flags bytes quiet) = stores verb key flags bytes true
-silent (exchanges key flags bytes unique quiet) = exchanges key flags bytes unique true
-silent (deletes key quiet) = deletes key true
-silent (counts key up amount quiet) = counts key up amount true
-silent (sets_verbosity quiet) = sets_verbosity true
-silent (flushes quiet) = flushes true
-silent (faulty line) = faulty line
-silent (gets keys unique) = gets keys unique
-silent tells_version = tells_version
-silent quits = quits
-
 -- what a line says is asked for without an answer
 abbrev pub is_quiet : Form → Bool
-is_quiet (stores verb key flags bytes quiet) = quiet
-is_quiet (exchanges key flags bytes unique quiet) = quiet
-is_quiet (deletes key quiet) = quiet
-is_quiet (counts key up amount quiet) = quiet
-is_quiet (sets_verbosity quiet) = quiet
-is_quiet (flushes quiet) = quiet
 is_quiet (faulty line) = false
-is_quiet (gets keys unique) = false
-is_quiet tells_version = false
-is_quiet quits = false
+is_quiet (asks ask quiet) = quiet
 
--- words that end in noreply, and say quietly what those before it say
-pub record IsSilenced (form : List (List ℕ) → Form) (front all : List (List ℕ)) : Type 0 where
+-- the same, asked for without an answer
+abbrev pub silent : Form → Form
+silent (faulty line) = faulty line
+silent (asks ask quiet) = asks ask true
+
+-- the words of a line end in noreply, and say quietly what those before it say
+pub record EndsInNoreply (line : List ℕ) : Type 0 where
+  pub front : List (List ℕ)
   -- they are those before it, and noreply
-  pub ends : all ≡ front ++ codes "noreply" ∷ []
+  pub ends : words line ≡ front ++ codes "noreply" ∷ []
   -- those before it say something that may be asked for without an answer
-  pub loud : is_loud (form front) ≡ true
+  pub loud : is_loud (form_of front) ≡ true
   -- with it they say the same, without an answer
-  pub says : form all ≡ silent (form front)
+  pub says : line_form line ≡ silent (form_of front)
 
 -- ---- commands
 
@@ -92,7 +76,3 @@ pub record OnlyFallsSilent (line : List ℕ) : Type 0 where
   -- a line with a block that is too large
   pub too_large : IsTooLarge (need line)
       → large_command (with_noreply line) ≡ silenced (large_command line)
-
--- the words of a line end in noreply, and say quietly what those before it say
-abbrev pub EndsInNoreply : List ℕ → Type 0
-EndsInNoreply line = (front : List (List ℕ)) × IsSilenced form_of front (words line)

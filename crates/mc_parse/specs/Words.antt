@@ -3,6 +3,10 @@ use Rattle.std.specs.Prelude.{ℕ, Bool, true, false, not, ◌&&◌, ◌==◌, i
 use Rattle.std.specs.List.{list_all}
 use Rattle.std.specs.Str.{bytes_eq}
 
+-- the most bytes of a line that is looked at
+abbrev pub line_limit : ℕ
+line_limit = 65536
+
 -- the byte between words
 abbrev pub space : ℕ
 space = 32

@@ -1,9 +1,11 @@
 //! Commands.
 
 use crate::error_line::ErrorLine;
-use crate::key_list::Keys;
 use crate::verb::Verb;
-use zy_base::Blob;
+use zy_base::{Blob, Items};
+
+/// A list of keys.
+pub type Keys = Items<Blob>;
 
 /// What a request asks for. A quiet command is not answered.
 #[derive(Debug, PartialEq, Eq, Drop)]

@@ -1,10 +1,13 @@
 //! From a line, with its block, to the command it means, and from the command to its calls.
 #![tactic(auto)]
 
+mod args;
+mod arity;
+mod ask;
+mod asking;
 mod command;
 mod error_line;
 mod exptime;
-mod key_list;
 mod laws;
 mod line;
 mod listing;
@@ -15,22 +18,21 @@ mod parse;
 mod reading;
 mod shard_call;
 mod sizes;
-mod tail;
 #[cfg(test)]
 mod tests;
 mod verb;
 mod word;
 
-pub use command::Command;
+pub use command::{Command, Keys};
 pub use error_line::ErrorLine;
-pub use key_list::Keys;
 pub use laws::{
-    a_fault_has_no_calls, a_faulty_line_is_answered, a_get_calls_for_each_key,
-    calls_are_at_their_keys, commands_are_due_in_order, noreply_is_a_last_word,
+    a_block_is_its_value_and_two_bytes, a_fault_has_no_calls, a_faulty_line_is_answered,
+    a_get_calls_for_each_key, calls_are_at_their_keys, commands_are_due_in_order,
+    entries_tell_what_was_due, lines_are_checked_in_order, noreply_is_a_last_word,
     noreply_only_silences, spaces_part_words,
 };
 pub use listing::calls;
-pub use need::{Need, need_of};
+pub use need::{LINE_LIMIT, Need, need_of};
 pub use parse::{parse_block, parse_large, parse_line};
 pub use shard_call::{Calls, ShardCall};
 pub use verb::Verb;

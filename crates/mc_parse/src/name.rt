@@ -6,7 +6,7 @@ use crate::verb::Verb;
 
 /// The name that a line begins with.
 #[derive(Clone, Copy, Debug, PartialEq, Eq)]
-pub enum Name {
+pub(crate) enum Name {
     /// `set`, `add`, `replace`, `append` or `prepend`.
     Store { verb: Verb },
     /// `cas`.
@@ -28,7 +28,7 @@ pub enum Name {
 }
 
 /// The name that a word is.
-pub fn name_of(word: &[u8]) -> Option<Name>
+pub(crate) fn name_of(word: &[u8]) -> Option<Name>
     ensures value { result ≡ name_of word.now }
 {
     if word == b"set".as_slice() {

@@ -1,10 +1,15 @@
 //! What must come with a line.
 ghost use Rattle.std.specs.Prelude.{◌≡◌, ◌≤◌, length};
+ghost use Rattle.mc_parse.specs.Words.{line_limit};
 ghost use Rattle.mc_parse.specs.Need.{need, need_for};
 ghost use Rattle.mc_parse.specs.Line.{form_seen};
 
+use crate::ask::Ask;
 use crate::line::Line;
 use crate::reading::read_line;
+
+/// The most bytes of a line that is looked at.
+pub const LINE_LIMIT: usize = 65_536;
 
 /// What must come with a line before it is a request.
 #[derive(Clone, Copy, Debug, PartialEq, Eq)]
@@ -20,7 +25,7 @@ pub enum Need {
 /// What a line needs. The line is given without the bytes that end it. Takes no memory.
 #[tactic(auto, unfolding(crate::specs::Need::need))]
 pub fn need_of(line: &[u8]) -> Need
-    requires within { length line.now ≤ 65536 }
+    requires within { length line.now ≤ line_limit }
     ensures value { result ≡ need line.now }
 {
     need_for(read_line(line))
@@ -30,10 +35,13 @@ pub fn need_of(line: &[u8]) -> Need
 fn need_for(line: Line<'_>) -> Need
     ensures value { result ≡ need_for (form_seen line.entry) }
 {
-    match line {
-        Line::Store { bytes, .. } => Need::Block { bytes },
-        Line::Cas { bytes, .. } => Need::Block { bytes },
-        Line::Quit => Need::Quit,
+    let Line::Asks { ask, .. } = line else {
+        return Need::Nothing;
+    };
+    match ask {
+        Ask::Store { bytes, .. } => Need::Block { bytes },
+        Ask::Cas { bytes, .. } => Need::Block { bytes },
+        Ask::Quit => Need::Quit,
         _ => Need::Nothing,
     }
 }

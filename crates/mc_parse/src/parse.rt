@@ -2,18 +2,16 @@
 ghost use Rattle.std.specs.Prelude.{◌≡◌, ◌≤◌, length, IfOk, IfErr};
 ghost use Rattle.mc_parse.specs.declared.need.Need.{Need};
 ghost use Rattle.mc_parse.specs.declared.command.Command.{Command};
-ghost use Rattle.mc_parse.specs.declared.error_line.ErrorLine.{ErrorLine};
-ghost use Rattle.mc_parse.specs.Words.{words};
+ghost use Rattle.mc_parse.specs.Words.{words, line_limit};
 ghost use Rattle.mc_parse.specs.Need.{need};
-ghost use Rattle.mc_parse.specs.Line.{form_seen};
-ghost use Rattle.mc_parse.specs.Meaning.{line_command, block_command, large_command, command_for, block_command_for, large_command_for, fault, is_ended, value_of, store_command, cas_command, IsBlockFor, IsTooLarge};
+ghost use Rattle.mc_parse.specs.Line.{ask_seen, form_seen};
+ghost use Rattle.mc_parse.specs.Meaning.{line_command, block_command, large_command, alone_command, value_command, command_for, block_command_for, large_command_for, fault, is_ended, value_of, IsBlockFor, IsTooLarge};
 
-use crate::command::Command;
+use crate::command::{Command, Keys};
 use crate::error_line::ErrorLine;
-use crate::key_list::Keys;
+use crate::ask::Ask;
 use crate::line::Line;
 use crate::reading::read_line;
-use crate::verb::Verb;
 use crate::word::next_word;
 use std::alloc::Global;
 use zy_base::{Blob, NoMemory};
@@ -22,7 +20,7 @@ use zy_base::{Blob, NoMemory};
 /// A fault of the client is a command.
 #[tactic(auto, unfolding(crate::specs::Meaning::line_command))]
 pub fn parse_line(alloc: Global, line: &[u8]) -> Result<Command, NoMemory>
-    requires within { length line.now ≤ 65536 }
+    requires within { length line.now ≤ line_limit }
     requires alone { need line.now ≡ Need.Nothing }
     ensures value { IfOk result (λ command. command ≡ line_command line.now) }
 {
@@ -33,7 +31,7 @@ pub fn parse_line(alloc: Global, line: &[u8]) -> Result<Command, NoMemory>
 /// end it. The value is taken over without a copy. After a refusal the block is handed back.
 #[tactic(auto, unfolding(crate::specs::Meaning::block_command))]
 pub fn parse_block(alloc: Global, line: &[u8], block: Blob) -> Result<Command, (Blob, NoMemory)>
-    requires within { length line.now ≤ 65536 }
+    requires within { length line.now ≤ line_limit }
     requires fits { IsBlockFor (need line.now) block }
     ensures value { IfOk result (λ command. command ≡ block_command line.now block) }
     ensures returned { IfErr result (λ e. e.0 ≡ block) }
@@ -45,7 +43,7 @@ pub fn parse_block(alloc: Global, line: &[u8], block: Blob) -> Result<Command, (
 /// not count. Takes no memory.
 #[tactic(auto, unfolding(crate::specs::Meaning::large_command))]
 pub fn parse_large(line: &[u8]) -> Command
-    requires within { length line.now ≤ 65536 }
+    requires within { length line.now ≤ line_limit }
     requires large { IsTooLarge (need line.now) }
     ensures value { result ≡ large_command line.now }
 {
@@ -58,33 +56,34 @@ fn command_for(alloc: Global, line: Line<'_>) -> Result<Command, NoMemory>
 {
     match line {
         Line::Fault(line) => Ok(fault(line)),
-        Line::Get { keys, unique } => match copy_words(alloc, keys) {
-            Ok(keys) => Ok(Command::Get { keys, unique }),
-            Err(e) => Err(e),
+        Line::Asks { ask, quiet } => alone_command(alloc, ask, quiet),
+    }
+}
+
+// The command that asks for this, where no block comes with it.
+fn alone_command(alloc: Global, ask: Ask<'_>, quiet: bool) -> Result<Command, NoMemory>
+    ensures value { IfOk result (λ command. command ≡ alone_command (ask_seen ask.entry) quiet) }
+{
+    Ok(match ask {
+        Ask::Get { keys, unique } => Command::Get {
+            keys: copy_words(alloc, keys)?,
+            unique,
         },
-        Line::Delete { key, quiet } => match Blob::copy_of(alloc, key) {
-            Ok(key) => Ok(Command::Delete { key, quiet }),
-            Err(e) => Err(e),
+        Ask::Delete { key } => Command::Delete {
+            key: Blob::copy_of(alloc, key)?,
+            quiet,
         },
-        Line::Count {
-            key,
+        Ask::Count { key, up, amount } => Command::Count {
+            key: Blob::copy_of(alloc, key)?,
             up,
             amount,
             quiet,
-        } => match Blob::copy_of(alloc, key) {
-            Ok(key) => Ok(Command::Count {
-                key,
-                up,
-                amount,
-                quiet,
-            }),
-            Err(e) => Err(e),
         },
-        Line::Version => Ok(Command::Version),
-        Line::Verbosity { quiet } => Ok(Command::Verbosity { quiet }),
-        Line::Flush { quiet } => Ok(Command::Flush { quiet }),
-        Line::Store { .. } | Line::Cas { .. } | Line::Quit => Ok(fault(ErrorLine::Unknown)),
-    }
+        Ask::Version => Command::Version,
+        Ask::Verbosity => Command::Verbosity { quiet },
+        Ask::Flush => Command::Flush { quiet },
+        Ask::Store { .. } | Ask::Cas { .. } | Ask::Quit => fault(ErrorLine::Unknown),
+    })
 }
 
 // The command of a line that says this, with its block.
@@ -97,75 +96,53 @@ fn block_command_for(
     ensures returned { IfErr result (λ e. e.0 ≡ block) }
 {
     match line {
-        Line::Store {
-            verb,
-            key,
-            flags,
-            quiet,
-            ..
-        } => stored(alloc, verb, key, flags, quiet, block),
-        Line::Cas {
-            key,
-            flags,
-            unique,
-            quiet,
-            ..
-        } => exchanged(alloc, key, flags, unique, quiet, block),
+        Line::Fault(line) => Ok(fault(line)),
+        Line::Asks { ask, quiet } => {
+            if is_ended(&block) {
+                value_command(alloc, ask, quiet, block)
+            } else {
+                Ok(block_fault(ErrorLine::BadChunk, quiet))
+            }
+        }
+    }
+}
+
+// The command that asks for this with the value of a block.
+fn value_command(
+    alloc: Global,
+    ask: Ask<'_>,
+    quiet: bool,
+    block: Blob,
+) -> Result<Command, (Blob, NoMemory)>
+    ensures value { IfOk result (λ command. command ≡ value_command (ask_seen ask.entry) quiet (value_of block)) }
+    ensures returned { IfErr result (λ e. e.0 ≡ block) }
+{
+    match ask {
+        Ask::Store {
+            verb, key, flags, ..
+        } => match Blob::copy_of(alloc, key) {
+            Ok(key) => Ok(Command::Store {
+                verb,
+                key,
+                flags,
+                value: value_of(block),
+                quiet,
+            }),
+            Err(e) => Err((block, e)),
+        },
+        Ask::Cas {
+            key, flags, unique, ..
+        } => match Blob::copy_of(alloc, key) {
+            Ok(key) => Ok(Command::Cas {
+                key,
+                flags,
+                unique,
+                value: value_of(block),
+                quiet,
+            }),
+            Err(e) => Err((block, e)),
+        },
         _ => Ok(fault(ErrorLine::Unknown)),
-    }
-}
-
-// The command that stores a block.
-fn stored(
-    alloc: Global,
-    verb: Verb,
-    key: &[u8],
-    flags: u32,
-    quiet: bool,
-    block: Blob,
-) -> Result<Command, (Blob, NoMemory)>
-    ensures value { IfOk result (λ command. command ≡ store_command verb key.now flags quiet block) }
-    ensures returned { IfErr result (λ e. e.0 ≡ block) }
-{
-    if !is_ended(&block) {
-        return Ok(bad_chunk(quiet));
-    }
-    match Blob::copy_of(alloc, key) {
-        Ok(key) => Ok(Command::Store {
-            verb,
-            key,
-            flags,
-            value: value_of(block),
-            quiet,
-        }),
-        Err(e) => Err((block, e)),
-    }
-}
-
-// The command that stores a block over the item with this unique.
-fn exchanged(
-    alloc: Global,
-    key: &[u8],
-    flags: u32,
-    unique: u64,
-    quiet: bool,
-    block: Blob,
-) -> Result<Command, (Blob, NoMemory)>
-    ensures value { IfOk result (λ command. command ≡ cas_command key.now flags unique quiet block) }
-    ensures returned { IfErr result (λ e. e.0 ≡ block) }
-{
-    if !is_ended(&block) {
-        return Ok(bad_chunk(quiet));
-    }
-    match Blob::copy_of(alloc, key) {
-        Ok(key) => Ok(Command::Cas {
-            key,
-            flags,
-            unique,
-            value: value_of(block),
-            quiet,
-        }),
-        Err(e) => Err((block, e)),
     }
 }
 
@@ -174,11 +151,8 @@ fn large_command_for(line: Line<'_>) -> Command
     ensures value { result ≡ large_command_for (form_seen line.entry) }
 {
     match line {
-        Line::Store { quiet, .. } | Line::Cas { quiet, .. } => Command::Fault {
-            line: ErrorLine::TooLarge,
-            quiet,
-        },
-        _ => fault(ErrorLine::Unknown),
+        Line::Fault(line) => fault(line),
+        Line::Asks { quiet, .. } => block_fault(ErrorLine::TooLarge, quiet),
     }
 }
 
@@ -190,13 +164,10 @@ fn fault(line: ErrorLine) -> Command
 }
 
 // A fault of a block, which is quiet as its line is.
-fn bad_chunk(quiet: bool) -> Command
-    ensures value { result ≡ Command.Fault ErrorLine.BadChunk quiet }
+fn block_fault(line: ErrorLine, quiet: bool) -> Command
+    ensures value { result ≡ Command.Fault line quiet }
 {
-    Command::Fault {
-        line: ErrorLine::BadChunk,
-        quiet,
-    }
+    Command::Fault { line, quiet }
 }
 
 // Whether a block ends in the two bytes that must end it.
@@ -208,13 +179,12 @@ fn is_ended(block: &Blob) -> bool
 }
 
 // The value in a block, which is taken over.
-fn value_of(block: Blob) -> Blob
+fn value_of(mut block: Blob) -> Blob
     ensures value { result ≡ value_of block }
 {
-    let mut bytes = block.into_vec();
-    let length = bytes.len().saturating_sub(2);
-    bytes.truncate(length);
-    Blob::from_vec(bytes)
+    let len = block.bytes().len().saturating_sub(2);
+    block.truncate(len);
+    block
 }
 
 // Copies of the words of a text.

@@ -1,23 +1,22 @@
 //! What a line says, read from its words in one pass.
-ghost use Rattle.std.specs.Prelude.{◌≡◌};
+ghost use Rattle.std.specs.Prelude.{◌≡◌, not};
 ghost use Rattle.std.specs.List.{list_all};
+ghost use Rattle.mc_parse.specs.declared.name.Name.TheVariants as Names;
 ghost use Rattle.mc_parse.specs.Words.{words};
-ghost use Rattle.mc_parse.specs.Form.{is_key, quiet_of, last_tail, tail_of, sizes_of, store_form, cas_form, get_form, delete_form, count_form, bare_form, verbosity_form, flush_form, form_after, form_of};
-ghost use Rattle.mc_parse.specs.Line.{form_seen};
+ghost use Rattle.mc_parse.specs.Form.{is_key, keys_among, form_with, form_after, form_of};
+ghost use Rattle.mc_parse.specs.Line.{texts, form_seen, HasFew};
 
+use crate::args::Args;
+use crate::arity::arity_of;
+use crate::ask::Ask;
+use crate::asking::{number_fault, read_ask};
 use crate::error_line::ErrorLine;
-use crate::exptime::is_exptime;
 use crate::line::Line;
 use crate::name::{Name, name_of};
-use crate::number::{is_zero, read_small_number};
-use crate::sizes::Sizes;
-use crate::tail::Tail;
-use crate::verb::Verb;
-use crate::word::{is_noreply, next_word};
-use zy_base::read_number;
+use crate::word::{is_key, next_word};
 
 /// What a line says, or its first fault.
-pub fn read_line(line: &[u8]) -> Line<'_>
+pub(crate) fn read_line(line: &[u8]) -> Line<'_>
     ensures value { form_seen result ≡ form_of (words line.now) }
 {
     let Some(first) = next_word(line) else {
@@ -34,107 +33,14 @@ fn read_after(name: Name, text: &[u8]) -> Line<'_>
     ensures value { form_seen result ≡ form_after name (words text.now) }
 {
     match name {
-        Name::Store { verb } => read_store(verb, text),
-        Name::Cas => read_cas(text),
         Name::Get { unique } => read_get(unique, text),
-        Name::Delete => read_delete(text),
-        Name::Count { up } => read_count(up, text),
-        Name::Version => read_bare(Line::Version, text),
-        Name::Verbosity => read_verbosity(text),
-        Name::Flush => read_flush(text),
-        Name::Quit => read_bare(Line::Quit, text),
+        _ => read_few(name, text),
     }
-}
-
-// Key, flags, exptime and bytes.
-fn read_store(verb: Verb, text: &[u8]) -> Line<'_>
-    ensures value { form_seen result ≡ store_form verb (words text.now) }
-{
-    let Some(key) = next_word(text) else {
-        return Line::Fault(ErrorLine::Unknown);
-    };
-    let Some(flags) = next_word(key.rest) else {
-        return Line::Fault(ErrorLine::Unknown);
-    };
-    let Some(exptime) = next_word(flags.rest) else {
-        return Line::Fault(ErrorLine::Unknown);
-    };
-    let Some(bytes) = next_word(exptime.rest) else {
-        return Line::Fault(ErrorLine::Unknown);
-    };
-    let Some(quiet) = read_quiet(bytes.rest) else {
-        return Line::Fault(ErrorLine::Unknown);
-    };
-    if !is_key(key.word) {
-        return Line::Fault(ErrorLine::BadLine);
-    }
-    let Some(sizes) = read_sizes(flags.word, exptime.word, bytes.word) else {
-        return Line::Fault(ErrorLine::BadLine);
-    };
-    Line::Store {
-        verb,
-        key: key.word,
-        flags: sizes.flags,
-        bytes: sizes.bytes,
-        quiet,
-    }
-}
-
-// Key, flags, exptime, bytes and unique.
-fn read_cas(text: &[u8]) -> Line<'_>
-    ensures value { form_seen result ≡ cas_form (words text.now) }
-{
-    let Some(key) = next_word(text) else {
-        return Line::Fault(ErrorLine::Unknown);
-    };
-    let Some(flags) = next_word(key.rest) else {
-        return Line::Fault(ErrorLine::Unknown);
-    };
-    let Some(exptime) = next_word(flags.rest) else {
-        return Line::Fault(ErrorLine::Unknown);
-    };
-    let Some(bytes) = next_word(exptime.rest) else {
-        return Line::Fault(ErrorLine::Unknown);
-    };
-    let Some(unique) = next_word(bytes.rest) else {
-        return Line::Fault(ErrorLine::Unknown);
-    };
-    let Some(quiet) = read_quiet(unique.rest) else {
-        return Line::Fault(ErrorLine::Unknown);
-    };
-    if !is_key(key.word) {
-        return Line::Fault(ErrorLine::BadLine);
-    }
-    let Some(sizes) = read_sizes(flags.word, exptime.word, bytes.word) else {
-        return Line::Fault(ErrorLine::BadLine);
-    };
-    let Some(unique) = read_number(unique.word) else {
-        return Line::Fault(ErrorLine::BadLine);
-    };
-    Line::Cas {
-        key: key.word,
-        flags: sizes.flags,
-        bytes: sizes.bytes,
-        unique,
-        quiet,
-    }
-}
-
-// Flags and bytes, where the exptime between them is one.
-fn read_sizes(flags: &[u8], exptime: &[u8], bytes: &[u8]) -> Option<Sizes>
-    ensures value { result ≡ sizes_of flags.now exptime.now bytes.now }
-{
-    let flags = read_small_number(flags)?;
-    if !is_exptime(exptime) {
-        return None;
-    }
-    let bytes = read_small_number(bytes)?;
-    Some(Sizes { flags, bytes })
 }
 
 // Keys, one at least.
 fn read_get(unique: bool, text: &[u8]) -> Line<'_>
-    ensures value { form_seen result ≡ get_form unique (words text.now) }
+    ensures value { form_seen result ≡ form_after (Names.Get unique) (words text.now) }
 {
     let Some(first) = next_word(text) else {
         return Line::Fault(ErrorLine::Unknown);
@@ -142,156 +48,58 @@ fn read_get(unique: bool, text: &[u8]) -> Line<'_>
     if !is_key(first.word) || !are_keys(first.rest) {
         return Line::Fault(ErrorLine::BadLine);
     }
-    Line::Get { keys: text, unique }
+    Line::Asks {
+        ask: Ask::Get { keys: text, unique },
+        quiet: false,
+    }
 }
 
-// Key, and a zero that may stand.
-fn read_delete(text: &[u8]) -> Line<'_>
-    ensures value { form_seen result ≡ delete_form (words text.now) }
+// The words after any other name.
+fn read_few(name: Name, text: &[u8]) -> Line<'_>
+    requires few { HasFew name }
+    ensures value { form_seen result ≡ form_after name (words text.now) }
 {
-    let Some(key) = next_word(text) else {
+    let Some(args) = Args::of(text) else {
         return Line::Fault(ErrorLine::Unknown);
     };
-    let Some(tail) = read_tail(key.rest) else {
+    let words = args.words();
+    let arity = arity_of(name);
+    if !arity.has_count(words.len()) || arity.lacks_noreply(words) {
         return Line::Fault(ErrorLine::Unknown);
-    };
-    if !is_key(key.word) || !tail.lawful {
+    }
+    if arity.asks_silence(words) {
+        read_with(name, &words[..words.len() - 1], true)
+    } else {
+        read_with(name, words, false)
+    }
+}
+
+// So many words as may follow the name, noreply left out.
+fn read_with<'a>(name: Name, words: &[&'a [u8]], quiet: bool) -> Line<'a>
+    requires few { HasFew name }
+    ensures value { form_seen result ≡ form_with name (record { words = texts words.now; quiet = quiet }) }
+{
+    if has_long_key(name, words) {
         return Line::Fault(ErrorLine::BadLine);
     }
-    Line::Delete {
-        key: key.word,
-        quiet: tail.quiet,
+    match read_ask(name, words) {
+        Some(ask) => Line::Asks { ask, quiet },
+        None => Line::Fault(number_fault(name)),
     }
 }
 
-// Key and amount.
-fn read_count(up: bool, text: &[u8]) -> Line<'_>
-    ensures value { form_seen result ≡ count_form up (words text.now) }
+// Whether a key among the words is too long.
+fn has_long_key(name: Name, words: &[&[u8]]) -> bool
+    requires few { HasFew name }
+    ensures value { result ≡ not (list_all is_key (keys_among name (texts words.now))) }
 {
-    let Some(key) = next_word(text) else {
-        return Line::Fault(ErrorLine::Unknown);
-    };
-    let Some(amount) = next_word(key.rest) else {
-        return Line::Fault(ErrorLine::Unknown);
-    };
-    let Some(quiet) = read_quiet(amount.rest) else {
-        return Line::Fault(ErrorLine::Unknown);
-    };
-    if !is_key(key.word) {
-        return Line::Fault(ErrorLine::BadLine);
+    match name {
+        Name::Store { .. } | Name::Cas | Name::Delete | Name::Count { .. } => match words {
+            [key, ..] => !is_key(key),
+            [] => false,
+        },
+        _ => false,
     }
-    let Some(amount) = read_number(amount.word) else {
-        return Line::Fault(ErrorLine::BadDelta);
-    };
-    Line::Count {
-        key: key.word,
-        up,
-        amount,
-        quiet,
-    }
-}
-
-// Nothing more.
-fn read_bare<'a>(line: Line<'a>, text: &'a [u8]) -> Line<'a>
-    ensures value { form_seen result ≡ bare_form (form_seen line.entry) (words text.now) }
-{
-    match next_word(text) {
-        Some(_) => Line::Fault(ErrorLine::Unknown),
-        None => line,
-    }
-}
-
-// A number, which has no effect.
-fn read_verbosity(text: &[u8]) -> Line<'_>
-    ensures value { form_seen result ≡ verbosity_form (words text.now) }
-{
-    let Some(number) = next_word(text) else {
-        return Line::Fault(ErrorLine::Unknown);
-    };
-    let Some(quiet) = read_quiet(number.rest) else {
-        return Line::Fault(ErrorLine::Unknown);
-    };
-    match read_small_number(number.word) {
-        Some(_) => Line::Verbosity { quiet },
-        None => Line::Fault(ErrorLine::BadLine),
-    }
-}
-
-// A zero that may stand.
-fn read_flush(text: &[u8]) -> Line<'_>
-    ensures value { form_seen result ≡ flush_form (words text.now) }
-{
-    match read_tail(text) {
-        Some(tail) => {
-            if tail.lawful {
-                Line::Flush { quiet: tail.quiet }
-            } else {
-                Line::Fault(ErrorLine::BadLine)
-            }
-        }
-        None => Line::Fault(ErrorLine::Unknown),
-    }
-}
-
-// Whether the line is quiet, where no more than the word for it may stand.
-fn read_quiet(text: &[u8]) -> Option<bool>
-    ensures value { result ≡ quiet_of (words text.now) }
-{
-    let Some(last) = next_word(text) else {
-        return Some(false);
-    };
-    if next_word(last.rest).is_none() && is_noreply(last.word) {
-        Some(true)
-    } else {
-        None
-    }
-}
-
-// Whether the zero is lawful and the line is quiet, where both may stand.
-fn read_tail(text: &[u8]) -> Option<Tail>
-    ensures value { result ≡ tail_of (words text.now) }
-{
-    let Some(first) = next_word(text) else {
-        return Some(Tail {
-            lawful: true,
-            quiet: false,
-        });
-    };
-    let Some(last) = next_word(first.rest) else {
-        return Some(read_last(first.word));
-    };
-    if next_word(last.rest).is_none() && is_noreply(last.word) {
-        Some(Tail {
-            lawful: is_zero(first.word),
-            quiet: true,
-        })
-    } else {
-        None
-    }
-}
-
-// A zero, or the word for quiet.
-fn read_last(word: &[u8]) -> Tail
-    ensures value { result ≡ last_tail word.now }
-{
-    if is_noreply(word) {
-        Tail {
-            lawful: true,
-            quiet: true,
-        }
-    } else {
-        Tail {
-            lawful: is_zero(word),
-            quiet: false,
-        }
-    }
-}
-
-// Whether a word is not too long for a key.
-fn is_key(word: &[u8]) -> bool
-    ensures value { result ≡ is_key word.now }
-{
-    word.len() <= 250
 }
 
 // Whether no word of a text is too long for a key.

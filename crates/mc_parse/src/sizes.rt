@@ -2,7 +2,7 @@
 
 /// The flags and the bytes of the value, as a storage line has them.
 #[derive(Clone, Copy, Debug, PartialEq, Eq)]
-pub struct Sizes {
-    pub flags: u32,
-    pub bytes: u32,
+pub(crate) struct Sizes {
+    pub(crate) flags: u32,
+    pub(crate) bytes: u32,
 }

@@ -2,7 +2,7 @@
 mod says;
 mod tables;
 
-use crate::key_list::Keys;
+use crate::command::Keys;
 use crate::listing::calls;
 use crate::need::{Need, need_of};
 use crate::shard_call::{Calls, ShardCall};

@@ -1,16 +1,17 @@
 //! The words of a line.
 ghost use Rattle.std.specs.Prelude.{◌≡◌, ◌≢◌, ◌<◌, ◌≤◌, [], ◌∷◌, length, IfSome, IfNone, drop, take, get_or};
 ghost use Rattle.mc_parse.specs.Words.{words, is_noreply};
+ghost use Rattle.mc_parse.specs.Form.{is_key};
 
 /// A word, and the text after it.
 #[derive(Clone, Copy)]
-pub struct Split<'a> {
-    pub word: &'a [u8],
-    pub rest: &'a [u8],
+pub(crate) struct Split<'a> {
+    pub(crate) word: &'a [u8],
+    pub(crate) rest: &'a [u8],
 }
 
 /// The first word of a text, and the text after it.
-pub fn next_word(text: &[u8]) -> Option<Split<'_>>
+pub(crate) fn next_word(text: &[u8]) -> Option<Split<'_>>
     ensures found { IfSome result (λ s. words text.now ≡ s.word.now ∷ words s.rest.now) }
     ensures shorter { IfSome result (λ s. length s.rest.now < length text.now) }
     ensures none { IfNone result (words text.now ≡ []) }
@@ -57,8 +58,15 @@ fn word_length(text: &[u8]) -> usize
 }
 
 /// Whether a word is the one that asks for no answer.
-pub fn is_noreply(word: &[u8]) -> bool
+pub(crate) fn is_noreply(word: &[u8]) -> bool
     ensures value { result ≡ is_noreply word.now }
 {
     word == b"noreply".as_slice()
+}
+
+/// Whether a word is not too long for a key.
+pub(crate) fn is_key(word: &[u8]) -> bool
+    ensures value { result ≡ is_key word.now }
+{
+    word.len() <= 250
 }

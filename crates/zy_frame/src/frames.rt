@@ -3,14 +3,13 @@ ghost use Rattle.std.specs.Prelude.{◌≡◌, [], ◌∷◌, ◌++◌, length, 
 
 use crate::frame::Frame;
 use std::alloc::Global;
-use std::collections::VecDeque;
 use std::marker::Model;
-use zy_base::NoMemory;
+use zy_base::{NoMemory, Queue};
 
 /// A queue of frames. Contracts see it as the list of its frames, the first one to come first.
 #[derive(Debug, Drop)]
 pub struct Frames {
-    items: VecDeque<Frame>,
+    items: Queue<Frame>,
 }
 
 impl Model for Frames {
@@ -19,7 +18,7 @@ impl Model for Frames {
 
     ghost Value = { List FrameKind };
 
-    ghost view = { λ frames. frames.items.items };
+    ghost view = { λ frames. frames.items };
 }
 
 impl Frames {
@@ -28,7 +27,7 @@ impl Frames {
         ensures value { result ≡ [] }
     {
         Frames {
-            items: VecDeque::new(alloc),
+            items: Queue::new(alloc),
         }
     }
 
@@ -39,12 +38,12 @@ impl Frames {
         self.items.len()
     }
 
-    /// Takes the first frame; `None` exactly where there is none.
+    /// Takes the first frame; `None` exactly where there is none. Takes no memory.
     pub fn pop(&mut self) -> Option<Frame>
         ensures value { self.old ≡ option_to_list result ++ self.new }
         ensures none { IfNone result (self.old ≡ []) }
     {
-        self.items.pop_front()
+        self.items.next()
     }
 
     // Puts a frame at the end; after a refusal nothing has changed.
@@ -52,9 +51,9 @@ impl Frames {
         ensures ok { OnOk result (self.new ≡ self.old ++ frame ∷ []) }
         ensures err { OnErr result (self.new ≡ self.old) }
     {
-        match self.items.push_back(frame) {
+        match self.items.push(frame) {
             Ok(()) => Ok(()),
-            Err(_) => Err(NoMemory),
+            Err((_, e)) => Err(e),
         }
     }
 }

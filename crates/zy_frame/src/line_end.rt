@@ -28,11 +28,10 @@ pub(crate) fn chomp(line: &[u8]) -> &[u8]
 }
 
 // The same, of a line that is taken over. Takes no memory.
-pub(crate) fn chomp_kept(line: Blob) -> Blob
+pub(crate) fn chomp_kept(mut line: Blob) -> Blob
     ensures value { result ≡ chomped line }
 {
     let len = chomp(line.bytes()).len();
-    let mut bytes = line.into_vec();
-    bytes.truncate(len);
-    Blob::from_vec(bytes)
+    line.truncate(len);
+    line
 }

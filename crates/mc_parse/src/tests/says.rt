@@ -1,9 +1,8 @@
 //! What a request means, as a text.
 ghost use Rattle.std.specs.Prelude.{◌≤◌, length};
 
-use crate::command::Command;
+use crate::command::{Command, Keys};
 use crate::error_line::ErrorLine;
-use crate::key_list::Keys;
 use crate::need::{Need, need_of};
 use crate::parse::{parse_block, parse_large, parse_line};
 use crate::verb::Verb;

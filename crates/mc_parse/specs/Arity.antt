@@ -1,0 +1,90 @@
+-- How many words may follow a name, and the word noreply among them (docs/PROFILE.md, "Commands").
+use Rattle.std.specs.Prelude.{ℕ, Bool, true, false, not, ◌&&◌, ◌==◌, nat_le, nat_lt, if◌then◌else◌, List, [], ◌∷◌, length, Option, None, Some}
+use Rattle.mc_parse.specs.declared.arity.Arity.{Arity}
+use Rattle.mc_parse.specs.declared.name.Name.{Name}
+use Rattle.mc_parse.specs.declared.name.Name.TheVariants.{Store, Cas, Get, Delete, Count, Version, Verbosity, Flush, Quit}
+use Rattle.mc_parse.specs.Words.{is_noreply}
+
+-- ---- the table
+
+-- at least and at most so many words follow, and the last of the most is noreply
+abbrev pub from_to : ℕ → ℕ → Arity
+from_to least most = record { least = least; most = Some most; noreply = true }
+
+-- so many words follow, or more, and none asks for no answer
+abbrev pub at_least : ℕ → Arity
+at_least least = record { least = least; most = None; noreply = false }
+
+-- no word follows
+abbrev pub no_more : Arity
+no_more = record { least = 0; most = Some 0; noreply = false }
+
+-- how many words may follow a name
+abbrev pub arity_of : Name → Arity
+arity_of (Store verb) = from_to 4 5
+arity_of Cas = from_to 5 6
+arity_of (Get unique) = at_least 1
+arity_of Delete = from_to 1 3
+arity_of (Count up) = from_to 2 3
+arity_of Version = no_more
+arity_of Verbosity = from_to 1 2
+arity_of Flush = from_to 0 2
+arity_of Quit = no_more
+
+-- ---- the count of words
+
+-- a count is not above a limit, where there is one
+abbrev pub is_within : Option ℕ → ℕ → Bool
+is_within None count = true
+is_within (Some most) count = nat_le count most
+
+-- a count is the limit
+abbrev pub is_most : Option ℕ → ℕ → Bool
+is_most None count = false
+is_most (Some most) count = count == most
+
+-- so many words may follow
+abbrev pub has_count : Arity → ℕ → Bool
+has_count arity count = nat_le arity.least count && is_within arity.most count
+
+-- ---- the word noreply
+
+-- the last word is noreply
+abbrev pub ends_in_noreply : List (List ℕ) → Bool
+ends_in_noreply [] = false
+ends_in_noreply (word ∷ []) = is_noreply word
+ends_in_noreply (word ∷ next ∷ words) = ends_in_noreply (next ∷ words)
+
+-- the words but the last
+abbrev pub but_last : List (List ℕ) → List (List ℕ)
+but_last [] = []
+but_last (word ∷ []) = []
+but_last (word ∷ next ∷ words) = word ∷ but_last (next ∷ words)
+
+-- as many words follow as may, and the last is not the noreply that it must be
+abbrev pub lacks_noreply : Arity → List (List ℕ) → Bool
+lacks_noreply arity words =
+    arity.noreply && is_most arity.most (length words) && not (ends_in_noreply words)
+
+-- more words follow than must, and the last is noreply: no answer is asked for
+abbrev pub asks_silence : Arity → List (List ℕ) → Bool
+asks_silence arity words =
+    arity.noreply && nat_lt arity.least (length words) && ends_in_noreply words
+
+-- ---- what follows a name
+
+-- the words that follow a name but for noreply, and whether that follows them
+pub record Following : Type 0 where
+  pub words : List (List ℕ)
+  pub quiet : Bool
+
+-- the words, of which the last is noreply or not
+abbrev pub following : List (List ℕ) → Bool → Following
+following words true = record { words = but_last words; quiet = true }
+following words false = record { words = words; quiet = false }
+
+-- what follows a name, where so many words may follow and the last of the most is noreply
+abbrev pub following_of : Arity → List (List ℕ) → Option Following
+following_of arity words = if has_count arity (length words) && not (lacks_noreply arity words)
+    then Some (following words (asks_silence arity words))
+    else None

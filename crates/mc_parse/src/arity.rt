@@ -1,0 +1,88 @@
+//! How many words may follow a name.
+ghost use Rattle.std.specs.Prelude.{◌≡◌};
+ghost use Rattle.mc_parse.specs.Arity.{arity_of, from_to, has_count, ends_in_noreply, lacks_noreply, asks_silence};
+ghost use Rattle.mc_parse.specs.Line.{texts};
+
+use crate::name::Name;
+use crate::word::is_noreply;
+
+/// How many words may follow a name, and whether the last of the most is noreply.
+#[derive(Clone, Copy, Debug, PartialEq, Eq)]
+pub(crate) struct Arity {
+    pub(crate) least: usize,
+    /// `None`: any number may follow.
+    pub(crate) most: Option<usize>,
+    pub(crate) noreply: bool,
+}
+
+impl Arity {
+    /// Whether so many words may follow.
+    pub(crate) fn has_count(&self, count: usize) -> bool
+        ensures value { result ≡ has_count self.now count }
+    {
+        self.least <= count
+            && match self.most {
+                Some(most) => count <= most,
+                None => true,
+            }
+    }
+
+    /// Whether as many words follow as may, and the last is not the noreply that it must be.
+    pub(crate) fn lacks_noreply(&self, words: &[&[u8]]) -> bool
+        ensures value { result ≡ lacks_noreply self.now (texts words.now) }
+    {
+        self.noreply && self.most == Some(words.len()) && !ends_in_noreply(words)
+    }
+
+    /// Whether more words follow than must, and the last is noreply.
+    pub(crate) fn asks_silence(&self, words: &[&[u8]]) -> bool
+        ensures value { result ≡ asks_silence self.now (texts words.now) }
+    {
+        self.noreply && self.least < words.len() && ends_in_noreply(words)
+    }
+}
+
+// Whether the last word is noreply.
+fn ends_in_noreply(words: &[&[u8]]) -> bool
+    ensures value { result ≡ ends_in_noreply (texts words.now) }
+{
+    match words {
+        [.., last] => is_noreply(last),
+        [] => false,
+    }
+}
+
+/// How many words may follow a name.
+pub(crate) fn arity_of(name: Name) -> Arity
+    ensures value { result ≡ arity_of name }
+{
+    match name {
+        Name::Store { .. } => from_to(4, 5),
+        Name::Cas => from_to(5, 6),
+        Name::Get { .. } => Arity {
+            least: 1,
+            most: None,
+            noreply: false,
+        },
+        Name::Delete => from_to(1, 3),
+        Name::Count { .. } => from_to(2, 3),
+        Name::Verbosity => from_to(1, 2),
+        Name::Flush => from_to(0, 2),
+        Name::Version | Name::Quit => Arity {
+            least: 0,
+            most: Some(0),
+            noreply: false,
+        },
+    }
+}
+
+// At least and at most so many words, and the last of the most is noreply.
+fn from_to(least: usize, most: usize) -> Arity
+    ensures value { result ≡ from_to least most }
+{
+    Arity {
+        least,
+        most: Some(most),
+        noreply: true,
+    }
+}

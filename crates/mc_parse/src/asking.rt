@@ -1,0 +1,137 @@
+//! What a name asks for with the words after it.
+ghost use Rattle.std.specs.Prelude.{◌≡◌, option_map};
+ghost use Rattle.mc_parse.specs.Form.{number_fault, sizes_of, store_words, cas_words, with_zero, delete_words, count_words, verbosity_words, ask_of};
+ghost use Rattle.mc_parse.specs.Line.{texts, ask_seen, HasFew};
+
+use crate::ask::Ask;
+use crate::error_line::ErrorLine;
+use crate::exptime::is_exptime;
+use crate::name::Name;
+use crate::number::{is_zero, read_small_number};
+use crate::sizes::Sizes;
+use crate::verb::Verb;
+use zy_base::read_number;
+
+/// What a name asks for with the words that follow; `None` where a number is bad.
+pub(crate) fn read_ask<'a>(name: Name, words: &[&'a [u8]]) -> Option<Ask<'a>>
+    requires few { HasFew name }
+    ensures value { option_map ask_seen result ≡ ask_of name (texts words.now) }
+{
+    match name {
+        Name::Store { verb } => read_store(verb, words),
+        Name::Cas => read_cas(words),
+        Name::Get { .. } => unreachable!(),
+        Name::Delete => read_delete(words),
+        Name::Count { up } => read_count(up, words),
+        Name::Version => Some(Ask::Version),
+        Name::Verbosity => read_verbosity(words),
+        Name::Flush => read_zero(Ask::Flush, words),
+        Name::Quit => Some(Ask::Quit),
+    }
+}
+
+/// The fault of a bad number.
+pub(crate) fn number_fault(name: Name) -> ErrorLine
+    ensures value { result ≡ number_fault name }
+{
+    match name {
+        Name::Count { .. } => ErrorLine::BadDelta,
+        _ => ErrorLine::BadLine,
+    }
+}
+
+// Key, flags, exptime and bytes.
+fn read_store<'a>(verb: Verb, words: &[&'a [u8]]) -> Option<Ask<'a>>
+    ensures value { option_map ask_seen result ≡ store_words verb (texts words.now) }
+{
+    match words {
+        [key, flags, exptime, bytes] => {
+            let Sizes { flags, bytes } = read_sizes(flags, exptime, bytes)?;
+            Some(Ask::Store {
+                verb,
+                key,
+                flags,
+                bytes,
+            })
+        }
+        _ => None,
+    }
+}
+
+// Key, flags, exptime, bytes and unique.
+fn read_cas<'a>(words: &[&'a [u8]]) -> Option<Ask<'a>>
+    ensures value { option_map ask_seen result ≡ cas_words (texts words.now) }
+{
+    match words {
+        [key, flags, exptime, bytes, unique] => {
+            let Sizes { flags, bytes } = read_sizes(flags, exptime, bytes)?;
+            let unique = read_number(unique)?;
+            Some(Ask::Cas {
+                key,
+                flags,
+                bytes,
+                unique,
+            })
+        }
+        _ => None,
+    }
+}
+
+// Flags and bytes, where the exptime between them is one.
+fn read_sizes(flags: &[u8], exptime: &[u8], bytes: &[u8]) -> Option<Sizes>
+    ensures value { result ≡ sizes_of flags.now exptime.now bytes.now }
+{
+    let flags = read_small_number(flags)?;
+    if !is_exptime(exptime) {
+        return None;
+    }
+    let bytes = read_small_number(bytes)?;
+    Some(Sizes { flags, bytes })
+}
+
+// Key, and a zero that may stand.
+fn read_delete<'a>(words: &[&'a [u8]]) -> Option<Ask<'a>>
+    ensures value { option_map ask_seen result ≡ delete_words (texts words.now) }
+{
+    match words {
+        [key, rest @ ..] => read_zero(Ask::Delete { key }, rest),
+        [] => None,
+    }
+}
+
+// Something, where the word that may stand behind it is a zero.
+fn read_zero<'a>(ask: Ask<'a>, words: &[&[u8]]) -> Option<Ask<'a>>
+    ensures value { option_map ask_seen result ≡ with_zero (ask_seen ask.entry) (texts words.now) }
+{
+    match words {
+        [] => Some(ask),
+        [zero] if is_zero(zero) => Some(ask),
+        _ => None,
+    }
+}
+
+// Key and amount.
+fn read_count<'a>(up: bool, words: &[&'a [u8]]) -> Option<Ask<'a>>
+    ensures value { option_map ask_seen result ≡ count_words up (texts words.now) }
+{
+    match words {
+        [key, amount] => {
+            let amount = read_number(amount)?;
+            Some(Ask::Count { key, up, amount })
+        }
+        _ => None,
+    }
+}
+
+// A number, which has no effect.
+fn read_verbosity<'a>(words: &[&'a [u8]]) -> Option<Ask<'a>>
+    ensures value { option_map ask_seen result ≡ verbosity_words (texts words.now) }
+{
+    match words {
+        [number] => {
+            let _ = read_small_number(number)?;
+            Some(Ask::Verbosity)
+        }
+        _ => None,
+    }
+}
