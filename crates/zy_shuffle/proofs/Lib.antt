@@ -1,0 +1,10 @@
+pub mod HandLemmas
+pub mod MoveLemmas
+pub mod LookLemmas
+pub mod TakeLemmas
+pub mod EndLemmas
+pub mod ClaimLemmas
+pub mod GiveLemmas
+pub mod BellLemmas
+pub mod PassLemmas
+pub mod LeftLemmas

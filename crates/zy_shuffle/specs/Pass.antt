@@ -1,0 +1,149 @@
+-- What a contract sees of a ring and of its passes, and what the answers of a claim and of a collect say.
+use Rattle.std.specs.Prelude.{◌≡◌, ◌≢◌, ℕ, ◌+◌, ◌/◌, ◌%◌, ◌<◌, ◌≤◌, List, [], ◌∷◌, true, false, ◌==◌, cond, length, slice_get, Option, Some, None}
+use Rattle.std.specs.Int.{bit_at}
+use Rattle.atomic_table.specs.Seated.{TableId}
+use Rattle.zy_table.specs.declared.name.Name.{Name}
+use Rattle.zy_table.specs.Member.{is_in, without}
+use Rattle.zy_shuffle.specs.declared.ring.view.Sight.{Sight}
+use Rattle.zy_shuffle.specs.declared.ring.view.Trace.{Trace}
+use Rattle.zy_shuffle.specs.declared.ring.view.Role.{Role}
+use Rattle.zy_shuffle.specs.declared.ring.view.Role.TheVariants.{Spent, Start, Core, Home, Closed}
+use Rattle.zy_shuffle.specs.declared.ring.view.View.{View}
+use Rattle.zy_shuffle.specs.declared.claim.Claim.{Claim}
+use Rattle.zy_shuffle.specs.declared.claim.Claim.TheVariants.{Took, Empty, Raced}
+use Rattle.zy_shuffle.specs.Hand.{below_then, marked, left_of}
+use Rattle.zy_shuffle.specs.View.{sight, untraced, plain_step, bell_step}
+use Rattle.zy_shuffle.specs.Word.{bell_words}
+
+-- ---- rings and passes
+
+-- a ring: which table it is, and how many places it has
+pub record Ringed : Type 0 where
+  pub id : TableId
+  pub places : ℕ
+
+abbrev pub ringed : TableId → ℕ → Ringed
+ringed id places = record { id = id; places = places }
+
+-- what a pass knows: its table and the ring's label, its hand, the blocks whose marks it keeps, how often its home has published, how many passes are out, and what it has seen. A core has 0 for the two numbers
+pub record Held (T : Type 0) : Type 0 where
+  pub table : TableId
+  pub label : Name
+  pub hand : List ℕ
+  pub kept : List (ℕ × T)
+  pub count : ℕ
+  pub out : ℕ
+  pub trace : Trace
+
+-- the tail that a home knows
+abbrev pub tail_of : Role → ℕ
+tail_of Spent = 0
+tail_of Start = 0
+tail_of Core = 0
+tail_of (Home tail stored noted out) = tail
+tail_of (Closed gone) = 0
+
+-- how many passes of a home are out
+abbrev pub out_of : Role → ℕ
+out_of Spent = 0
+out_of Start = 0
+out_of Core = 0
+out_of (Home tail stored noted out) = out
+out_of (Closed gone) = 0
+
+-- what is seen of the view of a seat
+abbrev pub held : {T : Type 0} → TableId → View T → Held T
+held id v = record { table = id; label = v.label; hand = v.hand; kept = v.kept; count = tail_of v.role; out = out_of v.role; trace = v.trace }
+
+-- a new home: all its places are in its hand
+abbrev pub newly_held : {T : Type 0} → TableId → Name → ℕ → Held T
+newly_held id label places = record { table = id; label = label; hand = below_then places []; kept = []; count = 0; out = 0; trace = untraced }
+
+-- a new pass of a home: its hand is empty
+abbrev pub newly_given : {T : Type 0} → Held T → Held T
+newly_given home = record home { hand = []; kept = []; count = 0; out = 0; trace = untraced }
+
+-- a home that published this block at its place
+abbrev pub after_publish : {T : Type 0} → ℕ → T → Held T → Trace → Held T
+after_publish place block v trace = record v { hand = without place v.hand; kept = (place, block) ∷ v.kept; count = v.count + 1; trace = trace }
+
+-- a core that gave this place back
+abbrev pub after_give_back : {T : Type 0} → ℕ → Held T → Trace → Held T
+after_give_back place v trace = record v { hand = without place v.hand; trace = trace }
+
+-- ---- what was seen in this call, which began after so many steps
+
+-- the head and then the tail were loaded, and these were found
+pub record Loaded (begin head tail : ℕ) (t : Trace) : Type 0 where
+  pub head_value : t.head.value ≡ head
+  pub tail_value : t.tail.value ≡ tail
+  pub head_step : begin < t.head.step
+  pub tail_step : t.head.step < t.tail.step
+  pub last : t.tail.step ≤ t.steps
+
+-- and after that the exchange of the head found this
+pub record Tried (found : ℕ) (t : Trace) : Type 0 where
+  pub value : t.tried.value ≡ found
+  pub step : t.tail.step < t.tried.step
+  pub last : t.tried.step ≤ t.steps
+
+-- the last load of a doorbell word
+abbrev pub last_bell : ℕ → List (ℕ × Sight) → Sight
+last_bell word [] = sight 0 0
+last_bell word (x ∷ xs) = cond (word == x.0) x.1 (last_bell word xs)
+
+-- the doorbell word was loaded, and this was found
+abbrev pub Rang : ℕ → ℕ → ℕ → Trace → Type 0
+Rang begin word found t = ((last_bell word t.bells).value ≡ found) × (begin < (last_bell word t.bells).step)
+
+-- ---- answers
+
+-- what is so where a place was taken
+abbrev pub IfTook : {T : Type 0} → Claim T → (ℕ → T → Type 0) → Type 0
+IfTook (Took place block) P = P place block
+IfTook (Empty at) P = Unit {0}
+IfTook (Raced saw found) P = Unit {0}
+
+module _ {T M : Type 0} (mark : T → M) (label : T → Name) (places : ℕ) (v w : Held T) where
+  -- nothing has changed but what the pass has seen
+  abbrev pub Unchanged : Type 0
+  Unchanged = w ≡ record v { trace = w.trace }
+
+  -- the place has come into the hand, with a block that has the ring's label
+  pub record Joined (place : ℕ) (block : T) : Type 0 where
+    pub is : w ≡ record v { hand = place ∷ v.hand; kept = (place, block) ∷ v.kept; trace = w.trace }
+    pub near : place < places
+    pub apart : is_in place v.hand ≡ false
+    pub labelled : label block ≡ v.label
+
+  -- took: the exchange found the head that was loaded. Empty: the tail was the head, and the head was still so at that load. Raced: the exchange found another head
+  abbrev pub Claimed : Claim T → Type 0
+  Claimed (Took place block) = Joined place block × ((head tail : ℕ) × Loaded v.trace.steps head tail w.trace × (head < tail) × Tried head w.trace)
+  Claimed (Empty at) = Unchanged × Loaded v.trace.steps at at w.trace × (w.trace.under ≡ at)
+  Claimed (Raced saw found) = Unchanged × ((tail : ℕ) × Loaded v.trace.steps saw tail w.trace × (saw < tail)) × Tried found w.trace × (found ≢ saw)
+
+  -- none: each doorbell word was loaded, and it was 0. Some: the words before that of the place were 0, and its bit was the lowest
+  abbrev pub Collected : Option (ℕ × T) → Type 0
+  Collected None = Unchanged × ((word : ℕ) → word < bell_words places → Rang v.trace.steps word 0 w.trace)
+  Collected (Some x) = Joined x.0 x.1
+      × ((bits : ℕ) × Rang v.trace.steps (x.0 / 64) bits w.trace × (bit_at bits (x.0 % 64) ≡ 1)
+      × ((word : ℕ) → word < x.0 / 64 → Rang v.trace.steps word 0 w.trace) × ((i : ℕ) → i < x.0 % 64 → bit_at bits i ≡ 0))
+
+  -- the same of one doorbell word
+  abbrev pub LookedAt : ℕ → Option (ℕ × T) → Type 0
+  LookedAt word None = Unchanged × (w.trace ≡ bell_step word 0 v.trace)
+  LookedAt word (Some x) = Joined x.0 x.1 × (x.0 / 64 ≡ word)
+      × ((bits : ℕ) × (w.trace ≡ plain_step (bell_step word bits v.trace)) × (bit_at bits (x.0 % 64) ≡ 1) × ((i : ℕ) → i < x.0 % 64 → bit_at bits i ≡ 0))
+
+-- ---- what is left at the end
+
+module _ {T M : Type 0} (mark : T → M) (label : T → Name) (places : ℕ) (v : Held T) where
+  -- the slot of each place of the home's hand has no block, and each other the block of its place, with the mark that the home keeps and the ring's label
+  pub record LeftSlots (slots : List (Option T)) : Type 0 where
+    pub count : length slots ≡ places
+    pub taken : (p : ℕ) → p < places → is_in p v.hand ≡ true → slice_get slots p ≡ Some None
+    pub full : (p : ℕ) → p < places → is_in p v.hand ≡ false → (b : T) × (slice_get slots p ≡ Some (Some b)) × (marked mark p v.kept ≡ Some (mark b)) × (label b ≡ v.label)
+
+  -- the blocks of these slots, with their places
+  abbrev pub AreLeft : List (ℕ × T) → Type 0
+  AreLeft left = (slots : List (Option T)) × (left ≡ left_of 0 slots) × LeftSlots slots

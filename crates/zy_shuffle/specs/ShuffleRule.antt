@@ -1,0 +1,169 @@
+-- The rule of the shuffle queue: what is so of the words, the slots and the views of a ring's table between any two steps.
+use Rattle.std.specs.Prelude.{◌≡◌, ℕ, zero, suc, ◌+◌, ◌*◌, ◌/◌, ◌%◌, ◌<◌, ◌≤◌, List, [], ◌∷◌, length, Bool, true, false, slice_index}
+use Rattle.std.specs.Prelude as std
+use mathlib.Core.Option.{Option, none, some}
+use lib.ListN.{get_elem?}
+use Rattle.std.specs.Int.{bit_at}
+use Rattle.atomic_table.specs.Table.{State}
+use Rattle.zy_table.specs.declared.name.Name.{Name}
+use Rattle.zy_table.specs.Member.{is_in, IsDistinct}
+use Rattle.zy_table.specs.Sum.{sum_below}
+use Rattle.zy_shuffle.specs.declared.ring.view.Role.{Role}
+use Rattle.zy_shuffle.specs.declared.ring.view.Role.TheVariants.{Spent, Start, Core, Home, Closed}
+use Rattle.zy_shuffle.specs.declared.ring.view.View.{View}
+use Rattle.zy_shuffle.specs.Hand.{marked}
+use Rattle.zy_shuffle.specs.Word.{cell, bell_at, bell_words}
+
+-- ---- who has a place
+
+-- nobody, before the first step of the home and after its last; the queue, as the k-th place that was published; the hand of seat j; or its doorbell
+pub data Holder : Type 0 where
+  nobody : Holder
+  in_queue : ℕ → Holder
+  in_hand : ℕ → Holder
+  at_bell : Holder
+
+-- 1 where the place is in the queue
+abbrev pub weight : Holder → ℕ
+weight nobody = 0
+weight (in_queue k) = 1
+weight (in_hand j) = 0
+weight at_bell = 0
+
+-- what its doorbell bit is
+abbrev pub bell : Holder → ℕ
+bell nobody = 0
+bell (in_queue k) = 0
+bell (in_hand j) = 0
+bell at_bell = 1
+
+-- its block is in the table
+abbrev pub IsInTable : Holder → Type 0
+IsInTable nobody = ⊥
+IsInTable (in_queue k) = Unit {0}
+IsInTable (in_hand j) = ⊥
+IsInTable at_bell = Unit {0}
+
+-- 1 for the seat of a pass that is out
+abbrev pub core_count : Role → ℕ
+core_count Spent = 0
+core_count Start = 0
+core_count Core = 1
+core_count (Home tail stored noted out) = 0
+core_count (Closed gone) = 0
+
+-- how many passes are out
+abbrev pub cores : {T : Type 0} → List (View T) → ℕ
+cores [] = 0
+cores (v ∷ vs) = core_count v.role + cores vs
+
+-- ---- the queue
+
+module _ (words : List ℕ) (head tail m place : ℕ) where
+  -- a place that is in the queue as the k-th stands in the cell of k
+  abbrev pub InQueue : Holder → Type 0
+  InQueue nobody = Unit {0}
+  InQueue (in_queue k) = (head ≤ k) × (k < tail) × (cell words m k ≡ place)
+  InQueue (in_hand j) = Unit {0}
+  InQueue at_bell = Unit {0}
+
+module _ (words : List ℕ) (head tail m : ℕ) where
+  -- the cell that a seat noted still holds what it held, as long as the head has not passed it
+  abbrev pub IsNote : std.Option (ℕ × ℕ) → Type 0
+  IsNote std.None = Unit {0}
+  IsNote (std.Some x) = (x.0 < tail) × (head ≤ x.0 → cell words m x.0 ≡ x.1)
+
+  -- the cell of the next place to be published holds what the home stored there
+  abbrev pub IsStored : std.Option ℕ → Type 0
+  IsStored std.None = Unit {0}
+  IsStored (std.Some place) = cell words m tail ≡ place
+
+-- each bit that the home found to be 1 is that of a place which was given back, until the home clears it
+abbrev pub IsRung : ℕ → (ℕ → Holder) → std.Option (ℕ × ℕ) → Type 0
+IsRung m holders std.None = Unit {0}
+IsRung m holders (std.Some x) = (i : ℕ) → i < 64 → bit_at x.1 i ≡ 1 → (64 * x.0 + i < m) × (holders (64 * x.0 + i) ≡ at_bell)
+
+module _ {T M : Type 0} (mark : T → M) (label : T → Name) where
+  -- ---- slots
+
+  module _ (homes : List (Option (std.Option T))) (marks : ℕ → std.Option M) (name : Name) (place : ℕ) where
+    -- the slot is at home, with a block that has the mark of its place and the label of the ring
+    abbrev pub HasBlock : Type 0
+    HasBlock = (b : T) × (get_elem? homes place ≡ some (some (std.Some b))) × (marks place ≡ std.Some (mark b)) × (label b ≡ name)
+
+    -- where the slot of a place is, by who has the place
+    abbrev pub Lies : Holder → Type 0
+    Lies nobody = get_elem? homes place ≡ some (some std.None)
+    Lies (in_queue k) = HasBlock
+    Lies (in_hand j) = get_elem? homes place ≡ some none
+    Lies at_bell = HasBlock
+
+  -- what is so of one place
+  pub record PlaceRule (words : List ℕ) (homes : List (Option (std.Option T))) (head tail : ℕ) (marks : ℕ → std.Option M) (name : Name) (place : ℕ) (holder : Holder) : Type 0 where
+    -- its slot is at home exactly where the place is in the queue or at its doorbell
+    pub lies : Lies homes marks name place holder
+    -- its doorbell bit is 1 exactly where it was given back
+    pub rings : bell_at words (length homes) place ≡ bell holder
+    -- a place in the queue stands in its cell
+    pub queued : InQueue words head tail (length homes) place holder
+
+  -- ---- views
+
+  module _ (words : List ℕ) (m head tail : ℕ) (holders : ℕ → Holder) (marks : ℕ → std.Option M) (name : Name) (count j : ℕ) (hand : List ℕ) (own_label : Name) (kept : List (ℕ × T)) where
+    -- what a seat knows by its role. Each role but a spent one and the first has the label of the ring. The home knows the tail, the passes that are out, the cell that it stored, the bits that it noted, and the mark of every place
+    abbrev pub IsRole : Role → Type 0
+    IsRole Spent = hand ≡ []
+    IsRole Start = (j ≡ 0) × (count ≡ 0) × (hand ≡ []) × (tail ≡ 0) × ((p : ℕ) → holders p ≡ nobody)
+    IsRole Core = own_label ≡ name
+    IsRole (Home t stored noted out) = (j ≡ 0) × (own_label ≡ name) × (t ≡ tail) × (count ≡ out)
+        × IsStored words head tail m stored × IsRung m holders noted
+        × ((p : ℕ) → marked mark p kept ≡ marks p) × ((p : ℕ) → p < m → holders p ≡ nobody → ⊥)
+    IsRole (Closed gone) = (j ≡ 0) × (count ≡ 0) × (own_label ≡ name) × (hand ≡ [])
+        × ((p : ℕ) → marked mark p kept ≡ marks p)
+        × ((p : ℕ) → p < m → is_in p gone ≡ true → holders p ≡ nobody)
+        × ((p : ℕ) → p < m → is_in p gone ≡ false → IsInTable (holders p))
+
+  -- what is so of the view of seat j
+  pub record Knows (words : List ℕ) (m head tail : ℕ) (holders : ℕ → Holder) (marks : ℕ → std.Option M) (name : Name) (count j : ℕ) (v : View T) : Type 0 where
+    -- the places of its hand are in no other hand, nor in the queue, nor at their doorbells
+    pub hand : (p : ℕ) → is_in p v.hand ≡ true → (p < m) × (holders p ≡ in_hand j)
+    -- its hand has each of them once
+    pub apart : IsDistinct v.hand
+    -- and it keeps the marks that the home keeps for them
+    pub same : (p : ℕ) → is_in p v.hand ≡ true → marked mark p v.kept ≡ marks p
+    -- the head that it saw is at most the head
+    pub head_seen : v.trace.head.value ≤ head
+    -- the tail that it saw is at most the tail
+    pub tail_seen : v.trace.tail.value ≤ tail
+    -- its note holds
+    pub note : IsNote words head tail m v.note
+    -- and what it knows by its role
+    pub role : IsRole words m head tail holders marks name count j v.hand v.label v.kept v.role
+
+  -- ---- the rule
+
+  pub record ShuffleRule (s : State (std.Option T) (View T)) : Type 0 where
+    -- there are a head and a tail, a label, a holder of each place, and the mark that the home keeps for it
+    pub head : ℕ
+    pub tail : ℕ
+    pub name : Name
+    pub holders : ℕ → Holder
+    pub marks : ℕ → std.Option M
+    -- part 1: the words are a head, a tail, a cell for each place, and the doorbells
+    pub wide : length s.words ≡ 32 + length s.homes + bell_words (length s.homes)
+    pub head_is : slice_index s.words 0 ≡ head
+    pub tail_is : slice_index s.words 16 ≡ tail
+    -- head and the number of places in the queue make the tail; so the tail is at least the head, and at most the head and the number of places. That the home knows the tail stands in `IsRole`
+    pub sums : head + sum_below (length s.homes) (λ p. weight (holders p)) ≡ tail
+    -- a ring without places has an empty queue
+    pub barren : length s.homes ≡ 0 → tail ≡ 0
+    -- part 2: each cell from the head to the tail holds a place, and that place is in the queue as this one. So different cells hold different places, in this order
+    pub each_cell : (k : ℕ) → head ≤ k → k < tail → (cell s.words (length s.homes) k < length s.homes) × (holders (cell s.words (length s.homes) k) ≡ in_queue k)
+    -- parts 3 and 4: each place has its one holder, and its slot lies where that says
+    pub each_place : (p : ℕ) → p < length s.homes → PlaceRule s.words s.homes head tail marks name p (holders p)
+    -- a place in the hand of a seat is in the hand of its view
+    pub live : (p j : ℕ) → p < length s.homes → holders p ≡ in_hand j → (v : View T) × (get_elem? s.views j ≡ some v) × (is_in p v.hand ≡ true)
+    -- no bit is set that is of no place
+    pub blank : (p : ℕ) → length s.homes ≤ p → bell_at s.words (length s.homes) p ≡ 0
+    -- part 5, and what parts 1, 3 and 4 say of views: what each seat has seen, noted, stored and kept still holds
+    pub each_seat : (j : ℕ) (v : View T) → get_elem? s.views j ≡ some v → Knows s.words (length s.homes) head tail holders marks name (cores s.views) j v

@@ -1,0 +1,202 @@
+-- What each kind of step of a ring tells its seat. No public clause cites this module.
+use Rattle.std.specs.Prelude.{◌≡◌, ◌≢◌, ℕ, ◌+◌, ◌-◌, ◌*◌, ◌<◌, ◌≤◌, List, [], ◌∷◌, false, Option, Some, None}
+use Rattle.std.specs.Int.{trailing_zeros}
+use mir.Syntax.{w64}
+use Rattle.atomic_table.specs.Table.{Me, Step, rest}
+use Rattle.zy_table.specs.declared.name.Name.{Name}
+use Rattle.zy_table.specs.Member.{is_in, without}
+use Rattle.zy_shuffle.specs.declared.ring.view.Role.{Role}
+use Rattle.zy_shuffle.specs.declared.ring.view.Role.TheVariants.{Spent, Start, Core, Home, Closed}
+use Rattle.zy_shuffle.specs.declared.ring.view.View.{View}
+use Rattle.zy_shuffle.specs.Hand.{rest_of, emptied, below_then, marked}
+use Rattle.zy_shuffle.specs.View.{plain_step, head_step, tail_step, try_step, bell_step, fresh, traced}
+
+-- ---- what the home knows by its role, changed
+
+-- the home stored this place in the next cell
+abbrev pub with_stored : ℕ → Role → Role
+with_stored p Spent = Spent
+with_stored p Start = Start
+with_stored p Core = Core
+with_stored p (Home t stored noted out) = Home t (Some p) noted out
+with_stored p (Closed gone) = Closed gone
+
+-- the home raised the tail
+abbrev pub with_published : Role → Role
+with_published Spent = Spent
+with_published Start = Start
+with_published Core = Core
+with_published (Home t stored noted out) = Home (t + 1) None noted out
+with_published (Closed gone) = Closed gone
+
+-- the home noted a doorbell word, or has used its note
+abbrev pub with_bells : Option (ℕ × ℕ) → Role → Role
+with_bells x Spent = Spent
+with_bells x Start = Start
+with_bells x Core = Core
+with_bells x (Home t stored noted out) = Home t stored x out
+with_bells x (Closed gone) = Closed gone
+
+-- the home gave a pass
+abbrev pub one_more : Role → Role
+one_more Spent = Spent
+one_more Start = Start
+one_more Core = Core
+one_more (Home t stored noted out) = Home t stored noted (out + 1)
+one_more (Closed gone) = Closed gone
+
+-- the home took a pass in
+abbrev pub one_less : Role → Role
+one_less Spent = Spent
+one_less Start = Start
+one_less Core = Core
+one_less (Home t stored noted out) = Home t stored noted (out - 1)
+one_less (Closed gone) = Closed gone
+
+-- ---- kinds of seats
+
+-- the seat of the home
+abbrev pub IsHome : Role → Type 0
+IsHome Spent = ⊥
+IsHome Start = ⊥
+IsHome Core = ⊥
+IsHome (Home t stored noted out) = Unit {0}
+IsHome (Closed gone) = ⊥
+
+-- a seat that may make steps: of a core, or of the home
+abbrev pub IsActive : Role → Type 0
+IsActive Spent = ⊥
+IsActive Start = ⊥
+IsActive Core = Unit {0}
+IsActive (Home t stored noted out) = Unit {0}
+IsActive (Closed gone) = ⊥
+
+-- the place of the lowest bit that was noted
+abbrev pub lowest : Option (ℕ × ℕ) → ℕ
+lowest None = 0
+lowest (Some x) = 64 * x.0 + trailing_zeros w64 x.1
+
+-- the place that the home collects next
+abbrev pub rung_place : Role → ℕ
+rung_place Spent = 0
+rung_place Start = 0
+rung_place Core = 0
+rung_place (Home t stored noted out) = lowest noted
+rung_place (Closed gone) = 0
+
+-- what was noted
+abbrev pub noted_in : Option (ℕ × ℕ) → ℕ
+noted_in None = 0
+noted_in (Some x) = x.1
+
+-- a seat's view, and the slots that it has taken
+abbrev pub Seated : Type 0 → Type 0
+Seated T = Me (Option T) (View T)
+
+module _ {T : Type 0} where
+  -- ---- views after steps
+
+  -- the place that the seat noted for its next claim
+  abbrev pub noted_place : View T → ℕ
+  noted_place v = noted_in v.note
+
+  -- the seat loaded the cell of k
+  abbrev pub noting : ℕ → ℕ → View T → View T
+  noting k found v = record v { note = Some (k, found); trace = plain_step v.trace }
+
+  -- the place came into the hand, with its block
+  abbrev pub taking : ℕ → T → ℕ → View T → View T
+  taking p b found v = record v { hand = p ∷ v.hand; kept = (p, b) ∷ v.kept; note = None; trace = try_step found v.trace }
+
+  -- the home stored the place in the next cell, and its slot lies in front
+  abbrev pub storing : ℕ → View T → View T
+  storing p v = record v { role = with_stored p v.role; hand = p ∷ without p v.hand; trace = plain_step v.trace }
+
+  -- the home raised the tail, with this block in the slot in front
+  abbrev pub publishing : View T → List (ℕ × Option T) → View T
+  publishing v [] = v
+  publishing v ((p, None) ∷ cs) = v
+  publishing v ((p, Some b) ∷ cs) = record v { role = with_published v.role; hand = rest_of v.hand; kept = (p, b) ∷ v.kept; trace = plain_step v.trace }
+
+  -- the slot of the place lies in front
+  abbrev pub fronting : ℕ → ℕ → View T → View T
+  fronting p found v = record v { hand = p ∷ without p v.hand; trace = head_step found v.trace }
+
+  -- the place in front left the hand
+  abbrev pub giving : View T → View T
+  giving v = record v { hand = rest_of v.hand; trace = plain_step v.trace }
+
+  -- the home loaded a doorbell word
+  abbrev pub noting_bells : ℕ → ℕ → View T → View T
+  noting_bells word found v = record v { role = with_bells (Some (word, found)) v.role; trace = bell_step word found v.trace }
+
+  -- the place came back into the home's hand, with its block
+  abbrev pub collecting : ℕ → T → View T → View T
+  collecting p b v = record v { role = with_bells None v.role; hand = p ∷ v.hand; kept = (p, b) ∷ v.kept; trace = plain_step v.trace }
+
+  -- the first seat became the home's, with all m places in its hand
+  abbrev pub naming : Name → ℕ → View T
+  naming name m = record (fresh (Home 0 None None 0) name) { hand = below_then m [] }
+
+  -- the home is closed
+  abbrev pub closing : View T → View T
+  closing v = record v { role = Closed v.hand; hand = []; trace = plain_step v.trace }
+
+  -- the home gave a pass
+  abbrev pub splitting : View T → View T
+  splitting v = record v { role = one_more v.role }
+
+  -- which begins with an empty hand
+  abbrev pub newcomer : View T → View T
+  newcomer v = fresh Core v.label
+
+  -- the home took a pass in
+  abbrev pub taken_in : View T → View T → View T
+  taken_in v w = record v { role = one_less v.role }
+
+  -- ---- what steps tell: step, seat before, number found, seat after
+
+  abbrev pub saw_head : Step (Option T) → Seated T → ℕ → Seated T → Type 0
+  saw_head st m r n = n ≡ (traced (head_step r) m.0, m.1)
+
+  -- there is a head at that moment, and it is at most the tail
+  abbrev pub saw_tail : Step (Option T) → Seated T → ℕ → Seated T → Type 0
+  saw_tail st m r n = (u : ℕ) × (n ≡ (traced (tail_step r u) m.0, m.1)) × (m.0.trace.head.value ≤ u) × (u ≤ r) × (st.slots ≡ 0 → r ≡ 0)
+
+  abbrev pub saw_cell : Step (Option T) → Seated T → ℕ → Seated T → Type 0
+  saw_cell st m r n = n ≡ (noting m.0.trace.head.value r m.0, m.1)
+
+  abbrev pub stored_cell : Step (Option T) → Seated T → Seated T → Type 0
+  stored_cell st m n = n ≡ (storing st.first m.0, emptied (st.first ∷ without st.first m.0.hand))
+
+  abbrev pub published : Seated T → Seated T → Type 0
+  published m n = n ≡ (publishing m.0 m.1, rest m.1)
+
+  abbrev pub fronted : ℕ → Seated T → ℕ → Seated T → Type 0
+  fronted p m r n = n ≡ (fronting p r m.0, emptied (p ∷ without p m.0.hand))
+
+  abbrev pub gave : Seated T → Seated T → Type 0
+  gave m n = n ≡ (giving m.0, rest m.1)
+
+  abbrev pub saw_bells : Step (Option T) → Seated T → ℕ → Seated T → Type 0
+  saw_bells st m r n = n ≡ (noting_bells (st.word - (32 + st.slots)) r m.0, m.1)
+
+  abbrev pub named_as : Name → Step (Option T) → Seated T → Type 0
+  named_as name st n = n ≡ (naming name st.slots, emptied (below_then st.slots []))
+
+  abbrev pub closed : Seated T → Seated T → Type 0
+  closed m n = n ≡ (closing m.0, [])
+
+  module _ {M : Type 0} (mark : T → M) (label : T → Name) where
+    -- the block that comes with a place has the ring's label, and for the home the mark that it keeps
+    abbrev pub Comes : ℕ → View T → ℕ → T → Type 0
+    Comes m v p b = (p < m) × (is_in p v.hand ≡ false) × (label b ≡ v.label) × (IsHome v.role → marked mark p v.kept ≡ Some (mark b))
+
+    -- the exchange of the head took the place that was noted, or it failed
+    abbrev pub claimed : Step (Option T) → Seated T → ℕ → Seated T → Type 0
+    claimed st m r n =
+        (r ≡ st.first → (b : T) × (n ≡ (taking (noted_place m.0) b r m.0, (noted_place m.0, Some b) ∷ m.1)) × Comes st.slots m.0 (noted_place m.0) b)
+        × (r ≢ st.first → n ≡ (traced (try_step r) m.0, m.1))
+
+    abbrev pub collected : Step (Option T) → Seated T → Seated T → Type 0
+    collected st m n = (b : T) × (n ≡ (collecting (rung_place m.0.role) b m.0, (rung_place m.0.role, Some b) ∷ m.1)) × Comes st.slots m.0 (rung_place m.0.role) b

@@ -1,0 +1,29 @@
+//! What blocks and rings have for contracts alone.
+use std::marker::Brand;
+
+/// What each block has for contracts alone.
+pub trait Marked {
+    ghost use Rattle.zy_table.specs.declared.name.Name.{Name};
+
+    /// The type of its marks.
+    ghost Mark: { Type 0 };
+
+    /// Its mark: what must not change while the block is away from its home.
+    ghost mark: { Self → Mark };
+
+    /// Its label: the table that it belongs to.
+    ghost label: { Self → Name };
+}
+
+/// The label that the maker of a ring names, for contracts alone: by a marker type, which has no part at run time.
+pub trait Label {
+    ghost use Rattle.zy_table.specs.declared.name.Name.{Name};
+
+    ghost label: { Name };
+}
+
+impl Label for Brand {
+    ghost use Rattle.zy_table.specs.Name.{no_name};
+
+    ghost label = { no_name };
+}

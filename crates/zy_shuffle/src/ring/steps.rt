@@ -1,0 +1,141 @@
+//! Publishing, claiming and giving back. None of these calls takes memory or waits.
+ghost use Rattle.std.specs.Prelude.{◌≡◌, ◌^◌, ◌<◌, true, Some};
+ghost use Rattle.zy_table.specs.Member.{is_in};
+ghost use Rattle.zy_shuffle.specs.Hand.{emptied, marked};
+ghost use Rattle.zy_shuffle.specs.Step.{IsActive, IsHome};
+ghost use Rattle.zy_shuffle.specs.Pass.{held, Claimed, IfTook, after_publish, after_give_back};
+ghost use Rattle.zy_shuffle.specs.PassSeat.{Within, IsCorePass, IsBrought};
+
+use super::plays::{
+    Claims, Fronts, GivesBack, Placing, Publishes, SeesCell, SeesHead, SeesTail, StoresCell,
+};
+use super::view::View;
+use super::{CELLS, CorePass, HEAD, HomePass, Ring, TAIL};
+use crate::claim::Claim;
+use crate::marked::Marked;
+use atomic_table::Seat;
+use std::marker::Brand;
+
+impl<T: Marked> Ring<T> {
+    /// Puts the place, with its block, at the end of the queue. Can't fail.
+    pub fn publish(&self, home: &mut HomePass<T>, place: u32, block: T)
+        requires within { home.old.table ≡ self.now.id }
+        requires hand { is_in place home.old.hand ≡ true }
+        requires few { home.old.count < 2 ^ 63 }
+        requires label { T.label block ≡ home.old.label }
+        ensures value { home.new ≡ after_publish place block home.old home.new.trace }
+    {
+        let words = &self.table.shared;
+        let at = (home.tail % self.places as u64) as usize;
+        words.store::<StoresCell>(&mut home.seat, CELLS + at, place as u64);
+        let old = words.exchange(&mut home.seat, place as usize, Some(block));
+        let None = old else { unreachable!() };
+        words.store::<Publishes>(&mut home.seat, TAIL, home.tail + 1);
+        home.tail += 1;
+    }
+
+    /// Takes the first place of the queue into the hand of the pass, with its block. It loads the head, then the tail,
+    /// then the cell, and makes one compare and exchange of the head.
+    pub fn claim(&self, pass: &mut CorePass<T>) -> Claim<T>
+        requires within { pass.old.table ≡ self.now.id }
+        ensures value { Claimed T.mark T.label self.now.places pass.old pass.new result }
+    {
+        match self.claim_at(&mut pass.seat) {
+            Claim::Took { place, block } => {
+                pass.front = Some(place);
+                Claim::Took { place, block }
+            }
+            other => other,
+        }
+    }
+
+    /// The same for the home. The block has the mark that the home published it with.
+    pub fn claim_home(&self, home: &mut HomePass<T>) -> Claim<T>
+        requires within { home.old.table ≡ self.now.id }
+        ensures value { Claimed T.mark T.label self.now.places home.old home.new result }
+        ensures kept { IfTook result (λ p b. marked T.mark p home.old.kept ≡ Some (T.mark b)) }
+    {
+        self.claim_at(&mut home.seat)
+    }
+
+    /// Puts the block of a place that this pass claimed back, and rings its doorbell. Can't fail. Where the place is
+    /// not the one that was claimed last, this costs one more load.
+    pub fn give_back(&self, pass: &mut CorePass<T>, place: u32, block: T)
+        requires within { pass.old.table ≡ self.now.id }
+        requires hand { is_in place pass.old.hand ≡ true }
+        requires label { T.label block ≡ pass.old.label }
+        requires mark { marked T.mark place pass.old.kept ≡ Some (T.mark block) }
+        ensures value { pass.new ≡ after_give_back place pass.old pass.new.trace }
+    {
+        self.give_back_as::<Brand>(pass, place, block)
+    }
+
+    fn claim_at(&self, seat: &mut Seat<Option<T>, View<T>>) -> Claim<T>
+        requires within { seat.old.table_id ≡ self.now.id }
+        requires hand { seat.old.me.1 ≡ emptied seat.old.me.0.hand }
+        requires places { Within seat.old.table_id.slots seat.old.me.0.hand }
+        requires active { IsActive seat.old.me.0.role }
+        ensures same { (seat.new.table_id ≡ seat.old.table_id) × (seat.new.id ≡ seat.old.id) }
+        ensures hand { seat.new.me.1 ≡ emptied seat.new.me.0.hand }
+        ensures places { Within seat.new.table_id.slots seat.new.me.0.hand }
+        ensures role { seat.new.me.0.role ≡ seat.old.me.0.role }
+        ensures value { Claimed T.mark T.label self.now.places (held self.now.id seat.old.me.0) (held self.now.id seat.new.me.0) result }
+        ensures kept { IfTook result (λ p b. IsHome seat.old.me.0.role → marked T.mark p seat.old.me.0.kept ≡ Some (T.mark b)) }
+    {
+        let words = &self.table.shared;
+        let head = words.load::<SeesHead>(seat, HEAD);
+        let tail = words.load::<SeesTail>(seat, TAIL);
+        if tail == head {
+            return Claim::Empty { at: head };
+        }
+        let at = (head % self.places as u64) as usize;
+        let place = words.load::<SeesCell>(seat, CELLS + at);
+        let found = words.compare_exchange::<Claims>(seat, HEAD, head, head + 1);
+        if found != head {
+            return Claim::Raced { saw: head, found };
+        }
+        let Some(block) = words.exchange(seat, place as usize, None) else {
+            unreachable!()
+        };
+        Claim::Took {
+            place: place as u32,
+            block,
+        }
+    }
+
+    // The same with the place named for contracts, which a load of the head can't tell.
+    fn give_back_as<J: Placing>(&self, pass: &mut CorePass<T>, place: u32, block: T)
+        requires picked { place ≡ J.place }
+        requires within { pass.old.table ≡ self.now.id }
+        requires hand { is_in place pass.old.hand ≡ true }
+        requires label { T.label block ≡ pass.old.label }
+        requires mark { marked T.mark place pass.old.kept ≡ Some (T.mark block) }
+        ensures value { pass.new ≡ after_give_back place pass.old pass.new.trace }
+    {
+        let words = &self.table.shared;
+        let front = pass.front;
+        self.bring::<J>(&mut pass.seat, front, place);
+        pass.front = None;
+        let old = words.exchange(&mut pass.seat, place as usize, Some(block));
+        let None = old else { unreachable!() };
+        let word = CELLS + self.places as usize + (place / 64) as usize;
+        words.fetch_or::<GivesBack>(&mut pass.seat, word, 1u64 << (place % 64));
+    }
+
+    // Brings the slot of the place to the front of those that the seat has taken, by a load where another lies there.
+    fn bring<J: Placing>(&self, seat: &mut Seat<Option<T>, View<T>>, front: Option<u32>, place: u32)
+        requires picked { place ≡ J.place }
+        requires within { seat.old.table_id ≡ self.now.id }
+        requires pass { IsCorePass seat.old.table_id.slots front seat.old.me }
+        requires hand { is_in place seat.old.me.0.hand ≡ true }
+        ensures same { (seat.new.table_id ≡ seat.old.table_id) × (seat.new.id ≡ seat.old.id) }
+        ensures value { IsBrought place seat.old.me seat.new.me }
+    {
+        if let Some(first) = front {
+            if first == place {
+                return;
+            }
+        }
+        self.table.shared.load::<Fronts<J>>(seat, HEAD);
+    }
+}

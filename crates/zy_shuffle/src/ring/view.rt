@@ -1,0 +1,43 @@
+//! What a seat at the table of a ring knows. No value of these types is made.
+use std::collections::LinkedList;
+use zy_table::Name;
+
+/// The number that a step found, and the number of that step.
+pub struct Sight {
+    pub value: u64,
+    pub step: u64,
+}
+
+/// How many steps a seat has made, and what it found: at its last loads of the head and of the tail, at its last
+/// compare and exchange of the head, and at its loads of doorbell words, the newest first.
+pub struct Trace {
+    pub steps: u64,
+    pub head: Sight,
+    pub tail: Sight,
+    /// The head at the moment of the last load of the tail.
+    pub under: u64,
+    pub tried: Sight,
+    pub bells: LinkedList<(u64, Sight)>,
+}
+
+/// What a seat is for. The home knows the tail, the cell that it stored and did not publish yet, the doorbell word
+/// that it loaded last with the bits that it found, and how many passes are out. Once it is closed it knows the places
+/// that were in its hand.
+pub enum Role {
+    Spent,
+    Start,
+    Core,
+    Home(u64, Option<u64>, Option<(u64, u64)>, u64),
+    Closed(LinkedList<u64>),
+}
+
+/// What a seat knows. `kept` has blocks, whose marks are those of their places, the newest first. `note` is the number
+/// of the cell that was loaded last, and what it held.
+pub struct View<T> {
+    pub role: Role,
+    pub label: Name,
+    pub hand: LinkedList<u64>,
+    pub kept: LinkedList<(u64, T)>,
+    pub note: Option<(u64, u64)>,
+    pub trace: Trace,
+}

@@ -1,0 +1,6 @@
+pub mod NameLemmas
+pub mod PutLemmas
+pub mod SumLemmas
+pub mod MemberLemmas
+pub mod SlotLemmas
+pub mod SliceLemmas

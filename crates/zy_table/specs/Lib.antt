@@ -1,0 +1,4 @@
+pub mod Name
+pub mod Put
+pub mod Sum
+pub mod Member
