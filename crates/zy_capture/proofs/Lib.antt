@@ -1,10 +1,12 @@
 pub mod Bounds
 pub mod Feeding
+pub mod RunLemmas
 pub mod WholeLemmas
 pub mod SpelledLemmas
 pub mod StreamLemmas
 pub mod NumberedLemmas
 pub mod RepliesFeeding
+pub mod RepliesRunLemmas
 pub mod ByteLemmas
 pub mod RepliesWholeLemmas
 pub mod RepliesSpelledLemmas

@@ -14,7 +14,9 @@ use Rattle.zy_capture.specs.declared.replies_due.RepliesDue.TheVariants.{Letters
 use Rattle.zy_capture.specs.Capture.{AreBytes, connection_limit}
 use Rattle.zy_capture.specs.Replies.{letters, magic, session_text, spelled, spelling, IsNext, AreNumbers, AreInOrder, SpellsReplies, replies_limit}
 use Rattle.zy_capture.specs.RepliesSteps.{Progress, Step, start, goes, gives, keeps, grows, letter, digit, line_feed, tag, may_come, due_session, connection, session, size_read, four, eight, output, taken, is_open, is_full, step}
-use Rattle.zy_capture.specs.RepliesVerdict.{Reading, read_from, reading, ended, verdict}
+use Rattle.zy_read.specs.Format.{Reading, read_on, reading_of, verdict_on, fault_met, with_front}
+use Rattle.zy_read.specs.Standing.{StandsAs}
+use Rattle.zy_capture.specs.RepliesVerdict.{read_from, ended, verdict, replies}
 use Rattle.zy_capture.specs.RepliesVerdict.Verdict.{Good}
 use Rattle.zy_capture.proofs.ByteLemmas.{bytes_on, byte_at, positive, chosen, counted, on_part, assoc_twice}
 
@@ -382,11 +384,11 @@ from_step p given text byte small read =
 
 read_whole : (p : Progress) (given : List SessionBytes) (text more : List ℕ) → AreBytes more → IsReadTo p.due p given text
     → IsReadTo (read_from p more).last.due (read_from p more).last (given ++ (read_from p more).given) (text ++ more)
-unfolding read_from
+unfolding read_on
 read_whole p given text [] all read = subst (λ (l : List ℕ). IsReadTo p.due p (given ++ []) l) (sym (append-nil text)) (stays p.due p given text read)
 read_whole p given text (byte ∷ more) all read =
     let s : Step = step p byte in
-    let r : Reading = read_from s.next more in
+    let r : Reading Progress SessionBytes = read_from s.next more in
     let on : IsReadTo r.last.due r.last ((given ++ option_to_list s.gave) ++ r.given) ((text ++ byte ∷ []) ++ more) = read_whole s.next (given ++ option_to_list s.gave) (text ++ byte ∷ []) more all.1 (from_step p given text byte all.0 read) in
     subst (λ (l : List ℕ). IsReadTo r.last.due r.last (given ++ (option_to_list s.gave ++ r.given)) l) (append_assoc text (byte ∷ []) more)
     (subst (λ (l : List SessionBytes). IsReadTo r.last.due r.last l ((text ++ byte ∷ []) ++ more)) (append_assoc given (option_to_list s.gave) r.given) on)
@@ -407,8 +409,8 @@ spells due p given text version items read is = cc
 
 -- a good text is a spelling
 pub good_spells : (text : List ℕ) (version : ℕ) (items : List SessionBytes) → AreBytes text → verdict text ≡ Good version items → SpellsReplies text version items
-unfolding verdict reading
+unfolding verdict_on reading_of
 good_spells text version items all good =
-    let r : Reading = read_from start text in
+    let r : Reading Progress SessionBytes = read_from start text in
     let first : IsFirst start [] = record { none = refl; no_connection = refl; no_session = refl } in
     spells r.last.due r.last r.given text version items (read_whole start [] [] text all (record { bytes = refl; count = refl; short = omega arith; valid = (first, omega arith) })) good

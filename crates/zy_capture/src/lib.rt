@@ -4,6 +4,7 @@
 mod capture_fault;
 mod due;
 mod laws;
+mod limits;
 mod outputs;
 #[cfg(test)]
 mod plain;
