@@ -18,7 +18,8 @@ use Rattle.zy_read.specs.Standing.{StandsAs}
 use Rattle.zy_capture.specs.Verdict.{read_from, ended, verdict, fault_in, fault_of, is_good, captures}
 use Rattle.zy_capture.specs.Verdict.Verdict.{Good, Bad}
 use Rattle.zy_capture.specs.Standing.{StandsFor}
-use Rattle.zy_capture.specs.Faults.{BeginsMagic, front_text, IsBadMagic, IsConnCount, IsBadTag, IsConnRange, IsSegmentLength, IsCut, IsTrailing, IsTooLong, HasFault}
+use Rattle.zy_capture.specs.Faults.{BeginsMagic, front_text, IsBadMagic, IsCountOver, IsBadTag, IsConnectionOver, IsLengthOver, IsTrailing}
+use Rattle.zy_capture.proofs.FaultWords.{IsCut, IsOverlong, IsFault}
 use Rattle.zy_read.proofs.Feeding.{fed_step, read_broken, lasts_by}
 use Rattle.zy_capture.proofs.Feeding.{lasting}
 use Rattle.zy_capture.proofs.WholeLemmas.{letters_on, Parts, IsReadTo, read_whole}
@@ -85,7 +86,7 @@ no_tag p byte segment_not end_not close_not =
 
 -- ---- each fault
 
-conn_count_bad : (text : List ℕ) (number : ℕ) → IsConnCount text number → verdict text ≡ Bad (ConnCount number)
+conn_count_bad : (text : List ℕ) (number : ℕ) → IsCountOver text number → verdict text ≡ Bad (ConnCount number)
 conn_count_bad text number has =
     let n = read_number Count has.version 0 8 number has.rest (λ p b. refl) (omega arith) has.fits in
     let p : Progress = halfway Count has.version 0 11 n.field in
@@ -104,7 +105,7 @@ bad_tag_bad text at byte has =
     ∙ ap (λ (r : Reading Progress Record). with_records has.items r) (read_byte p byte has.rest has.within ∙ ap (λ (k : Step). goes_on k has.rest) refusal))
     (refused p (BadTag at byte) has.rest)
 
-conn_range_bad : (text : List ℕ) (at number : ℕ) → IsConnRange text at number → verdict text ≡ Bad (ConnRange at number)
+conn_range_bad : (text : List ℕ) (at number : ℕ) → IsConnectionOver text at number → verdict text ≡ Bad (ConnRange at number)
 conn_range_bad text at number has =
     let version : ℕ = has.version in
     let tail : List ℕ = to_be_bytes w32 number ++ has.rest in
@@ -136,7 +137,7 @@ conn_range_bad text at number has =
           (refused q (ConnRange (has.tag_at + 1 + 3 - 3) number) has.rest ∙ ap (λ (f : CaptureFault). Broken f) same)
     ]
 
-segment_length_bad : (text : List ℕ) (at number : ℕ) → IsSegmentLength text at number → verdict text ≡ Bad (SegmentLength at number)
+segment_length_bad : (text : List ℕ) (at number : ℕ) → IsLengthOver text at number → verdict text ≡ Bad (SegmentLength at number)
 segment_length_bad text at number has =
     let version : ℕ = has.version in
     let tail : List ℕ = to_be_bytes w32 number ++ has.rest in
@@ -223,7 +224,7 @@ after_end p byte is = rw is refl
 after_full : (p : Progress) (byte : ℕ) → is_open p.due ≡ true → p.at ≡ capture_limit → (step p byte).next.due ≡ Broken TooLong
 after_full p byte is at = rw (is, at) refl
 
-all_front : (x y : List ℕ) → AreBytes (x ++ y) → AreBytes x
+pub all_front : (x y : List ℕ) → AreBytes (x ++ y) → AreBytes x
 all_front [] y all = tt
 all_front (byte ∷ x) y all = (all.0, all_front x y all.1)
 
@@ -232,7 +233,7 @@ good_nothing Nothing p given version count items is = refl
 good_nothing due p given version count items is = cc
 
 -- neither the end nor a fault was met
-open_due : (due : Due) (p : Progress) (given : List Record) → fault_in due ≡ None → is_good (ended due p given) ≡ false → is_open due ≡ true
+pub open_due : (due : Due) (p : Progress) (given : List Record) → fault_in due ≡ None → is_good (ended due p given) ≡ false → is_open due ≡ true
 open_due Nothing p given none not_good = cc
 open_due (Broken fault) p given none not_good = cc
 open_due due p given none not_good = refl
@@ -242,12 +243,12 @@ open_ends Nothing p given is = cc
 open_ends (Broken fault) p given is = cc
 open_ends due p given is = refl
 
-open_counts : (due : Due) (p : Progress) (given : List Record) (text : List ℕ) → is_open due ≡ true → IsReadTo due p given text → p.at ≡ length text
+pub open_counts : (due : Due) (p : Progress) (given : List Record) (text : List ℕ) → is_open due ≡ true → IsReadTo due p given text → p.at ≡ length text
 open_counts Nothing p given text is read = cc
 open_counts (Broken fault) p given text is read = cc
 open_counts due p given text is read = read.count
 
-begun : Parts Letters start [] []
+pub begun : Parts Letters start [] []
 begun = record { bytes = refl; count = refl; short = omega arith; valid = (omega arith, refl) }
 
 trailing_bad : (text : List ℕ) (at : ℕ) → AreBytes text → IsTrailing text at → verdict text ≡ Bad (Trailing at)
@@ -271,12 +272,12 @@ cut_bad text at all has =
     open_ends r.last.due r.last r.given is
     ∙ ap (λ (n : ℕ). Bad (Truncated n)) (open_counts r.last.due r.last r.given text is (read_whole start [] [] text all begun) ∙ sym has.place)
 
-too_long_bad : (text : List ℕ) → AreBytes text → IsTooLong text → verdict text ≡ Bad TooLong
+too_long_bad : (text : List ℕ) → AreBytes text → IsOverlong text → verdict text ≡ Bad TooLong
 unfolding verdict_on reading_of fault_met StandsAs
 too_long_bad text all has =
     let b : List ℕ = has.front in
     let r : Reading Progress Record = read_from start b in
-    let cut : HasFault b (Truncated capture_limit) = bad_has b (Truncated capture_limit) (all_front b (has.byte ∷ has.rest) (subst AreBytes has.whole all)) has.cut in
+    let cut : IsFault b (Truncated capture_limit) = bad_has b (Truncated capture_limit) (all_front b (has.byte ∷ has.rest) (subst AreBytes has.whole all)) has.cut in
     let is : is_open r.last.due ≡ true = open_due r.last.due r.last r.given cut.no_fault cut.no_capture in
     let ends : Bad (Truncated r.last.at) ≡ Bad (Truncated capture_limit) = sym (open_ends r.last.due r.last r.given is) ∙ has.cut in
     let at_limit : r.last.at ≡ capture_limit = cc in
@@ -285,7 +286,7 @@ too_long_bad text all has =
 -- ---- all faults
 
 -- a text is bad with the fault that it has
-pub has_bad : (text : List ℕ) (fault : CaptureFault) → AreBytes text → HasFault text fault → verdict text ≡ Bad fault
+pub has_bad : (text : List ℕ) (fault : CaptureFault) → AreBytes text → IsFault text fault → verdict text ≡ Bad fault
 has_bad text (BadMagic at) all has = bad_magic_bad text at has
 has_bad text (ConnCount number) all has = conn_count_bad text number has
 has_bad text (BadTag at byte) all has = bad_tag_bad text at byte has

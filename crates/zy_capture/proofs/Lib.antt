@@ -11,5 +11,10 @@ pub mod ByteLemmas
 pub mod RepliesWholeLemmas
 pub mod RepliesSpelledLemmas
 pub mod AgainLemmas
+pub mod FaultWords
 pub mod FaultLemmas
 pub mod FaultReadLemmas
+pub mod BegunLemmas
+pub mod SoFarLemmas
+pub mod RepliesSoFarLemmas
+pub mod AddLemmas

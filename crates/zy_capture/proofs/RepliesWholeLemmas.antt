@@ -23,21 +23,21 @@ use Rattle.zy_capture.proofs.ByteLemmas.{bytes_on, byte_at, positive, chosen, co
 -- ---- what was read
 
 -- how many connections there are after these outputs, where there were some before
-abbrev connections_after : ℕ → List SessionBytes → ℕ
+abbrev pub connections_after : ℕ → List SessionBytes → ℕ
 connections_after connections [] = connections
 connections_after connections (item ∷ items) = connections_after (item.conn + 1) items
 
 -- how many sessions the last connection has after these outputs, where the last one before had some
-abbrev sessions_after : ℕ → List SessionBytes → ℕ
+abbrev pub sessions_after : ℕ → List SessionBytes → ℕ
 sessions_after sessions [] = sessions
 sessions_after sessions (item ∷ items) = sessions_after (item.session + 1) items
 
 -- the bytes that lead to the records of a file
-abbrev front : Progress → List SessionBytes → List ℕ
+abbrev pub front : Progress → List SessionBytes → List ℕ
 front p given = magic p.version ++ flat_map (spelled p.version) given
 
 -- the bytes that lead to where this is due
-abbrev bytes_of : RepliesDue → Progress → List SessionBytes → List ℕ
+abbrev pub bytes_of : RepliesDue → Progress → List SessionBytes → List ℕ
 bytes_of Letters p given = take p.at letters
 bytes_of Digit p given = letters
 bytes_of (LineFeed version) p given = letters ++ (48 + version) ∷ []
@@ -51,36 +51,36 @@ bytes_of Nothing p given = front p given ++ 69 ∷ []
 bytes_of (Broken fault) p given = []
 
 -- a version is 1 or 2
-abbrev IsVersion : ℕ → Type 0
+abbrev pub IsVersion : ℕ → Type 0
 IsVersion version = (version ≡ 1) ⊎ (version ≡ 2)
 
 -- some bytes of a number
-abbrev IsField : ℕ → List ℕ → Type 0
+abbrev pub IsField : ℕ → List ℕ → Type 0
 IsField most field = (length field ≤ most) × AreBytes field
 
 -- before the first record
-record IsFirst (p : Progress) (given : List SessionBytes) : Type 0 where
-  none : given ≡ []
-  no_connection : p.connections ≡ 0
-  no_session : p.sessions ≡ 0
+pub record IsFirst (p : Progress) (given : List SessionBytes) : Type 0 where
+  pub none : given ≡ []
+  pub no_connection : p.connections ≡ 0
+  pub no_session : p.sessions ≡ 0
 
 -- among the records
-record Keeps (p : Progress) (given : List SessionBytes) : Type 0 where
-  known : IsVersion p.version
-  ordered : AreInOrder p.version 0 0 given
-  connections_are : p.connections ≡ connections_after 0 given
-  sessions_are : p.sessions ≡ sessions_after 0 given
+pub record Keeps (p : Progress) (given : List SessionBytes) : Type 0 where
+  pub known : IsVersion p.version
+  pub ordered : AreInOrder p.version 0 0 given
+  pub connections_are : p.connections ≡ connections_after 0 given
+  pub sessions_are : p.sessions ≡ sessions_after 0 given
 
 -- a connection may come next
-abbrev MayCome : Progress → ℕ → Type 0
+abbrev pub MayCome : Progress → ℕ → Type 0
 MayCome p conn = (conn < connection_limit) × ((conn ≡ p.connections) ⊎ ((p.version ≡ 2) × (conn + 1 ≡ p.connections)))
 
 -- a session is the next one
-abbrev IsDue : Progress → ℕ → ℕ → Type 0
+abbrev pub IsDue : Progress → ℕ → ℕ → Type 0
 IsDue p conn number = IsNext p.version p.connections p.sessions conn number × AreNumbers conn number
 
 -- what holds where this is due
-abbrev IsSoFar : RepliesDue → Progress → List SessionBytes → Type 0
+abbrev pub IsSoFar : RepliesDue → Progress → List SessionBytes → Type 0
 IsSoFar Letters p given = IsFirst p given × (p.at < 6)
 IsSoFar Digit p given = IsFirst p given
 IsSoFar (LineFeed version) p given = IsFirst p given × IsVersion version
@@ -93,14 +93,14 @@ IsSoFar Nothing p given = Keeps p given
 IsSoFar (Broken fault) p given = ⊤
 
 -- a text, read up to there without a fault
-record Parts (due : RepliesDue) (p : Progress) (given : List SessionBytes) (text : List ℕ) : Type 0 where
+pub record Parts (due : RepliesDue) (p : Progress) (given : List SessionBytes) (text : List ℕ) : Type 0 where
   pub bytes : text ≡ bytes_of due p given
   pub count : p.at ≡ length text
   pub short : p.at ≤ replies_limit
   pub valid : IsSoFar due p given
 
 -- a text, read up to there
-abbrev IsReadTo : RepliesDue → Progress → List SessionBytes → List ℕ → Type 0
+abbrev pub IsReadTo : RepliesDue → Progress → List SessionBytes → List ℕ → Type 0
 IsReadTo (Broken fault) p given text = ⊤
 IsReadTo due p given text = Parts due p given text
 
@@ -382,7 +382,7 @@ from_step p given text byte small read =
     (λ full. tt)
     (λ room. from_taken p.due p given text byte refl small (has_room p.due p.at room) read)
 
-read_whole : (p : Progress) (given : List SessionBytes) (text more : List ℕ) → AreBytes more → IsReadTo p.due p given text
+pub read_whole : (p : Progress) (given : List SessionBytes) (text more : List ℕ) → AreBytes more → IsReadTo p.due p given text
     → IsReadTo (read_from p more).last.due (read_from p more).last (given ++ (read_from p more).given) (text ++ more)
 unfolding read_on
 read_whole p given text [] all read = subst (λ (l : List ℕ). IsReadTo p.due p (given ++ []) l) (sym (append-nil text)) (stays p.due p given text read)

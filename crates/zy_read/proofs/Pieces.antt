@@ -1,7 +1,7 @@
 -- Bytes that are fed in runs and one by one.
-use Rattle.std.proofs.Common.{◌≡◌, ℕ, ◌+◌, ◌<◌, List, [], ◌∷◌, ◌++◌, length, take, drop, get_or, take-add, refl, sym, ◌∙◌, ap, subst}
+use Rattle.std.proofs.Common.{◌≡◌, ℕ, ◌+◌, ◌-◌, ◌<◌, List, [], ◌∷◌, ◌++◌, length, take, drop, get_or, take-add, refl, sym, ◌∙◌, ap, subst}
 use Rattle.std.specs.Prelude.{Option, None, Some, Result, Ok, Err, option_to_list}
-use Rattle.std.proofs.lemmas.List.{take_more}
+use Rattle.std.proofs.lemmas.List.{take_more, take_rest}
 use Rattle.zy_read.specs.declared.not_taken.NotTaken.{NotTaken}
 use Rattle.zy_read.specs.declared.not_taken.NotTaken.TheVariants.{Fault, NoMemory}
 use Rattle.zy_read.specs.Format.{Format, IsLasting}
@@ -17,6 +17,14 @@ run_on format old between new bytes at run first second =
 pub byte_on : {P G F V : Type 0} (format : Format P G F V) (old between new : P) (bytes : List ℕ) (at : ℕ) (gave : List G) → at < length bytes → Feeds format old between (take at bytes) [] → Feeds format between new (get_or bytes at 0 ∷ []) gave → Feeds format old new (take (at + 1) bytes) gave
 byte_on format old between new bytes at gave within first second =
     subst (λ (l : List ℕ). Feeds format old new l gave) (sym (take_more bytes at 0 within)) (fed_on format old between new (take at bytes) (get_or bytes at 0 ∷ []) [] gave first second)
+
+-- some first bytes of the slice from a place on, after the bytes before the place
+pub slice_on : {P G F V : Type 0} (format : Format P G F V) (old between new : P) (bytes : List ℕ) (at taken : ℕ) (first gave : List G) → Feeds format old between (take at bytes) first
+    → Feeds format between new (take taken (take (length bytes - at) (drop at bytes))) gave → Feeds format old new (take (at + taken) bytes) (first ++ gave)
+slice_on {P} {G} format old between new bytes at taken first gave one two =
+    subst (λ (l : List ℕ). Feeds format old new l (first ++ gave)) (sym (take-add at taken bytes))
+    (fed_on format old between new (take at bytes) (take taken (drop at bytes)) first gave one
+    (subst (λ (l : List ℕ). Feeds format between new (take taken l) gave) (take_rest bytes at) two))
 
 -- ---- the answer to one byte after some first bytes
 
