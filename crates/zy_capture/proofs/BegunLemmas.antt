@@ -1,19 +1,19 @@
 -- A text is bad with a fault exactly where it has it; that a text ends too early, or is too long, is said by its bytes.
-use Rattle.std.proofs.Common.{◌≡◌, ℕ, ◌+◌, ◌≤◌, true, false, List, [], ◌∷◌, ◌++◌, length, refl, sym, ◌∙◌, ap, subst, arith, length-append}
-use Rattle.zy_read.specs.Format.{Reading, read_on, reading_of, verdict_on, fault_met}
+use Rattle.std.proofs.Common.{◌≡◌, ℕ, ◌+◌, ◌≤◌, true, List, [], ◌∷◌, length, refl, sym, ◌∙◌, ap, subst, arith, length-append}
+use Rattle.zy_read.specs.Format.{Reading, reading_of, verdict_on, fault_met}
 use Rattle.zy_capture.specs.declared.record.Record.{Record}
 use Rattle.zy_capture.specs.declared.capture_fault.CaptureFault.{CaptureFault}
 use Rattle.zy_capture.specs.declared.capture_fault.CaptureFault.TheVariants.{BadMagic, ConnCount, BadTag, ConnRange, SegmentLength, Truncated, Trailing, TooLong}
 use Rattle.zy_capture.specs.declared.due.Due.{Due}
 use Rattle.zy_capture.specs.declared.due.Due.TheVariants.{Nothing, Broken}
-use Rattle.zy_capture.specs.Capture.{AreBytes, Spells, capture_limit}
+use Rattle.zy_capture.specs.Capture.{AreBytes, capture_limit}
 use Rattle.zy_capture.specs.Steps.{Progress, start, is_open}
-use Rattle.zy_capture.specs.Verdict.{Verdict, captures, read_from, verdict}
+use Rattle.zy_capture.specs.Verdict.{Verdict, read_from, verdict}
 use Rattle.zy_capture.specs.Verdict.Verdict.{Good, Bad}
-use Rattle.zy_capture.specs.Faults.{IsWrong, IsBegun, IsTruncated, IsTooLong, HasFault}
+use Rattle.zy_capture.specs.Faults.{IsWrong, IsBegun, HasFault}
 use Rattle.zy_capture.proofs.WholeLemmas.{IsReadTo, read_whole, good_spells}
 use Rattle.zy_capture.proofs.SpelledLemmas.{spells_good}
-use Rattle.zy_capture.proofs.FaultWords.{IsCut, IsOverlong, IsFault}
+use Rattle.zy_capture.proofs.FaultWords.{IsCut, IsOverlong}
 use Rattle.zy_capture.proofs.FaultLemmas.{bad_has}
 use Rattle.zy_capture.proofs.FaultReadLemmas.{has_bad, open_due, all_front, begun}
 

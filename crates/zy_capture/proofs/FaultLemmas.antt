@@ -12,13 +12,13 @@ use Rattle.zy_capture.specs.declared.due.Due.{Due}
 use Rattle.zy_capture.specs.declared.due.Due.TheVariants.{Letters, Digit, LineFeed, Count, Tag, Connection, Length, Payload, Closed, Nothing, Broken}
 use Rattle.zy_capture.specs.Capture.{AreBytes, letters, magic, spelled, spelling, IsCapture, capture_limit, connection_limit, segment_limit}
 use Rattle.zy_capture.specs.Steps.{Progress, Step, start, goes, refuses, letter, digit, line_feed, tag, number, segment, taken, is_open, is_full, step}
-use Rattle.zy_read.specs.Format.{Reading, read_on, reading_of, verdict_on, fault_met, with_front}
+use Rattle.zy_read.specs.Format.{Reading, read_on, reading_of, verdict_on, fault_met}
 use Rattle.zy_read.specs.Standing.{StandsAs}
-use Rattle.zy_capture.specs.Verdict.{Verdict, read_from, ended, verdict, fault_in, fault_of, is_good, captures}
+use Rattle.zy_capture.specs.Verdict.{Verdict, read_from, ended, verdict, fault_in, is_good, captures}
 use Rattle.zy_capture.specs.Verdict.Verdict.{Bad}
 use Rattle.zy_capture.specs.Standing.{StandsFor}
 use Rattle.zy_capture.specs.Faults.{BeginsMagic, IsConnectionOver}
-use Rattle.zy_capture.proofs.FaultWords.{IsCut, IsOverlong, IsFault}
+use Rattle.zy_capture.proofs.FaultWords.{IsCut, IsFault}
 use Rattle.zy_capture.proofs.ByteLemmas.{chosen, bytes_on, byte_at, assoc_twice}
 use Rattle.zy_read.proofs.Feeding.{fed_step, read_broken, verdict_here, starts}
 use Rattle.zy_capture.proofs.Feeding.{lasting, is_broken}

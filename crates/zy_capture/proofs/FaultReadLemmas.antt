@@ -13,9 +13,9 @@ use Rattle.zy_capture.specs.declared.due.Due.{Due}
 use Rattle.zy_capture.specs.declared.due.Due.TheVariants.{Letters, Digit, LineFeed, Count, Tag, Connection, Length, Closed, Nothing, Broken}
 use Rattle.zy_capture.specs.Capture.{AreBytes, letters, magic, spelled, spelling, IsCapture, Spells, capture_limit, connection_limit, segment_limit}
 use Rattle.zy_capture.specs.Steps.{Progress, Step, start, goes, refuses, letter, digit, line_feed, tag, judged, is_open, step}
-use Rattle.zy_read.specs.Format.{Reading, read_on, reading_of, verdict_on, fault_met, with_front}
+use Rattle.zy_read.specs.Format.{Reading, read_on, reading_of, verdict_on, fault_met}
 use Rattle.zy_read.specs.Standing.{StandsAs}
-use Rattle.zy_capture.specs.Verdict.{read_from, ended, verdict, fault_in, fault_of, is_good, captures}
+use Rattle.zy_capture.specs.Verdict.{read_from, ended, verdict, fault_in, is_good, captures}
 use Rattle.zy_capture.specs.Verdict.Verdict.{Good, Bad}
 use Rattle.zy_capture.specs.Standing.{StandsFor}
 use Rattle.zy_capture.specs.Faults.{BeginsMagic, front_text, IsBadMagic, IsCountOver, IsBadTag, IsConnectionOver, IsLengthOver, IsTrailing}

@@ -7,7 +7,7 @@ use Rattle.zy_capture.specs.declared.record.Record.{Record}
 use Rattle.zy_capture.specs.declared.capture_fault.CaptureFault.{CaptureFault}
 use Rattle.zy_capture.specs.declared.due.Due.{Due}
 use Rattle.zy_capture.specs.declared.due.Due.TheVariants.{Broken}
-use Rattle.zy_capture.specs.Steps.{Progress, Step, step}
+use Rattle.zy_capture.specs.Steps.{Progress, step}
 use Rattle.zy_capture.specs.Verdict.{captures, ended, fault_in, version_of, version_in, count_of, count_in}
 use Rattle.zy_capture.specs.Standing.{StandsFor}
 

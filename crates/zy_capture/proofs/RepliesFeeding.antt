@@ -7,7 +7,7 @@ use Rattle.zy_capture.specs.declared.session_bytes.SessionBytes.{SessionBytes}
 use Rattle.zy_base.specs.declared.file_fault.FileFault.{FileFault}
 use Rattle.zy_capture.specs.declared.replies_due.RepliesDue.{RepliesDue}
 use Rattle.zy_capture.specs.declared.replies_due.RepliesDue.TheVariants.{Broken}
-use Rattle.zy_capture.specs.RepliesSteps.{Progress, Step, step}
+use Rattle.zy_capture.specs.RepliesSteps.{Progress, step}
 use Rattle.zy_capture.specs.RepliesVerdict.{replies, ended, fault_in, version_of, version_in}
 use Rattle.zy_capture.specs.RepliesStanding.{StandsForReplies}
 
@@ -24,4 +24,3 @@ lasting = record { still = still; counts = λ p given fault met. ap (λ (d : Rep
 pub version_here : (p : Progress) (given : List SessionBytes) (b : List ℕ) → StandsForReplies p given b → version_of b ≡ version_in p.version
 unfolding version_of StandsAs
 version_here p given b stands = ap (λ (r : Reading Progress SessionBytes). version_in r.last.version) stands
-

@@ -1,7 +1,7 @@
 -- The outputs of a replies text without a fault so far are those of a replies file whose version was told.
-use Rattle.std.proofs.Common.{◌≡◌, ◌≢◌, ◌⊎◌, inl, inr, ℕ, List, [], ◌++◌, refl, sym, ◌∙◌, ap, subst, arith}
+use Rattle.std.proofs.Common.{◌≡◌, ◌≢◌, ◌⊎◌, inl, inr, ℕ, List, [], refl, ◌∙◌, ap, arith}
 use Rattle.std.specs.Prelude.{None, Some}
-use Rattle.zy_read.specs.Format.{Reading, read_on, reading_of, verdict_on, fault_met, given_by}
+use Rattle.zy_read.specs.Format.{Reading, reading_of, verdict_on, fault_met, given_by}
 use Rattle.zy_read.specs.Standing.{StandsAs}
 use Rattle.zy_read.proofs.Feeding.{given_here}
 use Rattle.zy_capture.specs.declared.session_bytes.SessionBytes.{SessionBytes}
@@ -13,7 +13,7 @@ use Rattle.zy_capture.specs.RepliesVerdict.{replies, read_from, verdict, ended, 
 use Rattle.zy_capture.specs.RepliesVerdict.Verdict.{Good}
 use Rattle.zy_capture.specs.RepliesStanding.{StandsForReplies}
 use Rattle.zy_capture.specs.SoFar.{IsRepliesSoFar}
-use Rattle.zy_capture.proofs.RepliesWholeLemmas.{Keeps, Parts, IsReadTo, read_whole}
+use Rattle.zy_capture.proofs.RepliesWholeLemmas.{Keeps, IsReadTo, read_whole}
 use Rattle.zy_capture.proofs.RepliesFeeding.{version_here}
 
 known_version : (version : ℕ) → (version ≡ 1) ⊎ (version ≡ 2) → version_in version ≡ Some version

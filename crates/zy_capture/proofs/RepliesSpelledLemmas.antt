@@ -12,9 +12,8 @@ use Rattle.zy_capture.specs.declared.replies_due.RepliesDue.TheVariants.{Tag, Co
 use Rattle.zy_capture.specs.Capture.{connection_limit}
 use Rattle.zy_capture.specs.Replies.{magic, session_text, spelled, spelling, IsNext, AreNumbers, AreInOrder, SpellsReplies, replies_limit}
 use Rattle.zy_capture.specs.RepliesSteps.{Progress, Step, start, goes, gives, grows, connection, session, size_read, four, eight, output, taken, is_open, step}
-use Rattle.zy_read.specs.Format.{Reading, read_on, reading_of, verdict_on, fault_met, with_front}
-use Rattle.zy_read.specs.Standing.{StandsAs}
-use Rattle.zy_capture.specs.RepliesVerdict.{read_from, ended, verdict, replies}
+use Rattle.zy_read.specs.Format.{Reading, read_on, reading_of, verdict_on, with_front}
+use Rattle.zy_capture.specs.RepliesVerdict.{read_from, ended, verdict}
 use Rattle.zy_capture.specs.RepliesVerdict.Verdict.{Good}
 use Rattle.zy_capture.proofs.ByteLemmas.{assoc_twice}
 

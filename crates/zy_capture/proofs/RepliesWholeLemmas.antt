@@ -14,9 +14,8 @@ use Rattle.zy_capture.specs.declared.replies_due.RepliesDue.TheVariants.{Letters
 use Rattle.zy_capture.specs.Capture.{AreBytes, connection_limit}
 use Rattle.zy_capture.specs.Replies.{letters, magic, session_text, spelled, spelling, IsNext, AreNumbers, AreInOrder, SpellsReplies, replies_limit}
 use Rattle.zy_capture.specs.RepliesSteps.{Progress, Step, start, goes, gives, keeps, grows, letter, digit, line_feed, tag, may_come, due_session, connection, session, size_read, four, eight, output, taken, is_open, is_full, step}
-use Rattle.zy_read.specs.Format.{Reading, read_on, reading_of, verdict_on, fault_met, with_front}
-use Rattle.zy_read.specs.Standing.{StandsAs}
-use Rattle.zy_capture.specs.RepliesVerdict.{read_from, ended, verdict, replies}
+use Rattle.zy_read.specs.Format.{Reading, read_on, reading_of, verdict_on}
+use Rattle.zy_capture.specs.RepliesVerdict.{read_from, ended, verdict}
 use Rattle.zy_capture.specs.RepliesVerdict.Verdict.{Good}
 use Rattle.zy_capture.proofs.ByteLemmas.{bytes_on, byte_at, positive, chosen, counted, on_part, assoc_twice}
 

@@ -1,11 +1,10 @@
 -- Bytes of a segment that are fed at once.
-use Rattle.std.proofs.Common.{◌≡◌, ℕ, ◌+◌, ◌<◌, ◌≤◌, List, [], ◌∷◌, ◌++◌, length, refl, sym, ◌∙◌, ap, arith, append_assoc, length-append}
+use Rattle.std.proofs.Common.{◌≡◌, ℕ, ◌+◌, ◌<◌, ◌≤◌, List, [], ◌∷◌, length, refl, sym, ◌∙◌, ap, arith, append_assoc, length-append}
 use Rattle.std.proofs.lemmas.List.{append-nil}
 use Rattle.std.proofs.lemmas.Bool.Decides.{nat_tests}
-use Rattle.zy_read.specs.Format.{Reading, read_on, with_front}
+use Rattle.zy_read.specs.Format.{read_on, with_front}
 use Rattle.zy_read.specs.Standing.{Feeds}
 use Rattle.zy_read.proofs.Feeding.{fed_by}
-use Rattle.zy_capture.specs.declared.record.Record.{Record}
 use Rattle.zy_capture.specs.declared.due.Due.TheVariants.{Payload}
 use Rattle.zy_capture.specs.Capture.{capture_limit}
 use Rattle.zy_capture.specs.Steps.{Progress, Step, grows, step, grown_by}

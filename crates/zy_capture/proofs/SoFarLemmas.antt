@@ -1,9 +1,9 @@
 -- The records of a text without a fault so far are those of a capture whose version and count were told.
-use Rattle.std.proofs.Common.{◌≡◌, ◌≢◌, ◌⊎◌, inl, inr, ℕ, ◌+◌, ◌*◌, ◌^◌, ◌<◌, ◌≤◌, true, false, List, [], ◌∷◌, ◌++◌, length, refl, sym, ◌∙◌, ap, subst, arith, length-append}
+use Rattle.std.proofs.Common.{◌≡◌, ◌≢◌, ◌⊎◌, inl, inr, ℕ, ◌+◌, ◌*◌, ◌^◌, ◌<◌, ◌≤◌, List, [], ◌∷◌, ◌++◌, length, refl, sym, ◌∙◌, ap, subst, arith, length-append}
 use Rattle.std.specs.Prelude.{None, Some, flat_map, ◌==◌}
 use Rattle.std.specs.Int.{to_be_bytes, w32}
 use Rattle.std.proofs.lemmas.List.{append-nil}
-use Rattle.zy_read.specs.Format.{Reading, read_on, reading_of, verdict_on, fault_met, given_by}
+use Rattle.zy_read.specs.Format.{Reading, reading_of, verdict_on, fault_met, given_by}
 use Rattle.zy_read.specs.Standing.{StandsAs}
 use Rattle.zy_capture.specs.declared.record.Record.{Record}
 use Rattle.zy_capture.specs.declared.record.Record.TheVariants as Kinds
@@ -17,7 +17,7 @@ use Rattle.zy_capture.specs.Verdict.Verdict.{Good}
 use Rattle.zy_capture.specs.Standing.{StandsFor}
 use Rattle.zy_capture.specs.SoFar.{IsCaptureSoFar}
 use Rattle.zy_capture.proofs.ByteLemmas.{chosen}
-use Rattle.zy_capture.proofs.WholeLemmas.{front, Parts, IsReadTo, read_whole}
+use Rattle.zy_capture.proofs.WholeLemmas.{front, IsReadTo, read_whole}
 use Rattle.zy_capture.proofs.Feeding.{version_here, count_here}
 use Rattle.zy_read.proofs.Feeding.{given_here}
 

@@ -13,9 +13,8 @@ use Rattle.zy_capture.specs.declared.due.Due.{Due}
 use Rattle.zy_capture.specs.declared.due.Due.TheVariants.{Count, Tag, Connection, Length, Payload, Closed, Nothing}
 use Rattle.zy_capture.specs.Capture.{magic, spelled, spelling, IsRecordOf, IsCapture, Spells, capture_limit, connection_limit, segment_limit}
 use Rattle.zy_capture.specs.Steps.{Progress, Step, start, goes, gives, grows, tag, judged, number, segment, taken, is_open, step}
-use Rattle.zy_read.specs.Format.{Reading, read_on, reading_of, verdict_on, fault_met, with_front}
-use Rattle.zy_read.specs.Standing.{StandsAs}
-use Rattle.zy_capture.specs.Verdict.{read_from, ended, verdict, captures}
+use Rattle.zy_read.specs.Format.{Reading, read_on, reading_of, verdict_on, with_front}
+use Rattle.zy_capture.specs.Verdict.{read_from, ended, verdict}
 use Rattle.zy_capture.specs.Verdict.Verdict.{Good}
 use Rattle.zy_capture.proofs.ByteLemmas.{assoc_twice}
 

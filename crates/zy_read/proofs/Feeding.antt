@@ -6,7 +6,7 @@ use Rattle.std.proofs.lemmas.List.{append-nil}
 use Rattle.zy_read.specs.declared.not_taken.NotTaken.{NotTaken}
 use Rattle.zy_read.specs.declared.not_taken.NotTaken.TheVariants.{Fault, NoMemory}
 use Rattle.zy_read.specs.Format.{Format, IsLasting, Step, Reading, with_front, read_on, reading_of, given_by, fault_met, verdict_on}
-use Rattle.zy_read.specs.Standing.{StandsAs, given_in, Feeds, MeetsFault, LastsAs, FeedsAs, TellsFault, TellsLasting, FeedsPieces, Follows}
+use Rattle.zy_read.specs.Standing.{StandsAs, Feeds, MeetsFault, LastsAs, FeedsAs, TellsFault, TellsLasting, FeedsPieces, Follows}
 
 -- one reading after another
 abbrev pub then_read : {P G : Type 0} → Reading P G → Reading P G → Reading P G
@@ -97,7 +97,6 @@ lasts_by format lasting old new bytes gave fault feeds is given b more stands =
     verdict_here format new (given ++ (gave ++ [])) (b ++ (bytes ++ more))
     (fed_on format old new new bytes more gave [] feeds (broken_stays format lasting new fault more is) given b stands)
     ∙ lasting.counts new (given ++ (gave ++ [])) fault is
-
 
 -- the clauses of a byte that was taken
 pub fed : {P G F V : Type 0} (format : Format P G F V) (wants : P → ℕ → Type 0) (old new : P) (byte : ℕ) (answer : Result (Option G) (NotTaken F)) → Follows format wants (format.step old byte) old new byte answer → FeedsAs format old new (byte ∷ []) answer

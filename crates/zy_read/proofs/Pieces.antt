@@ -1,11 +1,11 @@
 -- Bytes that are fed in runs and one by one.
-use Rattle.std.proofs.Common.{◌≡◌, ℕ, ◌+◌, ◌-◌, ◌<◌, List, [], ◌∷◌, ◌++◌, length, take, drop, get_or, take-add, refl, sym, ◌∙◌, ap, subst}
+use Rattle.std.proofs.Common.{◌≡◌, ℕ, ◌+◌, ◌-◌, ◌<◌, List, [], ◌∷◌, ◌++◌, length, take, drop, get_or, take-add, sym, subst}
 use Rattle.std.specs.Prelude.{Option, None, Some, Result, Ok, Err, option_to_list}
 use Rattle.std.proofs.lemmas.List.{take_more, take_rest}
 use Rattle.zy_read.specs.declared.not_taken.NotTaken.{NotTaken}
 use Rattle.zy_read.specs.declared.not_taken.NotTaken.TheVariants.{Fault, NoMemory}
 use Rattle.zy_read.specs.Format.{Format, IsLasting}
-use Rattle.zy_read.specs.Standing.{given_in, Feeds, FeedsAs, TellsFault, TellsLasting, Follows, taken_with}
+use Rattle.zy_read.specs.Standing.{given_in, Feeds, TellsFault, TellsLasting, Follows, taken_with}
 use Rattle.zy_read.proofs.Feeding.{fed_on, fed, met_by, lasts_by}
 
 -- a run after some first bytes

@@ -18,9 +18,9 @@ feeds_rest p q bytes at taken gave feeds = subst (λ (l : List ℕ). Feeds captu
 -- some first bytes more of the slice from a place on
 pub piece_read : (p q : Progress) (b bytes : List ℕ) (at taken : ℕ) (gave : List Record) → Feeds captures p q (take taken (take (length bytes - at) (drop at bytes))) gave → HasRead p (b ++ take at bytes) → HasRead q (b ++ take (at + taken) bytes)
 piece_read p q b bytes at taken gave feeds read = (
-    read.0 ++ gave,
-    subst (λ (l : List ℕ). StandsFor q (read.0 ++ gave) l) (append_assoc b (take at bytes) (take taken (drop at bytes)) ∙ ap (λ (l : List ℕ). b ++ l) (sym (take-add at taken bytes)))
-    (feeds_rest p q bytes at taken gave feeds read.0 (b ++ take at bytes) read.1),
+  read.0 ++ gave,
+  subst (λ (l : List ℕ). StandsFor q (read.0 ++ gave) l) (append_assoc b (take at bytes) (take taken (drop at bytes)) ∙ ap (λ (l : List ℕ). b ++ l) (sym (take-add at taken bytes)))
+      (feeds_rest p q bytes at taken gave feeds read.0 (b ++ take at bytes) read.1),
 )
 
 -- all of them
