@@ -92,7 +92,7 @@ impl Reader {
         requires some { 0 < length bytes.now }
         ensures within { result.taken ≤ length bytes.now }
         ensures none { result.answer ≡ Ok None → result.taken ≡ length bytes.now }
-        ensures some { (gave : _) → result.answer ≡ Ok gave → 0 < result.taken }
+        ensures taken { (gave : _) → result.answer ≡ Ok gave → 0 < result.taken }
         ensures fed { Feeds captures self.old self.new (take result.taken bytes.now) (given_in result.answer) }
         ensures exact { TellsFault captures self.old (take result.taken bytes.now) result.answer }
         ensures lasts { TellsLasting captures self.old (take result.taken bytes.now) result.answer }

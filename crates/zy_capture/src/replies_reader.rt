@@ -95,7 +95,7 @@ impl RepliesReader {
         requires some { 0 < length bytes.now }
         ensures within { result.taken ≤ length bytes.now }
         ensures none { result.answer ≡ Ok None → result.taken ≡ length bytes.now }
-        ensures some { (gave : _) → result.answer ≡ Ok gave → 0 < result.taken }
+        ensures taken { (gave : _) → result.answer ≡ Ok gave → 0 < result.taken }
         ensures fed { Feeds replies self.old self.new (take result.taken bytes.now) (given_in result.answer) }
         ensures exact { TellsFault replies self.old (take result.taken bytes.now) result.answer }
         ensures lasts { TellsLasting replies self.old (take result.taken bytes.now) result.answer }

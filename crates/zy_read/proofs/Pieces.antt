@@ -18,13 +18,9 @@ pub byte_on : {P G F V : Type 0} (format : Format P G F V) (old between new : P)
 byte_on format old between new bytes at gave within first second =
     subst (λ (l : List ℕ). Feeds format old new l gave) (sym (take_more bytes at 0 within)) (fed_on format old between new (take at bytes) (get_or bytes at 0 ∷ []) [] gave first second)
 
--- some first bytes of the slice from a place on, after the bytes before the place
-pub slice_on : {P G F V : Type 0} (format : Format P G F V) (old between new : P) (bytes : List ℕ) (at taken : ℕ) (first gave : List G) → Feeds format old between (take at bytes) first
-    → Feeds format between new (take taken (take (length bytes - at) (drop at bytes))) gave → Feeds format old new (take (at + taken) bytes) (first ++ gave)
-slice_on {P} {G} format old between new bytes at taken first gave one two =
-    subst (λ (l : List ℕ). Feeds format old new l (first ++ gave)) (sym (take-add at taken bytes))
-    (fed_on format old between new (take at bytes) (take taken (drop at bytes)) first gave one
-    (subst (λ (l : List ℕ). Feeds format between new (take taken l) gave) (take_rest bytes at) two))
+-- some first bytes of the slice from a place on are those after the place
+pub slice_fed : {P G F V : Type 0} (format : Format P G F V) (old new : P) (bytes : List ℕ) (at taken : ℕ) (gave : List G) → Feeds format old new (take taken (take (length bytes - at) (drop at bytes))) gave → Feeds format old new (take taken (drop at bytes)) gave
+slice_fed format old new bytes at taken gave feeds = subst (λ (l : List ℕ). Feeds format old new (take taken l) gave) (take_rest bytes at) feeds
 
 -- ---- the answer to one byte after some first bytes
 

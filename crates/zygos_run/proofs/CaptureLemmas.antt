@@ -2,8 +2,9 @@
 use Rattle.std.proofs.Common.{◌≢◌, ℕ, ◌+◌, ◌<◌, ◌≤◌, List, [], ◌∷◌, ◌++◌, length, take, drop, take-add, ◌-◌, refl, sym, ◌∙◌, ap, subst, append_assoc}
 use Rattle.std.specs.Prelude.{Option, None, Some, Result, Ok, Err, OnOk, IfErr, IfSome}
 use Rattle.std.specs.Io.KnownBytes.{Consumes, IsAtEnd}
-use Rattle.std.proofs.lemmas.List.{append-nil, take_all, take_rest}
+use Rattle.std.proofs.lemmas.List.{append-nil, take_all}
 use Rattle.zy_read.specs.Standing.{Feeds}
+use Rattle.zy_read.proofs.Pieces.{slice_fed}
 use Rattle.zy_capture.specs.declared.record.Record.{Record}
 use Rattle.zy_capture.specs.Steps.{Progress}
 use Rattle.zy_capture.specs.Standing.{StandsFor}
@@ -12,15 +13,12 @@ use Rattle.zygos_run.specs.declared.stop.ReadStop.{ReadStop}
 use Rattle.zygos_run.specs.declared.stop.ReadStop.TheVariants.{Failed, Stopped}
 use Rattle.zygos_run.specs.Ends.{HasRead, HasTaken, IsCapture, ReadEnds}
 
-feeds_rest : (p q : Progress) (bytes : List ℕ) (at taken : ℕ) (gave : List Record) → Feeds captures p q (take taken (take (length bytes - at) (drop at bytes))) gave → Feeds captures p q (take taken (drop at bytes)) gave
-feeds_rest p q bytes at taken gave feeds = subst (λ (l : List ℕ). Feeds captures p q (take taken l) gave) (take_rest bytes at) feeds
-
 -- some first bytes more of the slice from a place on
 pub piece_read : (p q : Progress) (b bytes : List ℕ) (at taken : ℕ) (gave : List Record) → Feeds captures p q (take taken (take (length bytes - at) (drop at bytes))) gave → HasRead p (b ++ take at bytes) → HasRead q (b ++ take (at + taken) bytes)
 piece_read p q b bytes at taken gave feeds read = (
   read.0 ++ gave,
   subst (λ (l : List ℕ). StandsFor q (read.0 ++ gave) l) (append_assoc b (take at bytes) (take taken (drop at bytes)) ∙ ap (λ (l : List ℕ). b ++ l) (sym (take-add at taken bytes)))
-      (feeds_rest p q bytes at taken gave feeds read.0 (b ++ take at bytes) read.1),
+      (slice_fed captures p q bytes at taken gave feeds read.0 (b ++ take at bytes) read.1),
 )
 
 -- all of them
