@@ -40,7 +40,7 @@ pub record Goes (state : State) (bytes : List ℕ) (step : Step) : Type 0 where
   pub within : step.taken ≤ length bytes
   pub on : (more : List ℕ) → goes_on (progress_of state) (bytes ++ more)
       ≡ with_frames (option_to_list step.frame)
-        (goes_on (progress_of step.state) (drop step.taken bytes ++ more))
+      (goes_on (progress_of step.state) (drop step.taken bytes ++ more))
 
 -- the line feed of a line has come
 pub record Closes (line : List ℕ) (step : Step) : Type 0 where
