@@ -59,6 +59,10 @@ held id v = record { table = id; label = v.label; hand = v.hand; kept = v.kept; 
 abbrev pub newly_held : {T : Type 0} → TableId → Name → ℕ → Held T
 newly_held id label places = record { table = id; label = label; hand = below_then places []; kept = []; count = 0; out = 0; trace = untraced }
 
+-- each place of the ring is in the hand
+abbrev pub HasAll : ℕ → List ℕ → Type 0
+HasAll places hand = (place : ℕ) → place < places → is_in place hand ≡ true
+
 -- a new pass of a home: its hand is empty
 abbrev pub newly_given : {T : Type 0} → Held T → Held T
 newly_given home = record home { hand = []; kept = []; count = 0; out = 0; trace = untraced }
