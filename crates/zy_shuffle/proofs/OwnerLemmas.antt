@@ -1,13 +1,12 @@
 -- Each event of the ownership machine leads from a sound state to a sound state.
-use Rattle.std.proofs.Common.{◌≡◌, ◌≢◌, ◌⊎◌, ℕ, ◌+◌, ◌<◌, ◌≤◌, List, [], ◌∷◌, ◌++◌, Bool, true, false, ◌||◌, ◌==◌, true≢false, eq-eqb, ne_eqb, refl, sym, ap, ◌∙◌, subst, inl, inr, ⊎_elim, arith}
-use Rattle.std.specs.Prelude.{◌↔◌}
+use Rattle.std.proofs.Common.{◌≡◌, ◌≢◌, ◌⊎◌, ℕ, ◌+◌, ◌<◌, ◌≤◌, List, [], ◌∷◌, ◌++◌, true, false, true≢false, refl, sym, ap, ◌∙◌, subst, inl, inr, ⊎_elim, arith}
 use mathlib.Core.Logic.{dite}
 use native.Mathlib.Decide.{ℕ_discrete}
 use Rattle.zy_table.specs.Member.{is_in, IsDistinct}
 use Rattle.zy_table.specs.Put.{put}
 use Rattle.zy_table.proofs.PutLemmas.{at_put, put_here, put_else}
-use Rattle.zy_table.proofs.MemberLemmas.{in_cases, in_or, in_front, in_cons, in_more, not_in}
-use Rattle.zy_shuffle.specs.Ownership.{Place, idle, ready, held, returned, Owners, no_requests, Event, Arrive, Claim, Handle, GiveBack, Collect, Settle, moved, queued, with_requests, with_finished, happens, IsSound, Runs}
+use Rattle.zy_table.proofs.MemberLemmas.{in_or, in_front, in_cons, in_more, not_in}
+use Rattle.zy_shuffle.specs.Ownership.{Place, idle, ready, held, returned, Owners, no_requests, Event, Arrive, Claim, Handle, GiveBack, Collect, Settle, moved, with_requests, with_finished, happens, IsSound, Runs}
 
 -- ---- a queue that is one longer
 

@@ -1,5 +1,5 @@
 use Rattle.std.proofs.Common.{rules, ap, ◌∙◌}
-use Rattle.zy_shuffle.proofs.EndLemmas.{names_as, opens_as}
+use Rattle.zy_shuffle.proofs.OpenLemmas.{names_as, opens_as}
 use Rattle.zy_shuffle.proofs.PassLemmas.{home_named, hand_named}
 use Rattle.zy_shuffle.proofs.ring.Ring.new.Goals as goal
 
