@@ -9,7 +9,7 @@ use load::{fill, mix};
 use mc_shard::Shard;
 use std::env::Env;
 use std::process::ExitCode;
-use std::time::Instant;
+use std::time::CpuClock;
 use zy_base::{NoMemory, read_number};
 
 fn main(rt: HostRuntime) -> ExitCode {
@@ -22,17 +22,17 @@ fn main(rt: HostRuntime) -> ExitCode {
     if let Err(NoMemory) = fill(rt.alloc(), &mut shard, keys) {
         return ExitCode::from(6);
     }
-    let Ok(start) = Instant::now(&rt) else {
+    let Ok(start) = rt.process_cpu_time() else {
         return ExitCode::from(1);
     };
     if let Err(NoMemory) = mix(rt.alloc(), &mut shard, keys, calls) {
         return ExitCode::from(6);
     }
-    match start.elapsed(&rt) {
-        Ok(time) => {
+    match rt.process_cpu_time() {
+        Ok(end) => {
             let _ = println!(rt;
                 "{keys} keys: {} ns a call",
-                time.as_nanos() / calls as u128
+                end.saturating_sub(start).as_nanos() / calls as u128
             );
             ExitCode::from(0)
         }

@@ -1,4 +1,5 @@
 pub mod Outside
+pub mod Blob
 pub mod Memory
 pub mod Key
 pub mod Number

@@ -1,25 +1,36 @@
 //! Byte strings.
-ghost use Rattle.std.specs.Prelude.{◌≡◌, ℕ, List, [], ◌++◌, take, IfOk, OnOk, OnErr, Some, refl};
+ghost use Rattle.std.specs.Prelude.{◌≡◌, [], ◌++◌, take, IfOk, OnOk, OnErr, Some, refl};
 ghost use Rattle.std.specs.Ordering.{nat_cmp};
 ghost use Rattle.std.specs.Prelude.{nat_eq};
 ghost use Rattle.std.specs.Cmp.{partial_equiv_from_equiv};
 ghost use Rattle.std.specs.Cmp.Lexicographic.{pointwise, slice_cmp, nat_list_eq_equiv, nat_list_cmp_total, texts_ties, texts_po};
 
 use crate::outside::NoMemory;
+use crate::short::{ROOM, Short};
+use crate::storage::{Storage, copied, joined, shared};
 use std::alloc::Global;
 use std::cmp::Ordering;
 use std::marker::Model;
+use std::mem;
 
 /// A byte string. Contracts see it as the list of its bytes.
+///
+/// Up to 16 bytes are kept in place; more in a vector, which copies share once `share` was called.
 #[derive(Debug, Drop)]
 pub struct Blob {
-    bytes: Vec<u8>,
+    alloc: Global,
+    storage: Storage,
 }
 
 impl Model for Blob {
+    ghost use Rattle.std.specs.Prelude.{ℕ, List};
+    ghost use Rattle.zy_base.specs.Blob.{bytes_of, IsWithin};
+
     ghost Value = { List ℕ };
 
-    ghost view = { λ b. b.bytes.items };
+    ghost view = { λ b. bytes_of b.storage };
+
+    ghost invariant = { λ b. IsWithin b.storage };
 }
 
 impl Blob {
@@ -28,7 +39,8 @@ impl Blob {
         ensures value { result ≡ [] }
     {
         Blob {
-            bytes: Vec::new(alloc),
+            alloc,
+            storage: Storage::Short(Short::new()),
         }
     }
 
@@ -36,23 +48,55 @@ impl Blob {
     pub fn copy_of(alloc: Global, bytes: &[u8]) -> Result<Blob, NoMemory>
         ensures value { IfOk result (λ copy. copy ≡ bytes.now) }
     {
-        let mut copy = Blob::new(alloc);
-        copy.append(bytes)?;
-        Ok(copy)
+        match copied(alloc, bytes) {
+            Ok(storage) => Ok(Blob { alloc, storage }),
+            Err(refused) => Err(refused),
+        }
     }
 
     /// The bytes of a vector, which it takes over. Takes no memory.
     pub fn from_vec(bytes: Vec<u8>) -> Blob
         ensures value { result ≡ bytes.items }
     {
-        Blob { bytes }
+        Blob {
+            alloc: *bytes.allocator(),
+            storage: Storage::Own(bytes),
+        }
     }
 
-    /// The same bytes.
+    /// The same bytes. Takes no memory where they are in place or shared.
     pub fn copy(&self) -> Result<Blob, NoMemory>
         ensures value { IfOk result (λ copy. copy ≡ self.now) }
     {
-        Blob::copy_of(*self.bytes.allocator(), self.bytes())
+        match self.storage.copy(self.alloc) {
+            Ok(storage) => Ok(Blob {
+                alloc: self.alloc,
+                storage,
+            }),
+            Err(refused) => Err(refused),
+        }
+    }
+
+    /// Lets copies share the bytes from now on.
+    pub fn share(&mut self) -> Result<(), NoMemory>
+        ensures value { self.new ≡ self.old }
+    {
+        match mem::replace(&mut self.storage, Storage::Short(Short::new())) {
+            Storage::Own(bytes) => match shared(self.alloc, bytes) {
+                Ok(storage) => {
+                    self.storage = storage;
+                    Ok(())
+                }
+                Err(storage) => {
+                    self.storage = storage;
+                    Err(NoMemory)
+                }
+            },
+            storage => {
+                self.storage = storage;
+                Ok(())
+            }
+        }
     }
 
     /// Appends the bytes.
@@ -60,9 +104,30 @@ impl Blob {
         ensures ok { OnOk result (self.new ≡ self.old ++ bytes.now) }
         ensures err { OnErr result (self.new ≡ self.old) }
     {
-        match self.bytes.extend_from_slice(bytes) {
-            Ok(()) => Ok(()),
-            Err(_) => Err(NoMemory),
+        match &mut self.storage {
+            Storage::Short(short) if bytes.len() <= ROOM - short.bytes().len() => {
+                short.append(bytes);
+                Ok(())
+            }
+            Storage::Own(own) => match own.extend_from_slice(bytes) {
+                Ok(()) => Ok(()),
+                Err(_) => Err(NoMemory),
+            },
+            _ => self.append_anew(bytes),
+        }
+    }
+
+    // Appends the bytes, in a new vector.
+    fn append_anew(&mut self, bytes: &[u8]) -> Result<(), NoMemory>
+        ensures ok { OnOk result (self.new ≡ self.old ++ bytes.now) }
+        ensures err { OnErr result (self.new ≡ self.old) }
+    {
+        match joined(self.alloc, self.storage.bytes(), bytes) {
+            Ok(storage) => {
+                self.storage = storage;
+                Ok(())
+            }
+            Err(refused) => Err(refused),
         }
     }
 
@@ -70,21 +135,14 @@ impl Blob {
     pub fn truncate(&mut self, len: usize)
         ensures value { self.new ≡ take len self.old }
     {
-        self.bytes.truncate(len);
+        self.storage.truncate(len);
     }
 
     /// The bytes.
     pub fn bytes(&self) -> &[u8]
         ensures value { result.now ≡ self.now }
     {
-        self.bytes.as_slice()
-    }
-
-    /// The vector of the bytes. Takes no memory.
-    pub fn into_vec(self) -> Vec<u8>
-        ensures value { result.items ≡ self }
-    {
-        self.bytes
+        self.storage.bytes()
     }
 }
 

@@ -137,4 +137,33 @@ impl Call {
             Call::Flush => Ok(Call::Flush),
         }
     }
+
+    /// Lets copies share the bytes of key and value from now on.
+    pub fn share(&mut self) -> Result<(), NoMemory>
+        ensures value { self.new ≡ self.old }
+    {
+        match self {
+            Call::Get { key } => key.share(),
+            Call::Set { key, value, .. } => share_both(key, value),
+            Call::Add { key, value, .. } => share_both(key, value),
+            Call::Replace { key, value, .. } => share_both(key, value),
+            Call::Append { key, value } => share_both(key, value),
+            Call::Prepend { key, value } => share_both(key, value),
+            Call::Cas { key, value, .. } => share_both(key, value),
+            Call::Incr { key, .. } => key.share(),
+            Call::Decr { key, .. } => key.share(),
+            Call::Delete { key } => key.share(),
+            Call::Flush => Ok(()),
+        }
+    }
+}
+
+fn share_both(key: &mut Blob, value: &mut Blob) -> Result<(), NoMemory>
+    ensures key { key.new ≡ key.old }
+    ensures value { value.new ≡ value.old }
+{
+    match key.share() {
+        Ok(()) => value.share(),
+        Err(refused) => Err(refused),
+    }
 }

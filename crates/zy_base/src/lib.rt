@@ -19,6 +19,8 @@ mod number;
 mod outside;
 mod plain_shard;
 mod queue;
+mod short;
+mod storage;
 mod sure_sink;
 mod sure_source;
 #[cfg(test)]

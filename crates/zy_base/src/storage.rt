@@ -1,0 +1,118 @@
+//! Where the bytes of a byte string are.
+ghost use Rattle.std.specs.Prelude.{◌≡◌, ◌+◌, ◌≤◌, ◌<◌, ◌++◌, length, take, IfOk, IfErr};
+ghost use Rattle.zy_base.specs.Blob.{bytes_of, IsWithin};
+
+use crate::outside::NoMemory;
+use crate::short::{ROOM, Short};
+use std::alloc::Global;
+use std::sync::Arc;
+
+// Where the bytes of a byte string are.
+#[derive(Debug, Drop)]
+pub(crate) enum Storage {
+    // In place.
+    Short(Short),
+    // In a vector of its own.
+    Own(Vec<u8>),
+    // The first bytes of a vector that may have more owners.
+    Shared { block: Arc<Vec<u8>>, len: usize },
+}
+
+impl Storage {
+    // The bytes.
+    pub(crate) fn bytes(&self) -> &[u8]
+        requires within { IsWithin self.now }
+        ensures value { result.now ≡ bytes_of self.now }
+    {
+        match self {
+            Storage::Short(short) => short.bytes(),
+            Storage::Own(bytes) => bytes.as_slice(),
+            Storage::Shared { block, len } => &block.as_slice()[..*len],
+        }
+    }
+
+    // The same bytes; shared bytes are not copied.
+    pub(crate) fn copy(&self, alloc: Global) -> Result<Storage, NoMemory>
+        requires within { IsWithin self.now }
+        ensures value { IfOk result (λ copy. bytes_of copy ≡ bytes_of self.now) }
+        ensures within { IfOk result (λ copy. IsWithin copy) }
+    {
+        match self {
+            Storage::Short(short) => Ok(Storage::Short(short.copy())),
+            Storage::Own(bytes) => copied(alloc, bytes.as_slice()),
+            Storage::Shared { block, len } => match Arc::try_clone(block) {
+                Ok(block) => Ok(Storage::Shared { block, len: *len }),
+                Err(_) => Err(NoMemory),
+            },
+        }
+    }
+
+    // Cuts the end off, so that so many bytes are left at most.
+    pub(crate) fn truncate(&mut self, len: usize)
+        requires within { IsWithin self.old }
+        ensures value { bytes_of self.new ≡ take len (bytes_of self.old) }
+        ensures within { IsWithin self.new }
+    {
+        match self {
+            Storage::Short(short) => short.truncate(len),
+            Storage::Own(bytes) => bytes.truncate(len),
+            Storage::Shared { len: all, .. } => {
+                if len < *all {
+                    *all = len;
+                }
+            }
+        }
+    }
+}
+
+// A copy of bytes, in place where they fit.
+pub(crate) fn copied(alloc: Global, bytes: &[u8]) -> Result<Storage, NoMemory>
+    ensures value { IfOk result (λ copy. bytes_of copy ≡ bytes.now) }
+    ensures within { IfOk result (λ copy. IsWithin copy) }
+{
+    if bytes.len() <= ROOM {
+        return Ok(in_place(bytes));
+    }
+    match Vec::from_slice(alloc, bytes) {
+        Ok(bytes) => Ok(Storage::Own(bytes)),
+        Err(_) => Err(NoMemory),
+    }
+}
+
+// Bytes and then more, in a new vector.
+pub(crate) fn joined(alloc: Global, front: &[u8], back: &[u8]) -> Result<Storage, NoMemory>
+    ensures value { IfOk result (λ copy. bytes_of copy ≡ front.now ++ back.now) }
+    ensures within { IfOk result (λ copy. IsWithin copy) }
+{
+    let mut bytes = Vec::new(alloc);
+    if bytes.extend_from_slice(front).is_err() || bytes.extend_from_slice(back).is_err() {
+        return Err(NoMemory);
+    }
+    Ok(Storage::Own(bytes))
+}
+
+// The bytes of a vector, for more owners. After a refusal they have the one owner.
+pub(crate) fn shared(alloc: Global, bytes: Vec<u8>) -> Result<Storage, Storage>
+    ensures ok { IfOk result (λ kept. IsWithin kept × (bytes_of kept ≡ bytes.items)) }
+    ensures err { IfErr result (λ kept. IsWithin kept × (bytes_of kept ≡ bytes.items)) }
+{
+    let len = bytes.len();
+    if len <= ROOM {
+        return Ok(in_place(bytes.as_slice()));
+    }
+    match Arc::new(alloc, bytes) {
+        Ok(block) => Ok(Storage::Shared { block, len }),
+        Err(refused) => Err(Storage::Own(refused.value)),
+    }
+}
+
+// Bytes that are few, in place.
+fn in_place(bytes: &[u8]) -> Storage
+    requires few { length bytes.now ≤ 16 }
+    ensures value { bytes_of result ≡ bytes.now }
+    ensures within { IsWithin result }
+{
+    let mut short = Short::new();
+    short.append(bytes);
+    Storage::Short(short)
+}
