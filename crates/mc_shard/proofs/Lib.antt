@@ -1,4 +1,4 @@
 pub mod MapLemmas
-pub mod HistoryLemmas
+pub mod SoundLemmas
 pub mod UniqueLemmas
 pub mod KeyLemmas

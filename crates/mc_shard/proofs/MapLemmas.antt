@@ -1,22 +1,44 @@
 -- The entries of an ordered map, as a finite map: lookups, and what a change at one key makes.
-use Rattle.std.proofs.Common.{◌≡◌, ℕ, List, [], ◌∷◌, refl, sym, ap, ◌∙◌}
-use Rattle.std.specs.Prelude.{Option, Some, None, cond}
-use Rattle.std.specs.Ordering.{nat_cmp}
+use Rattle.std.proofs.Common.{◌≡◌, ℕ, List, [], ◌∷◌, refl, sym, ap, subst, ◌∙◌}
+use Rattle.std.specs.Prelude.{Option, Some, None, cond, true, false}
+use Rattle.std.specs.declared.cmp.Ordering.{Ordering}
+use Rattle.std.specs.declared.cmp.Ordering.TheVariants.{Less, Equal, Greater}
+use Rattle.std.specs.Ordering.{nat_cmp, is_eq, ordering_then}
 use Rattle.std.specs.Cmp.{eq_by_cmp_equiv}
+use Rattle.std.proofs.lemmas.Cmp.{tied_itself}
 use Rattle.std.specs.Cmp.Lexicographic.{slice_cmp, nat_list_cmp_total}
 use Rattle.std.specs.FinMap.{find, get, insert, remove, get-insert, get-remove, get-from_entries, same_map, slice_cmp-IsAntisymmetric, nat_cmp-IsAntisymmetric}
 use Rattle.std.specs.Map.{lookup}
 use Rattle.std.specs.BTreeMap.{is_at}
 use Rattle.zy_base.specs.declared.item.Item.{Item}
-use Rattle.mc_shard.specs.Shard.{items_in}
+use Rattle.zy_base.specs.Key.{hash_of}
+use Rattle.mc_shard.specs.Contents.{hashed_cmp, hashed_total, items_in}
 
 -- what the entries have at a key
 abbrev pub item_in : List (List ℕ × Item) → List ℕ → Option Item
-item_in entries key = lookup (is_at (slice_cmp nat_cmp key)) entries
+item_in entries key = lookup (is_at (hashed_cmp key)) entries
+
+-- where keys differ, their hashes decide or they do
+differ_by : (hashes keys : Ordering) → is_eq keys ≡ false → is_eq (ordering_then hashes keys) ≡ false
+differ_by Less keys differ = refl
+differ_by Equal keys differ = differ
+differ_by Greater keys differ = refl
+
+alike_by : (key q : List ℕ) (order : Ordering) → order ≡ slice_cmp nat_cmp key q → is_at (hashed_cmp key) q ≡ is_eq order
+alike_by key q Equal same =
+    let equal : key ≡ q = slice_cmp-IsAntisymmetric nat_cmp-IsAntisymmetric key q (sym same) in
+    subst (λ (k : List ℕ). is_at (hashed_cmp key) k ≡ true) equal (ap is_eq (tied_itself hashed_total key))
+alike_by key q Less same = differ_by (nat_cmp (hash_of key) (hash_of q)) (slice_cmp nat_cmp key q) (ap is_eq (sym same))
+alike_by key q Greater same = differ_by (nat_cmp (hash_of key) (hash_of q)) (slice_cmp nat_cmp key q) (ap is_eq (sym same))
+
+-- the order by hashes finds the keys that the order of a dictionary finds
+alike : (key q : List ℕ) → is_at (slice_cmp nat_cmp key) q ≡ is_at (hashed_cmp key) q
+alike key q = sym (alike_by key q (slice_cmp nat_cmp key q) refl)
 
 find_lookup : (entries : List (List ℕ × Item)) (key : List ℕ) → find (slice_cmp nat_cmp) key entries ≡ item_in entries key
 find_lookup [] key = refl
-find_lookup (e ∷ es) key = ap (cond (is_at (slice_cmp nat_cmp key) e.0) (Some e.1)) (find_lookup es key)
+find_lookup (e ∷ es) key =
+    ap (λ t. cond t (Some e.1) (find (slice_cmp nat_cmp) key es)) (alike key e.0) ∙ ap (cond (is_at (hashed_cmp key) e.0) (Some e.1)) (find_lookup es key)
 
 -- what the map that the entries make has at a key
 pub get-items_in : (entries : List (List ℕ × Item)) (key : List ℕ) → get (items_in entries) key ≡ item_in entries key
@@ -27,14 +49,14 @@ same_key key q a b = ap (λ t. cond t a b) ((eq_by_cmp_equiv nat_list_cmp_total)
 
 -- entries that differ at one key, where the new ones have an item, make maps that differ so
 pub items_in-stored : (old new : List (List ℕ × Item)) (key : List ℕ) (item : Item)
-    → ((q : List ℕ) → item_in new q ≡ cond (is_at (slice_cmp nat_cmp key) q) (Some item) (item_in old q)) → items_in new ≡ insert (items_in old) key item
+    → ((q : List ℕ) → item_in new q ≡ cond (is_at (hashed_cmp key) q) (Some item) (item_in old q)) → items_in new ≡ insert (items_in old) key item
 items_in-stored old new key item is = same_map nat_list_cmp_total (slice_cmp-IsAntisymmetric nat_cmp-IsAntisymmetric) _ _ (λ q.
-    get-items_in new q ∙ is q ∙ ap (cond (is_at (slice_cmp nat_cmp key) q) (Some item)) (sym (get-items_in old q))
+    get-items_in new q ∙ is q ∙ ap (λ t. cond t (Some item) (item_in old q)) (sym (alike key q)) ∙ ap (cond (is_at (slice_cmp nat_cmp key) q) (Some item)) (sym (get-items_in old q))
     ∙ same_key key q (Some item) (get (items_in old) q) ∙ sym (get-insert nat_list_cmp_total (items_in old) key item q))
 
 -- entries that differ at one key, where the new ones have no item, make maps that differ so
 pub items_in-removed : (old new : List (List ℕ × Item)) (key : List ℕ)
-    → ((q : List ℕ) → item_in new q ≡ cond (is_at (slice_cmp nat_cmp key) q) None (item_in old q)) → items_in new ≡ remove (items_in old) key
+    → ((q : List ℕ) → item_in new q ≡ cond (is_at (hashed_cmp key) q) None (item_in old q)) → items_in new ≡ remove (items_in old) key
 items_in-removed old new key is = same_map nat_list_cmp_total (slice_cmp-IsAntisymmetric nat_cmp-IsAntisymmetric) _ _ (λ q.
-    get-items_in new q ∙ is q ∙ ap (cond (is_at (slice_cmp nat_cmp key) q) None) (sym (get-items_in old q))
+    get-items_in new q ∙ is q ∙ ap (λ t. cond t None (item_in old q)) (sym (alike key q)) ∙ ap (cond (is_at (slice_cmp nat_cmp key) q) None) (sym (get-items_in old q))
     ∙ same_key key q None (get (items_in old) q) ∙ sym (get-remove nat_list_cmp_total (items_in old) key q))

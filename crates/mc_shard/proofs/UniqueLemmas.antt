@@ -4,10 +4,45 @@ use Rattle.std.specs.Prelude.{◌==◌}
 use Rattle.std.proofs.lemmas.Bool.{eqb-true, eqb-false, eq-eqb, ne_eqb}
 use Rattle.std.proofs.lemmas.Nat.{mod-mul-add}
 use Rattle.std.proofs.Math.Nat.{mul_comm}
+use Rattle.std.specs.Prelude.{Some}
+use Rattle.std.specs.Ordering.{is_eq}
+use Rattle.std.specs.Cmp.Lexicographic.{nat_list_cmp_total}
+use Rattle.std.specs.FinMap.{get, insert, get-insert}
+use Rattle.std.proofs.lemmas.Cmp.{tied_itself}
+use Rattle.zy_base.specs.declared.item.Item.{Item}
 use Rattle.zy_base.specs.declared.entry.Entry.{Entry}
-use Rattle.zy_base.specs.Shard.{State, empty_state, Effect, keeps, stores, removes, empties, unique_of, outcome_on, state_with, state_after}
+use Rattle.zy_base.specs.Shard.{Items, State, empty_state, Effect, keeps, stores, removes, empties, unique_of, outcome_on, state_with, state_after}
 use Rattle.zy_base.specs.History.{IsLegal, IsLegalFrom, states_after}
-use Rattle.mc_shard.specs.Uniques.{given_by, given, uniques_from, uniques_at, AreRising, IsIn}
+use Rattle.mc_shard.specs.Uniques.{unique_in, given_by, given, uniques_from, uniques_at, AreRising, IsIn}
+
+-- ---- what is given
+
+-- the unique that an effect gives, where the next is this one
+abbrev pub next_by : ℕ → Effect → List ℕ
+next_by unique keeps = []
+next_by unique (stores key flags value) = unique ∷ []
+next_by unique (removes key) = []
+next_by unique empties = []
+
+-- the unique that an entry's call gives is the next of its shard
+abbrev next_given : ℕ → (ℕ → State) → Entry → List ℕ
+next_given shards states e =
+    next_by (unique_of shards e.shard ((states e.shard).count + 1)) (outcome_on (states e.shard).items e.call).effect
+
+-- what is put at a key is found there
+found_there : (items : Items) (key : List ℕ) (item : Item) → get (insert items key item) key ≡ Some item
+found_there items key item =
+    get-insert nat_list_cmp_total items key item key ∙ ap (λ order. cond (is_eq order) (Some item) (get items key)) (tied_itself nat_list_cmp_total key)
+
+given_is : (shards number : ℕ) (state : State) (effect : Effect) → given_by (state_with shards number state effect).items effect ≡ next_by (unique_of shards number (state.count + 1)) effect
+given_is shards number state keeps = refl
+given_is shards number state (stores key flags value) =
+    ap unique_in (found_there state.items key (record { flags = flags; value = value; unique = unique_of shards number (state.count + 1) }))
+given_is shards number state (removes key) = refl
+given_is shards number state empties = refl
+
+given_is_next : (shards : ℕ) (states : ℕ → State) (e : Entry) → given shards states e ≡ next_given shards states e
+given_is_next shards states e = given_is shards e.shard (states e.shard) (outcome_on (states e.shard).items e.call).effect
 
 -- ---- on one shard
 
@@ -18,7 +53,7 @@ next_above shards number count some = grind arith
 -- what an effect gives, with what follows
 rise_after : (shards number before : ℕ) (state : State) (effect : Effect) (rest : List ℕ) → 1 ≤ shards → before < unique_of shards number (state.count + 1)
     → ((before' : ℕ) → before' < unique_of shards number ((state_with shards number state effect).count + 1) → AreRising before' rest)
-    → AreRising before (given_by (unique_of shards number (state.count + 1)) effect ++ rest)
+    → AreRising before (next_by (unique_of shards number (state.count + 1)) effect ++ rest)
 rise_after shards number before state keeps rest some above more = more before above
 rise_after shards number before state (stores key flags value) rest some above more = (above, more _ (next_above shards number state.count some))
 rise_after shards number before state (removes key) rest some above more = more before above
@@ -50,8 +85,8 @@ rise_here : (shards before : ℕ) (states : ℕ → State) (e : Entry) (rest : L
     → ((before' : ℕ) → IsBelowNext shards e.shard (states_after shards states e e.shard) before' → AreRising before' rest)
     → AreRising before (given shards states e ++ rest)
 rise_here shards before states e rest some above more =
-    rise_after shards e.shard before (states e.shard) (outcome_on (states e.shard).items e.call).effect rest some above
-    (λ before' above'. more before' (subst (λ s. IsBelowNext shards e.shard s before') (sym (state_here shards states e)) above'))
+    subst (λ unique. AreRising before (unique ++ rest)) (sym (given_is_next shards states e)) (rise_after shards e.shard before (states e.shard) (outcome_on (states e.shard).items e.call).effect rest some above
+    (λ before' above'. more before' (subst (λ s. IsBelowNext shards e.shard s before') (sym (state_here shards states e)) above')))
 
 rise_step : (shards number before : ℕ) (states : ℕ → State) (e : Entry) (rest : List ℕ) (b : Bool) → (e.shard == number) ≡ b → 1 ≤ shards → IsBelowNext shards number (states number) before
     → ((before' : ℕ) → IsBelowNext shards number (states_after shards states e number) before' → AreRising before' rest)
@@ -89,7 +124,7 @@ pub record IsOf (shards number unique : ℕ) : Type 0 where
   pub is : unique ≡ unique_of shards number count
 
 of_effect : (shards number count unique : ℕ) (effect : Effect) (rest : List ℕ) → number < shards → (IsIn rest unique → IsOf shards number unique)
-    → IsIn (given_by (unique_of shards number count) effect ++ rest) unique → IsOf shards number unique
+    → IsIn (next_by (unique_of shards number count) effect ++ rest) unique → IsOf shards number unique
 of_effect shards number count unique keeps rest within more among = more among
 of_effect shards number count unique (stores key flags value) rest within more among = ⊎_elim (λ is. record { within = within; count = count; is = is }) more among
 of_effect shards number count unique (removes key) rest within more among = more among
@@ -100,7 +135,8 @@ of_step : (shards number unique : ℕ) (states : ℕ → State) (e : Entry) (res
 of_step shards number unique states e rest true is within more among =
     let here : e.shard ≡ number = eqb-true e.shard number is in
     subst (λ n. IsOf shards n unique) here
-    (of_effect shards e.shard ((states e.shard).count + 1) unique (outcome_on (states e.shard).items e.call).effect rest within (λ later. subst (λ n. IsOf shards n unique) (sym here) (more later)) among)
+    (of_effect shards e.shard ((states e.shard).count + 1) unique (outcome_on (states e.shard).items e.call).effect rest within (λ later. subst (λ n. IsOf shards n unique) (sym here) (more later))
+    (subst (λ given. IsIn (given ++ rest) unique) (given_is_next shards states e) among))
 of_step shards number unique states e rest false is within more among = more among
 
 -- what is given on a shard is a unique of that shard

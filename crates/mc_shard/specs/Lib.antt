@@ -1,5 +1,6 @@
 pub mod Shard
-pub mod Effect
+pub mod Contents
+pub mod Step
 pub mod Uniques
 pub mod KeyReplies
 pub mod Laws

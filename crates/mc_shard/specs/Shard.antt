@@ -1,11 +1,9 @@
--- What a shard is to contracts: its number among so many, and the history of its calls.
+-- What a shard is to contracts: its number among so many, what it has, and the history of its calls.
 use Rattle.std.specs.Prelude.{◌≡◌, ℕ, ◌<◌, ◌≤◌, List, [], ◌∷◌, ◌++◌}
-use Rattle.std.specs.FinMap.{from_entries}
-use Rattle.zy_base.specs.declared.item.Item.{Item}
 use Rattle.zy_base.specs.declared.call.Call.{Call}
 use Rattle.zy_base.specs.declared.call_reply.CallReply.{CallReply}
 use Rattle.zy_base.specs.declared.entry.Entry.{Entry}
-use Rattle.zy_base.specs.Shard.{Items, State, empty_state, reply_to, state_after}
+use Rattle.zy_base.specs.Shard.{State, empty_state, reply_to, state_after}
 use Rattle.zy_base.specs.History.{IsHistory, replayed}
 use Rattle.zy_base.specs.Order.{last_stamp}
 
@@ -16,43 +14,38 @@ pub record Kept : Type 0 where
   pub number : ℕ
   -- how many shards there are
   pub shards : ℕ
+  -- its items and its counter
+  pub state : State
   -- its calls with its answers, the oldest first
   pub history : List Entry
 
--- the shard with this number, of so many, with this history
+-- the shard with this number, of so many, with this history and what the history leaves
 abbrev pub kept : ℕ → ℕ → List Entry → Kept
-kept number shards history = record { number = number; shards = shards; history = history }
-
--- its items and its counter: what its history leaves of an empty shard
-abbrev pub state_of : Kept → State
-state_of shard = replayed shard.shards shard.number empty_state shard.history
+kept number shards history =
+    record { number = number; shards = shards; state = replayed shards number empty_state history; history = history }
 
 -- the stamp of its last entry, 0 without entries
 abbrev pub last_of : Kept → ℕ
 last_of shard = last_stamp 0 shard.history
 
--- the shard with one more entry in its history
-abbrev pub with_entry : Kept → Entry → Kept
-with_entry shard entry = kept shard.number shard.shards (shard.history ++ entry ∷ [])
-
 -- what the shard answers to a call
 abbrev pub reply_of : Kept → Call → CallReply
-reply_of shard call = reply_to (state_of shard) call
+reply_of shard call = reply_to shard.state call
 
 -- its items and its counter after a call
 abbrev pub state_past : Kept → Call → State
-state_past shard call = state_after shard.shards shard.number (state_of shard) call
+state_past shard call = state_after shard.shards shard.number shard.state call
+
+-- the shard after the call of an entry, which is appended to its history
+abbrev pub with_entry : Kept → Entry → Kept
+with_entry shard entry =
+    record shard { state = state_past shard entry.call; history = shard.history ++ entry ∷ [] }
 
 -- ---- what holds of every shard
 
--- the items that the entries of a map make
-abbrev pub items_in : List (List ℕ × Item) → Items
-items_in entries = from_entries entries
-
--- the counter and the map have what the history leaves, and the last stamp is the history's
-pub record IsSound (number shards last count : ℕ) (entries : List (List ℕ × Item)) (history : List Entry) : Type 0 where
-  pub within : number < shards
-  pub few : shards ≤ 256
-  pub history_is : IsHistory shards number history
-  pub state_is : record { items = items_in entries; count = count } ≡ replayed shards number empty_state history
-  pub last_is : last ≡ last_stamp 0 history
+-- its history is one of the shard with its number, and its items and its counter are what that leaves
+pub record IsSound (shard : Kept) : Type 0 where
+  pub within : shard.number < shard.shards
+  pub few : shard.shards ≤ 256
+  pub history : IsHistory shard.shards shard.number shard.history
+  pub state : shard.state ≡ replayed shard.shards shard.number empty_state shard.history

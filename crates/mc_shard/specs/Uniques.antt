@@ -1,20 +1,27 @@
 -- The uniques that the calls of a list give.
-use Rattle.std.specs.Prelude.{◌≡◌, ◌⊎◌, ℕ, ◌+◌, ◌<◌, ◌==◌, if◌then◌else◌, List, [], ◌∷◌, ◌++◌}
+use Rattle.std.specs.Prelude.{◌≡◌, ◌⊎◌, ℕ, ◌<◌, ◌==◌, if◌then◌else◌, List, [], ◌∷◌, ◌++◌, Option, None, Some}
+use Rattle.std.specs.FinMap.{get}
+use Rattle.zy_base.specs.declared.item.Item.{Item}
 use Rattle.zy_base.specs.declared.entry.Entry.{Entry}
-use Rattle.zy_base.specs.Shard.{State, Effect, keeps, stores, removes, empties, empty_state, unique_of, outcome_on}
+use Rattle.zy_base.specs.Shard.{Items, State, Effect, keeps, stores, removes, empties, empty_state, outcome_on, state_after}
 use Rattle.zy_base.specs.History.{states_after}
 
--- the unique that an effect gives, where the next is this one; only what is stored gets one
-abbrev pub given_by : ℕ → Effect → List ℕ
-given_by unique keeps = []
-given_by unique (stores key flags value) = unique ∷ []
-given_by unique (removes key) = []
-given_by unique empties = []
+-- the unique of what is found
+abbrev pub unique_in : Option Item → List ℕ
+unique_in None = []
+unique_in (Some item) = item.unique ∷ []
+
+-- the unique that an effect gives: that which the key's item then has; only what is stored gets one
+abbrev pub given_by : Items → Effect → List ℕ
+given_by after keeps = []
+given_by after (stores key flags value) = unique_in (get after key)
+given_by after (removes key) = []
+given_by after empties = []
 
 -- the unique that an entry's call gives, where the shards are in these states
 abbrev pub given : ℕ → (ℕ → State) → Entry → List ℕ
 given shards states e =
-    given_by (unique_of shards e.shard ((states e.shard).count + 1)) (outcome_on (states e.shard).items e.call).effect
+    given_by (state_after shards e.shard (states e.shard) e.call).items (outcome_on (states e.shard).items e.call).effect
 
 -- the uniques that the calls on one shard give, in the list's order, where the shards begin in these states
 abbrev pub uniques_from : ℕ → ℕ → (ℕ → State) → List Entry → List ℕ

@@ -1,11 +1,12 @@
 //! One shard of the store, with the history of its calls.
 #![tactic(auto)]
 
-mod effect;
-mod items;
+mod change;
+mod contents;
+mod hashed;
 mod laws;
-mod outcome;
 mod shard;
+mod step;
 #[cfg(test)]
 mod tests;
 

@@ -1,37 +1,42 @@
 //! A shard of the store with the history of its calls.
-ghost use Rattle.std.specs.Prelude.{◌≡◌, ◌+◌, ◌^◌, ◌<◌, ◌≤◌, [], ◌∷◌, ◌++◌, length, max, IfOk, OnOk, OnErr};
-ghost use Rattle.zy_base.specs.Shard.{unique_of};
-ghost use Rattle.zy_base.specs.History.{IsHistory};
-ghost use Rattle.mc_shard.specs.Shard.{kept, state_of, last_of, reply_of, with_entry, state_past};
+ghost use Rattle.std.specs.Prelude.{◌≡◌, ◌+◌, ◌^◌, ◌<◌, ◌≤◌, [], length, max, IfOk, OnOk, OnErr};
+ghost use Rattle.zy_base.specs.Call.{key_of};
+ghost use Rattle.mc_shard.specs.Shard.{kept, last_of, reply_of, with_entry, state_past, IsSound};
 
-use crate::items::{carry_out, count_after, found};
-use crate::outcome::outcome;
+use crate::contents::Contents;
+use crate::hashed::Hashed;
+use crate::step::step_of;
 use std::alloc::Global;
-use std::collections::BTreeMap;
 use std::marker::Model;
-use zy_base::{Blob, Call, Entry, Item, NoMemory, Tag};
+use zy_base::{Call, Entry, NoMemory, Tag};
 
-/// A shard of the store: items by their keys, and the history of all calls on it. Contracts see it
-/// as its number, the number of shards, and the history, of which its items and its counter are
-/// the replay.
+/// A shard of the store: items by their keys, how many were ever stored, and the history of all
+/// calls on it. Contracts see it as its number, the number of shards, its items with their counter,
+/// and the history, of which these are the replay.
 #[derive(Drop)]
 pub struct Shard {
     number: u32,
     shards: u32,
     last: u64,
-    count: u64,
-    items: BTreeMap<Blob, Item>,
+    contents: Contents,
     history: Vec<Entry>,
 }
 
 impl Model for Shard {
-    ghost use Rattle.mc_shard.specs.Shard.{Kept, kept, IsSound};
+    ghost use Rattle.std.specs.Prelude.{◌≡◌};
+    ghost use Rattle.std.specs.Coded.{codes};
+    ghost use Rattle.mc_shard.specs.Shard.{Kept, last_of, IsSound};
+    ghost use Rattle.mc_shard.specs.Contents.{items_code};
 
     ghost Value = { Kept };
 
-    ghost view = { λ s. kept s.number s.shards s.history.items };
+    ghost coded = { Prim.hlevel (codes, items_code) };
 
-    ghost invariant = { λ s. IsSound s.number s.shards s.last s.count s.items.entries s.history.items };
+    ghost view = { λ s. record { number = s.number; shards = s.shards; state = s.contents; history = s.history.items } };
+
+    ghost invariant = { λ s.
+        let shard : Kept = record { number = s.number; shards = s.shards; state = s.contents; history = s.history.items } in
+        IsSound shard × (s.last ≡ last_of shard) };
 }
 
 impl Shard {
@@ -45,8 +50,7 @@ impl Shard {
             number,
             shards,
             last: 0,
-            count: 0,
-            items: BTreeMap::new(alloc),
+            contents: Contents::new(alloc),
             history: Vec::new(alloc),
         }
     }
@@ -61,8 +65,8 @@ impl Shard {
     /// The entries of all calls, the oldest first.
     pub fn history(&self) -> &[Entry]
         ensures value { result.now ≡ self.now.history }
-        ensures sound { IsHistory self.now.shards self.now.number self.now.history }
-        ensures count { (state_of self.now).count ≤ length self.now.history }
+        ensures sound { IsSound self.now }
+        ensures count { self.now.state.count ≤ length self.now.history }
     {
         self.history.as_slice()
     }
@@ -73,7 +77,7 @@ impl Shard {
     pub fn apply(&mut self, tag: Tag, call: Call, seen: u64) -> Result<Entry, NoMemory>
         requires last { last_of self.old < 2 ^ 60 }
         requires seen { seen < 2 ^ 60 }
-        requires count { (state_of self.old).count < 2 ^ 52 }
+        requires count { self.old.state.count < 2 ^ 52 }
 
         // The entry.
         ensures tag { IfOk result (λ entry. entry.tag ≡ tag) }
@@ -84,39 +88,66 @@ impl Shard {
 
         // The shard.
         ensures ok { IfOk result (λ entry. self.new ≡ with_entry self.old entry) }
-        ensures state { OnOk result (state_of self.new ≡ state_past self.old call) }
+        ensures state { OnOk result (self.new.state ≡ state_past self.old call) }
         ensures err { OnErr result (self.new ≡ self.old) }
-        ensures sound { IsHistory self.new.shards self.new.number self.new.history }
+        ensures sound { IsSound self.new }
+    {
+        let _ = &self.number;
+        match shared(call) {
+            Ok((call, key)) => self.apply_shared(tag, call, key, seen),
+            Err(refused) => Err(refused),
+        }
+    }
+
+    // The same for a call whose bytes are shared, so that no copy here takes memory.
+    fn apply_shared(
+        &mut self,
+        tag: Tag,
+        call: Call,
+        key: Option<Hashed>,
+        seen: u64,
+    ) -> Result<Entry, NoMemory>
+        requires last { last_of self.old < 2 ^ 60 }
+        requires seen { seen < 2 ^ 60 }
+        requires count { self.old.state.count < 2 ^ 52 }
+        requires key { key ≡ key_of call }
+        ensures tag { IfOk result (λ entry. entry.tag ≡ tag) }
+        ensures shard { IfOk result (λ entry. entry.shard ≡ self.old.number) }
+        ensures call { IfOk result (λ entry. entry.call ≡ call) }
+        ensures reply { IfOk result (λ entry. entry.reply ≡ reply_of self.old call) }
+        ensures stamp { IfOk result (λ entry. entry.stamp ≡ max (last_of self.old) seen + 1) }
+        ensures ok { IfOk result (λ entry. self.new ≡ with_entry self.old entry) }
+        ensures err { OnErr result (self.new ≡ self.old) }
+        ensures sound { IsSound self.new }
     {
         let stamp = self.last.max(seen) + 1;
-        let outcome = outcome(*self.history.allocator(), &call, found(&self.items, &call))?;
-        let unique = unique(self.number, self.shards, self.count);
-        let count = count_after(self.count, &outcome.effect);
+        let found = self.contents.found(&key);
+        let step = step_of(*self.history.allocator(), &call, found)?;
         let entry = Entry {
             tag,
             shard: self.number,
             call,
-            reply: outcome.reply,
+            reply: step.reply,
             stamp,
         };
         let copy = entry.copy()?;
         if self.history.reserve(1).is_err() {
             return Err(NoMemory);
         }
-        carry_out(&mut self.items, unique, outcome.effect)?;
+        self.contents
+            .carry_out(self.number, self.shards, key, step.change)?;
         self.history.push_reserved(entry);
         self.last = stamp;
-        self.count = count;
         Ok(copy)
     }
 }
 
-// The unique of the next item that is stored.
-fn unique(number: u32, shards: u32, count: u64) -> u64
-    requires within { number < shards }
-    requires few { shards ≤ 256 }
-    requires room { count < 2 ^ 52 }
-    ensures value { result ≡ unique_of shards number (count + 1) }
+// The same call, whose copies share its bytes, and its key with the hash.
+fn shared(mut call: Call) -> Result<(Call, Option<Hashed>), NoMemory>
+    ensures call { IfOk result (λ shared. shared.0 ≡ call) }
+    ensures key { IfOk result (λ shared. shared.1 ≡ key_of call) }
 {
-    shards as u64 * (count + 1) + number as u64
+    call.share()?;
+    let key = Hashed::of_call(&call)?;
+    Ok((call, key))
 }

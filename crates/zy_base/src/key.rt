@@ -1,22 +1,22 @@
 //! Keys and their shards.
 ghost use Rattle.std.specs.Prelude.{◌≡◌, ◌<◌, ◌≤◌};
-ghost use Rattle.zy_base.specs.Key.{hash_of, shard_of as shard_of_key};
+ghost use Rattle.zy_base.specs.Key as keys;
 
 /// The number of a key's shard, of so many shards: its 32-bit FNV-1a hash, modulo their number.
 pub fn shard_of(key: &[u8], shards: u32) -> u32
     requires some { 1 ≤ shards }
-    ensures value { result ≡ shard_of_key key.now shards }
+    ensures value { result ≡ keys.shard_of key.now shards }
     ensures within { result < shards }
 {
     hash_of(key) % shards
 }
 
-// The 32-bit FNV-1a hash of bytes.
-fn hash_of(bytes: &[u8]) -> u32
-    ensures { result ≡ hash_of bytes.now }
+/// The 32-bit FNV-1a hash of a key.
+pub fn hash_of(key: &[u8]) -> u32
+    ensures value { result ≡ keys.hash_of key.now }
 {
     let mut hash: u32 = 2_166_136_261;
-    for byte in bytes {
+    for byte in key {
         hash = (hash ^ *byte as u32).wrapping_mul(16_777_619);
     }
     hash

@@ -37,7 +37,7 @@ pub use histories::Histories;
 pub use hold::{Hold, Holds};
 pub use item::Item;
 pub use items::Items;
-pub use key::shard_of;
+pub use key::{hash_of, shard_of};
 pub use mem_sink::MemSink;
 pub use mem_source::MemSource;
 pub use number::{number_text, read_number};

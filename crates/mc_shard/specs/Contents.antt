@@ -1,0 +1,36 @@
+-- The entries of an ordered map, as the items of a shard. No public clause cites this module.
+use Rattle.std.specs.Prelude.{ℕ, List, refl}
+use Rattle.std.specs.Coded.{Coded, code_by, coded×, coded_ℕ, coded_list}
+use Rattle.std.specs.declared.cmp.Ordering.{Ordering}
+use Rattle.std.specs.Ordering.{nat_cmp, ordering_then}
+use Rattle.std.specs.Cmp.{IsTotalOrder, then_total, on_total, nat_cmp_total}
+use Rattle.std.specs.Cmp.Lexicographic.{slice_cmp, nat_list_cmp_total}
+use Rattle.std.specs.FinMap.{from_entries, code}
+use Rattle.zy_base.specs.declared.item.Item.{Item}
+use Rattle.zy_base.specs.Key.{hash_of}
+use Rattle.zy_base.specs.Shard.{Items}
+
+-- the order of keys in the map: by their hashes, and keys of one hash as in a dictionary
+abbrev pub hashed_cmp : List ℕ → List ℕ → Ordering
+hashed_cmp a b = ordering_then (nat_cmp (hash_of a) (hash_of b)) (slice_cmp nat_cmp a b)
+
+pub hashed_total : IsTotalOrder hashed_cmp
+hashed_total = then_total (on_total hash_of nat_cmp_total) nat_list_cmp_total
+
+-- the items that the entries make
+abbrev pub items_in : List (List ℕ × Item) → Items
+items_in entries = from_entries entries
+
+-- ---- codes, by which these may be the value of a type
+
+-- an item is stored as its fields
+abbrev item_code : Coded Item
+item_code =
+    code_by (ℕ × (List ℕ × ℕ)) (coded× coded_ℕ (coded× (coded_list coded_ℕ) coded_ℕ))
+    (λ i. (i.flags, (i.value, i.unique)))
+    (λ p. record { flags = p.0; value = p.1.0; unique = p.1.1 })
+    (λ _. refl)
+
+-- and items as keys with their items
+abbrev pub items_code : Coded Items
+items_code = code (coded_list coded_ℕ) item_code

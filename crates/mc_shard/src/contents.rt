@@ -1,0 +1,130 @@
+//! The items of a shard with their counter, and what a call changes of them.
+ghost use Rattle.std.specs.Prelude.{◌≡◌, ◌+◌, ◌^◌, ◌<◌, ◌≤◌, OnOk, OnErr, option_copied};
+ghost use Rattle.std.specs.FinMap.{insert, remove, empty};
+ghost use Rattle.zy_base.specs.Shard.{item_at, empty_state, unique_of, state_with};
+ghost use Rattle.mc_shard.specs.Step.{effect_in};
+
+use crate::change::Change;
+use crate::hashed::Hashed;
+use std::alloc::Global;
+use std::collections::BTreeMap;
+use std::marker::Model;
+use zy_base::{Item, NoMemory};
+
+/// The items of a shard, and how many it ever stored. Contracts see it as both.
+#[derive(Drop)]
+pub struct Contents {
+    items: BTreeMap<Hashed, Item>,
+    count: u64,
+}
+
+impl Model for Contents {
+    ghost use Rattle.zy_base.specs.Shard.{State};
+    ghost use Rattle.std.specs.Coded.{codes};
+    ghost use Rattle.mc_shard.specs.Contents.{items_in, items_code};
+
+    ghost Value = { State };
+
+    ghost coded = { Prim.hlevel (codes, items_code) };
+
+    ghost view = { λ c. record { items = items_in c.items.entries; count = c.count } };
+}
+
+impl Contents {
+    /// No item was ever stored. Takes no memory.
+    pub fn new(alloc: Global) -> Contents
+        ensures value { result ≡ empty_state }
+    {
+        Contents {
+            items: BTreeMap::new(alloc),
+            count: 0,
+        }
+    }
+
+    /// The item of a key.
+    pub fn found(&self, key: &Option<Hashed>) -> Option<&Item>
+        ensures value { option_copied result ≡ item_at self.now.items key.now }
+    {
+        match key {
+            Some(key) => self.items.get(key),
+            None => None,
+        }
+    }
+
+    /// Carries out what a call on this key changes, on the shard with this number, of so many.
+    pub fn carry_out(
+        &mut self,
+        number: u32,
+        shards: u32,
+        key: Option<Hashed>,
+        change: Change,
+    ) -> Result<(), NoMemory>
+        requires within { number < shards }
+        requires few { shards ≤ 256 }
+        requires room { self.old.count < 2 ^ 52 }
+        ensures ok { OnOk result (self.new ≡ state_with shards number self.old (effect_in key change)) }
+        ensures err { OnErr result (self.new ≡ self.old) }
+    {
+        match (key, change) {
+            (Some(key), Change::Put { flags, value }) => {
+                let unique = unique(number, shards, self.count);
+                self.put(
+                    key,
+                    Item {
+                        flags,
+                        value,
+                        unique,
+                    },
+                )
+            }
+            (Some(key), Change::Remove) => {
+                self.remove(&key);
+                Ok(())
+            }
+            (_, Change::Clear) => {
+                self.clear();
+                Ok(())
+            }
+            _ => Ok(()),
+        }
+    }
+
+    // Puts the item at the key, and counts it.
+    fn put(&mut self, key: Hashed, item: Item) -> Result<(), NoMemory>
+        requires room { self.old.count < 2 ^ 52 }
+        ensures ok { OnOk result (self.new ≡ record { items = insert self.old.items key item; count = self.old.count + 1 }) }
+        ensures err { OnErr result (self.new ≡ self.old) }
+    {
+        match self.items.insert(key, item) {
+            Ok(_) => {
+                self.count += 1;
+                Ok(())
+            }
+            Err(_) => Err(NoMemory),
+        }
+    }
+
+    // Removes the item of the key.
+    fn remove(&mut self, key: &Hashed)
+        ensures value { self.new ≡ record { items = remove self.old.items key.now; count = self.old.count } }
+    {
+        self.items.remove(key);
+    }
+
+    // Removes all items.
+    fn clear(&mut self)
+        ensures value { self.new ≡ record { items = empty; count = self.old.count } }
+    {
+        self.items.clear();
+    }
+}
+
+// The unique of the next item that is stored.
+fn unique(number: u32, shards: u32, count: u64) -> u64
+    requires within { number < shards }
+    requires few { shards ≤ 256 }
+    requires room { count < 2 ^ 52 }
+    ensures value { result ≡ unique_of shards number (count + 1) }
+{
+    shards as u64 * (count + 1) + number as u64
+}

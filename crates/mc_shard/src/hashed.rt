@@ -1,0 +1,98 @@
+//! Keys with their hashes.
+ghost use Rattle.std.specs.Prelude.{◌≡◌, IfOk, Some, refl};
+ghost use Rattle.std.specs.Ordering.{eq_by_cmp};
+ghost use Rattle.std.specs.Cmp.{partial_equiv_from_equiv, partial_order_from_total, eq_by_cmp_equiv};
+ghost use Rattle.zy_base.specs.Call.{key_of};
+ghost use Rattle.mc_shard.specs.Contents.{hashed_cmp, hashed_total};
+
+use std::cmp::Ordering;
+use std::marker::Model;
+use zy_base::{Blob, Call, NoMemory, hash_of};
+
+/// A key with its hash. Contracts see it as the key.
+#[derive(Debug, Drop)]
+pub struct Hashed {
+    hash: u32,
+    key: Blob,
+}
+
+impl Model for Hashed {
+    ghost use Rattle.std.specs.Prelude.{◌≡◌, ℕ, List};
+    ghost use Rattle.zy_base.specs.Key.{hash_of};
+
+    ghost Value = { List ℕ };
+
+    ghost view = { λ k. k.key };
+
+    ghost invariant = { λ k. k.hash ≡ hash_of k.key };
+}
+
+impl Hashed {
+    /// A copy of the key of a call, with its hash; a flush has none.
+    pub fn of_call(call: &Call) -> Result<Option<Hashed>, NoMemory>
+        ensures value { IfOk result (λ key. key ≡ key_of call.now) }
+    {
+        match call.key() {
+            Some(key) => match Hashed::copy_of(key) {
+                Ok(key) => Ok(Some(key)),
+                Err(refused) => Err(refused),
+            },
+            None => Ok(None),
+        }
+    }
+
+    // A copy of a key, with its hash.
+    fn copy_of(key: &Blob) -> Result<Hashed, NoMemory>
+        ensures value { IfOk result (λ hashed. hashed ≡ key.now) }
+    {
+        match key.copy() {
+            Ok(key) => {
+                let hash = hash_of(key.bytes());
+                Ok(Hashed { hash, key })
+            }
+            Err(refused) => Err(refused),
+        }
+    }
+}
+
+impl PartialEq for Hashed {
+    ghost eq = { eq_by_cmp hashed_cmp };
+
+    ghost laws = { partial_equiv_from_equiv (eq_by_cmp_equiv hashed_total) };
+
+    fn eq(&self, other: &Hashed) -> bool {
+        matches!(self.cmp(other), Ordering::Equal)
+    }
+}
+
+impl Eq for Hashed {
+    ghost laws = { eq_by_cmp_equiv hashed_total };
+}
+
+impl PartialOrd for Hashed {
+    ghost partial_cmp = { λ x y. Some (hashed_cmp x y) };
+
+    ghost laws = { partial_order_from_total hashed_total };
+
+    fn partial_cmp(&self, other: &Hashed) -> Option<Ordering> {
+        Some(self.cmp(other))
+    }
+}
+
+// By the hashes, and keys of one hash in the order of a dictionary.
+impl Ord for Hashed {
+    ghost cmp = { hashed_cmp };
+
+    ghost total = { hashed_total };
+
+    ghost matches_partial_cmp = { λ x y. refl };
+
+    ghost matches_eq = { λ x y. refl };
+
+    fn cmp(&self, other: &Hashed) -> Ordering {
+        match self.hash.cmp(&other.hash) {
+            Ordering::Equal => self.key.cmp(&other.key),
+            order => order,
+        }
+    }
+}

@@ -1,0 +1,187 @@
+//! What each call answers and changes, where its key has no item and where it has one.
+ghost use Rattle.std.specs.Prelude.{◌≡◌, ℕ, List, ◌++◌, None, Some, option_copied};
+ghost use Rattle.zy_base.specs.declared.call_reply.CallReply.TheVariants.{Hit};
+ghost use Rattle.zy_base.specs.Call.{key_of};
+ghost use Rattle.zy_base.specs.Number.{number_of};
+ghost use Rattle.zy_base.specs.Shard as table;
+ghost use Rattle.mc_shard.specs.Step.{outcome_in, Gives};
+
+use crate::change::{Change, Step};
+use std::alloc::Global;
+use zy_base::{Blob, Call, CallReply, Item, NoMemory, number_text, read_number};
+
+// The most bytes that a value may have.
+const VALUE_LIMIT: usize = 1_048_576;
+
+/// What a call answers and changes, where its key has this item or none.
+pub fn step_of(alloc: Global, call: &Call, found: Option<&Item>) -> Result<Step, NoMemory>
+    ensures value { Gives (key_of call.now) result (table.outcome_of call.now (option_copied found.entry)) }
+{
+    match found {
+        None => step_without(call),
+        Some(item) => step_with(alloc, call, item),
+    }
+}
+
+// What a call answers and changes where its key has no item.
+fn step_without(call: &Call) -> Result<Step, NoMemory>
+    ensures value { Gives (key_of call.now) result (table.outcome_of call.now None) }
+{
+    match call {
+        Call::Get { .. } => Ok(reply_alone(CallReply::Miss)),
+        Call::Set { flags, value, .. } => put(*flags, value),
+        Call::Add { flags, value, .. } => put(*flags, value),
+        Call::Replace { .. } => Ok(reply_alone(CallReply::NotStored)),
+        Call::Append { .. } => Ok(reply_alone(CallReply::NotStored)),
+        Call::Prepend { .. } => Ok(reply_alone(CallReply::NotStored)),
+        Call::Cas { .. } => Ok(reply_alone(CallReply::NotFound)),
+        Call::Incr { .. } => Ok(reply_alone(CallReply::NotFound)),
+        Call::Decr { .. } => Ok(reply_alone(CallReply::NotFound)),
+        Call::Delete { .. } => Ok(reply_alone(CallReply::NotFound)),
+        Call::Flush => Ok(clear()),
+    }
+}
+
+// What a call answers and changes where its key has this item.
+fn step_with(alloc: Global, call: &Call, item: &Item) -> Result<Step, NoMemory>
+    ensures value { Gives (key_of call.now) result (table.outcome_of call.now (Some item.now)) }
+{
+    match call {
+        Call::Get { .. } => hit(item),
+        Call::Set { flags, value, .. } => put(*flags, value),
+        Call::Add { .. } => Ok(reply_alone(CallReply::NotStored)),
+        Call::Replace { flags, value, .. } => put(*flags, value),
+        Call::Append { value, .. } => join(item, &item.value, value),
+        Call::Prepend { value, .. } => join(item, value, &item.value),
+        Call::Cas {
+            flags,
+            unique,
+            value,
+            ..
+        } => exchange(item, *flags, *unique, value),
+        Call::Incr { amount, .. } => count_up(alloc, item, *amount),
+        Call::Decr { amount, .. } => count_down(alloc, item, *amount),
+        Call::Delete { .. } => Ok(remove()),
+        Call::Flush => Ok(clear()),
+    }
+}
+
+// An answer, and nothing changes.
+fn reply_alone(reply: CallReply) -> Step
+    ensures value { result ≡ record { reply = reply; change = Change.Nothing } }
+{
+    Step {
+        reply,
+        change: Change::Nothing,
+    }
+}
+
+// The item is answered.
+fn hit(item: &Item) -> Result<Step, NoMemory>
+    ensures value { (key : List ℕ) → Gives (Some key) result (table.answers (Hit item.now.flags item.now.unique item.now.value)) }
+{
+    Ok(reply_alone(CallReply::Hit {
+        flags: item.flags,
+        unique: item.unique,
+        value: item.value.copy()?,
+    }))
+}
+
+// An item is put at the key.
+fn put(flags: u32, value: &Blob) -> Result<Step, NoMemory>
+    ensures value { (key : List ℕ) → Gives (Some key) result (table.stored key flags value.now) }
+{
+    Ok(Step {
+        reply: CallReply::Stored,
+        change: Change::Put {
+            flags,
+            value: value.copy()?,
+        },
+    })
+}
+
+// The value that two values make is put with the item's flags, where it is not too large.
+fn join(item: &Item, front: &Blob, back: &Blob) -> Result<Step, NoMemory>
+    ensures value { (key : List ℕ) → Gives (Some key) result (table.joined key item.now (front.now ++ back.now)) }
+{
+    if front.bytes().len() + back.bytes().len() > VALUE_LIMIT {
+        return Ok(reply_alone(CallReply::TooLarge));
+    }
+    let mut value = front.copy()?;
+    value.append(back.bytes())?;
+    value.share()?;
+    Ok(Step {
+        reply: CallReply::Stored,
+        change: Change::Put {
+            flags: item.flags,
+            value,
+        },
+    })
+}
+
+// The item is exchanged where it has the unique that the caller saw.
+fn exchange(item: &Item, flags: u32, unique: u64, value: &Blob) -> Result<Step, NoMemory>
+    ensures value { (key : List ℕ) → Gives (Some key) result (table.exchanged key item.now flags unique value.now) }
+{
+    if item.unique == unique {
+        put(flags, value)
+    } else {
+        Ok(reply_alone(CallReply::Exists))
+    }
+}
+
+// A value that is a number is counted up, modulo 2^64.
+fn count_up(alloc: Global, item: &Item, amount: u64) -> Result<Step, NoMemory>
+    ensures value { (key : List ℕ) → Gives (Some key) result (table.counted_up key item.now amount (number_of item.now.value)) }
+{
+    match read_number(item.value.bytes()) {
+        Some(number) => put_number(alloc, item, number.wrapping_add(amount)),
+        None => Ok(reply_alone(CallReply::NotNumber)),
+    }
+}
+
+// A value that is a number is counted down, and not below 0.
+fn count_down(alloc: Global, item: &Item, amount: u64) -> Result<Step, NoMemory>
+    ensures value { (key : List ℕ) → Gives (Some key) result (table.counted_down key item.now amount (number_of item.now.value)) }
+{
+    match read_number(item.value.bytes()) {
+        Some(number) => put_number(alloc, item, number.saturating_sub(amount)),
+        None => Ok(reply_alone(CallReply::NotNumber)),
+    }
+}
+
+// The number is put as digits with the item's flags.
+fn put_number(alloc: Global, item: &Item, number: u64) -> Result<Step, NoMemory>
+    ensures value { (key : List ℕ) → Gives (Some key) result (table.counted key item.now number) }
+{
+    let mut value = Blob::new(alloc);
+    number_text(&mut value, number)?;
+    value.share()?;
+    Ok(Step {
+        reply: CallReply::Number { number },
+        change: Change::Put {
+            flags: item.flags,
+            value,
+        },
+    })
+}
+
+// The item of the key is removed.
+fn remove() -> Step
+    ensures value { result ≡ record { reply = CallReply.Deleted; change = Change.Remove } }
+{
+    Step {
+        reply: CallReply::Deleted,
+        change: Change::Remove,
+    }
+}
+
+// All items are removed.
+fn clear() -> Step
+    ensures value { result ≡ record { reply = CallReply.Flushed; change = Change.Clear } }
+{
+    Step {
+        reply: CallReply::Flushed,
+        change: Change::Clear,
+    }
+}
