@@ -1,44 +1,46 @@
 -- A shard is sound after a call.
-use Rattle.std.proofs.Common.{◌≡◌, ℕ, ◌<◌, ◌≤◌, List, [], ◌∷◌, ◌++◌, length, sym, ap, subst, ◌∙◌}
-use Rattle.std.specs.Prelude.{Option}
+use Rattle.std.proofs.Common.{◌≡◌, ℕ, ◌<◌, List, [], ◌∷◌, ◌++◌, sym, ap, subst, ◌∙◌}
+use Rattle.std.specs.Prelude.{Option, Result, Ok, Err, IfOk, OnOk}
+use Rattle.zy_base.specs.declared.call.Call.{Call}
 use Rattle.zy_base.specs.declared.entry.Entry.{Entry}
 use Rattle.zy_base.specs.Call.{key_of}
 use Rattle.zy_base.specs.Shard.{State, empty_state, Outcome, outcome_of, item_at, outcome_on, reply_to, state_with, state_after}
+use Rattle.zy_base.specs.History.{IsHistory, replayed}
 use Rattle.zy_base.specs.Order.{last_stamp}
 use Rattle.zy_base.proofs.EntryLemmas.{last_stamp-push}
-use Rattle.zy_base.proofs.ReplayLemmas.{replayed-push, IsHistory-push, counts_calls}
-use Rattle.mc_shard.specs.Shard.{Kept, last_of, state_past, with_entry, IsSound}
-
--- one more entry of the shard, with its reply and a stamp above the last
-pub IsSound-with_entry : (shard : Kept) (e : Entry) → IsSound shard → e.shard ≡ shard.number → last_of shard < e.stamp → e.reply ≡ reply_to shard.state e.call → IsSound (with_entry shard e)
-IsSound-with_entry shard e sound here above reply = record {
-  within = sound.within;
-  few = sound.few;
-  history = IsHistory-push shard.shards shard.number shard.history e sound.history here above (reply ∙ ap (λ state. reply_to state e.call) sound.state);
-  state = ap (λ state. state_after shard.shards shard.number state e.call) sound.state ∙ sym (replayed-push shard.shards shard.number empty_state shard.history e);
-}
+use Rattle.zy_base.proofs.ReplayLemmas.{replayed-push, IsHistory-push}
+use Rattle.mc_shard.specs.Shard.{Kept, state_of, with_entry, state_past}
+use Rattle.mc_shard.specs.Contents.{IsSound}
 
 -- what a shard is after a call, from what each step of the call gives
-pub applied : (shard : Kept) (last last' : ℕ) (state' : State) (es' : List Entry) (e : Entry) (key : Option (List ℕ)) (outcome : Outcome)
-    → IsSound shard × (last ≡ last_of shard)
+pub IsSound-applied : (number shards last last' : ℕ) (contents contents' : State) (es es' : List Entry) (e : Entry) (key : Option (List ℕ)) (outcome : Outcome)
+    → IsSound number shards last contents es
     → key ≡ key_of e.call
-    → outcome ≡ outcome_of e.call (item_at shard.state.items key)
-    → state' ≡ state_with shard.shards shard.number shard.state outcome.effect
-    → es' ≡ shard.history ++ e ∷ []
-    → e.shard ≡ shard.number
+    → outcome ≡ outcome_of e.call (item_at contents.items key)
+    → contents' ≡ state_with shards number contents outcome.effect
+    → es' ≡ es ++ e ∷ []
+    → e.shard ≡ number
     → e.stamp ≡ last'
     → last < last'
     → e.reply ≡ outcome.reply
-    → IsSound (record { number = shard.number; shards = shard.shards; state = state'; history = es' }) × (last' ≡ last_stamp 0 es')
-applied shard last last' state' es' e key outcome sound key_is outcome_is state_is longer here stamp above reply =
-    let of_table : outcome ≡ outcome_on shard.state.items e.call = outcome_is ∙ ap (λ k. outcome_of e.call (item_at shard.state.items k)) key_is in
-    let past : state' ≡ state_past shard e.call = state_is ∙ ap (λ (o : Outcome). state_with shard.shards shard.number shard.state o.effect) of_table in
-    let whole : record { number = shard.number; shards = shard.shards; state = state'; history = es' } ≡ with_entry shard e =
-    λ i. record { number = shard.number; shards = shard.shards; state = past i; history = longer i } in (
-      subst IsSound (sym whole) (IsSound-with_entry shard e sound.0 here (subst (λ n. n < e.stamp) sound.1 (subst (λ n. last < n) (sym stamp) above)) (reply ∙ ap (λ (o : Outcome). o.reply) of_table)),
-      sym stamp ∙ sym (last_stamp-push 0 shard.history e) ∙ ap (last_stamp 0) (sym longer),
-    )
+    → IsSound number shards last' contents' es'
+IsSound-applied number shards last last' contents contents' es es' e key outcome sound key_is outcome_is contents_are longer here stamp above reply =
+    let of_table : outcome ≡ outcome_on contents.items e.call = outcome_is ∙ ap (λ k. outcome_of e.call (item_at contents.items k)) key_is in
+    let past : contents' ≡ state_after shards number contents e.call = contents_are ∙ ap (λ (o : Outcome). state_with shards number contents o.effect) of_table in
+    let answered : e.reply ≡ reply_to (replayed shards number empty_state es) e.call =
+    reply ∙ ap (λ (o : Outcome). o.reply) of_table ∙ ap (λ (s : State). reply_to s e.call) sound.contents_are in
+    let higher : last_stamp 0 es < e.stamp = subst (λ n. n < e.stamp) sound.last_is (subst (λ n. last < n) (sym stamp) above) in
+    record {
+      within = sound.within;
+      few = sound.few;
+      history_is = subst (IsHistory shards number) (sym longer) (IsHistory-push shards number es e sound.history_is here higher answered);
+      contents_are = past ∙ ap (λ (s : State). state_after shards number s e.call) sound.contents_are ∙ sym (replayed-push shards number empty_state es e) ∙ ap (replayed shards number empty_state) (sym longer);
+      last_is = sym stamp ∙ sym (last_stamp-push 0 es e) ∙ ap (last_stamp 0) (sym longer);
+    }
 
--- a shard's counter is at most the number of its calls
-pub sound_count : (shard : Kept) → IsSound shard → shard.state.count ≤ length shard.history
-sound_count shard sound = subst (λ (state : State). state.count ≤ length shard.history) (sym sound.state) (counts_calls shard.shards shard.number shard.history)
+-- what a shard has after a call that was made, by the entry that was appended
+pub state_by : {E : Type 0} (old new : Kept) (call shared : Call) (result : Result Entry E)
+    → IfOk result (λ entry. new ≡ with_entry old entry) → IfOk result (λ entry. entry.call ≡ shared) → shared ≡ call → OnOk result (state_of new ≡ state_past old call)
+state_by old new call shared (Ok entry) longer of_call same =
+    ap state_of longer ∙ replayed-push old.shards old.number empty_state old.history entry ∙ ap (state_past old) (of_call ∙ same)
+state_by old new call shared (Err refused) longer of_call same = tt

@@ -1,5 +1,5 @@
--- The entries of an ordered map, as the items of a shard. No public clause cites this module.
-use Rattle.std.specs.Prelude.{ℕ, List, refl}
+-- What a shard has, and how that and its history belong together. No public clause cites this module.
+use Rattle.std.specs.Prelude.{◌≡◌, ℕ, ◌<◌, ◌≤◌, List, refl}
 use Rattle.std.specs.Coded.{Coded, code_by, coded×, coded_ℕ, coded_list}
 use Rattle.std.specs.declared.cmp.Ordering.{Ordering}
 use Rattle.std.specs.Ordering.{nat_cmp, ordering_then}
@@ -7,8 +7,11 @@ use Rattle.std.specs.Cmp.{IsTotalOrder, then_total, on_total, nat_cmp_total}
 use Rattle.std.specs.Cmp.Lexicographic.{slice_cmp, nat_list_cmp_total}
 use Rattle.std.specs.FinMap.{from_entries, code}
 use Rattle.zy_base.specs.declared.item.Item.{Item}
+use Rattle.zy_base.specs.declared.entry.Entry.{Entry}
 use Rattle.zy_base.specs.Key.{hash_of}
-use Rattle.zy_base.specs.Shard.{Items}
+use Rattle.zy_base.specs.Shard.{Items, State, empty_state}
+use Rattle.zy_base.specs.History.{IsHistory, replayed}
+use Rattle.zy_base.specs.Order.{last_stamp}
 
 -- the order of keys in the map: by their hashes, and keys of one hash as in a dictionary
 abbrev pub hashed_cmp : List ℕ → List ℕ → Ordering
@@ -20,6 +23,14 @@ hashed_total = then_total (on_total hash_of nat_cmp_total) nat_list_cmp_total
 -- the items that the entries make
 abbrev pub items_in : List (List ℕ × Item) → Items
 items_in entries = from_entries entries
+
+-- what every shard keeps: its items and its counter are what its history leaves, and the last stamp is the history's
+pub record IsSound (number shards last : ℕ) (contents : State) (history : List Entry) : Type 0 where
+  pub within : number < shards
+  pub few : shards ≤ 256
+  pub history_is : IsHistory shards number history
+  pub contents_are : contents ≡ replayed shards number empty_state history
+  pub last_is : last ≡ last_stamp 0 history
 
 -- ---- codes, by which these may be the value of a type
 

@@ -1,18 +1,19 @@
 //! A shard of the store with the history of its calls.
 ghost use Rattle.std.specs.Prelude.{◌≡◌, ◌+◌, ◌^◌, ◌<◌, ◌≤◌, [], length, max, IfOk, OnOk, OnErr};
 ghost use Rattle.zy_base.specs.Call.{key_of};
-ghost use Rattle.mc_shard.specs.Shard.{kept, last_of, reply_of, with_entry, state_past, IsSound};
+ghost use Rattle.zy_base.specs.History.{IsHistory};
+ghost use Rattle.mc_shard.specs.Shard.{kept, state_of, last_of, reply_of, with_entry, state_past};
 
 use crate::contents::Contents;
 use crate::hashed::Hashed;
 use crate::step::step_of;
 use std::alloc::Global;
 use std::marker::Model;
-use zy_base::{Call, Entry, NoMemory, Tag};
+use zy_base::{Call, Entries, Entry, NoMemory, Tag};
 
 /// A shard of the store: items by their keys, how many were ever stored, and the history of all
-/// calls on it. Contracts see it as its number, the number of shards, its items with their counter,
-/// and the history, of which these are the replay.
+/// calls on it. Contracts see it as its number, the number of shards, and the history, of which its
+/// items and its counter are the replay.
 #[derive(Drop)]
 pub struct Shard {
     number: u32,
@@ -23,20 +24,14 @@ pub struct Shard {
 }
 
 impl Model for Shard {
-    ghost use Rattle.std.specs.Prelude.{◌≡◌};
-    ghost use Rattle.std.specs.Coded.{codes};
-    ghost use Rattle.mc_shard.specs.Shard.{Kept, last_of, IsSound};
-    ghost use Rattle.mc_shard.specs.Contents.{items_code};
+    ghost use Rattle.mc_shard.specs.Shard.{Kept, kept};
+    ghost use Rattle.mc_shard.specs.Contents.{IsSound};
 
     ghost Value = { Kept };
 
-    ghost coded = { Prim.hlevel (codes, items_code) };
+    ghost view = { λ s. kept s.number s.shards s.history.items };
 
-    ghost view = { λ s. record { number = s.number; shards = s.shards; state = s.contents; history = s.history.items } };
-
-    ghost invariant = { λ s.
-        let shard : Kept = record { number = s.number; shards = s.shards; state = s.contents; history = s.history.items } in
-        IsSound shard × (s.last ≡ last_of shard) };
+    ghost invariant = { λ s. IsSound s.number s.shards s.last s.contents s.history.items };
 }
 
 impl Shard {
@@ -65,10 +60,18 @@ impl Shard {
     /// The entries of all calls, the oldest first.
     pub fn history(&self) -> &[Entry]
         ensures value { result.now ≡ self.now.history }
-        ensures sound { IsSound self.now }
-        ensures count { self.now.state.count ≤ length self.now.history }
+        ensures sound { IsHistory self.now.shards self.now.number self.now.history }
+        ensures count { (state_of self.now).count ≤ length self.now.history }
     {
         self.history.as_slice()
+    }
+
+    /// The list of its entries, moved. Takes no memory.
+    pub fn into_history(self) -> Entries
+        ensures value { result ≡ self.history }
+        ensures sound { IsHistory self.shards self.number result }
+    {
+        Entries::from_vec(self.history)
     }
 
     /// Makes a call, with a stamp above all that the caller has seen, and answers its entry, which
@@ -77,7 +80,7 @@ impl Shard {
     pub fn apply(&mut self, tag: Tag, call: Call, seen: u64) -> Result<Entry, NoMemory>
         requires last { last_of self.old < 2 ^ 60 }
         requires seen { seen < 2 ^ 60 }
-        requires count { self.old.state.count < 2 ^ 52 }
+        requires count { (state_of self.old).count < 2 ^ 52 }
 
         // The entry.
         ensures tag { IfOk result (λ entry. entry.tag ≡ tag) }
@@ -88,9 +91,9 @@ impl Shard {
 
         // The shard.
         ensures ok { IfOk result (λ entry. self.new ≡ with_entry self.old entry) }
-        ensures state { OnOk result (self.new.state ≡ state_past self.old call) }
+        ensures state { OnOk result (state_of self.new ≡ state_past self.old call) }
         ensures err { OnErr result (self.new ≡ self.old) }
-        ensures sound { IsSound self.new }
+        ensures sound { IsHistory self.new.shards self.new.number self.new.history }
     {
         let _ = &self.number;
         match shared(call) {
@@ -109,7 +112,7 @@ impl Shard {
     ) -> Result<Entry, NoMemory>
         requires last { last_of self.old < 2 ^ 60 }
         requires seen { seen < 2 ^ 60 }
-        requires count { self.old.state.count < 2 ^ 52 }
+        requires count { (state_of self.old).count < 2 ^ 52 }
         requires key { key ≡ key_of call }
         ensures tag { IfOk result (λ entry. entry.tag ≡ tag) }
         ensures shard { IfOk result (λ entry. entry.shard ≡ self.old.number) }
@@ -118,7 +121,7 @@ impl Shard {
         ensures stamp { IfOk result (λ entry. entry.stamp ≡ max (last_of self.old) seen + 1) }
         ensures ok { IfOk result (λ entry. self.new ≡ with_entry self.old entry) }
         ensures err { OnErr result (self.new ≡ self.old) }
-        ensures sound { IsSound self.new }
+        ensures sound { IsHistory self.new.shards self.new.number self.new.history }
     {
         let stamp = self.last.max(seen) + 1;
         let found = self.contents.found(&key);

@@ -1,17 +1,15 @@
 use Rattle.std.proofs.Common.{refl, arith, ap, ◌∙◌}
 use Rattle.zy_base.specs.Shard.{outcome_of}
-use Rattle.mc_shard.specs.Shard.{Kept}
 use Rattle.mc_shard.specs.Step.{outcome_in}
-use Rattle.mc_shard.proofs.SoundLemmas.{applied}
+use Rattle.mc_shard.proofs.SoundLemmas.{IsSound-applied}
 use Rattle.mc_shard.proofs.shard.Shard.apply_shared.Goals as goal
 
 pub invariant_of-self-2 : goal.invariant_of-self-2
 invariant_of-self-2 c =
-    let shard : Kept = record { number = c.self.inside.number; shards = c.self.inside.shards; state = c.self.inside.contents; history = c.self.inside.history.items } in
-    applied shard _ _ _ _ _ c.args.key (outcome_in c.args.key c.in_ok-step.step) c.self.invariant c.requires.key
+    IsSound-applied _ _ _ _ c.self.inside.contents _ _ _ _ c.args.key (outcome_in c.args.key c.in_ok-step.step) c.self.invariant c.requires.key
     (ap (λ key. outcome_in key c.in_ok-step.step) c.requires.key ∙ c.in_ok-step.ensures.value ∙ ap (outcome_of c.args.call) c.found-found.ensures.value)
     c.in_ok-carry_out.ensures.ok
     (rw c.reserve.ensures.items at c.push_reserved.ensures.items) refl refl (omega arith) refl
 
 pub returns-clause-sound : goal.returns-clause-sound
-returns-clause-sound c = (invariant_of-self-2 c).0
+returns-clause-sound c = (invariant_of-self-2 c).history_is

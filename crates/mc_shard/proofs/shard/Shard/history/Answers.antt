@@ -1,5 +1,5 @@
-use Rattle.mc_shard.proofs.SoundLemmas.{sound_count}
+use Rattle.zy_base.proofs.ReplayLemmas.{counts_calls}
 use Rattle.mc_shard.proofs.shard.Shard.history.Goals as goal
 
 pub returns-clause-count : goal.returns-clause-count
-returns-clause-count c = rw (← c.self.view_is) (sound_count _ c.self.invariant.0)
+returns-clause-count c = counts_calls _ _ _
