@@ -9,3 +9,4 @@ pub mod Order
 pub mod Replies
 pub mod History
 pub mod PlainShard
+pub mod Reserved

@@ -1,14 +1,16 @@
 //! Byte strings.
-ghost use Rattle.std.specs.Prelude.{◌≡◌, ℕ, List, [], ◌++◌, take, IfOk, OnOk, OnErr, Some, refl};
+ghost use Rattle.std.specs.Prelude.{◌≡◌, ℕ, List, [], ◌++◌, ◌≤◌, take, IfOk, OnOk, OnErr, Some, refl};
 ghost use Rattle.std.specs.Ordering.{nat_cmp};
 ghost use Rattle.std.specs.Prelude.{nat_eq};
 ghost use Rattle.std.specs.Cmp.{partial_equiv_from_equiv};
 ghost use Rattle.std.specs.Cmp.Lexicographic.{pointwise, slice_cmp, nat_list_eq_equiv, nat_list_cmp_total, texts_ties, texts_po};
 
 use crate::outside::NoMemory;
+use crate::reserved::Reserved;
 use std::alloc::Global;
 use std::cmp::Ordering;
 use std::marker::Model;
+use std::mem;
 
 /// A byte string. Contracts see it as the list of its bytes.
 #[derive(Debug, Drop)]
@@ -71,6 +73,24 @@ impl Blob {
         ensures value { self.new ≡ take len self.old }
     {
         self.bytes.truncate(len);
+    }
+
+    /// Takes the bytes out, with room for so many more at least, and leaves none.
+    pub fn reserve(&mut self, more: usize) -> Result<Reserved, NoMemory>
+        ensures value { IfOk result (λ reserved. reserved.bytes ≡ self.old) }
+        ensures room { IfOk result (λ reserved. more ≤ reserved.room) }
+        ensures ok { OnOk result (self.new ≡ []) }
+        ensures err { OnErr result (self.new ≡ self.old) }
+    {
+        match self.bytes.reserve(more) {
+            Ok(()) => {
+                let empty = Vec::new(*self.bytes.allocator());
+                Ok(Reserved {
+                    bytes: mem::replace(&mut self.bytes, empty),
+                })
+            }
+            Err(_) => Err(NoMemory),
+        }
     }
 
     /// The bytes.
