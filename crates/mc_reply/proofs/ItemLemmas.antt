@@ -10,7 +10,7 @@ use Rattle.mc_reply.specs.Answers.{AnswerEach}
 -- what is told from a key on is what is told of that key, and from the next on
 pub items_text-at : (asked : Bool) (keys : List (List ℕ)) (replies : List CallReply) (at : ℕ) (key : List ℕ) (reply : CallReply) → length keys ≡ length replies → at < length keys
     → items_text asked (drop at keys) (drop at replies)
-      ≡ item_text asked (get_or keys at key) (get_or replies at reply) ++ items_text asked (drop (at + 1) keys) (drop (at + 1) replies)
+    ≡ item_text asked (get_or keys at key) (get_or replies at reply) ++ items_text asked (drop (at + 1) keys) (drop (at + 1) replies)
 items_text-at asked keys replies at key reply same within =
     let here : drop at keys ≡ get_or keys at key ∷ drop (at + 1) keys = drop_more keys at key within in
     let there : drop at replies ≡ get_or replies at reply ∷ drop (at + 1) replies = drop_more replies at reply (omega arith) in

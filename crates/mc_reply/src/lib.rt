@@ -7,6 +7,8 @@ mod item;
 mod laws;
 mod length;
 mod lines;
+#[cfg(test)]
+mod tests;
 mod writing;
 
 pub use laws::{each_command_has_one_text, worked_answers};

@@ -69,7 +69,7 @@ behind front bytes start (end ∷ ends) =
     let same : length front + end - (length front + start) ≡ end - start = omega arith in
     ap (λ (rest : List (List ℕ)). take (length front + end - (length front + start)) (drop (length front + start) (front ++ bytes)) ∷ rest) (behind front bytes end ends)
     ∙ ap (λ (text : List ℕ). text ∷ texts_from bytes end ends)
-      (ap (λ n. take n (drop (length front + start) (front ++ bytes))) same ∙ ap (λ (rest : List ℕ). take (end - start) rest) (drop-append-add front bytes start))
+    (ap (λ n. take n (drop (length front + start) (front ++ bytes))) same ∙ ap (λ (rest : List ℕ). take (end - start) rest) (drop-append-add front bytes start))
 
 before : (bytes more : List ℕ) (start end : ℕ) → start ≤ end → end ≤ length bytes → take (end - start) (drop start (bytes ++ more)) ≡ take (end - start) (drop start bytes)
 before bytes more start end low high =

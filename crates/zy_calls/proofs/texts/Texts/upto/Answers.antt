@@ -11,14 +11,14 @@ index-requires c =
 pub slice_bounds-result-end-2 : goal.slice_bounds-result-end-2
 slice_bounds-result-end-2 c =
     let within : c.args.count - 1 < length c.self.inside.ends.items =
-      omega (arith, c.requires.within, c.if-count-eq0.false, length-texts_from c.self.inside.bytes 0 c.self.inside.ends.items, ap length c.self.view_is) in
+    omega (arith, c.requires.within, c.if-count-eq0.false, length-texts_from c.self.inside.bytes 0 c.self.inside.ends.items, ap length c.self.view_is) in
     let between = Rise-at 0 c.self.inside.ends.items (length c.self.inside.bytes) (c.args.count - 1) c.index.result.now c.self.invariant within in
     sym (length-take-le c.index.result.now c.bytes.result.now (omega (arith, between.1, c.index.ensures, ap length c.bytes.ensures.value)))
 
 pub returns : goal.returns
 returns c =
     let within : c.args.count - 1 < length c.self.inside.ends.items =
-      omega (arith, c.requires.within, c.if-count-eq0.false, length-texts_from c.self.inside.bytes 0 c.self.inside.ends.items, ap length c.self.view_is) in
+    omega (arith, c.requires.within, c.if-count-eq0.false, length-texts_from c.self.inside.bytes 0 c.self.inside.ends.items, ap length c.self.view_is) in
     let count : suc (c.args.count - 1) ≡ c.args.count = omega (arith, c.if-count-eq0.false) in
     record {
       value = ap (λ (bytes : List ℕ). take c.index.result.now bytes) c.bytes.ensures.value
