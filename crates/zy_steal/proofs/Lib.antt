@@ -1,0 +1,5 @@
+pub mod LookLemmas
+pub mod OrderLemmas
+pub mod SeatLemmas
+pub mod RangeLemmas
+pub mod TurnLemmas
