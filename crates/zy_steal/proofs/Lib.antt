@@ -3,3 +3,4 @@ pub mod OrderLemmas
 pub mod SeatLemmas
 pub mod RangeLemmas
 pub mod TurnLemmas
+pub mod IdleLemmas

@@ -69,6 +69,7 @@ impl<T: Marked> Passes<T> {
         requires other { IsOther self.old.core (length rings.now) victim }
         requires holds { HoldsOf T.mark T.label self.old victim place block }
         ensures kept { self.new.core ≡ self.old.core }
+        ensures within { ArePasses rings.now self.new }
         ensures value { GivesTo self.old self.new victim place }
     {
         let ring = rings.ring(victim);

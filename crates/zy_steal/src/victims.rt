@@ -26,7 +26,7 @@ pub enum Stolen<T> {
 pub struct Victims {
     core: u32,
     cores: u32,
-    calls: u64,
+    pub(crate) calls: u64,
 }
 
 impl Model for Victims {
@@ -74,6 +74,7 @@ impl Victims {
         requires cores { length rings.now ≡ self.old.cores }
         ensures ok { self.new ≡ record self.old { calls = (self.old.calls + 1) % 2 ^ 64 } }
         ensures kept { passes.new.core ≡ passes.old.core }
+        ensures within { ArePasses rings.now passes.new }
 
         // Took: a block of another core, and only the cores before it in the order were looked at.
         ensures other { IfStolen result (λ c _ _. IsOther self.old.core self.old.cores c) }
