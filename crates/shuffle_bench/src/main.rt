@@ -44,7 +44,7 @@ fn main(rt: HostRuntime) -> io::Result<ExitCode> {
         return Ok(ExitCode::from(6));
     }
     let time = start.elapsed(&rt)?.as_nanos().max(1);
-    let rounds = run.rounds as u128;
+    let rounds = run.rounds.min(1 << 40) as u128;
     let name = if run.ring { "ring" } else { "lock" };
     if run.thieves == 0 {
         println!(rt; "{name}, alone: {} ns for publish and claim", time / rounds)?;
