@@ -14,3 +14,4 @@ pub mod GiveLemmas
 pub mod BellLemmas
 pub mod PassLemmas
 pub mod LeftLemmas
+pub mod RuleLemmas

@@ -10,9 +10,9 @@ use Rattle.std.specs.Int.{bit_at}
 use Rattle.atomic_table.specs.Table.{Act, step, stepped, keeps, carried_after, Valid, Allows}
 use Rattle.atomic_table.proofs.Lists.{one_turn}
 use Rattle.zy_shuffle.proofs.HandLemmas.{fetch_act, fetches}
-use Rattle.zy_shuffle.proofs.MoveLemmas.{RingState, looked_on}
+use Rattle.zy_shuffle.proofs.MoveLemmas.{looked_on}
 use Rattle.zy_shuffle.specs.Hand.{emptied}
-use Rattle.zy_shuffle.specs.ShuffleRule.{Holder, IsNote, IsRole, IsRung, Knows, Lies, ShuffleRule, at_bell, bell, core_count, cores, in_hand, in_queue, nobody, weight}
+use Rattle.zy_shuffle.specs.ShuffleRule.{RingState, Holder, IsNote, IsRole, IsRung, Knows, Lies, ShuffleRule, at_bell, bell, core_count, cores, in_hand, in_queue, nobody, weight}
 use Rattle.zy_shuffle.specs.Step.{IsActive, Seated, fronted, fronting, noting, noting_bells, saw_bells, saw_cell, saw_head, saw_tail, stored_cell, storing, with_bells, with_stored}
 use Rattle.zy_shuffle.specs.View.{head_step, plain_step, tail_step, traced, try_step}
 use Rattle.zy_shuffle.specs.Word.{bell_at, cell}
@@ -135,7 +135,7 @@ module _ {T M : Type 0} (mark : T → M) (label : T → Name) where
       )
 
   -- a holder counts for one at most
-  light : (x : Holder) → weight x ≤ 1
+  pub light : (x : Holder) → weight x ≤ 1
   light nobody = omega arith
   light (in_queue k) = omega arith
   light (in_hand j) = omega arith

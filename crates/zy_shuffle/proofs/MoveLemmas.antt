@@ -5,10 +5,9 @@ use mathlib.Core.Option.{Option, some, some-injective}
 use mathlib.Core.Logic.{dite}
 use native.Mathlib.Decide.{ℕ_discrete}
 use lib.ListN.{get_elem?}
-use Rattle.atomic_table.specs.Table.{State}
 use Rattle.atomic_table.proofs.Lists.{at_set, set_here, set_else}
 use Rattle.zy_shuffle.proofs.HandLemmas.{cores_at, cores_set}
-use Rattle.zy_shuffle.specs.ShuffleRule.{Holder, InQueue, IsNote, IsRole, IsRung, IsStored, Knows, Lies, PlaceRule, ShuffleRule, at_bell, bell, core_count, cores, in_hand, in_queue, nobody, weight}
+use Rattle.zy_shuffle.specs.ShuffleRule.{RingState, Holder, InQueue, IsNote, IsRole, IsRung, IsStored, Knows, Lies, PlaceRule, ShuffleRule, at_bell, bell, core_count, cores, in_hand, in_queue, nobody, weight}
 use Rattle.zy_shuffle.specs.Step.{IsActive}
 use Rattle.zy_shuffle.specs.Word.{bell_at, bell_words, cell}
 use Rattle.zy_shuffle.specs.declared.ring.view.Role.{Role}
@@ -21,9 +20,6 @@ use Rattle.zy_table.specs.Member.{is_in}
 use Rattle.zy_table.specs.Put.{put}
 use Rattle.zy_table.specs.Sum.{sum_below}
 use Rattle.zy_table.specs.declared.name.Name.{Name}
-
-abbrev pub RingState : Type 0 → Type 0
-RingState T = State (std.Option T) (View T)
 
 module _ {T M : Type 0} (mark : T → M) (label : T → Name) where
   -- beside a seat that is active there is no start and no end

@@ -3,6 +3,7 @@ pub mod Word
 pub mod Hand
 pub mod View
 pub mod ShuffleRule
+pub mod OnePlace
 pub mod Step
 pub mod Pass
 pub mod PassSeat

@@ -14,6 +14,10 @@ use Rattle.zy_shuffle.specs.declared.ring.view.View.{View}
 use Rattle.zy_shuffle.specs.Hand.{marked}
 use Rattle.zy_shuffle.specs.Word.{cell, bell_at, bell_words}
 
+-- the words, the slots and the views of a ring's table
+abbrev pub RingState : Type 0 → Type 0
+RingState T = State (std.Option T) (View T)
+
 -- ---- who has a place
 
 -- nobody, before the first step of the home and after its last; the queue, as the k-th place that was published; the hand of seat j; or its doorbell
@@ -142,7 +146,7 @@ module _ {T M : Type 0} (mark : T → M) (label : T → Name) where
 
   -- ---- the rule
 
-  pub record ShuffleRule (s : State (std.Option T) (View T)) : Type 0 where
+  pub record ShuffleRule (s : RingState T) : Type 0 where
     -- there are a head and a tail, a label, a holder of each place, and the mark that the home keeps for it
     pub head : ℕ
     pub tail : ℕ

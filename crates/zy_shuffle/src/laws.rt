@@ -1,6 +1,10 @@
 //! Laws of the ownership machine and of the rule, as contracts of functions without a body.
-ghost use Rattle.std.specs.Prelude.{◌≡◌, ◌≢◌, ℕ, ◌+◌, ◌<◌, ◌≤◌, List, length};
+ghost use Rattle.std.specs.Prelude.{◌≢◌, ℕ, ◌<◌, List, length};
 ghost use Rattle.zy_shuffle.specs.Ownership.{Owners, Event, no_requests, happens, IsSound, Runs, idle};
+ghost use Rattle.zy_shuffle.specs.ShuffleRule.{RingState, ShuffleRule};
+ghost use Rattle.zy_shuffle.specs.OnePlace.{IsBounded, HasOneHand, IsOnceQueued, HandsApart, QueueApart};
+
+use crate::marked::Marked;
 
 /// Each event leads from a sound state to a sound state.
 #[tactic(auto, using(crate::proofs::OwnerLemmas::keeps_sound))]
@@ -18,4 +22,25 @@ pub fn runs_reach_sound_states()
 #[tactic(auto, using(crate::proofs::OwnerLemmas::not_idle))]
 pub fn unfinished_requests_are_not_idle()
     ensures value { (s : Owners) (c : ℕ) → IsSound s → s.finished c < s.arrived c → s.places c ≢ idle }
+{}
+
+/// The head is at most the tail, and the tail at most the head and the number of places.
+pub fn the_queue_is_bounded<T: Marked>()
+    ensures value { (s : RingState T) (r : ShuffleRule T.mark T.label s) → IsBounded r.head r.tail (length s.homes) }
+{}
+
+/// No place is in the hands of two seats.
+pub fn no_place_is_in_two_hands<T: Marked>()
+    ensures value { (s : RingState T) → ShuffleRule T.mark T.label s → HasOneHand s }
+{}
+
+/// No place is in the queue twice.
+pub fn no_place_is_twice_in_the_queue<T: Marked>()
+    ensures value { (s : RingState T) (r : ShuffleRule T.mark T.label s) → IsOnceQueued s r.head r.tail }
+{}
+
+/// A place in a hand is neither in the queue nor at its doorbell, and one in the queue is not at its doorbell.
+pub fn no_place_is_at_two_places<T: Marked>()
+    ensures hand { (s : RingState T) (r : ShuffleRule T.mark T.label s) → HandsApart s r.head r.tail }
+    ensures queue { (s : RingState T) (r : ShuffleRule T.mark T.label s) → QueueApart s r.head r.tail }
 {}

@@ -1,0 +1,4 @@
+pub mod Look
+pub mod Order
+pub mod Steal
+pub mod Range

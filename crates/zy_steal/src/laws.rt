@@ -1,0 +1,16 @@
+//! Laws of a steal and of the giving back that follows it, as contracts of functions without a body.
+ghost use Rattle.std.specs.Prelude.{◌≡◌, ℕ};
+ghost use Rattle.zy_table.specs.declared.name.Name.{Name};
+ghost use Rattle.zy_steal.specs.Steal.{PassList, AreIdle, TakesFrom, GivesTo, seats_of};
+
+use zy_shuffle::Marked;
+
+/// A block that was stolen by passes with this label has the label.
+pub fn a_stolen_block_has_the_label<T: Marked>()
+    ensures value { (label : Name) (p q : PassList T) (core place : ℕ) (block : T) → AreIdle label (seats_of p.items) → TakesFrom T.mark T.label p q core place block → T.label block ≡ label }
+{}
+
+/// Once a stolen block was given back, the passes have in their hands what they had before: nothing.
+pub fn a_block_given_back_leaves_the_hands<T: Marked>()
+    ensures value { (label : Name) (p q r : PassList T) (core place : ℕ) (block : T) → q.core ≡ p.core → AreIdle label (seats_of p.items) → TakesFrom T.mark T.label p q core place block → GivesTo q r core place → seats_of r.items ≡ seats_of p.items }
+{}
