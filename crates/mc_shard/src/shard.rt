@@ -9,7 +9,7 @@ use crate::outcome::outcome;
 use std::alloc::Global;
 use std::collections::BTreeMap;
 use std::marker::Model;
-use zy_base::{Blob, Call, Entry, Item, NoMemory, Tag};
+use zy_base::{Blob, Call, Entries, Entry, Item, NoMemory, Tag};
 
 /// A shard of the store: items by their keys, and the history of all calls on it. Contracts see it
 /// as its number, the number of shards, and the history, of which its items and its counter are
@@ -65,6 +65,14 @@ impl Shard {
         ensures count { (state_of self.now).count ≤ length self.now.history }
     {
         self.history.as_slice()
+    }
+
+    /// The entries of all calls, the oldest first, which are moved and not copied. Takes no memory.
+    pub fn into_history(self) -> Entries
+        ensures value { result ≡ self.history }
+        ensures sound { IsHistory self.shards self.number result }
+    {
+        Entries::from_vec(self.history)
     }
 
     /// Makes a call, with a stamp above all that the caller has seen, and answers its entry, which
