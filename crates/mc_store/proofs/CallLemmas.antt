@@ -1,36 +1,22 @@
 -- The same at the values that the code has.
-use Rattle.std.proofs.Common.{◌≡◌, ◌≢◌, ◌⊎◌, ℕ, zero, suc, ◌+◌, ◌*◌, ◌/◌, ◌%◌, ◌^◌, ◌<◌, ◌≤◌, List, [], ◌∷◌, ◌++◌, length, get_or, set, drop, eqb, Bool, true, false, refl, sym, ap, ◌∙◌, subst, inl, inr, ⊎_elim, le_trans, arith, length-set, length-append, get_or-set_other, get_or-set_same}
+use Rattle.std.proofs.Common.{◌≡◌, ℕ, ◌+◌, ◌/◌, ◌%◌, ◌^◌, ◌<◌, List, [], ◌∷◌, ◌++◌, length, eqb, refl, sym, ap, ◌∙◌, subst, arith, length-append}
 use Rattle.std.specs.Prelude as std
-use mathlib.Core.Option.{Option, none, some, some-injective, some-ne-none}
-use native.Mathlib.Decide.{ℕ_discrete, dec_lt}
-use mathlib.Core.Logic.{dite}
-use lib.ListN.{get_elem?}
-use lib.Seq.{set-get_or}
+use mathlib.Core.Option.{none}
 use prog.Atomic.{either}
-use Rattle.atomic_table.specs.Table.{State, Me, Act, step, stepped, keeps, takes, gives, carried_after, Valid, Allows, rest}
-use Rattle.atomic_table.proofs.Lists.{at_set, set_here, set_else, set_again, exchanged, at_longer, at_last}
+use Rattle.atomic_table.specs.Table.{step, Allows, rest}
 use Rattle.zy_base.specs.declared.entry.Entry.{Entry}
-use Rattle.zy_base.specs.Order.{of_connection, at_shard, last_stamp, StampsRise}
-use Rattle.zy_table.specs.Put.{put}
-use Rattle.zy_table.specs.Sum.{sum_below}
-use Rattle.zy_table.specs.Member.{is_in}
-use Rattle.zy_table.proofs.PutLemmas.{at_put, put_here, put_else, at_both}
-use Rattle.zy_table.proofs.SumLemmas.{sum_changed, sum_less, sum_bound}
-use Rattle.zy_table.proofs.SlotLemmas.{at_below, places_apart, at_end, get_of}
-use Rattle.zy_base.specs.Shard.{empty_state}
-use Rattle.zy_base.specs.History.{IsHistory, replayed}
-use Rattle.zy_base.proofs.EntryLemmas.{last_stamp-push, StampsRise-push, of_connection-push, of_connection-push_other, at_shard-push, at_shard-push_other}
-use Rattle.mc_shard.specs.Shard.{Kept, kept, state_of}
+use Rattle.zy_base.specs.Order.{last_stamp}
+use Rattle.zy_base.specs.History.{IsHistory}
+use Rattle.zy_base.proofs.EntryLemmas.{last_stamp-push}
+use Rattle.mc_shard.specs.Shard.{Kept, kept}
 use Rattle.mc_store.specs.declared.store.view.Trace.{Trace}
 use Rattle.mc_store.specs.declared.store.view.View.{View}
-use Rattle.mc_store.specs.declared.store.view.View.TheVariants.{Spent, Root, Pass}
-use Rattle.mc_store.specs.Joined.{Joined, is_joined, is_out, calls_of}
-use Rattle.mc_store.specs.StoreRule.{Place, free, away, word_of, halves, Lies, ShardIs, ConnectionIs, Holds, Knows, StoreRule}
-use Rattle.zy_base.specs.declared.entry.Tag.{Tag}
+use Rattle.mc_store.specs.declared.store.view.View.TheVariants.{Pass}
+use Rattle.mc_store.specs.StoreRule.{StoreRule}
 use Rattle.mc_shard.specs.Shard.{with_entry}
 use Rattle.mc_store.specs.View.{mine_of, trace_of, passing, IsPass, calls_in, trace_in}
-use Rattle.mc_store.specs.Steps.{Seated, has_tried, HasTaken, IsReady, has_put_back}
-use Rattle.mc_store.proofs.TryLemmas.{looks, takes_shard}
+use Rattle.mc_store.specs.Steps.{Seated, has_tried, HasTaken, has_put_back}
+use Rattle.mc_store.proofs.TryLemmas.{takes_shard}
 use Rattle.mc_store.proofs.GiveLemmas.{Fits, puts_call, puts_none}
 
 first_or : Kept → List (ℕ × Kept) → Kept

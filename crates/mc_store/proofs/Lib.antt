@@ -2,5 +2,7 @@ pub mod HalfLemmas
 pub mod MoveLemmas
 pub mod TryLemmas
 pub mod GiveLemmas
-pub mod SeatLemmas
+pub mod BeginLemmas
+pub mod PassLemmas
+pub mod CloseLemmas
 pub mod CallLemmas

@@ -1,5 +1,5 @@
 -- The passes of connections that a root gave, and that were joined with it.
-use Rattle.std.specs.Prelude.{ℕ, List, [], ◌∷◌, Bool, true, false, ◌||◌, ◌&&◌, not, ◌==◌, cond}
+use Rattle.std.specs.Prelude.{ℕ, List, [], ◌∷◌, Bool, false, ◌||◌, ◌&&◌, not, ◌==◌, cond}
 use Rattle.zy_base.specs.declared.entry.Entry.{Entry}
 use Rattle.zy_table.specs.Member.{is_in}
 

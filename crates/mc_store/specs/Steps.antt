@@ -1,6 +1,6 @@
 -- What each step on the table tells its seat.
 -- No public clause cites this module.
-use Rattle.std.specs.Prelude.{◌≡◌, ◌≢◌, ℕ, ◌+◌, ◌*◌, ◌^◌, ◌<◌, List, [], ◌∷◌, ◌++◌, length, drop, Option, Some, None}
+use Rattle.std.specs.Prelude.{◌≡◌, ◌≢◌, ℕ, ◌+◌, ◌*◌, ◌^◌, ◌<◌, List, [], ◌∷◌, ◌++◌, length, drop, Some, None}
 use Rattle.atomic_table.specs.Table.{Me, Step, rest}
 use Rattle.zy_base.specs.declared.entry.Entry.{Entry}
 use Rattle.zy_base.specs.Order.{last_stamp}
@@ -8,7 +8,6 @@ use Rattle.mc_shard.specs.Shard.{Kept, kept, state_of}
 use Rattle.mc_store.specs.declared.store.view.Trace.{Trace}
 use Rattle.mc_store.specs.declared.store.view.View.{View}
 use Rattle.mc_store.specs.declared.store.view.View.TheVariants.{Spent, Root, Pass}
-use Rattle.mc_store.specs.Joined.{Joined}
 use Rattle.mc_store.specs.View.{sight, untraced, mine_of, passing}
 
 -- a view, and the slots that its seat has taken

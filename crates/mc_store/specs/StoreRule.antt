@@ -14,7 +14,7 @@ use Rattle.mc_shard.specs.Shard.{Kept, kept}
 use Rattle.mc_store.specs.declared.store.view.Trace.{Trace}
 use Rattle.mc_store.specs.declared.store.view.View.{View}
 use Rattle.mc_store.specs.declared.store.view.View.TheVariants.{Spent, Root, Pass}
-use Rattle.mc_store.specs.Joined.{Joined, is_joined, is_out, calls_of}
+use Rattle.mc_store.specs.Joined.{is_joined, is_out, calls_of}
 
 -- ---- a shard
 

@@ -1,7 +1,6 @@
-use Rattle.std.proofs.Common.{sym, ap, subst, ◌∙◌}
+use Rattle.std.proofs.Common.{sym, ap, ◌∙◌}
 use Rattle.std.specs.Slots.{slots_counts}
-use Rattle.mc_store.specs.Closing.{AreClosed}
-use Rattle.mc_store.proofs.SeatLemmas.{closes_as}
+use Rattle.mc_store.proofs.CloseLemmas.{closes_as}
 use Rattle.mc_store.proofs.store.StoreTable.close.Goals as goal
 
 pub from_vec-requires-clause-shards : goal.from_vec-requires-clause-shards

@@ -1,5 +1,5 @@
 use Rattle.std.proofs.Common.{rules, sym, ap, ◌∙◌}
-use Rattle.mc_store.proofs.SeatLemmas.{joins_as}
+use Rattle.mc_store.proofs.PassLemmas.{joins_as}
 use Rattle.mc_store.proofs.store.StoreTable.join.Goals as goal
 
 pub join_seat-requires : goal.join_seat-requires

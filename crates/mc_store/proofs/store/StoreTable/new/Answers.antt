@@ -1,5 +1,5 @@
 use Rattle.std.proofs.Common.{ap, ◌∙◌, length}
-use Rattle.mc_store.proofs.SeatLemmas.{opens_as, length-empties}
+use Rattle.mc_store.proofs.BeginLemmas.{opens_as, length-empties}
 use Rattle.mc_store.proofs.store.StoreTable.new.Goals as goal
 
 pub new-requires : goal.new-requires

@@ -1,6 +1,6 @@
 use Rattle.std.proofs.Common.{rules, sym, ap, ◌∙◌, ◌≡◌, ℕ, subst, false}
 use Rattle.zy_table.specs.Member.{is_in}
-use Rattle.mc_store.proofs.SeatLemmas.{splits_as}
+use Rattle.mc_store.proofs.PassLemmas.{splits_as}
 use Rattle.mc_store.proofs.store.StoreTable.split_as.Goals as goal
 
 pub split_seat-given-requires : goal.split_seat-given-requires

@@ -1,9 +1,8 @@
-use Rattle.std.proofs.Common.{◌≡◌, ◌<◌, ℕ, ◌+◌, List, Bool, false, length, map, get_or, set, arith, sym, ap, ◌∙◌, get_or-set_other, get_or-set_same, ◌++◌, ◌∷◌, []}
+use Rattle.std.proofs.Common.{◌<◌, ℕ, ◌+◌, List, Bool, false, length, map, get_or, set, arith, sym, ap, ◌∙◌, get_or-set_other, get_or-set_same, ◌++◌, ◌∷◌, []}
 use Rattle.std.proofs.lemmas.List.{map-append}
 use mathlib.Core.Logic.{dite}
 use native.Mathlib.Decide.{ℕ_discrete}
-use Rattle.std.specs.Slots.{slots_items, slots_filled, slots_len, slots_counts}
-use Rattle.zy_base.specs.declared.entry.Entry.{Entry}
+use Rattle.std.specs.Slots.{slots_items, slots_filled, slots_counts}
 use Rattle.zy_table.proofs.SlotLemmas.{take_snoc}
 use Rattle.mc_shard.specs.Shard.{Kept}
 use Rattle.mc_store.specs.Closing.{history_in}
