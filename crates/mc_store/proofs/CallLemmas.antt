@@ -15,33 +15,35 @@ use Rattle.mc_store.specs.declared.store.view.View.TheVariants.{Pass}
 use Rattle.mc_store.specs.StoreRule.{StoreRule}
 use Rattle.mc_shard.specs.Shard.{with_entry}
 use Rattle.mc_store.specs.View.{mine_of, trace_of, passing, IsPass, calls_in, trace_in}
-use Rattle.mc_store.specs.Steps.{Seated, has_tried, HasTaken, has_put_back}
+use Rattle.mc_store.specs.Steps.{Seated, has_tried, HasTaken, has_put_back, mine_at, trace_at, IsIdle}
 use Rattle.mc_store.proofs.TryLemmas.{takes_shard}
 use Rattle.mc_store.proofs.GiveLemmas.{Fits, puts_call, puts_none}
 
+-- the first shard in a hand
 first_or : Kept → List (ℕ × Kept) → Kept
 first_or d [] = d
 first_or d (x ∷ xs) = x.1
 
 -- the shard that was taken out of the slot
-taken_is : (c k n even : ℕ) (mine : List Entry) (tr : Trace) (me : Seated) (sh : Kept) (t : HasTaken c mine tr k n even me) → me.1 ≡ (k, sh) ∷ rest me.1 → sh ≡ kept k n t.0
+taken_is : (c k n even : ℕ) (me : Seated) (sh : Kept) (t : HasTaken c k n even me) → me.1 ≡ (k, sh) ∷ rest me.1 → sh ≡ kept k n t.0
 unfolding first_or
-taken_is c k n even mine tr me sh t is = sym (ap (first_or sh) is) ∙ ap (λ (m : Seated). first_or sh m.1) t.2
+taken_is c k n even me sh t is = sym (ap (first_or sh) is) ∙ ap (λ (m : Seated). first_or sh m.1) t.2
 
 -- the pass with another shard in its hand
-handed : (c k n even : ℕ) (mine : List Entry) (tr : Trace) (me me' : Seated) (sh : Kept) (t : HasTaken c mine tr k n even me) → me' ≡ (me.0, (k, sh) ∷ rest me.1) → me' ≡ (Pass c mine (std.Some (k, t.0)) tr, (k, sh) ∷ [])
-handed c k n even mine tr me me' sh t is = is ∙ ap (λ (m : Seated). (m.0, (k, sh) ∷ rest m.1)) t.2
+handed : (c k n even : ℕ) (me me' : Seated) (sh : Kept) (t : HasTaken c k n even me) → me' ≡ (me.0, (k, sh) ∷ rest me.1) → me' ≡ (Pass c (mine_at me) (std.Some (k, t.0)) (trace_at me), (k, sh) ∷ [])
+handed c k n even me me' sh t is = is ∙ ap (λ (m : Seated). (m.0, (k, sh) ∷ rest m.1)) t.2
 
-pub puts_call_as : (n id c k even seen : ℕ) (mine : List Entry) (tr : Trace) (me me' : Seated) (sh sh' : Kept) (e : Entry) → HasTaken c mine tr k n even me → me.1 ≡ (k, sh) ∷ rest me.1 → me' ≡ (me.0, (k, sh') ∷ rest me.1)
-    → sh' ≡ with_entry sh e → e.tag.conn ≡ c → e.shard ≡ sh.number → e.stamp ≡ std.max (last_stamp 0 sh.history) seen + 1 → seen ≡ last_stamp 0 mine → IsHistory sh'.shards sh'.number sh'.history → length mine < 2 ^ 40
+-- the shard comes back with one more entry
+pub puts_call_as : (n id c k even seen : ℕ) (me me' : Seated) (sh sh' : Kept) (e : Entry) → HasTaken c k n even me → me.1 ≡ (k, sh) ∷ rest me.1 → me' ≡ (me.0, (k, sh') ∷ rest me.1)
+    → sh' ≡ with_entry sh e → e.tag.conn ≡ c → e.shard ≡ sh.number → e.stamp ≡ std.max (last_stamp 0 sh.history) seen + 1 → seen ≡ last_stamp 0 (mine_at me) → IsHistory sh'.shards sh'.number sh'.history → length (mine_at me) < 2 ^ 40
     → Allows StoreRule n id me' k (λ _. even + 2) (λ _ m. has_put_back me' m)
-puts_call_as n id c k even seen mine tr me me' sh sh' e t has is after conn shard stamp seen_is sound less =
+puts_call_as n id c k even seen me me' sh sh' e t has is after conn shard stamp seen_is sound less =
     let es : List Entry = t.0 in
-    let was = taken_is c k n even mine tr me sh t has in
+    let was = taken_is c k n even me sh t has in
     let now : sh' ≡ kept k n (es ++ e ∷ []) = after ∙ ap (λ (x : Kept). with_entry x e) was in
-    let hand = handed c k n even mine tr me me' sh' t is ∙ ap (λ (x : Kept). (Pass c mine (std.Some (k, es)) tr, (k, x) ∷ [])) now in
+    let hand = handed c k n even me me' sh' t is ∙ ap (λ (x : Kept). (Pass c (mine_at me) (std.Some (k, es)) (trace_at me), (k, x) ∷ [])) now in
     let last = ap (λ (x : Kept). last_stamp 0 x.history) was in
-    let fits : Fits n c k es mine e = record {
+    let fits : Fits n c k es (mine_at me) e = record {
       conn = conn;
       shard = shard ∙ ap (λ (x : Kept). x.number) was;
       later = omega arith;
@@ -49,16 +51,18 @@ puts_call_as n id c k even seen mine tr me me' sh sh' e t has is after conn shar
       sound = subst (λ (x : Kept). IsHistory x.shards x.number x.history) now sound;
     } in
     let even_is = t.1 in
-    subst (λ (m : Seated). Allows StoreRule n id m k (λ _. even + 2) (λ _ w. has_put_back m w)) (sym hand) (puts_call n id c k (even + 2) es mine tr e [] (omega arith) less fits)
+    subst (λ (m : Seated). Allows StoreRule n id m k (λ _. even + 2) (λ _ w. has_put_back m w)) (sym hand) (puts_call n id c k (even + 2) es (mine_at me) (trace_at me) e [] (omega arith) less fits)
 
-pub puts_none_as : (n id c k even : ℕ) (mine : List Entry) (tr : Trace) (me me' : Seated) (sh sh' : Kept) → HasTaken c mine tr k n even me → me.1 ≡ (k, sh) ∷ rest me.1 → me' ≡ (me.0, (k, sh') ∷ rest me.1) → sh' ≡ sh
+-- the shard comes back as it was
+pub puts_none_as : (n id c k even : ℕ) (me me' : Seated) (sh sh' : Kept) → HasTaken c k n even me → me.1 ≡ (k, sh) ∷ rest me.1 → me' ≡ (me.0, (k, sh') ∷ rest me.1) → sh' ≡ sh
     → Allows StoreRule n id me' k (λ _. even) (λ _ m. has_put_back me' m)
-puts_none_as n id c k even mine tr me me' sh sh' t has is after =
+puts_none_as n id c k even me me' sh sh' t has is after =
     let es : List Entry = t.0 in
-    let now : sh' ≡ kept k n es = after ∙ taken_is c k n even mine tr me sh t has in
-    let hand = handed c k n even mine tr me me' sh' t is ∙ ap (λ (x : Kept). (Pass c mine (std.Some (k, es)) tr, (k, x) ∷ [])) now in
-    subst (λ (m : Seated). Allows StoreRule n id m k (λ _. even) (λ _ w. has_put_back m w)) (sym hand) (puts_none n id c k even es mine tr [] t.1)
+    let now : sh' ≡ kept k n es = after ∙ taken_is c k n even me sh t has in
+    let hand = handed c k n even me me' sh' t is ∙ ap (λ (x : Kept). (Pass c (mine_at me) (std.Some (k, es)) (trace_at me), (k, x) ∷ [])) now in
+    subst (λ (m : Seated). Allows StoreRule n id m k (λ _. even) (λ _ w. has_put_back m w)) (sym hand) (puts_none n id c k even es (mine_at me) (trace_at me) [] t.1)
 
+-- the exchange at the word of a shard, by a pass that has taken none
 pub takes_as : (n id c k old : ℕ) (mine : List Entry) (tr : Trace) (me : Seated) → me ≡ (passing c mine tr, []) → ¬ (old % 2 ≡ 1) → k < n → length mine < 2 ^ 40
     → Allows StoreRule n id me k (λ y. either (eqb y old) (old + 1) y) (has_tried (step n k old (old + 1) none) me)
 takes_as n id c k old mine tr me is even near less =

@@ -8,11 +8,23 @@ use Rattle.mc_shard.specs.Shard.{Kept, kept, state_of}
 use Rattle.mc_store.specs.declared.store.view.Trace.{Trace}
 use Rattle.mc_store.specs.declared.store.view.View.{View}
 use Rattle.mc_store.specs.declared.store.view.View.TheVariants.{Spent, Root, Pass}
-use Rattle.mc_store.specs.View.{sight, untraced, mine_of, passing}
+use Rattle.mc_store.specs.View.{sight, untraced, mine_of, trace_of, passing}
 
 -- a view, and the slots that its seat has taken
 abbrev pub Seated : Type 0
 Seated = Me Kept View
+
+-- the calls that a seat knows
+abbrev pub mine_at : Seated → List Entry
+mine_at me = mine_of me.0
+
+-- the steps that it made
+abbrev pub trace_at : Seated → Trace
+trace_at me = trace_of me.0
+
+-- the seat is that of a pass of this connection, which has taken no shard
+abbrev pub IsIdle : ℕ → Seated → Type 0
+IsIdle conn me = me ≡ (passing conn (mine_at me) (trace_at me), [])
 
 -- ---- traces
 
@@ -67,13 +79,13 @@ has_tried step before found after =
     (found ≡ step.first → HasWon step before found after)
     × (found ≢ step.first → after ≡ (traced (exchanges step.word found) before.0, before.1))
 
--- the pass has taken a shard, of so many, whose even word counts its calls
-abbrev pub HasTaken : ℕ → List Entry → Trace → ℕ → ℕ → ℕ → Seated → Type 0
-HasTaken conn mine trace shard shards even me =
+-- the pass of a connection has taken a shard, of so many, whose even word counts its calls
+abbrev pub HasTaken : ℕ → ℕ → ℕ → ℕ → Seated → Type 0
+HasTaken conn shard shards even me =
     (history : List Entry)
     × (even ≡ 2 * length history)
-    × (me ≡ (Pass conn mine (Some (shard, history)) trace, (shard, kept shard shards history) ∷ []))
-    × IsReady (kept shard shards history) mine
+    × (me ≡ (Pass conn (mine_at me) (Some (shard, history)) (trace_at me), (shard, kept shard shards history) ∷ []))
+    × IsReady (kept shard shards history) (mine_at me)
 
 -- ---- the store that gives a shard back
 
@@ -88,6 +100,14 @@ settled Spent ys = Spent
 -- the shard that was taken last goes back into its slot
 abbrev pub has_put_back : Seated → Seated → Type 0
 has_put_back before after = after ≡ (settled before.0 before.1, rest before.1)
+
+-- the pass has made its call, which is the last one now
+abbrev pub HasMade : ℕ → Seated → Seated → Entry → Type 0
+HasMade conn before after entry = after ≡ (passing conn (mine_at before ++ entry ∷ []) (stores (trace_at before)), [])
+
+-- the pass has given the shard back, and made no call
+abbrev pub HasGivenUp : ℕ → Seated → Seated → Type 0
+HasGivenUp conn before after = after ≡ (passing conn (mine_at before) (stores (trace_at before)), [])
 
 -- ---- passes
 

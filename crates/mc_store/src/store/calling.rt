@@ -2,8 +2,7 @@
 ghost use Rattle.std.specs.Prelude.{◌≡◌, ◌<◌, ◌≤◌, ◌^◌, [], ◌∷◌, ◌++◌, length, IfOk, OnErr};
 ghost use Rattle.zy_base.specs.Kind.{MayAnswer};
 ghost use Rattle.zy_base.specs.Order.{last_stamp};
-ghost use Rattle.mc_store.specs.View.{mine_of, trace_of, passing};
-ghost use Rattle.mc_store.specs.Steps.{HasTaken, stores};
+ghost use Rattle.mc_store.specs.Steps.{mine_at, trace_at, IsIdle, HasTaken, HasMade, HasGivenUp};
 ghost use Rattle.mc_store.specs.Call.{IfReply, IfBusy, IsOfCall, WasFree, WasBusy};
 
 use crate::got::Got;
@@ -26,25 +25,25 @@ impl StoreTable {
     ) -> Result<Got, NoMemory>
         requires table { seat.old.table_id ≡ self.now.id }
         requires within { shard < self.now.shards }
-        requires idle { seat.old.me ≡ (passing tag.conn (mine_of seat.old.me.0) (trace_of seat.old.me.0), []) }
-        requires seen { seen ≡ last_stamp 0 (mine_of seat.old.me.0) }
-        requires few { length (mine_of seat.old.me.0) < 2 ^ 40 }
+        requires idle { IsIdle tag.conn seat.old.me }
+        requires seen { seen ≡ last_stamp 0 (mine_at seat.old.me) }
+        requires few { length (mine_at seat.old.me) < 2 ^ 40 }
 
         // The answer.
         ensures reply { IfReply result (IsOfCall tag shard call.now) }
         ensures kind { IfReply result (λ entry. MayAnswer call.now entry.reply) }
-        ensures free { IfReply result (λ entry. WasFree shard (trace_of seat.old.me.0) (trace_of seat.new.me.0)) }
-        ensures busy { IfBusy result (WasBusy shard (trace_of seat.old.me.0) (trace_of seat.new.me.0)) }
+        ensures free { IfReply result (λ entry. WasFree shard (trace_at seat.old.me) (trace_at seat.new.me)) }
+        ensures busy { IfBusy result (WasBusy shard (trace_at seat.old.me) (trace_at seat.new.me)) }
 
         // The seat.
-        ensures ok { IfReply result (λ entry. mine_of seat.new.me.0 ≡ mine_of seat.old.me.0 ++ entry ∷ []) }
-        ensures stamp { IfReply result (λ entry. last_stamp 0 (mine_of seat.old.me.0) < entry.stamp) }
-        ensures kept { IfBusy result (λ shard loaded found. mine_of seat.new.me.0 ≡ mine_of seat.old.me.0) }
-        ensures err { OnErr result (mine_of seat.new.me.0 ≡ mine_of seat.old.me.0) }
-        ensures idle { seat.new.me ≡ (passing tag.conn (mine_of seat.new.me.0) (trace_of seat.new.me.0), []) }
+        ensures ok { IfReply result (λ entry. mine_at seat.new.me ≡ mine_at seat.old.me ++ entry ∷ []) }
+        ensures stamp { IfReply result (λ entry. last_stamp 0 (mine_at seat.old.me) < entry.stamp) }
+        ensures kept { IfBusy result (λ shard loaded found. mine_at seat.new.me ≡ mine_at seat.old.me) }
+        ensures err { OnErr result (mine_at seat.new.me ≡ mine_at seat.old.me) }
+        ensures idle { IsIdle tag.conn seat.new.me }
         ensures table { seat.new.table_id ≡ seat.old.table_id }
         ensures seat { seat.new.id ≡ seat.old.id }
-        ensures steps { (trace_of seat.old.me.0).steps ≤ (trace_of seat.new.me.0).steps }
+        ensures steps { (trace_at seat.old.me).steps ≤ (trace_at seat.new.me).steps }
     {
         let words = &self.table.shared;
         let word = shard as usize;
@@ -81,14 +80,14 @@ impl StoreTable {
     ) -> Result<Entry, NoMemory>
         requires table { seat.old.table_id ≡ self.now.id }
         requires within { shard < self.now.shards }
-        requires taken { HasTaken tag.conn (mine_of seat.old.me.0) (trace_of seat.old.me.0) shard self.now.shards even seat.old.me }
-        requires seen { seen ≡ last_stamp 0 (mine_of seat.old.me.0) }
-        requires few { length (mine_of seat.old.me.0) < 2 ^ 40 }
+        requires taken { HasTaken tag.conn shard self.now.shards even seat.old.me }
+        requires seen { seen ≡ last_stamp 0 (mine_at seat.old.me) }
+        requires few { length (mine_at seat.old.me) < 2 ^ 40 }
         ensures reply { IfOk result (IsOfCall tag shard call) }
         ensures kind { IfOk result (λ entry. MayAnswer call entry.reply) }
-        ensures stamp { IfOk result (λ entry. last_stamp 0 (mine_of seat.old.me.0) < entry.stamp) }
-        ensures ok { IfOk result (λ entry. seat.new.me ≡ (passing tag.conn (mine_of seat.old.me.0 ++ entry ∷ []) (stores (trace_of seat.old.me.0)), [])) }
-        ensures err { OnErr result (seat.new.me ≡ (passing tag.conn (mine_of seat.old.me.0) (stores (trace_of seat.old.me.0)), [])) }
+        ensures stamp { IfOk result (λ entry. last_stamp 0 (mine_at seat.old.me) < entry.stamp) }
+        ensures ok { IfOk result (HasMade tag.conn seat.old.me seat.new.me) }
+        ensures err { OnErr result (HasGivenUp tag.conn seat.old.me seat.new.me) }
         ensures table { seat.new.table_id ≡ seat.old.table_id }
         ensures seat { seat.new.id ≡ seat.old.id }
     {
