@@ -3,7 +3,8 @@
 
 use std::io::{Read, Write};
 use std::process::ExitCode;
-use zy_capture::{CaptureFault, FeedFault, Reader, Record};
+use zy_capture::{FeedFault, Reader, Record};
+use zy_read::Fed;
 
 // How many records of each kind were read, and how many bytes of segments.
 #[derive(Clone, Copy, Debug)]
@@ -28,9 +29,12 @@ impl Tally {
 }
 
 fn feed_all(reader: &mut Reader, tally: &mut Tally, bytes: &[u8]) -> Result<(), FeedFault> {
-    for byte in bytes {
-        match reader.feed(*byte) {
-            Ok(None) => {}
+    let mut at = 0;
+    while at < bytes.len() {
+        let Fed { taken, answer } = reader.feed_piece(&bytes[at..]);
+        at += taken;
+        match answer {
+            Ok(None) => return Ok(()),
             Ok(Some(found)) => tally.count(&found),
             Err(fault) => return Err(fault),
         }

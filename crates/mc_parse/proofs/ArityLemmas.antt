@@ -1,6 +1,6 @@
 -- The last word of a list, and what follows a name with the word noreply behind it.
-use Rattle.std.proofs.Common.{◌≡◌, ℕ, zero, suc, ◌+◌, ◌-◌, ◌<◌, ◌≤◌, Bool, true, false, not, ◌&&◌, if◌then◌else◌, List, [], ◌∷◌, ◌++◌, length, take, get_or, refl, sym, ap, ◌∙◌, arith, length-append}
-use Rattle.std.specs.Prelude.{Option, None, Some, codes}
+use Rattle.std.proofs.Common.{◌≡◌, ℕ, zero, suc, ◌+◌, ◌<◌, ◌≤◌, Bool, true, false, not, ◌&&◌, if◌then◌else◌, List, [], ◌∷◌, ◌++◌, length, take, get_or, refl, ap, arith, length-append}
+use Rattle.std.specs.Prelude.{None, Some, codes}
 use Rattle.std.specs.Borrow.{Bor}
 use Rattle.std.specs.Prelude.{◌==◌, nat_le, nat_lt}
 use Rattle.std.proofs.Common.{◌≢◌, ◌⊎◌, inl, inr}
@@ -9,7 +9,7 @@ use Rattle.std.proofs.lemmas.Bool.Decides.{eqb_tells}
 use Rattle.std.proofs.lemmas.Slice.Eq.{bytes_eq-Decides}
 use Rattle.mc_parse.specs.Words.{is_noreply}
 use Rattle.mc_parse.specs.Line.{texts}
-use Rattle.mc_parse.specs.Arity.{Following, from_to, is_within, is_most, has_count, ends_in_noreply, but_last, lacks_noreply, asks_silence, following, following_of}
+use Rattle.mc_parse.specs.Arity.{from_to, is_most, has_count, ends_in_noreply, but_last, lacks_noreply, asks_silence, following, following_of}
 
 -- ---- the last word
 

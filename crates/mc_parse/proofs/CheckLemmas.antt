@@ -1,14 +1,13 @@
 -- The checks of a line one after the other, and what a block is.
-use Rattle.std.proofs.Common.{◌≡◌, ℕ, ◌+◌, ◌-◌, Bool, true, false, not, ◌&&◌, if◌then◌else◌, List, [], ◌∷◌, ◌++◌, length, take, drop, refl, sym, ap, ◌∙◌, arith, length-append}
+use Rattle.std.proofs.Common.{◌≡◌, ℕ, ◌-◌, Bool, true, false, not, ◌&&◌, if◌then◌else◌, List, ◌++◌, length, take, drop, refl, ap, ◌∙◌, arith, length-append}
 use Rattle.std.specs.Prelude.{Option, None, Some}
-use Rattle.std.specs.List.{list_all}
 use Rattle.std.proofs.Math.Seq.{drop-append_seam, take-append_seam}
 use Rattle.mc_parse.specs.declared.name.Name.{Name}
 use Rattle.mc_parse.specs.declared.command.Command.TheVariants.{Fault}
 use Rattle.mc_parse.specs.declared.error_line.ErrorLine.TheVariants.{Unknown, BadLine, BadChunk, TooLarge}
 use Rattle.mc_parse.specs.Arity.{Following, arity_of, has_count, lacks_noreply, following, following_of}
 use Rattle.mc_parse.specs.Form.{Ask, Form, faulty, asks, number_fault, find, form_with, form_after}
-use Rattle.mc_parse.specs.Checks.{HasBadCount, LacksNoreply, HasLongKey, HasBadNumber, Asks, AreCounted, AreKeyed, is_silenced, said_words}
+use Rattle.mc_parse.specs.Checks.{HasBadCount, LacksNoreply, HasLongKey, HasBadNumber, Asks, AreCounted, is_silenced}
 use Rattle.mc_parse.specs.Need.{need_for}
 use Rattle.mc_parse.specs.Meaning.{line_end, value_of, is_ended, value_command, block_command_for, large_command_for, IsBlockFor, IsTooLarge}
 use Rattle.mc_parse.specs.Noreply.{is_quiet}

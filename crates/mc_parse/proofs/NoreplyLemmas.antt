@@ -1,8 +1,8 @@
 -- A line with the word noreply behind it says the same but asks for no answer, and each line that asks for none is such a line.
-use Rattle.std.proofs.Common.{◌≡◌, ℕ, suc, ◌+◌, ◌<◌, ◌≤◌, Bool, true, false, not, ◌&&◌, if◌then◌else◌, List, [], ◌∷◌, ◌++◌, length, refl, sym, ap, ◌∙◌, arith, length-append}
-use Rattle.std.specs.Prelude.{Option, None, Some, option_map, nat_le, nat_lt, ◌==◌}
+use Rattle.std.proofs.Common.{◌≡◌, ℕ, suc, ◌<◌, ◌≤◌, Bool, true, false, not, ◌&&◌, if◌then◌else◌, List, [], ◌∷◌, ◌++◌, length, refl, sym, ap, ◌∙◌, arith, length-append}
+use Rattle.std.specs.Prelude.{Option, None, Some, option_map, nat_le, nat_lt}
 use Rattle.std.specs.List.{list_all}
-use Rattle.std.proofs.Common.{◌≢◌, ◌⊎◌, inl, inr, ne_eqb}
+use Rattle.std.proofs.Common.{◌⊎◌, inl, inr, ne_eqb}
 use Rattle.std.proofs.lemmas.Bool.{leb-true, le-leb, ltb-true}
 use Rattle.std.proofs.lemmas.Bool.Decides.{leb_tells}
 use Rattle.zy_base.specs.Number.{number_of}
@@ -24,7 +24,7 @@ use Rattle.mc_parse.specs.Need.{need_for}
 use Rattle.mc_parse.specs.Meaning.{command_for, block_command_for, large_command_for, is_ended, value_of, IsBlockFor, IsTooLarge}
 use Rattle.mc_parse.specs.Noreply.{may_be_quiet, is_loud, is_quiet, silent, silenced, with_noreply, EndsInNoreply}
 use Rattle.mc_parse.proofs.WordLemmas.{words-parted, words-one}
-use Rattle.mc_parse.proofs.ArityLemmas.{noreply, is_the_word, ends-split, Unsilenced, unsilenced, follows_silently, follows_by, both}
+use Rattle.mc_parse.proofs.ArityLemmas.{noreply, is_the_word, ends-split, unsilenced, follows_silently, follows_by, both}
 
 -- ---- what is said of an ask that was found or not
 
@@ -129,6 +129,7 @@ cas_ends = record { is = refl; few = omega arith; may = may; other = other }
     may (a ∷ b ∷ c ∷ d ∷ []) = refl
     may (key ∷ flags ∷ exptime ∷ bytes ∷ unique ∷ []) = cas_may key (sizes_of flags exptime bytes) (number_of unique)
     may (a ∷ b ∷ c ∷ d ∷ e ∷ f ∷ words) = refl
+
     other : (words : List (List ℕ)) → ends_in_noreply words ≡ true → 5 < length words → cas_words words ≡ None
     other [] ends more = refl
     other (a ∷ []) ends more = refl
@@ -147,6 +148,7 @@ delete_ends = record { is = refl; few = omega arith; may = may; other = other }
     may : (words : List (List ℕ)) → may_all (delete_words words) ≡ true
     may [] = refl
     may (key ∷ words) = zero_may (deletes key) words refl
+
     other : (words : List (List ℕ)) → ends_in_noreply words ≡ true → 1 < length words → delete_words words ≡ None
     other [] ends more = refl
     other (key ∷ []) ends more = absurd (omega arith)
@@ -161,6 +163,7 @@ count_ends up = record { is = refl; few = omega arith; may = may; other = other 
     may (key ∷ []) = refl
     may (key ∷ amount ∷ []) = map_may (counts key up) (number_of amount) (λ amount. refl)
     may (a ∷ b ∷ c ∷ words) = refl
+
     other : (words : List (List ℕ)) → ends_in_noreply words ≡ true → 2 < length words → count_words up words ≡ None
     other [] ends more = refl
     other (a ∷ []) ends more = refl
@@ -174,6 +177,7 @@ verbosity_ends = record { is = refl; few = omega arith; may = may; other = other
     may [] = refl
     may (number ∷ []) = map_may (λ _. sets_verbosity) (small_number_of number) (λ number. refl)
     may (a ∷ b ∷ words) = refl
+
     other : (words : List (List ℕ)) → ends_in_noreply words ≡ true → 1 < length words → verbosity_words words ≡ None
     other [] ends more = refl
     other (a ∷ []) ends more = absurd (omega arith)
@@ -317,11 +321,11 @@ quiet_some name least most ends words quiet =
     let over = ltb-true least (length words) last.0 in
     let within = leb-true (length words) most counts.1 in
     let quietly = is words ∙ ap (λ (found : Option Following). find found Unknown (λ following. form_with name following))
-      (follows_by (has_count (from_to least most) (length words)) (lacks_noreply (from_to least most) words) (asks_silence (from_to least most) words) words front facts.0 facts.1 facts.2 refl) in
+    (follows_by (has_count (from_to least most) (length words)) (lacks_noreply (from_to least most) words) (asks_silence (from_to least most) words) words front facts.0 facts.1 facts.2 refl) in
     let quiet_front = sym (ap is_quiet quietly) ∙ quiet in
     let loudly = is front ∙ said_loudly name front (has_count (from_to least most) (length front)) (lacks_noreply (from_to least most) front) (asks_silence (from_to least most) front)
-      (front_counted least most front (omega (arith, over, size, sizes)) (omega (arith, within, size, sizes))
-        (λ ends_too more. found_not_none keys (number_fault name) (ask_of name front) quiet_front (ends.other front ends_too more))) in
+    (front_counted least most front (omega (arith, over, size, sizes)) (omega (arith, within, size, sizes))
+    (λ ends_too more. found_not_none keys (number_fault name) (ask_of name front) quiet_front (ends.other front ends_too more))) in
     record {
       ends = split;
       loud = ap is_loud loudly ∙ loud_again keys (number_fault name) (ask_of name front) (ends.may front) quiet_front;

@@ -19,9 +19,14 @@ pub(crate) enum Ask<'a> {
         unique: u64,
     },
     /// Get the items of the keys, which are the words of this text.
-    Get { keys: &'a [u8], unique: bool },
+    Get {
+        keys: &'a [u8],
+        unique: bool,
+    },
     /// Remove the item.
-    Delete { key: &'a [u8] },
+    Delete {
+        key: &'a [u8],
+    },
     /// Count the value.
     Count {
         key: &'a [u8],

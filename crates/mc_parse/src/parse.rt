@@ -7,9 +7,9 @@ ghost use Rattle.mc_parse.specs.Need.{need};
 ghost use Rattle.mc_parse.specs.Line.{ask_seen, form_seen};
 ghost use Rattle.mc_parse.specs.Meaning.{line_command, block_command, large_command, alone_command, value_command, command_for, block_command_for, large_command_for, fault, is_ended, value_of, IsBlockFor, IsTooLarge};
 
+use crate::ask::Ask;
 use crate::command::{Command, Keys};
 use crate::error_line::ErrorLine;
-use crate::ask::Ask;
 use crate::line::Line;
 use crate::reading::read_line;
 use crate::word::next_word;
@@ -119,7 +119,10 @@ fn value_command(
 {
     match ask {
         Ask::Store {
-            verb, key, flags, ..
+            verb,
+            key,
+            flags,
+            ..
         } => match Blob::copy_of(alloc, key) {
             Ok(key) => Ok(Command::Store {
                 verb,
@@ -131,7 +134,10 @@ fn value_command(
             Err(e) => Err((block, e)),
         },
         Ask::Cas {
-            key, flags, unique, ..
+            key,
+            flags,
+            unique,
+            ..
         } => match Blob::copy_of(alloc, key) {
             Ok(key) => Ok(Command::Cas {
                 key,

@@ -10,12 +10,3 @@ pub enum FileFault {
     /// The file has over 2^63 - 1 bytes.
     TooLong,
 }
-
-/// Why a reader of such a file didn't take a byte.
-#[derive(Clone, Copy, Debug, PartialEq, Eq)]
-pub enum FileFeed {
-    /// The file has this fault.
-    Fault(FileFault),
-    /// Memory was wanted and not found; the reader is as it was.
-    NoMemory,
-}

@@ -30,7 +30,7 @@ pub use call::Call;
 pub use call_numbers::CallNumbers;
 pub use call_reply::{CallReply, Replies};
 pub use entry::{Entries, Entry, Tag};
-pub use file_fault::{FileFault, FileFeed};
+pub use file_fault::FileFault;
 pub use histories::Histories;
 pub use hold::{Hold, Holds};
 pub use item::Item;

@@ -12,12 +12,16 @@ use Rattle.zy_capture.specs.declared.due.Due.{Due}
 use Rattle.zy_capture.specs.declared.due.Due.TheVariants.{Letters, Digit, LineFeed, Count, Tag, Connection, Length, Payload, Closed, Nothing, Broken}
 use Rattle.zy_capture.specs.Capture.{AreBytes, letters, magic, spelled, spelling, IsCapture, capture_limit, connection_limit, segment_limit}
 use Rattle.zy_capture.specs.Steps.{Progress, Step, start, goes, refuses, letter, digit, line_feed, tag, number, segment, taken, is_open, is_full, step}
-use Rattle.zy_capture.specs.Verdict.{Reading, Verdict, read_from, reading, ended, verdict, fault_in, fault_of, is_good}
+use Rattle.zy_read.specs.Format.{Reading, read_on, reading_of, verdict_on, fault_met}
+use Rattle.zy_read.specs.Standing.{StandsAs}
+use Rattle.zy_capture.specs.Verdict.{Verdict, read_from, ended, verdict, fault_in, is_good, captures}
 use Rattle.zy_capture.specs.Verdict.Verdict.{Bad}
 use Rattle.zy_capture.specs.Standing.{StandsFor}
-use Rattle.zy_capture.specs.Faults.{BeginsMagic, IsConnRange, IsCut, HasFault}
+use Rattle.zy_capture.specs.Faults.{BeginsMagic, IsConnectionOver}
+use Rattle.zy_capture.proofs.FaultWords.{IsCut, IsFault}
 use Rattle.zy_capture.proofs.ByteLemmas.{chosen, bytes_on, byte_at, assoc_twice}
-use Rattle.zy_capture.proofs.Feeding.{fed_step, read_broken, verdict_here, starts}
+use Rattle.zy_read.proofs.Feeding.{fed_step, read_broken, verdict_here, starts}
+use Rattle.zy_capture.proofs.Feeding.{lasting, is_broken}
 use Rattle.zy_capture.proofs.WholeLemmas.{front, IsField, Parts, IsReadTo, number_is, from_step, read_whole}
 
 -- ---- beginnings of a magic
@@ -64,11 +68,11 @@ differs_line_feed version byte differs begins =
 
 -- a step to a fault means that the text has it
 abbrev Faults : List ℕ → CaptureFault → Step → Type 0
-Faults text fault s = s.next.due ≡ Broken fault → HasFault text fault
+Faults text fault s = s.next.due ≡ Broken fault → IsFault text fault
 
 -- a fault is that of the text
-told : (text : List ℕ) (p : Progress) (found fault : CaptureFault) → HasFault text found → Faults text fault (refuses p found)
-told text p found fault has is = let same : found ≡ fault = cc in subst (λ (f : CaptureFault). HasFault text f) same has
+told : (text : List ℕ) (p : Progress) (found fault : CaptureFault) → IsFault text found → Faults text fault (refuses p found)
+told text p found fault has is = let same : found ≡ fault = cc in subst (λ (f : CaptureFault). IsFault text f) same has
 
 -- four bytes of a number
 small_number : (field : List ℕ) (byte : ℕ) → IsField field → byte < 256 → 3 ≤ length field → from_be_bytes w32 (field ++ byte ∷ []) < 2 ^ 32
@@ -173,7 +177,7 @@ tag_place p given text tag_byte middle count bytes is long =
 
 from_range : (p : Progress) (before rest : List ℕ) (given : List Record) (tag_byte byte : ℕ) → byte < 256 → p.at < capture_limit → p.at ≡ length before → before ≡ front p given ++ tag_byte ∷ p.field
     → IsCapture p.version p.count given → IsField p.field → 3 ≤ length p.field → (tag_byte ≡ 83) ⊎ ((tag_byte ≡ 67) × (p.version ≡ 2)) → p.count ≤ from_be_bytes w32 (p.field ++ byte ∷ [])
-    → IsConnRange (before ++ byte ∷ rest) (p.at - 3) (from_be_bytes w32 (p.field ++ byte ∷ []))
+    → IsConnectionOver (before ++ byte ∷ rest) (p.at - 3) (from_be_bytes w32 (p.field ++ byte ∷ []))
 from_range p before rest given tag_byte byte small room count bytes valid is long known over =
     let n : ℕ = from_be_bytes w32 (p.field ++ byte ∷ []) in
     let place : p.at ≡ length (front p given) + 1 + 0 + 3 = tag_place p given before tag_byte [] count bytes is long in
@@ -312,49 +316,45 @@ from_step_fault p before rest given byte fault none small read stands =
       byte = byte;
       rest = rest;
       whole = refl;
-      cut = verdict_here p given before stands ∙ cut_there p.due p given before refl full read;
+      cut = verdict_here captures p given before stands ∙ cut_there p.due p given before refl full read;
     }))
     (λ room. from_taken p.due p before rest given byte fault none small (has_room p.due p.at room) read)
 
-is_broken : (due : Due) (fault : CaptureFault) → fault_in due ≡ Some fault → due ≡ Broken fault
-is_broken (Broken found) fault is = cc
-is_broken due fault is = cc
-
 -- a text that was read up to a fault has it
 first : (more : List ℕ) (p : Progress) (given : List Record) (before : List ℕ) (fault : CaptureFault) → AreBytes more → fault_in p.due ≡ None → IsReadTo p.due p given before → StandsFor p given before
-    → fault_in (read_from p more).last.due ≡ Some fault → HasFault (before ++ more) fault
-unfolding read_from
+    → fault_in (read_from p more).last.due ≡ Some fault → IsFault (before ++ more) fault
+unfolding read_on
 first [] p given before fault all none read stands is = cc
 first (byte ∷ more) p given before fault all none read stands is =
     let s : Step = step p byte in
     let on = from_step p given before byte all.0 read in
-    let next = fed_step p given before byte stands in
-    elim (fault_in s.next.due) as (λ (o : Option CaptureFault). fault_in s.next.due ≡ o → HasFault (before ++ byte ∷ more) fault) [
-      | None ↦ λ still. subst (λ (l : List ℕ). HasFault l fault) (append_assoc before (byte ∷ []) more)
+    let next = fed_step captures p byte given before stands in
+    elim (fault_in s.next.due) as (λ (o : Option CaptureFault). fault_in s.next.due ≡ o → IsFault (before ++ byte ∷ more) fault) [
+      | None ↦ λ still. subst (λ (l : List ℕ). IsFault l fault) (append_assoc before (byte ∷ []) more)
           (first more s.next (given ++ option_to_list s.gave) (before ++ byte ∷ []) fault all.1 still on next is)
       | (Some found) ↦ λ met.
           let broken : s.next.due ≡ Broken found = is_broken s.next.due found met in
-          let last : fault_in (read_from s.next more).last.due ≡ Some found = ap (λ (r : Reading). fault_in r.last.due) (read_broken s.next found more broken) ∙ met in
+          let last : fault_in (read_from s.next more).last.due ≡ Some found = ap (λ (r : Reading Progress Record). fault_in r.last.due) (read_broken captures lasting s.next found more met) ∙ met in
           let same : found ≡ fault = cc in
-          subst (λ (f : CaptureFault). HasFault (before ++ byte ∷ more) f) same (from_step_fault p before more given byte found none all.0 read stands broken)
+          subst (λ (f : CaptureFault). IsFault (before ++ byte ∷ more) f) same (from_step_fault p before more given byte found none all.0 read stands broken)
     ] refl
 
 -- ---- each fault
 
 -- a text that ends where neither the end nor a fault was met
-cut_fault : (p : Progress) (given : List Record) (text : List ℕ) (fault : CaptureFault) → p.at ≡ length text → StandsFor p given text → fault_in p.due ≡ None → is_good (ended p.due p given) ≡ false → Bad (Truncated p.at) ≡ Bad fault → HasFault text fault
-unfolding fault_of StandsFor
+cut_fault : (p : Progress) (given : List Record) (text : List ℕ) (fault : CaptureFault) → p.at ≡ length text → StandsFor p given text → fault_in p.due ≡ None → is_good (ended p.due p given) ≡ false → Bad (Truncated p.at) ≡ Bad fault → IsFault text fault
+unfolding fault_met StandsAs
 cut_fault p given text fault count stands none not_good ends =
     let cut : IsCut text p.at = record {
       place = count;
-      no_fault = ap (λ (r : Reading). fault_in r.last.due) stands ∙ none;
-      no_capture = ap (λ (v : Verdict). is_good v) (verdict_here p given text stands) ∙ not_good;
+      no_fault = ap (λ (r : Reading Progress Record). fault_in r.last.due) stands ∙ none;
+      no_capture = ap (λ (v : Verdict). is_good v) (verdict_here captures p given text stands) ∙ not_good;
     } in
     let same : Truncated p.at ≡ fault = cc in
-    subst (λ (f : CaptureFault). HasFault text f) same cut
+    subst (λ (f : CaptureFault). IsFault text f) same cut
 
-cut_has : (due : Due) (p : Progress) (given : List Record) (text : List ℕ) (fault : CaptureFault) → fault_in due ≡ None → IsReadTo due p given text → p.due ≡ due → StandsFor p given text → ended due p given ≡ Bad fault → HasFault text fault
-unfolding fault_of StandsFor
+cut_has : (due : Due) (p : Progress) (given : List Record) (text : List ℕ) (fault : CaptureFault) → fault_in due ≡ None → IsReadTo due p given text → p.due ≡ due → StandsFor p given text → ended due p given ≡ Bad fault → IsFault text fault
+unfolding fault_met StandsAs
 cut_has Nothing p given text fault none read is stands ends = cc
 cut_has (Broken found) p given text fault none read is stands ends = cc
 cut_has Letters p given text fault none read is stands ends = cut_fault p given text fault read.count stands (rw is refl) (rw is refl) ends
@@ -368,15 +368,15 @@ cut_has (Payload conn size) p given text fault none read is stands ends = cut_fa
 cut_has Closed p given text fault none read is stands ends = cut_fault p given text fault read.count stands (rw is refl) (rw is refl) ends
 
 -- a bad text has its fault
-pub bad_has : (text : List ℕ) (fault : CaptureFault) → AreBytes text → verdict text ≡ Bad fault → HasFault text fault
-unfolding verdict reading StandsFor
+pub bad_has : (text : List ℕ) (fault : CaptureFault) → AreBytes text → verdict text ≡ Bad fault → IsFault text fault
+unfolding verdict_on reading_of StandsAs
 bad_has text fault all bad =
-    let r : Reading = read_from start text in
+    let r : Reading Progress Record = read_from start text in
     let begun : Parts Letters start [] [] = record { bytes = refl; count = refl; short = omega arith; valid = (omega arith, refl) } in
-    elim (fault_in r.last.due) as (λ (o : Option CaptureFault). fault_in r.last.due ≡ o → HasFault text fault) [
+    elim (fault_in r.last.due) as (λ (o : Option CaptureFault). fault_in r.last.due ≡ o → IsFault text fault) [
       | None ↦ λ none. cut_has r.last.due r.last r.given text fault none (read_whole start [] [] text all begun) refl refl bad
       | (Some found) ↦ λ met.
           let ends : Bad found ≡ Bad fault = sym (ap (λ (d : Due). ended d r.last r.given) (is_broken r.last.due found met)) ∙ bad in
           let same : found ≡ fault = cc in
-          first text start [] [] fault all refl begun starts (met ∙ ap (λ (f : CaptureFault). Some f) same)
+          first text start [] [] fault all refl begun (starts captures) (met ∙ ap (λ (f : CaptureFault). Some f) same)
     ] refl

@@ -13,11 +13,15 @@ use Rattle.zy_capture.specs.declared.due.Due.{Due}
 use Rattle.zy_capture.specs.declared.due.Due.TheVariants.{Letters, Digit, LineFeed, Count, Tag, Connection, Length, Closed, Nothing, Broken}
 use Rattle.zy_capture.specs.Capture.{AreBytes, letters, magic, spelled, spelling, IsCapture, Spells, capture_limit, connection_limit, segment_limit}
 use Rattle.zy_capture.specs.Steps.{Progress, Step, start, goes, refuses, letter, digit, line_feed, tag, judged, is_open, step}
-use Rattle.zy_capture.specs.Verdict.{Reading, read_from, reading, ended, verdict, fault_in, fault_of, is_good}
+use Rattle.zy_read.specs.Format.{Reading, read_on, reading_of, verdict_on, fault_met}
+use Rattle.zy_read.specs.Standing.{StandsAs}
+use Rattle.zy_capture.specs.Verdict.{read_from, ended, verdict, fault_in, is_good, captures}
 use Rattle.zy_capture.specs.Verdict.Verdict.{Good, Bad}
 use Rattle.zy_capture.specs.Standing.{StandsFor}
-use Rattle.zy_capture.specs.Faults.{BeginsMagic, front_text, IsBadMagic, IsConnCount, IsBadTag, IsConnRange, IsSegmentLength, IsCut, IsTrailing, IsTooLong, HasFault}
-use Rattle.zy_capture.proofs.Feeding.{fed_step, read_broken, broken_lasts}
+use Rattle.zy_capture.specs.Faults.{BeginsMagic, front_text, IsBadMagic, IsCountOver, IsBadTag, IsConnectionOver, IsLengthOver, IsTrailing}
+use Rattle.zy_capture.proofs.FaultWords.{IsCut, IsOverlong, IsFault}
+use Rattle.zy_read.proofs.Feeding.{fed_step, read_broken, lasts_by}
+use Rattle.zy_capture.proofs.Feeding.{lasting}
 use Rattle.zy_capture.proofs.WholeLemmas.{letters_on, Parts, IsReadTo, read_whole}
 use Rattle.zy_capture.proofs.SpelledLemmas.{at_place, goes_on, halfway, with_records, read_byte, read_number, read_records, read_magic, connection_read, count_read, spells_good}
 use Rattle.zy_capture.proofs.FaultLemmas.{begins_letters, begins_digit, bad_has}
@@ -26,18 +30,17 @@ use Rattle.zy_capture.proofs.FaultLemmas.{begins_letters, begins_digit, bad_has}
 
 -- nothing is read after a refusal
 refused : (p : Progress) (fault : CaptureFault) (more : List ℕ) → (goes_on (refuses p fault) more).last.due ≡ Broken fault
-refused p fault more = ap (λ (r : Reading). r.last.due) (read_broken (refuses p fault).next fault more refl)
+refused p fault more = ap (λ (r : Reading Progress Record). r.last.due) (read_broken captures lasting (refuses p fault).next fault more refl)
 
 -- a text is bad where what is read of it ends in a fault
-bad_by : (text : List ℕ) (r : Reading) (fault : CaptureFault) → read_from start text ≡ r → r.last.due ≡ Broken fault → verdict text ≡ Bad fault
-unfolding verdict reading
-bad_by text r fault is broken = ap (λ (q : Reading). ended q.last.due q.last q.given) is ∙ ap (λ (d : Due). ended d r.last r.given) broken
+bad_by : (text : List ℕ) (r : Reading Progress Record) (fault : CaptureFault) → read_from start text ≡ r → r.last.due ≡ Broken fault → verdict text ≡ Bad fault
+unfolding verdict_on reading_of
+bad_by text r fault is broken = ap (λ (q : Reading Progress Record). ended q.last.due q.last q.given) is ∙ ap (λ (d : Due). ended d r.last r.given) broken
 
 -- a byte that is a fault
 bad_step : (p : Progress) (given : List Record) (before rest : List ℕ) (byte : ℕ) (fault : CaptureFault) → StandsFor p given before → (step p byte).next.due ≡ Broken fault → verdict (before ++ byte ∷ rest) ≡ Bad fault
 bad_step p given before rest byte fault stands broken =
-    ap verdict (sym (append_assoc before (byte ∷ []) rest))
-    ∙ broken_lasts (step p byte).next (given ++ option_to_list (step p byte).gave) (before ++ byte ∷ []) rest fault broken (fed_step p given before byte stands)
+    lasts_by captures lasting p (step p byte).next (byte ∷ []) (option_to_list (step p byte).gave) fault (fed_step captures p byte) (ap (λ (d : Due). fault_in d) broken) given before rest stands
 
 -- ---- the magic
 
@@ -46,7 +49,7 @@ abbrev letters_place : ℕ → Progress
 letters_place at = at_place Letters 0 0 at
 
 letters_read : (at : ℕ) (more : List ℕ) → at < 6 → read_from start (take at letters ++ more) ≡ read_from (letters_place at) more
-unfolding read_from
+unfolding read_on
 letters_read zero more within = refl
 letters_read (suc zero) more within = refl
 letters_read (suc (suc zero)) more within = refl
@@ -83,7 +86,7 @@ no_tag p byte segment_not end_not close_not =
 
 -- ---- each fault
 
-conn_count_bad : (text : List ℕ) (number : ℕ) → IsConnCount text number → verdict text ≡ Bad (ConnCount number)
+conn_count_bad : (text : List ℕ) (number : ℕ) → IsCountOver text number → verdict text ≡ Bad (ConnCount number)
 conn_count_bad text number has =
     let n = read_number Count has.version 0 8 number has.rest (λ p b. refl) (omega arith) has.fits in
     let p : Progress = halfway Count has.version 0 11 n.field in
@@ -99,10 +102,10 @@ bad_tag_bad text at byte has =
     bad_by text (with_records has.items (goes_on (refuses p (BadTag at byte)) has.rest)) (BadTag at byte)
     (ap (λ (l : List ℕ). read_from start l) has.front.whole
     ∙ front_read has.version has.count has.items at (byte ∷ has.rest) has.front.valid has.front.place (omega (arith, has.within))
-    ∙ ap (λ (r : Reading). with_records has.items r) (read_byte p byte has.rest has.within ∙ ap (λ (k : Step). goes_on k has.rest) refusal))
+    ∙ ap (λ (r : Reading Progress Record). with_records has.items r) (read_byte p byte has.rest has.within ∙ ap (λ (k : Step). goes_on k has.rest) refusal))
     (refused p (BadTag at byte) has.rest)
 
-conn_range_bad : (text : List ℕ) (at number : ℕ) → IsConnRange text at number → verdict text ≡ Bad (ConnRange at number)
+conn_range_bad : (text : List ℕ) (at number : ℕ) → IsConnectionOver text at number → verdict text ≡ Bad (ConnRange at number)
 conn_range_bad text at number has =
     let version : ℕ = has.version in
     let tail : List ℕ = to_be_bytes w32 number ++ has.rest in
@@ -110,7 +113,7 @@ conn_range_bad text at number has =
     let begun : read_from start text ≡ with_records has.items (read_from p (has.tag ∷ tail)) =
     ap (λ (l : List ℕ). read_from start l) has.front.whole
     ∙ front_read version has.count has.items has.tag_at (has.tag ∷ tail) has.front.valid has.front.place (omega (arith, has.place, has.within))
-    ∙ ap (λ (r : Reading). with_records has.items r) refl in
+    ∙ ap (λ (r : Reading Progress Record). with_records has.items r) refl in
     let room : has.tag_at < capture_limit = omega (arith, has.place, has.within) in
     let more_room : has.tag_at + 1 + 3 < capture_limit = omega (arith, has.place, has.within) in
     elim has.known [
@@ -121,7 +124,7 @@ conn_range_bad text at number has =
           let same : ConnRange (has.tag_at + 1 + 3 - 3) number ≡ ConnRange at number = ap (λ (k : ℕ). ConnRange k number) (omega (arith, has.place)) in
           let first : tag p has.tag ≡ goes p Connection = rw is refl in
           bad_by text (with_records has.items (goes_on (refuses q (ConnRange (has.tag_at + 1 + 3 - 3) number)) has.rest)) (ConnRange at number)
-          (begun ∙ ap (λ (r : Reading). with_records has.items r) (read_byte p has.tag tail room ∙ ap (λ (k : Step). goes_on k tail) first ∙ n.reads ∙ ap (λ (k : Step). goes_on k has.rest) judges))
+          (begun ∙ ap (λ (r : Reading Progress Record). with_records has.items r) (read_byte p has.tag tail room ∙ ap (λ (k : Step). goes_on k tail) first ∙ n.reads ∙ ap (λ (k : Step). goes_on k has.rest) judges))
           (refused q (ConnRange (has.tag_at + 1 + 3 - 3) number) has.rest ∙ ap (λ (f : CaptureFault). Broken f) same)
       | inr is ↦
           let n = read_number Closed version has.count (has.tag_at + 1) number has.rest (λ q b. refl) more_room has.fits in
@@ -130,11 +133,11 @@ conn_range_bad text at number has =
           let same : ConnRange (has.tag_at + 1 + 3 - 3) number ≡ ConnRange at number = ap (λ (k : ℕ). ConnRange k number) (omega (arith, has.place)) in
           let first : tag p has.tag ≡ goes p Closed = rw (is.0, is.1) refl in
           bad_by text (with_records has.items (goes_on (refuses q (ConnRange (has.tag_at + 1 + 3 - 3) number)) has.rest)) (ConnRange at number)
-          (begun ∙ ap (λ (r : Reading). with_records has.items r) (read_byte p has.tag tail room ∙ ap (λ (k : Step). goes_on k tail) first ∙ n.reads ∙ ap (λ (k : Step). goes_on k has.rest) judges))
+          (begun ∙ ap (λ (r : Reading Progress Record). with_records has.items r) (read_byte p has.tag tail room ∙ ap (λ (k : Step). goes_on k tail) first ∙ n.reads ∙ ap (λ (k : Step). goes_on k has.rest) judges))
           (refused q (ConnRange (has.tag_at + 1 + 3 - 3) number) has.rest ∙ ap (λ (f : CaptureFault). Broken f) same)
     ]
 
-segment_length_bad : (text : List ℕ) (at number : ℕ) → IsSegmentLength text at number → verdict text ≡ Bad (SegmentLength at number)
+segment_length_bad : (text : List ℕ) (at number : ℕ) → IsLengthOver text at number → verdict text ≡ Bad (SegmentLength at number)
 segment_length_bad text at number has =
     let version : ℕ = has.version in
     let tail : List ℕ = to_be_bytes w32 number ++ has.rest in
@@ -150,7 +153,7 @@ segment_length_bad text at number has =
     bad_by text (with_records has.items (goes_on (refuses r fault) has.rest)) (SegmentLength at number)
     (ap (λ (l : List ℕ). read_from start l) has.front.whole
     ∙ front_read version has.count has.items has.tag_at (83 ∷ (to_be_bytes w32 has.conn ++ tail)) has.front.valid has.front.place (omega (arith, has.place, has.within))
-    ∙ ap (λ (r : Reading). with_records has.items r) (read_byte p 83 (to_be_bytes w32 has.conn ++ tail) (omega (arith, has.place, has.within))
+    ∙ ap (λ (r : Reading Progress Record). with_records has.items r) (read_byte p 83 (to_be_bytes w32 has.conn ++ tail) (omega (arith, has.place, has.within))
     ∙ n.reads ∙ ap (λ (k : Step). goes_on k tail) (connection_read q has.conn has.below) ∙ m.reads ∙ ap (λ (k : Step). goes_on k has.rest) judges))
     (refused r fault has.rest ∙ ap (λ (f : CaptureFault). Broken f) same)
 
@@ -165,7 +168,7 @@ letters_bad at byte rest within differs =
     (refused p (BadMagic at) rest)
 
 digit_read : (more : List ℕ) → read_from start (letters ++ more) ≡ read_from (at_place Digit 0 0 6) more
-unfolding read_from
+unfolding read_on
 digit_read more = refl
 
 digit_bad : (byte : ℕ) (rest : List ℕ) → (BeginsMagic (letters ++ byte ∷ []) → ⊥) → verdict (letters ++ byte ∷ rest) ≡ Bad (BadMagic 6)
@@ -181,7 +184,7 @@ digit_bad byte rest differs =
     (refused p (BadMagic 6) rest)
 
 line_read : (version : ℕ) (more : List ℕ) → (version ≡ 1) ⊎ (version ≡ 2) → read_from start ((letters ++ (48 + version) ∷ []) ++ more) ≡ read_from (at_place (LineFeed version) 0 0 7) more
-unfolding read_from
+unfolding read_on
 line_read version more (inl one) = rw one refl
 line_read version more (inr two) = rw two refl
 
@@ -221,7 +224,7 @@ after_end p byte is = rw is refl
 after_full : (p : Progress) (byte : ℕ) → is_open p.due ≡ true → p.at ≡ capture_limit → (step p byte).next.due ≡ Broken TooLong
 after_full p byte is at = rw (is, at) refl
 
-all_front : (x y : List ℕ) → AreBytes (x ++ y) → AreBytes x
+pub all_front : (x y : List ℕ) → AreBytes (x ++ y) → AreBytes x
 all_front [] y all = tt
 all_front (byte ∷ x) y all = (all.0, all_front x y all.1)
 
@@ -230,7 +233,7 @@ good_nothing Nothing p given version count items is = refl
 good_nothing due p given version count items is = cc
 
 -- neither the end nor a fault was met
-open_due : (due : Due) (p : Progress) (given : List Record) → fault_in due ≡ None → is_good (ended due p given) ≡ false → is_open due ≡ true
+pub open_due : (due : Due) (p : Progress) (given : List Record) → fault_in due ≡ None → is_good (ended due p given) ≡ false → is_open due ≡ true
 open_due Nothing p given none not_good = cc
 open_due (Broken fault) p given none not_good = cc
 open_due due p given none not_good = refl
@@ -240,20 +243,20 @@ open_ends Nothing p given is = cc
 open_ends (Broken fault) p given is = cc
 open_ends due p given is = refl
 
-open_counts : (due : Due) (p : Progress) (given : List Record) (text : List ℕ) → is_open due ≡ true → IsReadTo due p given text → p.at ≡ length text
+pub open_counts : (due : Due) (p : Progress) (given : List Record) (text : List ℕ) → is_open due ≡ true → IsReadTo due p given text → p.at ≡ length text
 open_counts Nothing p given text is read = cc
 open_counts (Broken fault) p given text is read = cc
 open_counts due p given text is read = read.count
 
-begun : Parts Letters start [] []
+pub begun : Parts Letters start [] []
 begun = record { bytes = refl; count = refl; short = omega arith; valid = (omega arith, refl) }
 
 trailing_bad : (text : List ℕ) (at : ℕ) → AreBytes text → IsTrailing text at → verdict text ≡ Bad (Trailing at)
-unfolding verdict reading StandsFor
+unfolding verdict_on reading_of StandsAs
 trailing_bad text at all has =
     let b : List ℕ = spelling has.version has.count has.items in
     let spells : Spells b has.version has.count has.items = record { valid = has.valid; spelled = refl; short = omega (arith, has.place, has.within) } in
-    let r : Reading = read_from start b in
+    let r : Reading Progress Record = read_from start b in
     let due : r.last.due ≡ Nothing = good_nothing r.last.due r.last r.given has.version has.count has.items (spells_good b has.version has.count has.items spells) in
     let read : IsReadTo r.last.due r.last r.given b = read_whole start [] [] b (all_front b (has.byte ∷ has.rest) (subst AreBytes has.whole all)) begun in
     let parts : Parts Nothing r.last r.given b = subst (λ (d : Due). IsReadTo d r.last r.given b) due read in
@@ -262,19 +265,19 @@ trailing_bad text at all has =
     ∙ bad_step r.last r.given b has.rest has.byte (Trailing at) refl (after_end r.last has.byte due ∙ ap (λ (f : CaptureFault). Broken f) place)
 
 cut_bad : (text : List ℕ) (at : ℕ) → AreBytes text → IsCut text at → verdict text ≡ Bad (Truncated at)
-unfolding verdict reading fault_of
+unfolding verdict_on reading_of fault_met
 cut_bad text at all has =
-    let r : Reading = read_from start text in
+    let r : Reading Progress Record = read_from start text in
     let is : is_open r.last.due ≡ true = open_due r.last.due r.last r.given has.no_fault has.no_capture in
     open_ends r.last.due r.last r.given is
     ∙ ap (λ (n : ℕ). Bad (Truncated n)) (open_counts r.last.due r.last r.given text is (read_whole start [] [] text all begun) ∙ sym has.place)
 
-too_long_bad : (text : List ℕ) → AreBytes text → IsTooLong text → verdict text ≡ Bad TooLong
-unfolding verdict reading fault_of StandsFor
+too_long_bad : (text : List ℕ) → AreBytes text → IsOverlong text → verdict text ≡ Bad TooLong
+unfolding verdict_on reading_of fault_met StandsAs
 too_long_bad text all has =
     let b : List ℕ = has.front in
-    let r : Reading = read_from start b in
-    let cut : HasFault b (Truncated capture_limit) = bad_has b (Truncated capture_limit) (all_front b (has.byte ∷ has.rest) (subst AreBytes has.whole all)) has.cut in
+    let r : Reading Progress Record = read_from start b in
+    let cut : IsFault b (Truncated capture_limit) = bad_has b (Truncated capture_limit) (all_front b (has.byte ∷ has.rest) (subst AreBytes has.whole all)) has.cut in
     let is : is_open r.last.due ≡ true = open_due r.last.due r.last r.given cut.no_fault cut.no_capture in
     let ends : Bad (Truncated r.last.at) ≡ Bad (Truncated capture_limit) = sym (open_ends r.last.due r.last r.given is) ∙ has.cut in
     let at_limit : r.last.at ≡ capture_limit = cc in
@@ -283,7 +286,7 @@ too_long_bad text all has =
 -- ---- all faults
 
 -- a text is bad with the fault that it has
-pub has_bad : (text : List ℕ) (fault : CaptureFault) → AreBytes text → HasFault text fault → verdict text ≡ Bad fault
+pub has_bad : (text : List ℕ) (fault : CaptureFault) → AreBytes text → IsFault text fault → verdict text ≡ Bad fault
 has_bad text (BadMagic at) all has = bad_magic_bad text at has
 has_bad text (ConnCount number) all has = conn_count_bad text number has
 has_bad text (BadTag at byte) all has = bad_tag_bad text at byte has

@@ -12,7 +12,8 @@ use Rattle.zy_capture.specs.declared.replies_due.RepliesDue.TheVariants.{Tag, Co
 use Rattle.zy_capture.specs.Capture.{connection_limit}
 use Rattle.zy_capture.specs.Replies.{magic, session_text, spelled, spelling, IsNext, AreNumbers, AreInOrder, SpellsReplies, replies_limit}
 use Rattle.zy_capture.specs.RepliesSteps.{Progress, Step, start, goes, gives, grows, connection, session, size_read, four, eight, output, taken, is_open, step}
-use Rattle.zy_capture.specs.RepliesVerdict.{Reading, read_from, reading, with_front, ended, verdict}
+use Rattle.zy_read.specs.Format.{Reading, read_on, reading_of, verdict_on, with_front}
+use Rattle.zy_capture.specs.RepliesVerdict.{read_from, ended, verdict}
 use Rattle.zy_capture.specs.RepliesVerdict.Verdict.{Good}
 use Rattle.zy_capture.proofs.ByteLemmas.{assoc_twice}
 
@@ -35,14 +36,14 @@ halfway due version connections sessions at field =
     record { due = due; field = field; payload = []; version = version; connections = connections; sessions = sessions; at = at }
 
 -- what is read after a step
-abbrev goes_on : Step → List ℕ → Reading
+abbrev goes_on : Step → List ℕ → Reading Progress SessionBytes
 goes_on s more = with_front s.gave (read_from s.next more)
 
 not_full : (is : Bool) (at : ℕ) → at < replies_limit → (is && nat_le replies_limit at) ≡ false
 not_full is at room = grind (arith, nat_tests)
 
 read_byte : (p : Progress) (byte : ℕ) (more : List ℕ) → p.at < replies_limit → read_from p (byte ∷ more) ≡ goes_on (taken p.due p byte) more
-unfolding read_from
+unfolding read_on
 read_byte p byte more room =
     let open_step : step p byte ≡ taken p.due p byte = rw (not_full (is_open p.due) p.at room) refl in
     ap (λ (s : Step). goes_on s more) open_step
@@ -214,7 +215,7 @@ read_record item version connections sessions at stop more (inr two) next number
     ∙ ap (λ (k : ℕ). with_front (Some item) (read_from (at_place Tag version (item.conn + 1) (item.session + 1) k) more)) (omega arith)
 
 -- outputs in front of a reading
-abbrev with_outputs : List SessionBytes → Reading → Reading
+abbrev with_outputs : List SessionBytes → Reading Progress SessionBytes → Reading Progress SessionBytes
 with_outputs items r = record { given = items ++ r.given; last = r.last }
 
 -- what is read up to the end byte, after some connections and sessions
@@ -241,23 +242,23 @@ read_records (item ∷ items) version connections sessions at stop known ordered
       reads = λ more.
           ap (λ (l : List ℕ). read_from (at_place Tag version connections sessions at) l) (append_assoc (spelled version item) (flat_map (spelled version) items) more)
           ∙ read_record item version connections sessions at middle (flat_map (spelled version) items ++ more) known ordered.0 ordered.1 refl (omega (arith, further, room))
-          ∙ ap (λ (r : Reading). with_front (Some item) r) (rest.reads more);
+          ∙ ap (λ (r : Reading Progress SessionBytes). with_front (Some item) r) (rest.reads more);
     }
 
 -- ---- the whole
 
 read_end : (version connections sessions at : ℕ) → goes_on (goes (at_place Tag version connections sessions at) Nothing) [] ≡ record { given = []; last = at_place Nothing version connections sessions (at + 1) }
-unfolding read_from
+unfolding read_on
 read_end version connections sessions at = refl
 
 read_magic : (version : ℕ) (more : List ℕ) → (version ≡ 1) ⊎ (version ≡ 2) → read_from start (magic version ++ more) ≡ read_from (at_place Tag version 0 0 8) more
-unfolding read_from
+unfolding read_on
 read_magic version more (inl one) = rw one refl
 read_magic version more (inr two) = rw two refl
 
 -- a spelling is good
 pub spells_good : (text : List ℕ) (version : ℕ) (items : List SessionBytes) → SpellsReplies text version items → verdict text ≡ Good version items
-unfolding verdict reading spelling
+unfolding verdict_on reading_of spelling
 spells_good text version items spells =
     let body : List ℕ = flat_map (spelled version) items in
     let whole : length (magic version ++ body ++ 69 ∷ []) ≤ replies_limit = subst (λ (l : List ℕ). length l ≤ replies_limit) spells.spelled spells.short in
@@ -269,7 +270,7 @@ spells_good text version items spells =
     let read : read_from start (magic version ++ (body ++ 69 ∷ [])) ≡ record { given = items ++ []; last = last } =
     read_magic version (body ++ 69 ∷ []) spells.valid.known
     ∙ all.reads (69 ∷ [])
-    ∙ ap (λ (r : Reading). with_outputs items r) (read_byte (at_place Tag version all.connections_then all.sessions_then stop) 69 [] (omega arith) ∙ read_end version all.connections_then all.sessions_then stop) in
+    ∙ ap (λ (r : Reading Progress SessionBytes). with_outputs items r) (read_byte (at_place Tag version all.connections_then all.sessions_then stop) 69 [] (omega arith) ∙ read_end version all.connections_then all.sessions_then stop) in
     ap (λ (l : List ℕ). ended (read_from start l).last.due (read_from start l).last (read_from start l).given) spells.spelled
-    ∙ ap (λ (r : Reading). ended r.last.due r.last r.given) read
+    ∙ ap (λ (r : Reading Progress SessionBytes). ended r.last.due r.last r.given) read
     ∙ ap (λ (l : List SessionBytes). Good version l) (append-nil items)

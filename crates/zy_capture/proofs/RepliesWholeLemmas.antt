@@ -14,28 +14,29 @@ use Rattle.zy_capture.specs.declared.replies_due.RepliesDue.TheVariants.{Letters
 use Rattle.zy_capture.specs.Capture.{AreBytes, connection_limit}
 use Rattle.zy_capture.specs.Replies.{letters, magic, session_text, spelled, spelling, IsNext, AreNumbers, AreInOrder, SpellsReplies, replies_limit}
 use Rattle.zy_capture.specs.RepliesSteps.{Progress, Step, start, goes, gives, keeps, grows, letter, digit, line_feed, tag, may_come, due_session, connection, session, size_read, four, eight, output, taken, is_open, is_full, step}
-use Rattle.zy_capture.specs.RepliesVerdict.{Reading, read_from, reading, ended, verdict}
+use Rattle.zy_read.specs.Format.{Reading, read_on, reading_of, verdict_on}
+use Rattle.zy_capture.specs.RepliesVerdict.{read_from, ended, verdict}
 use Rattle.zy_capture.specs.RepliesVerdict.Verdict.{Good}
 use Rattle.zy_capture.proofs.ByteLemmas.{bytes_on, byte_at, positive, chosen, counted, on_part, assoc_twice}
 
 -- ---- what was read
 
 -- how many connections there are after these outputs, where there were some before
-abbrev connections_after : ℕ → List SessionBytes → ℕ
+abbrev pub connections_after : ℕ → List SessionBytes → ℕ
 connections_after connections [] = connections
 connections_after connections (item ∷ items) = connections_after (item.conn + 1) items
 
 -- how many sessions the last connection has after these outputs, where the last one before had some
-abbrev sessions_after : ℕ → List SessionBytes → ℕ
+abbrev pub sessions_after : ℕ → List SessionBytes → ℕ
 sessions_after sessions [] = sessions
 sessions_after sessions (item ∷ items) = sessions_after (item.session + 1) items
 
 -- the bytes that lead to the records of a file
-abbrev front : Progress → List SessionBytes → List ℕ
+abbrev pub front : Progress → List SessionBytes → List ℕ
 front p given = magic p.version ++ flat_map (spelled p.version) given
 
 -- the bytes that lead to where this is due
-abbrev bytes_of : RepliesDue → Progress → List SessionBytes → List ℕ
+abbrev pub bytes_of : RepliesDue → Progress → List SessionBytes → List ℕ
 bytes_of Letters p given = take p.at letters
 bytes_of Digit p given = letters
 bytes_of (LineFeed version) p given = letters ++ (48 + version) ∷ []
@@ -49,36 +50,36 @@ bytes_of Nothing p given = front p given ++ 69 ∷ []
 bytes_of (Broken fault) p given = []
 
 -- a version is 1 or 2
-abbrev IsVersion : ℕ → Type 0
+abbrev pub IsVersion : ℕ → Type 0
 IsVersion version = (version ≡ 1) ⊎ (version ≡ 2)
 
 -- some bytes of a number
-abbrev IsField : ℕ → List ℕ → Type 0
+abbrev pub IsField : ℕ → List ℕ → Type 0
 IsField most field = (length field ≤ most) × AreBytes field
 
 -- before the first record
-record IsFirst (p : Progress) (given : List SessionBytes) : Type 0 where
-  none : given ≡ []
-  no_connection : p.connections ≡ 0
-  no_session : p.sessions ≡ 0
+pub record IsFirst (p : Progress) (given : List SessionBytes) : Type 0 where
+  pub none : given ≡ []
+  pub no_connection : p.connections ≡ 0
+  pub no_session : p.sessions ≡ 0
 
 -- among the records
-record Keeps (p : Progress) (given : List SessionBytes) : Type 0 where
-  known : IsVersion p.version
-  ordered : AreInOrder p.version 0 0 given
-  connections_are : p.connections ≡ connections_after 0 given
-  sessions_are : p.sessions ≡ sessions_after 0 given
+pub record Keeps (p : Progress) (given : List SessionBytes) : Type 0 where
+  pub known : IsVersion p.version
+  pub ordered : AreInOrder p.version 0 0 given
+  pub connections_are : p.connections ≡ connections_after 0 given
+  pub sessions_are : p.sessions ≡ sessions_after 0 given
 
 -- a connection may come next
-abbrev MayCome : Progress → ℕ → Type 0
+abbrev pub MayCome : Progress → ℕ → Type 0
 MayCome p conn = (conn < connection_limit) × ((conn ≡ p.connections) ⊎ ((p.version ≡ 2) × (conn + 1 ≡ p.connections)))
 
 -- a session is the next one
-abbrev IsDue : Progress → ℕ → ℕ → Type 0
+abbrev pub IsDue : Progress → ℕ → ℕ → Type 0
 IsDue p conn number = IsNext p.version p.connections p.sessions conn number × AreNumbers conn number
 
 -- what holds where this is due
-abbrev IsSoFar : RepliesDue → Progress → List SessionBytes → Type 0
+abbrev pub IsSoFar : RepliesDue → Progress → List SessionBytes → Type 0
 IsSoFar Letters p given = IsFirst p given × (p.at < 6)
 IsSoFar Digit p given = IsFirst p given
 IsSoFar (LineFeed version) p given = IsFirst p given × IsVersion version
@@ -91,14 +92,14 @@ IsSoFar Nothing p given = Keeps p given
 IsSoFar (Broken fault) p given = ⊤
 
 -- a text, read up to there without a fault
-record Parts (due : RepliesDue) (p : Progress) (given : List SessionBytes) (text : List ℕ) : Type 0 where
+pub record Parts (due : RepliesDue) (p : Progress) (given : List SessionBytes) (text : List ℕ) : Type 0 where
   pub bytes : text ≡ bytes_of due p given
   pub count : p.at ≡ length text
   pub short : p.at ≤ replies_limit
   pub valid : IsSoFar due p given
 
 -- a text, read up to there
-abbrev IsReadTo : RepliesDue → Progress → List SessionBytes → List ℕ → Type 0
+abbrev pub IsReadTo : RepliesDue → Progress → List SessionBytes → List ℕ → Type 0
 IsReadTo (Broken fault) p given text = ⊤
 IsReadTo due p given text = Parts due p given text
 
@@ -380,13 +381,13 @@ from_step p given text byte small read =
     (λ full. tt)
     (λ room. from_taken p.due p given text byte refl small (has_room p.due p.at room) read)
 
-read_whole : (p : Progress) (given : List SessionBytes) (text more : List ℕ) → AreBytes more → IsReadTo p.due p given text
+pub read_whole : (p : Progress) (given : List SessionBytes) (text more : List ℕ) → AreBytes more → IsReadTo p.due p given text
     → IsReadTo (read_from p more).last.due (read_from p more).last (given ++ (read_from p more).given) (text ++ more)
-unfolding read_from
+unfolding read_on
 read_whole p given text [] all read = subst (λ (l : List ℕ). IsReadTo p.due p (given ++ []) l) (sym (append-nil text)) (stays p.due p given text read)
 read_whole p given text (byte ∷ more) all read =
     let s : Step = step p byte in
-    let r : Reading = read_from s.next more in
+    let r : Reading Progress SessionBytes = read_from s.next more in
     let on : IsReadTo r.last.due r.last ((given ++ option_to_list s.gave) ++ r.given) ((text ++ byte ∷ []) ++ more) = read_whole s.next (given ++ option_to_list s.gave) (text ++ byte ∷ []) more all.1 (from_step p given text byte all.0 read) in
     subst (λ (l : List ℕ). IsReadTo r.last.due r.last (given ++ (option_to_list s.gave ++ r.given)) l) (append_assoc text (byte ∷ []) more)
     (subst (λ (l : List SessionBytes). IsReadTo r.last.due r.last l ((text ++ byte ∷ []) ++ more)) (append_assoc given (option_to_list s.gave) r.given) on)
@@ -407,8 +408,8 @@ spells due p given text version items read is = cc
 
 -- a good text is a spelling
 pub good_spells : (text : List ℕ) (version : ℕ) (items : List SessionBytes) → AreBytes text → verdict text ≡ Good version items → SpellsReplies text version items
-unfolding verdict reading
+unfolding verdict_on reading_of
 good_spells text version items all good =
-    let r : Reading = read_from start text in
+    let r : Reading Progress SessionBytes = read_from start text in
     let first : IsFirst start [] = record { none = refl; no_connection = refl; no_session = refl } in
     spells r.last.due r.last r.given text version items (read_whole start [] [] text all (record { bytes = refl; count = refl; short = omega arith; valid = (first, omega arith) })) good

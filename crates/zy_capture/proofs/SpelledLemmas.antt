@@ -13,7 +13,8 @@ use Rattle.zy_capture.specs.declared.due.Due.{Due}
 use Rattle.zy_capture.specs.declared.due.Due.TheVariants.{Count, Tag, Connection, Length, Payload, Closed, Nothing}
 use Rattle.zy_capture.specs.Capture.{magic, spelled, spelling, IsRecordOf, IsCapture, Spells, capture_limit, connection_limit, segment_limit}
 use Rattle.zy_capture.specs.Steps.{Progress, Step, start, goes, gives, grows, tag, judged, number, segment, taken, is_open, step}
-use Rattle.zy_capture.specs.Verdict.{Reading, read_from, reading, with_front, ended, verdict}
+use Rattle.zy_read.specs.Format.{Reading, read_on, reading_of, verdict_on, with_front}
+use Rattle.zy_capture.specs.Verdict.{read_from, ended, verdict}
 use Rattle.zy_capture.specs.Verdict.Verdict.{Good}
 use Rattle.zy_capture.proofs.ByteLemmas.{assoc_twice}
 
@@ -30,7 +31,7 @@ abbrev pub at_place : Due → ℕ → ℕ → ℕ → Progress
 at_place due version count at = record { due = due; field = []; payload = []; version = version; count = count; at = at }
 
 -- what is read after a step
-abbrev pub goes_on : Step → List ℕ → Reading
+abbrev pub goes_on : Step → List ℕ → Reading Progress Record
 goes_on s more = with_front s.gave (read_from s.next more)
 
 zero_no : (n : ℕ) → 0 < n → (n == 0) ≡ false
@@ -40,7 +41,7 @@ pub not_full : (is : Bool) (at : ℕ) → at < capture_limit → (is && nat_le c
 not_full is at room = grind (arith, nat_tests)
 
 pub read_byte : (p : Progress) (byte : ℕ) (more : List ℕ) → p.at < capture_limit → read_from p (byte ∷ more) ≡ goes_on (taken p.due p byte) more
-unfolding read_from
+unfolding read_on
 read_byte p byte more room =
     let open_step : step p byte ≡ taken p.due p byte = rw (not_full (is_open p.due) p.at room) refl in
     ap (λ (s : Step). goes_on s more) open_step
@@ -161,7 +162,7 @@ read_record (Kinds.Close conn) version count at stop more valid few stops room =
     ∙ ap (λ (k : ℕ). with_front (Some (Kinds.Close conn)) (read_from (at_place Tag version count k) more)) (omega arith)
 
 -- records in front of a reading
-abbrev pub with_records : List Record → Reading → Reading
+abbrev pub with_records : List Record → Reading Progress Record → Reading Progress Record
 with_records items r = record { given = items ++ r.given; last = r.last }
 
 pub read_records : (items : List Record) (version count at stop : ℕ) (more : List ℕ) → AllByRecursion (IsRecordOf version count) items → count ≤ connection_limit → stop ≡ at + length (flat_map spelled items) → stop ≤ capture_limit
@@ -173,16 +174,16 @@ read_records (item ∷ items) version count at stop more valid few stops room =
     let further : stop ≡ middle + length (flat_map spelled items) = omega (arith, stops, both) in
     ap (λ (l : List ℕ). read_from (at_place Tag version count at) l) (append_assoc (spelled item) (flat_map spelled items) more)
     ∙ read_record item version count at middle (flat_map spelled items ++ more) valid.0 few refl (omega (arith, further, room))
-    ∙ ap (λ (r : Reading). with_front (Some item) r) (read_records items version count middle stop more valid.1 few further room)
+    ∙ ap (λ (r : Reading Progress Record). with_front (Some item) r) (read_records items version count middle stop more valid.1 few further room)
 
 -- ---- the whole
 
 read_end : (version count at : ℕ) → goes_on (goes (at_place Tag version count at) Nothing) [] ≡ record { given = []; last = at_place Nothing version count (at + 1) }
-unfolding read_from
+unfolding read_on
 read_end version count at = refl
 
 pub read_magic : (version : ℕ) (more : List ℕ) → (version ≡ 1) ⊎ (version ≡ 2) → read_from start (magic version ++ more) ≡ read_from (at_place Count version 0 8) more
-unfolding read_from
+unfolding read_on
 read_magic version more (inl one) = rw one refl
 read_magic version more (inr two) = rw two refl
 
@@ -205,14 +206,14 @@ spelling_read version count items valid short =
           ∙ n.reads
           ∙ ap (λ (k : Step). goes_on k (body ++ 69 ∷ [])) (count_read p count valid.few)
           ∙ read_records items version count 12 stop (69 ∷ []) valid.lawful valid.few refl (omega arith)
-          ∙ ap (λ (r : Reading). with_records items r) (read_byte (at_place Tag version count stop) 69 [] (omega arith) ∙ read_end version count stop),
+          ∙ ap (λ (r : Reading Progress Record). with_records items r) (read_byte (at_place Tag version count stop) 69 [] (omega arith) ∙ read_end version count stop),
     )
 
 -- a spelling is good
 pub spells_good : (text : List ℕ) (version count : ℕ) (items : List Record) → Spells text version count items → verdict text ≡ Good version count items
-unfolding verdict reading
+unfolding verdict_on reading_of
 spells_good text version count items spells =
     let whole = spelling_read version count items spells.valid (subst (λ (l : List ℕ). length l ≤ capture_limit) spells.spelled spells.short) in
     ap (λ (l : List ℕ). ended (read_from start l).last.due (read_from start l).last (read_from start l).given) spells.spelled
-    ∙ ap (λ (r : Reading). ended r.last.due r.last r.given) whole.1
+    ∙ ap (λ (r : Reading Progress Record). ended r.last.due r.last r.given) whole.1
     ∙ ap (λ (l : List Record). Good version count l) (append-nil items)

@@ -14,7 +14,8 @@ use Rattle.zy_capture.specs.declared.due.Due.{Due}
 use Rattle.zy_capture.specs.declared.due.Due.TheVariants.{Letters, Digit, LineFeed, Count, Tag, Connection, Length, Payload, Closed, Nothing, Broken}
 use Rattle.zy_capture.specs.Capture.{AreBytes, letters, magic, spelled, spelling, IsRecordOf, IsCapture, Spells, capture_limit, connection_limit, segment_limit}
 use Rattle.zy_capture.specs.Steps.{Progress, Step, start, goes, keeps, grows, letter, digit, line_feed, tag, number, segment, taken, is_open, is_full, step}
-use Rattle.zy_capture.specs.Verdict.{Reading, read_from, reading, ended, verdict}
+use Rattle.zy_read.specs.Format.{Reading, read_on, reading_of, verdict_on}
+use Rattle.zy_capture.specs.Verdict.{read_from, ended, verdict}
 use Rattle.zy_capture.specs.Verdict.Verdict.{Good}
 use Rattle.zy_capture.proofs.ByteLemmas.{bytes_on, byte_at, both_true, positive, chosen, counted, assoc_twice, on_part}
 
@@ -277,11 +278,11 @@ from_step p given text byte small read =
 
 pub read_whole : (p : Progress) (given : List Record) (text more : List ℕ) → AreBytes more → IsReadTo p.due p given text
     → IsReadTo (read_from p more).last.due (read_from p more).last (given ++ (read_from p more).given) (text ++ more)
-unfolding read_from
+unfolding read_on
 read_whole p given text [] all read = subst (λ (l : List ℕ). IsReadTo p.due p (given ++ []) l) (sym (append-nil text)) (stays p.due p given text read)
 read_whole p given text (byte ∷ more) all read =
     let s : Step = step p byte in
-    let r : Reading = read_from s.next more in
+    let r : Reading Progress Record = read_from s.next more in
     let on : IsReadTo r.last.due r.last ((given ++ option_to_list s.gave) ++ r.given) ((text ++ byte ∷ []) ++ more) = read_whole s.next (given ++ option_to_list s.gave) (text ++ byte ∷ []) more all.1 (from_step p given text byte all.0 read) in
     subst (λ (l : List ℕ). IsReadTo r.last.due r.last (given ++ (option_to_list s.gave ++ r.given)) l) (append_assoc text (byte ∷ []) more)
     (subst (λ (l : List Record). IsReadTo r.last.due r.last l ((text ++ byte ∷ []) ++ more)) (append_assoc given (option_to_list s.gave) r.given) on)
@@ -304,7 +305,7 @@ spells due p given text version count items read is = cc
 
 -- a good text is a spelling
 pub good_spells : (text : List ℕ) (version count : ℕ) (items : List Record) → AreBytes text → verdict text ≡ Good version count items → Spells text version count items
-unfolding verdict reading
+unfolding verdict_on reading_of
 good_spells text version count items all good =
-    let r : Reading = read_from start text in
+    let r : Reading Progress Record = read_from start text in
     spells r.last.due r.last r.given text version count items (read_whole start [] [] text all (record { bytes = refl; count = refl; short = omega arith; valid = (omega arith, refl) })) good

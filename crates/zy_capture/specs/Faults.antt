@@ -1,14 +1,12 @@
 -- The faults of a capture, docs/FORMATS.md, "Capture": what a text is that has one of them. Each comes after bytes that
 -- spell the beginning of a capture, where the first wrong byte or number follows. That the verdict on a text is bad with
 -- a fault exactly where the text has it is a law in src/laws.rt.
-use Rattle.std.specs.Prelude.{◌≡◌, ◌⊎◌, ℕ, ◌+◌, ◌^◌, ◌<◌, ◌≤◌, false, List, [], ◌∷◌, ◌++◌, length, flat_map, None}
+use Rattle.std.specs.Prelude.{◌≡◌, ◌⊎◌, ℕ, ◌+◌, ◌^◌, ◌<◌, ◌≤◌, List, [], ◌∷◌, ◌++◌, length, flat_map}
 use Rattle.std.specs.Int.{to_be_bytes, w32}
 use Rattle.zy_capture.specs.declared.record.Record.{Record}
 use Rattle.zy_capture.specs.declared.capture_fault.CaptureFault.{CaptureFault}
 use Rattle.zy_capture.specs.declared.capture_fault.CaptureFault.TheVariants.{BadMagic, ConnCount, BadTag, ConnRange, SegmentLength, Truncated, Trailing, TooLong}
-use Rattle.zy_capture.specs.Capture.{magic, spelled, spelling, IsCapture, capture_limit, connection_limit, segment_limit}
-use Rattle.zy_capture.specs.Verdict.{verdict, fault_of, is_good}
-use Rattle.zy_capture.specs.Verdict.Verdict.{Bad}
+use Rattle.zy_capture.specs.Capture.{magic, spelled, spelling, IsCapture, Spells, capture_limit, connection_limit, segment_limit}
 
 -- ---- beginnings
 
@@ -43,7 +41,7 @@ pub record IsBadMagic (text : List ℕ) (at : ℕ) : Type 0 where
   pub differs : BeginsMagic (front ++ byte ∷ []) → ⊥
 
 -- a count of over 4,096 follows the magic
-pub record IsConnCount (text : List ℕ) (number : ℕ) : Type 0 where
+pub record IsCountOver (text : List ℕ) (number : ℕ) : Type 0 where
   pub version : ℕ
   pub rest : List ℕ
   pub known : (version ≡ 1) ⊎ (version ≡ 2)
@@ -64,7 +62,7 @@ pub record IsBadTag (text : List ℕ) (at byte : ℕ) : Type 0 where
   pub within : at < capture_limit
 
 -- the connection of a segment or, in version 2, of a close record is not below the count
-pub record IsConnRange (text : List ℕ) (at number : ℕ) : Type 0 where
+pub record IsConnectionOver (text : List ℕ) (at number : ℕ) : Type 0 where
   pub version : ℕ
   pub count : ℕ
   pub items : List Record
@@ -79,7 +77,7 @@ pub record IsConnRange (text : List ℕ) (at number : ℕ) : Type 0 where
   pub within : at + 3 < capture_limit
 
 -- the length of a segment is over 65,535
-pub record IsSegmentLength (text : List ℕ) (at number : ℕ) : Type 0 where
+pub record IsLengthOver (text : List ℕ) (at number : ℕ) : Type 0 where
   pub version : ℕ
   pub count : ℕ
   pub items : List Record
@@ -93,12 +91,6 @@ pub record IsSegmentLength (text : List ℕ) (at number : ℕ) : Type 0 where
   pub fits : number < 2 ^ 32
   pub within : at + 3 < capture_limit
 
--- the text ends before the end byte, and has no fault
-pub record IsCut (text : List ℕ) (at : ℕ) : Type 0 where
-  pub place : at ≡ length text
-  pub no_fault : fault_of text ≡ None
-  pub no_capture : is_good (verdict text) ≡ false
-
 -- a byte follows a capture
 pub record IsTrailing (text : List ℕ) (at : ℕ) : Type 0 where
   pub version : ℕ
@@ -111,21 +103,39 @@ pub record IsTrailing (text : List ℕ) (at : ℕ) : Type 0 where
   pub place : at ≡ length (spelling version count items)
   pub within : at ≤ capture_limit
 
+-- a byte or a number of the text is wrong, or comes after the end
+abbrev pub IsWrong : List ℕ → CaptureFault → Type 0
+IsWrong text (BadMagic at) = IsBadMagic text at
+IsWrong text (ConnCount number) = IsCountOver text number
+IsWrong text (BadTag at byte) = IsBadTag text at byte
+IsWrong text (ConnRange at number) = IsConnectionOver text at number
+IsWrong text (SegmentLength at number) = IsLengthOver text at number
+IsWrong text (Trailing at) = IsTrailing text at
+IsWrong text (Truncated at) = ⊥
+IsWrong text TooLong = ⊥
+
+-- the text is no capture, but nothing in it is wrong, and it has at most as many bytes as a capture may have
+pub record IsBegun (text : List ℕ) : Type 0 where
+  pub short : length text ≤ capture_limit
+  pub no_capture : (version count : ℕ) (items : List Record) → Spells text version count items → ⊥
+  pub none_wrong : (fault : CaptureFault) → IsWrong text fault → ⊥
+
+-- the text ends before the end byte
+pub record IsTruncated (text : List ℕ) (at : ℕ) : Type 0 where
+  pub place : at ≡ length text
+  pub begun : IsBegun text
+
 -- a byte follows as many as a capture may have, and these end before the end byte
 pub record IsTooLong (text : List ℕ) : Type 0 where
   pub front : List ℕ
   pub byte : ℕ
   pub rest : List ℕ
   pub whole : text ≡ front ++ byte ∷ rest
-  pub cut : verdict front ≡ Bad (Truncated capture_limit)
+  pub most : length front ≡ capture_limit
+  pub begun : IsBegun front
 
 -- the text has this fault
 abbrev pub HasFault : List ℕ → CaptureFault → Type 0
-HasFault text (BadMagic at) = IsBadMagic text at
-HasFault text (ConnCount number) = IsConnCount text number
-HasFault text (BadTag at byte) = IsBadTag text at byte
-HasFault text (ConnRange at number) = IsConnRange text at number
-HasFault text (SegmentLength at number) = IsSegmentLength text at number
-HasFault text (Truncated at) = IsCut text at
-HasFault text (Trailing at) = IsTrailing text at
+HasFault text (Truncated at) = IsTruncated text at
 HasFault text TooLong = IsTooLong text
+HasFault text fault = IsWrong text fault

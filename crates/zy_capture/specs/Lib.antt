@@ -1,6 +1,7 @@
 pub mod Capture
 pub mod Steps
 pub mod Verdict
+pub mod SoFar
 pub mod Standing
 pub mod Streams
 pub mod Outputs

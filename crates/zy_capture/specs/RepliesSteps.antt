@@ -1,10 +1,11 @@
 -- What each byte of a replies file does, by what is due where it stands: the table of docs/FORMATS.md, "Replies". A number
 -- is judged at its last byte.
-use Rattle.std.specs.Prelude.{ℕ, ◌+◌, ◌-◌, ◌^◌, ◌==◌, ◌&&◌, ◌||◌, nat_lt, nat_le, if◌then◌else◌, Bool, true, false, List, [], ◌∷◌, ◌++◌, length, Option, None, Some}
+use Rattle.std.specs.Prelude.{ℕ, ◌+◌, ◌-◌, ◌^◌, ◌==◌, ◌&&◌, ◌||◌, nat_lt, nat_le, if◌then◌else◌, Bool, true, false, List, [], ◌∷◌, ◌++◌, length, None, Some}
 use Rattle.std.specs.List.{slice_index}
 use Rattle.std.specs.Int.{from_be_bytes, w32, w64}
 use Rattle.zy_base.specs.declared.file_fault.FileFault.{FileFault}
 use Rattle.zy_base.specs.declared.file_fault.FileFault.TheVariants.{Form, TooLong}
+use Rattle.zy_read.specs.Format as Reads
 use Rattle.zy_capture.specs.declared.session_bytes.SessionBytes.{SessionBytes}
 use Rattle.zy_capture.specs.declared.replies_due.RepliesDue.{RepliesDue}
 use Rattle.zy_capture.specs.declared.replies_due.RepliesDue.TheVariants.{Letters, Digit, LineFeed, Tag, Connection, Session, Length, Output, Nothing, Broken}
@@ -35,9 +36,8 @@ abbrev pub start : Progress
 start = record { due = Letters; field = []; payload = []; version = 0; connections = 0; sessions = 0; at = 0 }
 
 -- what a byte does: where it leads, and the output that it ends
-pub record Step : Type 0 where
-  pub next : Progress
-  pub gave : Option SessionBytes
+abbrev pub Step : Type 0
+Step = Reads.Step Progress SessionBytes
 
 -- ---- what a byte may do
 
@@ -66,6 +66,10 @@ keeps p due byte = record { next = record p { due = due; field = p.field ++ byte
 -- the byte is one of an output, and not the last one
 abbrev pub grows : Progress → RepliesDue → ℕ → Step
 grows p due byte = record { next = record p { due = due; payload = p.payload ++ byte ∷ []; at = p.at + 1 }; gave = None }
+
+-- where bytes of an output lead, of which none is its last one
+abbrev pub grown_by : Progress → List ℕ → Progress
+grown_by p bytes = record p { payload = p.payload ++ bytes; at = p.at + length bytes }
 
 -- ---- what a byte does, by what is due
 

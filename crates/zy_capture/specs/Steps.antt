@@ -1,8 +1,9 @@
 -- What each byte of a capture does, by what is due where it stands: the table of docs/FORMATS.md, "Capture". A number is
 -- judged at its last byte.
-use Rattle.std.specs.Prelude.{ℕ, ◌+◌, ◌-◌, ◌==◌, ◌&&◌, nat_lt, nat_le, if◌then◌else◌, Bool, true, false, List, [], ◌∷◌, ◌++◌, length, Option, None, Some}
+use Rattle.std.specs.Prelude.{ℕ, ◌+◌, ◌-◌, ◌==◌, ◌&&◌, nat_lt, nat_le, if◌then◌else◌, Bool, true, false, List, [], ◌∷◌, ◌++◌, length, None, Some}
 use Rattle.std.specs.List.{slice_index}
 use Rattle.std.specs.Int.{from_be_bytes, w32}
+use Rattle.zy_read.specs.Format as Reads
 use Rattle.zy_capture.specs.declared.record.Record.{Record}
 use Rattle.zy_capture.specs.declared.record.Record.TheVariants as Kinds
 use Rattle.zy_capture.specs.declared.capture_fault.CaptureFault.{CaptureFault}
@@ -33,9 +34,8 @@ abbrev pub start : Progress
 start = record { due = Letters; field = []; payload = []; version = 0; count = 0; at = 0 }
 
 -- what a byte does: where it leads, and the record that it ends
-pub record Step : Type 0 where
-  pub next : Progress
-  pub gave : Option Record
+abbrev pub Step : Type 0
+Step = Reads.Step Progress Record
 
 -- ---- what a byte may do
 
@@ -62,6 +62,10 @@ keeps p due byte = record { next = record p { due = due; field = p.field ++ byte
 -- the byte is one of a segment, and not the last one
 abbrev pub grows : Progress → Due → ℕ → Step
 grows p due byte = record { next = record p { due = due; payload = p.payload ++ byte ∷ []; at = p.at + 1 }; gave = None }
+
+-- where bytes of a segment lead, of which none is its last one
+abbrev pub grown_by : Progress → List ℕ → Progress
+grown_by p bytes = record p { payload = p.payload ++ bytes; at = p.at + length bytes }
 
 -- ---- what a byte does, by what is due
 

@@ -55,8 +55,12 @@ grown connections conn bytes = slice_set connections conn (last_grown (sessions_
 abbrev pub closed : List (List (List ℕ)) → ℕ → List (List (List ℕ))
 closed connections conn = slice_set connections conn (sessions_of connections conn ++ [] ∷ [])
 
+-- the sessions after a record was added
+abbrev pub with_record : List (List (List ℕ)) → Record → List (List (List ℕ))
+with_record connections (Kinds.Segment s) = grown connections s.conn s.bytes
+with_record connections (Kinds.Close conn) = closed connections conn
+
 -- the sessions after these records were added
 abbrev pub with_records : List (List (List ℕ)) → List Record → List (List (List ℕ))
 with_records connections [] = connections
-with_records connections (Kinds.Segment s ∷ items) = with_records (grown connections s.conn s.bytes) items
-with_records connections (Kinds.Close conn ∷ items) = with_records (closed connections conn) items
+with_records connections (item ∷ items) = with_records (with_record connections item) items

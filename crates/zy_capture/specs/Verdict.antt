@@ -1,33 +1,16 @@
 -- What a whole text is: the capture that it spells, or its first fault. A text is read from its first byte to its last.
 -- That it is good exactly where it is a spelling, and bad exactly where it has a fault of specs/Faults.antt, are laws in
 -- src/laws.rt.
-use Rattle.std.specs.Prelude.{ℕ, ◌==◌, if◌then◌else◌, Bool, true, false, List, [], ◌∷◌, ◌++◌, Option, None, Some, option_to_list}
+use Rattle.std.specs.Prelude.{ℕ, ◌==◌, if◌then◌else◌, Bool, true, false, List, Option, None, Some}
+use Rattle.zy_read.specs.Format.{Format, Reading, read_on, reading_of, given_by, fault_met, verdict_on}
 use Rattle.zy_capture.specs.declared.record.Record.{Record}
 use Rattle.zy_capture.specs.declared.capture_fault.CaptureFault.{CaptureFault}
 use Rattle.zy_capture.specs.declared.capture_fault.CaptureFault.TheVariants.{BadMagic, ConnCount, Truncated}
 use Rattle.zy_capture.specs.declared.due.Due.{Due}
 use Rattle.zy_capture.specs.declared.due.Due.TheVariants.{Letters, Digit, LineFeed, Count, Nothing, Broken}
-use Rattle.zy_capture.specs.Steps.{Progress, start, number, step}
+use Rattle.zy_capture.specs.Steps.{Progress, start, step}
 
 -- ---- a whole text
-
--- what was read of a text: the records that are whole, and how far it was read
-pub record Reading : Type 0 where
-  pub given : List Record
-  pub last : Progress
-
--- what was read, with a record in front
-abbrev pub with_front : Option Record → Reading → Reading
-with_front gave reading = record { given = option_to_list gave ++ reading.given; last = reading.last }
-
--- what is read of the rest of a text
-unfoldable pub read_from : Progress → List ℕ → Reading
-read_from p [] = record { given = []; last = p }
-read_from p (byte ∷ bytes) = with_front (step p byte).gave (read_from (step p byte).next bytes)
-
--- what is read of a text
-unfoldable pub reading : List ℕ → Reading
-reading text = read_from start text
 
 -- what a whole text is: the version, the count and the records that it spells, or its first fault
 pub data Verdict : Type 0 where
@@ -40,9 +23,24 @@ ended Nothing p given = Good p.version p.count given
 ended (Broken fault) p given = Bad fault
 ended due p given = Bad (Truncated p.at)
 
+-- the fault that was met where this is due; that a text ends is none
+abbrev pub fault_in : Due → Option CaptureFault
+fault_in (Broken fault) = Some fault
+fault_in due = None
+
+-- the format of captures
+abbrev pub captures : Format Progress Record CaptureFault Verdict
+captures = record {
+  start = start;
+  step = step;
+  fault_in = λ p. fault_in p.due;
+  ended = λ p given. ended p.due p given;
+  bad = Bad;
+}
+
 -- the verdict on a whole text
-unfoldable pub verdict : List ℕ → Verdict
-verdict text = ended (reading text).last.due (reading text).last (reading text).given
+abbrev pub verdict : List ℕ → Verdict
+verdict text = verdict_on captures text
 
 -- the text is a capture
 abbrev pub is_good : Verdict → Bool
@@ -50,11 +48,6 @@ is_good (Good version count items) = true
 is_good (Bad fault) = false
 
 -- ---- what was met in a text, whatever follows
-
--- the fault that was met where this is due; that a text ends is none
-abbrev pub fault_in : Due → Option CaptureFault
-fault_in (Broken fault) = Some fault
-fault_in due = None
 
 -- the version, where the magic was read whole; it is 0 before
 abbrev pub version_in : ℕ → Option ℕ
@@ -71,17 +64,23 @@ count_in (Broken (ConnCount number)) count = None
 count_in due count = Some count
 
 -- the records that are whole in a text, before its first fault
-unfoldable pub records_of : List ℕ → List Record
-records_of text = (reading text).given
+abbrev pub records_of : List ℕ → List Record
+records_of text = given_by captures text
 
 -- the fault that was met in a text
-unfoldable pub fault_of : List ℕ → Option CaptureFault
-fault_of text = fault_in (reading text).last.due
+abbrev pub fault_of : List ℕ → Option CaptureFault
+fault_of text = fault_met captures text
 
 -- the version of a text's magic
 unfoldable pub version_of : List ℕ → Option ℕ
-version_of text = version_in (reading text).last.version
+version_of text = version_in (reading_of captures text).last.version
 
 -- the connection count of a text
 unfoldable pub count_of : List ℕ → Option ℕ
-count_of text = count_in (reading text).last.due (reading text).last.count
+count_of text = count_in (reading_of captures text).last.due (reading_of captures text).last.count
+
+-- ---- for proofs
+
+-- what is read of the rest of a text
+abbrev pub read_from : Progress → List ℕ → Reading Progress Record
+read_from p text = read_on step p text

@@ -1,5 +1,7 @@
 //! Faults of captures.
 
+use zy_read::NotTaken;
+
 /// What is wrong with a capture. Places count from 0 in the file.
 #[derive(Clone, Copy, Debug, PartialEq, Eq)]
 pub enum CaptureFault {
@@ -23,10 +25,4 @@ pub enum CaptureFault {
 }
 
 /// Why the reader of captures didn't take a byte.
-#[derive(Clone, Copy, Debug, PartialEq, Eq)]
-pub enum FeedFault {
-    /// The capture has this fault.
-    Fault(CaptureFault),
-    /// Memory was wanted and not found; the reader is as it was.
-    NoMemory,
-}
+pub type FeedFault = NotTaken<CaptureFault>;

@@ -1,22 +1,26 @@
 //! Laws over the definitions of this crate.
-ghost use Rattle.std.specs.Prelude.{◌≡◌, ◌⊎◌, ◌≤◌, ◌↔◌, ◌+◌, ◌<◌, ℕ, List, [], ◌++◌, length, Some};
-ghost use Rattle.std.specs.List.{slice_index_or};
+ghost use Rattle.std.specs.Prelude.{◌≡◌, ◌≢◌, ◌⊎◌, ◌≤◌, ◌↔◌, ◌+◌, ◌<◌, ℕ, List, [], ◌∷◌, ◌++◌, length, None, Some};
+ghost use Rattle.std.specs.List.{concat, slice_index_or};
+ghost use Rattle.zy_base.specs.declared.file_fault.FileFault.{FileFault};
+ghost use Rattle.zy_read.specs.Standing.{Feeds, FeedsPieces};
 ghost use Rattle.zy_capture.specs.declared.record.Record.{Record};
 ghost use Rattle.zy_capture.specs.declared.capture_fault.CaptureFault.{CaptureFault};
+ghost use Rattle.zy_capture.specs.declared.session_bytes.SessionBytes.{SessionBytes};
 ghost use Rattle.zy_capture.specs.Capture.{AreBytes, Spells};
 ghost use Rattle.zy_capture.specs.Faults.{HasFault};
+ghost use Rattle.zy_capture.specs.SoFar.{IsCaptureSoFar, IsRepliesSoFar};
 ghost use Rattle.zy_capture.specs.Steps.{Progress};
-ghost use Rattle.zy_capture.specs.Verdict.{verdict, fault_of};
+ghost use Rattle.zy_capture.specs.Verdict.{captures, verdict, fault_of, version_of, count_of, records_of};
 ghost use Rattle.zy_capture.specs.Verdict.Verdict.{Good, Bad};
 ghost use Rattle.zy_capture.specs.Standing.{StandsFor};
-ghost use Rattle.zy_base.specs.declared.file_fault.FileFault.{FileFault};
-ghost use Rattle.zy_capture.specs.declared.session_bytes.SessionBytes.{SessionBytes};
+ghost use Rattle.zy_capture.specs.Streams.{closes, stream, sessions_of, no_bytes, with_record, with_records};
 ghost use Rattle.zy_capture.specs.Outputs.{AllOutputs, AreOutputs, MayAdd, with_output};
-ghost use Rattle.zy_capture.specs.Replies.{SpellsReplies, replies_bytes, replies_limit, items_of};
-ghost use Rattle.zy_capture.specs.RepliesVerdict as Replies;
+ghost use Rattle.zy_capture.specs.Replies.{SpellsReplies, AreInOrder, replies_bytes, replies_limit, items_of};
 ghost use Rattle.zy_capture.specs.RepliesSteps as RepliesProgress;
+ghost use Rattle.zy_capture.specs.RepliesVerdict as Replies;
 ghost use Rattle.zy_capture.specs.RepliesStanding.{StandsForReplies};
-ghost use Rattle.zy_capture.specs.Streams.{closes, stream, sessions_of, no_bytes, with_records};
+
+// ---- captures
 
 /// A text is good, with a version, a count and records, exactly where it is their spelling, they
 /// are those of a capture, and it has at most 4,294,967,295 bytes.
@@ -31,6 +35,32 @@ pub fn a_capture_is_bad_exactly_where_it_has_a_fault()
         → verdict text ≡ Bad fault ↔ HasFault text fault }
 {}
 
+/// What a good capture tells while it is read is what it spells.
+pub fn a_good_capture_tells_its_parts()
+    ensures version { (text : List ℕ) (version count : ℕ) (items : List Record) → AreBytes text
+        → verdict text ≡ Good version count items → version_of text ≡ Some version }
+    ensures count { (text : List ℕ) (version count : ℕ) (items : List Record) → AreBytes text
+        → verdict text ≡ Good version count items → count_of text ≡ Some count }
+    ensures records { (text : List ℕ) (version count : ℕ) (items : List Record) → AreBytes text
+        → verdict text ≡ Good version count items → records_of text ≡ items }
+{}
+
+/// The records of a text without a fault so far are those of a capture whose version and count were
+/// told: each connection is below the count, and a connection has fewer than 2^31 closes.
+pub fn the_records_of_a_capture_so_far_are_lawful()
+    ensures lawful { (text : List ℕ) → AreBytes text → fault_of text ≡ None
+        → records_of text ≢ [] → IsCaptureSoFar text }
+{}
+
+/// A fault that was met is met in every longer text, and is the verdict on it: the first fault
+/// counts.
+pub fn the_first_fault_of_a_capture_counts()
+    ensures stays { (text more : List ℕ) (fault : CaptureFault)
+        → fault_of text ≡ Some fault → fault_of (text ++ more) ≡ Some fault }
+    ensures lasts { (text more : List ℕ) (fault : CaptureFault)
+        → fault_of text ≡ Some fault → verdict (text ++ more) ≡ Bad fault }
+{}
+
 /// Two readers to which the same bytes were fed gave the same records, and are in the same state.
 /// So it does not matter when memory was refused, or what was asked of them between the bytes.
 pub fn what_is_given_depends_on_the_bytes_alone()
@@ -40,15 +70,19 @@ pub fn what_is_given_depends_on_the_bytes_alone()
         → StandsFor p given b → StandsFor q others b → p ≡ q }
 {}
 
-/// The fault that was met in a text is the verdict on every longer one: the first fault counts.
-pub fn the_first_fault_of_a_capture_counts()
-    ensures lasts { (text more : List ℕ) (fault : CaptureFault)
-        → fault_of text ≡ Some fault → verdict (text ++ more) ≡ Bad fault }
+/// A reader to which the pieces of a text were fed gave what it gives for the text.
+pub fn how_a_capture_is_cut_does_not_matter()
+    ensures whole { (old new : Progress) (pieces : List (List ℕ)) (gave : List Record)
+        → FeedsPieces captures old new pieces gave → Feeds captures old new (concat pieces) gave }
 {}
+
+// ---- streams
 
 /// The sessions of a connection to whose streams records were added are as many as its close
 /// records and one more, and each session holds its stream.
 pub fn each_session_holds_its_stream()
+    ensures connections { (count : ℕ) (items : List Record)
+        → length (with_records (no_bytes count) items) ≡ count }
     ensures count { (count conn : ℕ) (items : List Record) → conn < count
         → length (sessions_of (with_records (no_bytes count) items) conn) ≡ closes conn items + 1 }
     ensures bytes { (count conn session : ℕ) (items : List Record) → conn < count
@@ -56,11 +90,45 @@ pub fn each_session_holds_its_stream()
         ≡ stream conn session items }
 {}
 
+/// A record after others is added to the streams of these.
+pub fn a_further_record_is_added_last()
+    ensures value { (connections : List (List (List ℕ))) (items : List Record) (item : Record)
+        → with_records connections (items ++ item ∷ [])
+        ≡ with_record (with_records connections items) item }
+{}
+
+// ---- replies files
+
 /// A text is a good replies file, with a version and outputs, exactly where it is their spelling,
 /// they are those of a replies file, and it has at most 2^63 - 1 bytes.
 pub fn a_replies_file_is_good_exactly_where_it_is_a_spelling()
     ensures exactly { (text : List ℕ) (version : ℕ) (items : List SessionBytes) → AreBytes text
         → Replies.verdict text ≡ Replies.Verdict.Good version items ↔ SpellsReplies text version items }
+{}
+
+/// What a good replies file tells while it is read is what it spells.
+pub fn a_good_replies_file_tells_its_parts()
+    ensures version { (text : List ℕ) (version : ℕ) (items : List SessionBytes) → AreBytes text
+        → Replies.verdict text ≡ Replies.Verdict.Good version items
+        → Replies.version_of text ≡ Some version }
+    ensures outputs { (text : List ℕ) (version : ℕ) (items : List SessionBytes) → AreBytes text
+        → Replies.verdict text ≡ Replies.Verdict.Good version items
+        → Replies.outputs_of text ≡ items }
+{}
+
+/// The outputs of a text without a fault so far are those of a replies file whose version was told.
+pub fn the_outputs_of_a_replies_file_so_far_are_lawful()
+    ensures lawful { (text : List ℕ) → AreBytes text → Replies.fault_of text ≡ None
+        → Replies.outputs_of text ≢ [] → IsRepliesSoFar text }
+{}
+
+/// A fault that was met in a replies file is met in every longer text, and is the verdict on it:
+/// the first fault counts.
+pub fn the_first_fault_of_a_replies_file_counts()
+    ensures stays { (text more : List ℕ) (fault : FileFault) → Replies.fault_of text ≡ Some fault
+        → Replies.fault_of (text ++ more) ≡ Some fault }
+    ensures lasts { (text more : List ℕ) (fault : FileFault) → Replies.fault_of text ≡ Some fault
+        → Replies.verdict (text ++ more) ≡ Replies.Verdict.Bad fault }
 {}
 
 /// Two readers of replies files to which the same bytes were fed gave the same outputs, and are in
@@ -72,11 +140,30 @@ pub fn what_is_given_of_replies_depends_on_the_bytes_alone()
         → StandsForReplies p given b → StandsForReplies q others b → p ≡ q }
 {}
 
-/// The fault that was met in a replies file is the verdict on every longer one: the first fault
-/// counts.
-pub fn the_first_fault_of_a_replies_file_counts()
-    ensures lasts { (text more : List ℕ) (fault : FileFault) → Replies.fault_of text ≡ Some fault
-        → Replies.verdict (text ++ more) ≡ Replies.Verdict.Bad fault }
+/// A reader to which the pieces of a replies file were fed gave what it gives for the file.
+pub fn how_a_replies_file_is_cut_does_not_matter()
+    ensures whole { (old new : RepliesProgress.Progress) (pieces : List (List ℕ)) (gave : List SessionBytes)
+        → FeedsPieces Replies.replies old new pieces gave
+        → Feeds Replies.replies old new (concat pieces) gave }
+{}
+
+// ---- outputs
+
+/// Outputs to which one was added, and those without any, can be written and read again.
+pub fn outputs_stay_outputs()
+    ensures none { (version : ℕ) → (version ≡ 1) ⊎ (version ≡ 2)
+        → AreOutputs (record { version = version; sessions = [] }) }
+    ensures added { (outputs : AllOutputs) (conn : ℕ) (bytes : List ℕ)
+        → AreOutputs outputs → MayAdd outputs conn → AreOutputs (with_output outputs conn bytes) }
+{}
+
+/// An output that comes after others in a replies file may be added to these, and is then the last.
+pub fn outputs_that_are_read_can_be_added()
+    ensures may { (outputs : AllOutputs) (item : SessionBytes) → AreOutputs outputs
+        → AreInOrder outputs.version 0 0 (items_of outputs ++ item ∷ []) → MayAdd outputs item.conn }
+    ensures last { (outputs : AllOutputs) (item : SessionBytes) → AreOutputs outputs
+        → AreInOrder outputs.version 0 0 (items_of outputs ++ item ∷ [])
+        → items_of (with_output outputs item.conn item.bytes) ≡ items_of outputs ++ item ∷ [] }
 {}
 
 /// What is written of outputs is a good replies file of their version, which gives each session's
@@ -86,12 +173,4 @@ pub fn written_replies_are_read_again()
         → length (replies_bytes outputs) ≤ replies_limit
         → Replies.verdict (replies_bytes outputs)
         ≡ Replies.Verdict.Good outputs.version (items_of outputs) }
-{}
-
-/// Outputs to which one was added, and those without any, can be written and read again.
-pub fn outputs_stay_outputs()
-    ensures none { (version : ℕ) → (version ≡ 1) ⊎ (version ≡ 2)
-        → AreOutputs (record { version = version; sessions = [] }) }
-    ensures added { (outputs : AllOutputs) (conn : ℕ) (bytes : List ℕ)
-        → AreOutputs outputs → MayAdd outputs conn → AreOutputs (with_output outputs conn bytes) }
 {}

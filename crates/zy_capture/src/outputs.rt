@@ -3,7 +3,7 @@ ghost use Rattle.std.specs.Prelude.{◌≡◌, ◌⊎◌, ◌<◌, ◌≤◌, �
 ghost use Rattle.std.specs.List.{slice_index_or};
 ghost use Rattle.zy_capture.specs.Capture.{connection_limit};
 ghost use Rattle.zy_capture.specs.Streams.{sessions_of};
-ghost use Rattle.zy_capture.specs.Outputs.{MayAdd, with_output};
+ghost use Rattle.zy_capture.specs.Outputs.{AreOutputs, MayAdd, with_output};
 
 use crate::sessions::Sessions;
 use std::alloc::Global;
@@ -20,16 +20,16 @@ pub struct Outputs {
 }
 
 impl Model for Outputs {
-    ghost use Rattle.std.specs.Prelude.{◌≡◌, ◌⊎◌, ◌≤◌, length};
-    ghost use Rattle.zy_capture.specs.Capture.{connection_limit};
-    ghost use Rattle.zy_capture.specs.Outputs.{AllOutputs};
+    ghost use Rattle.zy_capture.specs.Outputs.{AllOutputs, AreOutputs};
 
     ghost Value = { AllOutputs };
 
     ghost view = { λ o. record { version = o.version; sessions = o.connections.items } };
 
-    ghost invariant = { λ o. ((o.version ≡ 1) ⊎ (o.version ≡ 2))
-        × (length o.connections.items ≤ connection_limit) };
+    ghost invariant = { λ o. AreOutputs (record {
+      version = o.version;
+      sessions = o.connections.items;
+    }) };
 }
 
 impl Outputs {
@@ -67,6 +67,7 @@ impl Outputs {
     pub fn version(&self) -> u32
         ensures value { result ≡ self.now.version }
         ensures known { (result ≡ 1) ⊎ (result ≡ 2) }
+        ensures lawful { AreOutputs self.now }
     {
         self.version
     }

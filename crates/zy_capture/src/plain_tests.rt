@@ -3,7 +3,7 @@ use crate::plain::{Piece, read_capture, read_replies};
 use crate::{FeedFault, Reader, Record, RepliesReader, SessionBytes};
 use std::alloc::Global;
 use std::test::Fail;
-use zy_base::FileFeed;
+use zy_read::FileFeed;
 
 // ---- files
 

@@ -5,7 +5,8 @@ use crate::{
 };
 use std::alloc::Global;
 use std::test::Fail;
-use zy_base::{Blob, CallNumbers, FileFault, FileFeed, MemSink, SureSink};
+use zy_base::{Blob, CallNumbers, FileFault, MemSink, SureSink};
+use zy_read::FileFeed;
 
 // ---- the tables of faults
 

@@ -3,15 +3,17 @@ use Rattle.std.proofs.Common.{◌≡◌, ℕ, ◌≤◌, true, false, List, [], 
 use Rattle.std.specs.Prelude.{Option, None, Some, nat_lt, if◌then◌else◌, Bool, is_none, ◌↔◌}
 use Rattle.std.specs.List.{AllByRecursion}
 use Rattle.std.proofs.lemmas.Bool.{le-ltb, ltb-false}
-use Rattle.std.proofs.lemmas.List.{map-append}
+use Rattle.std.proofs.lemmas.List.{map-append, append-nil}
 use Rattle.mc_parse.specs.declared.need.Need.{Need}
 use Rattle.mc_parse.specs.declared.need.Need.TheVariants as Needs
 use Rattle.mc_parse.specs.Need.{need}
 use Rattle.mc_parse.specs.declared.command.Command.{Command}
 use Rattle.zy_frame.specs.declared.frame_kind.FrameKind.{FrameKind}
-use Rattle.zy_frame.specs.Line.{Ended, first_line, chomped, line_feed, line_limit}
+use Rattle.mc_parse.specs.Words.{line_limit}
+use Rattle.zy_frame.specs.Line.{Ended, first_line, chomped, line_feed}
 use Rattle.zy_frame.specs.Frame.{tail_length, tail_by, IsFrameText, IsQuitLine, frame_of, command_of}
 use Rattle.zy_frame.specs.Cut.{Cut, Splits, BeginsWithQuit, first_piece, piece_with, cut_of, frames_of, commands_of, meets_quit, quits_in, joined}
+use Rattle.zy_frame.specs.Feed.{Fed, GivesEach, fed_bytes, fed_frames}
 use Rattle.zy_frame.proofs.LineLemmas.{spelled, first_line-ended}
 use Rattle.zy_frame.proofs.CutLemmas.{splits_only, splits_cut, cut_of-joined, begins_with_none}
 
@@ -55,6 +57,21 @@ commands_by (piece ∷ pieces) = ap (λ (l : List Command). command_of (frame_of
 pub commands_of_splits : (stream : List ℕ) (pieces : List (List ℕ)) (rest : List ℕ) → Splits stream pieces rest
     → commands_of stream ≡ map (λ piece. command_of (frame_of piece)) pieces
 commands_of_splits stream pieces rest s = ap (map command_of) (frames_of_splits stream pieces rest s) ∙ commands_by pieces
+
+pub commands_first : (stream more : List ℕ) → (later : List Command) × (commands_of (stream ++ more) ≡ commands_of stream ++ later)
+commands_first stream more =
+    let first = frames_first stream more in
+    (map command_of first.0, ap (map command_of) first.1 ∙ map-append command_of (frames_of stream) first.0)
+
+-- ---- pieces that were fed
+
+given_from : (stream : List ℕ) (pieces : List Fed) → GivesEach stream pieces → frames_of (stream ++ fed_bytes pieces) ≡ frames_of stream ++ fed_frames pieces
+given_from stream [] each = ap frames_of (append-nil stream) ∙ sym (append-nil (frames_of stream))
+given_from stream (fed ∷ more) each =
+    ap frames_of (sym (append_assoc stream fed.piece (fed_bytes more)))
+    ∙ given_from (stream ++ fed.piece) more each.1
+    ∙ ap (λ (frames : List FrameKind). frames ++ fed_frames more) each.0
+    ∙ append_assoc (frames_of stream) fed.given (fed_frames more)
 
 -- ---- quit lines
 
@@ -104,6 +121,10 @@ frames_of_nil = refl
 pub meets_quit_nil : meets_quit [] ≡ false
 unfolding meets_quit cut_of
 meets_quit_nil = refl
+
+-- what all pieces of a stream give are its frames
+pub given_by_all : (pieces : List Fed) → GivesEach [] pieces → fed_frames pieces ≡ frames_of (fed_bytes pieces)
+given_by_all pieces each = sym (given_from [] pieces each ∙ ap (λ (frames : List FrameKind). frames ++ fed_frames pieces) frames_of_nil)
 
 begins_longer : (rest more : List ℕ) → BeginsWithQuit rest → BeginsWithQuit (rest ++ more)
 begins_longer rest more b = record {

@@ -8,8 +8,9 @@ use Rattle.zy_frame.specs.declared.state.State.{State}
 use Rattle.zy_frame.specs.declared.state.State.TheVariants.{Line, Long, Block, Large, Quit, Refused}
 use Rattle.zy_frame.specs.declared.step.Step.{Step}
 use Rattle.zy_frame.specs.Cut.{frames_of, meets_quit}
-use Rattle.zy_frame.specs.Progress.{Outcome, outcome_of, with_frames, goes_on, StandsFor, Appends, AppendsFirst, is_quit}
-use Rattle.zy_frame.specs.Steps.{Keeps, Goes, Gives}
+use Rattle.zy_frame.specs.Progress.{Progress, in_line, in_long_line, in_block, in_large_block, behind_quit, without_memory, Keeps, Outcome, outcome_of, with_frames, goes_on, StandsFor, is_quit}
+use Rattle.zy_frame.specs.Feed.{Appends, AppendsFirst}
+use Rattle.zy_frame.specs.Steps.{progress_of, Goes, Gives}
 use Rattle.zy_frame.proofs.GoingOn.{outcome_of-unended}
 
 with_frames-append : (given more : List FrameKind) (o : Outcome) → with_frames given (with_frames more o) ≡ with_frames (given ++ more) o
@@ -18,34 +19,34 @@ with_frames-append given more o = ap (λ (l : List FrameKind). record { frames =
 -- ---- with no byte more
 
 -- no frame comes
-pub at_rest : (state : State) → Keeps state → goes_on state [] ≡ record { frames = []; quit = is_quit state }
+pub at_rest : (framer : Progress) → Keeps framer → goes_on framer [] ≡ record { frames = []; quit = is_quit framer }
 unfolding goes_on
-at_rest (Line kept) keeps = ap outcome_of (append-nil kept) ∙ outcome_of-unended kept keeps.no_feed
-at_rest Long keeps = refl
-at_rest (Block wanted block) keeps = rw (lt-ltb 0 wanted.left keeps.0.some) refl
-at_rest (Large wanted) keeps = rw (lt-ltb 0 wanted.left keeps.0.some) refl
-at_rest Quit keeps = refl
-at_rest Refused keeps = refl
+at_rest (in_line kept) keeps = ap outcome_of (append-nil kept) ∙ outcome_of-unended kept keeps.no_feed
+at_rest in_long_line keeps = refl
+at_rest (in_block awaited block) keeps = rw (lt-ltb 0 awaited.left keeps.awaits.some) refl
+at_rest (in_large_block awaited) keeps = rw (lt-ltb 0 awaited.left keeps.awaits.some) refl
+at_rest behind_quit keeps = refl
+at_rest without_memory keeps = refl
 
 -- a quit line was met where the framer says so
-pub quit_exact : (state : State) (fed : List ℕ) → Keeps state → StandsFor state fed → is_quit state ≡ meets_quit fed
+pub quit_exact : (framer : Progress) (fed : List ℕ) → Keeps framer → StandsFor framer fed → is_quit framer ≡ meets_quit fed
 unfolding StandsFor
-quit_exact state fed keeps stands =
-    sym (ap meets_quit (sym (append-nil fed)) ∙ ap (λ (o : Outcome). o.quit) (stands []) ∙ ap (λ (o : Outcome). o.quit) (at_rest state keeps))
+quit_exact framer fed keeps stands =
+    sym (ap meets_quit (sym (append-nil fed)) ∙ ap (λ (o : Outcome). o.quit) (stands []) ∙ ap (λ (o : Outcome). o.quit) (at_rest framer keeps))
 
 -- ---- several steps
 
 -- a step whose frame was appended
 pub gives_step : (old : State) (bytes : List ℕ) (step : Step) (before after : List FrameKind) → Goes old bytes step → after ≡ before ++ option_to_list step.frame
-    → Gives old step.state before after bytes step.taken
+    → Gives (progress_of old) (progress_of step.state) before after bytes step.taken
 gives_step old bytes step before after goes appended = record { keeps = goes.keeps; given = option_to_list step.frame; appended = appended; on = goes.on }
 
 -- nothing was taken yet
-pub gives_nothing : (state : State) (frames : List FrameKind) (bytes : List ℕ) → Keeps state → Gives state state frames frames bytes 0
-gives_nothing state frames bytes keeps = record { keeps = keeps; given = []; appended = sym (append-nil frames); on = λ more. refl }
+pub gives_nothing : (framer : Progress) (frames : List FrameKind) (bytes : List ℕ) → Keeps framer → Gives framer framer frames frames bytes 0
+gives_nothing framer frames bytes keeps = record { keeps = keeps; given = []; appended = sym (append-nil frames); on = λ more. refl }
 
 -- a step more
-pub gives_more : (old middle new : State) (before between after : List FrameKind) (bytes : List ℕ) (at taken : ℕ)
+pub gives_more : (old middle new : Progress) (before between after : List FrameKind) (bytes : List ℕ) (at taken : ℕ)
     → Gives old middle before between bytes at → Gives middle new between after (drop at bytes) taken → Gives old new before after bytes (at + taken)
 gives_more old middle new before between after bytes at taken one two = record {
   keeps = two.keeps;
@@ -59,13 +60,13 @@ gives_more old middle new before between after bytes at taken one two = record {
 -- ---- a whole piece
 
 -- all of a piece was taken
-pub record Taken (old new : State) (before after : List FrameKind) (piece : List ℕ) : Type 0 where
+pub record Taken (old new : Progress) (before after : List FrameKind) (piece : List ℕ) : Type 0 where
   pub keeps : Keeps new
   pub given : List FrameKind
   pub appended : after ≡ before ++ given
   pub on : (more : List ℕ) → goes_on old (piece ++ more) ≡ with_frames given (goes_on new more)
 
-pub taken_all : (old new : State) (before after : List FrameKind) (piece : List ℕ) (at : ℕ) → length piece ≤ at → Gives old new before after piece at → Taken old new before after piece
+pub taken_all : (old new : Progress) (before after : List FrameKind) (piece : List ℕ) (at : ℕ) → length piece ≤ at → Gives old new before after piece at → Taken old new before after piece
 taken_all old new before after piece at all g = record {
   keeps = g.keeps;
   given = g.given;
@@ -73,38 +74,38 @@ taken_all old new before after piece at all g = record {
   on = λ more. g.on more ∙ ap (λ (l : List ℕ). with_frames g.given (goes_on new (l ++ more))) (drop_all at piece all);
 }
 
-joined_on : (old : State) (fed piece more : List ℕ) → ((rest : List ℕ) → outcome_of (fed ++ rest) ≡ with_frames (frames_of fed) (goes_on old rest))
+joined_on : (old : Progress) (fed piece more : List ℕ) → ((rest : List ℕ) → outcome_of (fed ++ rest) ≡ with_frames (frames_of fed) (goes_on old rest))
     → outcome_of ((fed ++ piece) ++ more) ≡ with_frames (frames_of fed) (goes_on old (piece ++ more))
 joined_on old fed piece more stands = ap outcome_of (append_assoc fed piece more) ∙ stands (piece ++ more)
 
 -- what the stream with the piece gives, whatever follows
-whole : (old new : State) (before after : List FrameKind) (fed piece : List ℕ) (t : Taken old new before after piece)
+whole : (old new : Progress) (before after : List FrameKind) (fed piece : List ℕ) (t : Taken old new before after piece)
     → ((rest : List ℕ) → outcome_of (fed ++ rest) ≡ with_frames (frames_of fed) (goes_on old rest))
     → (more : List ℕ) → outcome_of ((fed ++ piece) ++ more) ≡ with_frames (frames_of fed ++ t.given) (goes_on new more)
 whole old new before after fed piece t stands more =
     joined_on old fed piece more stands ∙ ap (with_frames (frames_of fed)) (t.on more) ∙ with_frames-append (frames_of fed) t.given (goes_on new more)
 
 -- the frames appended are those due
-due : (old new : State) (before after : List FrameKind) (fed piece : List ℕ) (t : Taken old new before after piece)
+due : (old new : Progress) (before after : List FrameKind) (fed piece : List ℕ) (t : Taken old new before after piece)
     → ((rest : List ℕ) → outcome_of (fed ++ rest) ≡ with_frames (frames_of fed) (goes_on old rest))
     → frames_of (fed ++ piece) ≡ frames_of fed ++ t.given
 due old new before after fed piece t stands =
     ap frames_of (sym (append-nil (fed ++ piece))) ∙ ap (λ (o : Outcome). o.frames) (whole old new before after fed piece t stands [])
     ∙ ap (λ (o : Outcome). (frames_of fed ++ t.given) ++ o.frames) (at_rest new t.keeps) ∙ append-nil (frames_of fed ++ t.given)
 
-pub appends : (old new : State) (before after : List FrameKind) (fed piece : List ℕ) → Taken old new before after piece → StandsFor old fed → Appends fed piece before after
+pub appends : (old new : Progress) (before after : List FrameKind) (fed piece : List ℕ) → Taken old new before after piece → StandsFor old fed → Appends fed piece before after
 unfolding StandsFor
 appends old new before after fed piece t stands = record { given = t.given; appended = t.appended; due = due old new before after fed piece t stands }
 
 -- the framer stands for the stream with the piece
-pub stands_on : (old new : State) (before after : List FrameKind) (fed piece : List ℕ) → Taken old new before after piece → StandsFor old fed → StandsFor new (fed ++ piece)
+pub stands_on : (old new : Progress) (before after : List FrameKind) (fed piece : List ℕ) → Taken old new before after piece → StandsFor old fed → StandsFor new (fed ++ piece)
 unfolding StandsFor
 stands_on old new before after fed piece t stands more =
     whole old new before after fed piece t stands more
     ∙ ap (λ (l : List FrameKind). with_frames l (goes_on new more)) (sym (due old new before after fed piece t stands))
 
 -- a part of the piece was taken, and then memory was refused
-pub appends_first : (old middle : State) (before after : List FrameKind) (fed piece : List ℕ) (at : ℕ) → Gives old middle before after piece at → StandsFor old fed → AppendsFirst fed piece before after
+pub appends_first : (old middle : Progress) (before after : List FrameKind) (fed piece : List ℕ) (at : ℕ) → Gives old middle before after piece at → StandsFor old fed → AppendsFirst fed piece before after
 unfolding StandsFor
 appends_first old middle before after fed piece at g stands = record {
   given = g.given;
@@ -114,7 +115,7 @@ appends_first old middle before after fed piece at g stands = record {
 }
 
 -- nothing was taken, and memory had been refused before
-pub appends_none : (old : State) (frames : List FrameKind) (fed piece : List ℕ) → StandsFor old fed → AppendsFirst fed piece frames frames
+pub appends_none : (old : Progress) (frames : List FrameKind) (fed piece : List ℕ) → StandsFor old fed → AppendsFirst fed piece frames frames
 unfolding StandsFor
 appends_none old frames fed piece stands = record {
   given = [];
@@ -123,19 +124,39 @@ appends_none old frames fed piece stands = record {
   due = ap frames_of (sym (append-nil (fed ++ piece))) ∙ ap (λ (o : Outcome). o.frames) (joined_on old fed piece [] stands);
 }
 
-taken_behind_quit : (frames : List FrameKind) (piece : List ℕ) → Taken Quit Quit frames frames piece
+taken_behind_quit : (frames : List FrameKind) (piece : List ℕ) → Taken behind_quit behind_quit frames frames piece
 unfolding goes_on
 taken_behind_quit frames piece = record { keeps = tt; given = []; appended = sym (append-nil frames); on = λ more. refl }
 
 -- behind a quit line
-pub taken_quit : (state : State) (frames : List FrameKind) (piece : List ℕ) → state ≡ Quit → Taken state state frames frames piece
-taken_quit state frames piece is = subst (λ (s : State). Taken s s frames frames piece) (sym is) (taken_behind_quit frames piece)
+pub taken_quit : (framer : Progress) (frames : List FrameKind) (piece : List ℕ) → framer ≡ behind_quit → Taken framer framer frames frames piece
+taken_quit framer frames piece is = subst (λ (s : Progress). Taken s s frames frames piece) (sym is) (taken_behind_quit frames piece)
+
+-- ---- states
 
 -- any other state
-pub not_quit : (state : State) → (state ≡ Quit → ⊥) → false ≡ is_quit state
+pub not_quit : (state : State) → (state ≡ Quit → ⊥) → false ≡ is_quit (progress_of state)
 not_quit (Line kept) other = refl
 not_quit Long other = refl
 not_quit (Block wanted block) other = refl
 not_quit (Large wanted) other = refl
 not_quit Quit other = absurd (other refl)
 not_quit Refused other = refl
+
+-- a framer that is behind a quit line is in that state
+pub quit_state : (state : State) → progress_of state ≡ behind_quit → state ≡ Quit
+quit_state (Line kept) is = absurd (cc)
+quit_state Long is = absurd (cc)
+quit_state (Block wanted block) is = absurd (cc)
+quit_state (Large wanted) is = absurd (cc)
+quit_state Quit is = refl
+quit_state Refused is = absurd (cc)
+
+-- so is one that wanted memory
+pub refused_state : (state : State) → progress_of state ≡ without_memory → state ≡ Refused
+refused_state (Line kept) is = absurd (cc)
+refused_state Long is = absurd (cc)
+refused_state (Block wanted block) is = absurd (cc)
+refused_state (Large wanted) is = absurd (cc)
+refused_state Quit is = absurd (cc)
+refused_state Refused is = refl

@@ -9,7 +9,8 @@ use Rattle.mc_parse.specs.Need.{need}
 use Rattle.mc_parse.specs.Meaning.{IsBlockFor, IsTooLarge}
 use Rattle.zy_frame.specs.declared.frame_kind.FrameKind.{FrameKind}
 use Rattle.zy_frame.specs.declared.frame_kind.FrameKind.TheVariants.{Line, Block, Large, Long}
-use Rattle.zy_frame.specs.Line.{first_line, chomped, line_limit}
+use Rattle.mc_parse.specs.Words.{line_limit}
+use Rattle.zy_frame.specs.Line.{first_line, chomped}
 use Rattle.zy_frame.specs.Frame.{tail_by, frame_of, frame_in, frame_by, IsFrame}
 use Rattle.zy_frame.proofs.LineLemmas.{first_line-ended}
 use Rattle.zy_frame.proofs.LineEnds.{length-chomped}

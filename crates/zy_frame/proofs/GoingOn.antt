@@ -10,7 +10,8 @@ use Rattle.mc_parse.specs.declared.need.Need.TheVariants as Needs
 use Rattle.mc_parse.specs.Need.{need}
 use Rattle.zy_frame.specs.declared.frame_kind.FrameKind.{FrameKind}
 use Rattle.zy_frame.specs.declared.frame_kind.FrameKind.TheVariants as Kinds
-use Rattle.zy_frame.specs.Line.{IsShort, Ended, first_line, begun_by, chomped, line_feed, line_limit}
+use Rattle.mc_parse.specs.Words.{line_limit}
+use Rattle.zy_frame.specs.Line.{IsShort, Ended, first_line, begun_by, chomped, line_feed}
 use Rattle.zy_frame.specs.Frame.{tail_length, tail_by, IsFrameText, IsFrame, frame_of, frame_at, frame_in, frame_by}
 use Rattle.zy_frame.specs.Cut.{Cut, first_piece, piece_with, piece_in, frames_of, meets_quit, quits_in}
 use Rattle.zy_frame.specs.Progress.{Outcome, outcome_of, no_outcome, with_frames, ends_long, ends_frame}

@@ -13,10 +13,11 @@ use Rattle.zy_frame.specs.declared.wanted.Wanted.{Wanted}
 use Rattle.zy_frame.specs.declared.state.State.{State}
 use Rattle.zy_frame.specs.declared.state.State.TheVariants.{Line, Long, Block, Large, Quit}
 use Rattle.zy_frame.specs.declared.step.Step.{Step}
-use Rattle.zy_frame.specs.Line.{IsShort, first_line, chomped, line_feed, line_limit}
+use Rattle.mc_parse.specs.Words.{line_limit}
+use Rattle.zy_frame.specs.Line.{IsShort, first_line, chomped, line_feed}
 use Rattle.zy_frame.specs.Frame.{frame_at}
-use Rattle.zy_frame.specs.Progress.{outcome_of, with_frames, ends_long, ends_frame, goes_on}
-use Rattle.zy_frame.specs.Steps.{Wants, Keeps, Goes, Closes, waiting}
+use Rattle.zy_frame.specs.Progress.{Awaited, IsAwaited, IsKeptBlock, IsLargeBlock, outcome_of, with_frames, ends_long, ends_frame, goes_on}
+use Rattle.zy_frame.specs.Steps.{awaited, progress_of, Goes, Closes, waiting}
 use Rattle.zy_frame.proofs.LineLemmas.{ended, spelled, first_line-append, first_line-append_none, first_line-ended}
 use Rattle.zy_frame.proofs.GoingOn.{in_long, long_ends, ends_long-begun_with, ends_frame-part, ends_frame-all, line_ends, quit_ends, block_begins, kept_block, large_block, ends_frame-same}
 
@@ -102,7 +103,7 @@ line_closes kept bytes at result s h closes taken =
       some = omega arith;
       within = omega arith;
       on = λ more. ap outcome_of (split_at kept bytes more at h) ∙ closes.on (drop (at + 1) bytes ++ more)
-          ∙ ap (λ (n : ℕ). with_frames (option_to_list result.frame) (goes_on result.state (drop n bytes ++ more))) (sym taken);
+          ∙ ap (λ (n : ℕ). with_frames (option_to_list result.frame) (goes_on (progress_of result.state) (drop n bytes ++ more))) (sym taken);
     }
 
 -- what has come of it, with what ends it
@@ -130,14 +131,14 @@ unfolding goes_on
 waiting_by true line size taken test s is =
     let large : value_limit < size = ltb-true value_limit size test in
     record {
-      keeps = (record { line = s; sized = is; some = omega arith }, large);
+      keeps = record { awaits = record { short = s; sized = is; some = omega arith }; large = large };
       on = λ more. block_begins line more size s is
           ∙ ends_frame-same (size + 2) (frame_at line) (λ rest. Kinds.Large (chomped line)) more (λ after. large_block line after size s is large);
     }
 waiting_by false line size taken test s is =
     let small : size ≤ value_limit = ltb-false value_limit size test in
     record {
-      keeps = (record { line = s; sized = is; some = omega arith }, small, omega arith);
+      keeps = record { awaits = record { short = s; sized = is; some = omega arith }; small = small; all = omega arith };
       on = λ more. block_begins line more size s is
           ∙ ends_frame-same (size + 2) (frame_at line) (λ rest. Kinds.Block (chomped line) rest) more (λ after. kept_block line after size s is small);
     }
@@ -174,14 +175,14 @@ long_over bytes at h =
 abbrev pub wanted : List ℕ → ℕ → ℕ → Wanted
 wanted line size left = record { line = line; size = size; left = left }
 
-fewer : (line : List ℕ) (size left came : ℕ) → came < left → Wants (wanted line size left) → Wants (wanted line size (left - came))
-fewer line size left came few w = record { line = w.line; sized = w.sized; some = omega arith }
+fewer : (line : List ℕ) (size left came : ℕ) → came < left → IsAwaited (awaited (wanted line size left)) → IsAwaited (awaited (wanted line size (left - came)))
+fewer line size left came few w = record { short = w.short; sized = w.sized; some = omega arith }
 
-pub block_grows : (line block bytes : List ℕ) (size left : ℕ) → Keeps (Block (wanted line size left) block) → 0 < length bytes → length bytes < left
+pub block_grows : (line block bytes : List ℕ) (size left : ℕ) → IsKeptBlock (awaited (wanted line size left)) block → 0 < length bytes → length bytes < left
     → Goes (Block (wanted line size left) block) bytes (step (Block (wanted line size (left - length bytes)) (block ++ bytes)) (length bytes) None)
 unfolding goes_on
 block_grows line block bytes size left keeps some few = record {
-  keeps = (fewer line size left (length bytes) few keeps.0, keeps.1, omega (arith, length-append block bytes, keeps.2));
+  keeps = record { awaits = fewer line size left (length bytes) few keeps.awaits; small = keeps.small; all = omega (arith, length-append block bytes, keeps.all) };
   some = some;
   within = omega arith;
   on = λ more. ends_frame-part left (λ rest. Kinds.Block (chomped line) (block ++ rest)) bytes more (omega arith)
@@ -190,38 +191,38 @@ block_grows line block bytes size left keeps some few = record {
       ∙ ap (ends_frame (left - length bytes) (λ rest. Kinds.Block (chomped line) ((block ++ bytes) ++ rest))) (all_taken bytes more);
 }
 
-pub block_over : (line block bytes : List ℕ) (size left : ℕ) → Keeps (Block (wanted line size left) block) → left ≤ length bytes
+pub block_over : (line block bytes : List ℕ) (size left : ℕ) → IsKeptBlock (awaited (wanted line size left)) block → left ≤ length bytes
     → Goes (Block (wanted line size left) block) bytes (step (Line []) left (Some (Kinds.Block (chomped line) (block ++ take left bytes))))
 unfolding goes_on
 block_over line block bytes size left keeps all = record {
   keeps = is_short-nil;
-  some = keeps.0.some;
+  some = keeps.awaits.some;
   within = all;
   on = λ more. ends_frame-all left (λ rest. Kinds.Block (chomped line) (block ++ rest)) bytes more all;
 }
 
-pub block_length : (line block bytes : List ℕ) (size left : ℕ) → Keeps (Block (wanted line size left) block) → left ≤ length bytes → length (block ++ take left bytes) ≡ size + 2
-block_length line block bytes size left keeps all = omega (arith, length-append block (take left bytes), length-take left bytes, keeps.2)
+pub block_length : (line block bytes : List ℕ) (size left : ℕ) → IsKeptBlock (awaited (wanted line size left)) block → left ≤ length bytes → length (block ++ take left bytes) ≡ size + 2
+block_length line block bytes size left keeps all = omega (arith, length-append block (take left bytes), length-take left bytes, keeps.all)
 
 -- ---- in a block that is too large
 
-pub large_grows : (line bytes : List ℕ) (size left : ℕ) → Keeps (Large (wanted line size left)) → 0 < length bytes → length bytes < left
+pub large_grows : (line bytes : List ℕ) (size left : ℕ) → IsLargeBlock (awaited (wanted line size left)) → 0 < length bytes → length bytes < left
     → Goes (Large (wanted line size left)) bytes (step (Large (wanted line size (left - length bytes))) (length bytes) None)
 unfolding goes_on
 large_grows line bytes size left keeps some few = record {
-  keeps = (fewer line size left (length bytes) few keeps.0, keeps.1);
+  keeps = record { awaits = fewer line size left (length bytes) few keeps.awaits; large = keeps.large };
   some = some;
   within = omega arith;
   on = λ more. ends_frame-part left (λ rest. Kinds.Large (chomped line)) bytes more (omega arith)
       ∙ ap (ends_frame (left - length bytes) (λ rest. Kinds.Large (chomped line))) (all_taken bytes more);
 }
 
-pub large_over : (line bytes : List ℕ) (size left : ℕ) → Keeps (Large (wanted line size left)) → left ≤ length bytes
+pub large_over : (line bytes : List ℕ) (size left : ℕ) → IsLargeBlock (awaited (wanted line size left)) → left ≤ length bytes
     → Goes (Large (wanted line size left)) bytes (step (Line []) left (Some (Kinds.Large (chomped line))))
 unfolding goes_on
 large_over line bytes size left keeps all = record {
   keeps = is_short-nil;
-  some = keeps.0.some;
+  some = keeps.awaits.some;
   within = all;
   on = λ more. ends_frame-all left (λ rest. Kinds.Large (chomped line)) bytes more all;
 }

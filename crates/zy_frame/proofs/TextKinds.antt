@@ -7,7 +7,8 @@ use Rattle.mc_parse.specs.declared.need.Need.{Need}
 use Rattle.mc_parse.specs.declared.need.Need.TheVariants as Needs
 use Rattle.mc_parse.specs.Need.{need}
 use Rattle.zy_frame.specs.declared.frame_kind.FrameKind.TheVariants.{Line, Block, Large, Long}
-use Rattle.zy_frame.specs.Line.{IsShort, first_line, chomped, line_feed, line_limit}
+use Rattle.mc_parse.specs.Words.{line_limit}
+use Rattle.zy_frame.specs.Line.{IsShort, first_line, chomped, line_feed}
 use Rattle.zy_frame.specs.Frame.{tail_by, IsFrameText, IsLongText, IsLineText, IsBlockText, frame_of, frame_at, frame_in}
 use Rattle.zy_frame.proofs.LineLemmas.{first_line-ended}
 use Rattle.zy_frame.proofs.CutLemmas.{Text, text_of, is_text}

@@ -8,7 +8,8 @@ use Rattle.mc_parse.specs.Need.{need}
 use Rattle.mc_parse.specs.Meaning.{line_command, block_command, large_command, long_command}
 use Rattle.zy_frame.specs.declared.frame_kind.FrameKind.{FrameKind}
 use Rattle.zy_frame.specs.declared.frame_kind.FrameKind.TheVariants.{Line, Block, Large, Long}
-use Rattle.zy_frame.specs.Line.{Ended, IsShort, first_line, chomped, line_feed, line_limit}
+use Rattle.mc_parse.specs.Words.{line_limit}
+use Rattle.zy_frame.specs.Line.{Ended, IsShort, first_line, chomped, line_feed}
 
 -- ---- frame texts
 

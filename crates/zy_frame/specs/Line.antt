@@ -1,5 +1,6 @@
 -- Lines of a stream (docs/PROFILE.md, "Lines and words").
 use Rattle.std.specs.Prelude.{◌≡◌, ℕ, ◌≤◌, length, ◌==◌, if◌then◌else◌, List, [], ◌∷◌, Option, None, Some}
+use Rattle.mc_parse.specs.Words.{line_limit}
 
 -- the byte that ends a line
 abbrev pub line_feed : ℕ
@@ -8,10 +9,6 @@ line_feed = 10
 -- the byte that is dropped where it stands right before a line's end
 abbrev pub carriage_return : ℕ
 carriage_return = 13
-
--- the most bytes that may stand before the line feed of a line that is looked at
-abbrev pub line_limit : ℕ
-line_limit = 65536
 
 -- a line that a line feed ended, and the bytes after that line feed
 pub record Ended : Type 0 where
@@ -26,7 +23,9 @@ begun_by byte (Some ended) = Some (record { line = byte ∷ ended.line; after = 
 -- the bytes before the first line feed, and those after it; nothing where no line feed has come
 abbrev pub first_line : List ℕ → Option Ended
 first_line [] = None
-first_line (byte ∷ bytes) = if byte == line_feed then Some (record { line = []; after = bytes }) else begun_by byte (first_line bytes)
+first_line (byte ∷ bytes) = if byte == line_feed
+    then Some (record { line = []; after = bytes })
+    else begun_by byte (first_line bytes)
 
 -- the line without one carriage return at its end
 abbrev pub chomped : List ℕ → List ℕ

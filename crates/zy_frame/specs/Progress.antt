@@ -1,11 +1,80 @@
 -- How far a framer has come in a stream, and which streams may have brought it there.
-use Rattle.std.specs.Prelude.{◌≡◌, ℕ, ◌+◌, nat_lt, if◌then◌else◌, Bool, true, false, List, [], ◌∷◌, ◌++◌, length, take, drop, Option, None, Some}
+use Rattle.std.specs.Prelude.{◌≡◌, ℕ, ◌+◌, ◌<◌, ◌≤◌, nat_lt, if◌then◌else◌, Bool, true, false, List, [], ◌∷◌, ◌++◌, length, take, drop, Option, None, Some, ⊤}
+use Rattle.zy_base.specs.Shard.{value_limit}
+use Rattle.mc_parse.specs.declared.need.Need.TheVariants as Needs
+use Rattle.mc_parse.specs.Need.{need}
 use Rattle.zy_frame.specs.declared.frame_kind.FrameKind.{FrameKind}
 use Rattle.zy_frame.specs.declared.frame_kind.FrameKind.TheVariants as Kinds
-use Rattle.zy_frame.specs.declared.state.State.{State}
-use Rattle.zy_frame.specs.declared.state.State.TheVariants.{Line, Long, Block, Large, Quit, Refused}
-use Rattle.zy_frame.specs.Line.{Ended, first_line, chomped}
+use Rattle.zy_frame.specs.Line.{Ended, IsShort, first_line, chomped}
 use Rattle.zy_frame.specs.Cut.{frames_of, meets_quit}
+
+-- ---- what a framer is in the middle of
+
+-- a storage line whose block is to come: the line with the carriage return at its end, where it
+-- has one, the size of the value that it announces, and how many bytes of its block are still to come
+pub record Awaited : Type 0 where
+  pub line : List ℕ
+  pub size : ℕ
+  pub left : ℕ
+
+-- what a framer is in the middle of
+pub data Progress : Type 0 where
+  -- a line: its bytes so far
+  in_line : List ℕ → Progress
+  -- a line that is too long, which is not kept
+  in_long_line : Progress
+  -- a block: its line, and its bytes so far
+  in_block : Awaited → List ℕ → Progress
+  -- a block that is too large, which is not kept
+  in_large_block : Awaited → Progress
+  -- what follows a quit line
+  behind_quit : Progress
+  -- what follows after memory was wanted and not found
+  without_memory : Progress
+
+-- the line takes a block of this size, of which some bytes are still to come
+pub record IsAwaited (block : Awaited) : Type 0 where
+  pub short : IsShort block.line
+  pub sized : need (chomped block.line) ≡ Needs.Block block.size
+  pub some : 0 < block.left
+
+-- a block that is kept: it is not too large, and its bytes so far are those that do not lack
+pub record IsKeptBlock (awaited : Awaited) (block : List ℕ) : Type 0 where
+  pub awaits : IsAwaited awaited
+  pub small : awaited.size ≤ value_limit
+  pub all : length block + awaited.left ≡ awaited.size + 2
+
+-- a block that is not
+pub record IsLargeBlock (awaited : Awaited) : Type 0 where
+  pub awaits : IsAwaited awaited
+  pub large : value_limit < awaited.size
+
+-- what is true of each framer
+abbrev pub Keeps : Progress → Type 0
+Keeps (in_line kept) = IsShort kept
+Keeps (in_block awaited block) = IsKeptBlock awaited block
+Keeps (in_large_block awaited) = IsLargeBlock awaited
+Keeps progress = ⊤
+
+-- the number of bytes kept
+abbrev pub kept_by : Progress → ℕ
+kept_by (in_line kept) = length kept
+kept_by (in_block awaited block) = length awaited.line + length block
+kept_by (in_large_block awaited) = length awaited.line
+kept_by progress = 0
+
+-- whether what follows a quit line comes
+abbrev pub is_quit : Progress → Bool
+is_quit behind_quit = true
+is_quit progress = false
+
+-- a quit line was met
+abbrev pub IsQuit : Progress → Type 0
+IsQuit framer = framer ≡ behind_quit
+
+-- memory was wanted and not found
+abbrev pub IsRefused : Progress → Type 0
+IsRefused framer = framer ≡ without_memory
 
 -- ---- what cutting gives
 
@@ -39,50 +108,22 @@ ends_frame left kind bytes = if nat_lt (length bytes) left
     then no_outcome
     else with_frames (kind (take left bytes) ∷ []) (outcome_of (drop left bytes))
 
+-- the frame of a block, once the rest of it has come
+abbrev pub with_rest : Awaited → List ℕ → List ℕ → FrameKind
+with_rest awaited block rest = Kinds.Block (chomped awaited.line) (block ++ rest)
+
 -- what a framer gives when these bytes follow
-unfoldable pub goes_on : State → List ℕ → Outcome
-goes_on (Line kept) bytes = outcome_of (kept ++ bytes)
-goes_on Long bytes = ends_long (first_line bytes)
-goes_on (Block wanted block) bytes = ends_frame wanted.left (λ rest. Kinds.Block (chomped wanted.line) (block ++ rest)) bytes
-goes_on (Large wanted) bytes = ends_frame wanted.left (λ rest. Kinds.Large (chomped wanted.line)) bytes
-goes_on Quit bytes = record { frames = []; quit = true }
-goes_on Refused bytes = no_outcome
+unfoldable pub goes_on : Progress → List ℕ → Outcome
+goes_on (in_line kept) bytes = outcome_of (kept ++ bytes)
+goes_on in_long_line bytes = ends_long (first_line bytes)
+goes_on (in_block awaited block) bytes = ends_frame awaited.left (with_rest awaited block) bytes
+goes_on (in_large_block awaited) bytes =
+    ends_frame awaited.left (λ rest. Kinds.Large (chomped awaited.line)) bytes
+goes_on behind_quit bytes = record { frames = []; quit = true }
+goes_on without_memory bytes = no_outcome
 
--- the bytes that were fed may have been these: whatever follows, the framer gives what the stream then has beyond its frames so far
-unfoldable pub StandsFor : State → List ℕ → Type 0
-StandsFor framer fed = (more : List ℕ) → outcome_of (fed ++ more) ≡ with_frames (frames_of fed) (goes_on framer more)
-
--- the number of bytes kept
-abbrev pub kept_by : State → ℕ
-kept_by (Line kept) = length kept
-kept_by (Block wanted block) = length wanted.line + length block
-kept_by (Large wanted) = length wanted.line
-kept_by state = 0
-
--- whether what follows a quit line comes
-abbrev pub is_quit : State → Bool
-is_quit Quit = true
-is_quit state = false
-
--- a quit line was met
-abbrev pub IsQuit : State → Type 0
-IsQuit framer = framer ≡ Quit
-
--- memory was wanted and not found
-abbrev pub IsRefused : State → Type 0
-IsRefused framer = framer ≡ Refused
-
--- ---- feeding
-
--- the frames that a stream has beyond those that it had without its last piece were appended
-pub record Appends (fed piece : List ℕ) (before after : List FrameKind) : Type 0 where
-  pub given : List FrameKind
-  pub appended : after ≡ before ++ given
-  pub due : frames_of (fed ++ piece) ≡ frames_of fed ++ given
-
--- the first of those frames were appended
-pub record AppendsFirst (fed piece : List ℕ) (before after : List FrameKind) : Type 0 where
-  pub given : List FrameKind
-  pub lost : List FrameKind
-  pub appended : after ≡ before ++ given
-  pub due : frames_of (fed ++ piece) ≡ frames_of fed ++ (given ++ lost)
+-- the bytes that were fed may have been these: whatever follows, the framer gives what the stream
+-- then has beyond its frames so far
+unfoldable pub StandsFor : Progress → List ℕ → Type 0
+StandsFor framer fed = (more : List ℕ)
+    → outcome_of (fed ++ more) ≡ with_frames (frames_of fed) (goes_on framer more)

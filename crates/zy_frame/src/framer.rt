@@ -1,7 +1,8 @@
 //! Cutting a stream as its pieces come.
 ghost use Rattle.std.specs.Prelude.{◌≡◌, ◌<◌, ◌≤◌, ℕ, List, [], ◌++◌, length, Ok, IsErr, OnOk, OnErr};
 ghost use Rattle.zy_frame.specs.Cut.{frames_of, meets_quit};
-ghost use Rattle.zy_frame.specs.Progress.{StandsFor, Appends, AppendsFirst, IsQuit, IsRefused, kept_by, is_quit};
+ghost use Rattle.zy_frame.specs.Progress.{StandsFor, IsQuit, IsRefused, kept_by, is_quit};
+ghost use Rattle.zy_frame.specs.Feed.{Appends, AppendsFirst};
 ghost use Rattle.zy_frame.specs.Steps.{Advances};
 
 use crate::frames::Frames;
@@ -22,14 +23,14 @@ pub struct Framer {
 }
 
 impl Model for Framer {
-    ghost use Rattle.zy_frame.specs.declared.state.State.{State};
-    ghost use Rattle.zy_frame.specs.Steps.{Keeps};
+    ghost use Rattle.zy_frame.specs.Progress.{Progress, Keeps};
+    ghost use Rattle.zy_frame.specs.Steps.{progress_of};
 
-    ghost Value = { State };
+    ghost Value = { Progress };
 
-    ghost view = { λ framer. framer.state };
+    ghost view = { λ framer. progress_of framer.state };
 
-    ghost invariant = { λ framer. Keeps framer.state };
+    ghost invariant = { λ framer. Keeps (progress_of framer.state) };
 }
 
 impl Framer {
@@ -57,12 +58,15 @@ impl Framer {
         ensures due { OnOk result ((fed : List ℕ) → StandsFor self.old fed → Appends fed piece.now frames.old frames.new) }
 
         // Behind a quit line.
-        ensures quit { IsQuit self.old → (result ≡ Ok tt) × IsQuit self.new × (frames.new ≡ frames.old) }
+        ensures quit { IsQuit self.old → result ≡ Ok tt }
+        ensures lasts { IsQuit self.old → IsQuit self.new }
+        ensures none { IsQuit self.old → frames.new ≡ frames.old }
 
         // When memory was wanted, and after that.
         ensures first { OnErr result ((fed : List ℕ) → StandsFor self.old fed → AppendsFirst fed piece.now frames.old frames.new) }
         ensures refused { OnErr result (IsRefused self.new) }
-        ensures stays { IsRefused self.old → IsErr result × (frames.new ≡ frames.old) }
+        ensures stays { IsRefused self.old → IsErr result }
+        ensures kept { IsRefused self.old → frames.new ≡ frames.old }
     {
         match self.state {
             State::Quit => return Ok(()),

@@ -1,7 +1,8 @@
 //! Steps in a line that is too long, and in blocks.
 ghost use Rattle.std.specs.Prelude.{◌≡◌, ◌<◌, ◌≤◌, ◌+◌, length, IfOk};
 ghost use Rattle.zy_frame.specs.declared.state.State.TheVariants.{Long, Block, Large};
-ghost use Rattle.zy_frame.specs.Steps.{Goes, Keeps};
+ghost use Rattle.zy_frame.specs.Progress.{IsKeptBlock, IsLargeBlock};
+ghost use Rattle.zy_frame.specs.Steps.{awaited, Goes};
 
 use crate::frame::Frame;
 use crate::frame_kind::FrameKind;
@@ -41,7 +42,7 @@ pub(crate) fn step_in_block(
     mut block: Blob,
     bytes: &[u8],
 ) -> Result<Step, NoMemory>
-    requires keeps { Keeps (Block wanted block) }
+    requires keeps { IsKeptBlock (awaited wanted) block }
     requires some { 0 < length bytes.now }
     ensures value { IfOk result (λ step. Goes (Block wanted block) bytes.now step) }
 {
@@ -62,7 +63,7 @@ pub(crate) fn step_in_block(
 
 // The last bytes of a block have come.
 fn end_block(alloc: Global, wanted: Wanted, mut block: Blob, bytes: &[u8]) -> Result<Step, NoMemory>
-    requires keeps { Keeps (Block wanted block) }
+    requires keeps { IsKeptBlock (awaited wanted) block }
     requires all { wanted.left ≤ length bytes.now }
     ensures value { IfOk result (λ step. Goes (Block wanted block) bytes.now step) }
 {
@@ -84,7 +85,7 @@ fn end_block(alloc: Global, wanted: Wanted, mut block: Blob, bytes: &[u8]) -> Re
 
 // In a block that is too large: its bytes are not kept.
 pub(crate) fn step_in_large(alloc: Global, mut wanted: Wanted, bytes: &[u8]) -> Step
-    requires keeps { Keeps (Large wanted) }
+    requires keeps { IsLargeBlock (awaited wanted) }
     requires some { 0 < length bytes.now }
     ensures value { Goes (Large wanted) bytes.now result }
 {

@@ -10,12 +10,9 @@ use crate::line_end::{chomp, chomp_kept, line_end};
 use crate::state::State;
 use crate::step::Step;
 use crate::wanted::Wanted;
-use mc_parse::{Need, need_of};
+use mc_parse::{LINE_LIMIT, Need, need_of};
 use std::alloc::Global;
 use zy_base::{Blob, NoMemory};
-
-// The most bytes before the line feed of a line that is looked at.
-const LINE_LIMIT: usize = 65_536;
 
 // The most bytes that a value may have.
 const VALUE_LIMIT: u32 = 1_048_576;

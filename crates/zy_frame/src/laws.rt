@@ -2,11 +2,13 @@
 ghost use Rattle.std.specs.Prelude.{◌≡◌, ◌<◌, ◌≤◌, ◌+◌, ◌↔◌, ◌⊎◌, ℕ, true, false, List, [], ◌∷◌, ◌++◌, length, map, None};
 ghost use Rattle.std.specs.List.{AllByRecursion};
 ghost use Rattle.zy_base.specs.Shard.{value_limit};
+ghost use Rattle.mc_parse.specs.declared.command.Command.{Command};
 ghost use Rattle.zy_frame.specs.declared.frame_kind.FrameKind.{FrameKind};
 ghost use Rattle.zy_frame.specs.declared.frame_kind.FrameKind.TheVariants as Kinds;
 ghost use Rattle.zy_frame.specs.Line.{chomped, line_feed};
 ghost use Rattle.zy_frame.specs.Frame.{IsFrameText, IsQuitLine, IsLongText, IsLineText, IsBlockText, frame_of, command_of};
 ghost use Rattle.zy_frame.specs.Cut.{Splits, BeginsWithQuit, cut_of, frames_of, commands_of, meets_quit, joined};
+ghost use Rattle.zy_frame.specs.Feed.{Fed, GivesEach, fed_bytes, fed_frames};
 
 /// No frame text is a proper prefix of another.
 #[tactic(auto, using(crate::proofs::CutLemmas::no_proper_prefix))]
@@ -36,7 +38,8 @@ pub fn pieces_of_a_prefix_come_first()
 /// The frames of a prefix of a stream are a prefix of its frames.
 #[tactic(auto, using(crate::proofs::CutLaws::frames_first))]
 pub fn frames_of_a_prefix_come_first()
-    ensures law { (stream more : List ℕ) → (later : List FrameKind) × (frames_of (stream ++ more) ≡ frames_of stream ++ later) }
+    ensures law { (stream more : List ℕ)
+        → (later : List FrameKind) × (frames_of (stream ++ more) ≡ frames_of stream ++ later) }
 {}
 
 /// A quit line and all that comes after it are in the rest.
@@ -76,6 +79,19 @@ pub fn frames_are_those_of_the_cut()
 pub fn commands_are_those_of_the_cut()
     ensures law { (stream : List ℕ) (pieces : List (List ℕ)) (rest : List ℕ) → Splits stream pieces rest
         → commands_of stream ≡ map (λ piece. command_of (frame_of piece)) pieces }
+{}
+
+/// The commands of a prefix of a stream are a prefix of its commands.
+#[tactic(auto, using(crate::proofs::CutLaws::commands_first))]
+pub fn commands_of_a_prefix_come_first()
+    ensures law { (stream more : List ℕ)
+        → (later : List Command) × (commands_of (stream ++ more) ≡ commands_of stream ++ later) }
+{}
+
+/// However a stream is cut into pieces, what all of them give together are its frames.
+#[tactic(auto, using(crate::proofs::CutLaws::given_by_all))]
+pub fn pieces_give_the_frames_of_the_stream()
+    ensures law { (pieces : List Fed) → GivesEach [] pieces → fed_frames pieces ≡ frames_of (fed_bytes pieces) }
 {}
 
 /// A frame text is a line that is too long, a line that takes no block, or a storage line with its block.

@@ -23,9 +23,10 @@ pub use frame_kind::FrameKind;
 pub use framer::Framer;
 pub use frames::Frames;
 pub use laws::{
-    a_quit_line_begins_the_rest, commands_are_those_of_the_cut,
+    a_quit_line_begins_the_rest, commands_are_those_of_the_cut, commands_of_a_prefix_come_first,
     each_kind_of_frame_text_has_its_frame, each_stream_has_a_cut, frame_texts_are_of_three_kinds,
     frames_are_those_of_the_cut, frames_of_a_prefix_come_first, no_frame_comes_after_quit,
-    no_frame_text_is_a_proper_prefix, no_stream_has_two_cuts, pieces_of_a_prefix_come_first,
-    quit_is_met_where_the_rest_begins_with_it, the_empty_stream_has_no_frame,
+    no_frame_text_is_a_proper_prefix, no_stream_has_two_cuts, pieces_give_the_frames_of_the_stream,
+    pieces_of_a_prefix_come_first, quit_is_met_where_the_rest_begins_with_it,
+    the_empty_stream_has_no_frame,
 };

@@ -1,6 +1,7 @@
 //! Steps in every state.
 ghost use Rattle.std.specs.Prelude.{◌≡◌, ◌<◌, length, IfOk};
-ghost use Rattle.zy_frame.specs.Steps.{Goes, Keeps};
+ghost use Rattle.zy_frame.specs.Progress.{Keeps};
+ghost use Rattle.zy_frame.specs.Steps.{progress_of, Goes};
 
 use crate::in_frame::{step_in_block, step_in_large, step_in_long};
 use crate::in_line::step_in_line;
@@ -11,7 +12,7 @@ use zy_base::NoMemory;
 
 // Takes some first bytes, at least one.
 pub(crate) fn step(alloc: Global, state: State, bytes: &[u8]) -> Result<Step, NoMemory>
-    requires keeps { Keeps state }
+    requires keeps { Keeps (progress_of state) }
     requires some { 0 < length bytes.now }
     ensures value { IfOk result (λ step. Goes state bytes.now step) }
 {

@@ -3,8 +3,8 @@ mod plain;
 
 use crate::frame_kind::FrameKind;
 use crate::frames::Frames;
-use crate::{Framer, meaning};
-use mc_parse::{Command, ErrorLine};
+use crate::{Frame, Framer, meaning};
+use mc_parse::{Command, ErrorLine, Verb};
 use plain::{cut_plainly, text_of};
 use std::alloc::Global;
 use std::process::Abort;
@@ -163,6 +163,38 @@ fn a_frame_without_its_end_is_none(rt: HostRuntime) -> Result<(), Fail> {
     Ok(())
 }
 
+// A whole stream gives these frames; where memory is refused on the way, it gives the first of them, and from then on
+// no more.
+fn gives_first(alloc: Global, stream: &[u8], kinds: &[FrameKind]) -> bool {
+    let mut framer = Framer::new(alloc);
+    let mut frames = Frames::new(alloc);
+    match framer.feed(stream, &mut frames) {
+        Ok(()) => agree(frames, kinds),
+        Err(NoMemory) => {
+            let count = frames.len();
+            let refused = framer.feed(b"version\r\n", &mut frames).is_err();
+            refused
+                && frames.len() == count
+                && count <= kinds.len()
+                && agree(frames, &kinds[..count])
+        }
+    }
+}
+
+#[test]
+fn after_a_want_of_memory_no_more_frames_come(rt: HostRuntime) -> Result<(), Fail> {
+    let alloc = rt.alloc();
+    for stream in SHORT {
+        let kinds = match cut_plainly(alloc, stream) {
+            Ok(kinds) => kinds,
+            Err(NoMemory) => cut_plainly(alloc, stream)?,
+        };
+        assert!(rt; gives_first(alloc, stream, &kinds), "{stream:?}");
+        assert!(rt; gives_first(alloc, stream, &kinds), "{stream:?} again");
+    }
+    Ok(())
+}
+
 #[test]
 fn only_what_is_needed_is_kept(rt: HostRuntime) -> Result<(), Fail> {
     let alloc = rt.alloc();
@@ -196,6 +228,21 @@ fn nothing_comes_after_quit(rt: HostRuntime) -> Result<(), Fail> {
     Ok(())
 }
 
+// The command of a frame; where memory is refused, that of the frame that was handed back, which is the same.
+fn meaning_again(rt: &impl Abort, alloc: Global, frame: Frame) -> Result<Command, NoMemory> {
+    let copy = frame.copy()?;
+    match meaning(alloc, frame) {
+        Ok(command) => Ok(command),
+        Err((frame, NoMemory)) => {
+            assert!(rt; frame.kind == copy.kind);
+            match meaning(alloc, frame) {
+                Ok(command) => Ok(command),
+                Err((_, refused)) => Err(refused),
+            }
+        }
+    }
+}
+
 #[test]
 fn frames_mean_their_commands(rt: HostRuntime) -> Result<(), Fail> {
     let alloc = rt.alloc();
@@ -206,6 +253,7 @@ fn frames_mean_their_commands(rt: HostRuntime) -> Result<(), Fail> {
     framer.feed(b"version\r\nset k 0 0 1\r\nabc", &mut frames)?;
     framer.feed(large.bytes(), &mut frames)?;
     framer.feed(long.bytes(), &mut frames)?;
+    framer.feed(b"delete k\r\nset k 7 0 1 noreply\r\nv\r\n", &mut frames)?;
     let wanted = [
         Command::Version,
         Command::Fault {
@@ -220,18 +268,24 @@ fn frames_mean_their_commands(rt: HostRuntime) -> Result<(), Fail> {
             line: ErrorLine::LongLine,
             quiet: false,
         },
+        Command::Delete {
+            key: Blob::copy_of(alloc, b"k")?,
+            quiet: false,
+        },
+        Command::Store {
+            verb: Verb::Set,
+            key: Blob::copy_of(alloc, b"k")?,
+            flags: 7,
+            value: Blob::copy_of(alloc, b"v")?,
+            quiet: true,
+        },
     ];
     for command in &wanted {
         let Some(frame) = frames.pop() else {
             return Err(Fail::from(NoMemory));
         };
-        let copy = frame.copy()?;
-        assert!(rt; copy.kind == frame.kind);
-        let found = meaning(alloc, frame);
-        assert!(rt;
-            matches!(&found, Ok(found) if found == command),
-            "{command:?}"
-        );
+        let found = meaning_again(&rt, alloc, frame)?;
+        assert!(rt; found == *command, "{command:?}");
     }
     Ok(())
 }

@@ -10,7 +10,7 @@ use Rattle.atomic_table.specs.Table.{step, rest, Allows}
 use Rattle.atomic_table.specs.Seated.{TableId}
 use Rattle.zy_shuffle.proofs.LookLemmas.{loads_bells}
 use Rattle.zy_shuffle.proofs.PassLemmas.{within_more}
-use Rattle.zy_shuffle.proofs.TakeLemmas.{collects}
+use Rattle.zy_shuffle.proofs.DoorbellLemmas.{collects}
 use Rattle.zy_shuffle.specs.Hand.{emptied, marked}
 use Rattle.zy_shuffle.specs.Pass.{Collected, Held, LookedAt, Rang, held, last_bell, out_of, tail_of}
 use Rattle.zy_shuffle.specs.PassSeat.{IsHomeSeat, Within, bells_of}

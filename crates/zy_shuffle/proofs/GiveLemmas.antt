@@ -3,9 +3,10 @@ use Rattle.std.proofs.Common.{◌≡◌, ℕ, ◌+◌, ◌*◌, ◌/◌, ◌%◌
 use Rattle.std.specs.Prelude as std
 use mathlib.Core.Option.{none}
 use Rattle.atomic_table.specs.Table.{step, rest, Allows, Splits, Joins}
-use Rattle.zy_shuffle.proofs.EndLemmas.{joins, splits}
+use Rattle.zy_shuffle.proofs.SplitLemmas.{joins, splits}
 use Rattle.zy_shuffle.proofs.LookLemmas.{fronts, stores_cell}
-use Rattle.zy_shuffle.proofs.TakeLemmas.{gives_back, stores_tail}
+use Rattle.zy_shuffle.proofs.DoorbellLemmas.{gives_back}
+use Rattle.zy_shuffle.proofs.PublishLemmas.{stores_tail}
 use Rattle.zy_shuffle.specs.Hand.{emptied, marked, rest_of}
 use Rattle.zy_shuffle.specs.Pass.{out_of}
 use Rattle.zy_shuffle.specs.PassSeat.{IsBrought, IsCorePass, IsCoreSeat, IsFront, IsHomeSeat, bells_of}

@@ -6,7 +6,7 @@ use mathlib.Core.Option.{some, some-ne-none}
 use lib.ListN.{get_elem?}
 use Rattle.atomic_table.specs.Table.{Allows, Final, Seen}
 use Rattle.atomic_table.specs.Seated.{TableId}
-use Rattle.zy_shuffle.proofs.EndLemmas.{Ended, closes, shuts}
+use Rattle.zy_shuffle.proofs.CloseLemmas.{Ended, closes, shuts}
 use Rattle.zy_shuffle.specs.Hand.{left_of, marked, one_left}
 use Rattle.zy_shuffle.specs.Pass.{LeftSlots, held, out_of}
 use Rattle.zy_shuffle.specs.PassSeat.{IsHomeSeat, bells_of}

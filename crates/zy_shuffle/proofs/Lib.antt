@@ -1,8 +1,14 @@
+pub mod OwnerLemmas
 pub mod HandLemmas
 pub mod MoveLemmas
 pub mod LookLemmas
 pub mod TakeLemmas
-pub mod EndLemmas
+pub mod PublishLemmas
+pub mod DoorbellLemmas
+pub mod IdleLemmas
+pub mod OpenLemmas
+pub mod SplitLemmas
+pub mod CloseLemmas
 pub mod ClaimLemmas
 pub mod GiveLemmas
 pub mod BellLemmas

@@ -134,7 +134,7 @@ module _ {T M : Type 0} (mark : T → M) (label : T → Name) where
         (λ i. (v', f.1 i)),
       )
 
-  -- at most one in each place is in_queue
+  -- a holder counts for one at most
   light : (x : Holder) → weight x ≤ 1
   light nobody = omega arith
   light (in_queue k) = omega arith

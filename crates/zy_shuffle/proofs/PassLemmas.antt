@@ -4,9 +4,9 @@ use Rattle.std.specs.Prelude as std
 use mathlib.Core.Option.{none}
 use Rattle.atomic_table.specs.Table.{step, rest}
 use Rattle.atomic_table.specs.Seated.{TableId}
-use Rattle.zy_shuffle.proofs.HandLemmas.{in_below}
+use Rattle.zy_shuffle.proofs.HandLemmas.{below_in, in_below}
 use Rattle.zy_shuffle.specs.Hand.{below_then, emptied, rest_of}
-use Rattle.zy_shuffle.specs.Pass.{Claimed, Held, held, out_of}
+use Rattle.zy_shuffle.specs.Pass.{HasAll, Claimed, Held, held, out_of}
 use Rattle.zy_shuffle.specs.PassSeat.{IsBrought, IsCorePass, IsCoreSeat, IsHomeSeat, Within, bells_of}
 use Rattle.zy_shuffle.specs.Step.{Seated, gave, giving, named_as, published, publishing, stored_cell, storing, with_published, with_stored}
 use Rattle.zy_shuffle.specs.declared.claim.Claim.TheVariants.{Took}
@@ -53,6 +53,10 @@ module _ {T : Type 0} where
   pub home_named : (z : Name) (s s' n : ℕ) (m : Seated T) → n ≡ s → s' ≡ s → named_as {T = T} z (step n 0 0 0 none) m → IsHomeSeat s' 0 m
   home_named z s s' n m e f h =
       subst (λ (x : Seated T). IsHomeSeat s' 0 x) (sym h) (refl, refl, subst (λ k. Within k (below_then n [])) (e ∙ sym f) (within_all n))
+
+  -- all places are in the hand of a home that was named
+  pub hand_named : (z : Name) (n places : ℕ) (m : Seated T) → named_as {T = T} z (step n 0 0 0 none) m → n ≡ places → HasAll places m.0.hand
+  hand_named z n places m e size place lt = ap (λ (x : Seated T). is_in place x.0.hand) e ∙ below_in n place [] (omega arith)
 
   pub home_published : (s s' n i p t : ℕ) (b : T) (m0 m1 m2 m3 : Seated T) → s' ≡ s → IsHomeSeat s t m0 → stored_cell (step n i p 0 none) m0 m1 → m2 ≡ (m1.0, (p, std.Some b) ∷ rest m1.1) → published m2 m3 → IsHomeSeat s' (t + 1) m3
   home_published s s' n i p t b m0 m1 m2 m3 same h e f g =

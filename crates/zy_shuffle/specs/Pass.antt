@@ -59,6 +59,10 @@ held id v = record { table = id; label = v.label; hand = v.hand; kept = v.kept; 
 abbrev pub newly_held : {T : Type 0} → TableId → Name → ℕ → Held T
 newly_held id label places = record { table = id; label = label; hand = below_then places []; kept = []; count = 0; out = 0; trace = untraced }
 
+-- each place of the ring is in the hand
+abbrev pub HasAll : ℕ → List ℕ → Type 0
+HasAll places hand = (place : ℕ) → place < places → is_in place hand ≡ true
+
 -- a new pass of a home: its hand is empty
 abbrev pub newly_given : {T : Type 0} → Held T → Held T
 newly_given home = record home { hand = []; kept = []; count = 0; out = 0; trace = untraced }
@@ -104,11 +108,11 @@ IfTook (Took place block) P = P place block
 IfTook (Empty at) P = Unit {0}
 IfTook (Raced saw found) P = Unit {0}
 
-module _ {T M : Type 0} (mark : T → M) (label : T → Name) (places : ℕ) (v w : Held T) where
-  -- nothing has changed but what the pass has seen
-  abbrev pub Unchanged : Type 0
-  Unchanged = w ≡ record v { trace = w.trace }
+-- nothing has changed but what the pass has seen
+abbrev pub Unchanged : {T : Type 0} → Held T → Held T → Type 0
+Unchanged v w = w ≡ record v { trace = w.trace }
 
+module _ {T M : Type 0} (mark : T → M) (label : T → Name) (places : ℕ) (v w : Held T) where
   -- the place has come into the hand, with a block that has the ring's label
   pub record Joined (place : ℕ) (block : T) : Type 0 where
     pub is : w ≡ record v { hand = place ∷ v.hand; kept = (place, block) ∷ v.kept; trace = w.trace }
@@ -119,19 +123,19 @@ module _ {T M : Type 0} (mark : T → M) (label : T → Name) (places : ℕ) (v 
   -- took: the exchange found the head that was loaded. Empty: the tail was the head, and the head was still so at that load. Raced: the exchange found another head
   abbrev pub Claimed : Claim T → Type 0
   Claimed (Took place block) = Joined place block × ((head tail : ℕ) × Loaded v.trace.steps head tail w.trace × (head < tail) × Tried head w.trace)
-  Claimed (Empty at) = Unchanged × Loaded v.trace.steps at at w.trace × (w.trace.under ≡ at)
-  Claimed (Raced saw found) = Unchanged × ((tail : ℕ) × Loaded v.trace.steps saw tail w.trace × (saw < tail)) × Tried found w.trace × (found ≢ saw)
+  Claimed (Empty at) = Unchanged v w × Loaded v.trace.steps at at w.trace × (w.trace.under ≡ at)
+  Claimed (Raced saw found) = Unchanged v w × ((tail : ℕ) × Loaded v.trace.steps saw tail w.trace × (saw < tail)) × Tried found w.trace × (found ≢ saw)
 
   -- none: each doorbell word was loaded, and it was 0. Some: the words before that of the place were 0, and its bit was the lowest
   abbrev pub Collected : Option (ℕ × T) → Type 0
-  Collected None = Unchanged × ((word : ℕ) → word < bell_words places → Rang v.trace.steps word 0 w.trace)
+  Collected None = Unchanged v w × ((word : ℕ) → word < bell_words places → Rang v.trace.steps word 0 w.trace)
   Collected (Some x) = Joined x.0 x.1
       × ((bits : ℕ) × Rang v.trace.steps (x.0 / 64) bits w.trace × (bit_at bits (x.0 % 64) ≡ 1)
       × ((word : ℕ) → word < x.0 / 64 → Rang v.trace.steps word 0 w.trace) × ((i : ℕ) → i < x.0 % 64 → bit_at bits i ≡ 0))
 
   -- the same of one doorbell word
   abbrev pub LookedAt : ℕ → Option (ℕ × T) → Type 0
-  LookedAt word None = Unchanged × (w.trace ≡ bell_step word 0 v.trace)
+  LookedAt word None = Unchanged v w × (w.trace ≡ bell_step word 0 v.trace)
   LookedAt word (Some x) = Joined x.0 x.1 × (x.0 / 64 ≡ word)
       × ((bits : ℕ) × (w.trace ≡ plain_step (bell_step word bits v.trace)) × (bit_at bits (x.0 % 64) ≡ 1) × ((i : ℕ) → i < x.0 % 64 → bit_at bits i ≡ 0))
 

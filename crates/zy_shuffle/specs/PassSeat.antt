@@ -1,13 +1,15 @@
 -- What is so of the seats of passes between two calls. No public clause cites this module.
-use Rattle.std.specs.Prelude.{◌≡◌, ℕ, ◌+◌, ◌<◌, ◌≤◌, List, ◌∷◌, true, Option, Some, None}
+use Rattle.std.specs.Prelude.{◌≡◌, ℕ, ◌+◌, ◌<◌, ◌≤◌, List, ◌∷◌, true, Option, Some, None, IfSome}
 use Rattle.atomic_table.specs.Seated.{TableId}
 use Rattle.zy_table.specs.Member.{is_in, without, IsDistinct}
 use Rattle.zy_shuffle.specs.declared.ring.view.Role.{Role}
 use Rattle.zy_shuffle.specs.declared.ring.view.Role.TheVariants.{Spent, Start, Core, Home, Closed}
-use Rattle.zy_shuffle.specs.Hand.{rest_of, emptied}
+use Rattle.zy_shuffle.specs.Hand.{rest_of, emptied, marked}
 use Rattle.zy_shuffle.specs.Word.{bell_words}
-use Rattle.zy_shuffle.specs.Step.{Seated}
-use Rattle.zy_shuffle.specs.Pass.{out_of}
+use Rattle.zy_shuffle.specs.Step.{Seated, IsHome}
+use Rattle.zy_table.specs.declared.name.Name.{Name}
+use Rattle.zy_shuffle.specs.declared.claim.Claim.{Claim}
+use Rattle.zy_shuffle.specs.Pass.{Ringed, held, tail_of, out_of, Claimed, Collected, LookedAt, IfTook}
 
 -- the table of a ring with so many places
 abbrev pub IsRinged : TableId → ℕ → Type 0
@@ -51,3 +53,31 @@ pub record IsBrought {T : Type 0} (place : ℕ) (m n : Seated T) : Type 0 where
   pub kept : n.0.kept ≡ m.0.kept
   pub hand : n.0.hand ≡ place ∷ without place m.0.hand
   pub slots : n.1 ≡ emptied (place ∷ without place m.0.hand)
+
+-- ---- what the private functions answer, by the seat before and after
+
+-- the seat of a home, with the tail that another seat knew
+abbrev pub IsHomeAfter : {T : Type 0} → ℕ → Seated T → Seated T → Type 0
+IsHomeAfter places m n = IsHomeSeat places (tail_of m.0.role) n
+
+module _ {T M : Type 0} (mark : T → M) (label : T → Name) (ring : Ringed) (m n : Seated T) where
+  -- a claim
+  abbrev pub ClaimedBy : Claim T → Type 0
+  ClaimedBy claim = Claimed mark label ring.places (held ring.id m.0) (held ring.id n.0) claim
+
+  -- a collect
+  abbrev pub CollectedBy : Option (ℕ × T) → Type 0
+  CollectedBy found = Collected mark label ring.places (held ring.id m.0) (held ring.id n.0) found
+
+  -- a look at one doorbell word
+  abbrev pub LookedBy : ℕ → Option (ℕ × T) → Type 0
+  LookedBy word found = LookedAt mark label ring.places (held ring.id m.0) (held ring.id n.0) word found
+
+module _ {T M : Type 0} (mark : T → M) (m : Seated T) where
+  -- a block that was collected has the mark that the home keeps
+  abbrev pub KeepsMark : Option (ℕ × T) → Type 0
+  KeepsMark found = IfSome found (λ x. marked mark x.0 m.0.kept ≡ Some (mark x.1))
+
+  -- and so has one that the home claimed
+  abbrev pub ClaimKeepsMark : Claim T → Type 0
+  ClaimKeepsMark claim = IfTook claim (λ place block. IsHome m.0.role → marked mark place m.0.kept ≡ Some (mark block))

@@ -7,8 +7,8 @@ use atomic_table::Closed;
 use std::alloc::Global;
 use std::marker::Model;
 
-/// The blocks that were in the table when it was closed. Contracts see it as the list of pairs of place and block, by
-/// rising place.
+/// The blocks that were in the table when it was closed. Contracts see it as the list of pairs of
+/// place and block, by rising place.
 #[derive(Drop)]
 pub struct Left<T> {
     items: Vec<(u32, T)>,

@@ -1,10 +1,14 @@
-//! The shuffle queue of one home core: the places of its connections, their blocks, and the doorbells that bring them back.
+//! The shuffle queue of one home core: the places of its connections, their blocks, and the
+//! doorbells that bring them back.
 #![tactic(auto)]
 
 mod claim;
+pub mod laws;
 mod left;
 mod marked;
 mod ring;
+#[cfg(test)]
+mod tests;
 
 pub use claim::Claim;
 pub use left::Left;

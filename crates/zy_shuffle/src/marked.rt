@@ -15,7 +15,8 @@ pub trait Marked {
     ghost label: { Self → Name };
 }
 
-/// The label that the maker of a ring names, for contracts alone: by a marker type, which has no part at run time.
+/// The label that the maker of a ring names, for contracts alone: by a marker type, which has no
+/// part at run time.
 pub trait Label {
     ghost use Rattle.zy_table.specs.declared.name.Name.{Name};
 

@@ -1,8 +1,8 @@
 //! The name of a table.
 use std::collections::LinkedList;
 
-/// The name of a table of words and slots, for contracts alone: no value of it is made. It is the table's identity as
-/// plain numbers, so that a view can hold it.
+/// The name of a table of words and slots, for contracts alone: no value of it is made. It is the
+/// table's identity as plain numbers, so that a view can hold it.
 pub struct Name {
     pub words: u64,
     pub slots: u64,

@@ -1,17 +1,25 @@
--- What was read of a capture, byte after byte and piece after piece.
-use Rattle.std.proofs.Common.{◌≢◌, ℕ, ◌+◌, ◌<◌, ◌≤◌, List, [], ◌∷◌, ◌++◌, length, take, get_or, refl, sym, ◌∙◌, ap, subst, append_assoc}
+-- What was read of a capture, piece after piece.
+use Rattle.std.proofs.Common.{◌≢◌, ℕ, ◌+◌, ◌<◌, ◌≤◌, List, [], ◌∷◌, ◌++◌, length, take, drop, take-add, ◌-◌, refl, sym, ◌∙◌, ap, subst, append_assoc}
 use Rattle.std.specs.Prelude.{Option, None, Some, Result, Ok, Err, OnOk, IfErr, IfSome}
 use Rattle.std.specs.Io.KnownBytes.{Consumes, IsAtEnd}
-use Rattle.std.proofs.lemmas.List.{append-nil, take_all, take_more}
+use Rattle.std.proofs.lemmas.List.{append-nil, take_all}
+use Rattle.zy_read.specs.Standing.{Feeds}
+use Rattle.zy_read.proofs.Pieces.{slice_fed}
+use Rattle.zy_capture.specs.declared.record.Record.{Record}
 use Rattle.zy_capture.specs.Steps.{Progress}
+use Rattle.zy_capture.specs.Standing.{StandsFor}
+use Rattle.zy_capture.specs.Verdict.{captures}
 use Rattle.zygos_run.specs.declared.stop.ReadStop.{ReadStop}
 use Rattle.zygos_run.specs.declared.stop.ReadStop.TheVariants.{Failed, Stopped}
 use Rattle.zygos_run.specs.Ends.{HasRead, HasTaken, IsCapture, ReadEnds}
 
--- one byte more of some bytes
-pub read_more : (p : Progress) (b bytes : List ℕ) (i : ℕ) → i < length bytes → HasRead p ((b ++ take i bytes) ++ get_or bytes i 0 ∷ []) → HasRead p (b ++ take (i + 1) bytes)
-read_more p b bytes i within read =
-    subst (HasRead p) (append_assoc b (take i bytes) (get_or bytes i 0 ∷ []) ∙ ap (λ (l : List ℕ). b ++ l) (sym (take_more bytes i 0 within))) read
+-- some first bytes more of the slice from a place on
+pub piece_read : (p q : Progress) (b bytes : List ℕ) (at taken : ℕ) (gave : List Record) → Feeds captures p q (take taken (take (length bytes - at) (drop at bytes))) gave → HasRead p (b ++ take at bytes) → HasRead q (b ++ take (at + taken) bytes)
+piece_read p q b bytes at taken gave feeds read = (
+  read.0 ++ gave,
+  subst (λ (l : List ℕ). StandsFor q (read.0 ++ gave) l) (append_assoc b (take at bytes) (take taken (drop at bytes)) ∙ ap (λ (l : List ℕ). b ++ l) (sym (take-add at taken bytes)))
+      (slice_fed captures p q bytes at taken gave feeds read.0 (b ++ take at bytes) read.1),
+)
 
 -- all of them
 pub read_whole : (p : Progress) (b bytes : List ℕ) (i : ℕ) → length bytes ≤ i → HasRead p (b ++ take i bytes) → HasRead p (b ++ bytes)

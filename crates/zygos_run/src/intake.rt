@@ -9,6 +9,7 @@ use crate::stop::Stop;
 use std::alloc::Global;
 use zy_base::{Entries, Gate, Holds};
 use zy_capture::{FeedFault, Outputs, Reader, Record};
+use zy_read::Fed;
 
 // A capture that is read, and the connection that is served.
 #[derive(Drop)]
@@ -36,27 +37,22 @@ impl Intake {
         })
     }
 
-    // Takes the next bytes of the capture.
+    // Takes the next bytes of the capture, record after record.
     pub(crate) fn take<G: Gate>(&mut self, bytes: &[u8], gate: &G) -> Result<(), Stop>
         ensures fed { OnOk result ((b : List ℕ) → HasRead self.old.reader b → HasRead self.new.reader (b ++ bytes.now)) }
     {
-        for byte in bytes {
-            if let Err(stop) = self.take_byte(*byte, gate) {
-                return Err(stop);
+        let mut at = 0;
+        while at < bytes.len() {
+            let Fed { taken, answer } = self.reader.feed_piece(&bytes[at..]);
+            match answer {
+                Ok(None) => return Ok(()),
+                Ok(Some(record)) => self.take_record(record, gate)?,
+                Err(FeedFault::Fault(_)) => return Err(Stop::Unbuilt),
+                Err(FeedFault::NoMemory) => return Err(Stop::NoMemory),
             }
+            at += taken;
         }
         Ok(())
-    }
-
-    fn take_byte<G: Gate>(&mut self, byte: u8, gate: &G) -> Result<(), Stop>
-        ensures fed { OnOk result ((b : List ℕ) → HasRead self.old.reader b → HasRead self.new.reader (b ++ byte ∷ [])) }
-    {
-        match self.reader.feed(byte) {
-            Ok(None) => Ok(()),
-            Ok(Some(record)) => self.take_record(record, gate),
-            Err(FeedFault::Fault(_)) => Err(Stop::Unbuilt),
-            Err(FeedFault::NoMemory) => Err(Stop::NoMemory),
-        }
     }
 
     fn take_record<G: Gate>(&mut self, record: Record, gate: &G) -> Result<(), Stop>

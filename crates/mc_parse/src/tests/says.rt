@@ -1,5 +1,8 @@
 //! What a request means, as a text.
 ghost use Rattle.std.specs.Prelude.{◌≤◌, length};
+ghost use Rattle.mc_parse.specs.Words.{line_limit};
+ghost use Rattle.mc_parse.specs.Need.{need};
+ghost use Rattle.mc_parse.specs.Meaning.{IsBlockFor};
 
 use crate::command::{Command, Keys};
 use crate::error_line::ErrorLine;
@@ -11,7 +14,7 @@ use zy_base::{Blob, NoMemory, number_text};
 
 /// The command of a request; none where the line ends the connection or the block is of no such size.
 pub fn command_of(alloc: Global, line: &[u8], block: &[u8]) -> Result<Option<Command>, NoMemory>
-    requires within { length line.now ≤ 65536 }
+    requires within { length line.now ≤ line_limit }
 {
     match need_of(line) {
         Need::Nothing => match parse_line(alloc, line) {
@@ -26,12 +29,23 @@ pub fn command_of(alloc: Global, line: &[u8], block: &[u8]) -> Result<Option<Com
                 return Ok(None);
             }
             let block = Blob::copy_of(alloc, block)?;
-            match parse_block(alloc, line, block) {
-                Ok(command) => Ok(Some(command)),
-                Err((_, e)) => Err(e),
-            }
+            block_command_of(alloc, line, block)
         }
         Need::Quit => Ok(None),
+    }
+}
+
+// The command of a line with its block; where memory is refused, that of the block that was handed back.
+fn block_command_of(alloc: Global, line: &[u8], block: Blob) -> Result<Option<Command>, NoMemory>
+    requires within { length line.now ≤ line_limit }
+    requires fits { IsBlockFor (need line.now) block }
+{
+    match parse_block(alloc, line, block) {
+        Ok(command) => Ok(Some(command)),
+        Err((block, NoMemory)) => match parse_block(alloc, line, block) {
+            Ok(command) => Ok(Some(command)),
+            Err((_, refused)) => Err(refused),
+        },
     }
 }
 

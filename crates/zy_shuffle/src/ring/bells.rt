@@ -2,8 +2,8 @@
 ghost use Rattle.std.specs.Prelude.{◌≡◌, ◌<◌, IfSome, Some};
 ghost use Rattle.zy_shuffle.specs.Hand.{marked};
 ghost use Rattle.zy_shuffle.specs.Word.{bell_words};
-ghost use Rattle.zy_shuffle.specs.Pass.{held, tail_of, Collected, LookedAt};
-ghost use Rattle.zy_shuffle.specs.PassSeat.{IsHomeSeat};
+ghost use Rattle.zy_shuffle.specs.Pass.{Collected};
+ghost use Rattle.zy_shuffle.specs.PassSeat.{IsHomeAfter, CollectedBy, LookedBy, KeepsMark};
 
 use super::plays::{Collects, SeesBells};
 use super::view::View;
@@ -12,8 +12,9 @@ use crate::marked::Marked;
 use atomic_table::Seat;
 
 impl<T: Marked> Ring<T> {
-    /// Takes a place that was given back into the home's hand, with its block: that of the lowest bit of the first
-    /// doorbell word that is not 0. It is `None` exactly where each doorbell word, loaded in this call, was 0.
+    /// Takes a place that was given back into the home's hand, with its block: that of the lowest
+    /// bit of the first doorbell word that is not 0. It is `None` exactly where each doorbell word,
+    /// loaded in this call, was 0.
     pub fn collect(&self, home: &mut HomePass<T>) -> Option<(u32, T)>
         requires within { home.old.table ≡ self.now.id }
         ensures value { Collected T.mark T.label self.now.places home.old home.new result }
@@ -25,11 +26,11 @@ impl<T: Marked> Ring<T> {
     // Looks at each doorbell word, until one has a bit.
     fn collect_at(&self, seat: &mut Seat<Option<T>, View<T>>) -> Option<(u32, T)>
         requires within { seat.old.table_id ≡ self.now.id }
-        requires home { IsHomeSeat seat.old.table_id.slots (tail_of seat.old.me.0.role) seat.old.me }
+        requires home { IsHomeAfter seat.old.table_id.slots seat.old.me seat.old.me }
         ensures same { (seat.new.table_id ≡ seat.old.table_id) × (seat.new.id ≡ seat.old.id) }
-        ensures home { IsHomeSeat seat.new.table_id.slots (tail_of seat.old.me.0.role) seat.new.me }
-        ensures value { Collected T.mark T.label self.now.places (held self.now.id seat.old.me.0) (held self.now.id seat.new.me.0) result }
-        ensures kept { IfSome result (λ x. marked T.mark x.0 seat.old.me.0.kept ≡ Some (T.mark x.1)) }
+        ensures home { IsHomeAfter seat.new.table_id.slots seat.old.me seat.new.me }
+        ensures value { CollectedBy T.mark T.label self.now seat.old.me seat.new.me result }
+        ensures kept { KeepsMark T.mark seat.old.me result }
     {
         let count = (self.places as usize + 63) / 64;
         for word in 0..count {
@@ -43,12 +44,12 @@ impl<T: Marked> Ring<T> {
     // Looks at one doorbell word, and takes the block of its lowest bit.
     fn look_at(&self, seat: &mut Seat<Option<T>, View<T>>, word: usize) -> Option<(u32, T)>
         requires within { seat.old.table_id ≡ self.now.id }
-        requires home { IsHomeSeat seat.old.table_id.slots (tail_of seat.old.me.0.role) seat.old.me }
+        requires home { IsHomeAfter seat.old.table_id.slots seat.old.me seat.old.me }
         requires word { word < bell_words self.now.places }
         ensures same { (seat.new.table_id ≡ seat.old.table_id) × (seat.new.id ≡ seat.old.id) }
-        ensures home { IsHomeSeat seat.new.table_id.slots (tail_of seat.old.me.0.role) seat.new.me }
-        ensures value { LookedAt T.mark T.label self.now.places (held self.now.id seat.old.me.0) (held self.now.id seat.new.me.0) word result }
-        ensures kept { IfSome result (λ x. marked T.mark x.0 seat.old.me.0.kept ≡ Some (T.mark x.1)) }
+        ensures home { IsHomeAfter seat.new.table_id.slots seat.old.me seat.new.me }
+        ensures value { LookedBy T.mark T.label self.now seat.old.me seat.new.me word result }
+        ensures kept { KeepsMark T.mark seat.old.me result }
     {
         let words = &self.table.shared;
         let index = CELLS + self.places as usize + word;

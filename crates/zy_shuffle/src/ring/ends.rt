@@ -1,7 +1,7 @@
 //! How a ring is made and closed, and how passes are given and taken in.
 ghost use Rattle.std.specs.Prelude.{◌≡◌, ◌+◌, ◌-◌, ◌≤◌, IfOk, IsOk, IfErr, [], ⊤};
 ghost use Rattle.zy_shuffle.specs.View.{untraced};
-ghost use Rattle.zy_shuffle.specs.Pass.{AreLeft, newly_held, newly_given};
+ghost use Rattle.zy_shuffle.specs.Pass.{AreLeft, HasAll, newly_held, newly_given};
 
 use super::plays::{Closes, Joins, Names, Splits};
 use super::view::View;
@@ -13,11 +13,13 @@ use std::alloc::Global;
 use zy_base::NoMemory;
 
 impl<T: Marked> Ring<T> {
-    /// A ring with so many places, all in the home's hand, and an empty queue. The label of the ring is that of `L`.
+    /// A ring with so many places, all in the home's hand, and an empty queue. The label of the
+    /// ring is that of `L`.
     pub fn new<L: Label>(alloc: Global, places: u32) -> Result<(Ring<T>, HomePass<T>), NoMemory>
         requires few { places ≤ 4096 }
         ensures count { IfOk result (λ made. made.0.places ≡ places) }
         ensures value { IfOk result (λ made. made.1 ≡ newly_held made.0.id L.label places) }
+        ensures hand { IfOk result (λ made. HasAll places made.1.hand) }
     {
         let count = places as usize;
         let Ok(words) = Vec::from_elem(alloc, 0u64, CELLS + count + (count + 63) / 64) else {
@@ -65,7 +67,8 @@ impl<T: Marked> Ring<T> {
         self.table.shared.join_seat::<Joins>(&mut home.seat, seat);
     }
 
-    /// The blocks that are still in the table, once every pass was joined. After want of memory all is as it was.
+    /// The blocks that are still in the table, once every pass was joined. After want of memory all
+    /// is as it was.
     pub fn close(self, home: HomePass<T>) -> Result<Left<T>, (Ring<T>, HomePass<T>)>
         requires within { home.table ≡ self.id }
         requires joined { home.out ≡ 0 }

@@ -5,7 +5,8 @@ use super::view::View;
 use atomic_table::Seat;
 use std::marker::Model;
 
-/// The right of the home core to publish, to claim and to collect. Contracts see what it holds and what it has seen.
+/// The right of the home core to publish, to claim and to collect. Contracts see what it holds and
+/// what it has seen.
 #[derive(Drop)]
 pub struct HomePass<T> {
     pub(crate) seat: Seat<Option<T>, View<T>>,
@@ -40,4 +41,13 @@ impl<T> Model for CorePass<T> {
     ghost view = { λ p. held p.seat.table_id p.seat.me.0 };
 
     ghost invariant = { λ p. IsCorePass p.seat.table_id.slots p.front p.seat.me };
+}
+
+impl<T> HomePass<T> {
+    /// How often the home has published.
+    pub fn count(&self) -> u64
+        ensures value { result ≡ self.now.count }
+    {
+        self.tail
+    }
 }

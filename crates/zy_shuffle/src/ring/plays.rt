@@ -1,9 +1,9 @@
-//! What each kind of step tells its seat, and which event of the ownership machine it is. These types are for contracts
-//! alone: no value of them is made.
+//! What each kind of step tells its seat, and which event of the ownership machine it is. These
+//! types are for contracts alone: no value of them is made.
 ghost use Rattle.zy_shuffle.specs.View.{spent};
-ghost use Rattle.zy_shuffle.specs.Step.{saw_head, saw_tail, saw_cell, stored_cell, published, fronted, gave};
-ghost use Rattle.zy_shuffle.specs.Step.{saw_bells, named_as, closed, claimed, collected};
-ghost use Rattle.zy_shuffle.specs.Step.{splitting, newcomer, taken_in};
+ghost use Rattle.zy_shuffle.specs.Step.{saw_head, saw_tail, saw_cell, saw_bells, stored_cell};
+ghost use Rattle.zy_shuffle.specs.Step.{published, claimed, collected, fronted, gave};
+ghost use Rattle.zy_shuffle.specs.Step.{named_as, closed, splitting, newcomer, taken_in};
 
 use super::view::View;
 use crate::marked::{Label, Marked};
@@ -45,7 +45,8 @@ impl<T> Play<Option<T>, View<T>> for StoresCell {
     ghost then = { λ st m r n. stored_cell st m n };
 }
 
-/// A store of the tail: a request arrives at an idle connection, or a connection that has requests left is settled.
+/// A store of the tail: a request arrives at an idle connection, or a connection that has requests
+/// left is settled.
 pub struct Publishes;
 
 impl<T> Play<Option<T>, View<T>> for Publishes {

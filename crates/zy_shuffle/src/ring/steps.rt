@@ -2,9 +2,10 @@
 ghost use Rattle.std.specs.Prelude.{◌≡◌, ◌^◌, ◌<◌, true, Some};
 ghost use Rattle.zy_table.specs.Member.{is_in};
 ghost use Rattle.zy_shuffle.specs.Hand.{emptied, marked};
-ghost use Rattle.zy_shuffle.specs.Step.{IsActive, IsHome};
-ghost use Rattle.zy_shuffle.specs.Pass.{held, Claimed, IfTook, after_publish, after_give_back};
+ghost use Rattle.zy_shuffle.specs.Step.{IsActive};
+ghost use Rattle.zy_shuffle.specs.Pass.{Claimed, IfTook, after_publish, after_give_back};
 ghost use Rattle.zy_shuffle.specs.PassSeat.{Within, IsCorePass, IsBrought};
+ghost use Rattle.zy_shuffle.specs.PassSeat.{ClaimedBy, ClaimKeepsMark};
 
 use super::plays::{
     Claims, Fronts, GivesBack, Placing, Publishes, SeesCell, SeesHead, SeesTail, StoresCell,
@@ -34,8 +35,8 @@ impl<T: Marked> Ring<T> {
         home.tail += 1;
     }
 
-    /// Takes the first place of the queue into the hand of the pass, with its block. It loads the head, then the tail,
-    /// then the cell, and makes one compare and exchange of the head.
+    /// Takes the first place of the queue into the hand of the pass, with its block. It loads the
+    /// head, then the tail, then the cell, and makes one compare and exchange of the head.
     pub fn claim(&self, pass: &mut CorePass<T>) -> Claim<T>
         requires within { pass.old.table ≡ self.now.id }
         ensures value { Claimed T.mark T.label self.now.places pass.old pass.new result }
@@ -58,8 +59,8 @@ impl<T: Marked> Ring<T> {
         self.claim_at(&mut home.seat)
     }
 
-    /// Puts the block of a place that this pass claimed back, and rings its doorbell. Can't fail. Where the place is
-    /// not the one that was claimed last, this costs one more load.
+    /// Puts the block of a place that this pass claimed back, and rings its doorbell. Can't fail.
+    /// Where the place is not the one that was claimed last, this costs one more load.
     pub fn give_back(&self, pass: &mut CorePass<T>, place: u32, block: T)
         requires within { pass.old.table ≡ self.now.id }
         requires hand { is_in place pass.old.hand ≡ true }
@@ -70,6 +71,7 @@ impl<T: Marked> Ring<T> {
         self.give_back_as::<Brand>(pass, place, block)
     }
 
+    // A claim by the seat of either kind of pass.
     fn claim_at(&self, seat: &mut Seat<Option<T>, View<T>>) -> Claim<T>
         requires within { seat.old.table_id ≡ self.now.id }
         requires hand { seat.old.me.1 ≡ emptied seat.old.me.0.hand }
@@ -79,8 +81,8 @@ impl<T: Marked> Ring<T> {
         ensures hand { seat.new.me.1 ≡ emptied seat.new.me.0.hand }
         ensures places { Within seat.new.table_id.slots seat.new.me.0.hand }
         ensures role { seat.new.me.0.role ≡ seat.old.me.0.role }
-        ensures value { Claimed T.mark T.label self.now.places (held self.now.id seat.old.me.0) (held self.now.id seat.new.me.0) result }
-        ensures kept { IfTook result (λ p b. IsHome seat.old.me.0.role → marked T.mark p seat.old.me.0.kept ≡ Some (T.mark b)) }
+        ensures value { ClaimedBy T.mark T.label self.now seat.old.me seat.new.me result }
+        ensures kept { ClaimKeepsMark T.mark seat.old.me result }
     {
         let words = &self.table.shared;
         let head = words.load::<SeesHead>(seat, HEAD);
@@ -122,7 +124,8 @@ impl<T: Marked> Ring<T> {
         words.fetch_or::<GivesBack>(&mut pass.seat, word, 1u64 << (place % 64));
     }
 
-    // Brings the slot of the place to the front of those that the seat has taken, by a load where another lies there.
+    // Brings the slot of the place to the front of those that the seat has taken, by a load where
+    // another lies there.
     fn bring<J: Placing>(&self, seat: &mut Seat<Option<T>, View<T>>, front: Option<u32>, place: u32)
         requires picked { place ≡ J.place }
         requires within { seat.old.table_id ≡ self.now.id }

@@ -1,5 +1,5 @@
-use Rattle.std.proofs.Common.{◌≡◌, ℕ, ◌+◌, ◌-◌, ◌<◌, Bool, true, false, not, ◌&&◌, if◌then◌else◌, List, [], ◌∷◌, length, take, ap, sym, ◌∙◌, arith, rules}
-use Rattle.std.specs.Prelude.{Option, None, Some, nat_lt}
+use Rattle.std.proofs.Common.{◌≡◌, ℕ, ◌+◌, ◌-◌, ◌<◌, true, false, ◌&&◌, List, [], ◌∷◌, length, take, ap, sym, ◌∙◌, arith, rules}
+use Rattle.std.specs.Prelude.{Option, nat_lt}
 use Rattle.std.specs.Borrow.{Bor}
 use Rattle.std.proofs.lemmas.List.{length-map}
 use Rattle.mc_parse.specs.declared.error_line.ErrorLine.TheVariants.{Unknown}
@@ -7,7 +7,7 @@ use Rattle.mc_parse.specs.declared.arity.Arity.{Arity}
 use Rattle.mc_parse.specs.declared.name.Name.{Name}
 use Rattle.mc_parse.specs.Words.{words}
 use Rattle.mc_parse.specs.Line.{texts}
-use Rattle.mc_parse.specs.Arity.{Following, arity_of, has_count, lacks_noreply, asks_silence, but_last, following, following_of}
+use Rattle.mc_parse.specs.Arity.{Following, arity_of, has_count, lacks_noreply, asks_silence}
 use Rattle.mc_parse.specs.Form.{find, form_with, form_after}
 use Rattle.mc_parse.proofs.ArityLemmas.{both, but_last-take, follows_by}
 use Rattle.mc_parse.proofs.reading.read_few.Goals as goal
@@ -20,7 +20,7 @@ says_silently name held all is asks has lacks n last =
     let size = length-map held (λ (word : Bor (List ℕ)). word.now) in
     let counted : has_count (arity_of name) (length (texts held)) ≡ true = ap (has_count (arity_of name)) size ∙ has in
     let follows = follows_by (has_count (arity_of name) (length (texts held))) (lacks_noreply (arity_of name) (texts held)) (asks_silence (arity_of name) (texts held))
-      (texts held) (texts (take n held)) counted lacks asks (but_last-take held n last) in
+    (texts held) (texts (take n held)) counted lacks asks (but_last-take held n last) in
     sym (ap (λ (found : Option Following). find found Unknown (λ following. form_with name following)) follows)
     ∙ ap (λ (words : List (List ℕ)). form_after name words) is
 

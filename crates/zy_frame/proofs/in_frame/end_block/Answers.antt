@@ -6,7 +6,7 @@ pub invariant_of-result : goal.invariant_of-result
 invariant_of-result c =
     let keeps = c.requires.keeps in
     rw (c.chomp_kept.ensures.value, c.in_default.ensures.ok)
-    (is_block_frame c.args.wanted.line _ c.args.wanted.size keeps.0.line keeps.0.sized keeps.1
+    (is_block_frame c.args.wanted.line _ c.args.wanted.size keeps.awaits.short keeps.awaits.sized keeps.small
     (block_length c.args.wanted.line c.args.block c.args.bytes.now c.args.wanted.size c.args.wanted.left keeps c.requires.all))
 
 pub returns : goal.returns

@@ -10,7 +10,7 @@ returns-then-taken-wanted c = record {
 pub invariant_of-result : goal.invariant_of-result
 invariant_of-result c =
     let keeps = c.requires.keeps in
-    rw c.chomp_kept.ensures.value (is_large_frame c.args.wanted.line c.args.wanted.size keeps.0.line keeps.0.sized keeps.1)
+    rw c.chomp_kept.ensures.value (is_large_frame c.args.wanted.line c.args.wanted.size keeps.awaits.short keeps.awaits.sized keeps.large)
 
 pub returns : goal.returns
 returns c = record {

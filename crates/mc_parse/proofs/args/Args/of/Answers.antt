@@ -28,6 +28,9 @@ returns-then-count-ge6-clause-value c =
     (ap (λ (more : List (List ℕ)). texts (take c.loop-split.count c.loop-split.words) ++ more) (sym c.in-Some.ensures.found) ∙ c.loop-split.invariant.2)
 
 pub loop-split-preserved : goal.loop-split-preserved
-loop-split-preserved c =
-    (length-set c.loop-split.words c.loop-split.count c.in-Some.split.word ∙ c.loop-split.invariant.0, omega arith, one_more c.loop-split.words c.loop-split.count c.in-Some.split.word (words c.in-Some.split.rest.now) (words c.args.text.now) (omega arith)
-    (ap (λ (more : List (List ℕ)). texts (take c.loop-split.count c.loop-split.words) ++ more) (sym c.in-Some.ensures.found) ∙ c.loop-split.invariant.2))
+loop-split-preserved c = (
+  length-set c.loop-split.words c.loop-split.count c.in-Some.split.word ∙ c.loop-split.invariant.0,
+  omega arith,
+  one_more c.loop-split.words c.loop-split.count c.in-Some.split.word (words c.in-Some.split.rest.now) (words c.args.text.now) (omega arith)
+      (ap (λ (more : List (List ℕ)). texts (take c.loop-split.count c.loop-split.words) ++ more) (sym c.in-Some.ensures.found) ∙ c.loop-split.invariant.2),
+)

@@ -1,5 +1,6 @@
-use Rattle.zy_capture.proofs.Feeding.{starts}
+use Rattle.zy_read.proofs.Feeding.{starts}
+use Rattle.zy_capture.specs.Verdict.{captures}
 use Rattle.zy_capture.proofs.reader.Reader.new.Goals as goal
 
 pub returns : goal.returns
-returns c = record { value = rw c.new.ensures.items starts }
+returns c = record { value = rw (c.new.ensures.value, c.new-2.ensures.items) (starts captures) }

@@ -1,16 +1,17 @@
-use Rattle.std.proofs.Common.{sym, ◌∙◌, subst}
-use Rattle.zy_frame.specs.Progress.{AppendsFirst}
-use Rattle.zy_frame.proofs.Feeding.{stands_on, appends, appends_first, appends_none, taken_all, taken_quit}
+use Rattle.std.proofs.Common.{sym, ap, ◌∙◌, subst}
+use Rattle.zy_frame.specs.Feed.{AppendsFirst}
+use Rattle.zy_frame.specs.Steps.{progress_of}
+use Rattle.zy_frame.proofs.Feeding.{stands_on, appends, appends_first, appends_none, taken_all, taken_quit, quit_state, refused_state}
 use Rattle.zy_frame.proofs.framer.Framer.feed.Goals as goal
 
 pub returns-in-Quit-clause-fed : goal.returns-in-Quit-clause-fed
 returns-in-Quit-clause-fed c =
-    let quit = taken_quit c.args.self.now c.args.frames.now c.args.piece.now (sym c.self.view_is ∙ c.in-Quit.is) in
+    let quit = taken_quit c.args.self.now c.args.frames.now c.args.piece.now (sym c.self.view_is ∙ ap progress_of c.in-Quit.is) in
     λ fed stands. stands_on c.args.self.now c.args.self.now c.args.frames.now c.args.frames.now fed c.args.piece.now quit stands
 
 pub returns-in-Quit-clause-due : goal.returns-in-Quit-clause-due
 returns-in-Quit-clause-due c =
-    let quit = taken_quit c.args.self.now c.args.frames.now c.args.piece.now (sym c.self.view_is ∙ c.in-Quit.is) in
+    let quit = taken_quit c.args.self.now c.args.frames.now c.args.piece.now (sym c.self.view_is ∙ ap progress_of c.in-Quit.is) in
     λ fed stands. appends c.args.self.now c.args.self.now c.args.frames.now c.args.frames.now fed c.args.piece.now quit stands
 
 pub returns-in-Refused-clause-first : goal.returns-in-Refused-clause-first
@@ -20,11 +21,14 @@ pub returns-in-Err : goal.returns-in-Err
 returns-in-Err c = record {
   fed = tt;
   due = tt;
-  quit = λ is. absurd (c.in_default.not-Quit (c.self.view_is ∙ is));
+  quit = λ is. absurd (c.in_default.not-Quit (quit_state c.self.inside.state (c.self.view_is ∙ is)));
+  lasts = λ is. absurd (c.in_default.not-Quit (quit_state c.self.inside.state (c.self.view_is ∙ is)));
+  none = λ is. absurd (c.in_default.not-Quit (quit_state c.self.inside.state (c.self.view_is ∙ is)));
   first = λ fed stands. subst (AppendsFirst fed c.args.piece.now c.args.frames.now) (sym c.in-Err.ensures.value.1)
       (appends_first c.args.self.now c.loop-at.self c.args.frames.now c.loop-at.frames fed c.args.piece.now c.loop-at.at c.loop-at.invariant.1 stands);
   refused = c.in-Err.ensures.value.0;
-  stays = λ is. absurd (c.in_default.not-Refused (c.self.view_is ∙ is));
+  stays = λ is. absurd (c.in_default.not-Refused (refused_state c.self.inside.state (c.self.view_is ∙ is)));
+  kept = λ is. absurd (c.in_default.not-Refused (refused_state c.self.inside.state (c.self.view_is ∙ is)));
 }
 
 pub returns : goal.returns
@@ -33,8 +37,11 @@ returns c =
     record {
       fed = λ fed stands. stands_on c.args.self.now c.loop-at.self c.args.frames.now c.loop-at.frames fed c.args.piece.now all stands;
       due = λ fed stands. appends c.args.self.now c.loop-at.self c.args.frames.now c.loop-at.frames fed c.args.piece.now all stands;
-      quit = λ is. absurd (c.in_default.not-Quit (c.self.view_is ∙ is));
+      quit = λ is. absurd (c.in_default.not-Quit (quit_state c.self.inside.state (c.self.view_is ∙ is)));
+      lasts = λ is. absurd (c.in_default.not-Quit (quit_state c.self.inside.state (c.self.view_is ∙ is)));
+      none = λ is. absurd (c.in_default.not-Quit (quit_state c.self.inside.state (c.self.view_is ∙ is)));
       first = tt;
       refused = tt;
-      stays = λ is. absurd (c.in_default.not-Refused (c.self.view_is ∙ is));
+      stays = λ is. absurd (c.in_default.not-Refused (refused_state c.self.inside.state (c.self.view_is ∙ is)));
+      kept = λ is. absurd (c.in_default.not-Refused (refused_state c.self.inside.state (c.self.view_is ∙ is)));
     }

@@ -1,6 +1,6 @@
 use Rattle.std.proofs.Common.{rules, ap, ◌∙◌}
-use Rattle.zy_shuffle.proofs.EndLemmas.{names_as, opens_as}
-use Rattle.zy_shuffle.proofs.PassLemmas.{home_named}
+use Rattle.zy_shuffle.proofs.OpenLemmas.{names_as, opens_as}
+use Rattle.zy_shuffle.proofs.PassLemmas.{home_named, hand_named}
 use Rattle.zy_shuffle.proofs.ring.Ring.new.Goals as goal
 
 pub vacant-made-requires : goal.vacant-made-requires
@@ -11,3 +11,6 @@ load-requires g c = let e = c.in-Ok-made.ensures in (e.2, search rules, names_as
 
 pub invariant_of-result : goal.invariant_of-result
 invariant_of-result g c = let t = ap (λ z. z.slots) c.in-Ok-made.ensures.2 in home_named g.L.Label.label _ _ _ c.load.new.seat.me (λ i. c.in-Ok-made.table.shared.table_id.slots) (ap (λ z. z.slots) c.load.ensures.0 ∙ t) c.load.ensures.2
+
+pub returns-clause-hand : goal.returns-clause-hand
+returns-clause-hand g c = hand_named g.L.Label.label _ c.args.places c.load.new.seat.me c.load.ensures.2 c.in-Ok-made.ensures.1

@@ -1,0 +1,41 @@
+use Rattle.std.proofs.Common.{rules, ◌≡◌, ◌+◌, [], take, get_or, ℕ}
+use Rattle.std.specs.Prelude.{Ok, None}
+use Rattle.zy_read.specs.Standing.{Feeds}
+use Rattle.zy_read.proofs.Feeding.{met_by}
+use Rattle.zy_read.proofs.Pieces.{run_on, stop_fed, stop_told, stop_lasts, goes_fed, goes_still}
+use Rattle.zy_capture.specs.RepliesVerdict.{replies}
+use Rattle.zy_capture.specs.RepliesStanding.{IsOfOutput}
+use Rattle.zy_capture.proofs.RepliesFeeding.{lasting}
+use Rattle.zy_capture.proofs.replies_reader.RepliesReader.feed_piece.Goals as goal
+
+pub returns-then-not-ended_nothing-clause-fed : goal.returns-then-not-ended_nothing-clause-fed
+returns-then-not-ended_nothing-clause-fed c =
+    let at : ℕ = c.loop-at.at + c.feed_run-at.result in
+    let before : Feeds replies c.args.self.now c.feed_run-at.new.self (take at c.args.bytes.now) [] = run_on replies c.args.self.now c.loop-at.self c.feed_run-at.new.self c.args.bytes.now c.loop-at.at c.feed_run-at.result c.loop-at.invariant.fed c.feed_run-at.ensures.fed in
+    rw (c.at.ensures.taken, c.at.ensures.answer) (stop_fed replies IsOfOutput c.args.self.now c.feed_run-at.new.self c.step-answer.new.self c.args.bytes.now at c.step-answer.result c.feed_run-at.ensures.within before c.step-answer.ensures.value)
+
+pub returns-then-not-ended_nothing-clause-exact : goal.returns-then-not-ended_nothing-clause-exact
+returns-then-not-ended_nothing-clause-exact c =
+    let at : ℕ = c.loop-at.at + c.feed_run-at.result in
+    let before : Feeds replies c.args.self.now c.feed_run-at.new.self (take at c.args.bytes.now) [] = run_on replies c.args.self.now c.loop-at.self c.feed_run-at.new.self c.args.bytes.now c.loop-at.at c.feed_run-at.result c.loop-at.invariant.fed c.feed_run-at.ensures.fed in
+    rw (c.at.ensures.taken, c.at.ensures.answer) (stop_told replies IsOfOutput c.args.self.now c.feed_run-at.new.self c.step-answer.new.self c.args.bytes.now at c.step-answer.result c.feed_run-at.ensures.within before c.step-answer.ensures.value)
+
+pub returns-then-not-ended_nothing-clause-lasts : goal.returns-then-not-ended_nothing-clause-lasts
+returns-then-not-ended_nothing-clause-lasts c =
+    let at : ℕ = c.loop-at.at + c.feed_run-at.result in
+    let before : Feeds replies c.args.self.now c.feed_run-at.new.self (take at c.args.bytes.now) [] = run_on replies c.args.self.now c.loop-at.self c.feed_run-at.new.self c.args.bytes.now c.loop-at.at c.feed_run-at.result c.loop-at.invariant.fed c.feed_run-at.ensures.fed in
+    rw (c.at.ensures.taken, c.at.ensures.answer) (stop_lasts replies lasting IsOfOutput c.args.self.now c.feed_run-at.new.self c.step-answer.new.self c.args.bytes.now at c.step-answer.result c.feed_run-at.ensures.within before c.step-answer.ensures.value)
+
+pub loop-at-preserved-else-not-ended_nothing-2 : goal.loop-at-preserved-else-not-ended_nothing-2
+loop-at-preserved-else-not-ended_nothing-2 c =
+    let at : ℕ = c.loop-at.at + c.feed_run-at.result in
+    let before : Feeds replies c.args.self.now c.feed_run-at.new.self (take at c.args.bytes.now) [] = run_on replies c.args.self.now c.loop-at.self c.feed_run-at.new.self c.args.bytes.now c.loop-at.at c.feed_run-at.result c.loop-at.invariant.fed c.feed_run-at.ensures.fed in
+    let none : c.step-answer.result ≡ Ok None = search rules in
+    record {
+      within = search rules;
+      fed = goes_fed replies IsOfOutput c.args.self.now c.feed_run-at.new.self c.step-answer.new.self c.args.bytes.now at c.step-answer.result none c.feed_run-at.ensures.within before c.step-answer.ensures.value;
+      still = λ some. goes_still replies IsOfOutput c.feed_run-at.new.self c.step-answer.new.self (get_or c.args.bytes.now at 0) c.step-answer.result none c.step-answer.ensures.value;
+    }
+
+pub returns-clause-exact : goal.returns-clause-exact
+returns-clause-exact c = met_by replies c.args.self.now c.loop-at.self (take c.loop-at.at c.args.bytes.now) [] None c.loop-at.invariant.fed (c.loop-at.invariant.still (search rules))

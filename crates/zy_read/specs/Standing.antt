@@ -1,0 +1,72 @@
+-- Which bytes brought a reader to where it is, what it gave for them, and what an answer to further bytes means.
+use Rattle.std.specs.Prelude.{◌≡◌, ℕ, ◌+◌, List, [], ◌∷◌, ◌++◌, Option, None, Some, option_to_list, Result, Ok, Err, ⊤}
+use Rattle.zy_read.specs.declared.not_taken.NotTaken.{NotTaken}
+use Rattle.zy_read.specs.declared.not_taken.NotTaken.TheVariants.{Fault, NoMemory}
+use Rattle.zy_read.specs.Format.{Format, Step, reading_of, fault_met, verdict_on}
+
+-- these bytes were fed, one after another, and these records were given for them
+unfoldable pub StandsAs : {P G F V : Type 0} → Format P G F V → P → List G → List ℕ → Type 0
+StandsAs format p given fed = reading_of format fed ≡ record { given = given; last = p }
+
+-- ---- bytes that are fed
+
+-- the records that an answer gives
+abbrev pub given_in : {G F : Type 0} → Result (Option G) (NotTaken F) → List G
+given_in (Ok gave) = option_to_list gave
+given_in (Err e) = []
+
+-- with these bytes more, these records more were given
+abbrev pub Feeds : {P G F V : Type 0} → Format P G F V → P → P → List ℕ → List G → Type 0
+Feeds {P} {G} format old new bytes gave = (given : List G) (b : List ℕ) → StandsAs format old given b → StandsAs format new (given ++ gave) (b ++ bytes)
+
+-- with these bytes more, this is the fault that was met
+abbrev pub MeetsFault : {P G F V : Type 0} → Format P G F V → P → List ℕ → Option F → Type 0
+MeetsFault {P} {G} format old bytes told = (given : List G) (b : List ℕ) → StandsAs format old given b → fault_met format (b ++ bytes) ≡ told
+
+-- with these bytes more, this is the fault of every longer text
+abbrev pub LastsAs : {P G F V : Type 0} → Format P G F V → P → List ℕ → F → Type 0
+LastsAs {P} {G} format old bytes fault =
+    (given : List G) (b more : List ℕ) → StandsAs format old given b → verdict_on format (b ++ (bytes ++ more)) ≡ format.bad fault
+
+-- an answer gives the records of the bytes; where memory is wanted nothing changed
+abbrev pub FeedsAs : {P G F V : Type 0} → Format P G F V → P → P → List ℕ → Result (Option G) (NotTaken F) → Type 0
+FeedsAs format old new bytes (Ok gave) = Feeds format old new bytes (option_to_list gave)
+FeedsAs format old new bytes (Err (Fault fault)) = Feeds format old new bytes []
+FeedsAs format old new bytes (Err NoMemory) = new ≡ old
+
+-- an answer tells the fault that was met in the bytes
+abbrev pub TellsFault : {P G F V : Type 0} → Format P G F V → P → List ℕ → Result (Option G) (NotTaken F) → Type 0
+TellsFault format old bytes (Ok gave) = MeetsFault format old bytes None
+TellsFault format old bytes (Err (Fault fault)) = MeetsFault format old bytes (Some fault)
+TellsFault format old bytes (Err NoMemory) = ⊤
+
+-- a fault that an answer tells lasts
+abbrev pub TellsLasting : {P G F V : Type 0} → Format P G F V → P → List ℕ → Result (Option G) (NotTaken F) → Type 0
+TellsLasting format old bytes (Err (Fault fault)) = LastsAs format old bytes fault
+TellsLasting format old bytes answer = ⊤
+
+-- the answer is a function of the bytes fed
+abbrev pub AnswersBy : {P G F V X : Type 0} → Format P G F V → P → (List ℕ → X) → X → Type 0
+AnswersBy {P} {G} format p of answer = (given : List G) (b : List ℕ) → StandsAs format p given b → answer ≡ of b
+
+-- ---- bytes in pieces
+
+-- how many bytes were taken, with this answer to one that so many others stand before
+abbrev pub taken_with : {G F : Type 0} → ℕ → Result (Option G) (NotTaken F) → ℕ
+taken_with before (Ok gave) = before + 1
+taken_with before (Err (Fault fault)) = before + 1
+taken_with before (Err NoMemory) = before
+
+-- pieces of a text were fed, one after another, and gave these records
+abbrev pub FeedsPieces : {P G F V : Type 0} → Format P G F V → P → P → List (List ℕ) → List G → Type 0
+FeedsPieces format old new [] gave = (new ≡ old) × (gave ≡ [])
+FeedsPieces {P} {G} format old new (piece ∷ pieces) gave =
+    (between : P) × ((first : List G) × ((others : List G) × (Feeds format old between piece first × FeedsPieces format between new pieces others × (gave ≡ first ++ others))))
+
+-- ---- for readers alone
+
+-- an answer and a new state are those of a step; want of memory changes nothing, and comes only at such a byte
+abbrev pub Follows : {P G F V : Type 0} → Format P G F V → (P → ℕ → Type 0) → Step P G → P → P → ℕ → Result (Option G) (NotTaken F) → Type 0
+Follows format wants step old new byte (Ok gave) = (new ≡ step.next) × (gave ≡ step.gave) × (format.fault_in new ≡ None)
+Follows format wants step old new byte (Err (Fault fault)) = (new ≡ step.next) × (step.gave ≡ None) × (format.fault_in new ≡ Some fault)
+Follows format wants step old new byte (Err NoMemory) = (new ≡ old) × wants old byte

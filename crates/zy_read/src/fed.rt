@@ -1,0 +1,42 @@
+//! What was taken of some bytes.
+ghost use Rattle.std.specs.Prelude.{◌≡◌, ◌<◌, ◌-◌, ◌^◌, ◌↔◌, true, Ok, None};
+ghost use Rattle.zy_read.specs.Standing.{taken_with};
+
+use crate::not_taken::NotTaken;
+
+/// How many bytes were taken of some, and what came of the last one. Take it apart by
+/// `let Fed { taken, answer } = ..`.
+#[derive(Debug, Drop)]
+pub struct Fed<G, F> {
+    /// The bytes before the one that wants memory, where memory is wanted.
+    pub taken: usize,
+    /// A record or a fault at the last byte taken; `Ok(None)` where all bytes were taken.
+    pub answer: Result<Option<G>, NotTaken<F>>,
+}
+
+impl<G: Drop, F: Drop> Fed<G, F> {
+    /// The answer to a byte that so many others stand before.
+    pub fn at(before: usize, answer: Result<Option<G>, NotTaken<F>>) -> Fed<G, F>
+        requires room { before < 2 ^ 64 - 1 }
+        ensures taken { result.taken ≡ taken_with before answer }
+        ensures answer { result.answer ≡ answer }
+    {
+        match answer {
+            Err(NotTaken::NoMemory) => Fed {
+                taken: before,
+                answer: Err(NotTaken::NoMemory),
+            },
+            answer => Fed {
+                taken: before + 1,
+                answer,
+            },
+        }
+    }
+}
+
+/// Whether a byte was taken that ended nothing.
+pub fn ended_nothing<G, F>(answer: &Result<Option<G>, NotTaken<F>>) -> bool
+    ensures value { result ≡ true ↔ answer.now ≡ Ok None }
+{
+    matches!(answer, Ok(None))
+}

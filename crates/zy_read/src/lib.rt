@@ -1,0 +1,10 @@
+//! The reading machine: what is the same in readers that take bytes one after another.
+#![tactic(auto)]
+
+mod fed;
+mod field;
+mod not_taken;
+
+pub use fed::{Fed, ended_nothing};
+pub use field::Field;
+pub use not_taken::{FileFeed, NotTaken};

@@ -1,0 +1,15 @@
+//! Why a reader didn't take a byte.
+
+use zy_base::FileFault;
+
+/// Why a reader didn't take a byte, where texts have faults of this type.
+#[derive(Clone, Copy, Debug, PartialEq, Eq)]
+pub enum NotTaken<F> {
+    /// The text has this fault.
+    Fault(F),
+    /// Memory was wanted and not found; the byte is still to be taken.
+    NoMemory,
+}
+
+/// Why a reader of journals or replies files didn't take a byte.
+pub type FileFeed = NotTaken<FileFault>;

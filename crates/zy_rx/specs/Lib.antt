@@ -1,0 +1,3 @@
+pub mod Flow
+pub mod Ring
+pub mod Session

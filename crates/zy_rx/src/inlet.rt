@@ -1,0 +1,40 @@
+//! The end of a receive ring that items are offered to.
+ghost use Rattle.std.specs.Prelude.{◌≡◌, ◌+◌, ◌<◌, ◌≤◌, [], ◌∷◌, ◌++◌, IfSome, IfNone, IsNone};
+
+use crate::rx::Rx;
+use rtrb::{Producer, PushError};
+use std::marker::Model;
+
+/// The end that items are offered to. Contracts see which ring it is of, the items offered and not
+/// handed back, and how many free slots it knows.
+#[derive(Drop)]
+pub struct Inlet {
+    pub(crate) producer: Producer<Rx>,
+}
+
+impl Model for Inlet {
+    ghost use Rattle.rtrb.specs.Ring.{sent, known_free, producer_capacity};
+    ghost use Rattle.zy_rx.specs.Ring.{Offering, offering, ring_named};
+
+    ghost Value = { Offering };
+
+    ghost view = { λ i. offering (ring_named i.producer.end.words i.producer.end.slots i.producer.end.names) (sent i.producer) (known_free i.producer) (producer_capacity i.producer) };
+}
+
+impl Inlet {
+    /// Appends the item to what was sent. It is handed back exactly where this end knew no free
+    /// slot after its look.
+    pub fn offer(&mut self, item: Rx) -> Option<Rx>
+        ensures ok { IfNone result (self.new.sent ≡ self.old.sent ++ item ∷ []) }
+        ensures few { IfNone result (self.old.free ≤ self.new.free + 1) }
+        ensures full { IfSome result (λ _. self.new.free ≡ 0) }
+        ensures returned { IfSome result (λ back. (back ≡ item) × (self.new.sent ≡ self.old.sent)) }
+        ensures succeeds { 0 < self.old.free → IsNone result }
+        ensures kept { self.new.ring ≡ self.old.ring }
+    {
+        match self.producer.push(item) {
+            Ok(()) => None,
+            Err(PushError::Full(item)) => Some(item),
+        }
+    }
+}
