@@ -10,3 +10,4 @@ pub mod Order
 pub mod Replies
 pub mod History
 pub mod PlainShard
+pub mod Reserved

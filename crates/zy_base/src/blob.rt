@@ -1,13 +1,14 @@
 //! Byte strings.
-ghost use Rattle.std.specs.Prelude.{◌≡◌, [], ◌++◌, take, IfOk, OnOk, OnErr, Some, refl};
+ghost use Rattle.std.specs.Prelude.{◌≡◌, [], ◌++◌, ◌≤◌, take, IfOk, OnOk, OnErr, Some, refl};
 ghost use Rattle.std.specs.Ordering.{nat_cmp};
 ghost use Rattle.std.specs.Prelude.{nat_eq};
 ghost use Rattle.std.specs.Cmp.{partial_equiv_from_equiv};
 ghost use Rattle.std.specs.Cmp.Lexicographic.{pointwise, slice_cmp, nat_list_eq_equiv, nat_list_cmp_total, texts_ties, texts_po};
 
 use crate::outside::NoMemory;
+use crate::reserved::Reserved;
 use crate::short::{ROOM, Short};
-use crate::storage::{Storage, copied, joined, shared};
+use crate::storage::{Storage, copied, joined, shared, with_room};
 use std::alloc::Global;
 use std::cmp::Ordering;
 use std::marker::Model;
@@ -136,6 +137,31 @@ impl Blob {
         ensures value { self.new ≡ take len self.old }
     {
         self.storage.truncate(len);
+    }
+
+    /// Takes the bytes out, with room for so many more at least, and leaves none.
+    pub fn reserve(&mut self, more: usize) -> Result<Reserved, NoMemory>
+        ensures value { IfOk result (λ reserved. reserved.bytes ≡ self.old) }
+        ensures room { IfOk result (λ reserved. more ≤ reserved.room) }
+        ensures ok { OnOk result (self.new ≡ []) }
+        ensures err { OnErr result (self.new ≡ self.old) }
+    {
+        match mem::replace(&mut self.storage, Storage::Short(Short::new())) {
+            Storage::Own(mut bytes) => match bytes.reserve(more) {
+                Ok(()) => Ok(Reserved { bytes }),
+                Err(_) => {
+                    self.storage = Storage::Own(bytes);
+                    Err(NoMemory)
+                }
+            },
+            storage => match with_room(self.alloc, storage.bytes(), more) {
+                Ok(bytes) => Ok(Reserved { bytes }),
+                Err(refused) => {
+                    self.storage = storage;
+                    Err(refused)
+                }
+            },
+        }
     }
 
     /// The bytes.

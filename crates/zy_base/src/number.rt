@@ -1,5 +1,5 @@
 //! Numbers in decimal digits.
-ghost use Rattle.std.specs.Prelude.{◌≡◌, ◌<◌, ◌≤◌, ◌+◌, ◌*◌, ◌^◌, ◌++◌, decimal, IfSome, IfNone, OnOk, OnErr};
+ghost use Rattle.std.specs.Prelude.{◌≡◌, ◌<◌, ◌≤◌, ◌+◌, ◌*◌, ◌^◌, ◌++◌, length, decimal, IfSome, IfNone, OnOk, OnErr};
 ghost use Rattle.zy_base.specs.Number.{number_of};
 
 use crate::blob::Blob;
@@ -45,4 +45,13 @@ pub fn number_text(out: &mut Blob, number: u64) -> Result<(), NoMemory>
 {
     let mut buffer = Buffer::new();
     out.append(buffer.format(number).as_bytes())
+}
+
+/// How many decimal digits a number has.
+pub fn digits_of(number: u64) -> usize
+    ensures value { result ≡ length (decimal number) }
+    ensures limit { result ≤ 20 }
+{
+    let mut buffer = Buffer::new();
+    buffer.format(number).len()
 }

@@ -1,5 +1,5 @@
 //! Where the bytes of a byte string are.
-ghost use Rattle.std.specs.Prelude.{◌≡◌, ◌+◌, ◌≤◌, ◌<◌, ◌++◌, length, take, IfOk, IfErr};
+ghost use Rattle.std.specs.Prelude.{◌≡◌, ◌+◌, ◌≤◌, ◌<◌, ◌++◌, length, take, vec_len, vec_capacity, IfOk, IfErr};
 ghost use Rattle.zy_base.specs.Blob.{bytes_of, IsWithin};
 
 use crate::outside::NoMemory;
@@ -89,6 +89,20 @@ pub(crate) fn joined(alloc: Global, front: &[u8], back: &[u8]) -> Result<Storage
         return Err(NoMemory);
     }
     Ok(Storage::Own(bytes))
+}
+
+// A copy of bytes in a vector, with room for so many more.
+pub(crate) fn with_room(alloc: Global, bytes: &[u8], more: usize) -> Result<Vec<u8>, NoMemory>
+    ensures value { IfOk result (λ copy. copy.items ≡ bytes.now) }
+    ensures room { IfOk result (λ copy. vec_len copy + more ≤ vec_capacity copy) }
+{
+    let Ok(mut copy) = Vec::from_slice(alloc, bytes) else {
+        return Err(NoMemory);
+    };
+    match copy.reserve(more) {
+        Ok(()) => Ok(copy),
+        Err(_) => Err(NoMemory),
+    }
 }
 
 // The bytes of a vector, for more owners. After a refusal they have the one owner.

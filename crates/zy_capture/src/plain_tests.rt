@@ -3,7 +3,7 @@ use crate::plain::{Piece, read_capture, read_replies};
 use crate::{FeedFault, Reader, Record, RepliesReader, SessionBytes};
 use std::alloc::Global;
 use std::test::Fail;
-use zy_read::FileFeed;
+use zy_read::{Fed, FileFeed};
 
 // ---- files
 
@@ -151,4 +151,36 @@ fn replies_files_are_read_as_plainly(rt: HostRuntime) -> Result<(), Fail> {
         assert_eq!(rt; first_difference(rt.alloc(), text, false)?, None);
     }
     Ok(())
+}
+
+// The bytes of the segments that a reader gives which is fed pieces of at most so many bytes.
+fn segment_bytes(alloc: Global, text: &[u8], most: usize) -> Option<u64> {
+    let mut reader = Reader::new(alloc);
+    let mut bytes = 0u64;
+    let mut at = 0;
+    for _ in 0..=text.len() {
+        if at >= text.len() {
+            break;
+        }
+        let end = text.len().min(at.saturating_add(most.max(1)));
+        let Fed { taken, answer } = reader.feed_piece(&text[at..end]);
+        at += taken;
+        match answer {
+            Ok(Some(Record::Segment(segment))) => {
+                bytes = bytes.saturating_add(segment.bytes.bytes().len() as u64);
+            }
+            Ok(_) => {}
+            Err(_) => return None,
+        }
+    }
+    if reader.is_done() { Some(bytes) } else { None }
+}
+
+#[test]
+fn a_capture_may_come_in_pieces_of_any_size(rt: HostRuntime) {
+    let whole = segment_bytes(rt.alloc(), SEGMENTS, SEGMENTS.len());
+    assert!(rt; whole.is_some());
+    for most in 0..=SEGMENTS.len() {
+        assert_eq!(rt; segment_bytes(rt.alloc(), SEGMENTS, most), whole);
+    }
 }

@@ -1,0 +1,24 @@
+-- Keys and replies that stand beside each other.
+use Rattle.std.proofs.Common.{◌≡◌, ℕ, zero, suc, ◌+◌, ◌<◌, Bool, List, [], ◌∷◌, ◌++◌, length, drop, get_or, refl, sym, ap, ◌∙◌, arith}
+use Rattle.std.proofs.lemmas.List.{drop_more}
+use Rattle.zy_base.specs.declared.call_reply.CallReply.{CallReply}
+use Rattle.mc_parse.specs.declared.shard_call.ShardCall.{ShardCall}
+use Rattle.mc_parse.specs.Calls.{get_calls}
+use Rattle.mc_reply.specs.Text.{item_text, items_text}
+use Rattle.mc_reply.specs.Answers.{AnswerEach}
+
+-- what is told from a key on is what is told of that key, and from the next on
+pub items_text-at : (asked : Bool) (keys : List (List ℕ)) (replies : List CallReply) (at : ℕ) (key : List ℕ) (reply : CallReply) → length keys ≡ length replies → at < length keys
+    → items_text asked (drop at keys) (drop at replies)
+    ≡ item_text asked (get_or keys at key) (get_or replies at reply) ++ items_text asked (drop (at + 1) keys) (drop (at + 1) replies)
+items_text-at asked keys replies at key reply same within =
+    let here : drop at keys ≡ get_or keys at key ∷ drop (at + 1) keys = drop_more keys at key within in
+    let there : drop at replies ≡ get_or replies at reply ∷ drop (at + 1) replies = drop_more replies at reply (omega arith) in
+    rw (here, there) refl
+
+-- as many replies as keys
+pub answered : (shards : ℕ) (keys : List (List ℕ)) (replies : List CallReply) → AnswerEach (get_calls shards keys) replies → length keys ≡ length replies
+answered shards [] [] each = refl
+answered shards [] (reply ∷ replies) each = absurd each
+answered shards (key ∷ keys) [] each = absurd each
+answered shards (key ∷ keys) (reply ∷ replies) each = ap suc (answered shards keys replies each.1)

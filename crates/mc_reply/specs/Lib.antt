@@ -1,0 +1,4 @@
+pub mod Text
+pub mod Answers
+pub mod Shape
+pub mod Texts

@@ -1,0 +1,22 @@
+-- How an answer is seen before it is written. No public clause cites this module.
+use Rattle.std.specs.Prelude.{ℕ, List, [], ◌∷◌, ⊤, decimal, codes, ◌++◌}
+use Rattle.mc_parse.specs.declared.command.Command.{Command}
+use Rattle.mc_parse.specs.declared.command.Command.TheVariants.{Get}
+use Rattle.mc_reply.specs.declared.answer.Answer.{Answer}
+use Rattle.mc_reply.specs.declared.answer.Answer.TheVariants.{Nothing, Line, Number}
+use Rattle.mc_reply.specs.Text.{line_end, line}
+
+-- the text of an answer
+abbrev pub answer_text : Answer → List ℕ
+answer_text Nothing = []
+answer_text (Line text) = text.now
+answer_text (Number number) = line (decimal number)
+
+-- the command is no retrieval
+abbrev pub IsNoRetrieval : Command → Type 0
+IsNoRetrieval (Get keys unique) = ⊥
+IsNoRetrieval command = ⊤
+
+-- what ends the line of an item, and its value as a line
+abbrev pub value_text : List ℕ → List ℕ
+value_text value = line_end ++ line value

@@ -1,0 +1,96 @@
+-- The text that answers a command with its replies (docs/PROFILE.md, "Answers"; memcached's protocol.txt).
+use Rattle.std.specs.Prelude.{ℕ, Bool, true, false, if◌then◌else◌, List, [], ◌∷◌, ◌++◌, length, codes, decimal}
+use Rattle.zy_base.specs.declared.call_reply.CallReply.{CallReply}
+use Rattle.zy_base.specs.declared.call_reply.CallReply.TheVariants.{Miss, Hit, Stored, NotStored, Exists, NotFound, Deleted, Number, NotNumber, TooLarge, Flushed}
+use Rattle.mc_parse.specs.declared.error_line.ErrorLine.{ErrorLine}
+use Rattle.mc_parse.specs.declared.error_line.ErrorLine.TheVariants as Errors
+use Rattle.mc_parse.specs.declared.command.Command.{Command}
+use Rattle.mc_parse.specs.declared.command.Command.TheVariants.{Store, Cas, Get, Delete, Count, Version, Verbosity, Flush, Fault}
+
+-- ---- lines
+
+-- what ends a line
+abbrev pub line_end : List ℕ
+line_end = codes "\r\n"
+
+-- a text as a line
+abbrev pub line : List ℕ → List ℕ
+line text = text ++ line_end
+
+-- an object that is too large, as a value or joined
+abbrev pub too_large : List ℕ
+too_large = codes "SERVER_ERROR object too large for cache"
+
+-- the line of a fault
+abbrev pub error_line : ErrorLine → List ℕ
+error_line Errors.Unknown = line (codes "ERROR")
+error_line Errors.BadLine = line (codes "CLIENT_ERROR bad command line format")
+error_line Errors.BadDelta = line (codes "CLIENT_ERROR invalid numeric delta argument")
+error_line Errors.LongLine = line (codes "CLIENT_ERROR line too long")
+error_line Errors.BadChunk = line (codes "CLIENT_ERROR bad data chunk")
+error_line Errors.TooLarge = line too_large
+
+-- the line of a reply; a retrieval and flush_all have lines of their own
+abbrev pub reply_line : CallReply → List ℕ
+reply_line Stored = line (codes "STORED")
+reply_line NotStored = line (codes "NOT_STORED")
+reply_line Exists = line (codes "EXISTS")
+reply_line NotFound = line (codes "NOT_FOUND")
+reply_line Deleted = line (codes "DELETED")
+reply_line (Number number) = line (decimal number)
+reply_line NotNumber = line (codes "CLIENT_ERROR cannot increment or decrement non-numeric value")
+reply_line TooLarge = line too_large
+reply_line Miss = []
+reply_line (Hit flags unique value) = []
+reply_line Flushed = []
+
+-- the line of the one reply
+abbrev pub only_line : List CallReply → List ℕ
+only_line (reply ∷ []) = reply_line reply
+only_line replies = []
+
+-- ---- items
+
+-- the key, the flags, and the length of the value
+abbrev pub head_text : List ℕ → ℕ → List ℕ → List ℕ
+head_text key flags value =
+    codes "VALUE " ++ key ++ codes " " ++ decimal flags ++ codes " " ++ decimal (length value)
+
+-- the unique
+abbrev pub unique_text : ℕ → List ℕ
+unique_text unique = codes " " ++ decimal unique
+
+-- the first line of an item, with its unique where that is asked for
+abbrev pub item_line : Bool → List ℕ → ℕ → ℕ → List ℕ → List ℕ
+item_line true key flags unique value = line (head_text key flags value ++ unique_text unique)
+item_line false key flags unique value = line (head_text key flags value)
+
+-- what is told of a key: nothing for a miss, and two lines for an item
+abbrev pub item_text : Bool → List ℕ → CallReply → List ℕ
+item_text asked key (Hit flags unique value) =
+    item_line asked key flags unique value ++ line value
+item_text asked key reply = []
+
+-- what is told of each key, in the order asked
+abbrev pub items_text : Bool → List (List ℕ) → List CallReply → List ℕ
+items_text asked (key ∷ keys) (reply ∷ replies) =
+    item_text asked key reply ++ items_text asked keys replies
+items_text asked keys replies = []
+
+-- ---- commands
+
+-- nothing, where no answer is asked for
+abbrev pub unless : Bool → List ℕ → List ℕ
+unless quiet text = if quiet then [] else text
+
+-- the text of a command with its replies
+unfoldable pub text : Command → List CallReply → List ℕ
+text (Store verb key flags value quiet) replies = unless quiet (only_line replies)
+text (Cas key flags unique value quiet) replies = unless quiet (only_line replies)
+text (Get keys unique) replies = items_text unique keys replies ++ line (codes "END")
+text (Delete key quiet) replies = unless quiet (only_line replies)
+text (Count key up amount quiet) replies = unless quiet (only_line replies)
+text Version replies = line (codes "VERSION zygos-1.0")
+text (Verbosity quiet) replies = unless quiet (line (codes "OK"))
+text (Flush quiet) replies = unless quiet (line (codes "OK"))
+text (Fault fault quiet) replies = unless quiet (error_line fault)

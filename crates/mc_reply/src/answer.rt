@@ -1,0 +1,12 @@
+//! Answers other than items.
+
+/// What a command other than a retrieval is answered with.
+#[derive(Clone, Copy)]
+pub(crate) enum Answer {
+    /// Nothing, where no answer is asked for.
+    Nothing,
+    /// A line with the bytes that end it.
+    Line(&'static [u8]),
+    /// A number, as a line.
+    Number(u64),
+}

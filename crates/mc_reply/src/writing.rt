@@ -1,0 +1,99 @@
+//! Appends the text of a command.
+ghost use Rattle.std.specs.Prelude.{◌≡◌, ◌≤◌, ◌+◌, ◌++◌, length, codes, decimal, OnOk, OnErr};
+ghost use Rattle.mc_reply.specs.Text.{text, line, items_text};
+ghost use Rattle.mc_reply.specs.Answers.{AnswerCommand};
+ghost use Rattle.mc_reply.specs.Shape.{answer_text};
+
+use crate::answer::Answer;
+use crate::answering::answer_to;
+use crate::item::put_item;
+use crate::length::items_length;
+use crate::lines::{END, LINE_END};
+use mc_parse::Command;
+use zy_base::{Blob, CallReply, NoMemory, Replies, Reserved, number_text};
+
+/// Appends the text of a command with its replies: nothing, where it asks for no answer. Want of memory
+/// is free.
+#[tactic(auto, unfolding(crate::specs::Text::text))]
+pub fn reply_text(out: &mut Blob, command: &Command, replies: &Replies) -> Result<(), NoMemory>
+    requires answers { AnswerCommand command.now replies.now }
+    ensures ok { OnOk result (out.new ≡ out.old ++ text command.now replies.now) }
+    ensures err { OnErr result (out.new ≡ out.old) }
+{
+    match command {
+        Command::Get { keys, unique } => {
+            append_items(out, *unique, keys.items(), replies.items())
+        }
+        _ => append_answer(out, answer_to(command, replies.items())),
+    }
+}
+
+// Appends an answer.
+fn append_answer(out: &mut Blob, answer: Answer) -> Result<(), NoMemory>
+    ensures ok { OnOk result (out.new ≡ out.old ++ answer_text answer) }
+    ensures err { OnErr result (out.new ≡ out.old) }
+{
+    match answer {
+        Answer::Nothing => Ok(()),
+        Answer::Line(line) => out.append(line),
+        Answer::Number(number) => append_number(out, number),
+    }
+}
+
+// Appends a number as a line.
+fn append_number(out: &mut Blob, number: u64) -> Result<(), NoMemory>
+    ensures ok { OnOk result (out.new ≡ out.old ++ line (decimal number)) }
+    ensures err { OnErr result (out.new ≡ out.old) }
+{
+    let length = out.bytes().len();
+    if let Err(e) = number_text(out, number) {
+        return Err(e);
+    }
+    match out.append(LINE_END) {
+        Ok(()) => Ok(()),
+        Err(e) => {
+            out.truncate(length);
+            Err(e)
+        }
+    }
+}
+
+// Appends the items that were found, and the end; room is taken once for all of them.
+fn append_items(
+    out: &mut Blob,
+    asked: bool,
+    keys: &[Blob],
+    replies: &[CallReply],
+) -> Result<(), NoMemory>
+    requires same { length keys.now ≡ length replies.now }
+    ensures ok { OnOk result (out.new ≡ out.old ++ (items_text asked keys.now replies.now ++ line (codes "END"))) }
+    ensures err { OnErr result (out.new ≡ out.old) }
+{
+    let Some(items) = items_length(asked, keys, replies) else {
+        return Err(NoMemory);
+    };
+    let Some(more) = items.checked_add(END.len()) else {
+        return Err(NoMemory);
+    };
+    match out.reserve(more) {
+        Ok(mut reserved) => {
+            put_items(&mut reserved, asked, keys, replies);
+            reserved.append(END);
+            *out = reserved.into_blob();
+            Ok(())
+        }
+        Err(e) => Err(e),
+    }
+}
+
+// Appends the items that were found.
+fn put_items(out: &mut Reserved, asked: bool, keys: &[Blob], replies: &[CallReply])
+    requires same { length keys.now ≡ length replies.now }
+    requires fits { length (items_text asked keys.now replies.now) ≤ out.old.room }
+    ensures value { out.new.bytes ≡ out.old.bytes ++ items_text asked keys.now replies.now }
+    ensures room { out.old.room ≤ out.new.room + length (items_text asked keys.now replies.now) }
+{
+    for at in 0..keys.len() {
+        put_item(out, asked, &keys[at], &replies[at]);
+    }
+}

@@ -1,0 +1,59 @@
+-- What a try of a call answers, and when. Each answer rests on the numbers of the steps of this very try.
+use Rattle.std.specs.Prelude.{◌≡◌, ◌≢◌, ◌⊎◌, ℕ, ◌%◌, ◌<◌, ◌≤◌, ⊤, Result, Ok, Err}
+use Rattle.zy_base.specs.declared.entry.Entry.{Entry}
+use Rattle.zy_base.specs.declared.entry.Tag.{Tag}
+use Rattle.zy_base.specs.declared.call.Call.{Call}
+use Rattle.mc_store.specs.declared.got.Got.{Got}
+use Rattle.mc_store.specs.declared.got.Got.TheVariants.{Reply, Busy}
+use Rattle.mc_store.specs.declared.store.view.Trace.{Trace}
+
+-- ---- the answers
+
+-- of the entry, where the call was made
+abbrev pub IfReply : {E : Type 0} → Result Got E → (Entry → Type 0) → Type 0
+IfReply (Ok (Reply entry)) holds = holds entry
+IfReply (Ok (Busy shard loaded found)) holds = ⊤
+IfReply (Err e) holds = ⊤
+
+-- of the shard, the word loaded and the word found, where another pass had the shard
+abbrev pub IfBusy : {E : Type 0} → Result Got E → (ℕ → ℕ → ℕ → Type 0) → Type 0
+IfBusy (Ok (Reply entry)) holds = ⊤
+IfBusy (Ok (Busy shard loaded found)) holds = holds shard loaded found
+IfBusy (Err e) holds = ⊤
+
+-- the entry is that of this call on this shard
+pub record IsOfCall (tag : Tag) (shard : ℕ) (call : Call) (entry : Entry) : Type 0 where
+  pub tag_is : entry.tag ≡ tag
+  pub shard_is : entry.shard ≡ shard
+  pub call_is : entry.call ≡ call
+
+-- ---- their causes
+
+-- after the steps before, this number was loaded from the word of this shard
+pub record Loaded (shard loaded : ℕ) (before after : Trace) : Type 0 where
+  pub word : after.load.word ≡ shard
+  pub value : after.load.value ≡ loaded
+  pub later : before.steps < after.load.step
+  pub made : after.load.step ≤ after.steps
+
+-- after the load, the exchange at the word of this shard found this number
+pub record Exchanged (shard found : ℕ) (after : Trace) : Type 0 where
+  pub word : after.exchange.word ≡ shard
+  pub value : after.exchange.value ≡ found
+  pub later : after.load.step < after.exchange.step
+  pub made : after.exchange.step ≤ after.steps
+
+-- the shard was free: an even word was loaded, and the exchange found it there
+abbrev pub WasFree : ℕ → Trace → Trace → Type 0
+WasFree shard before after = (word : ℕ) × (word % 2 ≡ 0) × Loaded shard word before after × Exchanged shard word after
+
+-- the word that was loaded was odd, or the exchange found another word than it
+abbrev pub WasTaken : ℕ → ℕ → ℕ → Trace → Type 0
+WasTaken shard loaded found after =
+    ((loaded % 2 ≡ 1) × (found ≡ loaded)) ⊎ ((loaded % 2 ≡ 0) × (found ≢ loaded) × Exchanged shard found after)
+
+-- the shard that was asked for was busy in this try, by these words
+pub record WasBusy (asked : ℕ) (before after : Trace) (shard loaded found : ℕ) : Type 0 where
+  pub shard_is : shard ≡ asked
+  pub loaded_is : Loaded asked loaded before after
+  pub cause : WasTaken asked loaded found after

@@ -1,0 +1,14 @@
+//! The shards of the store in the slots of one table, called by any number of passes at once.
+#![tactic(auto)]
+
+mod got;
+mod pass;
+mod root;
+mod store;
+#[cfg(test)]
+mod tests;
+
+pub use got::Got;
+pub use pass::Pass;
+pub use root::Root;
+pub use store::StoreTable;

@@ -1,0 +1,238 @@
+//! The store: the shards in the slots of one table, with a word for each.
+//!
+//! Word `s` is `2k` where shard `s` is free and has had `k` calls, and `2k + 1` where a pass has it. Slot
+//! `s` has shard `s` while it is free. A call loads the word, exchanges the even word with the odd one
+//! above it, calls the shard in its slot, and stores an even word again.
+ghost use Rattle.std.specs.Prelude.{◌≡◌, ◌<◌, ◌≤◌, ◌^◌, ℕ, [], ◌∷◌, ◌++◌, length, true, false, IfOk, OnOk, OnErr, IfErr};
+ghost use Rattle.zy_base.specs.Kind.{MayAnswer};
+ghost use Rattle.zy_base.specs.Order.{last_stamp};
+ghost use Rattle.zy_table.specs.Member.{is_in};
+ghost use Rattle.mc_store.specs.Joined.{is_joined};
+ghost use Rattle.mc_store.specs.View.{untraced};
+ghost use Rattle.mc_store.specs.Pass.{passed, rooted};
+ghost use Rattle.mc_store.specs.Call.{IfReply, IfBusy, IsOfCall, WasFree, WasBusy};
+ghost use Rattle.mc_store.specs.Closing.{AreClosed, empties};
+
+pub(crate) mod calling;
+pub(crate) mod draining;
+pub(crate) mod plays;
+pub(crate) mod view;
+
+use crate::got::Got;
+use crate::pass::Pass;
+use crate::root::Root;
+use atomic_table::{Badge, Table};
+use draining::drain;
+use mc_shard::Shard;
+use plays::{Gives, Named, TakesIn};
+use std::alloc::Global;
+use std::marker::{Brand, Model};
+use std::mem;
+use view::{Rule, View};
+use zy_base::{Call, Histories, NoMemory, Tag};
+
+/// The shards of a store. Contracts see which table it is, and how many shards it has.
+#[derive(Drop)]
+pub struct StoreTable {
+    table: Table<Shard, View, (), Rule, Global>,
+    shards: u32,
+    alloc: Global,
+}
+
+impl Model for StoreTable {
+    ghost use Rattle.std.specs.Prelude.{◌≡◌, ◌<◌, ◌≤◌};
+    ghost use Rattle.mc_store.specs.Pass.{Stored, stored};
+
+    ghost Value = { Stored };
+
+    ghost view = { λ s. stored s.table.shared.table_id s.shards };
+
+    ghost invariant = { λ s. (s.table.shared.table_id.words ≡ s.shards) × (s.table.shared.table_id.slots ≡ s.shards)
+        × (0 < s.shards) × (s.shards ≤ 256) };
+}
+
+impl StoreTable {
+    /// A store of so many empty shards, 1 to 256, and its root.
+    pub fn new(alloc: Global, shards: u32) -> Result<(StoreTable, Root), NoMemory>
+        requires some { 1 ≤ shards }
+        requires few { shards ≤ 256 }
+        ensures shards { IfOk result (λ made. made.0.shards ≡ shards) }
+        ensures root { IfOk result (λ made. made.1 ≡ rooted made.0.id [] []) }
+    {
+        let empty = empty_shards(alloc, shards)?;
+        let Ok(words) = Vec::from_elem(alloc, 0u64, shards as usize) else {
+            return Err(NoMemory);
+        };
+        let Ok((table, seat)) = Table::new(alloc, words.as_slice(), empty, &()) else {
+            return Err(NoMemory);
+        };
+        let root = Root {
+            badge: seat.into_badge(),
+        };
+        Ok((
+            StoreTable {
+                table,
+                shards,
+                alloc,
+            },
+            root,
+        ))
+    }
+
+    /// The number of shards, which is the number of the table's slots.
+    pub fn shards(&self) -> u32
+        ensures value { result ≡ self.now.shards }
+        ensures slots { result ≡ self.now.id.slots }
+        ensures some { 1 ≤ result }
+        ensures few { result ≤ 256 }
+    {
+        self.shards
+    }
+
+    /// The pass of a connection below 4,096 that this root gave none before. It has no calls. After a
+    /// refusal nothing was given.
+    pub fn split(&self, root: &mut Root, conn: u32) -> Result<Pass, NoMemory>
+        requires table { root.old.table ≡ self.now.id }
+        requires within { conn < 4096 }
+        requires fresh { is_in conn root.old.given ≡ false }
+        ensures value { IfOk result (λ pass. pass ≡ passed root.old.table conn [] untraced) }
+        ensures ok { OnOk result (root.new ≡ rooted root.old.table (conn ∷ root.old.given) root.old.joined) }
+        ensures err { OnErr result (root.new ≡ root.old) }
+    {
+        Ok(self.split_as::<Brand>(root, conn))
+    }
+
+    fn split_as<N: Named>(&self, root: &mut Root, conn: u32) -> Pass
+        requires picked { conn ≡ N.conn }
+        requires table { root.old.table ≡ self.now.id }
+        requires within { conn < 4096 }
+        requires fresh { is_in conn root.old.given ≡ false }
+        ensures value { result ≡ passed root.old.table conn [] untraced }
+        ensures ok { root.new ≡ rooted root.old.table (conn ∷ root.old.given) root.old.joined }
+    {
+        let mut seat = mem::replace(&mut root.badge, Badge::blank()).into_seat();
+        let given = self.table.shared.split_seat::<Gives<N>>(&mut seat);
+        root.badge = seat.into_badge();
+        Pass {
+            conn,
+            count: 0,
+            last: 0,
+            badge: given.into_badge(),
+        }
+    }
+
+    /// Tries once to make a call on a shard, for the pass's connection: one load of the shard's word
+    /// and, where it was even, one exchange. The call happens at the store that makes the word even
+    /// again. Its stamp is above all that the pass and the shard have seen.
+    ///
+    /// After want of memory no call was made, and the shard is free again, as it was.
+    pub fn try_call(
+        &self,
+        pass: &mut Pass,
+        tag: Tag,
+        shard: u32,
+        call: &Call,
+    ) -> Result<Got, NoMemory>
+        requires table { pass.old.table ≡ self.now.id }
+        requires conn { tag.conn ≡ pass.old.conn }
+        requires within { shard < self.now.shards }
+        requires few { length pass.old.calls < 2 ^ 40 }
+
+        // The answer.
+        ensures reply { IfReply result (IsOfCall tag shard call.now) }
+        ensures kind { IfReply result (λ entry. MayAnswer call.now entry.reply) }
+        ensures free { IfReply result (λ entry. WasFree shard pass.old.trace pass.new.trace) }
+        ensures busy { IfBusy result (WasBusy shard pass.old.trace pass.new.trace) }
+
+        // The pass.
+        ensures ok { IfReply result (λ entry. pass.new.calls ≡ pass.old.calls ++ entry ∷ []) }
+        ensures stamp { IfReply result (λ entry. last_stamp 0 pass.old.calls < entry.stamp) }
+        ensures kept { IfBusy result (λ shard loaded found. pass.new.calls ≡ pass.old.calls) }
+        ensures err { OnErr result (pass.new.calls ≡ pass.old.calls) }
+        ensures table { pass.new.table ≡ pass.old.table }
+        ensures conn { pass.new.conn ≡ pass.old.conn }
+        ensures steps { pass.old.trace.steps ≤ pass.new.trace.steps }
+    {
+        let seen = pass.last;
+        let mut seat = mem::replace(&mut pass.badge, Badge::blank()).into_seat();
+        let got = self.try_on(&mut seat, tag, shard, call, seen);
+        pass.badge = seat.into_badge();
+        match got? {
+            Got::Reply(entry) => {
+                pass.count += 1;
+                pass.last = entry.stamp;
+                Ok(Got::Reply(entry))
+            }
+            Got::Busy {
+                shard,
+                loaded,
+                found,
+            } => Ok(Got::Busy {
+                shard,
+                loaded,
+                found,
+            }),
+        }
+    }
+
+    /// Takes a pass in again, with its calls.
+    pub fn join(&self, root: &mut Root, pass: Pass)
+        requires table { root.old.table ≡ self.now.id }
+        requires pass { pass.table ≡ root.old.table }
+        ensures value { root.new ≡ rooted root.old.table root.old.given ((pass.conn, pass.calls) ∷ root.old.joined) }
+    {
+        let Pass {
+            conn: _,
+            count: _,
+            last: _,
+            badge,
+        } = pass;
+        let mut seat = mem::replace(&mut root.badge, Badge::blank()).into_seat();
+        self.table
+            .shared
+            .join_seat::<TakesIn>(&mut seat, badge.into_seat());
+        root.badge = seat.into_badge();
+    }
+
+    /// The histories of the shards, where every pass that was given was joined. They are moved, and
+    /// not copied. After a refusal store and root are handed back.
+    pub fn close(self, root: Root) -> Result<Histories, (StoreTable, Root)>
+        requires table { root.table ≡ self.id }
+        requires all { (conn : ℕ) → is_in conn root.given ≡ true → is_joined conn root.joined ≡ true }
+        ensures ok { IfOk result (AreClosed self.shards root.joined) }
+        ensures store { IfErr result (λ kept. kept.0 ≡ self) }
+        ensures root { IfErr result (λ kept. kept.1 ≡ root) }
+    {
+        let StoreTable {
+            table,
+            shards,
+            alloc,
+        } = self;
+        let Ok(lists) = Vec::with_capacity(alloc, shards as usize) else {
+            return Err((
+                StoreTable {
+                    table,
+                    shards,
+                    alloc,
+                },
+                root,
+            ));
+        };
+        let Root { badge } = root;
+        Ok(Histories::from_vec(drain(table.close_with(badge.into_seat()), lists)))
+    }
+}
+
+// So many shards, on which no call was made.
+fn empty_shards(alloc: Global, shards: u32) -> Result<Vec<Shard>, NoMemory>
+    requires few { shards ≤ 256 }
+    ensures value { IfOk result (λ made. made.items ≡ empties shards shards) }
+{
+    let mut made = Vec::new(alloc);
+    for number in 0..shards {
+        if made.push(Shard::new(alloc, number, shards)).is_err() {
+            return Err(NoMemory);
+        }
+    }
+    Ok(made)
+}

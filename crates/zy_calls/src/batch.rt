@@ -1,0 +1,77 @@
+//! Batches: the system calls of one hold.
+ghost use Rattle.std.specs.Prelude.{◌≡◌, length, OnOk, OnErr, IfErr};
+ghost use Rattle.zy_calls.specs.Batch.{no_text, with_text, with_finished};
+
+use crate::texts::Texts;
+use std::alloc::Global;
+use std::marker::Model;
+use zy_base::{Blob, NoMemory};
+
+/// The texts that a hold sends, and how many commands of the connection are finished after it. Contracts
+/// see it as the list of its texts and that number.
+#[derive(Debug, Drop)]
+pub struct Batch {
+    pub(crate) texts: Texts,
+    pub(crate) finished: u64,
+}
+
+impl Model for Batch {
+    ghost use Rattle.zy_calls.specs.Batch.{Sends};
+
+    ghost Value = { Sends };
+
+    ghost view = { λ batch. record { texts = batch.texts; finished = batch.finished } };
+}
+
+impl Batch {
+    /// No text. Takes no memory.
+    pub fn new(alloc: Global, finished: u64) -> Batch
+        ensures value { result ≡ no_text finished }
+    {
+        Batch {
+            texts: Texts::new(alloc),
+            finished,
+        }
+    }
+
+    /// Appends a text; after a refusal it is handed back.
+    pub fn send(&mut self, text: Blob) -> Result<(), (Blob, NoMemory)>
+        ensures ok { OnOk result (self.new ≡ with_text self.old text) }
+        ensures err { OnErr result (self.new ≡ self.old) }
+        ensures returned { IfErr result (λ e. e.0 ≡ text) }
+    {
+        match self.send_copy(text.bytes()) {
+            Ok(()) => Ok(()),
+            Err(e) => Err((text, e)),
+        }
+    }
+
+    /// Appends a copy of a text.
+    pub fn send_copy(&mut self, text: &[u8]) -> Result<(), NoMemory>
+        ensures ok { OnOk result (self.new ≡ with_text self.old text.now) }
+        ensures err { OnErr result (self.new ≡ self.old) }
+    {
+        self.texts.push(text)
+    }
+
+    /// Sets how many commands are finished.
+    pub fn set_finished(&mut self, finished: u64)
+        ensures value { self.new ≡ with_finished self.old finished }
+    {
+        self.finished = finished;
+    }
+
+    /// The number of texts.
+    pub fn count(&self) -> u64
+        ensures value { result ≡ length self.now.texts }
+    {
+        self.texts.count() as u64
+    }
+
+    /// How many commands are finished.
+    pub fn finished(&self) -> u64
+        ensures value { result ≡ self.now.finished }
+    {
+        self.finished
+    }
+}

@@ -1,0 +1,100 @@
+//! Outputs of connections.
+ghost use Rattle.std.specs.Prelude.{◌≡◌, ◌≤◌, length, OnOk, OnErr, IfErr};
+ghost use Rattle.std.specs.List.{concat};
+ghost use Rattle.zy_calls.specs.Output.{nothing_sent, with_batch, bytes_upto};
+
+use crate::batch::Batch;
+use crate::texts::Texts;
+use std::alloc::Global;
+use std::marker::Model;
+use zy_base::{Blob, NoMemory};
+
+/// What a connection was sent, and how many of its commands are finished. Contracts see it as its
+/// connection, the list of its texts, and that number.
+#[derive(Debug, Drop)]
+pub struct Output {
+    conn: u32,
+    texts: Texts,
+    finished: u64,
+}
+
+impl Model for Output {
+    ghost use Rattle.zy_calls.specs.Output.{Sent};
+
+    ghost Value = { Sent };
+
+    ghost view = { λ output. record { conn = output.conn; texts = output.texts; finished = output.finished } };
+}
+
+impl Output {
+    /// Nothing, of a connection. Takes no memory.
+    pub fn new(alloc: Global, conn: u32) -> Output
+        ensures value { result ≡ nothing_sent conn }
+    {
+        Output {
+            conn,
+            texts: Texts::new(alloc),
+            finished: 0,
+        }
+    }
+
+    /// Appends the texts of a batch, and sets the number of finished commands to its own; after a
+    /// refusal the batch is handed back. The first batch is taken over without a copy.
+    pub fn carry_out(&mut self, batch: Batch) -> Result<(), (Batch, NoMemory)>
+        ensures ok { OnOk result (self.new ≡ with_batch self.old batch) }
+        ensures err { OnErr result (self.new ≡ self.old) }
+        ensures returned { IfErr result (λ e. e.0 ≡ batch) }
+    {
+        let Batch { texts, finished } = batch;
+        match self.texts.append(texts) {
+            Ok(()) => {
+                self.finished = finished;
+                Ok(())
+            }
+            Err((texts, e)) => Err((Batch { texts, finished }, e)),
+        }
+    }
+
+    /// The connection.
+    pub fn conn(&self) -> u32
+        ensures value { result ≡ self.now.conn }
+    {
+        self.conn
+    }
+
+    /// The number of texts.
+    pub fn count(&self) -> u64
+        ensures value { result ≡ length self.now.texts }
+    {
+        self.texts.count() as u64
+    }
+
+    /// How many commands are finished.
+    pub fn finished(&self) -> u64
+        ensures value { result ≡ self.now.finished }
+    {
+        self.finished
+    }
+
+    /// The texts, joined.
+    pub fn bytes(&self) -> &[u8]
+        ensures value { result.now ≡ concat self.now.texts }
+    {
+        self.texts.bytes()
+    }
+
+    /// The first so many texts, joined. Takes no memory.
+    pub fn upto(&self, count: u64) -> &[u8]
+        requires within { count ≤ length self.now.texts }
+        ensures value { result.now ≡ bytes_upto self.now count }
+    {
+        self.texts.upto(count as usize)
+    }
+
+    /// The texts, joined. Takes no memory.
+    pub fn into_bytes(self) -> Blob
+        ensures value { result ≡ concat self.texts }
+    {
+        self.texts.into_bytes()
+    }
+}

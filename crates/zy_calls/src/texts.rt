@@ -1,0 +1,121 @@
+//! Texts one after another in one row of bytes.
+ghost use Rattle.std.specs.Prelude.{◌≡◌, ◌≤◌, ◌++◌, [], ◌∷◌, length, take, OnOk, OnErr, IfErr};
+ghost use Rattle.std.specs.Prelude.{◌+◌, vec_len, vec_capacity};
+ghost use Rattle.std.specs.List.{concat};
+ghost use Rattle.zy_calls.specs.Texts.{further, AreWithin};
+
+use std::alloc::Global;
+use std::marker::Model;
+use zy_base::{Blob, NoMemory};
+
+/// A list of texts, which is their bytes and where each ends. Contracts see it as the list.
+#[derive(Debug, Drop)]
+pub(crate) struct Texts {
+    bytes: Blob,
+    ends: Vec<usize>,
+}
+
+impl Model for Texts {
+    ghost use Rattle.std.specs.Prelude.{ℕ, List, length};
+    ghost use Rattle.zy_calls.specs.Texts.{texts_from, Rise};
+
+    ghost Value = { List (List ℕ) };
+
+    ghost view = { λ t. texts_from t.bytes 0 t.ends.items };
+
+    ghost invariant = { λ t. Rise 0 t.ends.items (length t.bytes) };
+}
+
+impl Texts {
+    /// No text. Takes no memory.
+    pub(crate) fn new(alloc: Global) -> Texts
+        ensures value { result ≡ [] }
+    {
+        Texts {
+            bytes: Blob::new(alloc),
+            ends: Vec::new(alloc),
+        }
+    }
+
+    /// The number of texts.
+    pub(crate) fn count(&self) -> usize
+        ensures value { result ≡ length self.now }
+    {
+        self.ends.len()
+    }
+
+    /// Appends a text.
+    pub(crate) fn push(&mut self, text: &[u8]) -> Result<(), NoMemory>
+        ensures ok { OnOk result (self.new ≡ self.old ++ text.now ∷ []) }
+        ensures err { OnErr result (self.new ≡ self.old) }
+    {
+        if self.ends.reserve(1).is_err() {
+            return Err(NoMemory);
+        }
+        if let Err(e) = self.bytes.append(text) {
+            return Err(e);
+        }
+        self.ends.push_reserved(self.bytes.bytes().len());
+        Ok(())
+    }
+
+    /// Appends the texts of another list; after a refusal it is handed back.
+    pub(crate) fn append(&mut self, other: Texts) -> Result<(), (Texts, NoMemory)>
+        ensures ok { OnOk result (self.new ≡ self.old ++ other) }
+        ensures err { OnErr result (self.new ≡ self.old) }
+        ensures returned { IfErr result (λ e. e.0 ≡ other) }
+    {
+        if self.ends.is_empty() {
+            *self = other;
+            return Ok(());
+        }
+        if self.ends.reserve(other.ends.len()).is_err() {
+            return Err((other, NoMemory));
+        }
+        let start = self.bytes.bytes().len();
+        if start.checked_add(other.bytes.bytes().len()).is_none() {
+            return Err((other, NoMemory));
+        }
+        if let Err(e) = self.bytes.append(other.bytes.bytes()) {
+            return Err((other, e));
+        }
+        append_further(&mut self.ends, start, other.ends.as_slice());
+        Ok(())
+    }
+
+    /// The bytes of all texts.
+    pub(crate) fn bytes(&self) -> &[u8]
+        ensures value { result.now ≡ concat self.now }
+    {
+        self.bytes.bytes()
+    }
+
+    /// The bytes of the first so many texts.
+    pub(crate) fn upto(&self, count: usize) -> &[u8]
+        requires within { count ≤ length self.now }
+        ensures value { result.now ≡ concat (take count self.now) }
+    {
+        if count == 0 {
+            return &[];
+        }
+        &self.bytes.bytes()[..self.ends[count - 1]]
+    }
+
+    /// The bytes of all texts. Takes no memory.
+    pub(crate) fn into_bytes(self) -> Blob
+        ensures value { result ≡ concat self }
+    {
+        self.bytes
+    }
+}
+
+// Appends places, each so many bytes further on.
+fn append_further(ends: &mut Vec<usize>, start: usize, others: &[usize])
+    requires room { vec_len ends.old + length others.now ≤ vec_capacity ends.old }
+    requires fits { AreWithin start others.now }
+    ensures value { ends.new.items ≡ ends.old.items ++ further start others.now }
+{
+    for other in others {
+        ends.push_reserved(start + *other);
+    }
+}
