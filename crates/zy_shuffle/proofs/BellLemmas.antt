@@ -15,7 +15,8 @@ use Rattle.zy_shuffle.specs.Hand.{emptied, marked}
 use Rattle.zy_shuffle.specs.Pass.{Collected, Held, LookedAt, Rang, held, last_bell, out_of, tail_of}
 use Rattle.zy_shuffle.specs.PassSeat.{IsHomeSeat, Within, bells_of}
 use Rattle.zy_shuffle.specs.ShuffleRule.{ShuffleRule}
-use Rattle.zy_shuffle.specs.Step.{IsHome, Seated, collected, collecting, noting_bells, rung_place, saw_bells, with_bells}
+use Rattle.zy_shuffle.specs.HomeRole.{IsHome, rung_place, with_bells}
+use Rattle.zy_shuffle.specs.Step.{Seated, collected, collecting, noting_bells, saw_bells}
 use Rattle.zy_shuffle.specs.View.{bell_step, sight}
 use Rattle.zy_shuffle.specs.declared.ring.view.Role.{Role}
 use Rattle.zy_shuffle.specs.declared.ring.view.Role.TheVariants.{Home}

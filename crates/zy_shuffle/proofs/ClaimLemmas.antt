@@ -7,7 +7,8 @@ use Rattle.atomic_table.specs.Table.{step, rest, Allows}
 use Rattle.zy_shuffle.proofs.LookLemmas.{loads_cell, loads_tail}
 use Rattle.zy_shuffle.proofs.TakeLemmas.{claims}
 use Rattle.zy_shuffle.specs.ShuffleRule.{ShuffleRule}
-use Rattle.zy_shuffle.specs.Step.{IsActive, Seated, claimed, noted_place, noting, saw_cell, saw_tail}
+use Rattle.zy_shuffle.specs.HomeRole.{IsActive}
+use Rattle.zy_shuffle.specs.Step.{Seated, claimed, noted_place, noting, saw_cell, saw_tail}
 use Rattle.zy_shuffle.specs.View.{head_step, tail_step, traced}
 use Rattle.zy_table.specs.declared.name.Name.{Name}
 

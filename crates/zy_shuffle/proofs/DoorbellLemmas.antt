@@ -13,7 +13,8 @@ use Rattle.zy_shuffle.proofs.MoveLemmas.{moved, note_else}
 use Rattle.zy_shuffle.specs.Hand.{marked, rest_of}
 use Rattle.zy_shuffle.specs.Holder.{Holder, at_bell, core_count, cores, in_hand, in_queue, nobody, weight}
 use Rattle.zy_shuffle.specs.ShuffleRule.{IsRole, IsStored, Lies, ShuffleRule}
-use Rattle.zy_shuffle.specs.Step.{IsActive, Seated, collected, collecting, gave, giving, rung_place, with_bells}
+use Rattle.zy_shuffle.specs.HomeRole.{IsActive, rung_place, with_bells}
+use Rattle.zy_shuffle.specs.Step.{Seated, collected, collecting, gave, giving}
 use Rattle.zy_shuffle.specs.Word.{bell_at, cell}
 use Rattle.zy_shuffle.specs.declared.ring.view.Role.TheVariants.{Core, Home}
 use Rattle.zy_shuffle.specs.declared.ring.view.View.{View}

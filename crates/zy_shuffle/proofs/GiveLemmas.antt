@@ -11,7 +11,8 @@ use Rattle.zy_shuffle.specs.Hand.{emptied, marked, rest_of}
 use Rattle.zy_shuffle.specs.Pass.{out_of}
 use Rattle.zy_shuffle.specs.PassSeat.{IsBrought, IsCorePass, IsCoreSeat, IsFront, IsHomeSeat, bells_of}
 use Rattle.zy_shuffle.specs.ShuffleRule.{ShuffleRule}
-use Rattle.zy_shuffle.specs.Step.{IsActive, Seated, fronted, gave, newcomer, published, splitting, stored_cell, storing, taken_in, with_stored}
+use Rattle.zy_shuffle.specs.HomeRole.{IsActive, with_stored}
+use Rattle.zy_shuffle.specs.Step.{Seated, fronted, gave, newcomer, published, splitting, stored_cell, storing, taken_in}
 use Rattle.zy_shuffle.specs.View.{spent}
 use Rattle.zy_shuffle.specs.declared.ring.view.View.{View}
 use Rattle.zy_table.proofs.MemberLemmas.{without_apart, without_here}

@@ -14,7 +14,8 @@ use Rattle.zy_shuffle.proofs.MoveLemmas.{looked_on}
 use Rattle.zy_shuffle.specs.Hand.{emptied}
 use Rattle.zy_shuffle.specs.Holder.{Holder, at_bell, bell, core_count, cores, in_hand, in_queue, nobody, weight}
 use Rattle.zy_shuffle.specs.ShuffleRule.{RingState, IsNote, IsRole, IsRung, Knows, Lies, ShuffleRule}
-use Rattle.zy_shuffle.specs.Step.{IsActive, Seated, fronted, fronting, noting, noting_bells, saw_bells, saw_cell, saw_head, saw_tail, stored_cell, storing, with_bells, with_stored}
+use Rattle.zy_shuffle.specs.HomeRole.{IsActive, with_bells, with_stored}
+use Rattle.zy_shuffle.specs.Step.{Seated, fronted, fronting, noting, noting_bells, saw_bells, saw_cell, saw_head, saw_tail, stored_cell, storing}
 use Rattle.zy_shuffle.specs.View.{head_step, plain_step, tail_step, traced, try_step}
 use Rattle.zy_shuffle.specs.Word.{bell_at, cell}
 use Rattle.zy_shuffle.specs.declared.ring.view.Role.{Role}

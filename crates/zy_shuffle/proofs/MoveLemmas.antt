@@ -11,7 +11,7 @@ use Rattle.zy_shuffle.proofs.FollowLemmas.{follows_else}
 use Rattle.zy_shuffle.proofs.HandLemmas.{cores_at, cores_set}
 use Rattle.zy_shuffle.specs.Holder.{Holder, at_bell, bell, core_count, cores, in_hand, in_queue, nobody, weight}
 use Rattle.zy_shuffle.specs.ShuffleRule.{RingState, InQueue, IsNote, IsRole, IsRung, IsStored, Knows, Lies, PlaceRule, ShuffleRule}
-use Rattle.zy_shuffle.specs.Step.{IsActive}
+use Rattle.zy_shuffle.specs.HomeRole.{IsActive}
 use Rattle.zy_shuffle.specs.Word.{bell_at, bell_words, cell}
 use Rattle.zy_shuffle.specs.declared.ring.view.Role.{Role}
 use Rattle.zy_shuffle.specs.declared.ring.view.Role.TheVariants.{Closed, Core, Home, Spent, Start}

@@ -8,7 +8,8 @@ use Rattle.zy_shuffle.proofs.HandLemmas.{below_in, in_below}
 use Rattle.zy_shuffle.specs.Hand.{below_then, emptied, rest_of}
 use Rattle.zy_shuffle.specs.Pass.{HasAll, Claimed, Held, held, out_of}
 use Rattle.zy_shuffle.specs.PassSeat.{IsBrought, IsCorePass, IsCoreSeat, IsHomeSeat, Within, bells_of}
-use Rattle.zy_shuffle.specs.Step.{Seated, gave, giving, named_as, published, publishing, stored_cell, storing, with_published, with_stored}
+use Rattle.zy_shuffle.specs.HomeRole.{with_published, with_stored}
+use Rattle.zy_shuffle.specs.Step.{Seated, gave, giving, named_as, published, publishing, stored_cell, storing}
 use Rattle.zy_shuffle.specs.declared.claim.Claim.TheVariants.{Took}
 use Rattle.zy_shuffle.specs.declared.ring.view.Role.{Role}
 use Rattle.zy_shuffle.specs.declared.ring.view.Role.TheVariants.{Home}

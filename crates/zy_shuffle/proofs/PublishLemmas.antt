@@ -13,7 +13,8 @@ use Rattle.zy_shuffle.proofs.MoveLemmas.{moved, note_else, rung_else}
 use Rattle.zy_shuffle.specs.Hand.{marked, rest_of}
 use Rattle.zy_shuffle.specs.Holder.{Holder, at_bell, bell, core_count, cores, in_hand, in_queue, nobody, weight}
 use Rattle.zy_shuffle.specs.ShuffleRule.{IsRole, ShuffleRule}
-use Rattle.zy_shuffle.specs.Step.{IsActive, published, publishing, with_published}
+use Rattle.zy_shuffle.specs.HomeRole.{IsActive, with_published}
+use Rattle.zy_shuffle.specs.Step.{published, publishing}
 use Rattle.zy_shuffle.specs.Word.{bell_at, cell}
 use Rattle.zy_shuffle.specs.declared.ring.view.Role.TheVariants.{Home}
 use Rattle.zy_shuffle.specs.declared.ring.view.View.{View}

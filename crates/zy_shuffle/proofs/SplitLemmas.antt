@@ -10,7 +10,8 @@ use Rattle.atomic_table.proofs.Lists.{at_set, set_here, set_else, at_longer}
 use Rattle.zy_shuffle.proofs.HandLemmas.{cores_set, cores_snoc}
 use Rattle.zy_shuffle.specs.Holder.{Holder, core_count, cores}
 use Rattle.zy_shuffle.specs.ShuffleRule.{IsRole, Knows, ShuffleRule}
-use Rattle.zy_shuffle.specs.Step.{newcomer, one_less, one_more, splitting, taken_in}
+use Rattle.zy_shuffle.specs.HomeRole.{one_less, one_more}
+use Rattle.zy_shuffle.specs.Step.{newcomer, splitting, taken_in}
 use Rattle.zy_shuffle.specs.View.{spent}
 use Rattle.zy_shuffle.specs.declared.ring.view.Role.{Role}
 use Rattle.zy_shuffle.specs.declared.ring.view.Role.TheVariants.{Closed, Core, Home, Spent, Start}

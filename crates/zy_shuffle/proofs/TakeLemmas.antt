@@ -15,7 +15,8 @@ use Rattle.zy_shuffle.proofs.MoveLemmas.{moved, rung_else}
 use Rattle.zy_shuffle.specs.Hand.{marked}
 use Rattle.zy_shuffle.specs.Holder.{Holder, at_bell, bell, cores, in_hand, in_queue, nobody, weight}
 use Rattle.zy_shuffle.specs.ShuffleRule.{InQueue, IsNote, IsRole, IsStored, Lies, ShuffleRule}
-use Rattle.zy_shuffle.specs.Step.{IsActive, IsHome, Seated, claimed, noted_place, taking}
+use Rattle.zy_shuffle.specs.HomeRole.{IsActive, IsHome}
+use Rattle.zy_shuffle.specs.Step.{Seated, claimed, noted_place, taking}
 use Rattle.zy_shuffle.specs.Word.{bell_at, cell}
 use Rattle.zy_shuffle.specs.declared.ring.view.Role.{Role}
 use Rattle.zy_shuffle.specs.declared.ring.view.Role.TheVariants.{Closed, Core, Home, Spent, Start}

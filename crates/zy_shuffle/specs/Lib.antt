@@ -6,6 +6,7 @@ pub mod Holder
 pub mod Follow
 pub mod ShuffleRule
 pub mod OnePlace
+pub mod HomeRole
 pub mod Step
 pub mod Pass
 pub mod PassSeat

@@ -6,7 +6,8 @@ use Rattle.zy_shuffle.specs.declared.ring.view.Role.{Role}
 use Rattle.zy_shuffle.specs.declared.ring.view.Role.TheVariants.{Spent, Start, Core, Home, Closed}
 use Rattle.zy_shuffle.specs.Hand.{rest_of, emptied, marked}
 use Rattle.zy_shuffle.specs.Word.{bell_words}
-use Rattle.zy_shuffle.specs.Step.{Seated, IsHome}
+use Rattle.zy_shuffle.specs.HomeRole.{IsHome}
+use Rattle.zy_shuffle.specs.Step.{Seated}
 use Rattle.zy_table.specs.declared.name.Name.{Name}
 use Rattle.zy_shuffle.specs.declared.claim.Claim.{Claim}
 use Rattle.zy_shuffle.specs.Pass.{Ringed, held, tail_of, out_of, Claimed, Collected, LookedAt, IfTook}

@@ -2,7 +2,7 @@
 ghost use Rattle.std.specs.Prelude.{◌≡◌, ◌^◌, ◌<◌, true, Some};
 ghost use Rattle.zy_table.specs.Member.{is_in};
 ghost use Rattle.zy_shuffle.specs.Hand.{emptied, marked};
-ghost use Rattle.zy_shuffle.specs.Step.{IsActive};
+ghost use Rattle.zy_shuffle.specs.HomeRole.{IsActive};
 ghost use Rattle.zy_shuffle.specs.Pass.{Claimed, IfTook, after_publish, after_give_back};
 ghost use Rattle.zy_shuffle.specs.PassSeat.{Within, IsCorePass, IsBrought};
 ghost use Rattle.zy_shuffle.specs.PassSeat.{ClaimedBy, ClaimKeepsMark};
