@@ -2,10 +2,14 @@
 #![tactic(auto)]
 
 mod journal;
+mod laws;
 mod merging;
 mod rest;
 mod turn;
 mod turns;
+mod writing;
 
 pub use journal::Journal;
+pub use laws::rising_histories_are_in_order;
 pub use merging::merge;
+pub use writing::write_journal;

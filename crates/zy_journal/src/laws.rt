@@ -1,0 +1,9 @@
+//! Laws over the definitions of this crate.
+ghost use Rattle.std.specs.Prelude.{ℕ, List, None};
+ghost use Rattle.zy_base.specs.declared.entry.Entry.{Entry};
+ghost use Rattle.zy_base.specs.Order.{StampsRise, IsOrdered};
+
+/// A history along which stamps rise is in order, as `merge` wants it.
+pub fn rising_histories_are_in_order()
+    ensures ordered { (before : ℕ) (es : List Entry) → StampsRise before es → IsOrdered None es }
+{}
