@@ -142,13 +142,7 @@ fn write_value<'a, K: Sink>(
     let length = (value.bytes().len() as u32).to_be_bytes();
     write_pieces(
         sink,
-        &[
-            &[code, size],
-            key.bytes(),
-            numbers,
-            &length,
-            value.bytes(),
-        ],
+        &[&[code, size], key.bytes(), numbers, &length, value.bytes()],
     )
 }
 
@@ -187,21 +181,13 @@ fn write_reply<K: Sink>(sink: &mut K, reply: &CallReply) -> Result<(), Failed>
     }
 }
 
-fn write_hit<K: Sink>(
-    sink: &mut K,
-    flags: u32,
-    unique: u64,
-    value: &Blob,
-) -> Result<(), Failed>
+fn write_hit<K: Sink>(sink: &mut K, flags: u32, unique: u64, value: &Blob) -> Result<(), Failed>
     requires few { length value.now ≤ 1048576 }
     ensures writes { Writes K.holds K.faults sink.old sink.new result
         (2 ∷ (to_be_bytes w32 flags ++ (to_be_bytes w64 unique ++ value_text value.now))) }
 {
     let flags = flags.to_be_bytes();
     let unique = unique.to_be_bytes();
-    let length = (value.bytes().len() as u32).to_be_bytes();
-    write_pieces(
-        sink,
-        &[&[2], &flags, &unique, &length, value.bytes()],
-    )
+    let size = (value.bytes().len() as u32).to_be_bytes();
+    write_pieces(sink, &[&[2], &flags, &unique, &size, value.bytes()])
 }
