@@ -50,7 +50,7 @@ fn main(rt: HostRuntime) -> io::Result<ExitCode> {
         println!(rt; "{name}, alone: {} ns for publish and claim", time / rounds)?;
     } else {
         let rate = rounds * 1_000_000_000 / time;
-        println!(rt; "{name}, {} thieves: {rate} claims a second", run.thieves)?;
+        println!(rt; "{name}, thieves {}: {rate} claims a second", run.thieves)?;
     }
     Ok(ExitCode::from(0))
 }

@@ -1,4 +1,8 @@
 -- The last load of the home, and what is known at the end.
+use Rattle.std.proofs.Common.{inl, inr}
+use Rattle.zy_shuffle.specs.Ownership.{idle, held}
+use Rattle.zy_shuffle.specs.Follow.{Agrees, Follows}
+use Rattle.zy_shuffle.proofs.FollowLemmas.{follows_holders}
 use Rattle.std.proofs.Common.{◌≡◌, ◌≢◌, ℕ, ◌+◌, ◌<◌, ◌≤◌, List, [], length, get_or, set, cond, Bool, true, false, true≢false, refl, sym, ap, ◌∙◌, subst, ⊎_elim, arith}
 use Rattle.std.specs.Prelude as std
 use mathlib.Core.Option.{Option, some, some-injective}
@@ -10,7 +14,8 @@ use Rattle.atomic_table.specs.Table.{Act, stepped, carried_after, homes_after, V
 use Rattle.atomic_table.proofs.Lists.{at_set}
 use Rattle.zy_shuffle.proofs.HandLemmas.{cores_at, cores_set, give_act, gives_all}
 use Rattle.zy_shuffle.specs.Hand.{emptied, marked}
-use Rattle.zy_shuffle.specs.ShuffleRule.{HasBlock, Holder, InQueue, IsInTable, IsRole, Knows, Lies, ShuffleRule, at_bell, bell, core_count, cores, in_hand, in_queue, nobody, weight}
+use Rattle.zy_shuffle.specs.Holder.{Holder, IsInTable, at_bell, bell, core_count, cores, in_hand, in_queue, nobody, weight}
+use Rattle.zy_shuffle.specs.ShuffleRule.{HasBlock, InQueue, IsRole, Knows, Lies, ShuffleRule}
 use Rattle.zy_shuffle.specs.Step.{Seated, closed, closing}
 use Rattle.zy_shuffle.specs.Word.{bell_at, bell_words, cell}
 use Rattle.zy_shuffle.specs.declared.ring.view.Role.TheVariants.{Closed, Home, Spent}
@@ -57,12 +62,12 @@ module _ {T M : Type 0} (mark : T → M) (label : T → Name) where
       let v' : View T = closing v in
       let holders' : ℕ → Holder = shut_in v.hand r.holders in
       let count : cores (set s.views id v') ≡ 0 = (let a = cores_set s.views id v v' at in let b = ap core_count is_home in omega arith) in
-      let idle : (j : ℕ) (u : View T) → j ≢ id → get_elem? s.views j ≡ some u → (u.role ≡ Spent) × (u.hand ≡ []) = λ j u ne e.
+      let others_idle : (j : ℕ) (u : View T) → j ≢ id → get_elem? s.views j ≡ some u → (u.role ≡ Spent) × (u.hand ≡ []) = λ j u ne e.
       alone mark label s.words m r.head r.tail r.holders r.marks r.name (cores s.views) j u u.role (cores_at s.views j u e) zero_cores (λ f. ne (f ∙ sym home.0)) (r.each_seat j u e).role in
       let not_away : (q : ℕ) → q < m → is_in q v.hand ≡ false → (j : ℕ) → r.holders q ≡ in_hand j → ⊥ = λ q lt out j e.
       let l = r.live q j lt e in dite (ℕ_discrete j id)
       (λ f. let same : v ≡ l.0 = some-injective _ _ (sym at ∙ ap (get_elem? s.views) (sym f) ∙ l.1) in true≢false (sym l.2 ∙ ap (λ (x : View T). is_in q x.hand) (sym same) ∙ out))
-      (λ ne. true≢false (sym l.2 ∙ ap (is_in q) (idle j l.0 ne l.1).1)) in
+      (λ ne. true≢false (sym l.2 ∙ ap (is_in q) (others_idle j l.0 ne l.1).1)) in
       let mine : Knows mark label s.words m r.head r.tail holders' r.marks r.name 0 id v' = record {
         hand = λ q e. absurd (true≢false (sym e));
         apart = tt;
@@ -92,6 +97,10 @@ module _ {T M : Type 0} (mark : T → M) (label : T → Name) where
         sums = subst (λ x. r.head + sum_below x (λ q. weight (holders' q)) ≡ r.tail) (sym long)
             (let a = sum_same m (λ q. weight (r.holders q)) (λ q. weight (holders' q)) (λ q _. at_shut v.hand r.holders (λ x. weight x ≡ weight (r.holders q)) q (λ e. ap weight (sym (k.hand q e).1)) (λ _. refl)) in let b = r.sums in omega arith);
         barren = λ e. r.barren (sym long ∙ e);
+        follows = subst (λ n. Follows s.words n r.head r.tail holders') (sym long) (follows_holders s.words m r.head r.tail r.holders holders'
+            (λ q _ x a. at_shut v.hand r.holders (λ y. Agrees y x) q
+            (λ e. ⊎_elim (λ (f : x ≡ held id). inr (f ∙ ap held home.0)) (λ (f : (id ≡ 0) × (x ≡ idle)). inl f.1) (subst (λ y. Agrees y x) (k.hand q e).1 a))
+            (λ _. a)) r.follows);
         each_place = λ q lt. let near : q < m = (let a = long in omega arith) in let old = r.each_place q near in record {
           lies = at_shut v.hand r.holders (Lies mark label homes' r.marks r.name q) q (λ e. all.back q e near) (λ e. kept_lies s.homes homes' r.marks r.name q (r.holders q) (all.others q e) old.lies);
           rings = at_shut v.hand r.holders (λ x. bell_at s.words (length homes') q ≡ bell x) q (λ e. ap (λ x. bell_at s.words x q) long ∙ old.rings ∙ ap bell (k.hand q e).1) (λ _. ap (λ x. bell_at s.words x q) long ∙ old.rings);
@@ -104,7 +113,7 @@ module _ {T M : Type 0} (mark : T → M) (label : T → Name) where
             (λ j u e. ⊎_elim
             (λ (x : (j ≡ id) × (v' ≡ u)). subst (λ (x : ℕ × View T). Knows mark label s.words m r.head r.tail holders' r.marks r.name 0 x.0 x.1) (λ i. (sym x.0 i, x.1 i)) mine)
             (λ (x : (j ≢ id) × (get_elem? s.views j ≡ some u)). let old = r.each_seat j u x.1 in
-            idle_knows mark label s.words m r.head r.tail r.head r.tail r.holders holders' r.marks r.marks r.name r.name (cores s.views) 0 j u (omega arith) (omega arith) old.note (idle j u x.0 x.1) old)
+            idle_knows mark label s.words m r.head r.tail r.head r.tail r.holders holders' r.marks r.marks r.name r.name (cores s.views) 0 j u (omega arith) (omega arith) old.note (others_idle j u x.0 x.1) old)
             (at_set s.views id j v' u e));
         live = λ q j lt. at_shut v.hand r.holders (λ x. x ≡ in_hand j → (u : View T) × (get_elem? (set s.views id v') j ≡ some u) × (is_in q u.hand ≡ true)) q (λ _ e. cc) (λ e f. absurd (not_away q (omega arith) e j f));
       } in

@@ -8,7 +8,7 @@ use lib.ListN.{get_elem?}
 use Rattle.atomic_table.specs.Table.{Act, keeps, takes, gives, chain, carried_after, homes_after, Valid}
 use Rattle.atomic_table.proofs.Lists.{set_here, set_else}
 use Rattle.zy_shuffle.specs.Hand.{below_then, emptied, marked}
-use Rattle.zy_shuffle.specs.ShuffleRule.{core_count, cores}
+use Rattle.zy_shuffle.specs.Holder.{core_count, cores}
 use Rattle.zy_shuffle.specs.declared.ring.view.View.{View}
 use Rattle.zy_table.proofs.SlotLemmas.{at_below}
 use Rattle.zy_table.specs.Member.{IsDistinct, is_in, without}

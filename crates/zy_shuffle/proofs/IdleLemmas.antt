@@ -3,7 +3,8 @@ use Rattle.std.proofs.Common.{◌≡◌, ◌≢◌, ℕ, ◌≤◌, List, [], tr
 use Rattle.std.specs.Prelude as std
 use mathlib.Core.Option.{Option, some}
 use lib.ListN.{get_elem?}
-use Rattle.zy_shuffle.specs.ShuffleRule.{Holder, IsNote, IsRole, Knows, Lies, core_count, nobody}
+use Rattle.zy_shuffle.specs.Holder.{Holder, core_count, nobody}
+use Rattle.zy_shuffle.specs.ShuffleRule.{IsNote, IsRole, Knows, Lies}
 use Rattle.zy_shuffle.specs.declared.ring.view.Role.{Role}
 use Rattle.zy_shuffle.specs.declared.ring.view.Role.TheVariants.{Closed, Core, Home, Spent, Start}
 use Rattle.zy_shuffle.specs.declared.ring.view.View.{View}

@@ -1,4 +1,5 @@
 pub mod OwnerLemmas
+pub mod FollowLemmas
 pub mod HandLemmas
 pub mod MoveLemmas
 pub mod LookLemmas

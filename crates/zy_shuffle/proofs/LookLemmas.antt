@@ -12,7 +12,8 @@ use Rattle.atomic_table.proofs.Lists.{one_turn}
 use Rattle.zy_shuffle.proofs.HandLemmas.{fetch_act, fetches}
 use Rattle.zy_shuffle.proofs.MoveLemmas.{looked_on}
 use Rattle.zy_shuffle.specs.Hand.{emptied}
-use Rattle.zy_shuffle.specs.ShuffleRule.{RingState, Holder, IsNote, IsRole, IsRung, Knows, Lies, ShuffleRule, at_bell, bell, core_count, cores, in_hand, in_queue, nobody, weight}
+use Rattle.zy_shuffle.specs.Holder.{Holder, at_bell, bell, core_count, cores, in_hand, in_queue, nobody, weight}
+use Rattle.zy_shuffle.specs.ShuffleRule.{RingState, IsNote, IsRole, IsRung, Knows, Lies, ShuffleRule}
 use Rattle.zy_shuffle.specs.Step.{IsActive, Seated, fronted, fronting, noting, noting_bells, saw_bells, saw_cell, saw_head, saw_tail, stored_cell, storing, with_bells, with_stored}
 use Rattle.zy_shuffle.specs.View.{head_step, plain_step, tail_step, traced, try_step}
 use Rattle.zy_shuffle.specs.Word.{bell_at, cell}

@@ -1,4 +1,8 @@
 -- How the table begins, and the first load of the home.
+use Rattle.std.proofs.Common.{inl, inr}
+use Rattle.zy_shuffle.specs.Ownership.{idle, held, no_requests}
+use Rattle.zy_shuffle.specs.Follow.{Agrees, Follows}
+use Rattle.zy_shuffle.proofs.FollowLemmas.{follows_holders}
 use Rattle.std.proofs.Common.{◌≡◌, ◌≢◌, ℕ, zero, suc, ◌+◌, ◌/◌, ◌%◌, ◌<◌, ◌≤◌, List, [], ◌∷◌, map, replicate, length, get_or, set, true, true≢false, refl, sym, ap, ◌∙◌, subst, ⊎_elim, arith}
 use Rattle.std.specs.Prelude as std
 use mathlib.Core.Option.{Option, none, some, some-injective, some-ne-none}
@@ -10,7 +14,8 @@ use Rattle.atomic_table.specs.Table.{step, opening, carried_after, homes_after, 
 use Rattle.atomic_table.proofs.Lists.{at_set, set_here}
 use Rattle.zy_shuffle.proofs.HandLemmas.{below_distinct, below_in, cores_at, cores_set, in_below, take_act, takes_all}
 use Rattle.zy_shuffle.specs.Hand.{below_then, emptied}
-use Rattle.zy_shuffle.specs.ShuffleRule.{Holder, Knows, ShuffleRule, bell, cores, in_hand, nobody, weight}
+use Rattle.zy_shuffle.specs.Holder.{Holder, bell, cores, in_hand, nobody, weight}
+use Rattle.zy_shuffle.specs.ShuffleRule.{Knows, ShuffleRule}
 use Rattle.zy_shuffle.specs.Step.{Seated, named_as, naming}
 use Rattle.zy_shuffle.specs.View.{start}
 use Rattle.zy_shuffle.specs.Word.{bell_at, bell_words}
@@ -71,6 +76,8 @@ module _ {T M : Type 0} (mark : T → M) (label : T → Name) where
         };
         blank = λ q le. ap (λ x. bell_at s.words x q) long ∙ r.blank q (omega arith);
         each_cell = λ c a b. absurd (omega arith);
+        follows = subst (λ n. Follows s.words n r.head r.tail holders') (sym long) (follows_holders s.words m r.head r.tail r.holders holders'
+            (λ q _ x a. ⊎_elim (λ (e : x ≡ idle). inr (role.0, e)) (λ (e : x ≡ held 0). inl (e ∙ ap held (sym role.0))) (subst (λ y. Agrees y x) (role.4 q) a)) r.follows);
         each_seat = subst (λ (x : ℕ × ℕ). (j : ℕ) (u : View T) → get_elem? (set s.views id v') j ≡ some u → Knows mark label s.words x.0 r.head r.tail holders' marks' z x.1 j u) (λ i. (sym long i, sym count i))
             (λ j u e. ⊎_elim
             (λ (x : (j ≡ id) × (v' ≡ u)). subst (λ (x : ℕ × View T). Knows mark label s.words m r.head r.tail holders' marks' z 0 x.0 x.1) (λ i. (sym x.0 i, x.1 i)) mine)
@@ -110,6 +117,7 @@ module _ {T M : Type 0} (mark : T → M) (label : T → Name) where
         each_place = λ q lt. record { lies = slots q (omega arith); rings = bells q; queued = tt };
         blank = λ q _. bells q;
         each_cell = λ c a b. absurd (omega arith);
+        follows = record { owners = no_requests; events = []; run = refl; places = λ _ _. inl refl; queue = refl };
         each_seat = first m ws;
         live = λ q j lt e. cc;
       }

@@ -1,4 +1,5 @@
 -- The store of the tail: it puts a place at the end of the queue.
+use Rattle.zy_shuffle.proofs.FollowLemmas.{follows_publish}
 use Rattle.std.proofs.Common.{◌≡◌, ◌≢◌, ℕ, ◌+◌, ◌/◌, ◌%◌, ◌<◌, ◌≤◌, List, ◌∷◌, length, set, true, true≢false, refl, sym, ap, ◌∙◌, subst, arith, length-set, get_or-set_other, get_or-set_same}
 use Rattle.std.specs.Prelude as std
 use mathlib.Core.Option.{some}
@@ -10,7 +11,8 @@ use Rattle.atomic_table.proofs.Lists.{set_here, set_else}
 use Rattle.zy_shuffle.proofs.HandLemmas.{marked_else, marked_here}
 use Rattle.zy_shuffle.proofs.MoveLemmas.{moved, note_else, rung_else}
 use Rattle.zy_shuffle.specs.Hand.{marked, rest_of}
-use Rattle.zy_shuffle.specs.ShuffleRule.{Holder, IsRole, ShuffleRule, at_bell, bell, core_count, cores, in_hand, in_queue, nobody, weight}
+use Rattle.zy_shuffle.specs.Holder.{Holder, at_bell, bell, core_count, cores, in_hand, in_queue, nobody, weight}
+use Rattle.zy_shuffle.specs.ShuffleRule.{IsRole, ShuffleRule}
 use Rattle.zy_shuffle.specs.Step.{IsActive, published, publishing, with_published}
 use Rattle.zy_shuffle.specs.Word.{bell_at, cell}
 use Rattle.zy_shuffle.specs.declared.ring.view.Role.TheVariants.{Home}
@@ -97,6 +99,7 @@ module _ {T M : Type 0} (mark : T → M) (label : T → Name) where
               λ q lt. at_put r.holders p (in_queue r.tail) (λ a b. b ≡ nobody → ⊥) q (λ e. cc) (λ _. home.7 q lt),
             );
           };
+          follows = follows_publish s.words ws' m r.head r.tail p r.holders ordered near (mine.1 ∙ ap in_hand home.0) (λ k _ _. cells k) stored r.follows;
           live_here = λ j e. cc;
           live_else = λ q ne e. sym (in_cons p q ks ne) ∙ sym (ap (is_in q) front) ∙ e;
         },

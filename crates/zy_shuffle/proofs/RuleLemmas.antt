@@ -7,7 +7,8 @@ use Rattle.zy_table.specs.Member.{is_in}
 use Rattle.zy_table.proofs.SumLemmas.{sum_bound}
 use Rattle.zy_shuffle.specs.declared.ring.view.View.{View}
 use Rattle.zy_shuffle.specs.Word.{cell, bell_at}
-use Rattle.zy_shuffle.specs.ShuffleRule.{RingState, in_queue, weight, bell, ShuffleRule}
+use Rattle.zy_shuffle.specs.Holder.{in_queue, weight, bell}
+use Rattle.zy_shuffle.specs.ShuffleRule.{RingState, ShuffleRule}
 use Rattle.zy_shuffle.proofs.LookLemmas.{light}
 
 module _ {T M : Type 0} (mark : T → M) (label : T → Name) (s : RingState T) (r : ShuffleRule mark label s) where

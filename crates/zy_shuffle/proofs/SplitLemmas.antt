@@ -8,7 +8,8 @@ use lib.ListN.{get_elem?}
 use Rattle.atomic_table.specs.Table.{Splits, Joins}
 use Rattle.atomic_table.proofs.Lists.{at_set, set_here, set_else, at_longer}
 use Rattle.zy_shuffle.proofs.HandLemmas.{cores_set, cores_snoc}
-use Rattle.zy_shuffle.specs.ShuffleRule.{Holder, IsRole, Knows, ShuffleRule, core_count, cores}
+use Rattle.zy_shuffle.specs.Holder.{Holder, core_count, cores}
+use Rattle.zy_shuffle.specs.ShuffleRule.{IsRole, Knows, ShuffleRule}
 use Rattle.zy_shuffle.specs.Step.{newcomer, one_less, one_more, splitting, taken_in}
 use Rattle.zy_shuffle.specs.View.{spent}
 use Rattle.zy_shuffle.specs.declared.ring.view.Role.{Role}
@@ -59,14 +60,14 @@ module _ {T M : Type 0} (mark : T → M) (label : T → Name) where
         note = k.note;
         role = subst (λ x. IsRole mark label s.words m r.head r.tail r.holders r.marks r.name (cores s.views + 1) id v.hand v.label v.kept x) (sym role') (home.0, home.1, home.2, ap (λ x. x + 1) home.3, home.4, home.5, home.6, home.7);
       } in
-      let new : (j : ℕ) → Knows mark label s.words m r.head r.tail r.holders r.marks r.name (cores s.views + 1) j right = λ j. record {
+      let new : (j : ℕ) → (j ≡ 0 → ⊥) → Knows mark label s.words m r.head r.tail r.holders r.marks r.name (cores s.views + 1) j right = λ j other. record {
         hand = λ q e. absurd (true≢false (sym e));
         apart = tt;
         same = λ q e. absurd (true≢false (sym e));
         head_seen = omega arith;
         tail_seen = omega arith;
         note = tt;
-        role = home.1;
+        role = (home.1, other);
       } in record {
         head = r.head;
         tail = r.tail;
@@ -81,13 +82,14 @@ module _ {T M : Type 0} (mark : T → M) (label : T → Name) where
         each_place = r.each_place;
         blank = r.blank;
         each_cell = r.each_cell;
+        follows = r.follows;
         each_seat = subst (λ (c : ℕ). (j : ℕ) (u : View T) → get_elem? (views' ++ right ∷ []) j ≡ some u → Knows mark label s.words m r.head r.tail r.holders r.marks r.name c j u) (sym count)
             (λ j u e. ⊎_elim
             (λ (old : get_elem? views' j ≡ some u). ⊎_elim
             (λ (x : (j ≡ id) × (left ≡ u)). subst (λ (x : ℕ × View T). Knows mark label s.words m r.head r.tail r.holders r.marks r.name (cores s.views + 1) x.0 x.1) (λ i. (sym x.0 i, x.1 i)) mine)
             (λ (x : (j ≢ id) × (get_elem? s.views j ≡ some u)). counted s.words m r.head r.tail r.holders r.marks r.name (cores s.views) (cores s.views + 1) j u (λ f. x.0 (f ∙ sym home.0)) (r.each_seat j u x.1))
             (at_set s.views id j left u old))
-            (λ (x : (j ≡ length views') × (right ≡ u)). subst (λ (y : View T). Knows mark label s.words m r.head r.tail r.holders r.marks r.name (cores s.views + 1) j y) x.1 (new j))
+            (λ (x : (j ≡ length views') × (right ≡ u)). subst (λ (y : View T). Knows mark label s.words m r.head r.tail r.holders r.marks r.name (cores s.views + 1) j y) x.1 (new j (λ z. let first = at_below s.views id v at in let last = x.0 in omega arith)))
             (at_end views' right u j e));
         live = λ q j lt e. let old = r.live q j lt e in dite (ℕ_discrete j id)
             (λ is. let same : v ≡ old.0 = some-injective _ _ (sym at ∙ ap (get_elem? s.views) (sym is) ∙ old.1) in
@@ -143,6 +145,7 @@ module _ {T M : Type 0} (mark : T → M) (label : T → Name) where
         each_place = r.each_place;
         blank = r.blank;
         each_cell = r.each_cell;
+        follows = r.follows;
         each_seat = λ j u e. ⊎_elim
             (λ (x : (j ≡ other) × (spent ≡ u)). subst (λ (y : View T). Knows mark label s.words m r.head r.tail r.holders r.marks r.name (cores views') j y) x.1 (gone j))
             (λ (x : (j ≢ other) × (get_elem? views1 j ≡ some u)). ⊎_elim

@@ -1,4 +1,5 @@
 -- The exchange of the head: it takes the first place of the queue.
+use Rattle.zy_shuffle.proofs.FollowLemmas.{follows_claim}
 use Rattle.std.proofs.Common.{◌≡◌, ◌≢◌, ℕ, ◌+◌, ◌/◌, ◌%◌, ◌<◌, List, ◌∷◌, length, get_or, set, eqb, true, false, true≢false, refl, sym, ap, ◌∙◌, subst, ⊎_elim, arith, length-set, get_or-set_other, get_or-set_same}
 use Rattle.std.specs.Prelude as std
 use mathlib.Core.Option.{none}
@@ -12,7 +13,8 @@ use Rattle.zy_shuffle.proofs.HandLemmas.{marked_else, marked_here}
 use Rattle.zy_shuffle.proofs.LookLemmas.{Goes, misses}
 use Rattle.zy_shuffle.proofs.MoveLemmas.{moved, rung_else}
 use Rattle.zy_shuffle.specs.Hand.{marked}
-use Rattle.zy_shuffle.specs.ShuffleRule.{Holder, InQueue, IsNote, IsRole, IsStored, Lies, ShuffleRule, at_bell, bell, cores, in_hand, in_queue, nobody, weight}
+use Rattle.zy_shuffle.specs.Holder.{Holder, at_bell, bell, cores, in_hand, in_queue, nobody, weight}
+use Rattle.zy_shuffle.specs.ShuffleRule.{InQueue, IsNote, IsRole, IsStored, Lies, ShuffleRule}
 use Rattle.zy_shuffle.specs.Step.{IsActive, IsHome, Seated, claimed, noted_place, taking}
 use Rattle.zy_shuffle.specs.Word.{bell_at, cell}
 use Rattle.zy_shuffle.specs.declared.ring.view.Role.{Role}
@@ -33,7 +35,7 @@ module _ {T M : Type 0} (mark : T → M) (label : T → Name) where
     tag_of : (x : Role) → IsActive x → IsRole mark label ws m head tail holders marks z count j hand tag kept x → tag ≡ z
     tag_of Spent a h = absurd a
     tag_of Start a h = absurd a
-    tag_of Core a h = h
+    tag_of Core a h = h.0
     tag_of (Home t st nt out) a h = h.1
     tag_of (Closed gone) a h = absurd a
 
@@ -136,6 +138,7 @@ module _ {T M : Type 0} (mark : T → M) (label : T → Name) where
                 (λ q. at_put r.holders p (in_hand id) (λ a b. (r.holders a ≡ nobody → ⊥) → b ≡ nobody → ⊥) q (λ _ e. cc) (λ _ f. f))
                 k.role;
           };
+          follows = follows_claim s.words ws' m r.head r.tail id p r.holders before at_cell (λ k _ _. cells k) r.follows;
           live_here = λ j e. ((cc), in_front p v.hand);
           live_else = λ q ne e. in_more p q v.hand e;
         },

@@ -2,6 +2,8 @@ pub mod Ownership
 pub mod Word
 pub mod Hand
 pub mod View
+pub mod Holder
+pub mod Follow
 pub mod ShuffleRule
 pub mod OnePlace
 pub mod Step

@@ -12,54 +12,13 @@ use Rattle.zy_shuffle.specs.declared.ring.view.Role.{Role}
 use Rattle.zy_shuffle.specs.declared.ring.view.Role.TheVariants.{Spent, Start, Core, Home, Closed}
 use Rattle.zy_shuffle.specs.declared.ring.view.View.{View}
 use Rattle.zy_shuffle.specs.Hand.{marked}
+use Rattle.zy_shuffle.specs.Holder.{Holder, nobody, in_queue, in_hand, at_bell, weight, bell, IsInTable, cores}
+use Rattle.zy_shuffle.specs.Follow.{Follows}
 use Rattle.zy_shuffle.specs.Word.{cell, bell_at, bell_words}
 
 -- the words, the slots and the views of a ring's table
 abbrev pub RingState : Type 0 → Type 0
 RingState T = State (std.Option T) (View T)
-
--- ---- who has a place
-
--- nobody, before the first step of the home and after its last; the queue, as the k-th place that was published; the hand of seat j; or its doorbell
-pub data Holder : Type 0 where
-  nobody : Holder
-  in_queue : ℕ → Holder
-  in_hand : ℕ → Holder
-  at_bell : Holder
-
--- 1 where the place is in the queue
-abbrev pub weight : Holder → ℕ
-weight nobody = 0
-weight (in_queue k) = 1
-weight (in_hand j) = 0
-weight at_bell = 0
-
--- what its doorbell bit is
-abbrev pub bell : Holder → ℕ
-bell nobody = 0
-bell (in_queue k) = 0
-bell (in_hand j) = 0
-bell at_bell = 1
-
--- its block is in the table
-abbrev pub IsInTable : Holder → Type 0
-IsInTable nobody = ⊥
-IsInTable (in_queue k) = Unit {0}
-IsInTable (in_hand j) = ⊥
-IsInTable at_bell = Unit {0}
-
--- 1 for the seat of a pass that is out
-abbrev pub core_count : Role → ℕ
-core_count Spent = 0
-core_count Start = 0
-core_count Core = 1
-core_count (Home tail stored noted out) = 0
-core_count (Closed gone) = 0
-
--- how many passes are out
-abbrev pub cores : {T : Type 0} → List (View T) → ℕ
-cores [] = 0
-cores (v ∷ vs) = core_count v.role + cores vs
 
 -- ---- the queue
 
@@ -114,11 +73,11 @@ module _ {T M : Type 0} (mark : T → M) (label : T → Name) where
   -- ---- views
 
   module _ (words : List ℕ) (m head tail : ℕ) (holders : ℕ → Holder) (marks : ℕ → std.Option M) (name : Name) (count j : ℕ) (hand : List ℕ) (own_label : Name) (kept : List (ℕ × T)) where
-    -- what a seat knows by its role. Each role but a spent one and the first has the label of the ring. The home knows the tail, the passes that are out, the cell that it stored, the bits that it noted, and the mark of every place
+    -- what a seat knows by its role. Each role but a spent one and the first has the label of the ring, and the home is seat 0. The home knows the tail, the passes that are out, the cell that it stored, the bits that it noted, and the mark of every place
     abbrev pub IsRole : Role → Type 0
     IsRole Spent = hand ≡ []
     IsRole Start = (j ≡ 0) × (count ≡ 0) × (hand ≡ []) × (tail ≡ 0) × ((p : ℕ) → holders p ≡ nobody)
-    IsRole Core = own_label ≡ name
+    IsRole Core = (own_label ≡ name) × (j ≡ 0 → ⊥)
     IsRole (Home t stored noted out) = (j ≡ 0) × (own_label ≡ name) × (t ≡ tail) × (count ≡ out)
         × IsStored words head tail m stored × IsRung m holders noted
         × ((p : ℕ) → marked mark p kept ≡ marks p) × ((p : ℕ) → p < m → holders p ≡ nobody → ⊥)
@@ -171,3 +130,5 @@ module _ {T M : Type 0} (mark : T → M) (label : T → Name) where
     pub blank : (p : ℕ) → length s.homes ≤ p → bell_at s.words (length s.homes) p ≡ 0
     -- part 5, and what parts 1, 3 and 4 say of views: what each seat has seen, noted, stored and kept still holds
     pub each_seat : (j : ℕ) (v : View T) → get_elem? s.views j ≡ some v → Knows s.words (length s.homes) head tail holders marks name (cores s.views) j v
+    -- each step is an event of the ownership machine, or none: what the table shows is a state that a run of the machine reaches
+    pub follows : Follows s.words (length s.homes) head tail holders

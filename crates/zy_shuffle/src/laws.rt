@@ -44,3 +44,8 @@ pub fn no_place_is_at_two_places<T: Marked>()
     ensures hand { (s : RingState T) (r : ShuffleRule T.mark T.label s) → HandsApart s r.head r.tail }
     ensures queue { (s : RingState T) (r : ShuffleRule T.mark T.label s) → QueueApart s r.head r.tail }
 {}
+
+/// What the table shows is a state that a run of the ownership machine reaches, and so a sound one.
+pub fn the_table_shows_a_sound_state<T: Marked>()
+    ensures value { (s : RingState T) (r : ShuffleRule T.mark T.label s) → IsSound r.follows.owners }
+{}

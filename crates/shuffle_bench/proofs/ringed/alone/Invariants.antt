@@ -1,4 +1,4 @@
-use Rattle.std.proofs.Common.{◌≡◌, ◌+◌, true}
+use Rattle.std.proofs.Common.{◌≡◌, true}
 use Rattle.zy_table.specs.Member.{is_in}
 use Rattle.zy_table.specs.Name.{no_name}
 use Rattle.shuffle_bench.proofs.ringed.alone.Given as goal
