@@ -1,4 +1,5 @@
--- The checks of the words after a name, one after the other (docs/PROFILE.md, "The order of checks").
+-- The checks of the words after a name, one after the other (docs/PROFILE.md, "The order of
+-- checks").
 use Rattle.std.specs.Prelude.{◌≡◌, ℕ, Bool, true, false, List, length, None, Some}
 use Rattle.std.specs.List.{list_all}
 use Rattle.mc_parse.specs.declared.name.Name.{Name}

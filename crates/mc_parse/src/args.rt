@@ -16,7 +16,8 @@ impl<'a> Args<'a> {
     /// The words of a text; `None` exactly where it has more than six.
     pub(crate) fn of(text: &'a [u8]) -> Option<Args<'a>>
         ensures within { IfSome result (λ args. args.count ≤ 6) }
-        ensures value { MatchOption result (6 < length (words text.now)) (λ args. words_in args ≡ words text.now) }
+        ensures value { MatchOption result (6 < length (words text.now)) (λ args. words_in args
+            ≡ words text.now) }
     {
         let mut words = [&text[..0]; 6];
         let mut count = 0;

@@ -86,23 +86,26 @@ fn alone_command(alloc: Global, ask: Ask<'_>, quiet: bool) -> Result<Command, No
     })
 }
 
-// The command of a line that says this, with its block.
+// The command of a line that says this, with its block, whose bytes the copies of the value share.
 fn block_command_for(
     alloc: Global,
     line: Line<'_>,
-    block: Blob,
+    mut block: Blob,
 ) -> Result<Command, (Blob, NoMemory)>
-    ensures value { IfOk result (λ command. command ≡ block_command_for block (form_seen line.entry)) }
+    ensures value { IfOk result (λ command. command
+        ≡ block_command_for block (form_seen line.entry)) }
     ensures returned { IfErr result (λ e. e.0 ≡ block) }
 {
     match line {
         Line::Fault(line) => Ok(fault(line)),
         Line::Asks { ask, quiet } => {
-            if is_ended(&block) {
-                value_command(alloc, ask, quiet, block)
-            } else {
-                Ok(block_fault(ErrorLine::BadChunk, quiet))
+            if !is_ended(&block) {
+                return Ok(block_fault(ErrorLine::BadChunk, quiet));
             }
+            if let Err(e) = block.share() {
+                return Err((block, e));
+            }
+            value_command(alloc, ask, quiet, block)
         }
     }
 }
@@ -114,7 +117,8 @@ fn value_command(
     quiet: bool,
     block: Blob,
 ) -> Result<Command, (Blob, NoMemory)>
-    ensures value { IfOk result (λ command. command ≡ value_command (ask_seen ask.entry) quiet (value_of block)) }
+    ensures value { IfOk result (λ command. command
+        ≡ value_command (ask_seen ask.entry) quiet (value_of block)) }
     ensures returned { IfErr result (λ e. e.0 ≡ block) }
 {
     match ask {

@@ -77,7 +77,8 @@ fn read_few(name: Name, text: &[u8]) -> Line<'_>
 // So many words as may follow the name, noreply left out.
 fn read_with<'a>(name: Name, words: &[&'a [u8]], quiet: bool) -> Line<'a>
     requires few { HasFew name }
-    ensures value { form_seen result ≡ form_with name (record { words = texts words.now; quiet = quiet }) }
+    ensures value { form_seen result
+        ≡ form_with name (record { words = texts words.now; quiet = quiet }) }
 {
     if has_long_key(name, words) {
         return Line::Fault(ErrorLine::BadLine);

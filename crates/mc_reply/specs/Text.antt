@@ -1,4 +1,5 @@
--- The text that answers a command with its replies (docs/PROFILE.md, "Answers"; memcached's protocol.txt).
+-- The text that answers a command with its replies (docs/PROFILE.md, "Answers"; memcached's
+-- protocol.txt).
 use Rattle.std.specs.Prelude.{ℕ, Bool, true, false, if◌then◌else◌, List, [], ◌∷◌, ◌++◌, length, codes, decimal}
 use Rattle.zy_base.specs.declared.call_reply.CallReply.{CallReply}
 use Rattle.zy_base.specs.declared.call_reply.CallReply.TheVariants.{Miss, Hit, Stored, NotStored, Exists, NotFound, Deleted, Number, NotNumber, TooLarge, Flushed}

@@ -1,4 +1,5 @@
-//! What no clause says: that texts are appended where memory is ample, and that nothing is where it is refused.
+//! What no clause says: that texts are appended where memory is ample, and that nothing is where it
+//! is refused.
 ghost use Rattle.std.specs.Prelude.{◌≡◌, [], ◌∷◌, ◌++◌, IfOk};
 ghost use Rattle.mc_reply.specs.Answers.{AnswerCommand};
 
@@ -30,8 +31,8 @@ fn with_key(alloc: Global, mut keys: Keys, key: &[u8]) -> Result<Keys, NoMemory>
     }
 }
 
-// A command with its replies is answered with this behind what stood there; where memory is refused only that stands
-// there, and it is answered once more.
+// A command with its replies is answered with this behind what stood there; where memory is refused
+// only that stands there, and it is answered once more.
 fn says(
     rt: &impl Abort,
     alloc: Global,

@@ -12,8 +12,8 @@ use crate::lines::{END, LINE_END};
 use mc_parse::Command;
 use zy_base::{Blob, CallReply, NoMemory, Replies, Reserved, number_text};
 
-/// Appends the text of a command with its replies: nothing, where it asks for no answer. Want of memory
-/// is free.
+/// Appends the text of a command with its replies: nothing, where it asks for no answer. Want of
+/// memory is free.
 #[tactic(auto, unfolding(crate::specs::Text::text))]
 pub fn reply_text(out: &mut Blob, command: &Command, replies: &Replies) -> Result<(), NoMemory>
     requires answers { AnswerCommand command.now replies.now }
@@ -66,7 +66,8 @@ fn append_items(
     replies: &[CallReply],
 ) -> Result<(), NoMemory>
     requires same { length keys.now ≡ length replies.now }
-    ensures ok { OnOk result (out.new ≡ out.old ++ (items_text asked keys.now replies.now ++ line (codes "END"))) }
+    ensures ok { OnOk result (out.new
+        ≡ out.old ++ (items_text asked keys.now replies.now ++ line (codes "END"))) }
     ensures err { OnErr result (out.new ≡ out.old) }
 {
     let Some(items) = items_length(asked, keys, replies) else {

@@ -4,7 +4,8 @@ use Rattle.std.specs.Prelude.{◌≡◌, ℕ, ◌+◌, ◌-◌, ◌<◌, ◌≤�
 -- the texts that end at these places, of which the first begins at a place
 abbrev pub texts_from : List ℕ → ℕ → List ℕ → List (List ℕ)
 texts_from bytes start [] = []
-texts_from bytes start (end ∷ ends) = take (end - start) (drop start bytes) ∷ texts_from bytes end ends
+texts_from bytes start (end ∷ ends) =
+    take (end - start) (drop start bytes) ∷ texts_from bytes end ends
 
 -- places do not fall from one to another, at which they end
 abbrev pub Rise : ℕ → List ℕ → ℕ → Type 0

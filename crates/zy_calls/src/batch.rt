@@ -7,8 +7,8 @@ use std::alloc::Global;
 use std::marker::Model;
 use zy_base::{Blob, NoMemory};
 
-/// The texts that a hold sends, and how many commands of the connection are finished after it. Contracts
-/// see it as the list of its texts and that number.
+/// The texts that a hold sends, and how many commands of the connection are finished after it.
+/// Contracts see it as the list of its texts and that number.
 #[derive(Debug, Drop)]
 pub struct Batch {
     pub(crate) texts: Texts,

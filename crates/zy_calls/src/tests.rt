@@ -1,4 +1,5 @@
-//! What no clause says: that batches are carried out where memory is ample, and left as they were where it is not.
+//! What no clause says: that batches are carried out where memory is ample, and left as they were
+//! where it is not.
 use crate::{Batch, Output};
 use std::alloc::Global;
 use std::process::Abort;
@@ -15,7 +16,8 @@ fn batch_of(alloc: Global, texts: &[&[u8]], finished: u64) -> Result<Batch, NoMe
     Ok(batch)
 }
 
-// Carries a batch out; where memory is refused, output and batch must be as they were, and then once more.
+// Carries a batch out; where memory is refused, output and batch must be as they were, and then
+// once more.
 fn carry_out(rt: &impl Abort, output: &mut Output, batch: Batch) -> Result<(), NoMemory> {
     let length = output.bytes().len();
     let count = batch.count();

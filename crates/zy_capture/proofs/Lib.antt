@@ -18,3 +18,4 @@ pub mod BegunLemmas
 pub mod SoFarLemmas
 pub mod RepliesSoFarLemmas
 pub mod AddLemmas
+pub mod TellLemmas

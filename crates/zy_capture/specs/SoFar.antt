@@ -1,6 +1,8 @@
--- What a text has given so far, where it has no fault and gave something.
-use Rattle.std.specs.Prelude.{◌≡◌, ℕ, ◌*◌, ◌^◌, ◌<◌, ◌≤◌, List, length, Some}
-use Rattle.zy_capture.specs.Capture.{IsCapture}
+-- What a text has told and given so far: its version and its count, and what it gave where it has no fault and gave
+-- something.
+use Rattle.std.specs.Prelude.{◌≡◌, ◌⊎◌, ℕ, ◌*◌, ◌^◌, ◌<◌, ◌≤◌, List, ◌++◌, length, Some}
+use Rattle.std.specs.Int.{to_be_bytes, w32}
+use Rattle.zy_capture.specs.Capture.{magic, connection_limit, IsCapture}
 use Rattle.zy_capture.specs.Streams.{closes}
 use Rattle.zy_capture.specs.Verdict.{version_of, count_of, records_of}
 use Rattle.zy_capture.specs.Replies.{IsRepliesFile}
@@ -16,6 +18,20 @@ pub record IsCaptureSoFar (text : List ℕ) : Type 0 where
   -- five bytes were spent on each close
   pub spent : (conn : ℕ) → 5 * closes conn (records_of text) ≤ length text
   pub few : (conn : ℕ) → closes conn (records_of text) < 2 ^ 31
+
+-- the text begins with the magic of a version
+pub record BeginsWithMagic (text : List ℕ) (version : ℕ) : Type 0 where
+  pub rest : List ℕ
+  pub known : (version ≡ 1) ⊎ (version ≡ 2)
+  pub whole : text ≡ magic version ++ rest
+
+-- the text begins with a magic and this count, which is not too large
+pub record BeginsWithCount (text : List ℕ) (count : ℕ) : Type 0 where
+  pub version : ℕ
+  pub rest : List ℕ
+  pub known : (version ≡ 1) ⊎ (version ≡ 2)
+  pub few : count ≤ connection_limit
+  pub whole : text ≡ magic version ++ (to_be_bytes w32 count ++ rest)
 
 -- the version was told, and the outputs are those of a replies file
 pub record IsRepliesSoFar (text : List ℕ) : Type 0 where

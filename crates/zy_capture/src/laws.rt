@@ -8,7 +8,7 @@ ghost use Rattle.zy_capture.specs.declared.capture_fault.CaptureFault.{CaptureFa
 ghost use Rattle.zy_capture.specs.declared.session_bytes.SessionBytes.{SessionBytes};
 ghost use Rattle.zy_capture.specs.Capture.{AreBytes, Spells};
 ghost use Rattle.zy_capture.specs.Faults.{HasFault};
-ghost use Rattle.zy_capture.specs.SoFar.{IsCaptureSoFar, IsRepliesSoFar};
+ghost use Rattle.zy_capture.specs.SoFar.{BeginsWithMagic, BeginsWithCount, IsCaptureSoFar, IsRepliesSoFar};
 ghost use Rattle.zy_capture.specs.Steps.{Progress};
 ghost use Rattle.zy_capture.specs.Verdict.{captures, verdict, fault_of, version_of, count_of, records_of};
 ghost use Rattle.zy_capture.specs.Verdict.Verdict.{Good, Bad};
@@ -43,6 +43,15 @@ pub fn a_good_capture_tells_its_parts()
         → verdict text ≡ Good version count items → count_of text ≡ Some count }
     ensures records { (text : List ℕ) (version count : ℕ) (items : List Record) → AreBytes text
         → verdict text ≡ Good version count items → records_of text ≡ items }
+{}
+
+/// The version that a text tells is that of the magic with which it begins, and none where it begins
+/// with none. Where it begins with a magic and a count that is not too large, the count is told.
+pub fn the_version_and_the_count_are_told()
+    ensures version { (text : List ℕ) (version : ℕ)
+        → version_of text ≡ Some version ↔ BeginsWithMagic text version }
+    ensures count { (text : List ℕ) (count : ℕ)
+        → BeginsWithCount text count → count_of text ≡ Some count }
 {}
 
 /// The records of a text without a fault so far are those of a capture whose version and count were

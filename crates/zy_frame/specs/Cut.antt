@@ -13,7 +13,8 @@ abbrev pub joined : List (List ℕ) → List ℕ
 joined [] = []
 joined (piece ∷ pieces) = piece ++ joined pieces
 
--- the stream is the pieces and then the rest, every piece is a frame text, and the rest begins with none
+-- the stream is the pieces and then the rest, every piece is a frame text, and the rest begins with
+-- none
 pub record Splits (stream : List ℕ) (pieces : List (List ℕ)) (rest : List ℕ) : Type 0 where
   pub whole : stream ≡ joined pieces ++ rest
   pub each : AllByRecursion IsFrameText pieces
@@ -50,14 +51,16 @@ pub record Cut : Type 0 where
 -- the piece is cut off, and the rest is cut; with no piece the stream is the rest
 abbrev pub cut_after : (List ℕ → Cut) → List ℕ → Option Piece → Cut
 cut_after cut stream None = record { pieces = []; rest = stream }
-cut_after cut stream (Some piece) = record { pieces = piece.text ∷ (cut piece.rest).pieces; rest = (cut piece.rest).rest }
+cut_after cut stream (Some piece) =
+    record { pieces = piece.text ∷ (cut piece.rest).pieces; rest = (cut piece.rest).rest }
 
 -- at most so many frame texts are cut off
 abbrev pub cut_within : ℕ → List ℕ → Cut
 cut_within zero stream = record { pieces = []; rest = stream }
 cut_within (suc count) stream = cut_after (cut_within count) stream (first_piece stream)
 
--- frame texts are cut off while the stream begins with one: each takes a byte, so no more than the stream has bytes
+-- frame texts are cut off while the stream begins with one: each takes a byte, so no more than the
+-- stream has bytes
 unfoldable pub cut_of : List ℕ → Cut
 cut_of stream = cut_within (length stream) stream
 

@@ -1,4 +1,5 @@
--- Frames: which bytes of a stream make one, and what it stands for (docs/PROFILE.md, "Lines and words" and "Commands").
+-- Frames: which bytes of a stream make one, and what it stands for (docs/PROFILE.md, "Lines and
+-- words" and "Commands").
 use Rattle.std.specs.Prelude.{◌≡◌, ℕ, ◌+◌, ◌<◌, nat_lt, if◌then◌else◌, List, [], ◌∷◌, ◌++◌, length, Option, None, Some, MatchOption}
 use Rattle.zy_base.specs.Shard.{value_limit}
 use Rattle.mc_parse.specs.declared.need.Need.{Need}
@@ -13,19 +14,22 @@ use Rattle.zy_frame.specs.Line.{Ended, IsShort, first_line, chomped, line_feed}
 
 -- ---- frame texts
 
--- how many bytes after its line feed belong to the frame of a line with this need; nothing where it has no frame
+-- how many bytes after its line feed belong to the frame of a line with this need; nothing where it
+-- has no frame
 abbrev pub tail_by : Need → Option ℕ
 tail_by Needs.Nothing = Some 0
 tail_by (Needs.Block bytes) = Some (bytes + 2)
 tail_by Needs.Quit = None
 
--- how many bytes after its line feed belong to a line's frame: none to that of a line that is too long, and a quit line has no frame
+-- how many bytes after its line feed belong to a line's frame: none to that of a line that is too
+-- long, and a quit line has no frame
 abbrev pub tail_length : List ℕ → Option ℕ
 tail_length line = if nat_lt line_limit (length line) then Some 0 else tail_by (need (chomped line))
 
 -- a first line, its line feed, and after it exactly the bytes that belong to the line's frame
 abbrev pub IsFrameText : List ℕ → Type 0
-IsFrameText text = MatchOption (first_line text) ⊥ (λ ended. tail_length ended.line ≡ Some (length ended.after))
+IsFrameText text =
+    MatchOption (first_line text) ⊥ (λ ended. tail_length ended.line ≡ Some (length ended.after))
 
 -- a line that ends the connection
 pub record IsQuitLine (line : List ℕ) : Type 0 where
@@ -60,15 +64,19 @@ pub record IsBlockText (text : List ℕ) : Type 0 where
 
 -- ---- the frame of a frame text
 
--- the frame of a line with this need, its carriage return dropped, and of the bytes after its line feed; a quit line has none, which any value may stand for
+-- the frame of a line with this need, its carriage return dropped, and of the bytes after its line
+-- feed; a quit line has none, which any value may stand for
 abbrev pub frame_by : Need → List ℕ → List ℕ → FrameKind
 frame_by Needs.Nothing line after = Line line
-frame_by (Needs.Block bytes) line after = if nat_lt value_limit bytes then Large line else Block line after
+frame_by (Needs.Block bytes) line after =
+    if nat_lt value_limit bytes then Large line else Block line after
 frame_by Needs.Quit line after = Long
 
 -- the frame of a line and of the bytes after its line feed
 abbrev pub frame_at : List ℕ → List ℕ → FrameKind
-frame_at line after = if nat_lt line_limit (length line) then Long else frame_by (need (chomped line)) (chomped line) after
+frame_at line after = if nat_lt line_limit (length line)
+    then Long
+    else frame_by (need (chomped line)) (chomped line) after
 
 -- the frame of a line, where it has ended
 abbrev pub frame_in : Option Ended → FrameKind

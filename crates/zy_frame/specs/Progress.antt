@@ -11,7 +11,8 @@ use Rattle.zy_frame.specs.Cut.{frames_of, meets_quit}
 -- ---- what a framer is in the middle of
 
 -- a storage line whose block is to come: the line with the carriage return at its end, where it
--- has one, the size of the value that it announces, and how many bytes of its block are still to come
+-- has one, the size of the value that it announces, and how many bytes of its block are still to
+-- come
 pub record Awaited : Type 0 where
   pub line : List ℕ
   pub size : ℕ

@@ -1,4 +1,5 @@
--- How a framer's state is seen, and what a step from one to another does. No public clause cites this module.
+-- How a framer's state is seen, and what a step from one to another does. No public clause cites
+-- this module.
 use Rattle.std.specs.Prelude.{◌≡◌, ℕ, ◌+◌, ◌<◌, ◌≤◌, nat_lt, if◌then◌else◌, List, [], ◌∷◌, ◌++◌, length, drop, option_to_list, Result, Ok, Err}
 use Rattle.zy_base.specs.Shard.{value_limit}
 use Rattle.zy_base.specs.declared.outside.NoMemory.{NoMemory}

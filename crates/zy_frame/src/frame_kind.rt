@@ -3,7 +3,8 @@ ghost use Rattle.std.specs.Prelude.{◌≡◌, IfOk};
 
 use zy_base::{Blob, NoMemory};
 
-/// What a frame is. A line stands without its line feed and without one carriage return before that.
+/// What a frame is. A line stands without its line feed and without one carriage return before
+/// that.
 #[derive(Debug, PartialEq, Eq, Drop)]
 pub enum FrameKind {
     /// A line that takes no block.

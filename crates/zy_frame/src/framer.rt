@@ -47,15 +47,17 @@ impl Framer {
         }
     }
 
-    /// Takes the next piece of the stream, and appends the frames that the stream now has beyond those
-    /// that it had.
+    /// Takes the next piece of the stream, and appends the frames that the stream now has beyond
+    /// those that it had.
     ///
-    /// Want of memory is free. After it the first of those frames were appended, and every later call
-    /// answers it and appends nothing.
+    /// Want of memory is free. After it the first of those frames were appended, and every later
+    /// call answers it and appends nothing.
     pub fn feed(&mut self, piece: &[u8], frames: &mut Frames) -> Result<(), NoMemory>
         // For every stream that may have brought the framer here.
-        ensures fed { OnOk result ((fed : List ℕ) → StandsFor self.old fed → StandsFor self.new (fed ++ piece.now)) }
-        ensures due { OnOk result ((fed : List ℕ) → StandsFor self.old fed → Appends fed piece.now frames.old frames.new) }
+        ensures fed { OnOk result ((fed : List ℕ) → StandsFor self.old fed
+            → StandsFor self.new (fed ++ piece.now)) }
+        ensures due { OnOk result ((fed : List ℕ) → StandsFor self.old fed
+            → Appends fed piece.now frames.old frames.new) }
 
         // Behind a quit line.
         ensures quit { IsQuit self.old → result ≡ Ok tt }
@@ -63,7 +65,8 @@ impl Framer {
         ensures none { IsQuit self.old → frames.new ≡ frames.old }
 
         // When memory was wanted, and after that.
-        ensures first { OnErr result ((fed : List ℕ) → StandsFor self.old fed → AppendsFirst fed piece.now frames.old frames.new) }
+        ensures first { OnErr result ((fed : List ℕ) → StandsFor self.old fed
+            → AppendsFirst fed piece.now frames.old frames.new) }
         ensures refused { OnErr result (IsRefused self.new) }
         ensures stays { IsRefused self.old → IsErr result }
         ensures kept { IsRefused self.old → frames.new ≡ frames.old }

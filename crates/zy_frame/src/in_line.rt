@@ -67,7 +67,8 @@ fn grow_line(mut kept: Blob, bytes: &[u8]) -> Result<Step, NoMemory>
 fn end_line(alloc: Global, mut kept: Blob, bytes: &[u8], at: usize) -> Result<Step, NoMemory>
     requires short { IsShort kept }
     requires within { at < length bytes.now }
-    requires ends { first_line bytes.now ≡ Some (record { line = take at bytes.now; after = drop (at + 1) bytes.now }) }
+    requires ends { first_line bytes.now
+        ≡ Some (record { line = take at bytes.now; after = drop (at + 1) bytes.now }) }
     ensures value { IfOk result (λ step. Goes (Line kept) bytes.now step) }
 {
     let taken = at + 1;

@@ -63,8 +63,10 @@ pub fn the_empty_stream_has_no_frame()
 
 /// No frame comes after a quit line.
 pub fn no_frame_comes_after_quit()
-    ensures frames { (stream more : List ℕ) → meets_quit stream ≡ true → frames_of (stream ++ more) ≡ frames_of stream }
-    ensures quit { (stream more : List ℕ) → meets_quit stream ≡ true → meets_quit (stream ++ more) ≡ true }
+    ensures frames { (stream more : List ℕ) → meets_quit stream ≡ true
+        → frames_of (stream ++ more) ≡ frames_of stream }
+    ensures quit { (stream more : List ℕ) → meets_quit stream ≡ true
+        → meets_quit (stream ++ more) ≡ true }
 {}
 
 /// The frames of a stream are those of the pieces of its cut.
@@ -91,18 +93,24 @@ pub fn commands_of_a_prefix_come_first()
 /// However a stream is cut into pieces, what all of them give together are its frames.
 #[tactic(auto, using(crate::proofs::CutLaws::given_by_all))]
 pub fn pieces_give_the_frames_of_the_stream()
-    ensures law { (pieces : List Fed) → GivesEach [] pieces → fed_frames pieces ≡ frames_of (fed_bytes pieces) }
+    ensures law { (pieces : List Fed) → GivesEach [] pieces
+        → fed_frames pieces ≡ frames_of (fed_bytes pieces) }
 {}
 
-/// A frame text is a line that is too long, a line that takes no block, or a storage line with its block.
+/// A frame text is a line that is too long, a line that takes no block, or a storage line with its
+/// block.
 pub fn frame_texts_are_of_three_kinds()
-    ensures law { (text : List ℕ) → IsFrameText text ↔ (IsLongText text ⊎ IsLineText text ⊎ IsBlockText text) }
+    ensures law { (text : List ℕ)
+        → IsFrameText text ↔ (IsLongText text ⊎ IsLineText text ⊎ IsBlockText text) }
 {}
 
 /// The frame of each kind of frame text.
 pub fn each_kind_of_frame_text_has_its_frame()
     ensures long { (text : List ℕ) (t : IsLongText text) → frame_of text ≡ Kinds.Long }
-    ensures line { (text : List ℕ) (t : IsLineText text) → frame_of text ≡ Kinds.Line (chomped t.line) }
-    ensures block { (text : List ℕ) (t : IsBlockText text) → t.size ≤ value_limit → frame_of text ≡ Kinds.Block (chomped t.line) t.block }
-    ensures large { (text : List ℕ) (t : IsBlockText text) → value_limit < t.size → frame_of text ≡ Kinds.Large (chomped t.line) }
+    ensures line { (text : List ℕ) (t : IsLineText text)
+        → frame_of text ≡ Kinds.Line (chomped t.line) }
+    ensures block { (text : List ℕ) (t : IsBlockText text) → t.size ≤ value_limit
+        → frame_of text ≡ Kinds.Block (chomped t.line) t.block }
+    ensures large { (text : List ℕ) (t : IsBlockText text) → value_limit < t.size
+        → frame_of text ≡ Kinds.Large (chomped t.line) }
 {}

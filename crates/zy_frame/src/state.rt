@@ -2,7 +2,8 @@
 use crate::wanted::Wanted;
 use zy_base::Blob;
 
-// What a framer is in the middle of. Lines are kept with the carriage return at their end, if they have one.
+// What a framer is in the middle of. Lines are kept with the carriage return at their end, if they
+// have one.
 #[derive(Debug, Drop)]
 pub(crate) enum State {
     // A line: its bytes so far.

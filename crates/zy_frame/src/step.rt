@@ -2,7 +2,8 @@
 use crate::frame::Frame;
 use crate::state::State;
 
-// A step: how many bytes it took, the frame that they ended, and what the framer is in the middle of then.
+// A step: how many bytes it took, the frame that they ended, and what the framer is in the middle
+// of then.
 #[derive(Debug, Drop)]
 pub(crate) struct Step {
     pub(crate) state: State,

@@ -1,4 +1,5 @@
-//! What no clause says: that a plain program cuts streams in the same way, in whatever pieces they come.
+//! What no clause says: that a plain program cuts streams in the same way, in whatever pieces they
+//! come.
 mod plain;
 
 use crate::frame_kind::FrameKind;
@@ -11,7 +12,8 @@ use std::process::Abort;
 use std::test::Fail;
 use zy_base::{Blob, NoMemory};
 
-// Lines, blocks with line ends and commands in them, faulty lines, and what comes after a quit line.
+// Lines, blocks with line ends and commands in them, faulty lines, and what comes after a quit
+// line.
 const SHORT: [&[u8]; 5] = [
     b"get a\r\nset k 0 0 5\r\na\nb\r\n\r\nget b\n\r\n\n",
     b"set k 0 0 0\r\n\r\nset k 0 0 7 noreply\r\nquit\r\nx\r\nincr k 1\r",
@@ -81,7 +83,8 @@ fn short_streams_cut_at_every_pair_of_places_give_the_frames_of_the_whole(
     Ok(())
 }
 
-// A stream of one text, cut at pairs of places near its ends and byte by byte, gives this many frames.
+// A stream of one text, cut at pairs of places near its ends and byte by byte, gives this many
+// frames.
 fn gives(
     rt: &impl Abort,
     alloc: Global,
@@ -163,8 +166,8 @@ fn a_frame_without_its_end_is_none(rt: HostRuntime) -> Result<(), Fail> {
     Ok(())
 }
 
-// A whole stream gives these frames; where memory is refused on the way, it gives the first of them, and from then on
-// no more.
+// A whole stream gives these frames; where memory is refused on the way, it gives the first of
+// them, and from then on no more.
 fn gives_first(alloc: Global, stream: &[u8], kinds: &[FrameKind]) -> bool {
     let mut framer = Framer::new(alloc);
     let mut frames = Frames::new(alloc);
@@ -228,7 +231,8 @@ fn nothing_comes_after_quit(rt: HostRuntime) -> Result<(), Fail> {
     Ok(())
 }
 
-// The command of a frame; where memory is refused, that of the frame that was handed back, which is the same.
+// The command of a frame; where memory is refused, that of the frame that was handed back, which is
+// the same.
 fn meaning_again(rt: &impl Abort, alloc: Global, frame: Frame) -> Result<Command, NoMemory> {
     let copy = frame.copy()?;
     match meaning(alloc, frame) {

@@ -1,7 +1,8 @@
 //! A block that is still to come.
 use zy_base::Blob;
 
-// A storage line, the size of the value that it announces, and how many bytes of its block are still to come.
+// A storage line, the size of the value that it announces, and how many bytes of its block are
+// still to come.
 #[derive(Debug, Drop)]
 pub(crate) struct Wanted {
     pub(crate) line: Blob,

@@ -4,7 +4,7 @@ use Rattle.std.specs.Prelude.{◌==◌, filter, map, Option, None, Some, option_
 use Rattle.std.proofs.lemmas.List.{append-nil, take_more, take_all, take-append-drop, length-set, get_or-set_same, get_or-set_other}
 use Rattle.std.proofs.lemmas.Bool.Decides.{nat_tests, eqb_tells}
 use Rattle.zy_base.specs.declared.entry.Entry.{Entry}
-use Rattle.zy_base.specs.Order.{at_shard, history_of, IsBefore, IsOrdered, IsMergeOf}
+use Rattle.zy_base.specs.Order.{at_shard, history_of, StampsRise, IsBefore, IsOrdered, IsMergeOf}
 use Rattle.zy_journal.specs.declared.turn.Turn.{Turn}
 use Rattle.zy_journal.specs.Turn.{turn_of, turns_of, AreTurnsOf, is_earlier, AreRising, AreWithin, at, turn_at, AreMoved}
 use Rattle.zy_journal.proofs.TurnLemmas.{at_append, at_first, drop_at, drop_over, within_at}
@@ -144,3 +144,13 @@ pub get_any : (hs : List (List Entry)) (i : ℕ) (x y : List Entry) → i < leng
 get_any [] i x y inside = absurd (omega (arith, inside))
 get_any (h ∷ hs) zero x y inside = refl
 get_any (h ∷ hs) (suc i) x y inside = get_any hs i x y (omega (arith, inside))
+
+-- ---- histories
+
+rising_after : (x : Entry) (es : List Entry) → StampsRise x.stamp es → IsOrdered (Some x) es
+rising_after x [] rising = tt
+rising_after x (e ∷ es) rising = (inl rising.0, rising_after e es rising.1)
+
+pub rising_ordered : (before : ℕ) (es : List Entry) → StampsRise before es → IsOrdered None es
+rising_ordered before [] rising = tt
+rising_ordered before (e ∷ es) rising = (tt, rising_after e es rising.1)

@@ -2,10 +2,16 @@
 #![tactic(auto)]
 
 mod journal;
+mod laws;
 mod merging;
 mod rest;
+#[cfg(test)]
+mod tests;
 mod turn;
 mod turns;
+mod writing;
 
 pub use journal::Journal;
+pub use laws::{rising_histories_are_in_order, the_worked_journal_has_its_bytes};
 pub use merging::merge;
+pub use writing::write_journal;

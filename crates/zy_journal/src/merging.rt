@@ -23,11 +23,13 @@ pub fn merge(histories: Histories, holds: Holds) -> Result<Journal, (Histories, 
 {
     let lists = histories.into_vec();
     match prepared(*lists.allocator(), &lists) {
-        Ok(Plan {
-            turns,
-            rests,
-            entries,
-        }) => Ok(Journal {
+        Ok(
+            Plan {
+                turns,
+                rests,
+                entries,
+            },
+        ) => Ok(Journal {
             entries: in_turn(&turns, all_rests(lists, rests), entries),
             holds,
         }),

@@ -26,8 +26,8 @@ returns-then-not-ended_nothing-clause-lasts c =
     let before : Feeds replies c.args.self.now c.feed_run-at.new.self (take at c.args.bytes.now) [] = run_on replies c.args.self.now c.loop-at.self c.feed_run-at.new.self c.args.bytes.now c.loop-at.at c.feed_run-at.result c.loop-at.invariant.fed c.feed_run-at.ensures.fed in
     rw (c.at.ensures.taken, c.at.ensures.answer) (stop_lasts replies lasting IsOfOutput c.args.self.now c.feed_run-at.new.self c.step-answer.new.self c.args.bytes.now at c.step-answer.result c.feed_run-at.ensures.within before c.step-answer.ensures.value)
 
-pub loop-at-preserved-else-not-ended_nothing-2 : goal.loop-at-preserved-else-not-ended_nothing-2
-loop-at-preserved-else-not-ended_nothing-2 c =
+pub loop-at-preserved-else-not-ended_nothing-4 : goal.loop-at-preserved-else-not-ended_nothing-4
+loop-at-preserved-else-not-ended_nothing-4 c =
     let at : ℕ = c.loop-at.at + c.feed_run-at.result in
     let before : Feeds replies c.args.self.now c.feed_run-at.new.self (take at c.args.bytes.now) [] = run_on replies c.args.self.now c.loop-at.self c.feed_run-at.new.self c.args.bytes.now c.loop-at.at c.feed_run-at.result c.loop-at.invariant.fed c.feed_run-at.ensures.fed in
     let none : c.step-answer.result ≡ Ok None = search rules in

@@ -1,0 +1,8 @@
+use Rattle.zy_capture.proofs.TellLemmas.{magic_told, told_magic, count_told}
+use Rattle.zy_capture.proofs.laws.the_version_and_the_count_are_told.Goals as goal
+
+pub returns : goal.returns
+returns c = record {
+  version = λ text version. (told_magic text version, magic_told text version);
+  count = count_told;
+}

@@ -1,0 +1,44 @@
+use Rattle.std.proofs.Common.{ℕ, List, ◌++◌, ◌∷◌, []}
+use Rattle.std.specs.Prelude.{Err, flat_map}
+use Rattle.zy_base.proofs.WritingLemmas.{writes_on, writes_no_more}
+use Rattle.zy_journal.specs.Journal.{magic, entry_text, hold_text, journal_bytes}
+use Rattle.zy_journal.proofs.writing.write_journal.Goals as goal
+
+pub returns-in-Err : goal.returns-in-Err
+unfolding journal_bytes
+returns-in-Err g c =
+    let entries : List ℕ = flat_map entry_text c.args.journal.now.entries in
+    let holds : List ℕ = flat_map hold_text c.args.journal.now.holds in
+    record { writes = writes_no_more g.K.Sink.holds g.K.Sink.faults c.args.sink.now c.write_whole.new.sink c.in-Err.failed magic (entries ++ (holds ++ 69 ∷ [])) c.in-Err.ensures.writes }
+
+pub returns-in-Err-write_entries : goal.returns-in-Err-write_entries
+unfolding journal_bytes
+returns-in-Err-write_entries g c =
+    let entries : List ℕ = flat_map entry_text c.args.journal.now.entries in
+    let holds : List ℕ = flat_map hold_text c.args.journal.now.holds in
+    record {
+      writes = writes_on g.K.Sink.holds g.K.Sink.faults c.args.sink.now c.write_whole.new.sink c.write_entries.new.sink (Err c.in-Err-write_entries.failed) magic (entries ++ (holds ++ 69 ∷ [])) c.in_default.ensures.writes.whole c.in_default.ensures.writes.count
+          (writes_no_more g.K.Sink.holds g.K.Sink.faults c.write_whole.new.sink c.write_entries.new.sink c.in-Err-write_entries.failed entries (holds ++ 69 ∷ []) (rw (← c.items.ensures.value) c.in-Err-write_entries.ensures.writes));
+    }
+
+pub returns-in-Err-write_holds : goal.returns-in-Err-write_holds
+unfolding journal_bytes
+returns-in-Err-write_holds g c =
+    let entries : List ℕ = flat_map entry_text c.args.journal.now.entries in
+    let holds : List ℕ = flat_map hold_text c.args.journal.now.holds in
+    record {
+      writes = writes_on g.K.Sink.holds g.K.Sink.faults c.args.sink.now c.write_whole.new.sink c.write_holds.new.sink (Err c.in-Err-write_holds.failed) magic (entries ++ (holds ++ 69 ∷ [])) c.in_default.ensures.writes.whole c.in_default.ensures.writes.count
+          (writes_on g.K.Sink.holds g.K.Sink.faults c.write_whole.new.sink c.write_entries.new.sink c.write_holds.new.sink (Err c.in-Err-write_holds.failed) entries (holds ++ 69 ∷ []) (rw (← c.items.ensures.value) c.in_default-write_entries.ensures.writes.whole) c.in_default-write_entries.ensures.writes.count
+          (writes_no_more g.K.Sink.holds g.K.Sink.faults c.write_entries.new.sink c.write_holds.new.sink c.in-Err-write_holds.failed holds (69 ∷ []) (rw (← c.items-2.ensures.value) c.in-Err-write_holds.ensures.writes)));
+    }
+
+pub returns : goal.returns
+unfolding journal_bytes
+returns g c =
+    let entries : List ℕ = flat_map entry_text c.args.journal.now.entries in
+    let holds : List ℕ = flat_map hold_text c.args.journal.now.holds in
+    record {
+      writes = writes_on g.K.Sink.holds g.K.Sink.faults c.args.sink.now c.write_whole.new.sink c.write_whole-2.new.sink c.write_whole-2.result magic (entries ++ (holds ++ 69 ∷ [])) c.in_default.ensures.writes.whole c.in_default.ensures.writes.count
+          (writes_on g.K.Sink.holds g.K.Sink.faults c.write_whole.new.sink c.write_entries.new.sink c.write_whole-2.new.sink c.write_whole-2.result entries (holds ++ 69 ∷ []) (rw (← c.items.ensures.value) c.in_default-write_entries.ensures.writes.whole) c.in_default-write_entries.ensures.writes.count
+          (writes_on g.K.Sink.holds g.K.Sink.faults c.write_entries.new.sink c.write_holds.new.sink c.write_whole-2.new.sink c.write_whole-2.result holds (69 ∷ []) (rw (← c.items-2.ensures.value) c.in_default-write_holds.ensures.writes.whole) c.in_default-write_holds.ensures.writes.count c.write_whole-2.ensures.writes));
+    }

@@ -1,0 +1,134 @@
+-- The journal format, docs/FORMATS.md, "Journal": its values, their one spelling, and which values have one.
+use Rattle.std.specs.Prelude.{◌≡◌, ◌⊎◌, ℕ, ◌+◌, ◌^◌, ◌<◌, ◌≤◌, List, [], ◌∷◌, ◌++◌, length, flat_map, codes, Option, None, Some}
+use Rattle.std.specs.List.{AllByRecursion}
+use Rattle.std.specs.Int.{to_be_bytes, w32, w64}
+use Rattle.zy_base.specs.declared.call.Call.{Call}
+use Rattle.zy_base.specs.declared.call.Call.TheVariants.{Get, Set, Add, Replace, Append, Prepend, Cas, Incr, Decr, Delete, Flush}
+use Rattle.zy_base.specs.declared.call_reply.CallReply.{CallReply}
+use Rattle.zy_base.specs.declared.call_reply.CallReply.TheVariants.{Miss, Hit, Stored, NotStored, Exists, NotFound, Deleted, Number, NotNumber, TooLarge, Flushed}
+use Rattle.zy_base.specs.declared.entry.Entry.{Entry}
+use Rattle.zy_base.specs.declared.hold.Hold.{Hold}
+use Rattle.zy_base.specs.Shard.{value_limit}
+use Rattle.zy_base.specs.Order.{IsOrdered}
+use Rattle.zy_journal.specs.declared.journal.Journal.{Journal}
+
+-- ---- spelling
+
+-- the bytes with which a journal begins
+abbrev pub magic : List ℕ
+magic = codes "ZYGJRN1\n"
+
+-- a key: its length, one byte, and its bytes
+abbrev pub key_text : List ℕ → List ℕ
+key_text key = length key ∷ key
+
+-- a value: its length, four bytes, and its bytes
+abbrev pub value_text : List ℕ → List ℕ
+value_text value = to_be_bytes w32 (length value) ++ value
+
+-- an item that is stored: the key, the flags and the value
+abbrev pub item_text : List ℕ → ℕ → List ℕ → List ℕ
+item_text key flags value = key_text key ++ (to_be_bytes w32 flags ++ value_text value)
+
+-- a call: its code and its fields
+unfoldable pub call_text : Call → List ℕ
+call_text (Get key) = 1 ∷ key_text key
+call_text (Set key flags value) = 2 ∷ item_text key flags value
+call_text (Add key flags value) = 3 ∷ item_text key flags value
+call_text (Replace key flags value) = 4 ∷ item_text key flags value
+call_text (Append key value) = 5 ∷ (key_text key ++ value_text value)
+call_text (Prepend key value) = 6 ∷ (key_text key ++ value_text value)
+call_text (Cas key flags unique value) = 7 ∷ (key_text key ++ (to_be_bytes w32 flags ++ (to_be_bytes w64 unique ++ value_text value)))
+call_text (Incr key amount) = 8 ∷ (key_text key ++ to_be_bytes w64 amount)
+call_text (Decr key amount) = 9 ∷ (key_text key ++ to_be_bytes w64 amount)
+call_text (Delete key) = 10 ∷ key_text key
+call_text Flush = 11 ∷ []
+
+-- a reply: its code and its fields
+unfoldable pub reply_text : CallReply → List ℕ
+reply_text Miss = 1 ∷ []
+reply_text (Hit flags unique value) = 2 ∷ (to_be_bytes w32 flags ++ (to_be_bytes w64 unique ++ value_text value))
+reply_text Stored = 3 ∷ []
+reply_text NotStored = 4 ∷ []
+reply_text Exists = 5 ∷ []
+reply_text NotFound = 6 ∷ []
+reply_text Deleted = 7 ∷ []
+reply_text (Number number) = 8 ∷ to_be_bytes w64 number
+reply_text NotNumber = 9 ∷ []
+reply_text TooLarge = 10 ∷ []
+reply_text Flushed = 11 ∷ []
+
+-- the tag of an entry, when and where it was, and whose call it is
+unfoldable pub entry_head : Entry → List ℕ
+entry_head e =
+    74 ∷ (to_be_bytes w64 e.stamp ++ (to_be_bytes w32 e.shard ++ (to_be_bytes w32 e.tag.conn ++ (to_be_bytes w64 e.tag.index ++ to_be_bytes w32 e.tag.part))))
+
+-- an entry
+unfoldable pub entry_text : Entry → List ℕ
+entry_text e = entry_head e ++ (call_text e.call ++ reply_text e.reply)
+
+-- a hold: its tag, its connection, its core and its count
+unfoldable pub hold_text : Hold → List ℕ
+hold_text h = 72 ∷ (to_be_bytes w32 h.conn ++ (to_be_bytes w32 h.core ++ to_be_bytes w32 h.count))
+
+-- a journal: its magic, its entries, its holds and the end
+unfoldable pub journal_bytes : Journal → List ℕ
+journal_bytes journal = magic ++ (flat_map entry_text journal.entries ++ (flat_map hold_text journal.holds ++ 69 ∷ []))
+
+-- ---- validity
+
+-- a key has 1 to 250 bytes
+abbrev pub IsKey : List ℕ → Type 0
+IsKey key = (0 < length key) × (length key ≤ 250)
+
+-- a value has at most 1,048,576 bytes
+abbrev pub IsValue : List ℕ → Type 0
+IsValue value = length value ≤ value_limit
+
+-- the key and the value of a call are within their bounds
+abbrev pub IsCall : Call → Type 0
+IsCall (Get key) = IsKey key
+IsCall (Set key flags value) = IsKey key × IsValue value
+IsCall (Add key flags value) = IsKey key × IsValue value
+IsCall (Replace key flags value) = IsKey key × IsValue value
+IsCall (Append key value) = IsKey key × IsValue value
+IsCall (Prepend key value) = IsKey key × IsValue value
+IsCall (Cas key flags unique value) = IsKey key × IsValue value
+IsCall (Incr key amount) = IsKey key
+IsCall (Decr key amount) = IsKey key
+IsCall (Delete key) = IsKey key
+IsCall Flush = Unit {0}
+
+-- the value of a reply is within its bound
+abbrev pub IsReply : CallReply → Type 0
+IsReply (Hit flags unique value) = IsValue value
+IsReply reply = Unit {0}
+
+-- an entry's numbers, call and reply are within their bounds
+pub record IsEntry (e : Entry) : Type 0 where
+  pub some_stamp : 0 < e.stamp
+  pub few_stamps : e.stamp < 2 ^ 60
+  pub few_shards : e.shard < 256
+  pub few_connections : e.tag.conn < 4096
+  pub few_commands : e.tag.index < 2 ^ 40
+  pub call : IsCall e.call
+  pub reply : IsReply e.reply
+
+-- a hold's numbers are within their bounds
+pub record IsHold (h : Hold) : Type 0 where
+  pub few_connections : h.conn < 4096
+  pub few_cores : h.core < 64
+  pub some_commands : 0 < h.count
+  pub few_commands : h.count ≤ 64
+
+-- the holds stand by rising connection, from this one on
+abbrev pub AreByConnection : ℕ → List Hold → Type 0
+AreByConnection connection [] = Unit {0}
+AreByConnection connection (h ∷ hs) = (connection ≤ h.conn) × AreByConnection h.conn hs
+
+-- a journal that has a spelling
+pub record IsJournal (journal : Journal) : Type 0 where
+  pub ordered : IsOrdered None journal.entries
+  pub entries : AllByRecursion IsEntry journal.entries
+  pub rising : AreByConnection 0 journal.holds
+  pub holds : AllByRecursion IsHold journal.holds
