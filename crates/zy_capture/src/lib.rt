@@ -30,8 +30,9 @@ pub use laws::{
     how_a_capture_is_cut_does_not_matter, how_a_replies_file_is_cut_does_not_matter,
     outputs_stay_outputs, outputs_that_are_read_can_be_added, the_first_fault_of_a_capture_counts,
     the_first_fault_of_a_replies_file_counts, the_outputs_of_a_replies_file_so_far_are_lawful,
-    the_records_of_a_capture_so_far_are_lawful, the_version_and_the_count_are_told, what_is_given_depends_on_the_bytes_alone,
-    what_is_given_of_replies_depends_on_the_bytes_alone, written_replies_are_read_again,
+    the_records_of_a_capture_so_far_are_lawful, the_version_and_the_count_are_told,
+    what_is_given_depends_on_the_bytes_alone, what_is_given_of_replies_depends_on_the_bytes_alone,
+    written_replies_are_read_again,
 };
 pub use outputs::Outputs;
 pub use reader::Reader;

@@ -15,7 +15,7 @@ use crate::due::Due;
 use crate::record::Record;
 use std::alloc::Global;
 use std::marker::Model;
-use zy_read::{Fed, Field, ended_nothing};
+use zy_read::{Fed, Field, goes_on};
 
 const CAPTURE_LIMIT: u64 = 4_294_967_295;
 
@@ -102,8 +102,7 @@ impl Reader {
         let mut at = 0;
         while at < bytes.len() {
             at += self.feed_run(bytes, at);
-            let answer = self.step(bytes[at]);
-            if !ended_nothing(&answer) {
+            if let Err(answer) = goes_on(self.step(bytes[at])) {
                 return Fed::at(at, answer);
             }
             at += 1;

@@ -15,7 +15,7 @@ use crate::session_bytes::SessionBytes;
 use std::alloc::Global;
 use std::marker::Model;
 use zy_base::FileFault;
-use zy_read::{Fed, Field, FileFeed, ended_nothing};
+use zy_read::{Fed, Field, FileFeed, goes_on};
 
 const REPLIES_LIMIT: u64 = 9_223_372_036_854_775_807;
 
@@ -105,8 +105,7 @@ impl RepliesReader {
         let mut at = 0;
         while at < bytes.len() {
             at += self.feed_run(bytes, at);
-            let answer = self.step(bytes[at]);
-            if !ended_nothing(&answer) {
+            if let Err(answer) = goes_on(self.step(bytes[at])) {
                 return Fed::at(at, answer);
             }
             at += 1;

@@ -1,5 +1,5 @@
 //! What was taken of some bytes.
-ghost use Rattle.std.specs.Prelude.{◌≡◌, ◌<◌, ◌-◌, ◌^◌, ◌↔◌, true, Ok, None};
+ghost use Rattle.std.specs.Prelude.{◌≡◌, ◌<◌, ◌-◌, ◌^◌, ◌≢◌, Ok, None, OnOk, OnErr, IfErr};
 ghost use Rattle.zy_read.specs.Standing.{taken_with};
 
 use crate::not_taken::NotTaken;
@@ -34,9 +34,16 @@ impl<G: Drop, F: Drop> Fed<G, F> {
     }
 }
 
-/// Whether a byte was taken that ended nothing.
-pub fn ended_nothing<G, F>(answer: &Result<Option<G>, NotTaken<F>>) -> bool
-    ensures value { result ≡ true ↔ answer.now ≡ Ok None }
+/// `Ok` where a byte was taken that ended nothing, and else the answer.
+pub fn goes_on<G: Drop, F: Drop>(
+    answer: Result<Option<G>, NotTaken<F>>,
+) -> Result<(), Result<Option<G>, NotTaken<F>>>
+    ensures ok { OnOk result (answer ≡ Ok None) }
+    ensures returned { IfErr result (λ e. e ≡ answer) }
+    ensures none { OnErr result (answer ≢ Ok None) }
 {
-    matches!(answer, Ok(None))
+    match answer {
+        Ok(None) => Ok(()),
+        answer => Err(answer),
+    }
 }

@@ -5,6 +5,6 @@ mod fed;
 mod field;
 mod not_taken;
 
-pub use fed::{Fed, ended_nothing};
+pub use fed::{Fed, goes_on};
 pub use field::Field;
 pub use not_taken::{FileFeed, NotTaken};

@@ -1,4 +1,4 @@
-use Rattle.std.proofs.Common.{rules, ◌≡◌, ◌+◌, [], take, get_or, ℕ}
+use Rattle.std.proofs.Common.{rules, ◌≡◌, ◌+◌, List, [], length, take, get_or, ℕ}
 use Rattle.std.specs.Prelude.{Ok, None}
 use Rattle.zy_read.specs.Standing.{Feeds}
 use Rattle.zy_read.proofs.Feeding.{met_by}
@@ -8,33 +8,33 @@ use Rattle.zy_capture.specs.RepliesStanding.{IsOfOutput}
 use Rattle.zy_capture.proofs.RepliesFeeding.{lasting}
 use Rattle.zy_capture.proofs.replies_reader.RepliesReader.feed_piece.Goals as goal
 
-pub returns-then-not-ended_nothing-clause-fed : goal.returns-then-not-ended_nothing-clause-fed
-returns-then-not-ended_nothing-clause-fed c =
+pub returns-in-Err-clause-fed : goal.returns-in-Err-clause-fed
+returns-in-Err-clause-fed c =
     let at : ℕ = c.loop-at.at + c.feed_run-at.result in
     let before : Feeds replies c.args.self.now c.feed_run-at.new.self (take at c.args.bytes.now) [] = run_on replies c.args.self.now c.loop-at.self c.feed_run-at.new.self c.args.bytes.now c.loop-at.at c.feed_run-at.result c.loop-at.invariant.fed c.feed_run-at.ensures.fed in
-    rw (c.at.ensures.taken, c.at.ensures.answer) (stop_fed replies IsOfOutput c.args.self.now c.feed_run-at.new.self c.step-answer.new.self c.args.bytes.now at c.step-answer.result c.feed_run-at.ensures.within before c.step-answer.ensures.value)
+    rw (c.at.ensures.taken, c.at.ensures.answer, c.in-Err.ensures.returned) (stop_fed replies IsOfOutput c.args.self.now c.feed_run-at.new.self c.step.new.self c.args.bytes.now at c.step.result c.feed_run-at.ensures.within before c.step.ensures.value)
 
-pub returns-then-not-ended_nothing-clause-exact : goal.returns-then-not-ended_nothing-clause-exact
-returns-then-not-ended_nothing-clause-exact c =
+pub returns-in-Err-clause-exact : goal.returns-in-Err-clause-exact
+returns-in-Err-clause-exact c =
     let at : ℕ = c.loop-at.at + c.feed_run-at.result in
     let before : Feeds replies c.args.self.now c.feed_run-at.new.self (take at c.args.bytes.now) [] = run_on replies c.args.self.now c.loop-at.self c.feed_run-at.new.self c.args.bytes.now c.loop-at.at c.feed_run-at.result c.loop-at.invariant.fed c.feed_run-at.ensures.fed in
-    rw (c.at.ensures.taken, c.at.ensures.answer) (stop_told replies IsOfOutput c.args.self.now c.feed_run-at.new.self c.step-answer.new.self c.args.bytes.now at c.step-answer.result c.feed_run-at.ensures.within before c.step-answer.ensures.value)
+    rw (c.at.ensures.taken, c.at.ensures.answer, c.in-Err.ensures.returned) (stop_told replies IsOfOutput c.args.self.now c.feed_run-at.new.self c.step.new.self c.args.bytes.now at c.step.result c.feed_run-at.ensures.within before c.step.ensures.value)
 
-pub returns-then-not-ended_nothing-clause-lasts : goal.returns-then-not-ended_nothing-clause-lasts
-returns-then-not-ended_nothing-clause-lasts c =
+pub returns-in-Err-clause-lasts : goal.returns-in-Err-clause-lasts
+returns-in-Err-clause-lasts c =
     let at : ℕ = c.loop-at.at + c.feed_run-at.result in
     let before : Feeds replies c.args.self.now c.feed_run-at.new.self (take at c.args.bytes.now) [] = run_on replies c.args.self.now c.loop-at.self c.feed_run-at.new.self c.args.bytes.now c.loop-at.at c.feed_run-at.result c.loop-at.invariant.fed c.feed_run-at.ensures.fed in
-    rw (c.at.ensures.taken, c.at.ensures.answer) (stop_lasts replies lasting IsOfOutput c.args.self.now c.feed_run-at.new.self c.step-answer.new.self c.args.bytes.now at c.step-answer.result c.feed_run-at.ensures.within before c.step-answer.ensures.value)
+    rw (c.at.ensures.taken, c.at.ensures.answer, c.in-Err.ensures.returned) (stop_lasts replies lasting IsOfOutput c.args.self.now c.feed_run-at.new.self c.step.new.self c.args.bytes.now at c.step.result c.feed_run-at.ensures.within before c.step.ensures.value)
 
-pub loop-at-preserved-else-not-ended_nothing-4 : goal.loop-at-preserved-else-not-ended_nothing-4
-loop-at-preserved-else-not-ended_nothing-4 c =
+pub loop-at-preserved : goal.loop-at-preserved
+loop-at-preserved c =
     let at : ℕ = c.loop-at.at + c.feed_run-at.result in
     let before : Feeds replies c.args.self.now c.feed_run-at.new.self (take at c.args.bytes.now) [] = run_on replies c.args.self.now c.loop-at.self c.feed_run-at.new.self c.args.bytes.now c.loop-at.at c.feed_run-at.result c.loop-at.invariant.fed c.feed_run-at.ensures.fed in
-    let none : c.step-answer.result ≡ Ok None = search rules in
+    let none : c.step.result ≡ Ok None = search rules in
     record {
       within = search rules;
-      fed = goes_fed replies IsOfOutput c.args.self.now c.feed_run-at.new.self c.step-answer.new.self c.args.bytes.now at c.step-answer.result none c.feed_run-at.ensures.within before c.step-answer.ensures.value;
-      still = λ some. goes_still replies IsOfOutput c.feed_run-at.new.self c.step-answer.new.self (get_or c.args.bytes.now at 0) c.step-answer.result none c.step-answer.ensures.value;
+      fed = goes_fed replies IsOfOutput c.args.self.now c.feed_run-at.new.self c.step.new.self c.args.bytes.now at c.step.result none c.feed_run-at.ensures.within before c.step.ensures.value;
+      still = λ some. goes_still replies IsOfOutput c.feed_run-at.new.self c.step.new.self (get_or c.args.bytes.now at 0) c.step.result none c.step.ensures.value;
     }
 
 pub returns-clause-exact : goal.returns-clause-exact
