@@ -45,8 +45,9 @@ pub fn a_good_capture_tells_its_parts()
         → verdict text ≡ Good version count items → records_of text ≡ items }
 {}
 
-/// The version that a text tells is that of the magic with which it begins, and none where it begins
-/// with none. Where it begins with a magic and a count that is not too large, the count is told.
+/// The version that a text tells is that of the magic with which it begins, and none where it
+/// begins with none. Where it begins with a magic and a count that is not too large, the count is
+/// told.
 pub fn the_version_and_the_count_are_told()
     ensures version { (text : List ℕ) (version : ℕ)
         → version_of text ≡ Some version ↔ BeginsWithMagic text version }
@@ -112,7 +113,8 @@ pub fn a_further_record_is_added_last()
 /// they are those of a replies file, and it has at most 2^63 - 1 bytes.
 pub fn a_replies_file_is_good_exactly_where_it_is_a_spelling()
     ensures exactly { (text : List ℕ) (version : ℕ) (items : List SessionBytes) → AreBytes text
-        → Replies.verdict text ≡ Replies.Verdict.Good version items ↔ SpellsReplies text version items }
+        → Replies.verdict text ≡ Replies.Verdict.Good version items
+        ↔ SpellsReplies text version items }
 {}
 
 /// What a good replies file tells while it is read is what it spells.
@@ -151,7 +153,8 @@ pub fn what_is_given_of_replies_depends_on_the_bytes_alone()
 
 /// A reader to which the pieces of a replies file were fed gave what it gives for the file.
 pub fn how_a_replies_file_is_cut_does_not_matter()
-    ensures whole { (old new : RepliesProgress.Progress) (pieces : List (List ℕ)) (gave : List SessionBytes)
+    ensures whole { (old new : RepliesProgress.Progress) (pieces : List (List ℕ))
+        (gave : List SessionBytes)
         → FeedsPieces Replies.replies old new pieces gave
         → Feeds Replies.replies old new (concat pieces) gave }
 {}
@@ -169,7 +172,8 @@ pub fn outputs_stay_outputs()
 /// An output that comes after others in a replies file may be added to these, and is then the last.
 pub fn outputs_that_are_read_can_be_added()
     ensures may { (outputs : AllOutputs) (item : SessionBytes) → AreOutputs outputs
-        → AreInOrder outputs.version 0 0 (items_of outputs ++ item ∷ []) → MayAdd outputs item.conn }
+        → AreInOrder outputs.version 0 0 (items_of outputs ++ item ∷ [])
+        → MayAdd outputs item.conn }
     ensures last { (outputs : AllOutputs) (item : SessionBytes) → AreOutputs outputs
         → AreInOrder outputs.version 0 0 (items_of outputs ++ item ∷ [])
         → items_of (with_output outputs item.conn item.bytes) ≡ items_of outputs ++ item ∷ [] }

@@ -94,7 +94,8 @@ impl Outputs {
     pub fn output(&self, conn: u32, session: u32) -> &[u8]
         requires within { conn < length self.now.sessions }
         requires session { session < length (sessions_of self.now.sessions conn) }
-        ensures value { result.now ≡ slice_index_or (sessions_of self.now.sessions conn) session [] }
+        ensures value { result.now ≡ slice_index_or (sessions_of self.now.sessions conn)
+            session [] }
     {
         self.connections[conn as usize].bytes(session)
     }

@@ -93,7 +93,8 @@ impl Reader {
         ensures within { result.taken ≤ length bytes.now }
         ensures none { result.answer ≡ Ok None → result.taken ≡ length bytes.now }
         ensures taken { (gave : _) → result.answer ≡ Ok gave → 0 < result.taken }
-        ensures fed { Feeds captures self.old self.new (take result.taken bytes.now) (given_in result.answer) }
+        ensures fed { Feeds captures self.old self.new (take result.taken bytes.now)
+            (given_in result.answer) }
         ensures exact { TellsFault captures self.old (take result.taken bytes.now) result.answer }
         ensures lasts { TellsLasting captures self.old (take result.taken bytes.now) result.answer }
         ensures memory { result.answer ≡ Err NoMemory
@@ -114,8 +115,8 @@ impl Reader {
     }
 
     #[tactic(auto, using(crate::proofs::RunLemmas::run_fed, zy_read::proofs::Feeding::fed_none))]
-    // Takes bytes of a segment at once, from some place on, but neither its last one nor that of the
-    // piece. Gives how many.
+    // Takes bytes of a segment at once, from some place on, but neither its last one
+    // nor that of the piece. Gives how many.
     fn feed_run(&mut self, bytes: &[u8], at: usize) -> usize
         requires place { at < length bytes.now }
         ensures within { at + result < length bytes.now }

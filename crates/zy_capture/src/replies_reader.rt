@@ -96,7 +96,8 @@ impl RepliesReader {
         ensures within { result.taken ≤ length bytes.now }
         ensures none { result.answer ≡ Ok None → result.taken ≡ length bytes.now }
         ensures taken { (gave : _) → result.answer ≡ Ok gave → 0 < result.taken }
-        ensures fed { Feeds replies self.old self.new (take result.taken bytes.now) (given_in result.answer) }
+        ensures fed { Feeds replies self.old self.new (take result.taken bytes.now)
+            (given_in result.answer) }
         ensures exact { TellsFault replies self.old (take result.taken bytes.now) result.answer }
         ensures lasts { TellsLasting replies self.old (take result.taken bytes.now) result.answer }
         ensures memory { result.answer ≡ Err NoMemory
@@ -117,8 +118,8 @@ impl RepliesReader {
     }
 
     #[tactic(auto, using(crate::proofs::RepliesRunLemmas::run_fed, zy_read::proofs::Feeding::fed_none))]
-    // Takes bytes of an output at once, from some place on, but neither its last one nor that of the
-    // piece. Gives how many; where memory is wanted for them, none.
+    // Takes bytes of an output at once, from some place on, but neither its last one
+    // nor that of the piece. Gives how many; where memory is wanted for them, none.
     fn feed_run(&mut self, bytes: &[u8], at: usize) -> usize
         requires place { at < length bytes.now }
         ensures within { at + result < length bytes.now }

@@ -50,7 +50,8 @@ fn join(alloc: Global, xs: &[Turn], ys: &[Turn]) -> Result<Vec<Turn>, NoMemory>
     requires apart { AreApart xs.now ys.now }
     requires left { AreRising None xs.now }
     requires right { AreRising None ys.now }
-    ensures value { IfOk result (λ turns. AreJoined xs.now ys.now (length xs.now) (length ys.now) turns.items) }
+    ensures value { IfOk result (λ turns. AreJoined xs.now ys.now
+        (length xs.now) (length ys.now) turns.items) }
 {
     let Some(count) = xs.len().checked_add(ys.len()) else {
         return Err(NoMemory);

@@ -31,7 +31,8 @@ pub fn write_journal<K: Sink>(sink: &mut K, journal: &Journal) -> Result<(), Fai
 
 fn write_entries<K: Sink>(sink: &mut K, entries: &[Entry]) -> Result<(), Failed>
     requires fits { AllByRecursion IsEntry entries.now }
-    ensures writes { Writes K.holds K.faults sink.old sink.new result (flat_map entry_text entries.now) }
+    ensures writes { Writes K.holds K.faults sink.old sink.new result
+        (flat_map entry_text entries.now) }
 {
     for entry in entries {
         if let Err(failed) = write_entry(sink, entry) {
@@ -42,7 +43,8 @@ fn write_entries<K: Sink>(sink: &mut K, entries: &[Entry]) -> Result<(), Failed>
 }
 
 fn write_holds<K: Sink>(sink: &mut K, holds: &[Hold]) -> Result<(), Failed>
-    ensures writes { Writes K.holds K.faults sink.old sink.new result (flat_map hold_text holds.now) }
+    ensures writes { Writes K.holds K.faults sink.old sink.new result
+        (flat_map hold_text holds.now) }
 {
     for hold in holds {
         if let Err(failed) = write_hold(sink, hold) {
@@ -119,7 +121,8 @@ fn write_call<K: Sink>(sink: &mut K, call: &Call) -> Result<(), Failed>
 // A code, a key, and what follows it.
 fn write_key<K: Sink>(sink: &mut K, code: u8, key: &Blob, rest: &[u8]) -> Result<(), Failed>
     requires fits { length key.now ≤ 250 }
-    ensures writes { Writes K.holds K.faults sink.old sink.new result (code ∷ (key_text key.now ++ rest.now)) }
+    ensures writes { Writes K.holds K.faults sink.old sink.new result
+        (code ∷ (key_text key.now ++ rest.now)) }
 {
     let size = key.bytes().len() as u8;
     write_pieces(sink, &[&[code, size], key.bytes(), rest])

@@ -128,7 +128,8 @@ impl Reader {
     fn feed_line_feed(&mut self, version: u32, byte: u8) -> Result<Option<Record>, FeedFault>
         requires due { self.old.due ≡ Dues.LineFeed version }
         requires room { self.old.at < capture_limit }
-        ensures value { Takes (taken (Dues.LineFeed version) self.old byte) self.old self.new byte result }
+        ensures value { Takes (taken (Dues.LineFeed version) self.old byte)
+            self.old self.new byte result }
     {
         if byte != b'\n' {
             return self.refuse(CaptureFault::BadMagic { at: self.at });
@@ -221,7 +222,8 @@ impl Reader {
     fn feed_length(&mut self, conn: u32, byte: u8) -> Result<Option<Record>, FeedFault>
         requires due { self.old.due ≡ Dues.Length conn }
         requires room { self.old.at < capture_limit }
-        ensures value { Takes (taken (Dues.Length conn) self.old byte) self.old self.new byte result }
+        ensures value { Takes (taken (Dues.Length conn) self.old byte)
+            self.old self.new byte result }
     {
         if self.field.len() < 3 {
             self.keep(byte);
@@ -254,7 +256,8 @@ impl Reader {
         requires some { 0 < length }
         requires fits { vec_capacity room ≡ length }
         requires none { room.items ≡ [] }
-        ensures value { self.new ≡ (goes (record self.old { payload = [] }) (Dues.Payload conn length)).next }
+        ensures value { self.new ≡
+            (goes (record self.old { payload = [] }) (Dues.Payload conn length)).next }
     {
         self.payload = room;
         self.due = Due::Payload { conn, length };
@@ -271,7 +274,8 @@ impl Reader {
     ) -> Result<Option<Record>, FeedFault>
         requires due { self.old.due ≡ Dues.Payload conn length }
         requires room { self.old.at < capture_limit }
-        ensures value { Takes (taken (Dues.Payload conn length) self.old byte) self.old self.new byte result }
+        ensures value { Takes (taken (Dues.Payload conn length) self.old byte)
+            self.old self.new byte result }
     {
         self.payload.push_reserved(byte);
         self.at += 1;

@@ -66,7 +66,8 @@ impl RepliesReader {
     // The byte is one of a number, and not the last one.
     fn keep(&mut self, byte: u8)
         requires room { self.old.at < replies_limit }
-        requires within { IsWithin self.old.due (self.old.at + 1) (length self.old.field + 1) self.old.payload }
+        requires within { IsWithin self.old.due (self.old.at + 1)
+            (length self.old.field + 1) self.old.payload }
         requires short { length self.old.field < 7 }
         ensures value { self.new ≡ (keeps self.old self.old.due byte).next }
     {
@@ -134,7 +135,8 @@ impl RepliesReader {
     fn feed_line_feed(&mut self, version: u32, byte: u8) -> Result<Option<SessionBytes>, FileFeed>
         requires due { self.old.due ≡ Dues.LineFeed version }
         requires room { self.old.at < replies_limit }
-        ensures value { Takes (taken (Dues.LineFeed version) self.old byte) self.old self.new byte result }
+        ensures value { Takes (taken (Dues.LineFeed version) self.old byte)
+            self.old self.new byte result }
     {
         if byte != b'\n' {
             return self.refuse(FileFault::Form { at: self.at });
@@ -203,7 +205,8 @@ impl RepliesReader {
     fn feed_session(&mut self, conn: u32, byte: u8) -> Result<Option<SessionBytes>, FileFeed>
         requires due { self.old.due ≡ Dues.Session conn }
         requires room { self.old.at < replies_limit }
-        ensures value { Takes (taken (Dues.Session conn) self.old byte) self.old self.new byte result }
+        ensures value { Takes (taken (Dues.Session conn) self.old byte)
+            self.old self.new byte result }
     {
         if self.field.len() < 3 {
             self.keep(byte);
@@ -226,7 +229,8 @@ impl RepliesReader {
     ) -> Result<Option<SessionBytes>, FileFeed>
         requires due { self.old.due ≡ Dues.Length conn session }
         requires room { self.old.at < replies_limit }
-        ensures value { Takes (taken (Dues.Length conn session) self.old byte) self.old self.new byte result }
+        ensures value { Takes (taken (Dues.Length conn session) self.old byte)
+            self.old self.new byte result }
     {
         if self.field.len() < 7 {
             self.keep(byte);
@@ -250,7 +254,8 @@ impl RepliesReader {
         requires room { self.old.at < replies_limit }
         requires numbers { AreNumbers conn session }
         requires some { 0 < length }
-        ensures value { self.new ≡ (goes (record self.old { payload = [] }) (Dues.Output conn session length)).next }
+        ensures value { self.new ≡
+            (goes (record self.old { payload = [] }) (Dues.Output conn session length)).next }
     {
         self.payload = Vec::new(self.alloc);
         self.due = RepliesDue::Output {
@@ -272,7 +277,8 @@ impl RepliesReader {
     ) -> Result<Option<SessionBytes>, FileFeed>
         requires due { self.old.due ≡ Dues.Output conn session length }
         requires room { self.old.at < replies_limit }
-        ensures value { Takes (taken (Dues.Output conn session length) self.old byte) self.old self.new byte result }
+        ensures value { Takes (taken (Dues.Output conn session length) self.old byte)
+            self.old self.new byte result }
     {
         if self.payload.push(byte).is_err() {
             return Err(FileFeed::NoMemory);
