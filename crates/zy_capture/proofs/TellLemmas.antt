@@ -1,9 +1,9 @@
 -- The version and the count that a text tells are those that it begins with.
-use Rattle.std.proofs.Common.{◌≡◌, ◌≢◌, ◌⊎◌, inl, inr, ℕ, ◌+◌, ◌<◌, ◌≤◌, true, false, List, [], ◌∷◌, ◌++◌, length, take, refl, sym, ◌∙◌, ap, subst, arith, append_assoc}
-use Rattle.std.specs.Prelude.{◌==◌, ◌&&◌, nat_lt, Option, None, Some, ⊤}
+use Rattle.std.proofs.Common.{◌≡◌, ◌≢◌, ◌⊎◌, inl, inr, ℕ, ◌+◌, ◌<◌, true, false, List, [], ◌∷◌, ◌++◌, length, take, refl, sym, ◌∙◌, ap, subst, arith, append_assoc}
+use Rattle.std.specs.Prelude.{◌==◌, ◌&&◌, nat_lt, None, Some, ⊤}
 use Rattle.std.specs.List.{slice_index}
 use Rattle.std.specs.Int.{to_be_bytes, from_be_bytes, w32}
-use Rattle.std.proofs.lemmas.Bool.{eqb-true, ltb-false, ltb-true}
+use Rattle.std.proofs.lemmas.Bool.{eqb-true}
 use Rattle.std.proofs.lemmas.Bool.Decides.{nat_tests}
 use Rattle.zy_read.specs.Format.{Reading, read_on, reading_of}
 use Rattle.zy_read.proofs.Feeding.{read_broken}
@@ -12,8 +12,8 @@ use Rattle.zy_capture.specs.declared.capture_fault.CaptureFault.{CaptureFault}
 use Rattle.zy_capture.specs.declared.capture_fault.CaptureFault.TheVariants.{BadMagic, ConnCount}
 use Rattle.zy_capture.specs.declared.due.Due.{Due}
 use Rattle.zy_capture.specs.declared.due.Due.TheVariants.{Letters, Digit, LineFeed, Count, Tag, Connection, Length, Payload, Closed, Nothing, Broken}
-use Rattle.zy_capture.specs.Capture.{letters, magic, connection_limit, segment_limit}
-use Rattle.zy_capture.specs.Steps.{Progress, Step, start, goes, gives, refuses, keeps, grows, letter, digit, line_feed, judged, taken, is_full, step}
+use Rattle.zy_capture.specs.Capture.{letters, connection_limit, segment_limit}
+use Rattle.zy_capture.specs.Steps.{Progress, Step, start, goes, refuses, letter, digit, line_feed, taken, is_full, step}
 use Rattle.zy_capture.specs.Verdict.{captures, read_from, version_in, version_of, count_in, count_of}
 use Rattle.zy_capture.specs.SoFar.{BeginsWithMagic, BeginsWithCount}
 use Rattle.zy_capture.proofs.ByteLemmas.{chosen}

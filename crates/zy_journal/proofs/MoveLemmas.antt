@@ -1,12 +1,12 @@
 -- Entries that are moved when they have their turn are the merged list.
-use Rattle.std.proofs.Common.{◌≡◌, ◌≢◌, ◌⊎◌, inl, inr, ℕ, zero, suc, ◌+◌, ◌<◌, ◌≤◌, true, false, List, [], ◌∷◌, ◌++◌, length, take, drop, set, get_or, refl, sym, ◌∙◌, ap, subst, arith, append_assoc, length-append}
-use Rattle.std.specs.Prelude.{◌==◌, filter, map, Option, None, Some, option_to_list, IfNone}
+use Rattle.std.proofs.Common.{◌≡◌, inl, inr, ℕ, zero, suc, ◌+◌, ◌<◌, ◌≤◌, true, List, [], ◌∷◌, ◌++◌, length, take, drop, set, get_or, refl, sym, ◌∙◌, ap, subst, arith, append_assoc}
+use Rattle.std.specs.Prelude.{Option, None, Some, option_to_list, IfNone}
 use Rattle.std.proofs.lemmas.List.{append-nil, take_more, take_all, take-append-drop, length-set, get_or-set_same, get_or-set_other}
 use Rattle.std.proofs.lemmas.Bool.Decides.{nat_tests, eqb_tells}
 use Rattle.zy_base.specs.declared.entry.Entry.{Entry}
 use Rattle.zy_base.specs.Order.{at_shard, history_of, StampsRise, IsBefore, IsOrdered, IsMergeOf}
 use Rattle.zy_journal.specs.declared.turn.Turn.{Turn}
-use Rattle.zy_journal.specs.Turn.{turn_of, turns_of, AreTurnsOf, is_earlier, AreRising, AreWithin, at, turn_at, AreMoved}
+use Rattle.zy_journal.specs.Turn.{turn_of, turns_of, AreTurnsOf, is_earlier, AreRising, at, turn_at, AreMoved}
 use Rattle.zy_journal.proofs.TurnLemmas.{at_append, at_first, drop_at, drop_over, within_at}
 
 -- ---- lists

@@ -1,6 +1,6 @@
 -- Two lists of turns in order, joined by what comes next, are one in order.
-use Rattle.std.proofs.Common.{◌≡◌, ◌≢◌, ◌⊎◌, inl, inr, ℕ, zero, suc, ◌+◌, ◌-◌, ◌<◌, ◌≤◌, true, false, List, [], ◌∷◌, ◌++◌, length, take, drop, get_or, add-one, refl, sym, ◌∙◌, ap, subst, arith, append_assoc, length-append}
-use Rattle.std.specs.Prelude.{◌==◌, ◌&&◌, ◌||◌, nat_lt, filter, map, Option, None, Some, Result, Ok, Err, IfOk}
+use Rattle.std.proofs.Common.{◌≡◌, ◌⊎◌, inl, inr, ℕ, zero, suc, ◌+◌, ◌-◌, ◌<◌, ◌≤◌, true, false, List, [], ◌∷◌, ◌++◌, length, take, drop, get_or, add-one, refl, sym, ◌∙◌, ap, subst, arith, append_assoc, length-append}
+use Rattle.std.specs.Prelude.{◌==◌, Option, None, Some, Result, Ok, Err, IfOk}
 use Rattle.std.specs.Option.{option_map}
 use Rattle.std.proofs.lemmas.List.{append-nil, take_more, take_all, take_rest, take-append-drop}
 use Rattle.std.proofs.lemmas.Bool.Decides.{nat_tests, eqb_tells}
@@ -8,7 +8,7 @@ use Rattle.std.proofs.lemmas.Bool.{eq-eqb}
 use Rattle.zy_base.specs.declared.entry.Entry.{Entry}
 use Rattle.zy_base.specs.Order.{AreAt, IsBefore, IsOrdered, history_of}
 use Rattle.zy_journal.specs.declared.turn.Turn.{Turn}
-use Rattle.zy_journal.specs.Turn.{turn_of, turns_of, AreTurnsOf, is_earlier, IsAfter, AreRising, at, AreWithin, turn_at, IsLeftNext, IsRightNext, AreApart, AreJoined}
+use Rattle.zy_journal.specs.Turn.{turn_of, turns_of, AreTurnsOf, is_earlier, AreRising, at, AreWithin, turn_at, IsLeftNext, IsRightNext, AreApart, AreJoined}
 
 -- ---- lists of turns
 

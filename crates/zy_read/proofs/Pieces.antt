@@ -1,5 +1,5 @@
 -- Bytes that are fed in runs and one by one.
-use Rattle.std.proofs.Common.{◌≡◌, ℕ, ◌+◌, ◌-◌, ◌<◌, List, [], ◌∷◌, ◌++◌, length, take, drop, get_or, take-add, sym, subst}
+use Rattle.std.proofs.Common.{◌≡◌, ℕ, ◌+◌, ◌-◌, ◌<◌, List, [], ◌∷◌, length, take, drop, get_or, take-add, sym, subst}
 use Rattle.std.specs.Prelude.{Option, None, Some, Result, Ok, Err, option_to_list}
 use Rattle.std.proofs.lemmas.List.{take_more, take_rest}
 use Rattle.zy_read.specs.declared.not_taken.NotTaken.{NotTaken}

@@ -1,7 +1,7 @@
-use Rattle.std.proofs.Common.{rules, ◌≡◌, ◌<◌, ◌≤◌, ◌+◌, ◌++◌, List, [], ◌∷◌, ℕ, length, set, get_or, sym, ◌∙◌, ap, subst}
-use Rattle.std.specs.Prelude.{vec_capacity, Option, None, Some, option_to_list, IfNone}
+use Rattle.std.proofs.Common.{rules, ◌≡◌, ◌<◌, ◌≤◌, ◌++◌, List, [], ℕ, length, get_or, sym, ◌∙◌, subst}
+use Rattle.std.specs.Prelude.{vec_capacity, option_to_list, IfNone}
 use Rattle.zy_base.specs.declared.entry.Entry.{Entry}
-use Rattle.zy_journal.specs.Turn.{AreMoved, turn_at}
+use Rattle.zy_journal.specs.Turn.{turn_at}
 use Rattle.zy_journal.proofs.MoveLemmas.{shard_inside, get_any, moved_by, all_moved}
 use Rattle.zy_journal.proofs.merging.in_turn.Goals as goal
 use Rattle.zy_journal.proofs.merging.in_turn.Goals.{in-Some, in_default}

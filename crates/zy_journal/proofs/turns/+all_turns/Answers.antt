@@ -1,5 +1,4 @@
-use Rattle.std.proofs.Common.{rules, ◌≡◌, ◌≤◌, ◌/◌, ℕ, List, length, take, drop, ◌-◌, ◌+◌, subst, sym}
-use Rattle.zy_base.specs.declared.entry.Entry.{Entry}
+use Rattle.std.proofs.Common.{rules, ◌≡◌, ◌≤◌, ◌/◌, List, length, subst}
 use Rattle.zy_journal.specs.declared.turn.Turn.{Turn}
 use Rattle.zy_journal.specs.Turn.{AreTurnsOf, AreJoined, turns_of}
 use Rattle.zy_journal.proofs.TurnLemmas.{halves_apart, halves_joined, only_history, if_given}

@@ -1,6 +1,4 @@
-use Rattle.std.proofs.Common.{rules, ◌≡◌, ◌≤◌, ◌+◌, List, [], ◌∷◌, ◌++◌, length, refl}
-use Rattle.zy_journal.specs.declared.turn.Turn.{Turn}
-use Rattle.zy_journal.specs.Turn.{AreJoined, turn_at}
+use Rattle.std.proofs.Common.{rules, ◌≤◌, ◌+◌, length, refl}
 use Rattle.zy_journal.proofs.TurnLemmas.{put_left, put_right, all_joined}
 use Rattle.zy_journal.proofs.turns.join.Goals as goal
 

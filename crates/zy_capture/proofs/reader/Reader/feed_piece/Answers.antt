@@ -1,4 +1,4 @@
-use Rattle.std.proofs.Common.{rules, ◌≡◌, ◌+◌, List, [], length, take, get_or, ℕ}
+use Rattle.std.proofs.Common.{rules, ◌≡◌, ◌+◌, [], take, get_or, ℕ}
 use Rattle.std.specs.Prelude.{Ok, None}
 use Rattle.zy_read.specs.Standing.{Feeds}
 use Rattle.zy_read.proofs.Feeding.{met_by}
