@@ -3,6 +3,7 @@
 
 use std::alloc::Global;
 use std::env::{Env, FillError};
+use std::mem;
 use std::process::ExitCode;
 use zy_base::{Blob, NoMemory, Ungated};
 use zygos_run::{StdSink, StdSource, serve, status};
@@ -23,7 +24,10 @@ fn main(rt: HostRuntime) -> ExitCode {
                 &mut StdSink::new(rt.stderr()),
                 &Ungated,
             );
-            ExitCode::from(status(&answer))
+            let status = status(&answer);
+            // The process ends, so the journal is not given back entry by entry.
+            mem::forget(answer);
+            ExitCode::from(status)
         }
         Err(NoMemory) => ExitCode::from(OUT_OF_MEMORY),
     }

@@ -17,6 +17,9 @@ const FIRST: &[u8] = b"ZYGCAP1\n\0\0\0\x01S\0\0\0\0\0\0\0\x17set a 0 0 1\r\nx\r\
 const FIRST_REPLIES: &[u8] =
     b"ZYGREP1\nR\0\0\0\0\0\0\0\0\0\0\0\x1dSTORED\r\nVALUE a 0 1\r\nx\r\nEND\r\nE";
 
+// The calls of the sink that the run of this capture makes: twelve writes, and then it is finished.
+const CALLS: u64 = 13;
+
 // A capture, the exit status of its run, and what is written.
 struct Case(&'static [u8], u8, &'static [u8]);
 
@@ -125,11 +128,17 @@ fn a_read_that_fails_ends_the_run(rt: HostRuntime) -> Result<(), Fail> {
 
 #[test]
 fn a_write_that_fails_ends_the_run(rt: HostRuntime) -> Result<(), Fail> {
-    for call in 0..10 {
+    for call in 0..CALLS {
         let mut source = source(rt.alloc(), FIRST, 1_000)?;
         let mut sink = sink(rt.alloc(), call)?;
         assert_eq!(rt; run(&rt, rt.alloc(), b"run", &mut source, &mut sink)?, 5);
+        let written = sink.bytes().unwrap_or(b"?");
+        assert!(rt; FIRST_REPLIES.starts_with(written));
+        assert_eq!(rt; written.len() == FIRST_REPLIES.len(), call + 1 == CALLS);
     }
+    let mut source = source(rt.alloc(), FIRST, 1_000)?;
+    let mut sink = sink(rt.alloc(), CALLS)?;
+    assert_eq!(rt; run(&rt, rt.alloc(), b"run", &mut source, &mut sink)?, 0);
     Ok(())
 }
 
