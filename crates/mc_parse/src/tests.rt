@@ -192,6 +192,22 @@ const STORES: [&[u8]; 5] = [
     b"prepend k 3 0 1",
 ];
 
+// The call that a line stores by.
+fn stored_by(line: &[u8], key: Blob, value: Blob) -> Call {
+    let flags = 3;
+    if line.starts_with(b"set") {
+        Call::Set { key, flags, value }
+    } else if line.starts_with(b"add") {
+        Call::Add { key, flags, value }
+    } else if line.starts_with(b"replace") {
+        Call::Replace { key, flags, value }
+    } else if line.starts_with(b"append") {
+        Call::Append { key, value }
+    } else {
+        Call::Prepend { key, value }
+    }
+}
+
 #[test]
 fn each_verb_makes_its_own_call(rt: HostRuntime) -> Result<(), Fail> {
     let alloc = rt.alloc();
@@ -205,19 +221,7 @@ fn each_verb_makes_its_own_call(rt: HostRuntime) -> Result<(), Fail> {
         assert_eq!(rt; calls.items().len(), 1);
         let key = Blob::copy_of(alloc, b"k")?;
         let value = Blob::copy_of(alloc, b"v")?;
-        let flags = 3;
-        let wanted = match line[0] {
-            b's' => Call::Set { key, flags, value },
-            b'r' => Call::Replace { key, flags, value },
-            b'p' => Call::Prepend { key, value },
-            _ => {
-                if line[1] == b'd' {
-                    Call::Add { key, flags, value }
-                } else {
-                    Call::Append { key, value }
-                }
-            }
-        };
+        let wanted = stored_by(line, key, value);
         assert!(rt; calls.items()[0].call == wanted, "{line:?}");
     }
     Ok(())

@@ -1,6 +1,6 @@
 -- What was read of a capture, piece after piece.
-use Rattle.std.proofs.Common.{◌≢◌, ℕ, ◌+◌, ◌<◌, ◌≤◌, List, [], ◌∷◌, ◌++◌, length, take, drop, take-add, ◌-◌, refl, sym, ◌∙◌, ap, subst, append_assoc}
-use Rattle.std.specs.Prelude.{Option, None, Some, Result, Ok, Err, OnOk, IfErr, IfSome}
+use Rattle.std.proofs.Common.{◌≢◌, ℕ, ◌+◌, ◌<◌, ◌≤◌, List, [], ◌∷◌, ◌++◌, length, take, drop, take-add, ◌-◌, refl, sym, ◌∙◌, ap, subst, append_assoc, inl, arith}
+use Rattle.std.specs.Prelude.{Option, None, Some, Result, Ok, Err, OnOk, IfErr}
 use Rattle.std.specs.Io.KnownBytes.{Consumes, IsAtEnd}
 use Rattle.std.proofs.lemmas.List.{append-nil, take_all}
 use Rattle.zy_read.specs.Standing.{Feeds}
@@ -11,7 +11,7 @@ use Rattle.zy_capture.specs.Standing.{StandsFor}
 use Rattle.zy_capture.specs.Verdict.{captures}
 use Rattle.zygos_run.specs.declared.stop.ReadStop.{ReadStop}
 use Rattle.zygos_run.specs.declared.stop.ReadStop.TheVariants.{Failed, Stopped}
-use Rattle.zygos_run.specs.Ends.{HasRead, HasTaken, IsCapture, ReadEnds}
+use Rattle.zygos_run.specs.Ends.{AreServed, HasRead, HasTaken, IsCapture, ReadCapture, ReadEnds}
 
 -- some first bytes more of the slice from a place on
 pub piece_read : (p q : Progress) (b bytes : List ℕ) (at taken : ℕ) (gave : List Record) → Feeds captures p q (take taken (take (length bytes - at) (drop at bytes))) gave → HasRead p (b ++ take at bytes) → HasRead q (b ++ take (at + taken) bytes)
@@ -33,16 +33,30 @@ consumed_on (Some u) (Some v) None x y first second = absurd second
 consumed_on (Some u) (Some v) (Some w) x y first second = first ∙ ap (λ (l : List ℕ). x ++ l) second ∙ sym (append_assoc x y w)
 
 -- bytes that are a capture were all that the source told
-captured : (before after : Option (List ℕ)) (bytes : List ℕ) → Consumes before after bytes → IsAtEnd after → IsCapture bytes → IfSome before IsCapture
-captured None after bytes consumed end good = tt
-captured (Some u) None bytes consumed end good = absurd consumed
-captured (Some u) (Some v) bytes consumed end good =
-    subst IsCapture (sym (consumed ∙ ap (λ (l : List ℕ). bytes ++ l) end ∙ append-nil bytes)) good
+read_all : (before after : Option (List ℕ)) (bytes : List ℕ) → Consumes before after bytes → IsAtEnd after → IsCapture bytes → ReadCapture before after
+read_all None after bytes consumed end good = tt
+read_all (Some u) None bytes consumed end good = absurd consumed
+read_all (Some u) (Some v) bytes consumed end good =
+    (subst IsCapture (sym (consumed ∙ ap (λ (l : List ℕ). bytes ++ l) end ∙ append-nil bytes)) good, ap Some end)
 
 -- reading came to the end of a capture, or stopped
 pub ends_as_read : {S R : Type 0} (rest : S → Option (List ℕ)) (faults : S → ℕ) (old new : S) (reader : Progress) (result : Result R ReadStop) → HasTaken (rest old) (rest new) reader
     → ((b : List ℕ) → HasRead reader b → OnOk result (IsCapture b)) → IfErr result (λ stop. stop ≢ Failed) → ReadEnds rest faults old new result
 ends_as_read rest faults old new reader (Ok run) taken good stopped =
-    (captured (rest old) (rest new) taken.0.0 taken.0.1 taken.1 (good taken.0.0 taken.0.2), taken.1)
+    read_all (rest old) (rest new) taken.0.0 taken.0.1 taken.1 (good taken.0.0 taken.0.2)
 ends_as_read rest faults old new reader (Err Failed) taken good stopped = absurd (stopped refl)
 ends_as_read rest faults old new reader (Err (Stopped stop)) taken good stopped = tt
+
+-- ---- outputs
+
+-- no connection
+pub none_served : AreServed (record { version = 1; sessions = [] })
+none_served = record { lawful = record { known = inl refl; few = omega arith; sessions = tt }; version = refl; few = omega arith }
+
+-- one connection with one output
+pub one_served : (bytes : List ℕ) → AreServed (record { version = 1; sessions = (bytes ∷ []) ∷ [] })
+one_served bytes = record {
+  lawful = record { known = inl refl; few = omega arith; sessions = (record { some = omega arith; few = omega arith; one = λ _. refl }, tt) };
+  version = refl;
+  few = omega arith;
+}

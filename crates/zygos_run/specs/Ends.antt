@@ -1,5 +1,5 @@
 -- How the top call ends, by its answer: the causes of each answer, and what it leaves of source and sink.
-use Rattle.std.specs.Prelude.{◌≡◌, ◌⊎◌, ℕ, ◌≤◌, false, true, List, length, Option, Some, IfSome, Result, Ok, Err, ⊤}
+use Rattle.std.specs.Prelude.{◌≡◌, ◌⊎◌, ℕ, ◌≤◌, false, true, List, [], length, Option, None, Some, Result, Ok, Err, ⊤}
 use Rattle.std.specs.Io.KnownBytes.{Consumes, IsAtEnd}
 use Rattle.zy_base.specs.Outside.{Rose, Grew, GrewByPrefix}
 use Rattle.zygos_run.specs.declared.answer.Answer.{Answer}
@@ -8,7 +8,7 @@ use Rattle.zygos_run.specs.declared.stop.ReadStop.{ReadStop}
 use Rattle.zygos_run.specs.declared.stop.ReadStop.TheVariants.{Failed, Stopped}
 use Rattle.zygos_run.specs.Words.{is_lawful}
 use Rattle.zy_capture.specs.declared.record.Record.{Record}
-use Rattle.zy_capture.specs.Outputs.{AllOutputs}
+use Rattle.zy_capture.specs.Outputs.{AllOutputs, AreOutputs}
 use Rattle.zy_capture.specs.Standing.{StandsFor}
 use Rattle.zy_capture.specs.Steps.{Progress}
 use Rattle.zy_capture.specs.Verdict.{verdict, is_good, version_of}
@@ -26,9 +26,10 @@ HasTaken before after reader = ((bytes : List ℕ) × Consumes before after byte
 abbrev pub IsCapture : List ℕ → Type 0
 IsCapture bytes = (is_good (verdict bytes) ≡ true) × (version_of bytes ≡ Some 1)
 
--- a source that told its bytes told a capture of version 1, and nothing of it is left
+-- a source that told its bytes told a capture of version 1, and still tells that nothing of it is left
 abbrev pub ReadCapture : Option (List ℕ) → Option (List ℕ) → Type 0
-ReadCapture before after = IfSome before IsCapture × IsAtEnd after
+ReadCapture None after = ⊤
+ReadCapture (Some bytes) after = IsCapture bytes × (after ≡ Some [])
 
 -- reading came to the end of a capture, or a read failed; when an input isn't served is free
 abbrev pub ReadEnds : {S R : Type 0} → (S → Option (List ℕ)) → (S → ℕ) → S → S → Result R ReadStop → Type 0
@@ -37,8 +38,10 @@ ReadEnds rest faults old new (Err Failed) = Rose (faults old) (faults new)
 ReadEnds rest faults old new (Err (Stopped stop)) = ⊤
 
 -- the outputs are those of a capture of version 1 with at most one connection
-abbrev pub AreServed : AllOutputs → Type 0
-AreServed outputs = (outputs.version ≡ 1) × (length outputs.sessions ≤ 1)
+pub record AreServed (outputs : AllOutputs) : Type 0 where
+  pub lawful : AreOutputs outputs
+  pub version : outputs.version ≡ 1
+  pub few : length outputs.sessions ≤ 1
 
 -- the sink grew by the replies file of such outputs
 abbrev pub WroteReplies : Option (List ℕ) → Option (List ℕ) → Type 0

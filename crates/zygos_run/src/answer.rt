@@ -2,19 +2,22 @@
 ghost use Rattle.std.specs.Prelude.{◌≡◌};
 ghost use Rattle.zygos_run.specs.Answers.{status_of};
 
+use crate::store::Store;
 use zy_base::{Entries, Holds};
 
 /// Every call on the store, with its reply, and which core finished how many commands of which connection.
-#[derive(Debug, Drop)]
+#[derive(Drop)]
 pub struct Journal {
     /// The calls, in the order in which they were made.
     pub entries: Entries,
     /// The holds, by rising connection and then in the order in which they happened.
     pub holds: Holds,
+    // The store goes out with the answer, so that who forgets the answer gives nothing of it back.
+    pub(crate) store: Option<Store>,
 }
 
 /// How the top call ended.
-#[derive(Debug, Drop)]
+#[derive(Drop)]
 pub enum Answer {
     /// The input was read to its end, its commands were carried out, and all replies were written.
     Served(Journal),

@@ -20,7 +20,7 @@ pub(crate) struct Intake {
 }
 
 // What a run gave.
-#[derive(Debug, Drop)]
+#[derive(Drop)]
 pub(crate) struct Run {
     pub(crate) journal: Journal,
     pub(crate) outputs: Outputs,
@@ -90,6 +90,7 @@ impl Intake {
                 journal: Journal {
                     entries: Entries::new(self.alloc),
                     holds: Holds::new(self.alloc),
+                    store: None,
                 },
                 outputs,
             });

@@ -8,13 +8,13 @@ use zy_base::{Sink, write_whole};
 
 // Says the line of the answer. That it fails changes nothing.
 pub(crate) fn say<E: Sink>(says: &mut E, answer: &Answer)
-    ensures { Said (E.holds says.old) (E.holds says.new) (E.faults says.old) (E.faults says.new) (line_of answer.now) }
+    ensures said { Said (E.holds says.old) (E.holds says.new) (E.faults says.old) (E.faults says.new) (line_of answer.now) }
 {
     let _ = write_whole(says, line(answer));
 }
 
 fn line(answer: &Answer) -> &'static [u8]
-    ensures { result.now ≡ line_of answer.now }
+    ensures value { result.now ≡ line_of answer.now }
 {
     match answer {
         Answer::Served(_) => b"",

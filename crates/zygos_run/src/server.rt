@@ -24,7 +24,7 @@ pub(crate) struct Server {
 }
 
 // What a connection's commands did.
-#[derive(Debug, Drop)]
+#[derive(Drop)]
 pub(crate) struct Served {
     pub(crate) journal: Journal,
     pub(crate) output: Blob,
@@ -94,6 +94,7 @@ impl Server {
             journal: Journal {
                 entries: self.entries,
                 holds,
+                store: Some(self.store),
             },
             output: self.output,
         })

@@ -1,5 +1,5 @@
 //! The top call.
-ghost use Rattle.std.specs.Prelude.{◌≡◌, ◌↔◌, false};
+ghost use Rattle.std.specs.Prelude.{◌≡◌, ◌↔◌, ◌≤◌, false};
 ghost use Rattle.zy_base.specs.Outside.{Rose, Writes};
 ghost use Rattle.zy_capture.specs.Replies.{replies_bytes};
 ghost use Rattle.zygos_run.specs.Words.{is_lawful as lawful};
@@ -39,10 +39,13 @@ pub fn serve<R: Threads + Wait + Sync, S: Source, K: Sink, E: Sink, G: Gate + Sy
     ensures read_fault { result ≡ Answer.ReadFault → Rose (S.faults source.old) (S.faults source.new) }
     ensures write_fault { result ≡ Answer.WriteFault → Rose (K.faults sink.old) (K.faults sink.new) }
     ensures write_part { result ≡ Answer.WriteFault → WrotePart (K.holds sink.old) (K.holds sink.new) }
+    ensures write_read { result ≡ Answer.WriteFault → ReadCapture (S.rest source.old) (S.rest source.new) }
 
     // What stays.
     ensures sink_kept { LeavesSink result → sink.new ≡ sink.old }
     ensures source_kept { result ≡ Answer.Usage → source.new ≡ source.old }
+    ensures reads { S.faults source.old ≤ S.faults source.new }
+    ensures writes { K.faults sink.old ≤ K.faults sink.new }
 
     // What is said.
     ensures said { Said (E.holds says.old) (E.holds says.new) (E.faults says.old) (E.faults says.new) (line_of result) }
@@ -59,7 +62,9 @@ fn carry_out<S: Source, K: Sink, G: Gate>(
     sink: &mut K,
     gate: &G,
 ) -> Answer
-    ensures { HasCause S.rest S.faults K.holds K.faults words.now source.old source.new sink.old sink.new result }
+    ensures reads { S.faults source.old ≤ S.faults source.new }
+    ensures writes { K.faults sink.old ≤ K.faults sink.new }
+    ensures cause { HasCause S.rest S.faults K.holds K.faults words.now source.old source.new sink.old sink.new result }
 {
     if !is_lawful(words) {
         return Answer::Usage;
@@ -77,7 +82,7 @@ fn carry_out<S: Source, K: Sink, G: Gate>(
 
 // Writes the replies file, and finishes. Takes no memory.
 fn write_all<K: Sink>(sink: &mut K, outputs: &Outputs) -> Result<(), Failed>
-    ensures { Writes K.holds K.faults sink.old sink.new result (replies_bytes outputs.now) }
+    ensures writes { Writes K.holds K.faults sink.old sink.new result (replies_bytes outputs.now) }
 {
     if let Err(failed) = write_replies(sink, outputs) {
         return Err(failed);

@@ -6,7 +6,7 @@ use zy_base::Blob;
 
 // The one lawful command line is `run`.
 pub(crate) fn is_lawful(words: &[Blob]) -> bool
-    ensures { result ≡ lawful words.now }
+    ensures value { result ≡ lawful words.now }
 {
     match words {
         [word] => word.bytes() == b"run".as_slice(),
