@@ -1,6 +1,6 @@
 #!/usr/bin/env bash
 # Runs the built program on captures of one connection with 100,000 and 1,000,000 pairs of `set` and `get`
-# (values of 100 bytes, 1,024 keys), and prints seconds, resident memory and their ratios.
+# (values of 100 bytes, 1,024 keys), and prints seconds of processor time, resident memory and their ratios.
 # Ten times the input is to cost at most eleven times the time and the memory.
 set -eu
 top=$(cd "$(dirname "$0")/.." && pwd)
@@ -29,16 +29,15 @@ PY
 
 "$top/zygos" run <"$top/examples/first.cap" >/dev/null
 python3 - "$top" "$work" <<'PY'
-import os, subprocess, sys, time
+import os, subprocess, sys
 top, work = sys.argv[1:]
 figures = []
 for pairs in (100000, 1000000):
     path = "%s/%d.cap" % (work, pairs)
     with open(path, "rb") as source, open(os.devnull, "wb") as sink:
-        start = time.time()
         run = subprocess.Popen([top + "/crates/zygos/out/zygos", "run"], stdin=source, stdout=sink)
         _, status, usage = os.wait4(run.pid, 0)
-        seconds = time.time() - start
+        seconds = usage.ru_utime + usage.ru_stime
     assert status == 0, status
     figures.append((seconds, usage.ru_maxrss / 1024))
     print("%8d pairs: %6.2f s  %7.0f MiB  %5.1f MB/s" % (pairs, *figures[-1], os.path.getsize(path) / seconds / 1e6))
