@@ -1,0 +1,16 @@
+//! A connection's block: its pass on the store, its events, the command that is begun, its batch and its holds.
+#![tactic(auto)]
+
+mod begun;
+mod block;
+mod calling;
+mod hold_end;
+mod holding;
+mod inlet;
+#[cfg(test)]
+mod tests;
+mod work;
+
+pub use block::Block;
+pub use hold_end::HoldEnd;
+pub use inlet::EventInlet;
