@@ -1,3 +1,4 @@
 pub mod KeptLemmas
 pub mod StepLemmas
 pub mod HoldLemmas
+pub mod LawLemmas

@@ -8,6 +8,7 @@ use Rattle.mc_parse.specs.declared.command.Command.{Command}
 use Rattle.mc_parse.specs.declared.shard_call.ShardCall.{ShardCall}
 use Rattle.mc_parse.specs.Calls.{Due, calls_of, due, dues_of, tagged}
 use Rattle.mc_reply.specs.Answers.{AnswerEach}
+use Rattle.zy_frame.specs.declared.frame_kind.FrameKind.{FrameKind}
 use Rattle.zy_frame.specs.Frame.{command_of}
 use Rattle.zy_conn.specs.Work.{Start, idle, raw, read, going, Worked, commands_of_frames, texts_all, texts_taken}
 
@@ -70,3 +71,9 @@ pub record Kept (work : Worked) : Type 0 where
   pub shown : work.shown ≤ work.finished
   -- no more frames are taken than commands can be counted
   pub room : length work.taken ≤ 2 ^ 40
+
+-- each frame that was offered was taken, and nothing is begun
+pub record HasDone (offered : List FrameKind) (work : Worked) : Type 0 where
+  pub kept : Kept work
+  pub none : work.begun ≡ idle
+  pub all : work.taken ≡ offered

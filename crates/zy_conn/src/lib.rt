@@ -7,6 +7,7 @@ mod calling;
 mod hold_end;
 mod holding;
 mod inlet;
+mod laws;
 #[cfg(test)]
 mod tests;
 mod work;
@@ -14,3 +15,4 @@ mod work;
 pub use block::Block;
 pub use hold_end::HoldEnd;
 pub use inlet::EventInlet;
+pub use laws::{all_commands_are_done, each_finished_command_has_one_text};

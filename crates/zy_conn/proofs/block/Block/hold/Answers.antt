@@ -13,5 +13,5 @@ invariant_of-self-then-count-gt0 g c =
     let core = c.requires.core in
     holds_more c.self.inside.work.conn c.carry_out-count.new.work.conn c.self.inside.work.finished c.carry_out-count.new.work.finished c.self.inside.holds.items c.push_reserved.new.self.items
     (hold_by c.args.core c.conn-conn.result c.carry_out-count.result.0) c.self.invariant same
-    (c.push_reserved.ensures.items ∙ ap (λ (l : List Hold). l ++ hold_by c.args.core c.conn-conn.result c.carry_out-count.result.0 ∷ []) c.reserve.ensures.items)
+    (◌∙◌ {A = List Hold} c.push_reserved.ensures.items (ap (λ (l : List Hold). l ++ hold_by c.args.core c.conn-conn.result c.carry_out-count.result.0 ∷ []) c.reserve.ensures.items))
     c.carry_out-count.ensures.count (record { some = omega arith; limit = limit; core_is = core; conn_is = c.conn-conn.ensures.value })
