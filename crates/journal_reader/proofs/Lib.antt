@@ -1,0 +1,4 @@
+pub mod Feeding
+pub mod RunLemmas
+pub mod PlaceLemmas
+pub mod SpelledLemmas
