@@ -1,5 +1,5 @@
 -- The format of journals is one of those whose first fault counts.
-use Rattle.std.proofs.Common.{◌≡◌, ℕ, List, refl, ap}
+use Rattle.std.proofs.Common.{◌≡◌, ℕ, refl, ap}
 use Rattle.std.specs.Prelude.{Some, None}
 use Rattle.zy_read.specs.Format.{IsLasting}
 use Rattle.zy_base.specs.declared.file_fault.FileFault.{FileFault}

@@ -11,7 +11,7 @@ use Rattle.journal_reader.specs.declared.call_kind.CallKind.{CallKind}
 use Rattle.journal_reader.specs.declared.call_kind.CallKind.TheVariants.{Get, Set, Add, Replace, Append, Prepend, Cas, Incr, Decr, Delete, Flush}
 use Rattle.journal_reader.specs.declared.draft.Draft.{Draft}
 use Rattle.journal_reader.specs.declared.due.Due.{Due}
-use Rattle.journal_reader.specs.declared.due.Due.TheVariants.{Byte, Number, Long, Bytes, Nothing, Broken}
+use Rattle.journal_reader.specs.declared.due.Due.TheVariants.{Byte, Number, Long, Bytes, Broken}
 use Rattle.journal_reader.specs.declared.due.ByteField.TheVariants.{Magic, KeyLength, ReplyCode}
 use Rattle.journal_reader.specs.declared.due.NumberField.TheVariants.{Flags, ValueLength}
 use Rattle.journal_reader.specs.declared.due.LongField.TheVariants.{CallNumber}
@@ -80,8 +80,20 @@ plain_reply code =
 -- a record of which nothing was read
 abbrev pub fresh : Draft
 fresh = record {
-  stamp = 0; shard = 0; conn = 0; index = 0; part = 0; kind = Flush; key = []; flags = 0; number = 0; value = [];
-  found_flags = 0; found_unique = 0; core = 0; size = 0;
+  stamp = 0;
+  shard = 0;
+  conn = 0;
+  index = 0;
+  part = 0;
+  kind = Flush;
+  key = [];
+  flags = 0;
+  number = 0;
+  value = [];
+  found_flags = 0;
+  found_unique = 0;
+  core = 0;
+  size = 0;
 }
 
 -- the entry that was read, with this reply

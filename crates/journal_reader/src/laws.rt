@@ -1,14 +1,21 @@
 //! Laws over the definitions of this crate.
-ghost use Rattle.std.specs.Prelude.{◌≡◌, ◌≤◌, ◌++◌, ℕ, List, length, Some, ⊤};
+ghost use Rattle.std.specs.Prelude.{◌≡◌, ◌≤◌, ◌↔◌, ◌++◌, ℕ, List, length, Some, ⊤};
 ghost use Rattle.std.specs.List.{concat};
 ghost use Rattle.zy_base.specs.declared.file_fault.FileFault.{FileFault};
 ghost use Rattle.zy_read.specs.Standing.{Feeds, FeedsPieces};
 ghost use Rattle.zy_journal.specs.declared.journal.Journal.{Journal};
 ghost use Rattle.zy_journal.specs.Journal.{journal_bytes};
 ghost use Rattle.journal_reader.specs.Steps.{Progress, journal_limit};
-ghost use Rattle.journal_reader.specs.Verdict.{journals, verdict, fault_of, IsReadable};
+ghost use Rattle.journal_reader.specs.Verdict.{journals, verdict, fault_of, IsReadable, SpellsJournal, AreBytes};
 ghost use Rattle.journal_reader.specs.Verdict.Verdict.{Good, Bad};
 ghost use Rattle.journal_reader.specs.Standing.{StandsForJournal};
+
+/// A text is a good journal exactly where it is the journal's spelling, the journal is within the
+/// format's bounds, and the text has at most 2^63 - 1 bytes.
+pub fn a_journal_is_good_exactly_where_it_is_a_spelling()
+    ensures exactly { (text : List ℕ) (journal : Journal) → AreBytes text
+        → verdict text ≡ Good journal ↔ SpellsJournal text journal }
+{}
 
 /// What is written of a journal is good, and gives the journal again, where it is not too long.
 pub fn written_journals_are_read_again()

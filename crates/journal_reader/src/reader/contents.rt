@@ -13,11 +13,7 @@ use zy_read::FileFeed;
 
 impl JournalReader {
     // A byte of a key or a value. Memory is wanted for it.
-    pub(super) fn feed_bytes(
-        &mut self,
-        field: BytesField,
-        byte: u8,
-    ) -> Result<Option<()>, FileFeed>
+    pub(super) fn feed_bytes(&mut self, field: BytesField, byte: u8) -> Result<Option<()>, FileFeed>
         requires due { self.old.due ≡ Dues.Bytes field }
         requires room { self.old.at < journal_limit }
         ensures value { Takes (taken (Dues.Bytes field) self.old byte) self.old self.new result }
