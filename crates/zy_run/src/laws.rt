@@ -1,10 +1,11 @@
 //! Laws of the definitions: each is the contract of a function without a body.
-ghost use Rattle.std.specs.Prelude.{◌≡◌, ℕ, ◌<◌, List, [], length, None};
+ghost use Rattle.std.specs.Prelude.{◌≡◌, ℕ, ◌+◌, ◌<◌, List, [], length, None};
 ghost use Rattle.std.specs.List.{slice_index_or};
 ghost use Rattle.zy_base.specs.declared.entry.Entry.{Entry};
 ghost use Rattle.zy_base.specs.Order.{IsOrdered};
 ghost use Rattle.zy_capture.specs.declared.record.Record.{Record};
-ghost use Rattle.zy_capture.specs.Streams.{sessions_of, no_bytes, with_records};
+ghost use Rattle.zy_capture.specs.Capture.{IsCapture};
+ghost use Rattle.zy_capture.specs.Streams.{closes, sessions_of, no_bytes, with_records};
 ghost use Rattle.zy_run.specs.Commands.{streams_in, commands_in, commands_held};
 ghost use Rattle.zy_run.specs.Run.{IsRun};
 ghost use Rattle.zy_run.specs.Output.{output, outputs_of, all_outputs};
@@ -25,6 +26,14 @@ pub fn sessions_are_held()
         → sessions_of (with_records (no_bytes count) records) conn ≡ streams_in records conn }
     ensures commands { (count conn : ℕ) (records : List Record) → conn < count
         → commands_held (with_records (no_bytes count) records) conn ≡ commands_in records conn }
+{}
+
+/// A connection has one session more than it has close records, and in version 1 one session.
+pub fn a_connection_has_a_session()
+    ensures count { (records : List Record) (conn : ℕ)
+        → length (streams_in records conn) ≡ closes conn records + 1 }
+    ensures one { (count conn : ℕ) (records : List Record) → IsCapture 1 count records
+        → closes conn records ≡ 0 }
 {}
 
 /// A connection has one output for each of its sessions, each in its place.

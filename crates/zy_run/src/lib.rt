@@ -3,4 +3,7 @@
 
 mod laws;
 
-pub use laws::{each_session_has_its_output, sessions_are_held, the_worked_run_is_one};
+pub use laws::{
+    a_connection_has_a_session, each_session_has_its_output, sessions_are_held,
+    the_worked_run_is_one,
+};
