@@ -236,7 +236,7 @@ only_root vs ws id j (Root given) z ne k = absurd (ne (k.0 ∙ sym z))
 only_root vs ws id j (Core number has) z ne k = tt
 only_root vs ws id j Watcher z ne k = tt
 
-pub gives_allowed : (n id given cores : ℕ) (t : Trace) → given < cores → Splits (ControlRule n) id (view (Root given) cores t) (gave (view (Root given) cores t)) (newcomer (view (Root given) cores t))
+pub gives_allowed : (n id given cores : ℕ) (t : Trace) → given < n → Splits (ControlRule n) id (view (Root given) cores t) (gave (view (Root given) cores t)) (newcomer (view (Root given) cores t))
 gives_allowed n id given cores t lt s r at =
     let v : View = view (Root given) cores t in
     let w : View = view (Root (given + 1)) cores t in

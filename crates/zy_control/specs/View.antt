@@ -15,6 +15,12 @@ given_by (Root given) = given
 given_by (Core number counted) = 0
 given_by Watcher = 0
 
+-- the number of the core; no other seat has one
+abbrev pub number_of : Role → ℕ
+number_of (Root given) = 0
+number_of (Core number counted) = number
+number_of Watcher = 0
+
 -- whether the seat is of a core that has counted itself
 abbrev pub has_counted : Role → Bool
 has_counted (Root given) = false

@@ -37,14 +37,14 @@ pub struct Control {
 }
 
 impl Model for Control {
-    ghost use Rattle.std.specs.Prelude.{◌≡◌};
+    ghost use Rattle.std.specs.Prelude.{◌≡◌, ◌<◌, ◌^◌};
     ghost use Rattle.zy_control.specs.Pass.{Controlled, controlled};
 
     ghost Value = { Controlled };
 
     ghost view = { λ c. controlled c.table.shared.table_id c.cores };
 
-    ghost invariant = { λ c. (c.table.shared.table_id.words ≡ 2) × (c.table.shared.key ≡ c.cores) };
+    ghost invariant = { λ c. (c.table.shared.table_id.words ≡ 2) × (c.table.shared.key ≡ c.cores) × (c.cores < 2 ^ 64) };
 }
 
 impl Control {
@@ -54,7 +54,14 @@ impl Control {
         ensures root { IfOk result (λ made. made.1 ≡ rooted made.0.id 0 cores) }
     {
         match Table::of_words(alloc, &[0, 0], &cores) {
-            Ok((table, seat)) => Ok((Control { table, cores }, ControlRoot { seat, cores })),
+            Ok((table, seat)) => Ok((
+                Control { table, cores },
+                ControlRoot {
+                    seat,
+                    given: 0,
+                    cores,
+                },
+            )),
             Err(_) => Err(NoMemory),
         }
     }
@@ -62,13 +69,17 @@ impl Control {
     /// The pass of the next core. It is never refused, and takes no memory.
     pub fn seat(&self, root: &mut ControlRoot) -> Result<ControlPass, NoMemory>
         requires table { root.old.table ≡ self.now.id }
-        requires few { root.old.given < root.old.cores }
+        requires few { root.old.given < self.now.cores }
         ensures succeeds { IsOk result }
         ensures value { IfOk result (λ pass. pass ≡ held root.old.table (Core root.old.given false) root.old.cores untraced) }
         ensures ok { root.new ≡ rooted root.old.table (root.old.given + 1) root.old.cores }
     {
+        let number = root.given;
+        let seat = self.table.shared.split_seat::<Gives>(&mut root.seat);
+        root.given = number + 1;
         Ok(ControlPass {
-            seat: self.table.shared.split_seat::<Gives>(&mut root.seat),
+            seat,
+            number,
             cores: root.cores,
             counted: false,
         })
@@ -83,6 +94,7 @@ impl Control {
         let (found, seat) = self.table.shared.load_new_seat::<Enters>(STOP);
         let pass = ControlPass {
             seat,
+            number: 0,
             cores: self.cores,
             counted: false,
         };
