@@ -1,0 +1,21 @@
+-- One hold more.
+use Rattle.std.proofs.Common.{◌≡◌, ℕ, ◌+◌, List, [], ◌∷◌, ◌++◌, sym, ap, ◌∙◌, subst, arith}
+use Rattle.zy_base.specs.declared.hold.Hold.{Hold}
+use Rattle.zy_conn.specs.Hold.{IsHold, EachIsHold, commands_in, AreHolds}
+
+commands_in-push : (holds : List Hold) (hold : Hold) → commands_in (holds ++ hold ∷ []) ≡ commands_in holds + hold.count
+commands_in-push [] hold = omega arith
+commands_in-push (x ∷ xs) hold = omega (arith, commands_in-push xs hold)
+
+each-push : (connection : ℕ) (holds : List Hold) (hold : Hold) → EachIsHold connection holds → IsHold connection hold → EachIsHold connection (holds ++ hold ∷ [])
+each-push connection [] hold each is = (is, tt)
+each-push connection (x ∷ xs) hold each is = (each.0, each-push connection xs hold each.1 is)
+
+-- a hold more of a connection with so many more finished commands
+pub holds_more : (conn conn' n n' : ℕ) (holds holds' : List Hold) (hold : Hold) → AreHolds conn n holds → conn' ≡ conn → holds' ≡ holds ++ hold ∷ [] → n' ≡ n + hold.count
+    → IsHold conn' hold → AreHolds conn' n' holds'
+holds_more conn conn' n n' holds holds' hold k same is more one =
+    subst (λ l. AreHolds conn' n' l) (sym is) (record {
+      each = each-push conn' holds hold (subst (λ c. EachIsHold c holds) (sym same) k.each) one;
+      all = commands_in-push holds hold ∙ ap (λ t. t + hold.count) k.all ∙ sym more;
+    })

@@ -1,0 +1,167 @@
+-- What each step keeps, at values that are known by equations.
+use Rattle.std.proofs.Common.{◌≡◌, ◌≢◌, inl, ℕ, ◌+◌, ◌<◌, ◌≤◌, ◌^◌, List, [], ◌∷◌, ◌++◌, length, Some, Result, Ok, Err, MatchResult, IfOk, slice_get, refl, sym, ap, ◌∙◌, subst, arith, length-append}
+use Rattle.std.specs.Prelude.{All, IsSome}
+use Rattle.std.proofs.lemmas.Option.{slice_get_within}
+use Rattle.zy_base.specs.declared.call_reply.CallReply.{CallReply}
+use Rattle.mc_parse.specs.declared.command.Command.{Command}
+use Rattle.mc_parse.specs.declared.shard_call.ShardCall.{ShardCall}
+use Rattle.mc_parse.specs.Calls.{Due, calls_of, IsOnShard}
+use Rattle.mc_parse.proofs.CallLemmas.{all_within}
+use Rattle.mc_store.specs.declared.store.view.Trace.{Trace}
+use Rattle.mc_store.specs.Call.{WasBusy}
+use Rattle.mc_store.specs.Pass.{Passed}
+use Rattle.zy_calls.specs.Batch.{Sends, with_text, with_finished}
+use Rattle.zy_frame.specs.declared.frame_kind.FrameKind.{FrameKind}
+use Rattle.zy_rx.specs.Ring.{RingName}
+use Rattle.zy_conn.specs.declared.hold_end.HoldEnd.{HoldEnd}
+use Rattle.zy_conn.specs.declared.hold_end.HoldEnd.TheVariants.{Drained, Limit, Spent, Busy}
+use Rattle.zy_conn.specs.declared.calling.Made.{Made}
+use Rattle.zy_conn.specs.declared.calling.Made.TheVariants.{Call, Done, Stopped}
+use Rattle.zy_conn.specs.Work.{Start, idle, raw, read, going, Worked, worked, texts_taken, mark_of}
+use Rattle.zy_conn.specs.Kept.{Kept}
+use Rattle.zy_conn.specs.Hold.{call_due, FoundBusy, HeldTo}
+use Rattle.zy_conn.specs.Step.{IsWhole, text_begun, calls_left, SamePass, CallStopsBy, Makes, Goes, StopsBy, MadeFrom}
+use Rattle.zy_conn.proofs.KeptLemmas.{kept_looks, texts_begin, kept_begins, going_on, texts_call, kept_calls, kept_finishes}
+
+-- ---- a frame is taken
+
+module _ (p : Passed) (r r' : RingName) (taken taken' known known' : List FrameKind) (s s' : Start) (f sh : ℕ) (b : List (List ℕ)) (frame : FrameKind) (k : Kept (worked p r taken known s f sh b)) (e : s ≡ idle) where
+  pub kept_begins_as : f ≢ 2 ^ 40 → r' ≡ r → taken' ≡ taken ++ frame ∷ [] → s' ≡ raw frame → Kept (worked p r' taken' known' s' f sh b)
+  kept_begins_as below ring is begun =
+      subst (λ y. Kept (worked p r' taken' known' y f sh b)) (sym begun)
+      (subst (λ l. Kept (worked p r' l known' (raw frame) f sh b)) (sym is)
+      (subst (λ y. Kept (worked p y (taken ++ frame ∷ []) known' (raw frame) f sh b)) (sym ring) (kept_begins (worked p r taken known s f sh b) k frame known' e below)))
+
+  pub goes_begins_as : r' ≡ r → taken' ≡ taken ++ frame ∷ [] → Goes (worked p r taken known s f sh b) (worked p r' taken' known' s' f sh b)
+  goes_begins_as ring is = record {
+    table = refl;
+    mark = (λ i. (p.conn, (ring i, (ap (λ l. texts_taken (worked p r l known' (raw frame) f sh b)) is ∙ texts_begin (worked p r taken known s f sh b) k frame known' e) i)));
+    steps = omega arith;
+  }
+
+-- ---- a call is made, or not
+
+-- what a call leaves of the work
+pub record IsMade {E : Type 0} (a b : Worked) (made : Result Made E) : Type 0 where
+  pub kept : Kept b
+  pub goes : Goes a b
+  pub to : IfOk made (MadeFrom a b)
+
+-- a call that was not made stops the work
+stopped : (p q : Passed) (command : Command) (calls : List ShardCall) (replies replies' : List CallReply) (asked : ShardCall) (a b : Worked) (end : HoldEnd)
+    → b.begun ≡ going command calls replies' → slice_get calls (length replies') ≡ Some asked → b.calls ≡ q.calls → a.trace ≡ p.trace → b.trace ≡ q.trace → CallStopsBy asked p q end → StopsBy a b end
+stopped p q command calls replies replies' asked a b Drained e there c t u h = absurd h
+stopped p q command calls replies replies' asked a b Limit e there c t u h = absurd h
+stopped p q command calls replies replies' asked a b Spent e there c t u h =
+    inl (subst IsSome (sym (ap call_due e ∙ there)) refl, subst (λ l. 2 ^ 40 ≤ length l) (sym c) h)
+stopped p q command calls replies replies' asked a b (Busy shard loaded found) e there c t u h = record {
+  asked = asked;
+  asked_is = ap call_due e ∙ there;
+  busy = subst (λ x. WasBusy asked.shard x b.trace shard loaded found) (sym t) (subst (λ x. WasBusy asked.shard p.trace x shard loaded found) (sym u) h);
+}
+
+module _ (p q : Passed) (r : RingName) (taken known : List FrameKind) (s : Start) (f sh : ℕ) (b : List (List ℕ)) (command : Command) (calls : List ShardCall) (replies replies' : List CallReply) (k : Kept (worked p r taken known s f sh b)) (e : s ≡ going command calls replies) where
+  -- each call is on one of the shards
+  pub within_as : (shards : ℕ) (listed : List ShardCall) → shards ≡ p.table.slots → listed ≡ calls → All (IsOnShard shards) listed
+  within_as shards listed is same =
+      let g = going_on (worked p r taken known s f sh b) k command calls replies e in
+      subst (All (IsOnShard shards)) (sym (same ∙ g.all)) (subst (λ n. All (IsOnShard n) (calls_of p.table.slots command)) (sym is) (all_within p.table.slots command g.some))
+
+  module _ (pass : SamePass p q) where
+    same_made : q.calls ≡ p.calls → replies' ≡ replies → record (worked p r taken known s f sh b) { trace = q.trace } ≡ worked q r taken known (going command calls replies') f sh b
+    same_made h g = let t = pass.table in let c = pass.conn in cc
+
+    unmade : {E : Type 0} (made : Result Made E) → q.calls ≡ p.calls → replies' ≡ replies → IfOk made (MadeFrom (worked p r taken known s f sh b) (worked q r taken known (going command calls replies') f sh b))
+        → IsMade (worked p r taken known s f sh b) (worked q r taken known (going command calls replies') f sh b) made
+    unmade made h g to =
+        let is = same_made h g in record {
+          kept = subst Kept is (kept_looks (worked p r taken known s f sh b) k known q.trace);
+          goes = record { table = pass.table; mark = ap mark_of (sym is); steps = pass.steps };
+          to = to;
+        }
+
+    pub is_made : {E : Type 0} (made : Result Made E) → MatchResult made (Makes f calls replies p replies' q) (λ _. (q.calls ≡ p.calls) × (replies' ≡ replies))
+        → IsMade (worked p r taken known s f sh b) (worked q r taken known (going command calls replies') f sh b) made
+    is_made (Err x) h = unmade (Err x) h.0 h.1 tt
+    is_made (Ok Done) h = unmade (Ok Done) h.1 h.2 (omega (arith, ap length h.2, h.0))
+    is_made (Ok (Stopped end)) h =
+        unmade (Ok (Stopped end)) h.3 h.4
+        (stopped p q command calls replies replies' h.0 (worked p r taken known s f sh b) (worked q r taken known (going command calls replies') f sh b) end refl (ap (λ l. slice_get calls (length l)) h.4 ∙ h.1) refl refl refl h.2)
+    is_made (Ok Call) h =
+        let asked = h.0 in
+        let entry = h.2 in
+        let part = h.3 in
+        let tag = ap (λ (d : Due). d.tag.index) part.due in
+        let below = slice_get_within calls (length replies) asked h.1 in
+        let long = length-append replies (entry.reply ∷ []) in
+        let t = pass.table in
+        let c = pass.conn in
+        let is : record (worked p r taken known s f sh b) { begun = going command calls (replies ++ entry.reply ∷ []); calls = p.calls ++ entry ∷ []; trace = q.trace } ≡ worked q r taken known (going command calls replies') f sh b = (let h4 = h.4 in let h5 = h.5 in cc) in record {
+          kept = subst Kept is (kept_calls (worked p r taken known s f sh b) k command calls replies e asked entry q.trace h.1 part);
+          goes = record {
+            table = pass.table;
+            mark = ap mark_of (sym is) ∙ ap (λ l. (p.conn, (r, l))) (texts_call (worked p r taken known s f sh b) k command calls replies e entry (going command calls (replies ++ entry.reply ∷ [])) q.trace tag);
+            steps = pass.steps;
+          };
+          to = ap calls_left e ∙ (omega (arith, ap length h.5));
+        }
+
+    -- the same, of what the step sees
+    pub is_made_as : {E : Type 0} (made : Result Made E) (index : ℕ) (listed : List ShardCall) (s' : Start) → index ≡ f → listed ≡ calls → s' ≡ going command calls replies'
+        → MatchResult made (Makes index listed replies p replies' q) (λ _. (q.calls ≡ p.calls) × (replies' ≡ replies))
+        → IsMade (worked p r taken known s f sh b) (worked q r taken known s' f sh b) made
+    is_made_as made index listed s' i l e' h =
+        subst (λ y. IsMade (worked p r taken known s f sh b) (worked q r taken known y f sh b) made) (sym e')
+        (is_made made
+        (subst (λ n. MatchResult made (Makes n calls replies p replies' q) (λ _. (q.calls ≡ p.calls) × (replies' ≡ replies))) i
+        (subst (λ xs. MatchResult made (Makes index xs replies p replies' q) (λ _. (q.calls ≡ p.calls) × (replies' ≡ replies))) l h)))
+
+-- ---- a command is finished
+
+kept_ends : (w : Worked) (k : Kept w) (s : Start) → w.begun ≡ s → IsWhole s → Kept (record w { begun = idle; finished = w.finished + 1; batch = w.batch ++ text_begun s ∷ [] })
+kept_ends w k idle e whole = absurd whole
+kept_ends w k (raw frame) e whole = absurd whole
+kept_ends w k (read command) e whole = absurd whole
+kept_ends w k (going command calls replies) e whole = kept_finishes w k command calls replies e whole
+
+module _ (p : Passed) (r : RingName) (taken known : List FrameKind) (s s' : Start) (sh : ℕ) (batch sent batch' : Sends) (k : Kept (worked p r taken known s batch.finished sh batch.texts)) where
+  pub kept_ends_as : IsWhole s → s' ≡ idle → (s2 : Start) → s2 ≡ s → sent ≡ with_text batch (text_begun s2) → (n : ℕ) → n ≡ sent.finished → batch' ≡ with_finished sent (n + 1)
+      → Kept (worked p r taken known s' batch'.finished sh batch'.texts)
+  kept_ends_as whole none s2 same is n at more =
+      let finished : batch'.finished ≡ batch.finished + 1 = ap (λ (v : Sends). v.finished) more ∙ ap (λ m. m + 1) (at ∙ ap (λ (v : Sends). v.finished) is) in
+      let texts : batch'.texts ≡ batch.texts ++ text_begun s ∷ [] = ap (λ (v : Sends). v.texts) more ∙ ap (λ (v : Sends). v.texts) is ∙ ap (λ y. batch.texts ++ text_begun y ∷ []) same in
+      subst (λ y. Kept (worked p r taken known y batch'.finished sh batch'.texts)) (sym none)
+      (subst (λ m. Kept (worked p r taken known idle m sh batch'.texts)) (sym finished)
+      (subst (λ l. Kept (worked p r taken known idle (batch.finished + 1) sh l)) (sym texts) (kept_ends (worked p r taken known s batch.finished sh batch.texts) k s refl whole)))
+
+-- ---- why a hold ends
+
+-- what was loaded after later steps was loaded after earlier ones
+found_earlier : (a b : Trace) (w : Worked) (shard loaded found : ℕ) → a.steps ≤ b.steps → FoundBusy b w shard loaded found → FoundBusy a w shard loaded found
+found_earlier a b w shard loaded found le h = record {
+  asked = h.asked;
+  asked_is = h.asked_is;
+  busy = record {
+    shard_is = h.busy.shard_is;
+    loaded_is = (let x = h.busy.loaded_is in let y = x.later in record { word = x.word; value = x.value; later = omega arith; made = x.made });
+    cause = h.busy.cause;
+  };
+}
+
+-- where fewer than 64 commands were finished, the hold ends as the work stops
+pub stops_held : (a b c : Worked) (end : HoldEnd) → a.trace.steps ≤ b.trace.steps → c.finished < a.finished + 64 → StopsBy b c end → HeldTo a c end
+stops_held a b c Drained le few h = h
+stops_held a b c Limit le few h = absurd h
+stops_held a b c Spent le few h = (few, h)
+stops_held a b c (Busy shard loaded found) le few h = found_earlier a.trace b.trace c shard loaded found le h
+
+-- the work that goes on after a step
+pub goes_on : (a b c : Worked) → Goes a b → Goes b c → Goes a c
+goes_on a b c x y = let u = x.steps in let v = y.steps in record { table = y.table ∙ x.table; mark = y.mark ∙ x.mark; steps = omega arith }
+
+-- where the work stops after a step that went on, it stops from before that step
+pub stops_on : (a b c : Worked) (end : HoldEnd) → a.trace.steps ≤ b.trace.steps → StopsBy b c end → StopsBy a c end
+stops_on a b c Drained le h = h
+stops_on a b c Limit le h = absurd h
+stops_on a b c Spent le h = h
+stops_on a b c (Busy shard loaded found) le h = found_earlier a.trace b.trace c shard loaded found le h

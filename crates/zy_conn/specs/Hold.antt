@@ -1,0 +1,77 @@
+-- Holds: which of them a connection can have, what a hold records, and why it ends.
+use Rattle.std.specs.Prelude.{◌≡◌, ◌≢◌, ◌⊎◌, ℕ, ◌+◌, ◌-◌, ◌<◌, ◌≤◌, ◌^◌, List, [], ◌∷◌, ◌++◌, length, Option, None, Some, IsSome, slice_get}
+use Rattle.zy_base.specs.declared.hold.Hold.{Hold}
+use Rattle.mc_parse.specs.declared.shard_call.ShardCall.{ShardCall}
+use Rattle.mc_store.specs.declared.store.view.Trace.{Trace}
+use Rattle.mc_store.specs.Call.{WasBusy}
+use Rattle.zy_conn.specs.declared.hold_end.HoldEnd.{HoldEnd}
+use Rattle.zy_conn.specs.declared.hold_end.HoldEnd.TheVariants.{Drained, Limit, Spent, Busy}
+use Rattle.zy_conn.specs.Work.{Start, idle, raw, read, going, Worked}
+use Rattle.zy_conn.specs.Block.{Blocked}
+
+-- ---- the holds of a connection
+
+-- a core held this connection, and finished 1 to 64 of its commands
+pub record IsHold (connection : ℕ) (hold : Hold) : Type 0 where
+  pub some : 1 ≤ hold.count
+  pub limit : hold.count ≤ 64
+  pub core_is : hold.core < 64
+  pub conn_is : hold.conn ≡ connection
+
+-- each is a hold of this connection
+abbrev pub EachIsHold : ℕ → List Hold → Type 0
+EachIsHold connection [] = Unit {0}
+EachIsHold connection (hold ∷ holds) = IsHold connection hold × EachIsHold connection holds
+
+-- how many commands were finished in holds
+abbrev pub commands_in : List Hold → ℕ
+commands_in [] = 0
+commands_in (hold ∷ holds) = hold.count + commands_in holds
+
+-- the holds of a connection with so many finished commands
+pub record AreHolds (connection finished : ℕ) (holds : List Hold) : Type 0 where
+  pub each : EachIsHold connection holds
+  pub all : commands_in holds ≡ finished
+
+-- ---- what a hold records
+
+-- a hold of a connection, by a core, in which so many commands were finished
+abbrev pub hold_by : ℕ → ℕ → ℕ → Hold
+hold_by core connection count = record { core = core; conn = connection; count = count }
+
+-- where commands were finished there is one hold more, which says by which core, of which connection and how many; else the holds stay as they were
+pub record IsRecorded (core : ℕ) (before after : Blocked) : Type 0 where
+  pub none : after.work.finished ≡ before.work.finished → after.holds ≡ before.holds
+  pub one : before.work.finished < after.work.finished
+      → after.holds ≡ before.holds ++ hold_by core before.work.conn (after.work.finished - before.work.finished) ∷ []
+
+-- ---- why a hold ends
+
+-- the next call of what is begun, where one is left to make
+abbrev pub call_due : Start → Option ShardCall
+call_due idle = None
+call_due (raw frame) = None
+call_due (read command) = None
+call_due (going command calls replies) = slice_get calls (length replies)
+
+-- a call is due, and the pass has made the most that it can
+abbrev pub IsCallSpent : Worked → Type 0
+IsCallSpent work = IsSome (call_due work.begun) × (2 ^ 40 ≤ length work.calls)
+
+-- a command is due, and the most that are counted are finished
+abbrev pub IsCommandSpent : Worked → Type 0
+IsCommandSpent work = (work.begun ≡ idle) × (work.known ≢ []) × (work.finished ≡ 2 ^ 40)
+
+-- the call that is due found its shard busy, by numbers that were loaded after these steps
+pub record FoundBusy (before : Trace) (work : Worked) (shard loaded found : ℕ) : Type 0 where
+  pub asked : ShardCall
+  pub asked_is : call_due work.begun ≡ Some asked
+  pub busy : WasBusy asked.shard before work.trace shard loaded found
+
+-- why a hold ended, of the work before it and after it
+abbrev pub HeldTo : Worked → Worked → HoldEnd → Type 0
+HeldTo before after Drained = (after.begun ≡ idle) × (after.known ≡ [])
+HeldTo before after Limit = (after.finished ≡ before.finished + 64) × (after.known ≢ [])
+HeldTo before after Spent =
+    (after.finished < before.finished + 64) × (IsCallSpent after ⊎ IsCommandSpent after)
+HeldTo before after (Busy shard loaded found) = FoundBusy before.trace after shard loaded found

@@ -1,0 +1,79 @@
+-- What a connection's work keeps: that the commands of the frames taken were done in order, each
+-- call due made once, and each text written once.
+use Rattle.std.specs.Prelude.{◌≡◌, ℕ, ◌<◌, ◌≤◌, ◌^◌, List, [], ◌∷◌, ◌++◌, length, take}
+use Rattle.zy_base.specs.declared.call_reply.CallReply.{CallReply}
+use Rattle.zy_base.specs.Kind.{AreAnswers}
+use Rattle.zy_base.specs.Replies.{replies_at}
+use Rattle.mc_parse.specs.declared.command.Command.{Command}
+use Rattle.mc_parse.specs.declared.shard_call.ShardCall.{ShardCall}
+use Rattle.mc_parse.specs.Calls.{Due, calls_of, due, dues_of, tagged}
+use Rattle.mc_reply.specs.Answers.{AnswerEach}
+use Rattle.zy_frame.specs.declared.frame_kind.FrameKind.{FrameKind}
+use Rattle.zy_frame.specs.Frame.{command_of}
+use Rattle.zy_conn.specs.Work.{Start, idle, raw, read, going, Worked, commands_of_frames, texts_all, texts_taken}
+
+-- ---- the command that is begun
+
+-- the command that is begun, where one is
+abbrev pub command_begun : Start → List Command
+command_begun idle = []
+command_begun (raw frame) = command_of frame ∷ []
+command_begun (read command) = command ∷ []
+command_begun (going command calls replies) = command ∷ []
+
+-- the calls that were made of the command that is begun
+abbrev pub dues_begun : ℕ → ℕ → Start → List Due
+dues_begun connection index idle = []
+dues_begun connection index (raw frame) = []
+dues_begun connection index (read command) = []
+dues_begun connection index (going command calls replies) =
+    tagged connection index 0 (take (length replies) calls)
+
+-- the replies that the command that is begun has got
+abbrev pub replies_begun : Start → List CallReply
+replies_begun idle = []
+replies_begun (raw frame) = []
+replies_begun (read command) = []
+replies_begun (going command calls replies) = replies
+
+-- the calls are those of the command, and the first of them have got these replies
+pub record IsGoingOn (shards : ℕ) (command : Command) (calls : List ShardCall) (replies : List CallReply) : Type 0 where
+  pub some : 1 ≤ shards
+  pub limit : shards ≤ 256
+  pub all : calls ≡ calls_of shards command
+  pub few : length replies ≤ length calls
+  pub answers : AnswerEach (take (length replies) calls) replies
+
+-- what is begun goes on, where it has its calls
+abbrev pub IsBegun : ℕ → Start → Type 0
+IsBegun shards idle = Unit {0}
+IsBegun shards (raw frame) = Unit {0}
+IsBegun shards (read command) = Unit {0}
+IsBegun shards (going command calls replies) = IsGoingOn shards command calls replies
+
+-- ---- the work
+
+pub record Kept (work : Worked) : Type 0 where
+  -- the frames taken are those of the finished commands, and then that of the command that is begun
+  pub done : List Command
+  pub frames : commands_of_frames work.taken ≡ done ++ command_begun work.begun
+  pub count : length done ≡ work.finished
+  -- the calls made are those due of the finished commands, and then the first of the command that is begun
+  pub dues : dues_of work.calls ≡ due work.table.slots work.conn done ++ dues_begun work.conn work.finished work.begun
+  -- each got a reply of a kind that its call may get
+  pub kinds : AreAnswers work.calls
+  -- the command that is begun has the replies of its own calls
+  pub begun : IsBegun work.table.slots work.begun
+  pub now : replies_at work.finished work.calls ≡ replies_begun work.begun
+  pub later : (index : ℕ) → work.finished < index → replies_at index work.calls ≡ []
+  -- the texts ever taken and those that wait are those of the finished commands
+  pub texts : texts_taken work ++ work.batch ≡ take work.finished (texts_all work)
+  pub shown : work.shown ≤ work.finished
+  -- no more frames are taken than commands can be counted
+  pub room : length work.taken ≤ 2 ^ 40
+
+-- each frame that was offered was taken, and nothing is begun
+pub record HasDone (offered : List FrameKind) (work : Worked) : Type 0 where
+  pub kept : Kept work
+  pub none : work.begun ≡ idle
+  pub all : work.taken ≡ offered

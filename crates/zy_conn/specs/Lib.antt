@@ -1,0 +1,6 @@
+pub mod Ring
+pub mod Work
+pub mod Kept
+pub mod Hold
+pub mod Block
+pub mod Step

@@ -1,0 +1,113 @@
+-- The steps by which a connection's work goes on. No public clause cites this module.
+use Rattle.std.specs.Prelude.{◌≡◌, ◌⊎◌, ℕ, ◌+◌, ◌-◌, ◌≤◌, ◌^◌, List, [], ◌∷◌, ◌++◌, length, Some, slice_get}
+use Rattle.zy_base.specs.declared.call_reply.CallReply.{CallReply}
+use Rattle.zy_base.specs.declared.entry.Entry.{Entry}
+use Rattle.zy_base.specs.Kind.{MayAnswer}
+use Rattle.mc_parse.specs.declared.shard_call.ShardCall.{ShardCall}
+use Rattle.mc_parse.specs.Calls.{due_of, tag_of}
+use Rattle.mc_reply.specs.Text.{text}
+use Rattle.mc_reply.specs.Answers.{AnswerCommand}
+use Rattle.mc_store.specs.Pass.{Passed}
+use Rattle.mc_store.specs.Call.{WasBusy}
+use Rattle.zy_conn.specs.declared.hold_end.HoldEnd.{HoldEnd}
+use Rattle.zy_conn.specs.declared.hold_end.HoldEnd.TheVariants.{Drained, Limit, Spent, Busy}
+use Rattle.zy_conn.specs.declared.calling.Made.{Made}
+use Rattle.zy_conn.specs.declared.calling.Made.TheVariants.{Call, Done, Stopped}
+use Rattle.zy_conn.specs.Work.{Start, idle, raw, read, going, Worked, mark_of}
+use Rattle.zy_conn.specs.Hold.{IsCallSpent, IsCommandSpent, FoundBusy}
+
+-- ---- what is begun
+
+-- the command of what is begun is known
+abbrev pub IsRead : Start → Type 0
+IsRead idle = ⊥
+IsRead (raw frame) = ⊥
+IsRead (read command) = Unit {0}
+IsRead (going command calls replies) = Unit {0}
+
+-- its calls are known
+abbrev pub IsGoing : Start → Type 0
+IsGoing idle = ⊥
+IsGoing (raw frame) = ⊥
+IsGoing (read command) = ⊥
+IsGoing (going command calls replies) = Unit {0}
+
+-- each of its calls was made
+abbrev pub IsWhole : Start → Type 0
+IsWhole idle = ⊥
+IsWhole (raw frame) = ⊥
+IsWhole (read command) = ⊥
+IsWhole (going command calls replies) = length calls ≤ length replies
+
+-- each of its calls got a reply that it may get
+abbrev pub AreAllAnswered : Start → Type 0
+AreAllAnswered idle = ⊥
+AreAllAnswered (raw frame) = ⊥
+AreAllAnswered (read command) = ⊥
+AreAllAnswered (going command calls replies) = AnswerCommand command replies
+
+-- the text of the command that is begun, with the replies so far
+abbrev pub text_begun : Start → List ℕ
+text_begun idle = []
+text_begun (raw frame) = []
+text_begun (read command) = []
+text_begun (going command calls replies) = text command replies
+
+-- how many calls are left of what is begun
+abbrev pub calls_left : Start → ℕ
+calls_left idle = 0
+calls_left (raw frame) = 0
+calls_left (read command) = 0
+calls_left (going command calls replies) = length calls - length replies
+
+-- ---- the next call
+
+-- the pass is the same, and has made no fewer steps
+pub record SamePass (before after : Passed) : Type 0 where
+  pub table : after.table ≡ before.table
+  pub conn : after.conn ≡ before.conn
+  pub steps : before.trace.steps ≤ after.trace.steps
+
+-- this call was made as this part of a command
+pub record IsPart (connection index part : ℕ) (asked : ShardCall) (entry : Entry) : Type 0 where
+  pub due : due_of entry ≡ record { tag = tag_of connection index part; call = asked }
+  pub kind : MayAnswer asked.call entry.reply
+
+-- why the next call was not made
+abbrev pub CallStopsBy : ShardCall → Passed → Passed → HoldEnd → Type 0
+CallStopsBy asked before after Drained = ⊥
+CallStopsBy asked before after Limit = ⊥
+CallStopsBy asked before after Spent = 2 ^ 40 ≤ length after.calls
+CallStopsBy asked before after (Busy shard loaded found) =
+    WasBusy asked.shard before.trace after.trace shard loaded found
+
+-- what came of the next of these calls, of the replies and the pass before and after it
+module _ (index : ℕ) (calls : List ShardCall) (replies : List CallReply) (before : Passed) (replies' : List CallReply) (after : Passed) where
+  abbrev pub Makes : Made → Type 0
+  Makes Call = (asked : ShardCall) × (slice_get calls (length replies) ≡ Some asked)
+      × (entry : Entry) × IsPart before.conn index (length replies) asked entry
+      × (after.calls ≡ before.calls ++ entry ∷ []) × (replies' ≡ replies ++ entry.reply ∷ [])
+  Makes Done = (length calls ≤ length replies) × (after.calls ≡ before.calls) × (replies' ≡ replies)
+  Makes (Stopped end) = (asked : ShardCall) × (slice_get calls (length replies) ≡ Some asked)
+      × CallStopsBy asked before after end × (after.calls ≡ before.calls) × (replies' ≡ replies)
+
+-- ---- the work
+
+-- what stays, whatever is done
+pub record Goes (before after : Worked) : Type 0 where
+  pub table : after.table ≡ before.table
+  pub mark : mark_of after ≡ mark_of before
+  pub steps : before.trace.steps ≤ after.trace.steps
+
+-- why the work stops
+abbrev pub StopsBy : Worked → Worked → HoldEnd → Type 0
+StopsBy before after Drained = (after.begun ≡ idle) × (after.known ≡ [])
+StopsBy before after Limit = ⊥
+StopsBy before after Spent = IsCallSpent after ⊎ IsCommandSpent after
+StopsBy before after (Busy shard loaded found) = FoundBusy before.trace after shard loaded found
+
+-- what came of the next call of what is begun
+abbrev pub MadeFrom : Worked → Worked → Made → Type 0
+MadeFrom before after Call = calls_left before.begun ≡ calls_left after.begun + 1
+MadeFrom before after Done = IsWhole after.begun
+MadeFrom before after (Stopped end) = StopsBy before after end

@@ -1,0 +1,99 @@
+-- What contracts see of a connection's work: its pass, its events, the command that is begun, and
+-- the texts of those that are finished.
+use Rattle.std.specs.Prelude.{ℕ, Bool, true, false, ◌||◌, nat_lt, List, map, take, length}
+use Rattle.atomic_table.specs.Seated.{TableId}
+use Rattle.zy_base.specs.declared.call_reply.CallReply.{CallReply}
+use Rattle.zy_base.specs.declared.entry.Entry.{Entry}
+use Rattle.mc_parse.specs.declared.command.Command.{Command}
+use Rattle.mc_parse.specs.declared.shard_call.ShardCall.{ShardCall}
+use Rattle.mc_reply.specs.Texts.{texts_of}
+use Rattle.mc_store.specs.declared.store.view.Trace.{Trace}
+use Rattle.mc_store.specs.Pass.{Passed}
+use Rattle.zy_frame.specs.declared.frame_kind.FrameKind.{FrameKind}
+use Rattle.zy_frame.specs.Frame.{command_of}
+use Rattle.zy_rx.specs.Ring.{RingName}
+use Rattle.zy_conn.specs.declared.begun.Begun.{Begun}
+use Rattle.zy_conn.specs.declared.begun.Begun.TheVariants.{Nothing, Raw, Read, Going}
+
+-- ---- the command that is begun
+
+-- nothing is begun; or a frame that was taken, its command, or that with its calls and the replies so far
+pub data Start : Type 0 where
+  idle : Start
+  raw : FrameKind → Start
+  read : Command → Start
+  going : Command → List ShardCall → List CallReply → Start
+
+-- what is begun, with the replies so far
+abbrev pub start_of : Begun → List CallReply → Start
+start_of Nothing replies = idle
+start_of (Raw frame) replies = raw frame
+start_of (Read command) replies = read command
+start_of (Going command calls) replies = going command calls replies
+
+-- something is begun
+abbrev pub is_begun : Start → Bool
+is_begun idle = false
+is_begun (raw frame) = true
+is_begun (read command) = true
+is_begun (going command calls replies) = true
+
+-- ---- the work
+
+-- a connection with its store and event ring, the frames taken and those known, what is begun, how many commands are finished and for how many the texts were taken, the texts that wait, and the calls of its pass
+pub record Worked : Type 0 where
+  pub conn : ℕ
+  pub table : TableId
+  pub ring : RingName
+  pub taken : List FrameKind
+  pub known : List FrameKind
+  pub begun : Start
+  pub finished : ℕ
+  pub shown : ℕ
+  pub batch : List (List ℕ)
+  pub calls : List Entry
+  pub trace : Trace
+
+-- the work of this pass over this event ring
+abbrev pub worked : Passed → RingName → List FrameKind → List FrameKind → Start → ℕ → ℕ → List (List ℕ) → Worked
+worked pass ring taken known begun finished shown batch = record {
+  conn = pass.conn;
+  table = pass.table;
+  ring = ring;
+  taken = taken;
+  known = known;
+  begun = begun;
+  finished = finished;
+  shown = shown;
+  batch = batch;
+  calls = pass.calls;
+  trace = pass.trace;
+}
+
+-- a command is begun, or a frame is known
+abbrev pub has_event : Worked → Bool
+has_event work = is_begun work.begun || nat_lt 0 (length work.known)
+
+-- ---- texts
+
+-- the commands of frames
+abbrev pub commands_of_frames : List FrameKind → List Command
+commands_of_frames frames = map command_of frames
+
+-- the texts of all commands whose frames were taken, each with the replies of its own calls
+abbrev pub texts_all : Worked → List (List ℕ)
+texts_all work = texts_of (commands_of_frames work.taken) work.calls
+
+-- the texts that were ever taken
+abbrev pub texts_taken : Worked → List (List ℕ)
+texts_taken work = take work.shown (texts_all work)
+
+-- ---- the mark
+
+-- the connection, its event ring, and the texts that were ever taken
+abbrev pub Mark : Type 0
+Mark = ℕ × (RingName × List (List ℕ))
+
+-- the mark of a connection's work, which the taking of a batch alone changes
+abbrev pub mark_of : Worked → Mark
+mark_of work = (work.conn, (work.ring, texts_taken work))

@@ -1,0 +1,27 @@
+//! The command that is begun.
+ghost use Rattle.std.specs.Prelude.{◌≡◌};
+
+use mc_parse::{Calls, Command};
+use std::mem;
+use zy_frame::Frame;
+
+/// What is begun. A step that finds no memory leaves it where it was, so that a later one goes on.
+#[derive(Drop)]
+pub(crate) enum Begun {
+    Nothing,
+    /// A frame that was taken from the event ring.
+    Raw(Frame),
+    /// The command of that frame.
+    Read(Command),
+    /// The command with its calls, of which the first were made.
+    Going { command: Command, calls: Calls },
+}
+
+impl Begun {
+    /// Puts another in its place. What was there is let go.
+    pub(crate) fn put(&mut self, begun: Begun)
+        ensures value { self.new ≡ begun }
+    {
+        drop(mem::replace(self, begun));
+    }
+}

@@ -1,0 +1,161 @@
+//! A connection's block.
+ghost use Rattle.std.specs.Prelude.{◌≡◌, ◌+◌, ◌<◌, ◌≤◌, [], ◌++◌, length, IfOk, IfErr};
+ghost use Rattle.mc_store.specs.Pass.{passed};
+ghost use Rattle.zy_conn.specs.Ring.{sending};
+ghost use Rattle.zy_conn.specs.Work.{worked, idle, has_event, texts_taken, mark_of};
+ghost use Rattle.zy_conn.specs.Kept.{Kept};
+ghost use Rattle.zy_conn.specs.Hold.{AreHolds, HeldTo, IsRecorded};
+ghost use Rattle.zy_conn.specs.Block.{blocked};
+
+use crate::hold_end::HoldEnd;
+use crate::holding::carry_out;
+use crate::inlet::EventInlet;
+use crate::work::Work;
+use mc_store::{Pass, StoreTable};
+use std::alloc::Global;
+use std::marker::Model;
+use zy_base::{Gate, Hold, Holds, NoMemory};
+use zy_calls::Batch;
+use zy_shuffle::Marked;
+
+/// What travels with a connection: its pass on the store, its events, the command that is begun, the
+/// texts that wait, and its holds. Contracts see it as its work and the list of its holds.
+#[derive(Drop)]
+pub struct Block {
+    work: Work,
+    holds: Vec<Hold>,
+}
+
+impl Model for Block {
+    ghost use Rattle.zy_conn.specs.Hold.{AreHolds};
+    ghost use Rattle.zy_conn.specs.Block.{Blocked, blocked};
+
+    ghost Value = { Blocked };
+
+    ghost view = { λ b. blocked b.work b.holds.items };
+
+    ghost invariant = { λ b. AreHolds b.work.conn b.work.finished b.holds.items };
+}
+
+impl Marked for Block {
+    ghost use Rattle.zy_table.specs.Name.{name_of};
+    ghost use Rattle.zy_conn.specs.Work.{Mark, mark_of};
+
+    ghost Mark = { Mark };
+
+    ghost mark = { λ b. mark_of b.work };
+
+    ghost label = { λ b. name_of b.work.table };
+}
+
+impl Block {
+    /// The block of a connection, with the other end of its event ring. After a refusal the pass is
+    /// handed back.
+    pub fn new(
+        alloc: Global,
+        conn: u32,
+        pass: Pass,
+    ) -> Result<(Block, EventInlet), (Pass, NoMemory)>
+        requires conn { pass.conn ≡ conn }
+        requires empty { pass.calls ≡ [] }
+        ensures block { IfOk result (λ made. made.0 ≡ blocked (worked pass made.1.ring [] [] idle 0 0 []) []) }
+        ensures inlet { IfOk result (λ made. made.1 ≡ sending made.1.ring [] 64) }
+        ensures returned { IfErr result (λ e. e.0 ≡ pass) }
+    {
+        match Work::new(alloc, pass) {
+            Ok((work, inlet)) => Ok((
+                Block {
+                    work,
+                    holds: Vec::new(alloc),
+                },
+                inlet,
+            )),
+            Err(e) => Err(e),
+        }
+    }
+
+    /// The connection.
+    pub fn conn(&self) -> u32
+        ensures value { result ≡ self.now.work.conn }
+    {
+        self.work.conn()
+    }
+
+    /// The number of finished commands.
+    pub fn finished(&self) -> u64
+        ensures value { result ≡ self.now.work.finished }
+    {
+        self.work.finished()
+    }
+
+    /// Whether a command is begun or a frame is known.
+    pub fn has_event(&self) -> bool
+        ensures value { result ≡ has_event self.now.work }
+    {
+        self.work.has_event()
+    }
+
+    /// Shows each end of the event ring what the other did, on the thread that has both. After it the
+    /// block knows every frame, and the inlet every free slot.
+    pub fn meet(&mut self, inlet: &mut EventInlet)
+        requires ring { inlet.old.ring ≡ self.old.work.ring }
+        ensures block { self.new ≡ record self.old { work = record self.old.work { known = self.new.work.known } } }
+        ensures inlet { inlet.new ≡ record inlet.old { free = inlet.new.free } }
+        ensures all { inlet.new.sent ≡ self.new.work.taken ++ self.new.work.known }
+        ensures room { 64 + length self.new.work.taken ≤ length inlet.new.sent + inlet.new.free }
+    {
+        self.work.meet(inlet)
+    }
+
+    /// The texts that wait, with the number of finished commands; none is left. Takes no memory.
+    pub fn take_batch(&mut self) -> Batch
+        ensures batch { (result.texts ≡ self.old.work.batch) × (result.finished ≡ self.old.work.finished) }
+        ensures block { self.new ≡ record self.old { work = record self.old.work { shown = self.old.work.finished; batch = [] } } }
+        ensures texts { texts_taken self.new.work ≡ texts_taken self.old.work ++ self.old.work.batch }
+    {
+        self.work.take_batch()
+    }
+
+    /// Carries out commands from the front. A hold that finished some is recorded; the room for that
+    /// is taken first. After a refusal the calls that were made stay made, and a further hold goes on
+    /// from there.
+    pub fn hold<G: Gate>(
+        &mut self,
+        store: &StoreTable,
+        gate: &G,
+        core: u32,
+    ) -> Result<HoldEnd, NoMemory>
+        requires table { self.old.work.table ≡ store.now.id }
+        requires core { core < 64 }
+
+        // Why it ends, and what it recorded.
+        ensures end { IfOk result (HeldTo self.old.work self.new.work) }
+        ensures holds { IsRecorded core self.old self.new }
+
+        // What stays, also after a refusal.
+        ensures table { self.new.work.table ≡ self.old.work.table }
+        ensures mark { mark_of self.new.work ≡ mark_of self.old.work }
+        ensures more { self.old.work.finished ≤ self.new.work.finished }
+        ensures limit { self.new.work.finished ≤ self.old.work.finished + 64 }
+    {
+        if self.holds.reserve(1).is_err() {
+            return Err(NoMemory);
+        }
+        let (count, end) = carry_out(&mut self.work, store, gate, core);
+        if count > 0 {
+            let conn = self.work.conn();
+            self.holds.push_reserved(Hold { core, conn, count });
+        }
+        end
+    }
+
+    /// The pass and the holds, and what the block kept. Takes no memory.
+    pub fn into_parts(self) -> (Pass, Holds)
+        ensures pass { result.0 ≡ passed self.work.table self.work.conn self.work.calls self.work.trace }
+        ensures holds { result.1 ≡ self.holds }
+        ensures kept { Kept self.work × AreHolds self.work.conn self.work.finished self.holds }
+    {
+        let Block { work, holds } = self;
+        (work.into_pass(), Holds::from_vec(holds))
+    }
+}

@@ -1,0 +1,14 @@
+//! Why a hold ends.
+
+/// Why a hold ended.
+#[derive(Debug, Drop)]
+pub enum HoldEnd {
+    /// No command is begun, and no frame is known.
+    Drained,
+    /// 64 commands were finished in this hold, and a frame is known.
+    Limit,
+    /// A call or a command is due, and the most that a connection can have were made.
+    Spent,
+    /// The next call found its shard busy, as `try_call` of the store answered it.
+    Busy { shard: u32, loaded: u64, found: u64 },
+}

@@ -1,0 +1,26 @@
+//! Laws of blocks: the functions do nothing, and their contracts are the laws.
+ghost use Rattle.std.specs.Prelude.{◌≡◌, ◌++◌, ℕ, List, length};
+ghost use Rattle.mc_parse.specs.Calls.{due, dues_of};
+ghost use Rattle.mc_reply.specs.Texts.{texts_of};
+ghost use Rattle.zy_frame.specs.declared.frame_kind.FrameKind.{FrameKind};
+ghost use Rattle.zy_conn.specs.Work.{Worked, commands_of_frames, texts_taken};
+ghost use Rattle.zy_conn.specs.Kept.{Kept, HasDone};
+
+/// Where every frame that was offered was taken and nothing is begun, the calls made are those due of
+/// all commands, and the texts taken and those that wait are the texts of all of them, each with the
+/// replies of its own calls.
+pub fn all_commands_are_done()
+    ensures calls { (offered : List FrameKind) (work : Worked) → HasDone offered work
+        → dues_of work.calls ≡ due work.table.slots work.conn (commands_of_frames offered) }
+    ensures texts { (offered : List FrameKind) (work : Worked) → HasDone offered work
+        → texts_taken work ++ work.batch ≡ texts_of (commands_of_frames offered) work.calls }
+    ensures count { (offered : List FrameKind) (work : Worked) → HasDone offered work
+        → work.finished ≡ length offered }
+{}
+
+/// Each finished command has one text, which was taken or waits.
+pub fn each_finished_command_has_one_text()
+    ensures count { (work : Worked) → Kept work
+        → length (texts_taken work ++ work.batch) ≡ work.finished }
+    ensures taken { (work : Worked) → Kept work → length (texts_taken work) ≡ work.shown }
+{}

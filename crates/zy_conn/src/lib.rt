@@ -1,0 +1,18 @@
+//! A connection's block: its pass on the store, its events, the command that is begun, its batch and its holds.
+#![tactic(auto)]
+
+mod begun;
+mod block;
+mod calling;
+mod hold_end;
+mod holding;
+mod inlet;
+mod laws;
+#[cfg(test)]
+mod tests;
+mod work;
+
+pub use block::Block;
+pub use hold_end::HoldEnd;
+pub use inlet::EventInlet;
+pub use laws::{all_commands_are_done, each_finished_command_has_one_text};

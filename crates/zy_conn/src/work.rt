@@ -1,0 +1,144 @@
+//! A connection's work: all of a block but its holds.
+ghost use Rattle.std.specs.Prelude.{◌≡◌, ◌≢◌, ◌+◌, ◌≤◌, [], ◌++◌, length, IfOk, IfErr, MatchBool};
+ghost use Rattle.mc_store.specs.Pass.{passed};
+ghost use Rattle.zy_conn.specs.Ring.{sending};
+ghost use Rattle.zy_conn.specs.Work.{worked, idle, has_event, texts_taken};
+ghost use Rattle.zy_conn.specs.Kept.{Kept};
+
+mod run;
+mod steps;
+
+use crate::begun::Begun;
+use crate::inlet::EventInlet;
+use mc_store::Pass;
+use rtrb::{Consumer, RingBuffer};
+use std::alloc::Global;
+use std::marker::Model;
+use std::mem;
+use zy_base::{Blob, CallReply, NoMemory};
+use zy_calls::Batch;
+use zy_frame::Frame;
+
+// The slots of an event ring.
+const EVENTS: usize = 64;
+
+/// All of a block but its holds. Contracts see its pass, the frames taken from its event ring and
+/// those known, what is begun, how many commands are finished, and the texts that wait.
+#[derive(Drop)]
+pub(crate) struct Work {
+    alloc: Global,
+    pass: Pass,
+    frames: Consumer<Frame>,
+    begun: Begun,
+    // The replies so far of a command with its calls; its room is used again.
+    replies: Vec<CallReply>,
+    // For how many commands the texts were taken.
+    shown: u64,
+    batch: Batch,
+    // Where a text is written; its room is used again.
+    text: Blob,
+}
+
+impl Model for Work {
+    ghost use Rattle.rtrb.specs.Ring.{received, known_items};
+    ghost use Rattle.zy_rx.specs.Ring.{ring_named};
+    ghost use Rattle.zy_conn.specs.Work.{Worked, start_of, worked};
+    ghost use Rattle.zy_conn.specs.Kept.{Kept};
+
+    ghost Value = { Worked };
+
+    ghost view = { λ w. worked w.pass (ring_named w.frames.end.words w.frames.end.slots w.frames.end.names) (received w.frames) (known_items w.frames) (start_of w.begun w.replies.items) w.batch.finished w.shown w.batch.texts };
+
+    ghost invariant = { λ w. Kept (worked w.pass (ring_named w.frames.end.words w.frames.end.slots w.frames.end.names) (received w.frames) (known_items w.frames) (start_of w.begun w.replies.items) w.batch.finished w.shown w.batch.texts) };
+}
+
+impl Work {
+    /// The work of a pass without calls: no frame was offered, and nothing is begun. After a refusal
+    /// the pass is handed back.
+    pub(crate) fn new(alloc: Global, pass: Pass) -> Result<(Work, EventInlet), (Pass, NoMemory)>
+        requires empty { pass.calls ≡ [] }
+        ensures work { IfOk result (λ made. made.0 ≡ worked pass made.1.ring [] [] idle 0 0 []) }
+        ensures inlet { IfOk result (λ made. made.1 ≡ sending made.1.ring [] 64) }
+        ensures returned { IfErr result (λ e. e.0 ≡ pass) }
+    {
+        match RingBuffer::new(alloc, EVENTS) {
+            Ok((producer, frames)) => Ok((
+                Work {
+                    alloc,
+                    pass,
+                    frames,
+                    begun: Begun::Nothing,
+                    replies: Vec::new(alloc),
+                    shown: 0,
+                    batch: Batch::new(alloc, 0),
+                    text: Blob::new(alloc),
+                },
+                EventInlet { producer },
+            )),
+            Err(_) => Err((pass, NoMemory)),
+        }
+    }
+
+    /// The connection.
+    pub(crate) fn conn(&self) -> u32
+        ensures value { result ≡ self.now.conn }
+    {
+        self.pass.conn()
+    }
+
+    /// The number of finished commands.
+    pub(crate) fn finished(&self) -> u64
+        ensures value { result ≡ self.now.finished }
+    {
+        self.batch.finished()
+    }
+
+    /// Whether a command is begun or a frame is known.
+    pub(crate) fn has_event(&self) -> bool
+        ensures value { result ≡ has_event self.now }
+    {
+        match &self.begun {
+            Begun::Nothing => self.frames.cached_slots() > 0,
+            _ => true,
+        }
+    }
+
+    /// Shows each end of the event ring what the other did.
+    pub(crate) fn meet(&mut self, inlet: &mut EventInlet)
+        requires ring { inlet.old.ring ≡ self.old.ring }
+        ensures work { self.new ≡ record self.old { known = self.new.known } }
+        ensures inlet { inlet.new ≡ record inlet.old { free = inlet.new.free } }
+        ensures all { inlet.new.sent ≡ self.new.taken ++ self.new.known }
+        ensures room { 64 + length self.new.taken ≤ length inlet.new.sent + inlet.new.free }
+    {
+        inlet.producer.slots_beside(&mut self.frames);
+        self.frames.slots_beside(&mut inlet.producer);
+    }
+
+    /// Looks for frames, and says whether one is known.
+    pub(crate) fn looks(&mut self) -> bool
+        ensures work { self.new ≡ record self.old { known = self.new.known } }
+        ensures known { MatchBool result (self.new.known ≢ []) (self.new.known ≡ []) }
+    {
+        !self.frames.is_empty()
+    }
+
+    /// The texts that wait, with the number of finished commands; none is left.
+    pub(crate) fn take_batch(&mut self) -> Batch
+        ensures batch { (result.texts ≡ self.old.batch) × (result.finished ≡ self.old.finished) }
+        ensures work { self.new ≡ record self.old { shown = self.old.finished; batch = [] } }
+        ensures texts { texts_taken self.new ≡ texts_taken self.old ++ self.old.batch }
+    {
+        let finished = self.batch.finished();
+        self.shown = finished;
+        mem::replace(&mut self.batch, Batch::new(self.alloc, finished))
+    }
+
+    /// The pass, and what the work kept.
+    pub(crate) fn into_pass(self) -> Pass
+        ensures pass { result ≡ passed self.table self.conn self.calls self.trace }
+        ensures kept { Kept self }
+    {
+        self.pass
+    }
+}

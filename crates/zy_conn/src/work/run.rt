@@ -1,0 +1,65 @@
+//! One command, from where it stands to its end.
+ghost use Rattle.std.specs.Prelude.{◌≡◌, ◌+◌, ◌≤◌, OnErr, IfOk, MatchOption};
+ghost use Rattle.zy_conn.specs.Work.{idle};
+ghost use Rattle.zy_conn.specs.Step.{IsGoing, IsWhole, Goes, StopsBy};
+
+use super::Work;
+use crate::calling::Made;
+use crate::hold_end::HoldEnd;
+use mc_store::StoreTable;
+use zy_base::{Gate, NoMemory};
+
+impl Work {
+    /// Makes the calls that are left of the command that is begun, or says why not.
+    pub(crate) fn make_calls(&mut self, store: &StoreTable) -> Result<Option<HoldEnd>, NoMemory>
+        requires table { self.old.table ≡ store.now.id }
+        requires shards { store.now.shards ≡ self.old.table.slots }
+        requires going { IsGoing self.old.begun }
+        ensures goes { Goes self.old self.new }
+        ensures finished { self.new.finished ≡ self.old.finished }
+        ensures made { IfOk result (λ stop. MatchOption stop (IsWhole self.new.begun) (StopsBy self.old self.new)) }
+    {
+        loop {
+            match self.call(store) {
+                Ok(Made::Call) => {}
+                Ok(Made::Done) => return Ok(None),
+                Ok(Made::Stopped(end)) => return Ok(Some(end)),
+                Err(e) => return Err(e),
+            }
+        }
+    }
+
+    /// Goes on until a command is finished, or says why not.
+    pub(crate) fn run<G: Gate>(
+        &mut self,
+        store: &StoreTable,
+        gate: &G,
+        core: u32,
+    ) -> Result<Option<HoldEnd>, NoMemory>
+        requires table { self.old.table ≡ store.now.id }
+        ensures goes { Goes self.old self.new }
+        ensures none { IfOk result (λ stop. MatchOption stop ((self.new.finished ≡ self.old.finished + 1) × (self.new.begun ≡ idle))
+            (λ end. (self.new.finished ≡ self.old.finished) × StopsBy self.old self.new end)) }
+        ensures err { OnErr result (self.new.finished ≡ self.old.finished) }
+    {
+        let shards = store.shards();
+        if let Some(stop) = self.begin(gate, core) {
+            return Ok(Some(stop));
+        }
+        if let Err(e) = self.read() {
+            return Err(e);
+        }
+        if let Err(e) = self.list(shards) {
+            return Err(e);
+        }
+        match self.make_calls(store) {
+            Ok(None) => {}
+            Ok(Some(stop)) => return Ok(Some(stop)),
+            Err(e) => return Err(e),
+        }
+        match self.finish() {
+            Ok(()) => Ok(None),
+            Err(e) => Err(e),
+        }
+    }
+}

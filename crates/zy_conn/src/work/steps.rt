@@ -1,0 +1,162 @@
+//! The steps of a connection's work. A step that finds no memory leaves the work where it was.
+ghost use Rattle.std.specs.Prelude.{◌≡◌, ◌≢◌, ◌+◌, ◌≤◌, [], ◌∷◌, ◌++◌, OnOk, OnErr, IfOk, MatchOption};
+ghost use Rattle.zy_calls.specs.Batch.{with_text};
+ghost use Rattle.zy_conn.specs.Work.{start_of, idle};
+ghost use Rattle.zy_conn.specs.Step.{IsRead, IsGoing, IsWhole, AreAllAnswered, text_begun, Goes, StopsBy, MadeFrom};
+
+use super::Work;
+use crate::begun::Begun;
+use crate::calling::{MOST, Made, next_call};
+use crate::hold_end::HoldEnd;
+use mc_parse::calls;
+use mc_reply::reply_text;
+use mc_store::StoreTable;
+use std::mem;
+use zy_base::{Blob, Gate, NoMemory, Replies};
+use zy_calls::Batch;
+use zy_frame::meaning;
+
+impl Work {
+    /// Begins the next command where none is begun, or says why not. It passes the gate.
+    pub(crate) fn begin<G: Gate>(&mut self, gate: &G, core: u32) -> Option<HoldEnd>
+        ensures goes { Goes self.old self.new }
+        ensures finished { self.new.finished ≡ self.old.finished }
+        ensures begun { MatchOption result (self.new.begun ≢ idle) (StopsBy self.old self.new) }
+    {
+        match &self.begun {
+            Begun::Nothing => {}
+            _ => return None,
+        }
+        if self.frames.is_empty() {
+            return Some(HoldEnd::Drained);
+        }
+        let index = self.batch.finished();
+        if index == MOST {
+            return Some(HoldEnd::Spent);
+        }
+        gate.pass(core, self.pass.conn(), index);
+        let frame = self.frames.pop_known();
+        self.begun.put(Begun::Raw(frame));
+        None
+    }
+
+    /// Reads the command of the frame that is begun.
+    pub(crate) fn read(&mut self) -> Result<(), NoMemory>
+        requires begun { self.old.begun ≢ idle }
+        ensures goes { Goes self.old self.new }
+        ensures finished { self.new.finished ≡ self.old.finished }
+        ensures read { OnOk result (IsRead self.new.begun) }
+    {
+        match mem::replace(&mut self.begun, Begun::Nothing) {
+            Begun::Raw(frame) => match meaning(self.alloc, frame) {
+                Ok(command) => {
+                    self.begun.put(Begun::Read(command));
+                    Ok(())
+                }
+                Err((frame, e)) => {
+                    self.begun.put(Begun::Raw(frame));
+                    Err(e)
+                }
+            },
+            begun => {
+                self.begun.put(begun);
+                Ok(())
+            }
+        }
+    }
+
+    /// Lists the calls of the command that is begun, on so many shards.
+    pub(crate) fn list(&mut self, shards: u32) -> Result<(), NoMemory>
+        requires shards { shards ≡ self.old.table.slots }
+        requires some { 1 ≤ shards }
+        requires few { shards ≤ 256 }
+        requires read { IsRead self.old.begun }
+        ensures goes { Goes self.old self.new }
+        ensures finished { self.new.finished ≡ self.old.finished }
+        ensures going { OnOk result (IsGoing self.new.begun) }
+    {
+        match mem::replace(&mut self.begun, Begun::Nothing) {
+            Begun::Read(command) => match calls(self.alloc, &command, shards) {
+                Ok(calls) => {
+                    self.replies.clear();
+                    self.begun.put(Begun::Going { command, calls });
+                    Ok(())
+                }
+                Err(e) => {
+                    self.begun.put(Begun::Read(command));
+                    Err(e)
+                }
+            },
+            begun => {
+                self.begun.put(begun);
+                Ok(())
+            }
+        }
+    }
+
+    /// Makes the next call of the command that is begun.
+    pub(crate) fn call(&mut self, store: &StoreTable) -> Result<Made, NoMemory>
+        requires table { self.old.table ≡ store.now.id }
+        requires shards { store.now.shards ≡ self.old.table.slots }
+        requires going { IsGoing self.old.begun }
+        ensures goes { Goes self.old self.new }
+        ensures finished { self.new.finished ≡ self.old.finished }
+        ensures going { IsGoing self.new.begun }
+        ensures made { IfOk result (MadeFrom self.old self.new) }
+    {
+        let Begun::Going { calls, .. } = &self.begun else {
+            unreachable!()
+        };
+        next_call(
+            &mut self.pass,
+            store,
+            self.batch.finished(),
+            calls.items(),
+            &mut self.replies,
+        )
+    }
+
+    /// Finishes the command that is begun: its text joins the batch.
+    pub(crate) fn finish(&mut self) -> Result<(), NoMemory>
+        requires whole { IsWhole self.old.begun }
+        ensures goes { Goes self.old self.new }
+        ensures ok { OnOk result ((self.new.finished ≡ self.old.finished + 1) × (self.new.begun ≡ idle)) }
+        ensures err { OnErr result (self.new.finished ≡ self.old.finished) }
+    {
+        let replies = Replies::from_vec(mem::replace(&mut self.replies, Vec::new(self.alloc)));
+        let sent = send(&mut self.batch, &mut self.text, &self.begun, &replies);
+        self.replies = replies.into_vec();
+        match sent {
+            Ok(()) => {
+                self.begun.put(Begun::Nothing);
+                self.replies.clear();
+                let finished = self.batch.finished();
+                self.batch.set_finished(finished + 1);
+                Ok(())
+            }
+            Err(e) => Err(e),
+        }
+    }
+}
+
+// Appends the text of the command that is begun to the batch. It is written into room that is used
+// again.
+fn send(
+    batch: &mut Batch,
+    room: &mut Blob,
+    begun: &Begun,
+    replies: &Replies,
+) -> Result<(), NoMemory>
+    requires answers { AreAllAnswered (start_of begun.now replies.now) }
+    ensures ok { OnOk result (batch.new ≡ with_text batch.old (text_begun (start_of begun.now replies.now))) }
+    ensures err { OnErr result (batch.new ≡ batch.old) }
+{
+    let Begun::Going { command, .. } = begun else {
+        unreachable!()
+    };
+    room.truncate(0);
+    match reply_text(room, command, replies) {
+        Ok(()) => batch.send_copy(room.bytes()),
+        Err(e) => Err(e),
+    }
+}
