@@ -4,3 +4,4 @@ pub mod Step
 pub mod Uniques
 pub mod KeyReplies
 pub mod Laws
+pub mod Worked

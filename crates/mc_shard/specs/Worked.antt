@@ -1,0 +1,13 @@
+-- Words of worked calls.
+use Rattle.std.specs.Prelude.{ℕ, List, Option, Some}
+use Rattle.zy_base.specs.declared.item.Item.{Item}
+use Rattle.zy_base.specs.declared.call_reply.CallReply.{CallReply}
+use Rattle.zy_base.specs.Shard.{Effect, Outcome}
+
+-- an item with this value, the flags 7 and the unique 19
+abbrev pub item_of : List ℕ → Option Item
+item_of value = Some (record { flags = 7; value = value; unique = 19 })
+
+-- what a call answers, and what it does
+abbrev pub outcome : CallReply → Effect → Outcome
+outcome reply effect = record { reply = reply; effect = effect }
