@@ -1,7 +1,7 @@
 //! The table of calls on worked examples and against the plain slow shard, and the entries of calls.
 ghost use Rattle.std.specs.Prelude.{◌+◌, ◌^◌, ◌<◌, ◌≤◌};
 
-use crate::Shard;
+use crate::{Replay, Shard};
 use std::alloc::{AllocError, Global};
 use std::process::Abort;
 use std::test::Fail;
@@ -221,6 +221,24 @@ fn compare(
 fn each_row_of_the_table_answers_as_it_says(rt: HostRuntime) -> Result<(), Fail> {
     let mut shard = Shard::new(rt.alloc(), 3, 16);
     compare(&rt, rt.alloc(), &mut shard, &TABLE)?;
+    Ok(())
+}
+
+// Whether a shard without a history answers so.
+fn answers(alloc: Global, shard: &mut Replay, ask: Ask, say: Say) -> Result<bool, NoMemory> {
+    let call = call_of(alloc, ask)?;
+    let wanted = reply_of(alloc, say)?;
+    let reply = shard.answer(&call)?;
+    Ok(reply == wanted)
+}
+
+#[test]
+fn each_row_is_answered_so_without_a_history(rt: HostRuntime) -> Result<(), Fail> {
+    let mut shard = Replay::new(rt.alloc(), 3, 16);
+    for (ask, say) in &TABLE {
+        let same = answers(rt.alloc(), &mut shard, *ask, *say)?;
+        assert!(rt; same, "at {ask:?}");
+    }
     Ok(())
 }
 
