@@ -1,4 +1,5 @@
 pub mod Shard
+pub mod Replay
 pub mod Contents
 pub mod Step
 pub mod Uniques

@@ -41,6 +41,13 @@ impl Contents {
         }
     }
 
+    /// How many items were ever stored.
+    pub fn count(&self) -> u64
+        ensures value { result ≡ self.now.count }
+    {
+        self.count
+    }
+
     /// The item of a key.
     pub fn found(&self, key: &Option<Hashed>) -> Option<&Item>
         ensures value { option_copied result ≡ item_at self.now.items key.now }

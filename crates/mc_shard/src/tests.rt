@@ -1,5 +1,5 @@
 //! What no clause says: that calls succeed where memory is ample, and what is so where it is refused.
-use crate::Shard;
+use crate::{Replay, Shard};
 use std::alloc::Global;
 use std::process::Abort;
 use std::test::Fail;
@@ -64,5 +64,14 @@ fn what_is_deleted_is_missed(rt: HostRuntime) -> Result<(), Fail> {
     let key = Blob::copy_of(alloc, b"k")?;
     make(&rt, &mut shard, Call::Delete { key }, &CallReply::Deleted)?;
     make(&rt, &mut shard, Call::Flush, &CallReply::Flushed)?;
+    Ok(())
+}
+
+#[test]
+fn calls_are_answered_again_with_ample_memory(rt: HostRuntime) -> Result<(), Fail> {
+    let alloc = rt.alloc();
+    let mut replay = Replay::new(alloc, 3, 16);
+    let reply = replay.answer(&set(alloc)?)?;
+    assert!(rt; reply == CallReply::Stored);
     Ok(())
 }

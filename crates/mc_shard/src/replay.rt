@@ -1,0 +1,89 @@
+//! A shard of the store without a history.
+ghost use Rattle.std.specs.Prelude.{◌≡◌, ◌<◌, ◌≤◌, IfOk, OnOk, OnErr};
+ghost use Rattle.zy_base.specs.Shard.{empty_state, reply_to};
+ghost use Rattle.mc_shard.specs.Replay.{replaying, state_replayed};
+
+use crate::change::{Change, Step};
+use crate::contents::Contents;
+use crate::hashed::Hashed;
+use crate::step::step_of;
+use std::alloc::Global;
+use std::marker::Model;
+use zy_base::{Call, CallReply, NoMemory};
+
+// The most items that a shard ever stores.
+const MOST: u64 = 1 << 52;
+
+/// A shard of the store without a history, on which calls are made again. Contracts see it as its
+/// number, the number of shards, and its items with their counter.
+#[derive(Drop)]
+pub struct Replay {
+    alloc: Global,
+    number: u32,
+    shards: u32,
+    contents: Contents,
+}
+
+impl Model for Replay {
+    ghost use Rattle.std.specs.Prelude.{◌<◌, ◌≤◌};
+    ghost use Rattle.std.specs.Coded.{codes};
+    ghost use Rattle.mc_shard.specs.Contents.{items_code};
+    ghost use Rattle.mc_shard.specs.Replay.{Replayed, replaying};
+
+    ghost Value = { Replayed };
+
+    ghost coded = { Prim.hlevel (codes, items_code) };
+
+    ghost view = { λ r. replaying r.number r.shards r.contents };
+
+    ghost invariant = { λ r. (r.number < r.shards) × (r.shards ≤ 256) };
+}
+
+impl Replay {
+    /// The shard with this number, of so many, on which no call was made. Takes no memory.
+    pub fn new(alloc: Global, number: u32, shards: u32) -> Replay
+        requires within { number < shards }
+        requires few { shards ≤ 256 }
+        ensures value { result ≡ replaying number shards empty_state }
+    {
+        Replay {
+            alloc,
+            number,
+            shards,
+            contents: Contents::new(alloc),
+        }
+    }
+
+    /// Makes a call, and answers its reply. After a refusal the shard is as it was. Want of memory
+    /// is free; it comes where 2^52 items were stored.
+    pub fn answer(&mut self, call: &Call) -> Result<CallReply, NoMemory>
+        ensures reply { IfOk result (λ reply. reply ≡ reply_to self.old.state call.now) }
+        ensures ok { OnOk result (self.new ≡ state_replayed self.old call.now) }
+        ensures err { OnErr result (self.new ≡ self.old) }
+    {
+        if self.contents.count() >= MOST {
+            return Err(NoMemory);
+        }
+        let key = Hashed::of_call(call)?;
+        let found = self.contents.found(&key);
+        let step = shared(step_of(self.alloc, call, found)?)?;
+        self.contents
+            .carry_out(self.number, self.shards, key, step.change)?;
+        Ok(step.reply)
+    }
+}
+
+// The same step, whose value is put where its copies share its bytes.
+fn shared(step: Step) -> Result<Step, NoMemory>
+    ensures value { IfOk result (λ shared. shared ≡ step) }
+{
+    let Step { reply, change } = step;
+    let change = match change {
+        Change::Put { flags, mut value } => {
+            value.share()?;
+            Change::Put { flags, value }
+        }
+        other => other,
+    };
+    Ok(Step { reply, change })
+}
