@@ -1,0 +1,4 @@
+pub mod FrameLemmas
+mod StoredLemmas
+mod EntryLemmas
+pub mod JournalLemmas
