@@ -3,4 +3,3 @@ pub mod ArityLemmas
 pub mod NoreplyLemmas
 pub mod CheckLemmas
 pub mod CallLemmas
-pub mod KeyLemmas

@@ -9,4 +9,3 @@ pub mod Need
 pub mod Meaning
 pub mod Calls
 pub mod Noreply
-pub mod Within

@@ -13,8 +13,7 @@ ghost use Rattle.mc_parse.specs.Name.{name_of};
 ghost use Rattle.mc_parse.specs.Form.{Ask, asks, faulty, number_fault, form_after, form_of, line_form};
 ghost use Rattle.mc_parse.specs.Checks.{HasBadCount, LacksNoreply, HasLongKey, HasBadNumber, Asks, is_silenced};
 ghost use Rattle.mc_parse.specs.Need.{need};
-ghost use Rattle.mc_parse.specs.Within.{IsValue, IsWithin};
-ghost use Rattle.mc_parse.specs.Meaning.{value_of, line_end, is_ended, value_command, line_command, block_command, large_command, fault, IsBlockFor, IsTooLarge};
+ghost use Rattle.mc_parse.specs.Meaning.{line_end, is_ended, value_command, line_command, block_command, large_command, fault, IsBlockFor, IsTooLarge};
 ghost use Rattle.mc_parse.specs.Calls.{calls_of, asked_by, due, due_of, dues_of, IsAtKey, IsOnShard, IsDueOn, FollowsAll, FollowAll};
 ghost use Rattle.mc_parse.specs.Noreply.{takes_noreply, is_quiet, OnlyFallsSilent, EndsInNoreply};
 
@@ -116,13 +115,4 @@ pub fn entries_tell_what_was_due()
         → dues_of (entries ++ last ∷ []) ≡ dues_of entries ++ due_of last ∷ [] }
     ensures joined { (front entries : List Entry)
         → dues_of (front ++ entries) ≡ dues_of front ++ dues_of entries }
-{}
-
-/// Whatever a client sends, the keys of its commands have 1 to 250 bytes, and a value has at most as
-/// many as a value may have.
-#[tactic(auto, using(crate::proofs::KeyLemmas::line_within, crate::proofs::KeyLemmas::block_within, crate::proofs::KeyLemmas::large_within))]
-pub fn keys_and_values_are_within_their_bounds()
-    ensures line { (line : List ℕ) → IsWithin (line_command line) }
-    ensures block { (line block : List ℕ) → IsValue (value_of block) → IsWithin (block_command line block) }
-    ensures large { (line : List ℕ) → IsWithin (large_command line) }
 {}

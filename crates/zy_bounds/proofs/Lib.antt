@@ -1,4 +1,0 @@
-pub mod FrameLemmas
-mod StoredLemmas
-mod EntryLemmas
-pub mod JournalLemmas
