@@ -1,50 +1,124 @@
-//! What no clause says: holds of a block over a store.
-ghost use Rattle.std.specs.Prelude.{◌≡◌, ◌+◌, ◌≤◌, [], length};
+//! What no clause says: that holds send what memcached's clients expect, with ample memory.
+ghost use Rattle.std.specs.Prelude.{◌≡◌};
 
-use crate::{Block, EventInlet, HoldEnd};
-use mc_store::{Root, StoreTable};
+mod setup;
+mod threads;
+
+use crate::{EventInlet, HoldEnd};
+use setup::{Setup, offer_text, set_up};
 use std::alloc::Global;
-use std::process::Abort;
+use std::cell::RefCell;
 use std::test::Fail;
-use zy_base::{NoMemory, Ungated};
-use zy_frame::{Framer, Frames};
+use zy_base::{Gate, NoMemory, Ungated};
+use zy_calls::Output;
 
-// Offers the frames of a text.
-fn offer_text(alloc: Global, inlet: &mut EventInlet, text: &[u8]) -> Result<(), NoMemory>
-    ensures kept { inlet.new.ring ≡ inlet.old.ring }
+// Requests, how many they are, and what is sent.
+const ROWS: [(&[u8], u64, &[u8]); 3] = [
+    (
+        b"set a 0 0 1\r\nx\r\nset b 7 0 1 noreply\r\ny\r\nget a b c\r\n",
+        3,
+        b"STORED\r\nVALUE a 0 1\r\nx\r\nVALUE b 7 1\r\ny\r\nEND\r\n",
+    ),
+    (
+        b"version\r\nappend a 0 0 2\r\nyz\r\nget a\r\nstats\r\n",
+        4,
+        b"VERSION zygos-1.0\r\nSTORED\r\nVALUE a 0 3\r\nxyz\r\nEND\r\nERROR\r\n",
+    ),
+    (
+        b"flush_all\r\nget a b\r\ndelete a noreply\r\n",
+        3,
+        b"OK\r\nEND\r\n",
+    ),
+];
+
+// Offers requests, holds the block until none is left, also where memory was refused, and gives what
+// it sent.
+fn served(alloc: Global, setup: &mut Setup, requests: &[u8]) -> Result<Output, NoMemory>
+    requires table { setup.old.block.work.table ≡ setup.old.store.id }
+    ensures table { setup.new.block.work.table ≡ setup.new.store.id }
 {
-    let mut framer = Framer::new(alloc);
-    let mut frames = Frames::new(alloc);
-    if framer.feed(text, &mut frames).is_err() {
-        return Err(NoMemory);
+    let mut output = Output::new(alloc, setup.block.conn());
+    if let Err(e) = offer_text(alloc, &mut setup.inlet, requests) {
+        return Err(e);
     }
-    while let Some(frame) = frames.pop() {
-        if inlet.offer(frame).is_some() {
-            return Err(NoMemory);
+    for _ in 0..100 {
+        if let Ok(HoldEnd::Drained) = setup.block.hold(&setup.store, &Ungated, 5) {
+            break;
         }
     }
-    Ok(())
+    match output.carry_out(setup.block.take_batch()) {
+        Ok(()) => Ok(output),
+        Err(_) => Err(NoMemory),
+    }
+}
+
+// How many rows are not answered as they should be.
+fn wrong_rows(alloc: Global, setup: &mut Setup) -> Result<u32, NoMemory>
+    requires table { setup.old.block.work.table ≡ setup.old.store.id }
+{
+    let mut wrong = 0u32;
+    for (requests, count, sent) in ROWS {
+        match served(alloc, setup, requests) {
+            Ok(output) if output.count() == count && output.bytes() == sent => {}
+            Ok(_) => wrong = wrong.saturating_add(1),
+            Err(e) => return Err(e),
+        }
+    }
+    Ok(wrong)
 }
 
 #[test]
 fn a_hold_sends_one_text_a_command(rt: HostRuntime) -> Result<(), Fail> {
-    let alloc = rt.alloc();
-    let (store, mut root) = StoreTable::new(alloc, 4)?;
-    let pass = store.split(&mut root, 3)?;
-    let Ok((mut block, mut inlet)) = Block::new(alloc, 3, pass) else {
-        return Err(Fail::from(NoMemory));
-    };
-    offer_text(
-        alloc,
-        &mut inlet,
-        b"set a 0 0 1\r\nx\r\nset b 0 0 1 noreply\r\ny\r\nget a b c\r\n",
-    )?;
-    match block.hold(&store, &Ungated, 5)? {
-        HoldEnd::Drained => {}
-        _ => assert!(rt; false),
+    let mut setup = set_up(rt.alloc(), 4, 3)?;
+    let wrong = wrong_rows(rt.alloc(), &mut setup)?;
+    assert!(rt; wrong == 0 && setup.block.finished() == 10);
+    Ok(())
+}
+
+// A gate that offers a frame more at each of the first 64 commands.
+#[derive(Drop)]
+struct Supply {
+    alloc: Global,
+    inlet: RefCell<EventInlet>,
+}
+
+impl Gate for Supply {
+    fn pass(&self, _core: u32, _conn: u32, index: u64) {
+        if let Ok(mut inlet) = self.inlet.try_borrow_mut() {
+            if index < 64 {
+                let _ = offer_text(self.alloc, &mut inlet, b"version\r\n");
+            }
+        }
     }
-    let batch = block.take_batch();
-    assert_eq!(rt; batch.count(), 3);
-    assert_eq!(rt; batch.finished(), 3);
+}
+
+// Whether 65 commands end a hold by its limit, and the next one with one command.
+fn is_limited(alloc: Global, setup: Setup) -> Result<bool, NoMemory>
+    requires table { setup.block.work.table ≡ setup.store.id }
+{
+    let Setup {
+        store,
+        root: _,
+        mut block,
+        mut inlet,
+    } = setup;
+    if let Err(e) = offer_text(alloc, &mut inlet, b"version\r\n") {
+        return Err(e);
+    }
+    let gate = Supply {
+        alloc,
+        inlet: RefCell::new(inlet),
+    };
+    let first = matches!(block.hold(&store, &gate, 9), Ok(HoldEnd::Limit));
+    let finished = block.finished();
+    let second = matches!(block.hold(&store, &gate, 9), Ok(HoldEnd::Drained));
+    Ok(first && second && finished == 64 && block.finished() == 65)
+}
+
+#[test]
+fn a_hold_ends_after_64_commands(rt: HostRuntime) -> Result<(), Fail> {
+    let setup = set_up(rt.alloc(), 1, 0)?;
+    let limited = is_limited(rt.alloc(), setup)?;
+    assert!(rt; limited);
     Ok(())
 }
