@@ -5,3 +5,5 @@ pub mod SettleLemmas
 pub mod JoinLemmas
 pub mod ReceiveLemmas
 pub mod MakeLemmas
+pub mod LawLemmas
+pub mod CaptureLemmas

@@ -4,3 +4,4 @@ pub mod Parts
 pub mod Home
 pub mod Place
 pub mod Turn
+pub mod Settled

@@ -5,9 +5,12 @@ mod blocks;
 mod ends;
 mod home;
 mod inlets;
+pub mod laws;
 mod own;
 mod parts;
 mod place;
+#[cfg(test)]
+mod tests;
 
 pub use blocks::Blocks;
 pub use ends::Ends;
