@@ -1,7 +1,7 @@
 -- What a home may have received, and what it did, once it took an item in or dropped it.
 use Rattle.std.specs.Prelude.{◌==◌, ◌||◌, if◌then◌else◌}
 use Rattle.std.proofs.Common.{◌≡◌, ◌≢◌, ℕ, List, [], ◌∷◌, ◌++◌, set, get_or, Bool, true, false, Option, Some, None, slice_get, refl, sym, ap, ◌∙◌, subst, eq-eqb, ne_eqb}
-use Rattle.zy_table.proofs.SliceLemmas.{set_there}
+use Rattle.zy_table.proofs.SliceLemmas.{set_there, get_set_same}
 use Rattle.zy_rx.specs.declared.rx.Rx.{Rx}
 use Rattle.zy_rx.specs.declared.rx.Rx.TheVariants.{Segment, Close, End}
 use Rattle.zy_rx.specs.Session.{Sessions, no_sessions, with_bytes, with_close, takes_in, sessions_of}
@@ -9,6 +9,7 @@ use Rattle.zy_rx.proofs.SessionLemmas.{sessions-push}
 use Rattle.zy_shuffle.specs.Pass.{Held}
 use Rattle.zy_conn.specs.Block.{Blocked}
 use Rattle.zy_link.specs.Link.{Linked, LinkStands, IsFor, TakesIn, conn_of}
+use Rattle.zy_link.specs.Offer.{WaitsFull}
 use Rattle.zy_home.specs.Own.{IsOwn, IsOfOthers, IsRising, item_conn, is_end}
 use Rattle.zy_home.specs.Home.{Homed, Keeps, HomeStands, SameHome, StandsMore, conns_in}
 use Rattle.zy_home.specs.Place.{ComesTo, Forwards, SameHand, Settles}
@@ -145,14 +146,15 @@ module _ (h : Homed) (k : Keeps h) (p : ℕ) (x : Option Blocked) (l m : Linked)
   here_at (Some c) b is fed = settles h p l m w x r there conn fed
   here_at None b is fed = absurd (cc)
 
-  away_at : (x0 : Option Blocked) → x0 ≡ None → slice_get h.blocks p ≡ Some x0 → IsFed p l m h.pass w x0 x → (w ≡ h.pass) × (set h.blocks p x ≡ h.blocks)
+  away_at : (x0 : Option Blocked) → x0 ≡ None → slice_get h.blocks p ≡ Some x0 → IsFed p l m h.pass w x0 x → (w ≡ h.pass) × (set h.blocks p x ≡ h.blocks) × ((n : Linked) → slice_get (set h.links p m) p ≡ Some n → WaitsFull n)
   away_at (Some c) is slot fed = absurd (cc)
-  away_at None is slot fed = (fed.0, ap (set h.blocks p) fed.1 ∙ set_there h.blocks p None slot)
+  away_at None is slot fed = (fed.0, ap (set h.blocks p) fed.1 ∙ set_there h.blocks p None slot, λ n e. subst WaitsFull (get_set_same h.links p m n e) fed.3)
 
   pub forwards_at : (x0 : Option Blocked) → slice_get h.blocks p ≡ Some x0 → IsFed p l m h.pass w x0 x → Forwards h (turned h p x m w r) item
   forwards_at x0 slot fed = record {
     here = λ q b comes at. let same = place_is q comes in subst (λ z. Settles z h (turned h p x m w r)) (sym same) (here_at x0 b (let one = ap (slice_get h.blocks) (sym same) ∙ at in cc) fed);
-    away = λ q comes at. let same = place_is q comes in away_at x0 (let one = ap (slice_get h.blocks) (sym same) ∙ at in cc) slot fed;
+    away = λ q comes at. let same = place_is q comes in let r = away_at x0 (let one = ap (slice_get h.blocks) (sym same) ∙ at in cc) slot fed in
+        (r.0, r.1, λ n e. r.2 n (ap (slice_get (set h.links p m)) (sym same) ∙ e));
   }
 
 -- ---- whole steps

@@ -3,13 +3,15 @@ use Rattle.std.specs.Prelude.{map, is_some}
 use Rattle.std.proofs.Common.{◌≡◌, ◌≢◌, ℕ, zero, suc, ◌+◌, ◌≤◌, List, [], ◌∷◌, set, get_or, length, Bool, true, false, Option, Some, None, slice_get, refl, sym, ap, ◌∙◌, subst, arith}
 use Rattle.zy_table.specs.Member.{is_in, without}
 use Rattle.zy_table.proofs.MemberLemmas.{in_without}
-use Rattle.zy_table.proofs.SliceLemmas.{get_at, get_below}
+use Rattle.zy_table.proofs.SliceLemmas.{get_at, get_below, get_set_same}
 use Rattle.zy_shuffle.specs.Hand.{marked}
 use Rattle.zy_shuffle.specs.Pass.{Held, after_publish}
 use Rattle.zy_shuffle.proofs.HandLemmas.{marked_here, marked_else}
+use Rattle.zy_conn.specs.Ring.{Sending}
 use Rattle.zy_conn.specs.Work.{has_event}
 use Rattle.zy_conn.specs.Block.{Blocked}
 use Rattle.zy_link.specs.Link.{Linked, StandsOn, conn_of}
+use Rattle.zy_link.specs.Offer.{WaitsBehind, WaitsFull}
 use Rattle.zy_link.specs.Idle.{IsIdle, due_mark, mark_in}
 use Rattle.zy_home.specs.Home.{Homed, Keeps, SameHome, StandsHome, IsAt, IsHere}
 use Rattle.zy_home.specs.Place.{IsOut, Settles, PutsBack, SameHand, label_in}
@@ -89,6 +91,7 @@ module _ (h : Homed) (p : ℕ) (l m : Linked) (w : Held Blocked) (x : Option Blo
     block = s.block;
     event = λ e. let is = s.event e in (is.0, ap (set h.blocks p) is.1);
     idle = λ e. let is = s.idle e in (is.0, ap (set h.blocks p) is.1);
+    behind = λ n e. subst (λ z. WaitsBehind z s.block) (get_set_same h.links p m n e) s.behind;
   }
 
   pub puts_back : IsPutBack h.pass w x → PutsBack p h (turned h p x m w r)
@@ -153,7 +156,7 @@ stepped h p x l m w r k t = record { keeps = turned_keeps h p x l m w r t k; sam
 
 -- a block that is with the caller is settled, or put back where memory was refused
 module _ (h : Homed) (k : Keeps h) (p : ℕ) (b : Blocked) (o : IsOut h p b) (l m : Linked) (w : Held Blocked) (x : Option Blocked) (at : l ≡ get_or h.links p l) (conn : conn_of m ≡ conn_of l) where
-  out_there : slice_get h.links p ≡ Some l
+  pub out_there : slice_get h.links p ≡ Some l
   out_there = get_at h.links p l l (get_below h.links p o.link o.there) at
 
   -- the block has what its connection is due
@@ -185,3 +188,9 @@ module _ (h : Homed) (k : Keeps h) (p : ℕ) (l0 l m : Linked) (w : Held Blocked
 
   pub unfed_step : conn_of m ≡ conn_of l → IsUnfed h.pass w x0 x → Stepped h (turned h p x m w true) l m
   unfed_step conn s = stepped h p x l m w true k (unfed_turns h p l m w x true fed_there conn refl k x0 fed_slot s)
+
+-- an item was taken in where the block is away
+pub fed_away : (p : ℕ) (l m o : Linked) (v : Held Blocked) (x0 x : Option Blocked) → x0 ≡ None → x ≡ None → m.inlet ≡ l.inlet → m.output ≡ l.output → o.inlet.ring ≡ m.inlet.ring → o.output ≡ m.output → WaitsFull o → IsFed p l o v v x0 x
+fed_away p l m o v x0 x was is inlet output ring texts full =
+    subst (λ z. IsFed p l o v v z x) (sym was)
+    (refl, is, (λ i. (((texts ∙ output) i).conn, ((ring ∙ ap (λ (z : Sending). z.ring) inlet) i, ((texts ∙ output) i).texts))), full)

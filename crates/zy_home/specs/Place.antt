@@ -11,6 +11,7 @@ use Rattle.zy_conn.specs.Work.{has_event}
 use Rattle.zy_conn.specs.Hold.{HeldTo}
 use Rattle.zy_conn.specs.Block.{Blocked}
 use Rattle.zy_link.specs.Link.{Linked, IsFor, conn_of}
+use Rattle.zy_link.specs.Offer.{WaitsBehind, WaitsFull}
 use Rattle.zy_link.specs.Idle.{IsIdle, due_mark, mark_in}
 use Rattle.zy_home.specs.declared.own.Own.{Own}
 use Rattle.zy_home.specs.declared.own.Own.TheVariants.{Took, Empty, Raced}
@@ -30,13 +31,14 @@ pub record IsOut (h : Homed) (place : ℕ) (block : Blocked) : Type 0 where
   pub mark : mark_in block ≡ due_mark link
   pub label : label_in block ≡ h.pass.label
 
--- a block was settled at a place: it was published where it then has an event, and it stays in the home's hand where it has none
+-- a block was settled at a place: it was published where it then has an event, and it stays in the home's hand where it has none. A frame waits only where the ring is full
 pub record Settles (place : ℕ) (h h' : Homed) : Type 0 where
   pub block : Blocked
   pub event : has_event block.work ≡ true
       → (h'.pass ≡ after_publish place block h.pass h'.pass.trace) × (h'.blocks ≡ slice_set h.blocks place None)
   pub idle : has_event block.work ≡ false
       → (h'.pass ≡ h.pass) × (h'.blocks ≡ slice_set h.blocks place (Some block))
+  pub behind : (link : Linked) → slice_get h'.links place ≡ Some link → WaitsBehind link block
 
 -- a block was put back at its place, and nothing was published
 pub record PutsBack (place : ℕ) (h h' : Homed) : Type 0 where
@@ -90,12 +92,13 @@ pub record ComesTo (h : Homed) (place : ℕ) (item : Rx) : Type 0 where
   pub there : slice_get h.links place ≡ Some link
   pub own : IsFor (conn_of link) item
 
--- where an item came for the connection at a place, its block was settled where it is in the hand, and nothing was published where it is away
+-- where an item came for the connection at a place, its block was settled where it is in the hand; where it is away nothing was published, and a frame waits only where no slot of the ring is known to be free
 pub record Forwards (h h' : Homed) (item : Rx) : Type 0 where
   pub here : (place : ℕ) (block : Blocked) → ComesTo h place item
       → slice_get h.blocks place ≡ Some (Some block) → Settles place h h'
   pub away : (place : ℕ) → ComesTo h place item → slice_get h.blocks place ≡ Some None
       → (h'.pass ≡ h.pass) × (h'.blocks ≡ h.blocks)
+      × ((link : Linked) → slice_get h'.links place ≡ Some link → WaitsFull link)
 
 -- the same connections are in the home's hand, and nothing was published
 pub record SameHand (h h' : Homed) : Type 0 where

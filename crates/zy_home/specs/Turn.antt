@@ -7,6 +7,7 @@ use Rattle.zy_shuffle.specs.Pass.{Held, after_publish}
 use Rattle.zy_conn.specs.Work.{has_event}
 use Rattle.zy_conn.specs.Block.{Blocked}
 use Rattle.zy_link.specs.Link.{Linked, conn_of}
+use Rattle.zy_link.specs.Offer.{WaitsBehind, WaitsFull}
 use Rattle.zy_link.specs.Idle.{IsIdle, due_mark, mark_in}
 use Rattle.zy_home.specs.Home.{Homed, IsAt, IsHere}
 use Rattle.zy_home.specs.Place.{label_in}
@@ -28,6 +29,7 @@ pub record IsSettled (place : ℕ) (link' : Linked) (pass pass' : Held Blocked) 
       → (pass' ≡ after_publish place block pass pass'.trace) × (slot' ≡ None)
   pub idle : has_event block.work ≡ false
       → (pass' ≡ pass) × (slot' ≡ Some block) × IsIdle block.work link'
+  pub behind : WaitsBehind link' block
 
 -- memory was refused, and the block lies in its slot
 pub record IsPutBack (pass pass' : Held Blocked) (slot' : Option Blocked) : Type 0 where
@@ -41,11 +43,11 @@ pub record IsPlace (pass : Held Blocked) (place : ℕ) (link : Linked) (slot : O
   pub here : (block : Blocked) → slot ≡ Some block → IsHere pass place block
   pub at : IsAt pass place link slot
 
--- an item was taken in where the block is in its slot: it was settled; and where it is away: nothing was published, and the same mark is due
+-- an item was taken in where the block is in its slot: it was settled; and where it is away: nothing was published, what waits was offered, and the same mark is due
 abbrev pub IsFed : ℕ → Linked → Linked → Held Blocked → Held Blocked → Option Blocked → Option Blocked → Type 0
 IsFed place link link' pass pass' (Some block) slot' = IsSettled place link' pass pass' slot'
 IsFed place link link' pass pass' None slot' =
-    (pass' ≡ pass) × (slot' ≡ None) × (due_mark link' ≡ due_mark link)
+    (pass' ≡ pass) × (slot' ≡ None) × (due_mark link' ≡ due_mark link) × WaitsFull link'
 
 -- memory was refused: nothing was published, and the block is in its slot where it was
 abbrev pub IsUnfed : Held Blocked → Held Blocked → Option Blocked → Option Blocked → Type 0

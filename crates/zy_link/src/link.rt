@@ -1,9 +1,9 @@
 //! A connection of a home without its block.
-ghost use Rattle.std.specs.Prelude.{◌≡◌, ◌++◌, [], false, None, IfOk, OnOk, IfNone, option_to_list};
+ghost use Rattle.std.specs.Prelude.{◌≡◌, ◌≢◌, ◌++◌, [], false, None, IfOk, OnOk, IfNone, option_to_list};
 ghost use Rattle.zy_conn.specs.Work.{has_event};
 ghost use Rattle.zy_rx.specs.Session.{Sessions, with_bytes, with_close};
 ghost use Rattle.zy_link.specs.Link.{IsFor, IsFresh, LinkStands, SameLink, StandsOn, TakesIn, conn_of};
-ghost use Rattle.zy_link.specs.Offer.{Offers, IsFilled};
+ghost use Rattle.zy_link.specs.Offer.{Offers, IsFilled, WaitsBehind, WaitsFull};
 ghost use Rattle.zy_link.specs.Idle.{IsIdle, due_mark, mark_in};
 
 use std::alloc::Global;
@@ -115,6 +115,7 @@ impl Link {
         ensures same { SameLink self.old self.new × (self.new.output ≡ self.old.output) }
         ensures stands { StandsOn self.old self.new }
         ensures filled { IsFilled self.old.inlet self.new.inlet self.new.waiting }
+        ensures full { WaitsFull self.new }
     {
         offer_all(&mut self.inlet, &mut self.front, &mut self.waiting);
     }
@@ -127,6 +128,7 @@ impl Link {
         ensures event { IfOk result (λ event. event ≡ has_event block.new.work) }
         ensures mark { OnOk result (mark_in block.new ≡ due_mark self.new) }
         ensures idle { IfOk result (λ event. event ≡ false → IsIdle block.new.work self.new) }
+        ensures behind { OnOk result (WaitsBehind self.new block.new) }
         ensures stands { OnOk result (StandsOn self.old self.new) }
         ensures same { SameLink self.old self.new }
         ensures label { block.new.work.table ≡ block.old.work.table }
@@ -177,6 +179,7 @@ fn offer_all(inlet: &mut EventInlet, front: &mut Option<Frame>, waiting: &mut Fr
     ensures ring { inlet.new.ring ≡ inlet.old.ring }
     ensures offers { Offers inlet.old (option_to_list front.old ++ waiting.old) inlet.new (option_to_list front.new ++ waiting.new) }
     ensures filled { IsFilled inlet.old inlet.new (option_to_list front.new ++ waiting.new) }
+    ensures full { option_to_list front.new ++ waiting.new ≢ [] → inlet.new.free ≡ 0 }
 {
     while let Some(frame) = next_waiting(front, waiting) {
         if let Some(frame) = inlet.offer(frame) {
