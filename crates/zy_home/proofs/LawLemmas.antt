@@ -1,0 +1,73 @@
+-- What a settled home hands out.
+use Rattle.std.specs.Prelude.{◌&&◌, not, is_some, map, option_map}
+use Rattle.std.proofs.Common.{◌≡◌, ℕ, zero, suc, List, [], ◌∷◌, length, Bool, true, false, Option, Some, None, slice_get, refl, sym, ap, ◌∙◌, subst, arith}
+use Rattle.zy_table.specs.declared.name.Name.{Name}
+use Rattle.zy_rx.specs.declared.rx.Rx.{Rx}
+use Rattle.zy_rx.specs.Flow.{home_of}
+use Rattle.zy_rx.specs.Session.{Sessions, sessions_of}
+use Rattle.zy_shuffle.specs.Pass.{Held}
+use Rattle.zy_conn.specs.Work.{Mark}
+use Rattle.zy_conn.specs.Kept.{Kept}
+use Rattle.zy_conn.specs.Block.{Blocked}
+use Rattle.zy_link.specs.Link.{Linked, LinkStands, conn_of}
+use Rattle.zy_link.specs.Idle.{due_mark, mark_in}
+use Rattle.zy_link.specs.Finish.{ConnEnd}
+use Rattle.zy_link.proofs.FinishLemmas.{conn_end}
+use Rattle.zy_home.specs.Own.{own_conns}
+use Rattle.zy_home.specs.End.{Ended, blocks_in, ended_of}
+use Rattle.zy_home.specs.Home.{Homed, HomeStands, Keeps, IsAt, IsHere, all_here, conns_in, is_settled}
+use Rattle.zy_home.specs.Settled.{IsFinished, AreFinished}
+use Rattle.zy_home.proofs.OwnLemmas.{own_is, conn_at}
+
+-- ---- tests
+
+both_left : (a b : Bool) → a && b ≡ true → a ≡ true
+both_left true b e = refl
+both_left false b e = absurd (cc)
+
+both_right : (a b : Bool) → a && b ≡ true → b ≡ true
+both_right true b e = e
+both_right false b e = absurd (cc)
+
+not_true : (a : Bool) → not a ≡ true → a ≡ false
+not_true true e = absurd (cc)
+not_true false e = refl
+
+pub settled_here : (h : Homed) → is_settled h ≡ true → all_here h.blocks ≡ true
+settled_here h e = both_right (not h.refused) (all_here h.blocks) (both_right h.ended (not h.refused && all_here h.blocks) e)
+
+pub settled_live : (h : Homed) → is_settled h ≡ true → h.refused ≡ false
+settled_live h e = not_true h.refused (both_left (not h.refused) (all_here h.blocks) (both_right h.ended (not h.refused && all_here h.blocks) e))
+
+-- ---- connections
+
+pub ended_conns : (links : List Linked) → map (λ (e : Ended). e.output.conn) (map ended_of links) ≡ conns_in links
+ended_conns [] = refl
+ended_conns (l ∷ ls) = ap (λ c. conn_of l ∷ c) (ended_conns ls)
+
+-- a connection whose block is idle in the hand
+finished_at : (label : Name) (received : ℕ → Sessions) (pass : Held Blocked) (p : ℕ) (b : Blocked) (l : Linked) → IsHere pass p b → IsAt pass p l (Some b) → pass.label ≡ label → LinkStands l (received (conn_of l)) → IsFinished label received b (ended_of l)
+finished_at label received pass p b l here at same stands = record {
+  conn = ap (λ (m : Mark). m.0) at.0;
+  labelled = here.1 ∙ same;
+  finished = λ kept. conn_end b l (received (conn_of l)) kept at.1 at.0 stands;
+}
+
+-- the same of each, at places from one on
+all_finished : (label : Name) (received : ℕ → Sessions) (bs : List (Option Blocked)) (ls : List Linked) → length bs ≡ length ls → all_here bs ≡ true
+    → ((p : ℕ) (b : Blocked) (l : Linked) → slice_get bs p ≡ Some (Some b) → slice_get ls p ≡ Some l → IsFinished label received b (ended_of l)) → AreFinished label received (blocks_in bs) (map ended_of ls)
+all_finished label received [] [] long here each = tt
+all_finished label received [] (l ∷ ls) long here each = absurd (omega arith)
+all_finished label received (x ∷ bs) [] long here each = absurd (omega arith)
+all_finished label received (None ∷ bs) (l ∷ ls) long here each = absurd (cc)
+all_finished label received (Some b ∷ bs) (l ∷ ls) long here each =
+    (each 0 b l refl refl, all_finished label received bs ls (omega arith) here (λ p b l eb el. each (suc p) b l eb el))
+
+pub home_finished : (h : Homed) (items : List Rx) (received : ℕ → Sessions) → Keeps h → is_settled h ≡ true → HomeStands h items
+    → ((conn : ℕ) → home_of h.cores conn ≡ h.core → sessions_of conn items ≡ received conn) → AreFinished h.pass.label received (blocks_in h.blocks) (map ended_of h.links)
+home_finished h items received k settled stands same =
+    all_finished h.pass.label received h.blocks h.links k.long (settled_here h settled)
+    (λ p b l eb el.
+    let own = own_is h.core h.cores h.count p (conn_of l) (ap (λ ns. slice_get ns p) (sym k.conns) ∙ conn_at h.links p l el) in
+    finished_at h.pass.label received h.pass p b l (k.here p b eb) (k.each (settled_live h settled) p (Some b) l eb el) refl
+    (subst (LinkStands l) (same (conn_of l) own.1) (stands.links p l el)))
