@@ -1,2 +1,4 @@
 pub mod Round
 pub mod Feed
+pub mod Share
+pub mod Steal

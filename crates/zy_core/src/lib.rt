@@ -4,5 +4,8 @@
 mod draws;
 mod feeder;
 pub mod laws;
+mod shared;
+mod stealing;
 
 pub use feeder::{Fed, Feeder};
+pub use shared::Shared;
