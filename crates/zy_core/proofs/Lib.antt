@@ -1,1 +1,3 @@
 pub mod RoundLemmas
+pub mod ListLemmas
+pub mod DealLemmas

@@ -1,6 +1,7 @@
 //! Logical cores: a core's turn, rounds of turns on one thread, and cores on many threads.
 #![tactic(auto)]
 
+mod dealing;
 mod draws;
 mod feeder;
 pub mod laws;

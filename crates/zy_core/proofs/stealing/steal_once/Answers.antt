@@ -1,4 +1,4 @@
-use Rattle.std.proofs.Common.{◌≡◌, ◌∙◌}
+use Rattle.std.proofs.Common.{◌∙◌}
 use Rattle.zy_table.specs.Name.{name_of}
 use Rattle.zy_table.proofs.NameLemmas.{same_id}
 use Rattle.zy_steal.proofs.IdleLemmas.{takes_label, given_back}
