@@ -2,7 +2,7 @@
 use Rattle.std.proofs.Common.{◌≡◌, ℕ, zero, suc, ◌+◌, ◌-◌, ◌<◌, ◌≤◌, List, [], ◌∷◌, ◌++◌, map, length, get_or, take, drop, refl, sym, ap, ◌∙◌, subst, arith, add-one, Vec, vec_len}
 use Rattle.std.specs.Prelude.{remove, vec_capacity}
 use Rattle.std.specs.declared.alloc.Global.{Global}
-use Rattle.zy_core.specs.Deal.{AreEmpty, Deals, gathered, Each, EachOfAll, HaveRoom, TakesFirst, HasNoFirst}
+use Rattle.zy_core.specs.Deal.{lists_of, AreEmpty, Deals, gathered, Each, EachOfAll, HaveRoom, TakesFirst, HasNoFirst}
 
 module _ {X : Type 0} where
   -- what was dealt is what is gathered
@@ -125,3 +125,15 @@ module _ {X : Type 0} where
   gathers_none (suc n) [] h = refl
   gathers_none (suc n) ([] ∷ gs) h = refl
   gathers_none (suc n) ((x ∷ g) ∷ gs) h = absurd h
+
+  -- ---- groups that are made
+
+  -- one more that has room
+  pub room_last : (n : ℕ) (gs : List (Vec X Global)) (g : Vec X Global) → HaveRoom n gs → vec_len g + n ≤ vec_capacity g → HaveRoom n (gs ++ g ∷ [])
+  room_last n [] g room has = (has, tt)
+  room_last n (x ∷ xs) g room has = (room.0, room_last n xs g room.1 has)
+
+  -- one more that is empty
+  pub empty_last : (gs : List (Vec X Global)) (g : Vec X Global) → AreEmpty (lists_of gs) → g.items ≡ [] → AreEmpty (lists_of (gs ++ g ∷ []))
+  empty_last [] g all is = (is, tt)
+  empty_last (x ∷ xs) g all is = (all.0, empty_last xs g all.1 is)

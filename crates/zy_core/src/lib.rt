@@ -5,6 +5,8 @@ mod dealing;
 mod draws;
 mod feeder;
 pub mod laws;
+mod lent;
+mod room;
 mod shared;
 mod stealing;
 
