@@ -1,0 +1,45 @@
+//! The last step of a turn: a block is stolen, held, and given back.
+ghost use Rattle.std.specs.Prelude.{◌≡◌, ◌<◌, ◌+◌, ◌%◌, ◌^◌, length, OnOk, IfOk};
+ghost use Rattle.zy_table.specs.Name.{name_of};
+ghost use Rattle.zy_steal.specs.Steal.{ArePasses, AreIdle, seats_of};
+ghost use Rattle.zy_core.specs.Steal.{StealsTo};
+
+use mc_store::StoreTable;
+use zy_base::{Gate, NoMemory};
+use zy_conn::Block;
+use zy_steal::{Looks, Passes, Rings, Stolen, Victims};
+
+// Steals once. A block that was taken is held and given back, also where its hold wanted memory;
+// where none was taken, the looks at the other cores are the answer.
+pub(crate) fn steal_once<G: Gate>(
+    victims: &mut Victims,
+    passes: &mut Passes<Block>,
+    rings: &Rings<Block>,
+    store: &StoreTable,
+    gate: &G,
+    core: u32,
+) -> Result<Option<Looks>, NoMemory>
+    requires within { ArePasses rings.now passes.old }
+    requires core { (passes.old.core ≡ victims.old.core) × (core < 64) }
+    requires cores { length rings.now ≡ victims.old.cores }
+    requires idle { AreIdle (name_of store.now.id) (seats_of passes.old.items) }
+    ensures value { IfOk result (StealsTo passes.old passes.new) }
+    ensures same { (passes.new.core ≡ passes.old.core) × (seats_of passes.new.items ≡ seats_of passes.old.items) }
+    ensures victims { victims.new ≡ record victims.old { calls = (victims.old.calls + 1) % 2 ^ 64 } }
+{
+    match victims.steal(rings, passes) {
+        Stolen::Took {
+            victim,
+            place,
+            mut block,
+        } => {
+            let end = block.hold(store, gate, core);
+            passes.give_back(rings, victim, place, block);
+            match end {
+                Ok(_) => Ok(None),
+                Err(e) => Err(e),
+            }
+        }
+        Stolen::Nothing { looks } => Ok(Some(looks)),
+    }
+}
