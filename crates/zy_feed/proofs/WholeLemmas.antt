@@ -11,7 +11,7 @@ use Rattle.zy_feed.specs.declared.stage.Stage.{Stage}
 use Rattle.zy_feed.specs.declared.stage.Stage.TheVariants.{Cutting, Ended, Broken}
 use Rattle.zy_feed.specs.declared.intake.Header.{Header}
 use Rattle.zy_feed.specs.Reads.{InPieces, HasRead, HasReadAll, HasBegun}
-use Rattle.zy_feed.specs.Feeding.{Feeding, IsReadTo, AreSent, Stands, Leads, HasStopped, AreUnsent, HasFedAll}
+use Rattle.zy_feed.specs.Feeding.{Feeding, stop_in, IsReadTo, AreSent, Stands, Leads, HasStopped, AreUnsent, HasFedAll}
 use Rattle.zy_feed.proofs.ReadLemmas.{told_stays, good_as_told}
 
 -- at the start
@@ -38,8 +38,13 @@ fed_all rest faults first header f g begins unsent start ended leads =
       sent = subst (λ (s : Stage). AreSent g.sents s end.0) ended end.1.1.sent;
     }
 
-pub has_cause : {S : Type 0} (rest : S → Option (List ℕ)) (faults : S → ℕ) (first : S) (header : Header) (f g : Feeding S) (stop : Stop) → HasBegun rest faults first f.source f.intake header → AreUnsent f.sents → f.stage ≡ Cutting → g.stage ≡ Broken stop → Leads rest faults f g
+-- it broke by this stop
+stop_is : (stage : Stage) (stop : Stop) → stop_in stage ≡ Some stop → stage ≡ Broken stop
+stop_is (Broken found) stop is = cc
+stop_is stage stop is = cc
+
+pub has_cause : {S : Type 0} (rest : S → Option (List ℕ)) (faults : S → ℕ) (first : S) (header : Header) (f g : Feeding S) (stop : Stop) → HasBegun rest faults first f.source f.intake header → AreUnsent f.sents → f.stage ≡ Cutting → stop_in g.stage ≡ Some stop → Leads rest faults f g
     → HasStopped rest faults first g.source stop
 has_cause rest faults first header f g stop begins unsent start broken leads =
     let end = leads first [] begins.bytes (begun rest faults first header f begins unsent start) in
-    subst (λ (s : Stage). IsReadTo rest faults first g.source g.intake s end.0 (begins.bytes ++ end.1.0)) broken end.1.1.read
+    subst (λ (s : Stage). IsReadTo rest faults first g.source g.intake s end.0 (begins.bytes ++ end.1.0)) (stop_is g.stage stop broken) end.1.1.read

@@ -1,10 +1,10 @@
 //! What a feeder has done where it ended or broke.
-ghost use Rattle.std.specs.Prelude.{◌≡◌};
+ghost use Rattle.std.specs.Prelude.{◌≡◌, Some};
 ghost use Rattle.zy_feed.specs.declared.intake.Header.{Header};
 ghost use Rattle.zy_feed.specs.declared.stop.Stop.{Stop};
 ghost use Rattle.zy_feed.specs.declared.stage.Stage.TheVariants as Stages;
 ghost use Rattle.zy_feed.specs.Reads.{HasBegun};
-ghost use Rattle.zy_feed.specs.Feeding.{Feeding, AreUnsent, HasFedAll, HasStopped, Leads};
+ghost use Rattle.zy_feed.specs.Feeding.{Feeding, stop_in, AreUnsent, HasFedAll, HasStopped, Leads};
 
 use zy_base::Source;
 
@@ -23,6 +23,6 @@ pub fn a_feeder_that_ended_has_offered_the_capture<S: Source>()
 pub fn a_broken_feeder_has_its_cause<S: Source>()
     ensures cause { (first : S) (header : Header) (f g : Feeding S) (stop : Stop)
         → HasBegun S.rest S.faults first f.source f.intake header → AreUnsent f.sents
-        → f.stage ≡ Stages.Cutting → g.stage ≡ Stages.Broken stop → Leads S.rest S.faults f g
+        → f.stage ≡ Stages.Cutting → stop_in g.stage ≡ Some stop → Leads S.rest S.faults f g
         → HasStopped S.rest S.faults first g.source stop }
 {}
