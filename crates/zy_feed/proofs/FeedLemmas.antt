@@ -1,6 +1,6 @@
 -- What a step of a feeder does to what it stands for.
-use Rattle.std.proofs.Common.{◌≡◌, ◌≢◌, ◌⊎◌, inl, inr, ⊎_elim, ℕ, suc, ◌+◌, ◌<◌, ◌≤◌, Bool, true, false, List, [], ◌∷◌, ◌++◌, length, set, refl, sym, ◌∙◌, ap, subst, arith, append_assoc, length-set}
-use Rattle.std.specs.Prelude.{◌==◌, nat_lt, if◌then◌else◌, Option, None, Some, slice_get, Result, Ok, Err}
+use Rattle.std.proofs.Common.{◌≡◌, ◌≢◌, ◌⊎◌, inl, inr, ℕ, ◌+◌, ◌<◌, ◌≤◌, Bool, true, false, List, [], ◌∷◌, ◌++◌, length, set, refl, sym, ◌∙◌, ap, subst, arith, length-set}
+use Rattle.std.specs.Prelude.{◌==◌, nat_lt, Option, None, Some, slice_get, Result, Ok, Err}
 use Rattle.std.proofs.lemmas.List.{append-nil, length-map}
 use Rattle.std.proofs.lemmas.Bool.{eqb-true}
 use Rattle.std.proofs.lemmas.Bool.Decides.{nat_tests}
@@ -9,17 +9,16 @@ use Rattle.zy_base.proofs.SetLemmas.{slice_get-set_is, slice_get-set_other}
 use Rattle.zy_capture.specs.declared.record.Record.{Record}
 use Rattle.zy_capture.specs.declared.record.Record.TheVariants as Kinds
 use Rattle.zy_rx.specs.declared.rx.Rx.{Rx}
-use Rattle.zy_rx.specs.declared.rx.Rx.TheVariants.{Segment, Close, End}
+use Rattle.zy_rx.specs.declared.rx.Rx.TheVariants.{End}
 use Rattle.zy_rx.specs.Flow.{home_of}
 use Rattle.zy_rx.specs.Ring.{Offering}
-use Rattle.zy_served.specs.Routing.{item_of, items_for, offered_to}
+use Rattle.zy_served.specs.Routing.{item_of, items_for}
 use Rattle.zy_served.proofs.TakenLemmas.{items_for-push, items_for-push_other}
 use Rattle.zy_feeder.specs.Feed.{sent_by}
 use Rattle.zy_feed.specs.declared.stop.Stop.{Stop}
-use Rattle.zy_feed.specs.declared.stage.Stage.{Stage}
 use Rattle.zy_feed.specs.declared.stage.Stage.TheVariants.{Cutting, Waiting, Ending, Ended, Broken}
-use Rattle.zy_feed.specs.Reads.{InPieces, HasRead, HasReadAll, StopsBy, Cuts}
-use Rattle.zy_feed.specs.Feeding.{home_in, kept_for, end_before, OffersTo, Feeding, feeding, IsSent, AreSent, Stands, Leads}
+use Rattle.zy_feed.specs.Reads.{InPieces, HasRead, Cuts}
+use Rattle.zy_feed.specs.Feeding.{home_in, kept_for, end_before, OffersTo, Feeding, feeding, AreSent, Stands, Leads}
 
 -- ---- which core an item is for
 
@@ -75,12 +74,17 @@ pub cut_leads : {S : Type 0} (rest : S → Option (List ℕ)) (faults : S → �
     → ((first : S) (records : List Record) (bytes : List ℕ) → HasRead rest faults first old p records bytes → Cuts rest faults first now q records bytes result)
     → Leads rest faults (feeding old p inlets Cutting) (feeding now q inlets (Waiting item))
 cut_leads rest faults old now p q inlets result r item is item_is cuts first records bytes stands =
-    let cut = rw is at (cuts first records bytes stands.read) in
-    (r ∷ [], (cut.0, record {
-      read = cut.1;
-      sent = λ core sent there. ap (λ (i : Rx). sent ++ kept_for (length (sent_by inlets)) core i) item_is
-      ∙ ap (λ (l : List Rx). l ++ kept_for (length (sent_by inlets)) core (item_of r)) (stands.sent core sent there) ∙ sym (routed (length (sent_by inlets)) core records r);
-    }))
+    let cut = rw is at (cuts first records bytes stands.read) in (
+      r ∷ [],
+      (
+        cut.0,
+        record {
+          read = cut.1;
+          sent = λ core sent there. ap (λ (i : Rx). sent ++ kept_for (length (sent_by inlets)) core i) item_is
+              ∙ ap (λ (l : List Rx). l ++ kept_for (length (sent_by inlets)) core (item_of r)) (stands.sent core sent there) ∙ sym (routed (length (sent_by inlets)) core records r);
+        },
+      ),
+    )
 
 no_end : (core : ℕ) → end_before core 0 ≡ []
 no_end core = let none : nat_lt core 0 ≡ false = grind (arith, nat_tests) in rw none refl
@@ -89,22 +93,32 @@ pub cut_ends : {S : Type 0} (rest : S → Option (List ℕ)) (faults : S → ℕ
     → ((first : S) (records : List Record) (bytes : List ℕ) → HasRead rest faults first old p records bytes → Cuts rest faults first now q records bytes result)
     → Leads rest faults (feeding old p inlets Cutting) (feeding now q inlets (Ending 0))
 cut_ends rest faults old now p q inlets result is cuts first records bytes stands =
-    let cut = rw is at (cuts first records bytes stands.read) in
-    ([], (cut.0, rw (append-nil records) (record {
-      read = cut.1;
-      sent = λ core sent there. stands.sent core sent there ∙ sym (append-nil (items_for (length (sent_by inlets)) core records))
-      ∙ ap (λ (l : List Rx). items_for (length (sent_by inlets)) core records ++ l) (sym (no_end core));
-    })))
+    let cut = rw is at (cuts first records bytes stands.read) in (
+      [],
+      (
+        cut.0,
+        rw (append-nil records) (record {
+          read = cut.1;
+          sent = λ core sent there. stands.sent core sent there ∙ sym (append-nil (items_for (length (sent_by inlets)) core records))
+              ∙ ap (λ (l : List Rx). items_for (length (sent_by inlets)) core records ++ l) (sym (no_end core));
+        }),
+      ),
+    )
 
 pub cut_stops : {S : Type 0} (rest : S → Option (List ℕ)) (faults : S → ℕ) (old now : S) (p q : InPieces) (inlets : List Offering) (result : Result (Option Record) Stop) (stop : Stop) → result ≡ Err stop → faults old ≤ faults now
     → ((first : S) (records : List Record) (bytes : List ℕ) → HasRead rest faults first old p records bytes → Cuts rest faults first now q records bytes result)
     → Leads rest faults (feeding old p inlets Cutting) (feeding now q inlets (Broken stop))
 cut_stops rest faults old now p q inlets result stop is count cuts first records bytes stands =
-    let cut = rw is at (cuts first records bytes stands.read) in
-    ([], ([], rw (append-nil records, append-nil bytes) (record {
-      read = record { cause = cut; count = omega (arith, count, stands.read.count) };
-      sent = stands.sent;
-    })))
+    let cut = rw is at (cuts first records bytes stands.read) in (
+      [],
+      (
+        [],
+        rw (append-nil records, append-nil bytes) (record {
+          read = record { cause = cut; count = omega (arith, count, stands.read.count) };
+          sent = stands.sent;
+        }),
+      ),
+    )
 
 -- ---- an item is offered
 
@@ -120,14 +134,19 @@ delivered {S} rest faults now p before after item offers first records bytes sta
   where
     sents : List (List Rx)
     sents = sent_by before
+
     cores : ℕ
     cores = length sents
+
     home : ℕ
     home = home_in (length before) item
+
     home_is : home ≡ home_in cores item
     home_is = ap (λ (n : ℕ). home_in n item) (sym (cores_are before))
+
     size : length (sent_by after) ≡ cores
     size = ap (λ (l : List (List Rx)). length l) offers.is ∙ length-set sents home (offers.sent ++ item ∷ [])
+
     at_core : (core : ℕ) (sent : List Rx) → ((core ≡ home) × (offers.sent ++ item ∷ [] ≡ sent)) ⊎ ((core ≢ home) × (slice_get sents core ≡ Some sent)) → sent ≡ items_for cores core records
     at_core core sent (inl here) =
         let for_it : kept_for cores core item ≡ item ∷ [] = kept_here cores core item (same_test (home_in cores item) core (sym (here.0 ∙ home_is))) in
@@ -135,6 +154,7 @@ delivered {S} rest faults now p before after item offers first records bytes sta
     at_core core sent (inr else_at) =
         let not_it : kept_for cores core item ≡ [] = kept_else cores core item (other_test (home_in cores item) core (λ same. else_at.0 (sym (home_is ∙ same)))) in
         sym (append-nil sent) ∙ ap (λ (l : List Rx). sent ++ l) (sym not_it) ∙ stands.sent core sent else_at.1
+
     sent : AreSent (sent_by after) Cutting records
     sent core got there = rw size (at_core core got (sent_after sents core home (offers.sent ++ item ∷ []) got (subst (λ (l : List (List Rx)). slice_get l core ≡ Some got) offers.is there)))
 
@@ -165,10 +185,13 @@ end_offered {S} rest faults now p before after next offers first records bytes s
   where
     sents : List (List Rx)
     sents = sent_by before
+
     cores : ℕ
     cores = length sents
+
     size : length (sent_by after) ≡ cores
     size = ap (λ (l : List (List Rx)). length l) offers.is ∙ length-set sents next (offers.sent ++ End ∷ [])
+
     at_core : (core : ℕ) (sent : List Rx) → ((core ≡ next) × (offers.sent ++ End ∷ [] ≡ sent)) ⊎ ((core ≢ next) × (slice_get sents core ≡ Some sent)) → sent ≡ items_for cores core records ++ end_before core (next + 1)
     at_core core sent (inl here) =
         let was : offers.sent ≡ items_for cores core records ++ end_before core next = stands.sent core offers.sent (subst (λ (k : ℕ). slice_get sents k ≡ Some offers.sent) (sym here.0) offers.was) in
@@ -177,6 +200,7 @@ end_offered {S} rest faults now p before after next offers first records bytes s
         sym here.1 ∙ ap (λ (l : List Rx). l ++ End ∷ []) (was ∙ ap (λ (l : List Rx). items_for cores core records ++ l) none ∙ append-nil (items_for cores core records))
         ∙ ap (λ (l : List Rx). items_for cores core records ++ l) (sym now_is)
     at_core core sent (inr else_at) = stands.sent core sent else_at.1 ∙ ap (λ (l : List Rx). items_for cores core records ++ l) (end_same core next else_at.0)
+
     sent : AreSent (sent_by after) (Ending (next + 1)) records
     sent core got there = rw size (at_core core got (sent_after sents core next (offers.sent ++ End ∷ []) got (subst (λ (l : List (List Rx)). slice_get l core ≡ Some got) offers.is there)))
 

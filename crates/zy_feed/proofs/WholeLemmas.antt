@@ -1,16 +1,13 @@
 -- What a feeder has done where it ended or broke.
-use Rattle.std.proofs.Common.{◌≡◌, ◌≢◌, ℕ, ◌≤◌, Bool, List, [], ◌∷◌, ◌++◌, length, refl, sym, ◌∙◌, ap, subst}
-use Rattle.std.specs.Prelude.{Option, None, Some, slice_get, Ok}
-use Rattle.std.specs.Io.KnownBytes.{Consumes, IsAtEnd}
+use Rattle.std.proofs.Common.{◌≡◌, ℕ, List, [], ◌++◌, sym, ◌∙◌, ap, subst}
+use Rattle.std.specs.Prelude.{Option, Some}
+use Rattle.std.specs.Io.KnownBytes.{Consumes}
 use Rattle.std.proofs.lemmas.List.{append-nil}
-use Rattle.zy_capture.specs.declared.record.Record.{Record}
-use Rattle.zy_rx.specs.declared.rx.Rx.{Rx}
-use Rattle.zy_served.specs.Routing.{items_for}
 use Rattle.zy_feed.specs.declared.stop.Stop.{Stop}
 use Rattle.zy_feed.specs.declared.stage.Stage.{Stage}
 use Rattle.zy_feed.specs.declared.stage.Stage.TheVariants.{Cutting, Ended, Broken}
 use Rattle.zy_feed.specs.declared.intake.Header.{Header}
-use Rattle.zy_feed.specs.Reads.{InPieces, HasRead, HasReadAll, HasBegun}
+use Rattle.zy_feed.specs.Reads.{HasReadAll, HasBegun}
 use Rattle.zy_feed.specs.Feeding.{Feeding, stop_in, IsReadTo, AreSent, Stands, Leads, HasStopped, AreUnsent, HasFedAll}
 use Rattle.zy_feed.proofs.ReadLemmas.{told_stays, good_as_told}
 

@@ -1,5 +1,5 @@
 -- What a feeder has read of a capture, and what each core was sent.
-use Rattle.std.specs.Prelude.{◌≡◌, ◌≢◌, ◌↔◌, ℕ, ◌<◌, ◌≤◌, ◌==◌, nat_lt, if◌then◌else◌, List, [], ◌∷◌, ◌++◌, length, Option, None, Some, slice_get, slice_set, ⊤}
+use Rattle.std.specs.Prelude.{◌≡◌, ◌≢◌, ◌↔◌, ℕ, ◌≤◌, ◌==◌, nat_lt, if◌then◌else◌, List, [], ◌∷◌, ◌++◌, length, Option, None, Some, slice_get, slice_set, ⊤}
 use Rattle.std.specs.Io.KnownBytes.{Consumes, IsAtEnd}
 use Rattle.zy_capture.specs.declared.record.Record.{Record}
 use Rattle.zy_capture.specs.Verdict.{verdict}
@@ -15,6 +15,7 @@ use Rattle.zy_feeder.specs.Feed.{rings_of, sent_by, HasOffered, HasNoRoom}
 use Rattle.zy_feed.specs.declared.stop.Stop.{Stop}
 use Rattle.zy_feed.specs.declared.intake.Header.{Header}
 use Rattle.zy_feed.specs.declared.stage.Stage.{Stage}
+use Rattle.zy_feed.specs.declared.feeder.CaptureFeeder.{CaptureFeeder}
 use Rattle.zy_feed.specs.declared.stage.Stage.TheVariants.{Cutting, Waiting, Ending, Ended, Broken}
 use Rattle.zy_feed.specs.Reads.{InPieces, HasRead, HasReadAll, StopsBy}
 
@@ -43,6 +44,13 @@ pub record Feeding (S : Type 0) : Type 0 where
 
 abbrev pub feeding : {S : Type 0} → S → InPieces → List Offering → Stage → Feeding S
 feeding source intake inlets stage = record { source = source; intake = intake; sents = sent_by inlets; stage = stage }
+
+-- this feeder, and the same in another stage
+abbrev pub state_of : {S : Type 0} → CaptureFeeder S → Feeding S
+state_of f = feeding f.source.now f.intake f.inlets f.stage
+
+abbrev pub in_stage : {S : Type 0} → CaptureFeeder S → Stage → Feeding S
+in_stage f stage = feeding f.source.now f.intake f.inlets stage
 
 -- what it broke by; none where it is not broken
 abbrev pub stop_in : Stage → Option Stop

@@ -2,8 +2,7 @@
 use Rattle.std.proofs.Common.{ℕ, List, [], ◌++◌, append_assoc}
 use Rattle.std.specs.Prelude.{Option}
 use Rattle.std.proofs.lemmas.List.{append-nil}
-use Rattle.zy_capture.specs.declared.record.Record.{Record}
-use Rattle.zy_feed.specs.Feeding.{Feeding, Stands, Leads}
+use Rattle.zy_feed.specs.Feeding.{Feeding, Leads}
 
 -- each feeder comes after itself
 pub leads_same : {S : Type 0} (rest : S → Option (List ℕ)) (faults : S → ℕ) (f : Feeding S) → Leads rest faults f f

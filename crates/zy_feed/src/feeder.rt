@@ -4,7 +4,7 @@ ghost use Rattle.std.proofs.Common.{◌∙◌};
 ghost use Rattle.zy_served.specs.Routing as Routing;
 ghost use Rattle.zy_feeder.specs.Feed.{rings_of, sent_by, HasOffered, HasNoRoom, HasMet};
 ghost use Rattle.zy_feed.specs.declared.stage.Stage.TheVariants as Stages;
-ghost use Rattle.zy_feed.specs.Feeding.{feeding, stop_in, IsBroken, Leads, StepsTo};
+ghost use Rattle.zy_feed.specs.Feeding.{state_of, in_stage, stop_in, IsBroken, Leads, StepsTo};
 ghost use Rattle.zy_feed.specs.Leads.{leads_same, leads_on};
 
 use crate::inlets::Inlets;
@@ -46,7 +46,8 @@ impl<'s, S: Source> CaptureFeeder<'s, S> {
 
     /// The source, the inlets, and what the feeder broke by where it is broken. Takes no memory.
     pub fn into_parts(self) -> (&'s mut S, Inlets, Option<Stop>)
-        ensures source { (result.0.ghost_name ≡ self.entry.source.ghost_name) × (result.0.now ≡ self.entry.source.now) }
+        ensures source { result.0.ghost_name ≡ self.entry.source.ghost_name }
+        ensures now { result.0.now ≡ self.entry.source.now }
         ensures inlets { result.1 ≡ self.entry.inlets }
         ensures stop { result.2 ≡ stop_in self.entry.stage }
     {
@@ -67,8 +68,8 @@ impl<'s, S: Source> CaptureFeeder<'s, S> {
     fn cut(&mut self) -> Fed
         ensures source { self.new.source.ghost_name ≡ self.old.source.ghost_name }
         ensures steps { StepsTo self.old.inlets self.new.inlets self.new.stage result }
-        ensures leads { Leads S.rest S.faults (feeding self.old.source.now self.old.intake self.old.inlets Stages.Cutting)
-            (feeding self.new.source.now self.new.intake self.new.inlets self.new.stage) }
+        ensures leads { Leads S.rest S.faults
+            (in_stage self.old Stages.Cutting) (state_of self.new) }
     {
         match self.intake.cut(self.source) {
             Ok(Some(record)) => self.deliver(item_of(record)),
@@ -84,8 +85,8 @@ impl<'s, S: Source> CaptureFeeder<'s, S> {
     fn deliver(&mut self, item: Rx) -> Fed
         ensures source { self.new.source.ghost_name ≡ self.old.source.ghost_name }
         ensures steps { StepsTo self.old.inlets self.new.inlets self.new.stage result }
-        ensures leads { Leads S.rest S.faults (feeding self.old.source.now self.old.intake self.old.inlets (Stages.Waiting item))
-            (feeding self.new.source.now self.new.intake self.new.inlets self.new.stage) }
+        ensures leads { Leads S.rest S.faults
+            (in_stage self.old (Stages.Waiting item)) (state_of self.new) }
     {
         match self.inlets.deliver(item) {
             None => {
@@ -103,8 +104,8 @@ impl<'s, S: Source> CaptureFeeder<'s, S> {
     fn end(&mut self, core: u32) -> Fed
         ensures source { self.new.source.ghost_name ≡ self.old.source.ghost_name }
         ensures steps { StepsTo self.old.inlets self.new.inlets self.new.stage result }
-        ensures leads { Leads S.rest S.faults (feeding self.old.source.now self.old.intake self.old.inlets (Stages.Ending core))
-            (feeding self.new.source.now self.new.intake self.new.inlets self.new.stage) }
+        ensures leads { Leads S.rest S.faults
+            (in_stage self.old (Stages.Ending core)) (state_of self.new) }
     {
         if core >= self.inlets.count() {
             self.stage = Stage::Ended;
@@ -127,7 +128,7 @@ impl<'s, S: Source> Feeder for CaptureFeeder<'s, S> {
     ghost broken = { λ f. IsBroken f.stage };
 
     ghost leads = { λ f g. (g.source.ghost_name ≡ f.source.ghost_name)
-        × Leads S.rest S.faults (feeding f.source.now f.intake f.inlets f.stage) (feeding g.source.now g.intake g.inlets g.stage) };
+        × Leads S.rest S.faults (state_of f) (state_of g) };
 
     fn step(&mut self) -> Fed {
         match mem::replace(&mut self.stage, Stage::Ended) {
@@ -143,9 +144,12 @@ impl<'s, S: Source> Feeder for CaptureFeeder<'s, S> {
         self.inlets.meet(core, outlet);
     }
 
-    ghost leads_same = { λ f. (refl, leads_same S.rest S.faults (feeding f.source.now f.intake f.inlets f.stage)) };
+    ghost leads_same = { λ f. (refl, leads_same S.rest S.faults (state_of f)) };
 
-    ghost leads_on = { λ f g h p q. (q.0 ∙ p.0, leads_on S.rest S.faults (feeding f.source.now f.intake f.inlets f.stage) (feeding g.source.now g.intake g.inlets g.stage) (feeding h.source.now h.intake h.inlets h.stage) p.1 q.1) };
+    ghost leads_on = { λ f g h p q. (
+      q.0 ∙ p.0,
+      leads_on S.rest S.faults (state_of f) (state_of g) (state_of h) p.1 q.1,
+    ) };
 }
 
 // The item as which a record is offered; its bytes are moved.

@@ -1,5 +1,6 @@
 //! The ends of all receive rings that items are offered to.
-ghost use Rattle.std.specs.Prelude.{◌≡◌, ◌<◌, ◌≤◌, length, true, false, IfSome, IfNone, Some, slice_get};
+ghost use Rattle.std.specs.Prelude.{◌≡◌, ◌<◌, ◌≤◌, length, true, false, Some, slice_get};
+ghost use Rattle.std.specs.Prelude.{IfSome, IfNone};
 ghost use Rattle.zy_rx.specs.declared.rx.Rx.TheVariants.{End};
 ghost use Rattle.zy_feeder.specs.Feed.{rings_of, sent_by, HasNoRoom, HasMet};
 ghost use Rattle.zy_feed.specs.Feeding.{home_in, OffersTo};
@@ -23,7 +24,8 @@ impl Model for Inlets {
 
     ghost view = { λ i. i.items.items };
 
-    ghost invariant = { λ i. (i.flow ≡ length i.items.items) × (1 ≤ length i.items.items) × (length i.items.items ≤ 64) };
+    ghost invariant = { λ i. (i.flow ≡ length i.items.items)
+        × (1 ≤ length i.items.items) × (length i.items.items ≤ 64) };
 }
 
 impl Inlets {
@@ -55,10 +57,11 @@ impl Inlets {
         self.items.len() as u32
     }
 
-    // Offers an item to the core that it is for. It is handed back where that core's inlet then knew
-    // no free slot.
+    // Offers an item to the core that it is for. It is handed back where that core's inlet then
+    // knew no free slot.
     pub(crate) fn deliver(&mut self, item: Rx) -> Option<Rx>
-        ensures ok { IfNone result (OffersTo (home_in (length self.old) item) item self.old self.new) }
+        ensures ok { IfNone result
+            (OffersTo (home_in (length self.old) item) item self.old self.new) }
         ensures returned { IfSome result (λ back. back ≡ item) }
         ensures kept { IfSome result (λ _. sent_by self.new ≡ sent_by self.old) }
         ensures full { IfSome result (λ _. HasNoRoom self.new) }

@@ -1,4 +1,5 @@
-//! The feeder of a run: it reads a capture in pieces, and offers each record to the home core of its connection.
+//! The feeder of a run: it reads a capture in pieces, and offers each record to the home core of
+//! its connection.
 #![tactic(auto)]
 
 mod feeder;

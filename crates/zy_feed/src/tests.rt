@@ -132,13 +132,53 @@ const CLOSED: &[u8] = b"ZYGCAP2\n\0\0\0\x01S\0\0\0\0\0\0\0\x01aC\0\0\0\0E";
 
 // A capture, the number of the read that fails, and what comes of it.
 const CASES: [(&[u8], u64, Result<Tally, Stop>); 9] = [
-    (THREE, NEVER, Ok(Tally { offered: 4, full: 1, ended: true })),
-    (CLOSED, NEVER, Ok(Tally { offered: 3, full: 1, ended: true })),
-    (b"ZYGCAP1\n\0\0\0\0E", NEVER, Ok(Tally { offered: 1, full: 0, ended: true })),
-    (b"ZYGX", NEVER, Err(Stop::Refused(CaptureFault::BadMagic { at: 3 }))),
-    (b"ZYGCAP1\n\0\0", NEVER, Err(Stop::Refused(CaptureFault::Truncated { at: 10 }))),
-    (b"ZYGCAP1\n\0\0\0\x01C\0\0\0\0E", NEVER, Err(Stop::Refused(CaptureFault::BadTag { at: 12, byte: 67 }))),
-    (b"ZYGCAP1\n\0\0\0\x01Ex", NEVER, Err(Stop::Refused(CaptureFault::Trailing { at: 13 }))),
+    (
+        THREE,
+        NEVER,
+        Ok(Tally {
+            offered: 4,
+            full: 1,
+            ended: true,
+        }),
+    ),
+    (
+        CLOSED,
+        NEVER,
+        Ok(Tally {
+            offered: 3,
+            full: 1,
+            ended: true,
+        }),
+    ),
+    (
+        b"ZYGCAP1\n\0\0\0\0E",
+        NEVER,
+        Ok(Tally {
+            offered: 1,
+            full: 0,
+            ended: true,
+        }),
+    ),
+    (
+        b"ZYGX",
+        NEVER,
+        Err(Stop::Refused(CaptureFault::BadMagic { at: 3 })),
+    ),
+    (
+        b"ZYGCAP1\n\0\0",
+        NEVER,
+        Err(Stop::Refused(CaptureFault::Truncated { at: 10 })),
+    ),
+    (
+        b"ZYGCAP1\n\0\0\0\x01C\0\0\0\0E",
+        NEVER,
+        Err(Stop::Refused(CaptureFault::BadTag { at: 12, byte: 67 })),
+    ),
+    (
+        b"ZYGCAP1\n\0\0\0\x01Ex",
+        NEVER,
+        Err(Stop::Refused(CaptureFault::Trailing { at: 13 })),
+    ),
     (THREE, 1, Err(Stop::ReadFault)),
     (THREE, 4, Err(Stop::ReadFault)),
 ];

@@ -1,4 +1,4 @@
-use Rattle.std.proofs.Common.{rules, ◌≡◌, refl, sym, subst, Some, List}
+use Rattle.std.proofs.Common.{rules, ◌≡◌, sym, subst, Some, List}
 use Rattle.zy_rx.specs.Ring.{Offering}
 use Rattle.zy_feeder.specs.Feed.{sent_by}
 use Rattle.zy_feed.specs.Reads.{HasBegun, StopsBy}

@@ -1,4 +1,4 @@
-use Rattle.std.proofs.Common.{◌≤◌, ℕ, length, refl, arith}
+use Rattle.std.proofs.Common.{◌≤◌, length, refl, arith}
 use Rattle.zy_feed.proofs.FeedLemmas.{end_offered, all_ended}
 use Rattle.zy_feed.proofs.feeder.CaptureFeeder.end.Goals as goal
 

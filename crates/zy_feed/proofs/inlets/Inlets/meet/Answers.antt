@@ -1,4 +1,4 @@
-use Rattle.std.proofs.Common.{◌≡◌, ◌<◌, ℕ, List, length, sym, ap, subst, Some, slice_get}
+use Rattle.std.proofs.Common.{◌≡◌, ◌<◌, List, length, sym, ap, subst, Some, slice_get}
 use Rattle.zy_rx.specs.Ring.{Offering}
 use Rattle.zy_feed.proofs.InletLemmas.{inlet_at, ring_within, same_rings, same_sent}
 use Rattle.zy_feed.proofs.inlets.Inlets.meet.Goals as goal

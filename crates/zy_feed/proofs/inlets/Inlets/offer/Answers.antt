@@ -1,4 +1,4 @@
-use Rattle.std.proofs.Common.{◌≡◌, ◌<◌, ℕ, List, length, sym, subst, Some, slice_get}
+use Rattle.std.proofs.Common.{◌≡◌, ◌<◌, List, length, sym, subst, Some, slice_get}
 use Rattle.zy_rx.specs.Ring.{Offering}
 use Rattle.zy_feed.proofs.InletLemmas.{map_none, map_some, inlet_at, same_rings, same_sent, one_offered, no_room}
 use Rattle.zy_feed.proofs.inlets.Inlets.offer.Goals as goal
