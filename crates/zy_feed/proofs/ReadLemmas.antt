@@ -15,7 +15,7 @@ use Rattle.zy_capture.specs.declared.capture_fault.CaptureFault.{CaptureFault}
 use Rattle.zy_capture.specs.declared.due.Due.{Due}
 use Rattle.zy_capture.specs.declared.due.Due.TheVariants.{Letters, Digit, LineFeed, Count, Nothing, Broken}
 use Rattle.zy_capture.specs.declared.capture_fault.CaptureFault.TheVariants.{BadMagic, ConnCount}
-use Rattle.zy_capture.specs.Capture.{capture_limit}
+use Rattle.zy_capture.specs.Capture.{capture_limit, IsCapture}
 use Rattle.zy_capture.specs.Steps.{Progress, start, step}
 use Rattle.zy_capture.specs.Verdict.{captures, ended, fault_in, read_from, verdict, fault_of, version_in, version_of, count_in, count_of}
 use Rattle.zy_capture.specs.Verdict.Verdict.{Good, Bad}
@@ -24,6 +24,7 @@ use Rattle.zy_capture.proofs.Feeding.{version_here, count_here}
 use Rattle.zy_feed.specs.declared.stop.Stop.{Stop}
 use Rattle.zy_feed.specs.declared.intake.Header.{Header}
 use Rattle.zy_feed.specs.Reads.{InPieces, IsFresh, HasRead, HasReadAll, StopsBy, TellsHeader, TellsNoHeader, Gives, TakesFirst, Advances, came_of, ended_by}
+use Rattle.zy_feed.proofs.LawfulLemmas.{lawful_records}
 use Rattle.zy_feed.proofs.StepLemmas.{IsPast, HasVersion, Stays, step_gave, text_stays, text_version, text_short}
 
 -- ---- sources
@@ -210,13 +211,24 @@ told_stays text more header told =
     (version, count)
 
 -- a capture has the version and the count that it told
+header_is : (p : Progress) (given : List Record) (b : List ℕ) (header : Header) → StandsFor p given b → p.due ≡ Nothing → TellsHeader b header → (p.version ≡ header.version) × (p.count ≡ header.count)
+header_is p given b header stands due told =
+    let version : p.version ≡ header.version = version_is p.version header.version (sym (version_here p given b stands) ∙ told.0) in
+    let counts : count_in p.due p.count ≡ Some header.count = sym (count_here p given b stands) ∙ told.1 in
+    (version, (counts_past p.due p.count header.count counts).1)
+
 pub good_as_told : (p : Progress) (given : List Record) (b : List ℕ) (header : Header) → StandsFor p given b → EndsAs given (Ok tt) (verdict b) → TellsHeader b header → verdict b ≡ Good header.version header.count given
 good_as_told p given b header stands good told =
     let due : p.due ≡ Nothing = whole_due p given b stands good in
-    let version : p.version ≡ header.version = version_is p.version header.version (sym (version_here p given b stands) ∙ told.0) in
-    let counts : count_in p.due p.count ≡ Some header.count = sym (count_here p given b stands) ∙ told.1 in
-    let count : p.count ≡ header.count = (counts_past p.due p.count header.count counts).1 in
-    verdict_here captures p given b stands ∙ ap (λ (d : Due). ended d p given) due ∙ ap (λ (v : ℕ). Good v p.count given) version ∙ ap (λ (n : ℕ). Good header.version n given) count
+    let is = header_is p given b header stands due told in
+    verdict_here captures p given b stands ∙ ap (λ (d : Due). ended d p given) due ∙ ap (λ (v : ℕ). Good v p.count given) is.0 ∙ ap (λ (n : ℕ). Good header.version n given) is.1
+
+-- and its records are lawful
+pub lawful_as_told : (p : Progress) (given : List Record) (b : List ℕ) (header : Header) → StandsFor p given b → EndsAs given (Ok tt) (verdict b) → TellsHeader b header → IsCapture header.version header.count given
+lawful_as_told p given b header stands good told =
+    let due : p.due ≡ Nothing = whole_due p given b stands good in
+    let is = header_is p given b header stands due told in
+    rw (← is.0, ← is.1) (lawful_records p given b stands due)
 
 -- ---- before the first byte
 
