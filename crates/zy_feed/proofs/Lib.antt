@@ -1,0 +1,7 @@
+pub mod StepLemmas
+pub mod LawfulLemmas
+pub mod ReadLemmas
+pub mod PieceLemmas
+pub mod InletLemmas
+pub mod FeedLemmas
+pub mod WholeLemmas
