@@ -1,0 +1,187 @@
+-- That a block which is settled or put back, and an item that is taken in, are steps of a home.
+use Rattle.std.specs.Prelude.{map, is_some}
+use Rattle.std.proofs.Common.{◌≡◌, ◌≢◌, ℕ, zero, suc, ◌+◌, ◌≤◌, List, [], ◌∷◌, set, get_or, length, Bool, true, false, Option, Some, None, slice_get, refl, sym, ap, ◌∙◌, subst, arith}
+use Rattle.zy_table.specs.Member.{is_in, without}
+use Rattle.zy_table.proofs.MemberLemmas.{in_without}
+use Rattle.zy_table.proofs.SliceLemmas.{get_at, get_below}
+use Rattle.zy_shuffle.specs.Hand.{marked}
+use Rattle.zy_shuffle.specs.Pass.{Held, after_publish}
+use Rattle.zy_shuffle.proofs.HandLemmas.{marked_here, marked_else}
+use Rattle.zy_conn.specs.Work.{has_event}
+use Rattle.zy_conn.specs.Block.{Blocked}
+use Rattle.zy_link.specs.Link.{Linked, StandsOn, conn_of}
+use Rattle.zy_link.specs.Idle.{IsIdle, due_mark, mark_in}
+use Rattle.zy_home.specs.Home.{Homed, Keeps, SameHome, StandsHome, IsAt, IsHere}
+use Rattle.zy_home.specs.Place.{IsOut, Settles, PutsBack, SameHand, label_in}
+use Rattle.zy_home.specs.Turn.{IsDue, IsSettled, IsPutBack, IsPlace, IsFed, IsUnfed, PassTurns, Turns, turned}
+use Rattle.zy_home.proofs.TurnLemmas.{turned_keeps, turned_same, turned_stands}
+
+-- ---- passes
+
+pub published_turns : (p : ℕ) (b : Blocked) (v w : Held Blocked) → w ≡ after_publish p b v w.trace → PassTurns p v w
+published_turns p b v w is =
+    let count = ap (λ (z : Held Blocked). z.count) is in record {
+      table = ap (λ (z : Held Blocked). z.table) is;
+      label = ap (λ (z : Held Blocked). z.label) is;
+      out = ap (λ (z : Held Blocked). z.out) is;
+      once = omega arith;
+      hand = λ q ne. ap (λ (z : Held Blocked). is_in q z.hand) is ∙ in_without p q v.hand ne;
+      kept = λ q ne. ap (λ (z : Held Blocked). marked mark_in q z.kept) is ∙ marked_else mark_in p q b v.kept ne;
+    }
+
+pub same_turns : (p : ℕ) (v w : Held Blocked) → w ≡ v → PassTurns p v w
+same_turns p v w is =
+    let count = ap (λ (z : Held Blocked). z.count) is in record {
+      table = ap (λ (z : Held Blocked). z.table) is;
+      label = ap (λ (z : Held Blocked). z.label) is;
+      out = ap (λ (z : Held Blocked). z.out) is;
+      once = omega arith;
+      hand = λ q ne. ap (λ (z : Held Blocked). is_in q z.hand) is;
+      kept = λ q ne. ap (λ (z : Held Blocked). marked mark_in q z.kept) is;
+    }
+
+-- ---- one place
+
+module _ (h : Homed) (p : ℕ) (l m : Linked) (w : Held Blocked) (x : Option Blocked) (r : Bool) (there : slice_get h.links p ≡ Some l) (conn : conn_of m ≡ conn_of l) where
+  -- the block was settled
+  pub settled_turns : (r ≡ false → h.refused ≡ false) → is_in p h.pass.hand ≡ true → IsSettled p m h.pass w x → Turns h p x l m w r
+  settled_turns live hand s = go (has_event s.block.work) refl
+    where
+      out : (w ≡ after_publish p s.block h.pass w.trace) × (x ≡ None) → Turns h p x l m w r
+      out is = record {
+        there = there;
+        conn = conn;
+        pass = published_turns p s.block h.pass w is.0;
+        live = live;
+        at = λ _. subst (IsAt w p m) (sym is.1) (λ away. ap (λ (z : Held Blocked). marked mark_in p z.kept) is.0 ∙ marked_here mark_in p s.block h.pass.kept ∙ ap Some s.mark);
+        here = λ b e. absurd (let no = is.1 in cc);
+      }
+
+      in_slot : (w ≡ h.pass) × (x ≡ Some s.block) × IsIdle s.block.work m → Turns h p x l m w r
+      in_slot is = record {
+        there = there;
+        conn = conn;
+        pass = same_turns p h.pass w is.0;
+        live = live;
+        at = λ _. subst (IsAt w p m) (sym is.1) (s.mark, is.2);
+        here = λ b e. let same : s.block ≡ b = (let some = is.1 in cc) in
+            (ap (λ (z : Held Blocked). is_in p z.hand) is.0 ∙ hand, ap label_in (sym same) ∙ s.label ∙ ap (λ (z : Held Blocked). z.label) (sym is.0));
+      }
+
+      go : (b : Bool) → has_event s.block.work ≡ b → Turns h p x l m w r
+      go true e = out (s.event e)
+      go false e = in_slot (s.idle e)
+
+  -- memory was refused, and the block was put back
+  pub back_turns : r ≡ true → is_in p h.pass.hand ≡ true → IsPutBack h.pass w x → Turns h p x l m w r
+  back_turns refused hand s = record {
+    there = there;
+    conn = conn;
+    pass = same_turns p h.pass w s.pass_is;
+    live = λ e. absurd (cc);
+    at = λ e. absurd (cc);
+    here = λ b e. let same : s.block ≡ b = (let some = s.slot_is in cc) in
+        (ap (λ (z : Held Blocked). is_in p z.hand) s.pass_is ∙ hand, ap label_in (sym same) ∙ s.label ∙ ap (λ (z : Held Blocked). z.label) (sym s.pass_is));
+  }
+
+  pub settles : IsSettled p m h.pass w x → Settles p h (turned h p x m w r)
+  settles s = record {
+    block = s.block;
+    event = λ e. let is = s.event e in (is.0, ap (set h.blocks p) is.1);
+    idle = λ e. let is = s.idle e in (is.0, ap (set h.blocks p) is.1);
+  }
+
+  pub puts_back : IsPutBack h.pass w x → PutsBack p h (turned h p x m w r)
+  puts_back s = record { block = s.block; pass = s.pass_is; blocks = ap (set h.blocks p) s.slot_is }
+
+  -- the slot was empty, and stays so
+  away_turns : (r ≡ false → h.refused ≡ false) → Keeps h → slice_get h.blocks p ≡ Some None → due_mark m ≡ due_mark l → w ≡ h.pass → x ≡ None → Turns h p x l m w r
+  away_turns live k slot due is none = record {
+    there = there;
+    conn = conn;
+    pass = same_turns p h.pass w is;
+    live = live;
+    at = λ ok. subst (IsAt w p m) (sym none) (λ away. ap (λ (z : Held Blocked). marked mark_in p z.kept) is
+        ∙ k.each (live ok) p None l slot there (ap (λ (z : Held Blocked). is_in p z.hand) (sym is) ∙ away) ∙ ap Some (sym due));
+    here = λ b e. absurd (cc);
+  }
+
+  -- an item was taken in
+  pub fed_turns : (r ≡ false → h.refused ≡ false) → Keeps h → (x0 : Option Blocked) → slice_get h.blocks p ≡ Some x0 → IsFed p l m h.pass w x0 x → Turns h p x l m w r
+  fed_turns live k (Some b) slot s = settled_turns live (k.here p b slot).0 s
+  fed_turns live k None slot s = away_turns live k slot s.2 s.0 s.1
+
+  unfed_away : r ≡ true → w ≡ h.pass → x ≡ None → Turns h p x l m w r
+  unfed_away refused is none = record {
+    there = there;
+    conn = conn;
+    pass = same_turns p h.pass w is;
+    live = λ e. absurd (cc);
+    at = λ e. absurd (cc);
+    here = λ b e. absurd (cc);
+  }
+
+  pub unfed_turns : r ≡ true → Keeps h → (x0 : Option Blocked) → slice_get h.blocks p ≡ Some x0 → IsUnfed h.pass w x0 x → Turns h p x l m w r
+  unfed_turns refused k (Some b) slot s = back_turns refused (k.here p b slot).0 s
+  unfed_turns refused k None slot s = unfed_away refused s.0 s.1
+
+-- a place of a home that is not refused
+pub place_of_home : (h : Homed) → Keeps h → h.refused ≡ false → (p : ℕ) (x : Option Blocked) (l : Linked) → slice_get h.blocks p ≡ Some x → slice_get h.links p ≡ Some l → IsPlace h.pass p l x
+place_of_home h k live p x l ex el = record { here = λ b e. k.here p b (ex ∙ ap Some e); at = k.each live p x l ex el }
+
+-- ---- the hand after a refusal
+
+filled-set : (bs : List (Option Blocked)) (p : ℕ) (x y : Option Blocked) → slice_get bs p ≡ Some x → is_some y ≡ is_some x → map is_some (set bs p y) ≡ map is_some bs
+filled-set [] p x y e same = refl
+filled-set (b ∷ bs) zero x y e same = let is : b ≡ x = cc in ap (λ z. z ∷ map is_some bs) (same ∙ ap is_some (sym is))
+filled-set (b ∷ bs) (suc p) x y e same = ap (λ l. is_some b ∷ l) (filled-set bs p x y e same)
+
+pub same_hand : (h : Homed) (p : ℕ) (m : Linked) (w : Held Blocked) (x x0 : Option Blocked) (r : Bool) → slice_get h.blocks p ≡ Some x0 → IsUnfed h.pass w x0 x → SameHand h (turned h p x m w r)
+same_hand h p m w x (Some b) r e s = record { pass = s.pass_is; blocks = filled-set h.blocks p (Some b) x e (ap is_some s.slot_is) }
+same_hand h p m w x None r e s = record { pass = s.0; blocks = filled-set h.blocks p None x e (ap is_some s.1) }
+
+-- ---- whole steps
+
+-- what a step at one place comes to
+pub record Stepped (h h' : Homed) (l m : Linked) : Type 0 where
+  pub keeps : Keeps h'
+  pub same : SameHome h h'
+  pub stands : StandsOn l m → StandsHome h h'
+
+pub stepped : (h : Homed) (p : ℕ) (x : Option Blocked) (l m : Linked) (w : Held Blocked) (r : Bool) → Keeps h → Turns h p x l m w r → Stepped h (turned h p x m w r) l m
+stepped h p x l m w r k t = record { keeps = turned_keeps h p x l m w r t k; same = turned_same h p x l m w r t; stands = turned_stands h p x l m w r t }
+
+-- a block that is with the caller is settled, or put back where memory was refused
+module _ (h : Homed) (k : Keeps h) (p : ℕ) (b : Blocked) (o : IsOut h p b) (l m : Linked) (w : Held Blocked) (x : Option Blocked) (at : l ≡ get_or h.links p l) (conn : conn_of m ≡ conn_of l) where
+  out_there : slice_get h.links p ≡ Some l
+  out_there = get_at h.links p l l (get_below h.links p o.link o.there) at
+
+  -- the block has what its connection is due
+  pub out_due : IsDue h.pass p l b
+  out_due = let e : Some o.link ≡ Some l = sym o.there ∙ out_there in let is : o.link ≡ l = cc in record { hand = o.hand; mark = o.mark ∙ ap due_mark is; label = o.label }
+
+  pub out_settled : (r : Bool) → (r ≡ false → h.refused ≡ false) → IsSettled p m h.pass w x → Stepped h (turned h p x m w r) l m
+  out_settled r live s = stepped h p x l m w r k (settled_turns h p l m w x r out_there conn live o.hand s)
+
+  pub out_back : IsPutBack h.pass w x → Stepped h (turned h p x m w true) l m
+  out_back s = stepped h p x l m w true k (back_turns h p l m w x true out_there conn refl o.hand s)
+
+-- an item is taken in at a place, or memory is refused
+module _ (h : Homed) (k : Keeps h) (p : ℕ) (l0 l m : Linked) (w : Held Blocked) (x0 x : Option Blocked) (there : slice_get h.links p ≡ Some l0) (slot : x0 ≡ get_or h.blocks p x0) (at : l ≡ get_or h.links p l) where
+  pub fed_there : slice_get h.links p ≡ Some l
+  fed_there = get_at h.links p l l (get_below h.links p l0 there) at
+
+  pub fed_slot : slice_get h.blocks p ≡ Some x0
+  fed_slot = let near = get_below h.links p l0 there in let long = k.long in get_at h.blocks p x0 x0 (omega arith) slot
+
+  pub fed_link : l ≡ l0
+  fed_link = let e : Some l ≡ Some l0 = sym fed_there ∙ there in cc
+
+  pub fed_place : h.refused ≡ false → IsPlace h.pass p l x0
+  fed_place live = place_of_home h k live p x0 l fed_slot fed_there
+
+  pub fed_step : (r : Bool) → (r ≡ false → h.refused ≡ false) → conn_of m ≡ conn_of l → IsFed p l m h.pass w x0 x → Turns h p x l m w r
+  fed_step r live conn s = fed_turns h p l m w x r fed_there conn live k x0 fed_slot s
+
+  pub unfed_step : conn_of m ≡ conn_of l → IsUnfed h.pass w x0 x → Stepped h (turned h p x m w true) l m
+  unfed_step conn s = stepped h p x l m w true k (unfed_turns h p l m w x true fed_there conn refl k x0 fed_slot s)

@@ -1,0 +1,27 @@
+use Rattle.std.proofs.Common.{refl, sym, subst, List, Option, map, Some}
+use Rattle.zy_conn.specs.Block.{Blocked}
+use Rattle.zy_home.specs.Home.{Homed, HomeStands, Keeps}
+use Rattle.zy_home.proofs.MakeLemmas.{made_conns, made_keeps, made_stands}
+use Rattle.zy_home.proofs.home.Home.new.Goals as goal
+
+pub invariant_of-result : goal.invariant_of-result
+invariant_of-result c =
+    subst (λ (bs : List (Option Blocked)). Keeps (record { core = c.args.core; cores = c.args.cores; count = c.args.count; pass = c.args.parts.pass; blocks = bs; links = c.fill.new.links.items; ended = _; refused = _ })) (sym c.fill.ensures.slots)
+    (made_keeps c.args.core c.args.cores c.args.count c.args.parts.pass c.args.parts.blocks c.args.parts.inlets c.fill.new.links.items c.args.parts refl refl refl c.requires.parts c.fill.ensures.links c.requires.core c.requires.cores)
+
+pub returns-clause-ok : goal.returns-clause-ok
+returns-clause-ok c = record {
+  core_is = refl;
+  cores_is = refl;
+  count_is = refl;
+  pass_is = refl;
+  blocks_are = c.fill.ensures.slots;
+  conns = made_conns c.args.core c.args.cores c.args.count c.args.parts.pass c.args.parts.blocks c.args.parts.inlets c.fill.new.links.items c.args.parts refl refl refl c.requires.parts c.fill.ensures.links;
+  ended = refl;
+  refused = refl;
+}
+
+pub returns-clause-stands : goal.returns-clause-stands
+returns-clause-stands c =
+    let s = made_stands c.args.core c.args.cores c.args.count c.args.parts.pass c.args.parts.blocks c.args.parts.inlets c.fill.new.links.items c.args.parts refl refl refl c.requires.parts c.fill.ensures.links in
+    record { ended = s.ended; links = s.links }

@@ -1,0 +1,48 @@
+use Rattle.std.proofs.Common.{refl, sym, ap, ◌∙◌, subst}
+use Rattle.zy_table.specs.Name.{name_of}
+use Rattle.zy_home.specs.Home.{all_here, Homed, HomeStands}
+use Rattle.zy_home.proofs.JoinLemmas.{not_joined, keeps_looks, keeps_joins, out_joins, put_back}
+use Rattle.zy_home.proofs.home.Home.own.Goals as goal
+
+-- a block was taken
+pub invariant_of-self : goal.invariant_of-self
+invariant_of-self g c = keeps_joins _ c.claim_home.new.home c.args.ring.now.places c.in-Took.place c.in-Took.block c.self.invariant c.in-Took.ensures.value.0
+
+pub settle-requires-clause-out : goal.settle-requires-clause-out
+settle-requires-clause-out g c = let o = out_joins _ c.claim_home.new.home c.args.ring.now.places c.in-Took.place c.in-Took.block c.self.invariant c.in-Took.ensures.value.0 (sym c.places-places.ensures.value ∙ c.places-places.ensures.count ∙ ap (λ z. z.slots) (sym c.requires.table) ∙ ap (λ (h : Homed). h.pass.table.slots) (sym c.self.view_is) ∙ c.self.invariant.places) (ap (λ (h : Homed). h.refused) c.self.view_is ∙ c.requires.live) c.in-Took.ensures.kept in record { link = o.link; there = o.there; hand = o.hand; mark = c.hold.ensures.mark ∙ o.mark; label = ap name_of c.hold.ensures.table ∙ o.label }
+
+pub returns-in-Ok-settle-clause-stands : goal.returns-in-Ok-settle-clause-stands
+returns-in-Ok-settle-clause-stands g c items s = c.in-Ok-settle.ensures.stands items (let old = subst (λ (h : Homed). HomeStands h items) (sym c.self.view_is) s in record { ended = old.ended; links = old.links })
+
+pub returns-in-Ok-settle-clause-still : goal.returns-in-Ok-settle-clause-still
+returns-in-Ok-settle-clause-still g c here = absurd (not_joined _ c.claim_home.new.home c.args.ring.now.places c.in-Took.place c.in-Took.block c.self.invariant c.in-Took.ensures.value.0 (sym c.places-places.ensures.value ∙ c.places-places.ensures.count ∙ ap (λ z. z.slots) (sym c.requires.table) ∙ ap (λ (h : Homed). h.pass.table.slots) (sym c.self.view_is) ∙ c.self.invariant.places) (ap (λ (h : Homed). all_here h.blocks) c.self.view_is ∙ here))
+
+pub returns-in-Err-settle-clause-still : goal.returns-in-Err-settle-clause-still
+returns-in-Err-settle-clause-still g c here = absurd (not_joined _ c.claim_home.new.home c.args.ring.now.places c.in-Took.place c.in-Took.block c.self.invariant c.in-Took.ensures.value.0 (sym c.places-places.ensures.value ∙ c.places-places.ensures.count ∙ ap (λ z. z.slots) (sym c.requires.table) ∙ ap (λ (h : Homed). h.pass.table.slots) (sym c.self.view_is) ∙ c.self.invariant.places) (ap (λ (h : Homed). all_here h.blocks) c.self.view_is ∙ here))
+
+-- it was taken, and the hold was refused memory
+pub returns-in-Err-clause-still : goal.returns-in-Err-clause-still
+returns-in-Err-clause-still g c here = absurd (not_joined _ c.claim_home.new.home c.args.ring.now.places c.in-Took.place c.in-Took.block c.self.invariant c.in-Took.ensures.value.0 (sym c.places-places.ensures.value ∙ c.places-places.ensures.count ∙ ap (λ z. z.slots) (sym c.requires.table) ∙ ap (λ (h : Homed). h.pass.table.slots) (sym c.self.view_is) ∙ c.self.invariant.places) (ap (λ (h : Homed). all_here h.blocks) c.self.view_is ∙ here))
+
+-- nothing was taken
+pub invariant_of-self-in-Empty : goal.invariant_of-self-in-Empty
+invariant_of-self-in-Empty g c = keeps_looks _ c.claim_home.new.home c.in-Empty.ensures.value.0 c.self.invariant
+
+pub invariant_of-self-in-Raced : goal.invariant_of-self-in-Raced
+invariant_of-self-in-Raced g c = keeps_looks _ c.claim_home.new.home c.in-Raced.ensures.value.0 c.self.invariant
+
+pub returns-in-Empty-clause-stands : goal.returns-in-Empty-clause-stands
+returns-in-Empty-clause-stands g c items s = (let old = subst (λ (h : Homed). HomeStands h items) (sym c.self.view_is) s in record { ended = old.ended; links = old.links })
+
+pub returns-in-Raced-clause-stands : goal.returns-in-Raced-clause-stands
+returns-in-Raced-clause-stands g c items s = (let old = subst (λ (h : Homed). HomeStands h items) (sym c.self.view_is) s in record { ended = old.ended; links = old.links })
+
+-- the answers
+pub returns-in-Ok-settle-clause-value : goal.returns-in-Ok-settle-clause-value
+returns-in-Ok-settle-clause-value g c = rw (← c.self.view_is) (c.in-Took.place, c.in-Took.block, c.claim_home.new.home, c.in-Took.ensures.value, (c.hold.new.self, c.in-Ok.ensures.end), c.in-Ok-settle.ensures.settled)
+
+pub invariant_of-self-in-Err : goal.invariant_of-self-in-Err
+invariant_of-self-in-Err g c =
+    put_back _ (keeps_joins _ c.claim_home.new.home c.args.ring.now.places c.in-Took.place c.in-Took.block c.self.invariant c.in-Took.ensures.value.0) c.in-Took.place c.in-Took.block c.hold.new.self c.put.new.slot
+    (out_joins _ c.claim_home.new.home c.args.ring.now.places c.in-Took.place c.in-Took.block c.self.invariant c.in-Took.ensures.value.0 (sym c.places-places.ensures.value ∙ c.places-places.ensures.count ∙ ap (λ z. z.slots) (sym c.requires.table) ∙ ap (λ (h : Homed). h.pass.table.slots) (sym c.self.view_is) ∙ c.self.invariant.places) (ap (λ (h : Homed). h.refused) c.self.view_is ∙ c.requires.live) c.in-Took.ensures.kept)
+    c.hold.ensures.table c.put.ensures.value

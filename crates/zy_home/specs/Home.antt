@@ -1,0 +1,100 @@
+-- What contracts see of a home, what each home keeps, and which items it may have received.
+use Rattle.std.specs.Prelude.{◌≡◌, ℕ, ◌+◌, ◌<◌, ◌≤◌, List, [], ◌∷◌, ◌++◌, length, map, Bool, true, false, ◌&&◌, not, Option, Some, None, slice_get, is_some}
+use Rattle.zy_table.specs.Name.{name_of}
+use Rattle.zy_table.specs.Member.{is_in}
+use Rattle.zy_rx.specs.declared.rx.Rx.{Rx}
+use Rattle.zy_rx.specs.Session.{sessions_of}
+use Rattle.zy_shuffle.specs.Hand.{marked}
+use Rattle.zy_shuffle.specs.Pass.{Held}
+use Rattle.zy_conn.specs.Block.{Blocked}
+use Rattle.zy_link.specs.Link.{Linked, LinkStands, conn_of}
+use Rattle.zy_link.specs.Idle.{IsIdle, due_mark, mark_in}
+use Rattle.zy_home.specs.Own.{own_conns}
+
+-- ---- values
+
+-- a home: its core, of how many, and the count of all connections; its pass; for each of its connections, by rising number, the block where it is in the home's hand, and what the home keeps beside it; whether the end was received; and whether memory was refused
+pub record Homed : Type 0 where
+  pub core : ℕ
+  pub cores : ℕ
+  pub count : ℕ
+  pub pass : Held Blocked
+  pub blocks : List (Option Blocked)
+  pub links : List Linked
+  pub ended : Bool
+  pub refused : Bool
+
+-- the numbers of connections
+abbrev pub conns_in : List Linked → List ℕ
+conns_in links = map conn_of links
+
+-- each block is in the hand
+abbrev pub all_here : List (Option Blocked) → Bool
+all_here [] = true
+all_here (x ∷ xs) = is_some x && all_here xs
+
+-- the end was received, and each connection is in the home's hand and idle, as it is there where no memory was refused
+abbrev pub is_settled : Homed → Bool
+is_settled h = h.ended && (not h.refused && all_here h.blocks)
+
+-- a new home with this pass and these blocks
+pub record IsMade (core cores count : ℕ) (pass : Held Blocked) (blocks : List Blocked) (h : Homed) : Type 0 where
+  pub core_is : h.core ≡ core
+  pub cores_is : h.cores ≡ cores
+  pub count_is : h.count ≡ count
+  pub pass_is : h.pass ≡ pass
+  pub blocks_are : h.blocks ≡ map Some blocks
+  pub conns : conns_in h.links ≡ own_conns core cores count
+  pub ended : h.ended ≡ false
+  pub refused : h.refused ≡ false
+
+-- ---- the rule
+
+-- what is so of a connection's block: in the hand it is idle and has the mark that is due; away from it the pass keeps this mark for its place
+abbrev pub IsAt : Held Blocked → ℕ → Linked → Option Blocked → Type 0
+IsAt pass place link (Some block) = (mark_in block ≡ due_mark link) × IsIdle block.work link
+IsAt pass place link None =
+    is_in place pass.hand ≡ false → marked mark_in place pass.kept ≡ Some (due_mark link)
+
+-- a block in the hand: its place is in the hand of the pass, and it has the ring's label
+abbrev pub IsHere : Held Blocked → ℕ → Blocked → Type 0
+IsHere pass place block = (is_in place pass.hand ≡ true) × (name_of block.work.table ≡ pass.label)
+
+-- what is so of each home
+pub record Keeps (h : Homed) : Type 0 where
+  pub core : h.core < h.cores
+  pub cores : h.cores ≤ 64
+  -- its connections are its core's, by rising number, each with a place in the ring
+  pub conns : conns_in h.links ≡ own_conns h.core h.cores h.count
+  pub long : length h.blocks ≡ length h.links
+  pub places : h.pass.table.slots ≡ length h.links
+  -- the blocks in the hand, also where memory was refused
+  pub here : (p : ℕ) (b : Blocked) → slice_get h.blocks p ≡ Some (Some b) → IsHere h.pass p b
+  -- and where it was not, in the hand they are idle
+  pub each : h.refused ≡ false → (p : ℕ) (x : Option Blocked) (l : Linked)
+      → slice_get h.blocks p ≡ Some x → slice_get h.links p ≡ Some l → IsAt h.pass p l x
+
+-- these items may be what the home received: each of its connections may have received the sessions that they have for it
+pub record HomeStands (h : Homed) (items : List Rx) : Type 0 where
+  pub ended : (conn : ℕ) → (sessions_of conn items).ended ≡ h.ended
+  pub links : (p : ℕ) (l : Linked) → slice_get h.links p ≡ Some l
+      → LinkStands l (sessions_of (conn_of l) items)
+
+-- whatever the home may have received, it may still have received
+abbrev pub StandsHome : Homed → Homed → Type 0
+StandsHome h h' = (items : List Rx) → HomeStands h items → HomeStands h' items
+
+-- whatever the home may have received, it may now have received this item too
+abbrev pub StandsMore : Homed → Rx → Homed → Type 0
+StandsMore h item h' = (items : List Rx) → HomeStands h items → HomeStands h' (items ++ item ∷ [])
+
+-- what no call changes; and it publishes once at most
+pub record SameHome (h h' : Homed) : Type 0 where
+  pub core : h'.core ≡ h.core
+  pub cores : h'.cores ≡ h.cores
+  pub count : h'.count ≡ h.count
+  pub table : h'.pass.table ≡ h.pass.table
+  pub label : h'.pass.label ≡ h.pass.label
+  pub out : h'.pass.out ≡ h.pass.out
+  pub conns : conns_in h'.links ≡ conns_in h.links
+  pub once : h'.pass.count ≤ h.pass.count + 1

@@ -1,0 +1,36 @@
+-- Which connections are a home's.
+use Rattle.std.specs.Prelude.{◌≡◌, ◌≢◌, ℕ, ◌<◌, ◌==◌, List, Bool, true, false, Option, None, Some, filter, slice_get}
+use Rattle.std.specs.List.{range_with_len}
+use Rattle.zy_rx.specs.declared.rx.Rx.{Rx}
+use Rattle.zy_rx.specs.declared.rx.Rx.TheVariants.{Segment, Close, End}
+use Rattle.zy_rx.specs.Flow.{home_of}
+
+-- the connections below a count whose home is this core, of so many cores, in rising order
+abbrev pub own_conns : ℕ → ℕ → ℕ → List ℕ
+own_conns core cores count = filter (λ conn. home_of cores conn == core) (range_with_len 0 count)
+
+-- a connection is one of those
+abbrev pub IsOwn : ℕ → ℕ → ℕ → ℕ → Type 0
+IsOwn core cores count conn = (conn < count) × (home_of cores conn ≡ core)
+
+-- the connection that an item is for; the end is for none
+abbrev pub item_conn : Rx → Option ℕ
+item_conn (Segment conn bytes) = Some conn
+item_conn (Close conn) = Some conn
+item_conn End = None
+
+-- an item is the end
+abbrev pub is_end : Rx → Bool
+is_end (Segment conn bytes) = false
+is_end (Close conn) = false
+is_end End = true
+
+-- an item is of a connection that is none of those
+abbrev pub IsOfOthers : ℕ → ℕ → ℕ → Rx → Type 0
+IsOfOthers core cores count (Segment conn bytes) = IsOwn core cores count conn → ⊥
+IsOfOthers core cores count (Close conn) = IsOwn core cores count conn → ⊥
+IsOfOthers core cores count End = ⊥
+
+-- each number is above those before it
+abbrev pub IsRising : List ℕ → Type 0
+IsRising numbers = (p q a b : ℕ) → slice_get numbers p ≡ Some a → slice_get numbers q ≡ Some b → p < q → a < b

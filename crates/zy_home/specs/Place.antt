@@ -1,0 +1,103 @@
+-- What the calls on a home do at one of its places, and which causes of the ring their answers hand on.
+use Rattle.std.specs.Prelude.{◌≡◌, ◌≢◌, ℕ, ◌+◌, ◌<◌, ◌≤◌, List, true, false, length, Bool, Option, Some, None, slice_get, slice_set, map, is_some}
+use Rattle.zy_table.specs.declared.name.Name.{Name}
+use Rattle.zy_table.specs.Name.{name_of}
+use Rattle.zy_table.specs.Member.{is_in}
+use Rattle.zy_rx.specs.declared.rx.Rx.{Rx}
+use Rattle.zy_shuffle.specs.declared.claim.Claim.{Claim}
+use Rattle.zy_shuffle.specs.declared.claim.Claim.TheVariants as Claims
+use Rattle.zy_shuffle.specs.Pass.{Held, Joined, Claimed, Collected, after_publish}
+use Rattle.zy_conn.specs.Work.{has_event}
+use Rattle.zy_conn.specs.Hold.{HeldTo}
+use Rattle.zy_conn.specs.Block.{Blocked}
+use Rattle.zy_link.specs.Link.{Linked, IsFor, conn_of}
+use Rattle.zy_link.specs.Idle.{IsIdle, due_mark, mark_in}
+use Rattle.zy_home.specs.declared.own.Own.{Own}
+use Rattle.zy_home.specs.declared.own.Own.TheVariants.{Took, Empty, Raced}
+use Rattle.zy_home.specs.Home.{Homed, IsHere}
+
+-- the label of a block: the store that its pass is of
+abbrev pub label_in : Blocked → Name
+label_in block = name_of block.work.table
+
+-- ---- settling
+
+-- the block of a place is with the caller, who may settle it: the place is in the home's hand, and the block has the mark and the label that are due
+pub record IsOut (h : Homed) (place : ℕ) (block : Blocked) : Type 0 where
+  pub link : Linked
+  pub there : slice_get h.links place ≡ Some link
+  pub hand : is_in place h.pass.hand ≡ true
+  pub mark : mark_in block ≡ due_mark link
+  pub label : label_in block ≡ h.pass.label
+
+-- a block was settled at a place: it was published where it then has an event, and it stays in the home's hand where it has none
+pub record Settles (place : ℕ) (h h' : Homed) : Type 0 where
+  pub block : Blocked
+  pub event : has_event block.work ≡ true
+      → (h'.pass ≡ after_publish place block h.pass h'.pass.trace) × (h'.blocks ≡ slice_set h.blocks place None)
+  pub idle : has_event block.work ≡ false
+      → (h'.pass ≡ h.pass) × (h'.blocks ≡ slice_set h.blocks place (Some block))
+
+-- a block was put back at its place, and nothing was published
+pub record PutsBack (place : ℕ) (h h' : Homed) : Type 0 where
+  pub block : Blocked
+  pub pass : h'.pass ≡ h.pass
+  pub blocks : h'.blocks ≡ slice_set h.blocks place (Some block)
+
+-- the home with its pass as it is after a step
+abbrev pub with_pass : Homed → Held Blocked → Homed
+with_pass h pass = record h { pass = pass }
+
+-- nothing has changed but what the pass has seen
+abbrev pub Looked : Homed → Homed → Type 0
+Looked h h' = h' ≡ with_pass h (record h.pass { trace = h'.pass.trace })
+
+-- a block came into the hand with its place, and stays there
+pub record StaysIn (places : ℕ) (h h' : Homed) : Type 0 where
+  pub place : ℕ
+  pub block : Blocked
+  pub pass : Held Blocked
+  pub joined : Joined mark_in label_in places h.pass pass place block
+  pub back : PutsBack place (with_pass h pass) h'
+
+-- ---- answers
+
+-- a block was collected and settled; or the ring's collect took nothing, for its cause, and nothing else changed
+abbrev pub CollectsTo : ℕ → Homed → Homed → Bool → Type 0
+CollectsTo places h h' true = (place : ℕ) × (block : Blocked) × (pass : Held Blocked)
+    × Collected mark_in label_in places h.pass pass (Some (place, block))
+    × Settles place (with_pass h pass) h'
+CollectsTo places h h' false =
+    Collected mark_in label_in places h.pass h'.pass None × (h' ≡ with_pass h h'.pass)
+
+-- a block was claimed, held to this end and settled; or the home's claim took nothing, for its cause, and nothing else changed
+abbrev pub OwnsTo : ℕ → Homed → Homed → Own → Type 0
+OwnsTo places h h' (Took held) = (place : ℕ) × (block : Blocked) × (pass : Held Blocked)
+    × Claimed mark_in label_in places h.pass pass (Claims.Took place block)
+    × ((after : Blocked) × HeldTo block.work after.work held)
+    × Settles place (with_pass h pass) h'
+OwnsTo places h h' (Empty at) =
+    Claimed mark_in label_in places h.pass h'.pass (Claims.Empty at) × (h' ≡ with_pass h h'.pass)
+OwnsTo places h h' (Raced saw found) =
+    Claimed mark_in label_in places h.pass h'.pass (Claims.Raced saw found) × (h' ≡ with_pass h h'.pass)
+
+-- ---- receiving
+
+-- the item is for the connection at this place, and no end came before it
+pub record ComesTo (h : Homed) (place : ℕ) (item : Rx) : Type 0 where
+  pub live : h.ended ≡ false
+  pub link : Linked
+  pub there : slice_get h.links place ≡ Some link
+  pub own : IsFor (conn_of link) item
+
+-- where an item came for the connection at a place, its block was settled where it is in the hand, and nothing was published where it is away
+pub record Forwards (h h' : Homed) (item : Rx) : Type 0 where
+  pub here : (place : ℕ) (block : Blocked) → ComesTo h place item
+      → slice_get h.blocks place ≡ Some (Some block) → Settles place h h'
+  pub away : (place : ℕ) → ComesTo h place item → slice_get h.blocks place ≡ Some None
+      → (h'.pass ≡ h.pass) × (h'.blocks ≡ h.blocks)
+
+-- the same connections are in the home's hand, and nothing was published
+pub record SameHand (h h' : Homed) : Type 0 where
+  pub pass : h'.pass ≡ h.pass
+  pub blocks : map is_some h'.blocks ≡ map is_some h.blocks

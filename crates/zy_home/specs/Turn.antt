@@ -1,0 +1,82 @@
+-- What a step at one place is, of the parts of a home. No public clause cites this module.
+use Rattle.std.specs.Prelude.{◌≡◌, ◌≢◌, ℕ, ◌+◌, ◌<◌, ◌≤◌, List, true, false, Bool, Option, Some, None, slice_get, slice_set, is_some}
+use Rattle.zy_table.specs.Member.{is_in}
+use Rattle.zy_rx.specs.declared.rx.Rx.{Rx}
+use Rattle.zy_shuffle.specs.Hand.{marked}
+use Rattle.zy_shuffle.specs.Pass.{Held, after_publish}
+use Rattle.zy_conn.specs.Work.{has_event}
+use Rattle.zy_conn.specs.Block.{Blocked}
+use Rattle.zy_link.specs.Link.{Linked, conn_of}
+use Rattle.zy_link.specs.Idle.{IsIdle, due_mark, mark_in}
+use Rattle.zy_home.specs.Home.{Homed, IsAt, IsHere}
+use Rattle.zy_home.specs.Place.{label_in}
+
+-- ---- one place
+
+-- the block of a place may be settled with its link
+pub record IsDue (pass : Held Blocked) (place : ℕ) (link : Linked) (block : Blocked) : Type 0 where
+  pub hand : is_in place pass.hand ≡ true
+  pub mark : mark_in block ≡ due_mark link
+  pub label : label_in block ≡ pass.label
+
+-- a block was settled: it was published where it has an event, and lies in its slot, idle, where it has none
+pub record IsSettled (place : ℕ) (link' : Linked) (pass pass' : Held Blocked) (slot' : Option Blocked) : Type 0 where
+  pub block : Blocked
+  pub mark : mark_in block ≡ due_mark link'
+  pub label : label_in block ≡ pass.label
+  pub event : has_event block.work ≡ true
+      → (pass' ≡ after_publish place block pass pass'.trace) × (slot' ≡ None)
+  pub idle : has_event block.work ≡ false
+      → (pass' ≡ pass) × (slot' ≡ Some block) × IsIdle block.work link'
+
+-- memory was refused, and the block lies in its slot
+pub record IsPutBack (pass pass' : Held Blocked) (slot' : Option Blocked) : Type 0 where
+  pub block : Blocked
+  pub label : label_in block ≡ pass.label
+  pub pass_is : pass' ≡ pass
+  pub slot_is : slot' ≡ Some block
+
+-- what is so of a place in a home that is not refused
+pub record IsPlace (pass : Held Blocked) (place : ℕ) (link : Linked) (slot : Option Blocked) : Type 0 where
+  pub here : (block : Blocked) → slot ≡ Some block → IsHere pass place block
+  pub at : IsAt pass place link slot
+
+-- an item was taken in where the block is in its slot: it was settled; and where it is away: nothing was published, and the same mark is due
+abbrev pub IsFed : ℕ → Linked → Linked → Held Blocked → Held Blocked → Option Blocked → Option Blocked → Type 0
+IsFed place link link' pass pass' (Some block) slot' = IsSettled place link' pass pass' slot'
+IsFed place link link' pass pass' None slot' =
+    (pass' ≡ pass) × (slot' ≡ None) × (due_mark link' ≡ due_mark link)
+
+-- memory was refused: nothing was published, and the block is in its slot where it was
+abbrev pub IsUnfed : Held Blocked → Held Blocked → Option Blocked → Option Blocked → Type 0
+IsUnfed pass pass' (Some block) slot' = IsPutBack pass pass' slot'
+IsUnfed pass pass' None slot' = (pass' ≡ pass) × (slot' ≡ None)
+
+-- ---- the home
+
+-- the pass after a step at one place
+pub record PassTurns (place : ℕ) (pass pass' : Held Blocked) : Type 0 where
+  pub table : pass'.table ≡ pass.table
+  pub label : pass'.label ≡ pass.label
+  pub out : pass'.out ≡ pass.out
+  pub once : pass'.count ≤ pass.count + 1
+  pub hand : (q : ℕ) → q ≢ place → is_in q pass'.hand ≡ is_in q pass.hand
+  pub kept : (q : ℕ) → q ≢ place → marked mark_in q pass'.kept ≡ marked mark_in q pass.kept
+
+-- the home after a step at one place
+abbrev pub turned : Homed → ℕ → Option Blocked → Linked → Held Blocked → Bool → Homed
+turned h place slot link pass refused = record h {
+  pass = pass;
+  blocks = slice_set h.blocks place slot;
+  links = slice_set h.links place link;
+  refused = refused;
+}
+
+-- the step is one that a home may make
+pub record Turns (h : Homed) (place : ℕ) (slot' : Option Blocked) (link link' : Linked) (pass' : Held Blocked) (refused' : Bool) : Type 0 where
+  pub there : slice_get h.links place ≡ Some link
+  pub conn : conn_of link' ≡ conn_of link
+  pub pass : PassTurns place h.pass pass'
+  pub live : refused' ≡ false → h.refused ≡ false
+  pub at : refused' ≡ false → IsAt pass' place link' slot'
+  pub here : (block : Blocked) → slot' ≡ Some block → IsHere pass' place block

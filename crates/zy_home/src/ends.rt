@@ -1,0 +1,47 @@
+//! What is left of connections at the end.
+ghost use Rattle.std.specs.Prelude.{◌≡◌, [], ◌∷◌, map, IfSome, IfNone};
+ghost use Rattle.zy_home.specs.End.{ended_of, ended};
+
+use std::collections::VecDeque;
+use std::marker::Model;
+use zy_calls::Output;
+use zy_link::Link;
+
+/// What is left of a home's connections. Contracts see the list of their outputs with the ends of
+/// their closed sessions, by rising connection.
+#[derive(Drop)]
+pub struct Ends {
+    links: VecDeque<Link>,
+}
+
+impl Model for Ends {
+    ghost use Rattle.std.specs.Prelude.{List, map};
+    ghost use Rattle.zy_home.specs.End.{Ended, ended_of};
+
+    ghost Value = { List Ended };
+
+    ghost view = { λ ends. map ended_of ends.links.items };
+}
+
+impl Ends {
+    // What is left of these connections. Takes no memory.
+    pub(crate) fn of(links: Vec<Link>) -> Ends
+        ensures value { result ≡ map ended_of links.items }
+    {
+        Ends {
+            links: VecDeque::from_vec(links),
+        }
+    }
+
+    /// Takes the first output, with the ends of the closed sessions: of each the number of commands
+    /// up to it. It is `None` exactly where none is left. Takes no memory.
+    pub fn next(&mut self) -> Option<(Output, Vec<u64>)>
+        ensures value { IfSome result (λ end. self.old ≡ ended end.0 end.1.items ∷ self.new) }
+        ensures none { IfNone result (self.old ≡ []) }
+    {
+        match self.links.pop_front() {
+            Some(link) => Some(link.into_end()),
+            None => None,
+        }
+    }
+}

@@ -1,0 +1,102 @@
+//! The home of a core's connections.
+ghost use Rattle.std.specs.Prelude.{◌≡◌, map};
+ghost use Rattle.std.specs.List.{AllByRecursion};
+ghost use Rattle.zy_home.specs.End.{HasLabel, blocks_in, ended_of};
+ghost use Rattle.zy_home.specs.Home.{Keeps, is_settled, all_here};
+
+mod making;
+mod receiving;
+mod settling;
+
+use crate::blocks::Blocks;
+use crate::ends::Ends;
+use std::marker::Model;
+use zy_conn::Block;
+use zy_link::Link;
+use zy_shuffle::HomePass;
+
+/// The home of a core's connections: for each its inlet, framer, session ends, waiting frames and
+/// output, and its block where that is in the home's hand. Contracts see it as `Homed`.
+#[derive(Drop)]
+pub struct Home {
+    core: u32,
+    cores: u32,
+    count: u32,
+    pass: HomePass<Block>,
+    // By place: the block of the connection, where it is in the hand.
+    blocks: Vec<Option<Block>>,
+    // By place, which is by rising number: the connection.
+    links: Vec<Link>,
+    ended: bool,
+    refused: bool,
+}
+
+impl Model for Home {
+    ghost use Rattle.zy_home.specs.Home.{Homed, Keeps};
+
+    ghost Value = { Homed };
+
+    ghost view = { λ h. record { core = h.core; cores = h.cores; count = h.count; pass = h.pass; blocks = h.blocks.items; links = h.links.items; ended = h.ended; refused = h.refused } };
+
+    ghost invariant = { λ h. Keeps (record {
+      core = h.core;
+      cores = h.cores;
+      count = h.count;
+      pass = h.pass;
+      blocks = h.blocks.items;
+      links = h.links.items;
+      ended = h.ended;
+      refused = h.refused;
+    }) };
+}
+
+impl Home {
+    /// Whether the end was received, and each connection is in the home's hand and idle. A home that
+    /// was refused memory is not settled.
+    pub fn is_settled(&self) -> bool
+        ensures value { result ≡ is_settled self.now }
+        ensures keeps { Keeps self.now }
+    {
+        self.ended && !self.refused && are_here(&self.blocks)
+    }
+
+    /// Whether a call of this home was refused memory.
+    pub fn is_refused(&self) -> bool
+        ensures value { result ≡ self.now.refused }
+    {
+        self.refused
+    }
+
+    /// The pass, the blocks in the home's hand, and what is left of the connections. Takes no memory.
+    pub fn into_outputs(self) -> (HomePass<Block>, Blocks, Ends)
+        ensures pass { result.0 ≡ self.pass }
+        ensures blocks { result.1 ≡ blocks_in self.blocks }
+        ensures labels { AllByRecursion (HasLabel self.pass.label) result.1 }
+        ensures ends { result.2 ≡ map ended_of self.links }
+        ensures keeps { Keeps self }
+    {
+        let Home {
+            core: _,
+            cores: _,
+            count: _,
+            pass,
+            blocks,
+            links,
+            ended: _,
+            refused: _,
+        } = self;
+        (pass, Blocks::from_slots(blocks), Ends::of(links))
+    }
+}
+
+// Whether each slot has its block.
+fn are_here(blocks: &[Option<Block>]) -> bool
+    ensures value { result ≡ all_here blocks.now }
+{
+    for block in blocks {
+        if block.is_none() {
+            return false;
+        }
+    }
+    true
+}

@@ -1,0 +1,92 @@
+//! Receiving items.
+ghost use Rattle.std.specs.Prelude.{◌≡◌, ◌<◌, ◌^◌, ◌||◌, List, [], ◌∷◌, ◌++◌, true, false, Ok, OnOk, OnErr, is_err, Some, slice_get, length};
+ghost use Rattle.zy_rx.specs.declared.rx.Rx.{Rx};
+ghost use Rattle.zy_rx.specs.Session.{sessions_of};
+ghost use Rattle.zy_link.specs.Link.{Linked, IsFor, conn_of};
+ghost use Rattle.zy_home.specs.Own.{IsOfOthers, is_end};
+ghost use Rattle.zy_home.specs.Home.{HomeStands, SameHome, StandsMore};
+ghost use Rattle.zy_home.specs.Place.{Forwards, SameHand, ComesTo};
+
+use super::Home;
+use crate::place::{conn_in, feed_at, place_of};
+use zy_base::NoMemory;
+use zy_conn::Block;
+use zy_rx::Rx;
+use zy_shuffle::Ring;
+
+impl Home {
+    /// Takes in an item. A segment is cut, and a close ends the session of its connection, also while
+    /// its block is away; the block of an idle connection that got an event is published. An item
+    /// behind the end, and one of a connection that is not the home's, is dropped.
+    pub fn receive(&mut self, ring: &Ring<Block>, item: Rx) -> Result<(), NoMemory>
+        requires table { self.old.pass.table ≡ ring.now.id }
+        requires few { self.old.pass.count < 2 ^ 63 }
+        requires live { self.old.refused ≡ false }
+
+        // What was received, and what came of it.
+        ensures stands { OnOk result (StandsMore self.old item self.new) }
+        ensures ended { OnOk result (self.new.ended ≡ (self.old.ended || is_end item)) }
+        ensures forwards { OnOk result (Forwards self.old self.new item) }
+
+        // What is dropped.
+        ensures still { self.old.ended ≡ true → (result ≡ Ok tt) × (self.new ≡ self.old) }
+        ensures others { IsOfOthers self.old.core self.old.cores self.old.count item → (result ≡ Ok tt) × (self.new ≡ self.old) }
+
+        // What stays, and a refusal.
+        ensures same { SameHome self.old self.new }
+        ensures refused { self.new.refused ≡ is_err result }
+        ensures err { OnErr result (SameHand self.old self.new) }
+    {
+        self.take_in(ring, &item)
+    }
+
+    // Takes in an item.
+    fn take_in(&mut self, ring: &Ring<Block>, item: &Rx) -> Result<(), NoMemory>
+        requires table { self.old.pass.table ≡ ring.now.id }
+        requires few { self.old.pass.count < 2 ^ 63 }
+        requires live { self.old.refused ≡ false }
+        ensures stands { OnOk result (StandsMore self.old item.now self.new) }
+        ensures ended { OnOk result (self.new.ended ≡ (self.old.ended || is_end item.now)) }
+        ensures forwards { OnOk result (Forwards self.old self.new item.now) }
+        ensures still { self.old.ended ≡ true → (result ≡ Ok tt) × (self.new ≡ self.old) }
+        ensures others { IsOfOthers self.old.core self.old.cores self.old.count item.now → (result ≡ Ok tt) × (self.new ≡ self.old) }
+        ensures same { SameHome self.old self.new }
+        ensures refused { self.new.refused ≡ is_err result }
+        ensures err { OnErr result (SameHand self.old self.new) }
+    {
+        if self.ended {
+            return Ok(());
+        }
+        let Some(conn) = conn_in(item) else {
+            self.ended = true;
+            return Ok(());
+        };
+        match place_of(&self.links, conn) {
+            Some(at) => self.receive_at(ring, at, item),
+            None => Ok(()),
+        }
+    }
+
+    // Takes in an item for the connection at a place.
+    fn receive_at(&mut self, ring: &Ring<Block>, at: usize, item: &Rx) -> Result<(), NoMemory>
+        requires table { self.old.pass.table ≡ ring.now.id }
+        requires few { self.old.pass.count < 2 ^ 63 }
+        requires live { self.old.refused ≡ false }
+        requires comes { ComesTo self.old at item.now }
+        ensures stands { OnOk result (StandsMore self.old item.now self.new) }
+        ensures forwards { OnOk result (Forwards self.old self.new item.now) }
+        ensures same { SameHome self.old self.new × (self.new.ended ≡ self.old.ended) }
+        ensures refused { self.new.refused ≡ is_err result }
+        ensures err { OnErr result (SameHand self.old self.new) }
+    {
+        let _places = ring.places();
+        let (pass, slot, link) = (&mut self.pass, &mut self.blocks[at], &mut self.links[at]);
+        match feed_at(ring, pass, slot, link, at as u32, item) {
+            Ok(()) => Ok(()),
+            Err(e) => {
+                self.refused = true;
+                Err(e)
+            }
+        }
+    }
+}

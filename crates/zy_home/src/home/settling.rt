@@ -1,0 +1,103 @@
+//! Settling blocks: those that come back, and those that the home claims itself.
+ghost use Rattle.std.specs.Prelude.{◌≡◌, ◌<◌, ◌^◌, List, true, false, OnOk, OnErr, IfOk, is_err};
+ghost use Rattle.zy_table.specs.Name.{name_of};
+ghost use Rattle.zy_home.specs.Home.{SameHome, StandsHome, all_here};
+ghost use Rattle.zy_home.specs.Place.{IsOut, Settles, PutsBack, StaysIn, Looked, CollectsTo, OwnsTo};
+
+use super::Home;
+use crate::own::Own;
+use crate::place::{put, settle_at};
+use mc_store::StoreTable;
+use zy_base::{Gate, NoMemory};
+use zy_conn::Block;
+use zy_shuffle::{Claim, Ring};
+
+impl Home {
+    /// Settles the block of a place of the home's hand: its batch is carried out, waiting frames are
+    /// offered, and it is published exactly where it then has an event. Else, and after a refusal, it
+    /// stays in the home's hand.
+    pub fn settle(&mut self, ring: &Ring<Block>, place: u32, block: Block) -> Result<(), NoMemory>
+        requires table { self.old.pass.table ≡ ring.now.id }
+        requires few { self.old.pass.count < 2 ^ 63 }
+        requires live { self.old.refused ≡ false }
+        requires out { IsOut self.old place block }
+        ensures settled { OnOk result (Settles place self.old self.new) }
+        ensures stands { OnOk result (StandsHome self.old self.new) }
+        ensures same { SameHome self.old self.new × (self.new.ended ≡ self.old.ended) }
+        ensures refused { self.new.refused ≡ is_err result }
+        ensures err { OnErr result (PutsBack place self.old self.new) }
+    {
+        let at = place as usize;
+        let (pass, slot, link) = (&mut self.pass, &mut self.blocks[at], &mut self.links[at]);
+        match settle_at(ring, pass, slot, link, place, block) {
+            Ok(()) => Ok(()),
+            Err(e) => {
+                self.refused = true;
+                Err(e)
+            }
+        }
+    }
+}
+
+impl Home {
+    /// Collects a block that was given back, and settles it; `false` exactly where the ring's
+    /// `collect` answered `None`. After a refusal the block stays in the home's hand.
+    pub fn collect(&mut self, ring: &Ring<Block>) -> Result<bool, NoMemory>
+        requires table { self.old.pass.table ≡ ring.now.id }
+        requires few { self.old.pass.count < 2 ^ 63 }
+        requires live { self.old.refused ≡ false }
+        ensures value { IfOk result (CollectsTo ring.now.places self.old self.new) }
+        ensures still { all_here self.old.blocks ≡ true → Looked self.old self.new }
+        ensures stands { OnOk result (StandsHome self.old self.new) }
+        ensures same { SameHome self.old self.new × (self.new.ended ≡ self.old.ended) }
+        ensures refused { self.new.refused ≡ is_err result }
+        ensures err { OnErr result (StaysIn ring.now.places self.old self.new) }
+    {
+        let _places = ring.places();
+        let Some((place, block)) = ring.collect(&mut self.pass) else {
+            return Ok(false);
+        };
+        match self.settle(ring, place, block) {
+            Ok(()) => Ok(true),
+            Err(e) => Err(e),
+        }
+    }
+
+    /// Claims once from the home's own queue. A block that was taken is held and settled; `Empty` and
+    /// `Raced` come exactly where the claim answered so. After a refusal a block that was taken stays
+    /// in the home's hand.
+    pub fn own<G: Gate>(
+        &mut self,
+        ring: &Ring<Block>,
+        store: &StoreTable,
+        gate: &G,
+    ) -> Result<Own, NoMemory>
+        requires table { self.old.pass.table ≡ ring.now.id }
+        requires few { self.old.pass.count < 2 ^ 63 }
+        requires live { self.old.refused ≡ false }
+        requires store { self.old.pass.label ≡ name_of store.now.id }
+        ensures value { IfOk result (OwnsTo ring.now.places self.old self.new) }
+        ensures still { all_here self.old.blocks ≡ true → Looked self.old self.new }
+        ensures stands { OnOk result (StandsHome self.old self.new) }
+        ensures same { SameHome self.old self.new × (self.new.ended ≡ self.old.ended) }
+        ensures refused { self.new.refused ≡ is_err result }
+        ensures err { OnErr result (StaysIn ring.now.places self.old self.new) }
+    {
+        let _places = ring.places();
+        match ring.claim_home(&mut self.pass) {
+            Claim::Took { place, mut block } => match block.hold(store, gate, self.core) {
+                Ok(held) => match self.settle(ring, place, block) {
+                    Ok(()) => Ok(Own::Took { held }),
+                    Err(e) => Err(e),
+                },
+                Err(e) => {
+                    put(&mut self.blocks[place as usize], Some(block));
+                    self.refused = true;
+                    Err(e)
+                }
+            },
+            Claim::Empty { at } => Ok(Own::Empty { at }),
+            Claim::Raced { saw, found } => Ok(Own::Raced { saw, found }),
+        }
+    }
+}

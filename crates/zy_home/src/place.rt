@@ -1,0 +1,120 @@
+//! The steps at one place of a home: what is done with a block, its link and the pass.
+ghost use Rattle.std.specs.Prelude.{◌≡◌, ◌≢◌, ◌<◌, ◌^◌, ℕ, OnOk, OnErr, IfSome, IfNone, Some, slice_get};
+ghost use Rattle.zy_link.specs.Link.{Linked, SameLink, StandsOn, TakesIn, IsFor, conn_of};
+ghost use Rattle.zy_home.specs.Own.{IsRising, item_conn};
+ghost use Rattle.zy_home.specs.Home.{conns_in};
+ghost use Rattle.zy_home.specs.Turn.{IsDue, IsSettled, IsPutBack, IsPlace, IsFed, IsUnfed};
+
+use std::mem;
+use zy_base::NoMemory;
+use zy_conn::Block;
+use zy_link::Link;
+use zy_rx::Rx;
+use zy_shuffle::{HomePass, Ring};
+
+// The connection of an item; the end has none.
+pub(crate) fn conn_in(item: &Rx) -> Option<u32>
+    ensures value { result ≡ item_conn item.now }
+{
+    match item {
+        Rx::Segment { conn, bytes: _ } => Some(*conn),
+        Rx::Close { conn } => Some(*conn),
+        Rx::End => None,
+    }
+}
+
+// The place of a connection, by halves of what is left.
+pub(crate) fn place_of(links: &[Link], conn: u32) -> Option<usize>
+    requires rising { IsRising (conns_in links.now) }
+    ensures some { IfSome result (λ at. (l : Linked) × (slice_get links.now at ≡ Some l) × (conn_of l ≡ conn)) }
+    ensures none { IfNone result ((at : ℕ) (l : Linked) → slice_get links.now at ≡ Some l → conn_of l ≢ conn) }
+{
+    let mut low = 0;
+    let mut high = links.len();
+    while low < high {
+        let middle = low + (high - low) / 2;
+        let found = links[middle].conn();
+        if found == conn {
+            return Some(middle);
+        }
+        if found < conn {
+            low = middle + 1;
+        } else {
+            high = middle;
+        }
+    }
+    None
+}
+
+// Puts a block, or none, into a slot.
+pub(crate) fn put(slot: &mut Option<Block>, block: Option<Block>)
+    ensures value { slot.new ≡ block }
+{
+    *slot = block;
+}
+
+// Settles a block: it is published where it then has an event, and else lies in its slot.
+pub(crate) fn settle_at(
+    ring: &Ring<Block>,
+    pass: &mut HomePass<Block>,
+    slot: &mut Option<Block>,
+    link: &mut Link,
+    place: u32,
+    block: Block,
+) -> Result<(), NoMemory>
+    requires table { pass.old.table ≡ ring.now.id }
+    requires few { pass.old.count < 2 ^ 63 }
+    requires due { IsDue pass.old place link.old block }
+    ensures ok { OnOk result (IsSettled place link.new pass.old pass.new slot.new) }
+    ensures err { OnErr result (IsPutBack pass.old pass.new slot.new) }
+    ensures stands { OnOk result (StandsOn link.old link.new) }
+    ensures same { SameLink link.old link.new }
+{
+    let mut block = block;
+    match link.settle(&mut block) {
+        Ok(true) => {
+            ring.publish(pass, place, block);
+            put(slot, None);
+            Ok(())
+        }
+        Ok(false) => {
+            put(slot, Some(block));
+            Ok(())
+        }
+        Err(e) => {
+            put(slot, Some(block));
+            Err(e)
+        }
+    }
+}
+
+// Takes in an item for the connection. Its block is settled where it is in its slot; where it is
+// away, what waits is offered.
+pub(crate) fn feed_at(
+    ring: &Ring<Block>,
+    pass: &mut HomePass<Block>,
+    slot: &mut Option<Block>,
+    link: &mut Link,
+    place: u32,
+    item: &Rx,
+) -> Result<(), NoMemory>
+    requires table { pass.old.table ≡ ring.now.id }
+    requires few { pass.old.count < 2 ^ 63 }
+    requires at { IsPlace pass.old place link.old slot.old }
+    requires own { IsFor (conn_of link.old) item.now }
+    ensures ok { OnOk result (IsFed place link.old link.new pass.old pass.new slot.old slot.new) }
+    ensures err { OnErr result (IsUnfed pass.old pass.new slot.old slot.new) }
+    ensures takes { OnOk result (TakesIn item.now link.old link.new) }
+    ensures conn { conn_of link.new ≡ conn_of link.old }
+{
+    if let Err(e) = link.receive(item) {
+        return Err(e);
+    }
+    match mem::replace(slot, None) {
+        Some(block) => settle_at(ring, pass, slot, link, place, block),
+        None => {
+            link.offer_waiting();
+            Ok(())
+        }
+    }
+}

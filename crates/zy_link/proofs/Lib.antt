@@ -1,0 +1,3 @@
+pub mod LinkLemmas
+pub mod IdleLemmas
+pub mod FinishLemmas

@@ -1,0 +1,4 @@
+pub mod Link
+pub mod Offer
+pub mod Idle
+pub mod Finish
