@@ -57,6 +57,13 @@ impl<T: Marked> Rings<T> {
         &self.items[core as usize]
     }
 
+    /// The number of rings.
+    pub fn count(&self) -> usize
+        ensures value { result ≡ length self.now }
+    {
+        self.items.len()
+    }
+
     /// Takes the first ring; `None` exactly where there is none. Takes no memory.
     pub fn next(&mut self) -> Option<Ring<T>>
         ensures value { self.old ≡ option_to_list result ++ self.new }

@@ -1,0 +1,12 @@
+pub mod Feeding
+pub mod RunLemmas
+pub mod PlaceLemmas
+pub mod GoesLemmas
+pub mod SpelledLemmas
+pub mod CallLemmas
+pub mod SoFar
+pub mod TestLemmas
+pub mod EndLemmas
+pub mod NumberLemmas
+pub mod ContentLemmas
+pub mod WholeLemmas

@@ -1,0 +1,193 @@
+//! The reader of journals.
+ghost use Rattle.std.specs.Prelude.{◌≡◌, ◌+◌, ◌<◌, ◌≤◌, [], ◌∷◌, length, take, drop, get_or, Err, Ok, None, Some, true, false};
+ghost use Rattle.zy_read.specs.Standing.{given_in, Feeds, FeedsAs, TellsFault, TellsLasting, AnswersBy};
+ghost use Rattle.zy_read.specs.declared.not_taken.NotTaken.TheVariants.{NoMemory};
+ghost use Rattle.journal_reader.specs.declared.due.Due.TheVariants as Dues;
+ghost use Rattle.journal_reader.specs.Steps.{grown_by, journal_limit};
+ghost use Rattle.journal_reader.specs.Verdict.{journals, verdict, is_good};
+ghost use Rattle.journal_reader.specs.Standing.{StandsForJournal, EndsBy, MayWant};
+
+mod codes;
+mod contents;
+mod ends;
+mod long_numbers;
+mod numbers;
+mod steps;
+
+use crate::draft::Draft;
+use crate::due::{ByteField, BytesField, Due};
+use crate::past::Past;
+use std::alloc::Global;
+use std::marker::Model;
+use zy_base::{Entries, Entry, FileFault, Hold, Holds};
+use zy_journal::Journal;
+use zy_read::{Fed, Field, FileFeed, goes_on};
+
+const JOURNAL_LIMIT: u64 = 9_223_372_036_854_775_807;
+
+/// Reads a journal, byte by byte or in pieces, and keeps it.
+#[derive(Drop)]
+pub struct JournalReader {
+    alloc: Global,
+    due: Due,
+    field: Field,
+    payload: Vec<u8>,
+    draft: Draft,
+    entries: Vec<Entry>,
+    holds: Vec<Hold>,
+    past: Past,
+    at: u64,
+}
+
+impl Model for JournalReader {
+    ghost use Rattle.std.specs.Prelude.{◌≤◌, length};
+    ghost use Rattle.journal_reader.specs.Fields.{IsWithin};
+    ghost use Rattle.journal_reader.specs.Steps.{Progress};
+
+    ghost Value = { Progress };
+
+    ghost view = { λ r. record {
+      due = r.due;
+      field = r.field;
+      payload = r.payload.items;
+      draft = r.draft;
+      entries = r.entries.items;
+      holds = r.holds.items;
+      past = r.past;
+      at = r.at;
+    } };
+
+    ghost invariant = { λ r. (length r.field ≤ r.at)
+        × IsWithin r.due r.at (length r.field) r.payload.items r.draft.size };
+}
+
+impl JournalReader {
+    /// A reader to which no byte was fed. Takes no memory.
+    pub fn new(alloc: Global) -> JournalReader
+        ensures value { StandsForJournal result [] [] }
+    {
+        JournalReader {
+            alloc,
+            due: Due::Byte(ByteField::Magic),
+            field: Field::new(),
+            payload: Vec::new(alloc),
+            draft: Draft::new(alloc),
+            entries: Vec::new(alloc),
+            holds: Vec::new(alloc),
+            past: Past {
+                stamp: 0,
+                shard: 0,
+                conn: 0,
+            },
+            at: 0,
+        }
+    }
+
+    /// Takes the next byte. `Some` comes at the byte that ends the journal.
+    ///
+    /// After a fault each call answers that same fault, and a byte after the end is one. Want of
+    /// memory is free, at the bytes of keys and values and where an entry or a hold may end.
+    pub fn feed(&mut self, byte: u8) -> Result<Option<()>, FileFeed>
+        ensures fed { FeedsAs journals self.old self.new (byte ∷ []) result }
+        ensures exact { TellsFault journals self.old (byte ∷ []) result }
+        ensures lasts { TellsLasting journals self.old (byte ∷ []) result }
+
+        // Want of memory.
+        ensures kept { result ≡ Err NoMemory → self.new ≡ self.old }
+        ensures memory { result ≡ Err NoMemory → MayWant self.old byte }
+    {
+        self.step(byte)
+    }
+
+    /// Takes bytes up to the end of the journal or the first fault, and all of them where there is
+    /// neither. That one comes at the last byte taken, as `feed` would give it; what follows the
+    /// end is not looked at.
+    ///
+    /// Where memory is wanted, the bytes before the one that wants it are taken; `feed` says when.
+    pub fn feed_piece(&mut self, bytes: &[u8]) -> Fed<(), FileFault>
+        requires some { 0 < length bytes.now }
+        ensures within { result.taken ≤ length bytes.now }
+        ensures none { result.answer ≡ Ok None → result.taken ≡ length bytes.now }
+        ensures taken { (gave : _) → result.answer ≡ Ok gave → 0 < result.taken }
+        ensures fed { Feeds journals self.old self.new (take result.taken bytes.now)
+            (given_in result.answer) }
+        ensures exact { TellsFault journals self.old (take result.taken bytes.now) result.answer }
+        ensures lasts { TellsLasting journals self.old (take result.taken bytes.now) result.answer }
+        ensures memory { result.answer ≡ Err NoMemory
+            → MayWant self.new (get_or bytes.now result.taken 0) }
+    {
+        let mut at = 0;
+        while at < bytes.len() {
+            at += self.feed_run(bytes, at);
+            if let Err(answer) = goes_on(self.step(bytes[at])) {
+                return Fed::at(at, answer);
+            }
+            at += 1;
+        }
+        Fed {
+            taken: at,
+            answer: Ok(None),
+        }
+    }
+
+    #[tactic(auto, using(crate::proofs::RunLemmas::run_fed, zy_read::proofs::Feeding::fed_none))]
+    // Takes bytes of a key or a value at once, from some place on, but neither its last one
+    // nor that of the piece. Gives how many; where memory is wanted for them, none.
+    fn feed_run(&mut self, bytes: &[u8], at: usize) -> usize
+        requires place { at < length bytes.now }
+        ensures within { at + result < length bytes.now }
+        ensures fed { Feeds journals self.old self.new (take result (drop at bytes.now)) [] }
+    {
+        match self.due {
+            Due::Bytes(field) if self.at < JOURNAL_LIMIT => {
+                let left = self.draft.size as usize - self.payload.len() - 1;
+                let room = JOURNAL_LIMIT - self.at;
+                let run = (left.min(bytes.len() - at - 1) as u64).min(room) as usize;
+                if self.append(field, &bytes[at..at + run]) {
+                    run
+                } else {
+                    0
+                }
+            }
+            _ => 0,
+        }
+    }
+
+    // Takes bytes of a key or a value, but not its last one, where there is memory.
+    fn append(&mut self, field: BytesField, bytes: &[u8]) -> bool
+        requires due { self.old.due ≡ Dues.Bytes field }
+        requires fits { length self.old.payload + length bytes.now < self.old.draft.size }
+        requires room { self.old.at + length bytes.now ≤ journal_limit }
+        ensures ok { result ≡ true → self.new ≡ grown_by self.old bytes.now }
+        ensures kept { result ≡ false → self.new ≡ self.old }
+    {
+        if self.payload.extend_from_slice(bytes).is_err() {
+            return false;
+        }
+        self.at += bytes.len() as u64;
+        true
+    }
+
+    #[tactic(auto, using(zy_read::proofs::Feeding::verdict_here))]
+    /// True exactly where the end was read and no fault was met.
+    pub fn is_done(&self) -> bool
+        ensures value { AnswersBy journals self.now (λ b. is_good (verdict b)) result }
+    {
+        matches!(self.due, Due::Nothing)
+    }
+
+    #[tactic(auto, using(zy_read::proofs::Feeding::verdict_here))]
+    /// The journal whose bytes were fed, or their fault.
+    pub fn end(self) -> Result<Journal, FileFault>
+        ensures value { EndsBy self result }
+    {
+        match self.due {
+            Due::Nothing => Ok(Journal {
+                entries: Entries::from_vec(self.entries),
+                holds: Holds::from_vec(self.holds),
+            }),
+            Due::Broken(fault) => Err(fault),
+            _ => Err(FileFault::Truncated { at: self.at }),
+        }
+    }
+}

@@ -1,0 +1,5 @@
+pub mod View
+pub mod ControlRule
+pub mod Pass
+pub mod Step
+pub mod PassSeat

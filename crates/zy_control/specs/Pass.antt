@@ -1,0 +1,52 @@
+-- What contracts see of the control words and of the passes on them.
+use Rattle.std.specs.Prelude.{ℕ}
+use Rattle.atomic_table.specs.Seated.{TableId}
+use Rattle.zy_control.specs.declared.view.Trace.{Trace}
+use Rattle.zy_control.specs.declared.view.Role.{Role}
+use Rattle.zy_control.specs.declared.view.Role.TheVariants.{Watcher}
+use Rattle.zy_control.specs.View.{untraced, done_step, stop_step, counted}
+
+-- the control words: which table they are, and how many cores there are
+pub record Controlled : Type 0 where
+  pub id : TableId
+  pub cores : ℕ
+
+abbrev pub controlled : TableId → ℕ → Controlled
+controlled id cores = record { id = id; cores = cores }
+
+-- a root: its table, how many seats it gave, and how many cores there are
+pub record Rooted : Type 0 where
+  pub table : TableId
+  pub given : ℕ
+  pub cores : ℕ
+
+abbrev pub rooted : TableId → ℕ → ℕ → Rooted
+rooted table given cores = record { table = table; given = given; cores = cores }
+
+-- a pass: its table, its role, how many cores there are, and what it has seen
+pub record Held : Type 0 where
+  pub table : TableId
+  pub role : Role
+  pub cores : ℕ
+  pub trace : Trace
+
+abbrev pub held : TableId → Role → ℕ → Trace → Held
+held table role cores trace = record { table = table; role = role; cores = cores; trace = trace }
+
+-- ---- steps
+
+-- the pass of a watcher, whose first load of stop found this
+abbrev pub watching : Controlled → ℕ → Held
+watching c found = held c.id Watcher c.cores (stop_step found untraced)
+
+-- the pass of a core that has counted itself, after which done was this
+abbrev pub counting : ℕ → Held → Held
+counting value p = held p.table (counted p.role) p.cores (done_step value p.trace)
+
+-- a pass that has seen done
+abbrev pub seeing_done : ℕ → Held → Held
+seeing_done value p = held p.table p.role p.cores (done_step value p.trace)
+
+-- a pass that has seen or set stop
+abbrev pub seeing_stop : ℕ → Held → Held
+seeing_stop value p = held p.table p.role p.cores (stop_step value p.trace)

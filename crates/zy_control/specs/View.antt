@@ -1,0 +1,90 @@
+-- What the seats at the control words know, and what each kind of step changes in it.
+use Rattle.std.specs.Prelude.{◌≡◌, ℕ, ◌+◌, Bool, true, false}
+use Rattle.std.specs.Int.{bit_at}
+use Rattle.zy_control.specs.declared.view.Sight.{Sight}
+use Rattle.zy_control.specs.declared.view.Trace.{Trace}
+use Rattle.zy_control.specs.declared.view.Role.{Role}
+use Rattle.zy_control.specs.declared.view.Role.TheVariants.{Root, Core, Watcher}
+use Rattle.zy_control.specs.declared.view.View.{View}
+
+-- ---- roles
+
+-- how many seats the root gave
+abbrev pub given_by : Role → ℕ
+given_by (Root given) = given
+given_by (Core number counted) = 0
+given_by Watcher = 0
+
+-- the number of the core; no other seat has one
+abbrev pub number_of : Role → ℕ
+number_of (Root given) = 0
+number_of (Core number counted) = number
+number_of Watcher = 0
+
+-- whether the seat is of a core that has counted itself
+abbrev pub has_counted : Role → Bool
+has_counted (Root given) = false
+has_counted (Core number counted) = counted
+has_counted Watcher = false
+
+-- the seat is of a core that has not counted itself
+abbrev pub IsUncounted : Role → Type 0
+IsUncounted (Root given) = ⊥
+IsUncounted (Core number counted) = counted ≡ false
+IsUncounted Watcher = ⊥
+
+-- the seat, where it is of a core, has counted itself
+abbrev pub MustHaveCounted : Role → Type 0
+MustHaveCounted (Root given) = Unit {0}
+MustHaveCounted (Core number counted) = counted ≡ true
+MustHaveCounted Watcher = Unit {0}
+
+-- what a core is once it has counted itself
+abbrev pub counted : Role → Role
+counted (Root given) = Root given
+counted (Core number has) = Core number true
+counted Watcher = Watcher
+
+-- ---- traces
+
+-- a word held this number after the step with this number
+abbrev pub sight : ℕ → ℕ → Sight
+sight value step = record { value = value; step = step }
+
+-- no step was made yet
+abbrev pub untraced : Trace
+untraced = record { steps = 0; done = sight 0 0; stop = sight 0 0 }
+
+-- a step on done, after which it held this
+abbrev pub done_step : ℕ → Trace → Trace
+done_step value t = record t { steps = t.steps + 1; done = sight value (t.steps + 1) }
+
+-- a step on stop, after which it held this
+abbrev pub stop_step : ℕ → Trace → Trace
+stop_step value t = record t { steps = t.steps + 1; stop = sight value (t.steps + 1) }
+
+-- each bit that is set in the first number is set in the second
+abbrev pub Covers : ℕ → ℕ → Type 0
+Covers a b = (i : ℕ) → bit_at a i ≡ 1 → bit_at b i ≡ 1
+
+-- ---- views
+
+abbrev pub view : Role → ℕ → Trace → View
+view role cores trace = record { role = role; cores = cores; trace = trace }
+
+-- the first seat: a root that gave no seat
+abbrev pub root_view : ℕ → View
+root_view cores = view (Root 0) cores untraced
+
+-- the root gave a seat
+abbrev pub gave_one : Role → Role
+gave_one (Root given) = Root (given + 1)
+gave_one (Core number has) = Core number has
+gave_one Watcher = Watcher
+
+abbrev pub gave : View → View
+gave v = view (gave_one v.role) v.cores v.trace
+
+-- which is that of the next core
+abbrev pub newcomer : View → View
+newcomer v = view (Core (given_by v.role) false) v.cores untraced

@@ -1,0 +1,149 @@
+//! The control words.
+ghost use Rattle.std.specs.Prelude.{◌≡◌, ◌+◌, ◌<◌, ◌≤◌, true, false, ◌==◌, not, IfOk, IsOk};
+ghost use Rattle.std.specs.Int.{bit_at};
+ghost use Rattle.zy_control.specs.declared.view.Role.TheVariants.{Core};
+ghost use Rattle.zy_control.specs.View.{untraced, IsUncounted, MustHaveCounted, Covers};
+ghost use Rattle.zy_control.specs.Pass.{rooted, held, watching, counting, seeing_done, seeing_stop};
+
+use crate::pass::{ControlPass, ControlRoot};
+use crate::plays::{Counts, Enters, Gives, SeesDone, SeesStop, Stops};
+use crate::view::View;
+use atomic_table::{Table, TableRule};
+use std::alloc::Global;
+use std::marker::Model;
+use zy_base::NoMemory;
+
+const DONE: usize = 0;
+
+const STOP: usize = 1;
+
+// The rule of the control words: what is so between any two steps.
+pub(crate) struct Rule;
+
+impl TableRule<u8, View, u64> for Rule {
+    ghost use Rattle.zy_control.specs.View.{root_view};
+    ghost use Rattle.zy_control.specs.ControlRule.{ControlRule};
+
+    ghost holds = { ControlRule };
+
+    ghost first = { root_view };
+}
+
+/// The words done and stop. Contracts see which table they are, and how many cores there are.
+#[derive(Drop)]
+pub struct Control {
+    table: Table<u8, View, u64, Rule, Global>,
+    cores: u64,
+}
+
+impl Model for Control {
+    ghost use Rattle.std.specs.Prelude.{◌≡◌, ◌<◌, ◌^◌};
+    ghost use Rattle.zy_control.specs.Pass.{Controlled, controlled};
+
+    ghost Value = { Controlled };
+
+    ghost view = { λ c. controlled c.table.shared.table_id c.cores };
+
+    ghost invariant = { λ c. (c.table.shared.table_id.words ≡ 2) × (c.table.shared.key ≡ c.cores) × (c.cores < 2 ^ 64) };
+}
+
+impl Control {
+    /// The words of so many cores, of which none is done, and their root.
+    pub fn new(alloc: Global, cores: u64) -> Result<(Control, ControlRoot), NoMemory>
+        ensures cores { IfOk result (λ made. made.0.cores ≡ cores) }
+        ensures root { IfOk result (λ made. made.1 ≡ rooted made.0.id 0 cores) }
+    {
+        match Table::of_words(alloc, &[0, 0], &cores) {
+            Ok((table, seat)) => Ok((
+                Control { table, cores },
+                ControlRoot {
+                    seat,
+                    given: 0,
+                    cores,
+                },
+            )),
+            Err(_) => Err(NoMemory),
+        }
+    }
+
+    /// The pass of the next core. It is never refused, and takes no memory.
+    pub fn seat(&self, root: &mut ControlRoot) -> Result<ControlPass, NoMemory>
+        requires table { root.old.table ≡ self.now.id }
+        requires few { root.old.given < self.now.cores }
+        ensures succeeds { IsOk result }
+        ensures value { IfOk result (λ pass. pass ≡ held root.old.table (Core root.old.given false) root.old.cores untraced) }
+        ensures ok { root.new ≡ rooted root.old.table (root.old.given + 1) root.old.cores }
+    {
+        let number = root.given;
+        let seat = self.table.shared.split_seat::<Gives>(&mut root.seat);
+        root.given = number + 1;
+        Ok(ControlPass {
+            seat,
+            number,
+            cores: root.cores,
+            counted: false,
+        })
+    }
+
+    /// A pass of a watcher, which never counts itself: it is made by its first load of stop, and says
+    /// whether the cores are to stop.
+    pub fn watch(&self) -> (ControlPass, bool)
+        ensures value { result.0 ≡ watching self.now result.0.trace.stop.value }
+        ensures stop { result.1 ≡ not (result.0.trace.stop.value == 0) }
+    {
+        let (found, seat) = self.table.shared.load_new_seat::<Enters>(STOP);
+        let pass = ControlPass {
+            seat,
+            number: 0,
+            cores: self.cores,
+            counted: false,
+        };
+        (pass, found != 0)
+    }
+
+    /// The core counts itself, which it does once: done rises by one.
+    pub fn count(&self, pass: &mut ControlPass)
+        requires table { pass.old.table ≡ self.now.id }
+        requires first { IsUncounted pass.old.role }
+        ensures value { pass.new ≡ counting pass.new.trace.done.value pass.old }
+        ensures some { 0 < pass.new.trace.done.value }
+    {
+        self.table
+            .shared
+            .fetch_add::<Counts>(&mut pass.seat, DONE, 1);
+        pass.counted = true;
+    }
+
+    /// Whether all cores have counted themselves, as one load of done tells. Then this core has.
+    pub fn is_done(&self, pass: &mut ControlPass) -> bool
+        requires table { pass.old.table ≡ self.now.id }
+        ensures value { result ≡ (pass.new.trace.done.value == pass.old.cores) }
+        ensures pass { pass.new ≡ seeing_done pass.new.trace.done.value pass.old }
+        ensures counted { result ≡ true → MustHaveCounted pass.old.role }
+        ensures lasts { pass.old.trace.done.value ≤ pass.new.trace.done.value }
+    {
+        let done = self.table.shared.load::<SeesDone>(&mut pass.seat, DONE);
+        done == pass.cores
+    }
+
+    /// Tells all cores to stop: bit 0 of stop is set.
+    pub fn stop(&self, pass: &mut ControlPass)
+        requires table { pass.old.table ≡ self.now.id }
+        ensures pass { pass.new ≡ seeing_stop pass.new.trace.stop.value pass.old }
+        ensures set { bit_at pass.new.trace.stop.value 0 ≡ 1 }
+        ensures lasts { Covers pass.old.trace.stop.value pass.new.trace.stop.value }
+    {
+        self.table.shared.fetch_or::<Stops>(&mut pass.seat, STOP, 1);
+    }
+
+    /// Whether the cores are to stop, as one load of stop tells.
+    pub fn is_stopped(&self, pass: &mut ControlPass) -> bool
+        requires table { pass.old.table ≡ self.now.id }
+        ensures value { result ≡ not (pass.new.trace.stop.value == 0) }
+        ensures pass { pass.new ≡ seeing_stop pass.new.trace.stop.value pass.old }
+        ensures lasts { Covers pass.old.trace.stop.value pass.new.trace.stop.value }
+    {
+        let stop = self.table.shared.load::<SeesStop>(&mut pass.seat, STOP);
+        stop != 0
+    }
+}

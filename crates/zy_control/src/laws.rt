@@ -1,0 +1,20 @@
+//! Laws of the rule, as contracts of functions without a body.
+ghost use Rattle.std.specs.Prelude.{◌≡◌, ◌≤◌, ℕ, slice_index};
+ghost use mathlib.Core.Option.{some};
+ghost use lib.ListN.{get_elem?};
+ghost use Rattle.atomic_table.specs.Table.{State};
+ghost use Rattle.zy_control.specs.declared.view.View.{View};
+ghost use Rattle.zy_control.specs.View.{MustHaveCounted};
+ghost use Rattle.zy_control.specs.ControlRule.{ControlRule};
+
+/// Where done is the number of cores, each seat of a core has counted itself.
+#[tactic(auto, using(crate::proofs::MoveLemmas::where_all_counted))]
+pub fn all_cores_have_counted_themselves_where_done_says_so()
+    ensures value { (cores : ℕ) (s : State ℕ View) (j : ℕ) (v : View) → ControlRule cores s → get_elem? s.views j ≡ some v → slice_index s.words 0 ≡ cores → MustHaveCounted v.role }
+{}
+
+/// Done is at most the number of cores.
+#[tactic(auto, using(crate::proofs::MoveLemmas::at_most_all))]
+pub fn done_is_at_most_the_number_of_cores()
+    ensures value { (cores : ℕ) (s : State ℕ View) → ControlRule cores s → slice_index s.words 0 ≤ cores }
+{}

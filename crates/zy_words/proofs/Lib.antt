@@ -1,0 +1,6 @@
+mod Ascii
+mod Rows
+mod Taken
+mod Turns
+mod Spelling
+pub mod Split

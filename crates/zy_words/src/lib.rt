@@ -1,0 +1,16 @@
+//! The words after the program's name: which are lawful, and what they ask for.
+#![tactic(auto)]
+
+mod asking;
+mod given;
+pub mod laws;
+mod number;
+mod plain;
+mod request;
+mod splitting;
+#[cfg(test)]
+mod tests;
+mod verb;
+
+pub use asking::request_of;
+pub use request::{Out, Request, Run, Traffic};

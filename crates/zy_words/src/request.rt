@@ -1,0 +1,47 @@
+//! What lawful words ask for.
+
+/// What the words ask for: a command with its options.
+#[derive(Clone, Copy, Debug, PartialEq, Eq)]
+pub enum Request {
+    /// Serve a capture.
+    Run { run: Run, out: Out },
+    /// Check a journal and a replies file against a capture, at so many shards.
+    Check { shards: u32 },
+    /// Make a capture.
+    Gen { traffic: Traffic },
+    /// Make a capture, serve it, and check what came.
+    SelfTest { traffic: Traffic, run: Run },
+}
+
+/// How a capture is served.
+#[derive(Clone, Copy, Debug, PartialEq, Eq)]
+pub struct Run {
+    /// The number of cores, 1 to 64.
+    pub cores: u32,
+    /// The number of threads, 1 to the number of cores.
+    pub threads: u32,
+    /// The number by which the order of turns is drawn; without it, cores take turns by number.
+    pub order: Option<u32>,
+    /// The number of shards, 1 to 256.
+    pub shards: u32,
+}
+
+/// Traffic that is made from a number.
+#[derive(Clone, Copy, Debug, PartialEq, Eq)]
+pub struct Traffic {
+    /// The number that it is made from.
+    pub number: u32,
+    /// The number of connections, 1 to 4,096.
+    pub conns: u32,
+    /// The number of commands of each connection, 1 to 1,000,000.
+    pub commands: u32,
+}
+
+/// What a run writes.
+#[derive(Clone, Copy, Debug, PartialEq, Eq)]
+pub enum Out {
+    /// The replies.
+    Replies,
+    /// The journal, and then the replies.
+    Both,
+}
