@@ -1,0 +1,9 @@
+pub mod CommandLemmas
+pub mod ReplyLemmas
+pub mod CutLemmas
+pub mod PartLemmas
+pub mod PlaceLemmas
+pub mod HomeLemmas
+pub mod GatherLemmas
+pub mod EntryLemmas
+pub mod FinishLemmas

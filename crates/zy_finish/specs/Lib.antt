@@ -1,0 +1,5 @@
+pub mod Over
+pub mod Finish
+pub mod Part
+pub mod Left
+pub mod Bounds
