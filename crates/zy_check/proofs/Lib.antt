@@ -1,0 +1,4 @@
+pub mod OwnLemmas
+pub mod PlaceLemmas
+pub mod CursorLemmas
+pub mod FollowLemmas

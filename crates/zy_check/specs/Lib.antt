@@ -1,0 +1,5 @@
+pub mod Given
+pub mod Cause
+pub mod Own
+pub mod Cursor
+pub mod Follow
