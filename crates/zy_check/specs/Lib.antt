@@ -3,3 +3,4 @@ pub mod Cause
 pub mod Own
 pub mod Cursor
 pub mod Follow
+pub mod Walk

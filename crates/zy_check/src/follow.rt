@@ -9,7 +9,7 @@ ghost use Rattle.zy_check.specs.Follow.{IsAlong, IsFollowed, AreMatching};
 
 use crate::cursor::Cursor;
 use crate::own::Own;
-use crate::pace::Pace;
+use crate::pace::{Followed, Pace};
 use mc_parse::{Command, ShardCall, calls};
 use std::alloc::Global;
 use zy_base::{Entry, NoMemory};
@@ -22,12 +22,12 @@ pub fn follow(
     conn: u32,
     shards: u32,
     own: &Own,
-) -> Result<(Pace, bool), NoMemory>
+) -> Result<Followed, NoMemory>
     requires within { conn < length streams.now }
     requires some { 1 ≤ shards }
     requires limit { shards ≤ 256 }
     ensures followed { IfOk result (λ r. IsFollowed (dues_of own.now) shards conn
-        (commands_held streams.now conn) r.0 r.1) }
+        (commands_held streams.now conn) r.pace r.whole) }
 {
     let mut pace = Pace {
         matched: 0,
@@ -36,10 +36,10 @@ pub fn follow(
     for session in 0..streams.sessions(conn) {
         let stream = streams.stream(conn, session);
         if !follow_session(alloc, stream, conn, shards, own, &mut pace)? {
-            return Ok((pace, false));
+            return Ok(Followed { pace, whole: false });
         }
     }
-    Ok((pace, true))
+    Ok(Followed { pace, whole: true })
 }
 
 // The same for one more session.

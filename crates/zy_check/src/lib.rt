@@ -7,5 +7,6 @@ mod own;
 mod pace;
 mod places;
 mod verdict;
+mod walk;
 
 pub use verdict::{Cause, Verdict};

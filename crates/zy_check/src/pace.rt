@@ -8,3 +8,10 @@ pub struct Pace {
     /// How many commands have all their calls.
     pub commands: u64,
 }
+
+/// How far the entries of a connection were followed, and whether that was to its last call due.
+#[derive(Clone, Copy, Debug, PartialEq, Eq)]
+pub struct Followed {
+    pub pace: Pace,
+    pub whole: bool,
+}
