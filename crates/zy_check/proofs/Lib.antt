@@ -1,0 +1,5 @@
+pub mod OwnLemmas
+pub mod PlaceLemmas
+pub mod CursorLemmas
+pub mod FollowLemmas
+pub mod WalkLemmas

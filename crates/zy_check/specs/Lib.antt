@@ -1,0 +1,6 @@
+pub mod Given
+pub mod Cause
+pub mod Own
+pub mod Cursor
+pub mod Follow
+pub mod Walk

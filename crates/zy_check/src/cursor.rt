@@ -1,0 +1,87 @@
+//! The commands of a stream, one at a time.
+ghost use Rattle.std.specs.Prelude.{◌≡◌, ◌<◌, ◌≤◌, ℕ, List, [], length, IfOk, OnOk};
+ghost use Rattle.mc_parse.specs.declared.command.Command.{Command};
+ghost use Rattle.zy_check.specs.Cursor.{HasGiven, GaveNext};
+
+use mc_parse::Command;
+use std::alloc::Global;
+use std::marker::Model;
+use zy_base::NoMemory;
+use zy_frame::{Framer, Frames, meaning};
+
+// How many bytes are cut at a time.
+const PIECE: usize = 65_536;
+
+/// A place in a stream. Contracts see what its framer is in the middle of, the frames that wait,
+/// and how many bytes it has read.
+#[derive(Drop)]
+pub struct Cursor {
+    alloc: Global,
+    framer: Framer,
+    frames: Frames,
+    at: usize,
+}
+
+impl Model for Cursor {
+    ghost use Rattle.zy_check.specs.Cursor.{Reading};
+
+    ghost Value = { Reading };
+
+    ghost view = { λ c. record { framer = c.framer; frames = c.frames; at = c.at } };
+}
+
+impl Cursor {
+    /// At the start of a stream. Takes no memory.
+    pub fn new(alloc: Global) -> Cursor
+        ensures none { (stream : List ℕ) → HasGiven result stream [] }
+    {
+        Cursor {
+            alloc,
+            framer: Framer::new(alloc),
+            frames: Frames::new(alloc),
+            at: 0,
+        }
+    }
+
+    /// The next command of the stream, which is the same in all calls; `None` behind the last one.
+    pub fn next(&mut self, stream: &[u8]) -> Result<Option<Command>, NoMemory>
+        ensures gave { IfOk result (GaveNext self.old self.new stream.now) }
+    {
+        while self.at < stream.len() && self.frames.len() == 0 {
+            self.read_on(stream)?;
+        }
+        match self.frames.pop() {
+            None => Ok(None),
+            Some(frame) => match meaning(self.alloc, frame) {
+                Ok(command) => Ok(Some(command)),
+                Err((_, e)) => Err(e),
+            },
+        }
+    }
+
+    // Cuts the next piece of the stream.
+    fn read_on(&mut self, stream: &[u8]) -> Result<(), NoMemory>
+        requires more { self.old.at < length stream.now }
+        ensures on { OnOk result (self.old.at < self.new.at) }
+        ensures same { OnOk result ((given : List Command) → HasGiven self.old stream.now given
+            → HasGiven self.new stream.now given) }
+    {
+        let end = piece_end(self.at, stream.len());
+        self.framer.feed(&stream[self.at..end], &mut self.frames)?;
+        self.at = end;
+        Ok(())
+    }
+}
+
+// Where the piece of a text that begins at a place ends.
+fn piece_end(at: usize, length: usize) -> usize
+    requires more { at < length }
+    ensures some { at < result }
+    ensures within { result ≤ length }
+{
+    if length - at > PIECE {
+        at + PIECE
+    } else {
+        length
+    }
+}
