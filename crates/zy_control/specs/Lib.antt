@@ -1,0 +1,3 @@
+pub mod ControlRule
+pub mod Step
+pub mod Control
