@@ -6,7 +6,11 @@ mod draft;
 mod due;
 mod laws;
 mod past;
+#[cfg(test)]
+mod plain;
 mod reader;
+#[cfg(test)]
+mod tests;
 
 pub use laws::{
     a_journal_is_good_exactly_where_it_is_a_spelling, how_a_journal_is_cut_does_not_matter,

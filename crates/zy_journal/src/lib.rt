@@ -1,4 +1,4 @@
-//! The journal: merging the shards' histories, its file, and the reader of such files.
+//! The journal: merging the shards' histories, and the writer of its file.
 #![tactic(auto)]
 
 mod journal;

@@ -1,0 +1,4 @@
+pub mod StepLemmas
+pub mod LengthLemmas
+pub mod TrafficLemmas
+pub mod WorkedLemmas

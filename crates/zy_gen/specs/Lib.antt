@@ -1,0 +1,3 @@
+pub mod Draw
+pub mod Traffic
+pub mod Worked

@@ -1,0 +1,27 @@
+//! What a generated command asks for.
+
+/// What a command asks for, beside its key.
+#[derive(Clone, Copy, Debug, PartialEq, Eq)]
+pub(crate) enum Request {
+    /// `get` of the key.
+    Get,
+    /// `get` of 50 keys, this one first.
+    GetMany,
+    /// `set` with these flags and a block of so many bytes; quiet with `noreply`.
+    Set { flags: u32, size: u32, quiet: bool },
+    /// `set` of the value 10.
+    SetTen,
+    /// `incr` by 7.
+    Incr,
+    /// `append` of the digit 9.
+    Append,
+    /// `delete` of the key.
+    Delete,
+}
+
+/// A command: the number of its key among those of its connection, and what it asks for.
+#[derive(Clone, Copy, Debug)]
+pub(crate) struct Command {
+    pub(crate) item: u32,
+    pub(crate) request: Request,
+}
