@@ -1,3 +1,2 @@
 pub mod CountLemmas
-pub mod MoveLemmas
-pub mod SeatLemmas
+pub mod StepLemmas

@@ -1,5 +1,3 @@
-pub mod View
 pub mod ControlRule
-pub mod Pass
 pub mod Step
-pub mod PassSeat
+pub mod Control

@@ -1,50 +1,61 @@
-//! What each step on the control words tells its seat. These types are for the proofs alone.
-ghost use Rattle.zy_control.specs.View.{gave, newcomer};
-ghost use Rattle.zy_control.specs.Step.{counts, sees_done, sees_stop, stops, enters};
+//! The kinds of steps on the control words, and what each tells the seat that makes it.
+ghost use Rattle.std.specs.Prelude.{◌≡◌};
 
 use crate::view::View;
 use atomic_table::{Play, Split};
 
-// A fetch-add of done, by which a core counts itself.
+/// A core counts itself.
 pub(crate) struct Counts;
 
 impl Play<u8, View> for Counts {
-    ghost then = { λ step before found after. counts before found after };
+    ghost use Rattle.zy_control.specs.Step.{counted_after};
+
+    ghost then = { λ _ m _ n. n ≡ counted_after m };
 }
 
-// A load of done.
+/// A load of the number of cores that are done.
 pub(crate) struct SeesDone;
 
 impl Play<u8, View> for SeesDone {
-    ghost then = { λ step before found after. sees_done before found after };
+    ghost use Rattle.zy_control.specs.Step.{SawDone};
+
+    ghost then = { λ _ m found n. SawDone m found n };
 }
 
-// A load of stop.
+/// A load of the word that says to stop.
 pub(crate) struct SeesStop;
 
 impl Play<u8, View> for SeesStop {
-    ghost then = { λ step before found after. sees_stop before found after };
+    ghost use Rattle.zy_control.specs.Step.{SawStop};
+
+    ghost then = { λ _ m found n. SawStop m found n };
 }
 
-// A fetch-or of stop.
+/// Says to stop.
 pub(crate) struct Stops;
 
 impl Play<u8, View> for Stops {
-    ghost then = { λ step before found after. stops step.first before found after };
+    ghost use Rattle.zy_control.specs.Step.{stopped_after};
+
+    ghost then = { λ _ m _ n. n ≡ stopped_after m };
 }
 
-// A load of stop that makes the seat of a watcher.
-pub(crate) struct Enters;
+/// The load that makes the seat of a watch.
+pub(crate) struct Begins;
 
-impl Play<u8, View> for Enters {
-    ghost then = { λ step before found after. enters before found after };
+impl Play<u8, View> for Begins {
+    ghost use Rattle.zy_control.specs.Step.{watching};
+
+    ghost then = { λ _ first found n. n ≡ watching first found };
 }
 
-// The root gives the seat of a core.
+/// The seat of one more core.
 pub(crate) struct Gives;
 
 impl Split<View> for Gives {
-    ghost left = { gave };
+    ghost use Rattle.zy_control.specs.Step.{root_after, core_given};
 
-    ghost right = { newcomer };
+    ghost left = { root_after };
+
+    ghost right = { core_given };
 }

@@ -2,7 +2,6 @@ pub mod Share
 pub mod Core
 pub mod Steal
 pub mod Turn
-pub mod Feed
 pub mod Round
 pub mod Drive
 pub mod Step

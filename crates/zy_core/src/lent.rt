@@ -2,7 +2,7 @@
 ghost use Rattle.std.specs.Prelude.{◌≡◌};
 ghost use Rattle.std.proofs.Common.{refl, ◌∙◌};
 
-use crate::feeder::{Fed, Feeder};
+use zy_feeder::{Fed, Feeder};
 use zy_rx::Outlet;
 
 // A feeder that is lent to a scope, since a scope says nothing of a `&mut` that its closure holds.

@@ -5,7 +5,7 @@ mod cores;
 mod dealing;
 mod draws;
 mod driven;
-mod feeder;
+mod feeding;
 pub mod laws;
 mod lent;
 mod logical;
@@ -19,7 +19,6 @@ mod turn;
 
 pub use cores::Cores;
 pub use driven::Driven;
-pub use feeder::{Fed, Feeder};
 pub use logical::Core;
 pub use ordered::drive_ordered;
 pub use shared::Shared;

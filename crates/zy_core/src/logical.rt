@@ -5,9 +5,9 @@ ghost use Rattle.zy_steal.specs.Steal.{AreIdle, seats_of};
 ghost use Rattle.zy_control.specs.declared.view.Role.TheVariants as roles;
 ghost use Rattle.zy_core.specs.Core.{AreOfOne, CoreKeeps, Fits, cored, identity_of};
 ghost use Rattle.zy_core.specs.Turn.{TurnTo};
-ghost use Rattle.zy_core.specs.Feed.{rings_of};
+ghost use Rattle.zy_feeder.specs.Feed.{rings_of};
 
-use crate::feeder::Feeder;
+use zy_feeder::Feeder;
 use crate::shared::Shared;
 use crate::stealing::steal_once;
 use crate::steps::{claim_own, collect_all, receive_all};

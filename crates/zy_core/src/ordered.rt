@@ -3,12 +3,13 @@ ghost use Rattle.std.specs.Prelude.{◌≡◌, ◌↔◌, ◌<◌, ◌≤◌, So
 ghost use Rattle.zy_core.specs.Core.{Fits, identity_of};
 ghost use Rattle.zy_core.specs.Drive.{identities, AreCores, AreInlets, EachFits, EachSettled};
 ghost use Rattle.zy_core.specs.Drive.{cores_of, IsSettled, IsBroken};
-ghost use Rattle.zy_core.specs.Feed.{rings_of};
+ghost use Rattle.zy_feeder.specs.Feed.{rings_of};
 
 use crate::cores::Cores;
 use crate::draws::{Draws, turn_of};
 use crate::driven::Driven;
-use crate::feeder::{Feeder, feed};
+use crate::feeding::feed;
+use zy_feeder::Feeder;
 use crate::logical::Core;
 use crate::rounds::{are_settled, turn_one};
 use crate::shared::Shared;

@@ -1,6 +1,6 @@
 use Rattle.std.proofs.Common.{◌≡◌}
-use Rattle.zy_core.specs.Feed.{rings_of}
-use Rattle.zy_core.proofs.feeder.feed.Given as goal
+use Rattle.zy_feeder.specs.Feed.{rings_of}
+use Rattle.zy_core.proofs.feeding.feed.Given as goal
 
 abbrev pub invariant-loop : goal.invariant-loop
 invariant-loop g l =

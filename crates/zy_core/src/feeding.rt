@@ -1,0 +1,31 @@
+//! Steps of a feeder before a round.
+ghost use Rattle.std.specs.Prelude.{◌≡◌, true, false, IfSome, IfNone};
+ghost use Rattle.zy_feeder.specs.Feed.{rings_of};
+
+use std::sync::Wait;
+use zy_feeder::{Fed, Feeder};
+
+// Steps of a feeder that has not ended, until an item is handed back. Says whether it has ended, and
+// nothing where it is broken.
+pub(crate) fn feed<R: Wait, F: Feeder>(rt: &R, feeder: &mut F, is_ended: bool) -> Option<bool>
+    requires ended { is_ended ≡ true → F.ended feeder.old }
+    requires fresh { is_ended ≡ false → ¬ F.ended feeder.old × ¬ F.broken feeder.old }
+    ensures ended { IfSome result (λ e. e ≡ true → F.ended feeder.new) }
+    ensures fresh { IfSome result (λ e. e ≡ false → ¬ F.ended feeder.new × ¬ F.broken feeder.new) }
+    ensures broken { IfNone result (F.broken feeder.new) }
+    ensures leads { F.leads feeder.old feeder.new }
+    ensures rings { rings_of (F.inlets feeder.new) ≡ rings_of (F.inlets feeder.old) }
+{
+    if is_ended {
+        return Some(true);
+    }
+    for _ in rt.forever() {
+        match feeder.step() {
+            Fed::Offered => {}
+            Fed::Full => return Some(false),
+            Fed::Ended => return Some(true),
+            Fed::Broken => return None,
+        }
+    }
+    unreachable!()
+}
