@@ -1,9 +1,10 @@
 -- The connections of a core: they rise, and each is one of the core's.
 use Rattle.std.specs.Prelude.{◌==◌, cond, map, option_map}
 use Rattle.std.specs.List.{range_with_len, filter}
-use Rattle.std.proofs.Common.{◌≡◌, ◌≢◌, ℕ, zero, suc, ◌+◌, ◌<◌, ◌≤◌, List, [], ◌∷◌, Bool, true, false, Option, Some, None, slice_get, refl, sym, ap, ◌∙◌, subst, arith, eqb-true, eq-eqb}
+use Rattle.std.proofs.Common.{◌≡◌, ◌≢◌, ℕ, zero, suc, ◌+◌, ◌<◌, ◌≤◌, List, [], ◌∷◌, ◌++◌, Bool, true, false, Option, Some, None, slice_get, refl, sym, ap, ◌∙◌, subst, arith, append-nil, eqb-true, eq-eqb, ne_eqb}
 use mathlib.Core.Logic.{dite}
 use native.Mathlib.Decide.{dec_lt}
+use Rattle.std.proofs.lemmas.List.Elements.{filter-append}
 use Rattle.std.proofs.lemmas.Option.{slice_get-map}
 use Rattle.zy_rx.specs.Flow.{home_of}
 use Rattle.zy_link.specs.Link.{Linked, conn_of}
@@ -82,3 +83,24 @@ module _ (links : List Linked) (rises : IsRising (conns_in links)) (conn middle 
   above_middle other more at x near e = dite (dec_lt middle at)
       (λ lt. let r = rises middle at (conn_of l) (conn_of x) (conn_at links middle l there) (conn_at links at x e) lt in omega arith)
       (λ no. let same : at ≡ middle = omega arith in let is : Some x ≡ Some l = sym e ∙ ap (slice_get links) same ∙ there in let one : x ≡ l = cc in let two = ap conn_of one in omega arith)
+
+-- ---- one connection more
+
+range-last : (a n : ℕ) → range_with_len a (n + 1) ≡ range_with_len a n ++ (a + n) ∷ []
+range-last a n = let more : n + 1 ≡ suc n = omega arith in ap (range_with_len a) more ∙ go a n
+  where
+    go : (a n : ℕ) → range_with_len a (suc n) ≡ range_with_len a n ++ (a + n) ∷ []
+    go a zero = ap (λ k. k ∷ []) (omega arith)
+    go a (suc n) = ap (λ l. a ∷ l) (go (a + 1) n ∙ ap (λ k. range_with_len (a + 1) n ++ k ∷ []) (omega arith))
+
+own-more : (core cores count : ℕ) → own_conns core cores (count + 1) ≡ own_conns core cores count ++ filter (λ conn. home_of cores conn == core) (count ∷ [])
+own-more core cores count =
+    let last : 0 + count ≡ count = omega arith in
+    ap (filter (λ conn. home_of cores conn == core)) (range-last 0 count ∙ ap (λ k. range_with_len 0 count ++ k ∷ []) last)
+    ∙ filter-append (λ conn. home_of cores conn == core) (range_with_len 0 count) (count ∷ [])
+
+pub own-here : (core cores count : ℕ) → home_of cores count ≡ core → own_conns core cores (count + 1) ≡ own_conns core cores count ++ count ∷ []
+own-here core cores count home = own-more core cores count ∙ ap (λ b. own_conns core cores count ++ cond b (count ∷ []) []) (eq-eqb (home_of cores count) core home)
+
+pub own-else : (core cores count : ℕ) → home_of cores count ≢ core → own_conns core cores (count + 1) ≡ own_conns core cores count
+own-else core cores count away = own-more core cores count ∙ ap (λ b. own_conns core cores count ++ cond b (count ∷ []) []) (ne_eqb (home_of cores count) core away) ∙ append-nil (own_conns core cores count)

@@ -1,5 +1,5 @@
 //! Laws of homes at the end: the functions do nothing, and their contracts are the laws.
-ghost use Rattle.std.specs.Prelude.{◌≡◌, ℕ, List, map, true};
+ghost use Rattle.std.specs.Prelude.{◌≡◌, ◌≢◌, ℕ, ◌+◌, List, [], ◌∷◌, ◌++◌, map, true};
 ghost use Rattle.zy_capture.specs.declared.record.Record.{Record};
 ghost use Rattle.zy_rx.specs.declared.rx.Rx.{Rx};
 ghost use Rattle.zy_rx.specs.Flow.{home_of};
@@ -8,6 +8,15 @@ ghost use Rattle.zy_home.specs.Own.{own_conns};
 ghost use Rattle.zy_home.specs.End.{Ended, blocks_in, ended_of};
 ghost use Rattle.zy_home.specs.Home.{Homed, HomeStands, Keeps, is_settled};
 ghost use Rattle.zy_home.specs.Settled.{AreFinished, captured, items_for};
+
+/// The connections of a core, by one connection more.
+pub fn own_connections_come_in_turn()
+    ensures none { (core cores : ℕ) → own_conns core cores 0 ≡ [] }
+    ensures own { (core cores count : ℕ) → home_of cores count ≡ core
+        → own_conns core cores (count + 1) ≡ own_conns core cores count ++ count ∷ [] }
+    ensures others { (core cores count : ℕ) → home_of cores count ≢ core
+        → own_conns core cores (count + 1) ≡ own_conns core cores count }
+{}
 
 /// A settled home hands out the block and the output of each of its connections, by rising number,
 /// and each has finished what it received, by any items that the home stands for.
