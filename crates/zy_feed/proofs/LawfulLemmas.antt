@@ -1,6 +1,6 @@
 -- The records of a capture are lawful whatever its bytes are, and few of them are closes.
-use Rattle.std.proofs.Common.{◌≡◌, ◌⊎◌, inl, inr, Bool, ℕ, ◌+◌, ◌*◌, ◌^◌, ◌<◌, ◌≤◌, true, false, List, [], ◌∷◌, ◌++◌, length, refl, sym, ◌∙◌, ap, subst, arith, length-append}
-use Rattle.std.specs.Prelude.{◌==◌, ◌&&◌, nat_lt, Option, None, Some, option_to_list, ⊤, if◌then◌else◌}
+use Rattle.std.proofs.Common.{◌≡◌, ◌⊎◌, inl, inr, Bool, ℕ, ◌+◌, ◌*◌, ◌^◌, ◌<◌, ◌≤◌, true, false, List, [], ◌∷◌, ◌++◌, length, refl, sym, ap, subst, arith, length-append}
+use Rattle.std.specs.Prelude.{◌==◌, ◌&&◌, nat_lt, Option, None, Some, option_to_list, ⊤}
 use Rattle.std.specs.List.{slice_index, AllByRecursion}
 use Rattle.std.specs.Int.{from_be_bytes, w32}
 use Rattle.std.proofs.lemmas.Bool.{eqb-true}
@@ -9,14 +9,13 @@ use Rattle.zy_read.specs.Format.{Reading, read_on, reading_of}
 use Rattle.zy_read.specs.Standing.{StandsAs}
 use Rattle.zy_capture.specs.declared.record.Record.{Record}
 use Rattle.zy_capture.specs.declared.record.Record.TheVariants as Kinds
-use Rattle.zy_capture.specs.declared.capture_fault.CaptureFault.{CaptureFault}
 use Rattle.zy_capture.specs.declared.due.Due.{Due}
 use Rattle.zy_capture.specs.declared.due.Due.TheVariants.{Letters, Digit, LineFeed, Count, Tag, Connection, Length, Payload, Closed, Nothing, Broken}
 use Rattle.zy_capture.specs.Capture.{letters, connection_limit, segment_limit, capture_limit, IsRecordOf, IsCapture}
 use Rattle.zy_capture.specs.Steps.{Progress, Step, start, taken, is_full, step}
 use Rattle.zy_capture.specs.Streams.{closes}
 use Rattle.zy_capture.specs.Standing.{StandsFor}
-use Rattle.zy_capture.specs.Verdict.{read_from}
+use Rattle.zy_capture.specs.Verdict.{read_from, fault_in}
 use Rattle.zy_capture.proofs.ByteLemmas.{chosen}
 use Rattle.zy_feed.proofs.StepLemmas.{IsPast, Stays, step_gave, text_stays}
 
@@ -92,6 +91,7 @@ close_ends p next conn sound none two few long = record {
   where
     record_is : {r : Record} → Some (Kinds.Close conn) ≡ Some r → Kinds.Close conn ≡ r
     record_is e = cc
+
     one : (c : ℕ) (b : Bool) → (conn == c) ≡ b → 5 * closes c (Kinds.Close conn ∷ []) + spent_on next.due next ≤ 1 + spent_on Closed p
     one c true is = let at_most : closes c (Kinds.Close conn ∷ []) ≡ 1 = rw is refl in omega (arith, at_most, none, long)
     one c false is = let at_most : closes c (Kinds.Close conn ∷ []) ≡ 0 = rw is refl in omega (arith, at_most, none)
@@ -175,8 +175,10 @@ text_lawful (byte ∷ text) p sound = go (step p byte).gave refl (text_lawful te
   where
     last : Progress
     last = (read_from (stepped p byte) text).last
+
     given : List Record
     given = (read_from (stepped p byte) text).given
+
     go : (gave : Option Record) → (step p byte).gave ≡ gave → AllByRecursion (IsRecordOf last.version last.count) given → AllByRecursion (IsRecordOf last.version last.count) (option_to_list gave ++ given)
     go None is on = on
     go (Some r) is on =
@@ -206,6 +208,23 @@ text_spent conn (byte ∷ text) p sound =
     let one = (goes_step p byte sound).spent conn in
     let on = text_spent conn text (stepped p byte) (goes_step p byte sound).sound in
     omega (arith, one, on, closes_on conn (step p byte).gave (read_from (stepped p byte) text).given)
+
+-- a version that was told is 1 or 2
+known_at : (due : Due) (p : Progress) → fault_in due ≡ None → IsPast due → IsSound due p → IsKnown p.version
+known_at Tag p clean past sound = sound.known
+known_at Connection p clean past sound = sound.known
+known_at (Length conn) p clean past sound = sound.0.known
+known_at (Payload conn size) p clean past sound = sound.begun.known
+known_at Closed p clean past sound = sound.begun.known
+known_at Nothing p clean past sound = sound.known
+known_at (Broken fault) p clean past sound = cc
+known_at due p clean past sound = absurd past
+
+pub known_version : (p : Progress) (given : List Record) (b : List ℕ) → StandsFor p given b → fault_in p.due ≡ None → IsPast p.due → (p.version ≡ 1) ⊎ (p.version ≡ 2)
+unfolding StandsAs reading_of
+known_version p given b stands clean past =
+    let last : (read_from start b).last ≡ p = ap (λ (r : Reading Progress Record). r.last) stands in
+    known_at p.due p clean past (subst (λ (q : Progress). IsSound q.due q) last (text_sound b start tt))
 
 begun_last : (due : Due) (p : Progress) → due ≡ Nothing → IsSound due p → IsBegun p
 begun_last Nothing p is sound = sound
