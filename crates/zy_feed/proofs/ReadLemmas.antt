@@ -1,0 +1,224 @@
+-- What is read of a capture, piece after piece.
+use Rattle.std.proofs.Common.{◌≡◌, ◌⊎◌, inl, inr, ℕ, ◌+◌, ◌-◌, ◌<◌, ◌≤◌, true, false, List, [], ◌∷◌, ◌++◌, length, take, drop, refl, sym, ◌∙◌, ap, subst, arith, append_assoc}
+use Rattle.std.specs.Prelude.{◌==◌, Option, None, Some, IfSome, Result, Ok, Err, ⊤, option_to_list}
+use Rattle.std.specs.Io.KnownBytes.{Consumes, IsAtEnd}
+use Rattle.std.proofs.lemmas.List.{append-nil}
+use Rattle.std.proofs.lemmas.Bool.Decides.{nat_tests}
+use Rattle.zy_read.specs.declared.not_taken.NotTaken.{NotTaken}
+use Rattle.zy_read.specs.declared.not_taken.NotTaken.TheVariants.{Fault}
+use Rattle.zy_read.specs.declared.not_taken.NotTaken.TheVariants as Reads
+use Rattle.zy_read.specs.Format.{Reading, reading_of, read_on, fault_met}
+use Rattle.zy_read.specs.Standing.{StandsAs}
+use Rattle.zy_read.proofs.Feeding.{then_read, read_more, verdict_here}
+use Rattle.zy_capture.specs.declared.record.Record.{Record}
+use Rattle.zy_capture.specs.declared.capture_fault.CaptureFault.{CaptureFault}
+use Rattle.zy_capture.specs.declared.due.Due.{Due}
+use Rattle.zy_capture.specs.declared.due.Due.TheVariants.{Letters, Digit, LineFeed, Count, Nothing, Broken}
+use Rattle.zy_capture.specs.declared.capture_fault.CaptureFault.TheVariants.{BadMagic, ConnCount}
+use Rattle.zy_capture.specs.Capture.{capture_limit}
+use Rattle.zy_capture.specs.Steps.{Progress, start, step}
+use Rattle.zy_capture.specs.Verdict.{captures, ended, fault_in, read_from, verdict, fault_of, version_in, version_of, count_in, count_of}
+use Rattle.zy_capture.specs.Verdict.Verdict.{Good, Bad}
+use Rattle.zy_capture.specs.Standing.{StandsFor, EndsAs, EndsBy}
+use Rattle.zy_capture.proofs.Feeding.{version_here, count_here}
+use Rattle.zy_feed.specs.declared.stop.Stop.{Stop}
+use Rattle.zy_feed.specs.declared.stop.Stop.TheVariants.{Refused, ReadFault, NoMemory}
+use Rattle.zy_feed.specs.declared.intake.Header.{Header}
+use Rattle.zy_feed.specs.declared.intake.Came.{Came}
+use Rattle.zy_feed.specs.declared.intake.Came.TheVariants as Comes
+use Rattle.zy_feed.specs.Reads.{InPieces, IsFresh, HasRead, HasReadAll, HasBegun, StopsBy, TellsHeader, TellsNoHeader, Gives, TakesFirst, Advances, Cuts, came_of, ended_by}
+use Rattle.zy_feed.proofs.StepLemmas.{IsPast, HasVersion, Stays, step_gave, text_stays, text_version, text_short}
+
+-- ---- sources
+
+pub consumed_none : (a : Option (List ℕ)) → Consumes a a []
+consumed_none None = tt
+consumed_none (Some u) = refl
+
+pub consumed_on : (a b c : Option (List ℕ)) (x y : List ℕ) → Consumes a b x → Consumes b c y → Consumes a c (x ++ y)
+consumed_on None b c x y first second = tt
+consumed_on (Some u) None c x y first second = absurd first
+consumed_on (Some u) (Some v) None x y first second = absurd second
+consumed_on (Some u) (Some v) (Some w) x y first second = first ∙ ap (λ (l : List ℕ). x ++ l) second ∙ sym (append_assoc x y w)
+
+-- what is true of all longer texts is true of what the source told
+told_first : (before after : Option (List ℕ)) (bytes : List ℕ) (P : List ℕ → Type 0) → Consumes before after bytes → ((more : List ℕ) → P (bytes ++ more)) → IfSome before P
+told_first None after bytes P consumed all = tt
+told_first (Some u) None bytes P consumed all = absurd consumed
+told_first (Some u) (Some v) bytes P consumed all = subst P (sym consumed) (all v)
+
+-- at its end it told these bytes
+told_all : (before after : Option (List ℕ)) (bytes : List ℕ) (P : List ℕ → Type 0) → Consumes before after bytes → IsAtEnd after → P bytes → IfSome before P
+told_all None after bytes P consumed end holds = tt
+told_all (Some u) None bytes P consumed end holds = absurd consumed
+told_all (Some u) (Some v) bytes P consumed end holds = subst P (sym (consumed ∙ ap (λ (l : List ℕ). bytes ++ l) end ∙ append-nil bytes)) holds
+
+-- ---- the piece
+
+-- nothing is left at the end of the piece
+pub none_left : (at stop : ℕ) (piece : List ℕ) → stop ≤ at → take (stop - at) (drop at piece) ≡ []
+none_left at stop piece end = let none : stop - at ≡ 0 = omega (arith, end) in rw none refl
+
+-- ---- one answer more
+
+-- the source gave the next piece, or nothing was read
+pub given_more : {S : Type 0} (rest : S → Option (List ℕ)) (faults : S → ℕ) (first old now : S) (p q : InPieces) (records : List Record) (bytes : List ℕ) → q.reader ≡ p.reader → Gives (rest old) (rest now) p.left q.left → faults old ≤ faults now
+    → HasRead rest faults first old p records bytes → HasRead rest faults first now q records bytes
+given_more rest faults first old now p q records bytes same gives count has = record {
+  reader = rw same has.reader;
+  clean = has.clean;
+  source = subst (λ (l : List ℕ). Consumes (rest first) (rest now) l) (append_assoc bytes p.left gives.read ∙ ap (λ (l : List ℕ). bytes ++ l) (sym gives.follows)) (consumed_on (rest first) (rest old) (rest now) (bytes ++ p.left) gives.read has.source gives.gave);
+  count = omega (arith, has.count, count);
+}
+
+-- the bytes fed are those before and then the others
+regrouped : (bytes fed left later : List ℕ) → (bytes ++ (fed ++ left)) ++ later ≡ bytes ++ (fed ++ (left ++ later))
+regrouped bytes fed left later = append_assoc bytes (fed ++ left) later ∙ ap (λ (l : List ℕ). bytes ++ l) (append_assoc fed left later)
+
+fed_has : {S : Type 0} (rest : S → Option (List ℕ)) (faults : S → ℕ) (first now : S) (p q : InPieces) (records : List Record) (bytes fed : List ℕ) (gave : List Record) → p.left ≡ fed ++ q.left → StandsFor q.reader (records ++ gave) (bytes ++ fed) → fault_of (bytes ++ fed) ≡ None
+    → HasRead rest faults first now p records bytes → HasRead rest faults first now q (records ++ gave) (bytes ++ fed)
+fed_has rest faults first now p q records bytes fed gave left reader clean has = record {
+  reader = reader;
+  clean = clean;
+  source = subst (λ (l : List ℕ). Consumes (rest first) (rest now) l) (ap (λ (l : List ℕ). bytes ++ l) left ∙ sym (append_assoc bytes fed q.left)) has.source;
+  count = has.count;
+}
+
+-- the reader's answer to some bytes
+pub taken_came : {S : Type 0} (rest : S → Option (List ℕ)) (faults : S → ℕ) (most : ℕ) (first now : S) (p q : InPieces) (answer : Result (Option Record) (NotTaken CaptureFault)) (records : List Record) (bytes : List ℕ) → TakesFirst most p q answer
+    → HasRead rest faults first now p records bytes → Advances rest faults most first now q records bytes (came_of answer)
+taken_came rest faults most first now p q (Ok (Some record')) records bytes takes has =
+    (takes.fed, (takes.few, fed_has rest faults first now p q records bytes takes.fed (record' ∷ []) takes.left (takes.feeds records bytes has.reader) (takes.exact records bytes has.reader) has))
+taken_came rest faults most first now p q (Ok None) records bytes takes has =
+    (takes.fed, (takes.some None refl, subst (λ (l : List Record). HasRead rest faults first now q l (bytes ++ takes.fed)) (append-nil records)
+        (fed_has rest faults first now p q records bytes takes.fed [] takes.left (takes.feeds records bytes has.reader) (takes.exact records bytes has.reader) has)))
+taken_came rest faults most first now p q (Err (Fault fault)) records bytes takes has =
+    told_first (rest first) (rest now) (bytes ++ p.left) (λ (text : List ℕ). verdict text ≡ Bad fault) has.source
+    (λ more. ap (λ (l : List ℕ). verdict ((bytes ++ l) ++ more)) takes.left ∙ ap (λ (l : List ℕ). verdict l) (regrouped bytes takes.fed q.left more) ∙ takes.lasts records bytes (q.left ++ more) has.reader)
+taken_came rest faults most first now p q (Err Reads.NoMemory) records bytes takes has = tt
+
+-- its answer at the end of the source
+pub ended_came : {S : Type 0} (rest : S → Option (List ℕ)) (faults : S → ℕ) (most : ℕ) (first now : S) (p : InPieces) (answer : Result ⊤ CaptureFault) (records : List Record) (bytes : List ℕ) → EndsBy p.reader answer → p.left ≡ [] → IsAtEnd (rest now)
+    → HasRead rest faults first now p records bytes → Advances rest faults most first now p records bytes (ended_by answer)
+ended_came rest faults most first now p (Ok done) records bytes ends none end has = record { reads = has; good = ends records bytes has.reader; none = none; end = end }
+ended_came rest faults most first now p (Err fault) records bytes ends none end has =
+    told_all (rest first) (rest now) bytes (λ (text : List ℕ). verdict text ≡ Bad fault)
+    (subst (λ (l : List ℕ). Consumes (rest first) (rest now) l) (ap (λ (l : List ℕ). bytes ++ l) none ∙ append-nil bytes) has.source) end (ends records bytes has.reader)
+
+-- ---- no capture has more bytes than the limit
+
+pub has_few : {S : Type 0} (rest : S → Option (List ℕ)) (faults : S → ℕ) (first now : S) (p : InPieces) (records : List Record) (bytes : List ℕ) → HasRead rest faults first now p records bytes → length bytes ≤ capture_limit
+unfolding fault_met reading_of
+has_few rest faults first now p records bytes has = omega (arith, text_short bytes start (omega arith) has.clean)
+
+-- ---- version and count
+
+past_counts : (due : Due) (count : ℕ) → IsPast due → count_in due count ≡ Some count
+past_counts Letters count past = absurd past
+past_counts Digit count past = absurd past
+past_counts (LineFeed version) count past = absurd past
+past_counts Count count past = absurd past
+past_counts (Broken (BadMagic at)) count past = absurd past
+past_counts (Broken (ConnCount number)) count past = absurd past
+past_counts due count past = refl
+
+counts_past : (due : Due) (count told : ℕ) → count_in due count ≡ Some told → IsPast due × (count ≡ told)
+counts_past Letters count told is = absurd (cc)
+counts_past Digit count told is = absurd (cc)
+counts_past (LineFeed version) count told is = absurd (cc)
+counts_past Count count told is = absurd (cc)
+counts_past (Broken (BadMagic at)) count told is = absurd (cc)
+counts_past (Broken (ConnCount number)) count told is = absurd (cc)
+counts_past due count told is = (tt, cc)
+
+version_is : (found told : ℕ) → version_in found ≡ Some told → found ≡ told
+version_is found told is = elim (found == 0) as (λ t. (found == 0) ≡ t → found ≡ told) [
+  | true ↦ λ zero_is. let none : version_in found ≡ None = rw zero_is refl in cc
+  | false ↦ λ some_is. let some : version_in found ≡ Some found = rw some_is refl in cc
+] refl
+
+versions : (due : Due) (version : ℕ) → fault_in due ≡ None → IsPast due → HasVersion due version → 0 < version
+versions Letters version clean past has = absurd past
+versions Digit version clean past has = absurd past
+versions (LineFeed found) version clean past has = absurd past
+versions Count version clean past has = absurd past
+versions (Broken fault) version clean past has = cc
+versions due version clean past has = has
+
+told_version : (version : ℕ) → 0 < version → version_in version ≡ Some version
+told_version version some = let other : (version == 0) ≡ false = grind (arith, nat_tests) in rw other refl
+
+-- after the count, version and count are told
+past_told : (p : Progress) (given : List Record) (b : List ℕ) → StandsFor p given b → fault_of b ≡ None → IsPast p.due → TellsHeader b (record { version = p.version; count = p.count })
+unfolding fault_met reading_of StandsAs
+past_told p given b stands clean past =
+    let last : (reading_of captures b).last ≡ p = ap (λ (r : Reading Progress Record). r.last) stands in
+    let none : fault_in p.due ≡ None = ap (λ (q : Progress). fault_in q.due) (sym last) ∙ clean in
+    let has : HasVersion p.due p.version = subst (λ (q : Progress). HasVersion q.due q.version) last (text_version b start tt) in
+    (version_here p given b stands ∙ told_version p.version (versions p.due p.version none past has), count_here p given b stands ∙ past_counts p.due p.count past)
+
+not_early : (p : Progress) (given : List Record) (b : List ℕ) → StandsFor p given b → fault_of b ≡ None → IsPast p.due → TellsNoHeader b → ⊥
+not_early p given b stands clean past (inl none) = let told = past_told p given b stands clean past in let some : version_of b ≡ Some p.version = told.0 in cc
+not_early p given b stands clean past (inr none) = let told = past_told p given b stands clean past in let some : count_of b ≡ Some p.count = told.1 in cc
+
+-- the first record ends after the count
+record_late : (p q : Progress) (b more : List ℕ) (r : Record) → StandsFor p [] b → StandsFor q (r ∷ []) (b ++ more) → length more ≤ 1 → IsPast p.due
+unfolding StandsAs read_on
+record_late p q b [] r first second few =
+    let given : [] ≡ r ∷ [] = ap (λ (x : Reading Progress Record). x.given) (sym (read_more captures p [] b [] first) ∙ second) in cc
+record_late p q b (byte ∷ []) r first second few =
+    let given : option_to_list (step p byte).gave ++ [] ≡ r ∷ [] = ap (λ (x : Reading Progress Record). x.given) (sym (read_more captures p [] b (byte ∷ []) first) ∙ second) in
+    go (step p byte).gave refl given
+  where
+    go : (gave : Option Record) → (step p byte).gave ≡ gave → option_to_list gave ++ [] ≡ r ∷ [] → IsPast p.due
+    go None is given = cc
+    go (Some s) is given = step_gave p byte s is
+record_late p q b (byte ∷ next ∷ more) r first second few = absurd (omega (arith, few))
+
+pub record_absurd : {S : Type 0} (rest : S → Option (List ℕ)) (faults : S → ℕ) (first old now : S) (p q : InPieces) (bytes more : List ℕ) (r : Record) → HasRead rest faults first old p [] bytes → TellsNoHeader bytes → length more ≤ 1 → HasRead rest faults first now q (r ∷ []) (bytes ++ more) → ⊥
+record_absurd rest faults first old now p q bytes more r has none few later =
+    not_early p.reader [] bytes has.reader has.clean (record_late p.reader q.reader bytes more r has.reader later.reader few) none
+
+nothing_due : (due : Due) (p : Progress) (given : List Record) (version count : ℕ) → ended due p given ≡ Good version count given → due ≡ Nothing
+nothing_due Nothing p given version count is = refl
+nothing_due due p given version count is = cc
+
+whole_due : (p : Progress) (given : List Record) (b : List ℕ) → StandsFor p given b → EndsAs given (Ok tt) (verdict b) → p.due ≡ Nothing
+whole_due p given b stands good = nothing_due p.due p given good.0 good.1 (sym (verdict_here captures p given b stands) ∙ good.2)
+
+pub end_absurd : {S : Type 0} (rest : S → Option (List ℕ)) (faults : S → ℕ) (first now : S) (q : InPieces) (bytes : List ℕ) → TellsNoHeader bytes → HasReadAll rest faults first now q [] bytes → ⊥
+end_absurd rest faults first now q bytes none all =
+    not_early q.reader [] bytes all.reads.reader all.reads.clean (subst IsPast (sym (whole_due q.reader [] bytes all.reads.reader all.good)) tt) none
+
+-- what was told stays
+pub told_stays : (text more : List ℕ) (header : Header) → TellsHeader text header → TellsHeader (text ++ more) header
+unfolding version_of count_of reading_of StandsAs
+told_stays text more header told =
+    let r : Reading Progress Record = reading_of captures text in
+    let counts = counts_past r.last.due r.last.count header.count told.1 in
+    let stays : Stays r.last (read_from r.last more).last = text_stays more r.last counts.0 in
+    let reads = read_more captures r.last r.given text more refl in
+    let last : (reading_of captures (text ++ more)).last ≡ (read_from r.last more).last = ap (λ (x : Reading Progress Record). x.last) reads in
+    let version : version_of (text ++ more) ≡ Some header.version = ap (λ (q : Progress). version_in q.version) last ∙ ap (λ (v : ℕ). version_in v) stays.0 ∙ told.0 in
+    let count : count_of (text ++ more) ≡ Some header.count = ap (λ (q : Progress). count_in q.due q.count) last ∙ past_counts (read_from r.last more).last.due (read_from r.last more).last.count stays.1.1 ∙ ap (λ (n : ℕ). Some n) (stays.1.0 ∙ counts.1) in
+    (version, count)
+
+-- a capture has the version and the count that it told
+pub good_as_told : (p : Progress) (given : List Record) (b : List ℕ) (header : Header) → StandsFor p given b → EndsAs given (Ok tt) (verdict b) → TellsHeader b header → verdict b ≡ Good header.version header.count given
+good_as_told p given b header stands good told =
+    let due : p.due ≡ Nothing = whole_due p given b stands good in
+    let version : p.version ≡ header.version = version_is p.version header.version (sym (version_here p given b stands) ∙ told.0) in
+    let counts : count_in p.due p.count ≡ Some header.count = sym (count_here p given b stands) ∙ told.1 in
+    let count : p.count ≡ header.count = (counts_past p.due p.count header.count counts).1 in
+    verdict_here captures p given b stands ∙ ap (λ (d : Due). ended d p given) due ∙ ap (λ (v : ℕ). Good v p.count given) version ∙ ap (λ (n : ℕ). Good header.version n given) count
+
+-- ---- before the first byte
+
+pub fresh_read : {S : Type 0} (rest : S → Option (List ℕ)) (faults : S → ℕ) (first : S) (p : InPieces) → IsFresh p → HasRead rest faults first first p [] []
+unfolding fault_met reading_of read_on
+fresh_read rest faults first p fresh = record {
+  reader = fresh.0;
+  clean = refl;
+  source = subst (λ (l : List ℕ). Consumes (rest first) (rest first) l) (sym fresh.1) (consumed_none (rest first));
+  count = omega arith;
+}

@@ -1,0 +1,220 @@
+//! Reading a capture in pieces.
+ghost use Rattle.std.specs.Prelude.{◌≡◌, ◌<◌, ◌≤◌, ℕ, List, [], length, true, false, IfOk, IfErr, IfSome, OnOk, OnErr, IfNone};
+ghost use Rattle.std.specs.Io.KnownBytes.{Consumes, IsAtEnd};
+ghost use Rattle.zy_base.specs.Outside.{Rose};
+ghost use Rattle.zy_capture.specs.declared.record.Record.{Record};
+ghost use Rattle.zy_capture.specs.Standing.{StandsFor};
+ghost use Rattle.zy_feed.specs.Reads.{IsFresh, HasRead, HasBegun, StopsBy, TellsHeader, TellsNoHeader};
+ghost use Rattle.zy_feed.specs.Reads.{Cuts, Gives, TakesFirst, Advances, came_of, ended_by};
+
+use crate::stop::Stop;
+use std::alloc::Global;
+use std::marker::Model;
+use zy_base::{Failed, NoMemory, Source};
+use zy_capture::{CaptureFault, FeedFault, Reader, Record};
+use zy_read::Fed;
+
+// The most bytes that one read asks for.
+const PIECE: usize = 65_536;
+
+/// What a capture begins with.
+#[derive(Clone, Copy, Debug, PartialEq, Eq)]
+pub struct Header {
+    /// 1 or 2.
+    pub version: u32,
+    /// How many connections it has.
+    pub count: u32,
+}
+
+/// A capture that is read in pieces of 64 KiB. Contracts see how far its reader is, and the bytes of
+/// the piece that the reader was not fed yet.
+#[derive(Drop)]
+pub struct Intake {
+    reader: Reader,
+    piece: Vec<u8>,
+    at: usize,
+    end: usize,
+}
+
+impl Model for Intake {
+    ghost use Rattle.std.specs.Prelude.{◌-◌, ◌<◌, ◌≤◌, length, take, drop};
+    ghost use Rattle.zy_feed.specs.Reads.{InPieces, in_pieces};
+
+    ghost Value = { InPieces };
+
+    ghost view = { λ i. in_pieces i.reader (take (i.end - i.at) (drop i.at i.piece.items)) };
+
+    ghost invariant = { λ i. (i.at ≤ i.end) × (i.end ≤ length i.piece.items) × (0 < length i.piece.items) };
+}
+
+// What came of some bytes.
+#[derive(Drop)]
+pub(crate) enum Came {
+    // They end a record.
+    Record(Record),
+    // They end none.
+    Nothing,
+    // There are none, and the capture is whole.
+    End,
+}
+
+impl Intake {
+    /// Reads the magic and the count of the source's capture, and no record.
+    pub fn begin<S: Source>(alloc: Global, source: &mut S) -> Result<(Intake, Header), Stop>
+        ensures ok { IfOk result (λ begun. HasBegun S.rest S.faults source.old source.new begun.0 begun.1) }
+        ensures stopped { IfErr result (λ stop. StopsBy S.rest S.faults source.old source.new stop) }
+        ensures count { S.faults source.old ≤ S.faults source.new }
+    {
+        let mut intake = match Intake::new(alloc) {
+            Ok(intake) => intake,
+            Err(NoMemory) => return Err(Stop::NoMemory),
+        };
+        match intake.read_header(source) {
+            Ok(header) => Ok((intake, header)),
+            Err(stop) => Err(stop),
+        }
+    }
+
+    fn new(alloc: Global) -> Result<Intake, NoMemory>
+        ensures ok { IfOk result (λ intake. IsFresh intake) }
+    {
+        match vec![in alloc; 0u8; PIECE] {
+            Ok(piece) => Ok(Intake {
+                reader: Reader::new(alloc),
+                piece,
+                at: 0,
+                end: 0,
+            }),
+            Err(_) => Err(NoMemory),
+        }
+    }
+
+    // Reads byte after byte until version and count are known.
+    fn read_header<S: Source>(&mut self, source: &mut S) -> Result<Header, Stop>
+        requires fresh { IsFresh self.old }
+        ensures ok { IfOk result (λ header. HasBegun S.rest S.faults source.old source.new self.new header) }
+        ensures stopped { IfErr result (λ stop. StopsBy S.rest S.faults source.old source.new stop) }
+        ensures count { S.faults source.old ≤ S.faults source.new }
+    {
+        for _ in 0..u64::MAX {
+            if let Some(header) = self.header() {
+                return Ok(header);
+            }
+            match self.advance(source, 1) {
+                Ok(Came::Nothing) => {}
+                Ok(Came::Record(_)) => unreachable!(),
+                Ok(Came::End) => unreachable!(),
+                Err(stop) => return Err(stop),
+            }
+        }
+        // No capture has so many bytes.
+        unreachable!()
+    }
+
+    // Version and count, where both are known.
+    fn header(&self) -> Option<Header>
+        ensures some { IfSome result (λ header. (given : List Record) (b : List ℕ)
+            → StandsFor self.now.reader given b → TellsHeader b header) }
+        ensures none { IfNone result ((given : List Record) (b : List ℕ)
+            → StandsFor self.now.reader given b → TellsNoHeader b) }
+    {
+        match self.reader.version() {
+            None => None,
+            Some(version) => match self.reader.count() {
+                None => None,
+                Some(count) => Some(Header { version, count }),
+            },
+        }
+    }
+
+    /// Cuts the next record, for which it reads as many pieces as are wanted; `None` where the
+    /// capture is whole.
+    pub fn cut<S: Source>(&mut self, source: &mut S) -> Result<Option<Record>, Stop>
+        ensures value { (first : S) (records : List Record) (bytes : List ℕ)
+            → HasRead S.rest S.faults first source.old self.old records bytes
+            → Cuts S.rest S.faults first source.new self.new records bytes result }
+        ensures count { S.faults source.old ≤ S.faults source.new }
+    {
+        for _ in 0..u64::MAX {
+            match self.advance(source, PIECE) {
+                Ok(Came::Nothing) => {}
+                Ok(Came::Record(record)) => return Ok(Some(record)),
+                Ok(Came::End) => return Ok(None),
+                Err(stop) => return Err(stop),
+            }
+        }
+        // No capture has so many bytes.
+        Err(Stop::Refused(CaptureFault::TooLong))
+    }
+
+    // Feeds the reader some next bytes, at most so many, and reads the next piece before where
+    // nothing is left of this one.
+    fn advance<S: Source>(&mut self, source: &mut S, most: usize) -> Result<Came, Stop>
+        requires some { 0 < most }
+        ensures value { (first : S) (records : List Record) (bytes : List ℕ)
+            → HasRead S.rest S.faults first source.old self.old records bytes
+            → Advances S.rest S.faults most first source.new self.new records bytes result }
+        ensures count { S.faults source.old ≤ S.faults source.new }
+    {
+        match self.refill(source) {
+            Ok(true) => came_from(self.feed(most)),
+            Ok(false) => came_at_end(self.reader.end()),
+            Err(Failed) => Err(Stop::ReadFault),
+        }
+    }
+
+    // Reads the next piece where nothing is left of this one. Gives whether there are bytes.
+    fn refill<S: Source>(&mut self, source: &mut S) -> Result<bool, Failed>
+        ensures reader { self.new.reader ≡ self.old.reader }
+        ensures ok { OnOk result (Gives (S.rest source.old) (S.rest source.new) self.old.left self.new.left) }
+        ensures some { IfOk result (λ some. some ≡ true → 0 < length self.new.left) }
+        ensures end { IfOk result (λ some. some ≡ false → (self.new.left ≡ []) × IsAtEnd (S.rest source.new)) }
+        ensures failed { OnErr result (Rose (S.faults source.old) (S.faults source.new)) }
+        ensures count { S.faults source.old ≤ S.faults source.new }
+    {
+        if self.at < self.end {
+            return Ok(true);
+        }
+        match source.read(self.piece.as_mut_slice()) {
+            Ok(n) => {
+                self.at = 0;
+                self.end = n;
+                Ok(n > 0)
+            }
+            Err(Failed) => Err(Failed),
+        }
+    }
+
+    // Feeds the reader some first bytes of what is left of the piece, at most so many.
+    fn feed(&mut self, most: usize) -> Result<Option<Record>, FeedFault>
+        requires some { (0 < most) × (0 < length self.old.left) }
+        ensures value { TakesFirst most self.old self.new result }
+    {
+        let stop = self.at + most.min(self.end - self.at);
+        let Fed { taken, answer } = self.reader.feed_piece(&self.piece[self.at..stop]);
+        self.at += taken;
+        answer
+    }
+}
+
+// What comes of the reader's answer.
+fn came_from(answer: Result<Option<Record>, FeedFault>) -> Result<Came, Stop>
+    ensures value { result ≡ came_of answer }
+{
+    match answer {
+        Ok(Some(record)) => Ok(Came::Record(record)),
+        Ok(None) => Ok(Came::Nothing),
+        Err(FeedFault::Fault(fault)) => Err(Stop::Refused(fault)),
+        Err(FeedFault::NoMemory) => Err(Stop::NoMemory),
+    }
+}
+
+// What comes of its answer at the end of the source.
+fn came_at_end(answer: Result<(), CaptureFault>) -> Result<Came, Stop>
+    ensures value { result ≡ ended_by answer }
+{
+    match answer {
+        Ok(()) => Ok(Came::End),
+        Err(fault) => Err(Stop::Refused(fault)),
+    }
+}

@@ -1,0 +1,3 @@
+pub mod StreamLemmas
+pub mod OutputLemmas
+pub mod WorkedLemmas

@@ -1,0 +1,22 @@
+-- One legal run of the commands of all connections. There are no cores, threads, queues or stamps in it.
+use Rattle.std.specs.Prelude.{◌≡◌, ℕ, ◌<◌, List, [], ◌∷◌}
+use Rattle.zy_base.specs.declared.entry.Entry.{Entry}
+use Rattle.zy_base.specs.Order.{of_connection}
+use Rattle.zy_base.specs.History.{IsLegal}
+use Rattle.mc_parse.specs.declared.command.Command.{Command}
+use Rattle.mc_parse.specs.Calls.{due, dues_of}
+
+-- every entry is of one of so many connections
+abbrev pub AreOfConnections : ℕ → List Entry → Type 0
+AreOfConnections count [] = Unit {0}
+AreOfConnections count (e ∷ es) = (e.tag.conn < count) × AreOfConnections count es
+
+-- the entries make the calls of all connections' commands: again and again the next call of any connection, until none
+-- is left, each answered as its shard stands then
+pub record IsRun (shards : ℕ) (es : List Entry) (count : ℕ) (commands : ℕ → List Command) : Type 0 where
+  -- each reply is that of its shard, after the calls before it on that shard; all shards were empty at first
+  pub legal : IsLegal shards es
+  -- every entry is of one of the connections
+  pub connections : AreOfConnections count es
+  -- the entries of a connection are its calls due, each once and in order
+  pub calls : (conn : ℕ) → conn < count → dues_of (of_connection conn es) ≡ due shards conn (commands conn)

@@ -1,0 +1,5 @@
+pub mod TakenLemmas
+pub mod ReceivedLemmas
+pub mod CuttingLemmas
+pub mod HoldLemmas
+pub mod ServedLemmas
