@@ -1,3 +1,5 @@
 pub mod RoundLemmas
 pub mod ListLemmas
 pub mod DealLemmas
+pub mod CoreLemmas
+pub mod TurnLemmas

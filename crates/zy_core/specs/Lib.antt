@@ -1,5 +1,9 @@
-pub mod Round
-pub mod Feed
 pub mod Share
+pub mod Core
 pub mod Steal
+pub mod Turn
+pub mod Feed
+pub mod Round
+pub mod Drive
+pub mod Step
 pub mod Deal

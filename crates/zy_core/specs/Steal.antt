@@ -1,18 +1,10 @@
 -- What a core's one steal in a turn comes to.
 use Rattle.std.specs.Prelude.{ℕ, List, Option, Some, None}
-use Rattle.zy_table.specs.declared.name.Name.{Name}
-use Rattle.zy_table.specs.Name.{name_of}
-use Rattle.zy_conn.specs.Work.{Mark, mark_of}
+use Rattle.zy_link.specs.Idle.{mark_in}
+use Rattle.zy_home.specs.Place.{label_in}
 use Rattle.zy_conn.specs.Block.{Blocked}
 use Rattle.zy_steal.specs.declared.looks.Look.{Look}
 use Rattle.zy_steal.specs.Steal.{PassList, TakesFrom, GivesTo, AllLooked}
-
--- the mark and the label of a block
-abbrev pub mark_in : Blocked → Mark
-mark_in block = mark_of block.work
-
-abbrev pub label_in : Blocked → Name
-label_in block = name_of block.work.table
 
 -- a block of another core was taken, and its place given back
 pub record Steals (before after : PassList Blocked) : Type 0 where

@@ -1,7 +1,4 @@
-use Rattle.std.proofs.Common.{◌≡◌, ◌+◌, ◌≤◌, List, Vec, vec_len, ap, ◌∙◌, sym, subst, arith}
-use Rattle.std.specs.Prelude.{vec_capacity}
-use Rattle.std.specs.declared.alloc.Global.{Global}
-use Rattle.zy_core.specs.Deal.{lists_of, AreEmpty, HaveRoom}
+use Rattle.std.proofs.Common.{arith}
 use Rattle.zy_core.proofs.DealLemmas.{room_last, empty_last}
 use Rattle.zy_core.proofs.room.empty_groups.Goals as goal
 

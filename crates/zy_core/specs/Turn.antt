@@ -1,0 +1,86 @@
+-- What a turn of a core comes to: its steps, and its answer.
+use Rattle.std.specs.Prelude.{◌≡◌, ◌⊎◌, ℕ, ◌+◌, ◌<◌, ◌≤◌, List, [], length, Bool, true, false, Option, Some, None}
+use Rattle.zy_rx.specs.Ring.{Taking}
+use Rattle.zy_conn.specs.declared.hold_end.HoldEnd.{HoldEnd}
+use Rattle.zy_home.specs.declared.own.Own.{Own}
+use Rattle.zy_home.specs.declared.own.Own.TheVariants as Owns
+use Rattle.zy_home.specs.Home.{Homed, is_settled}
+use Rattle.zy_home.specs.Place.{CollectsTo, OwnsTo}
+use Rattle.zy_steal.specs.declared.looks.Look.{Look}
+use Rattle.zy_steal.specs.declared.looks.Look.TheVariants.{Empty, Raced}
+use Rattle.zy_steal.specs.Steal.{AllLooked}
+use Rattle.zy_core.specs.declared.turn.Turn.{Turn}
+use Rattle.zy_core.specs.declared.turn.Turn.TheVariants.{Worked, Idle, Settled}
+use Rattle.zy_core.specs.Steal.{Steals}
+use Rattle.zy_core.specs.Core.{Cored}
+
+-- ---- the steps
+
+-- items were received: some, at most 64, and fewer only where no more was known after the last look
+pub record Receives (before after : Taking) : Type 0 where
+  pub some : length before.taken < length after.taken
+  pub most : length after.taken ≤ length before.taken + 64
+  pub all : length after.taken < length before.taken + 64 → after.known ≡ []
+
+-- items were received; or none was known after a look, and the home is as it was
+abbrev pub ReceivesTo : Homed → Taking → Homed → Taking → Bool → Type 0
+ReceivesTo h o h' o' true = Receives o o'
+ReceivesTo h o h' o' false = (h' ≡ h) × (o'.taken ≡ o.taken) × (o'.known ≡ [])
+
+-- blocks were collected, beginning with one of the home as it was; or the ring's collect took nothing
+abbrev pub CollectsAll : ℕ → Homed → Homed → Bool → Type 0
+CollectsAll places h h' true = (first : Homed) × CollectsTo places h first true
+CollectsAll places h h' false = CollectsTo places h h' false
+
+-- the answer of a home whose claim took nothing, for this cause
+abbrev pub own_of : Look → Own
+own_of (Empty at) = Owns.Empty at
+own_of (Raced saw found) = Owns.Raced saw found
+
+-- a block was claimed, held and settled; or the home's claim took nothing, for this cause
+abbrev pub ClaimsTo : ℕ → Homed → Homed → Option Look → Type 0
+ClaimsTo places h h' None = (held : HoldEnd) × OwnsTo places h h' (Owns.Took held)
+ClaimsTo places h h' (Some look) = OwnsTo places h h' (own_of look)
+
+-- the answer of a turn in which nothing was claimed or stolen
+abbrev pub answer : Bool → Look → List (Option Look) → Bool → Turn
+answer true own looks settled = Worked
+answer false own looks true = Settled looks
+answer false own looks false = Idle own looks
+
+-- ---- the turn
+
+-- how many places the core's ring has
+abbrev pub places_of : Cored → ℕ
+places_of c = c.home.pass.table.slots
+
+-- nothing was received, collected, claimed or stolen. A look showed that the outlet knew no item; then the ring's collect took nothing; then the home's own claim, and one at every other core
+pub record FindsNothing (before after : Cored) (own : Look) (looks : List (Option Look)) : Type 0 where
+  pub taken : after.outlet.taken ≡ before.outlet.taken
+  pub known : after.outlet.known ≡ []
+  pub between : Homed
+  pub collected : CollectsTo (places_of before) before.home between false
+  pub owned : OwnsTo (places_of before) between after.home (own_of own)
+  pub looked : AllLooked before.passes after.passes looks
+
+-- an item was received
+abbrev pub HasReceived : Cored → Cored → Type 0
+HasReceived before after = length before.outlet.taken < length after.outlet.taken
+
+-- a block was collected
+abbrev pub HasCollected : Cored → Type 0
+HasCollected before = (first : Homed) × CollectsTo (places_of before) before.home first true
+
+-- a block was claimed from the core's own queue
+abbrev pub HasClaimed : Cored → Cored → Type 0
+HasClaimed before after = (between : Homed) × CollectsTo (places_of before) before.home between false × ClaimsTo (places_of before) between after.home None
+
+-- a block was stolen
+abbrev pub HasStolen : Cored → Cored → Type 0
+HasStolen before after = Steals before.passes after.passes
+
+-- what a turn came to
+abbrev pub TurnTo : Cored → Cored → Turn → Type 0
+TurnTo before after Worked = HasReceived before after ⊎ HasCollected before ⊎ HasClaimed before after ⊎ HasStolen before after
+TurnTo before after (Idle own looks) = FindsNothing before after own looks × (is_settled after.home ≡ false)
+TurnTo before after (Settled looks) = ((own : Look) × FindsNothing before after own looks) × (is_settled after.home ≡ true)

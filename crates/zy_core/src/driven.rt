@@ -1,0 +1,13 @@
+//! How driving ends.
+use crate::cores::Cores;
+
+/// How driving ended, with the cores as they came, in their order.
+#[derive(Drop)]
+pub enum Driven {
+    /// The feeder ended, and every core is settled.
+    Settled(Cores),
+    /// The feeder is broken.
+    Broken(Cores),
+    /// Memory was wanted.
+    NoMemory(Cores),
+}

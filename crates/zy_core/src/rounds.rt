@@ -1,0 +1,93 @@
+//! Turns of several cores.
+ghost use Rattle.std.specs.Prelude.{◌≡◌, true};
+ghost use Rattle.zy_core.specs.Core.{Fits, identity_of};
+ghost use Rattle.zy_core.specs.Drive.{identities, EachFits, EachSettled};
+
+use crate::logical::Core;
+use crate::shared::Shared;
+use crate::turn::Turn;
+use zy_base::{Gate, NoMemory};
+
+// A core takes no more turns than this.
+const MOST: u64 = 1 << 48;
+
+// A turn of one core, where it may take one. Says whether it worked.
+pub(crate) fn turn_one<G: Gate>(
+    core: &mut Core,
+    shared: &Shared,
+    gate: &G,
+) -> Result<bool, NoMemory>
+    requires fits { Fits shared.now (identity_of core.old) }
+    ensures same { identity_of core.new ≡ identity_of core.old }
+{
+    if core.is_refused() {
+        return Err(NoMemory);
+    }
+    if core.turns() >= MOST {
+        return Ok(false);
+    }
+    match core.turn(shared, gate) {
+        Ok(Turn::Worked) => Ok(true),
+        Ok(_) => Ok(false),
+        Err(e) => Err(e),
+    }
+}
+
+// A turn of each core. Says whether one of them worked.
+pub(crate) fn turn_each<G: Gate>(
+    cores: &mut Vec<Core>,
+    shared: &Shared,
+    gate: &G,
+) -> Result<bool, NoMemory>
+    requires fits { EachFits shared.now (identities cores.old.items) }
+    ensures same { identities cores.new.items ≡ identities cores.old.items }
+{
+    let mut worked = false;
+    for i in 0..cores.len() {
+        let core = &mut cores[i];
+        match turn_one(core, shared, gate) {
+            Ok(some) => worked = worked || some,
+            Err(e) => return Err(e),
+        }
+    }
+    Ok(worked)
+}
+
+// Each core that is settled counts itself, once.
+pub(crate) fn note_each(cores: &mut Vec<Core>, shared: &Shared)
+    requires fits { EachFits shared.now (identities cores.old.items) }
+    ensures same { identities cores.new.items ≡ identities cores.old.items }
+{
+    for i in 0..cores.len() {
+        let core = &mut cores[i];
+        core.note(shared);
+    }
+}
+
+// Whether each core finds that all cores are done. Then each of these is settled.
+pub(crate) fn all_done(cores: &mut Vec<Core>, shared: &Shared) -> bool
+    requires fits { EachFits shared.now (identities cores.old.items) }
+    ensures same { identities cores.new.items ≡ identities cores.old.items }
+    ensures settled { result ≡ true → EachSettled cores.new.items }
+{
+    for i in 0..cores.len() {
+        let core = &mut cores[i];
+        if !core.is_done(shared) {
+            return false;
+        }
+    }
+    true
+}
+
+// Whether each core is settled.
+pub(crate) fn are_settled(cores: &[Core]) -> bool
+    ensures settled { result ≡ true → EachSettled cores.now }
+{
+    for i in 0..cores.len() {
+        let core = &cores[i];
+        if !core.is_settled() {
+            return false;
+        }
+    }
+    true
+}

@@ -1,0 +1,122 @@
+//! The first three steps of a turn: items are received, blocks are collected, and one is claimed.
+ghost use Rattle.std.specs.Prelude.{◌≡◌, ◌+◌, ◌<◌, ◌≤◌, ◌^◌, true, false, OnOk, IfOk, is_err};
+ghost use Rattle.zy_table.specs.Name.{name_of};
+ghost use Rattle.zy_home.specs.Home.{HomeStands, StandsHome, all_here};
+ghost use Rattle.zy_home.specs.Place.{Looked};
+ghost use Rattle.zy_core.specs.Turn.{ReceivesTo, CollectsAll, ClaimsTo};
+ghost use Rattle.zy_core.specs.Step.{Kin, IsStill};
+
+use mc_store::StoreTable;
+use zy_base::{Gate, NoMemory};
+use zy_conn::Block;
+use zy_home::{Home, Own};
+use zy_rx::Outlet;
+use zy_shuffle::Ring;
+use zy_steal::Look;
+
+// The most items that a turn takes.
+const MOST: u32 = 64;
+
+// Takes items and has the home receive them, until none is known or there were 64. Says whether there
+// was one.
+pub(crate) fn receive_all(
+    home: &mut Home,
+    outlet: &mut Outlet,
+    ring: &Ring<Block>,
+) -> Result<bool, NoMemory>
+    requires table { home.old.pass.table ≡ ring.now.id }
+    requires few { home.old.pass.count < 2 ^ 62 }
+    requires live { home.old.refused ≡ false }
+    ensures value { IfOk result (ReceivesTo home.old outlet.old home.new outlet.new) }
+    ensures stands { OnOk result (HomeStands home.old outlet.old.taken → HomeStands home.new outlet.new.taken) }
+    ensures still { home.old.ended ≡ true → home.new ≡ home.old }
+    ensures kin { Kin home.old home.new }
+    ensures count { home.new.pass.count ≤ home.old.pass.count + 64 }
+    ensures refused { home.new.refused ≡ is_err result }
+    ensures ring { outlet.new.ring ≡ outlet.old.ring }
+{
+    for taken in 0..MOST {
+        let Some(item) = outlet.take() else {
+            return Ok(taken > 0);
+        };
+        if let Err(e) = home.receive(ring, item) {
+            return Err(e);
+        }
+    }
+    Ok(true)
+}
+
+// Collects and settles blocks until none is there, or there were as many as the home has places. Says
+// whether there was one.
+pub(crate) fn collect_all(home: &mut Home, ring: &Ring<Block>) -> Result<bool, NoMemory>
+    requires table { home.old.pass.table ≡ ring.now.id }
+    requires few { home.old.pass.count < 2 ^ 62 }
+    requires live { home.old.refused ≡ false }
+    ensures value { IfOk result (CollectsAll home.old.pass.table.slots home.old home.new) }
+    ensures stands { OnOk result (StandsHome home.old home.new) }
+    ensures still { IsStill home.old home.new }
+    ensures kin { Kin home.old home.new × (home.new.ended ≡ home.old.ended) }
+    ensures count { home.new.pass.count ≤ home.old.pass.count + 4096 }
+    ensures refused { home.new.refused ≡ is_err result }
+{
+    let places = ring.places();
+    match home.collect(ring) {
+        Ok(true) => {}
+        Ok(false) => return Ok(false),
+        Err(e) => return Err(e),
+    }
+    match collect_more(home, ring, places) {
+        Ok(()) => Ok(true),
+        Err(e) => Err(e),
+    }
+}
+
+// Collects and settles further blocks, until none is there, or there were as many as these places.
+fn collect_more(home: &mut Home, ring: &Ring<Block>, places: u32) -> Result<(), NoMemory>
+    requires table { home.old.pass.table ≡ ring.now.id }
+    requires few { home.old.pass.count ≤ 2 ^ 62 }
+    requires live { home.old.refused ≡ false }
+    requires places { places ≤ 4096 }
+    ensures stands { OnOk result (StandsHome home.old home.new) }
+    ensures still { IsStill home.old home.new }
+    ensures kin { Kin home.old home.new × (home.new.ended ≡ home.old.ended) }
+    ensures count { home.new.pass.count ≤ home.old.pass.count + 4095 }
+    ensures refused { home.new.refused ≡ is_err result }
+{
+    for _ in 1..places {
+        match home.collect(ring) {
+            Ok(true) => {}
+            Ok(false) => return Ok(()),
+            Err(e) => return Err(e),
+        }
+    }
+    Ok(())
+}
+
+// Claims once at home. A block that was taken is held and settled; where none was, its cause is the
+// answer.
+pub(crate) fn claim_own<G: Gate>(
+    home: &mut Home,
+    ring: &Ring<Block>,
+    store: &StoreTable,
+    gate: &G,
+) -> Result<Option<Look>, NoMemory>
+    requires table { home.old.pass.table ≡ ring.now.id }
+    requires few { home.old.pass.count < 2 ^ 63 }
+    requires live { home.old.refused ≡ false }
+    requires store { home.old.pass.label ≡ name_of store.now.id }
+    ensures value { IfOk result (ClaimsTo home.old.pass.table.slots home.old home.new) }
+    ensures stands { OnOk result (StandsHome home.old home.new) }
+    ensures still { IsStill home.old home.new }
+    ensures kin { Kin home.old home.new × (home.new.ended ≡ home.old.ended) }
+    ensures count { home.new.pass.count ≤ home.old.pass.count + 1 }
+    ensures refused { home.new.refused ≡ is_err result }
+{
+    let _places = ring.places();
+    match home.own(ring, store, gate) {
+        Ok(Own::Took { held: _ }) => Ok(None),
+        Ok(Own::Empty { at }) => Ok(Some(Look::Empty { at })),
+        Ok(Own::Raced { saw, found }) => Ok(Some(Look::Raced { saw, found })),
+        Err(e) => Err(e),
+    }
+}
