@@ -1,3 +1,6 @@
 pub mod StepLemmas
 pub mod ReadLemmas
 pub mod PieceLemmas
+pub mod InletLemmas
+pub mod FeedLemmas
+pub mod WholeLemmas

@@ -1,5 +1,5 @@
 -- What is left of a piece of which some first bytes were taken.
-use Rattle.std.proofs.Common.{◌≡◌, ℕ, ◌+◌, ◌-◌, ◌<◌, ◌≤◌, List, ◌++◌, length, take, drop, take-add, take-take, drop-drop, length-take, refl, sym, ◌∙◌, ap, subst, arith}
+use Rattle.std.proofs.Common.{◌≡◌, ℕ, ◌+◌, ◌-◌, ◌<◌, ◌≤◌, List, ◌++◌, length, take, drop, take-take, drop-drop, length-take, sym, ◌∙◌, ap, arith}
 use Rattle.std.specs.Prelude.{Option, Result, Ok}
 use Rattle.std.proofs.lemmas.List.{length-take-le, drop-take, take-append-drop}
 use Rattle.zy_read.specs.declared.not_taken.NotTaken.{NotTaken}
@@ -32,8 +32,8 @@ piece_taken most at n stop taken old new piece bytes answer is few within taken_
     record {
       fed = take taken bytes;
       left = sym (take-append-drop taken (take (stop - at) (drop at piece)))
-      ∙ ap (λ (l : List ℕ). l ++ drop taken (take (stop - at) (drop at piece))) (sym (ap (λ (l : List ℕ). take taken l) is ∙ taken_first piece at n stop taken within short))
-      ∙ ap (λ (l : List ℕ). take taken bytes ++ l) (left_then piece at stop taken (omega (arith, within, short)));
+          ∙ ap (λ (l : List ℕ). l ++ drop taken (take (stop - at) (drop at piece))) (sym (ap (λ (l : List ℕ). take taken l) is ∙ taken_first piece at n stop taken within short))
+          ∙ ap (λ (l : List ℕ). take taken bytes ++ l) (left_then piece at stop taken (omega (arith, within, short)));
       few = omega (arith, size, short, few);
       some = λ gave ok. omega (arith, size, some gave ok);
       feeds = feeds;

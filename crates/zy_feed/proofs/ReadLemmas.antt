@@ -1,5 +1,5 @@
 -- What is read of a capture, piece after piece.
-use Rattle.std.proofs.Common.{◌≡◌, ◌⊎◌, inl, inr, ℕ, ◌+◌, ◌-◌, ◌<◌, ◌≤◌, true, false, List, [], ◌∷◌, ◌++◌, length, take, drop, refl, sym, ◌∙◌, ap, subst, arith, append_assoc}
+use Rattle.std.proofs.Common.{◌≡◌, inl, inr, ℕ, ◌-◌, ◌<◌, ◌≤◌, true, false, List, [], ◌∷◌, ◌++◌, length, take, drop, refl, sym, ◌∙◌, ap, subst, arith, append_assoc, length-append}
 use Rattle.std.specs.Prelude.{◌==◌, Option, None, Some, IfSome, Result, Ok, Err, ⊤, option_to_list}
 use Rattle.std.specs.Io.KnownBytes.{Consumes, IsAtEnd}
 use Rattle.std.proofs.lemmas.List.{append-nil}
@@ -9,7 +9,7 @@ use Rattle.zy_read.specs.declared.not_taken.NotTaken.TheVariants.{Fault}
 use Rattle.zy_read.specs.declared.not_taken.NotTaken.TheVariants as Reads
 use Rattle.zy_read.specs.Format.{Reading, reading_of, read_on, fault_met}
 use Rattle.zy_read.specs.Standing.{StandsAs}
-use Rattle.zy_read.proofs.Feeding.{then_read, read_more, verdict_here}
+use Rattle.zy_read.proofs.Feeding.{read_more, verdict_here}
 use Rattle.zy_capture.specs.declared.record.Record.{Record}
 use Rattle.zy_capture.specs.declared.capture_fault.CaptureFault.{CaptureFault}
 use Rattle.zy_capture.specs.declared.due.Due.{Due}
@@ -22,11 +22,8 @@ use Rattle.zy_capture.specs.Verdict.Verdict.{Good, Bad}
 use Rattle.zy_capture.specs.Standing.{StandsFor, EndsAs, EndsBy}
 use Rattle.zy_capture.proofs.Feeding.{version_here, count_here}
 use Rattle.zy_feed.specs.declared.stop.Stop.{Stop}
-use Rattle.zy_feed.specs.declared.stop.Stop.TheVariants.{Refused, ReadFault, NoMemory}
 use Rattle.zy_feed.specs.declared.intake.Header.{Header}
-use Rattle.zy_feed.specs.declared.intake.Came.{Came}
-use Rattle.zy_feed.specs.declared.intake.Came.TheVariants as Comes
-use Rattle.zy_feed.specs.Reads.{InPieces, IsFresh, HasRead, HasReadAll, HasBegun, StopsBy, TellsHeader, TellsNoHeader, Gives, TakesFirst, Advances, Cuts, came_of, ended_by}
+use Rattle.zy_feed.specs.Reads.{InPieces, IsFresh, HasRead, HasReadAll, StopsBy, TellsHeader, TellsNoHeader, Gives, TakesFirst, Advances, came_of, ended_by}
 use Rattle.zy_feed.proofs.StepLemmas.{IsPast, HasVersion, Stays, step_gave, text_stays, text_version, text_short}
 
 -- ---- sources
@@ -89,9 +86,14 @@ pub taken_came : {S : Type 0} (rest : S → Option (List ℕ)) (faults : S → �
     → HasRead rest faults first now p records bytes → Advances rest faults most first now q records bytes (came_of answer)
 taken_came rest faults most first now p q (Ok (Some record')) records bytes takes has =
     (takes.fed, (takes.few, fed_has rest faults first now p q records bytes takes.fed (record' ∷ []) takes.left (takes.feeds records bytes has.reader) (takes.exact records bytes has.reader) has))
-taken_came rest faults most first now p q (Ok None) records bytes takes has =
-    (takes.fed, (takes.some None refl, subst (λ (l : List Record). HasRead rest faults first now q l (bytes ++ takes.fed)) (append-nil records)
-        (fed_has rest faults first now p q records bytes takes.fed [] takes.left (takes.feeds records bytes has.reader) (takes.exact records bytes has.reader) has)))
+taken_came rest faults most first now p q (Ok None) records bytes takes has = (
+  takes.fed,
+  (
+    takes.some None refl,
+    subst (λ (l : List Record). HasRead rest faults first now q l (bytes ++ takes.fed)) (append-nil records)
+        (fed_has rest faults first now p q records bytes takes.fed [] takes.left (takes.feeds records bytes has.reader) (takes.exact records bytes has.reader) has),
+  ),
+)
 taken_came rest faults most first now p q (Err (Fault fault)) records bytes takes has =
     told_first (rest first) (rest now) (bytes ++ p.left) (λ (text : List ℕ). verdict text ≡ Bad fault) has.source
     (λ more. ap (λ (l : List ℕ). verdict ((bytes ++ l) ++ more)) takes.left ∙ ap (λ (l : List ℕ). verdict l) (regrouped bytes takes.fed q.left more) ∙ takes.lasts records bytes (q.left ++ more) has.reader)
@@ -110,6 +112,10 @@ ended_came rest faults most first now p (Err fault) records bytes ends none end 
 pub has_few : {S : Type 0} (rest : S → Option (List ℕ)) (faults : S → ℕ) (first now : S) (p : InPieces) (records : List Record) (bytes : List ℕ) → HasRead rest faults first now p records bytes → length bytes ≤ capture_limit
 unfolding fault_met reading_of
 has_few rest faults first now p records bytes has = omega (arith, text_short bytes start (omega arith) has.clean)
+
+-- so no stop needs a cause after so many
+pub too_long : {S : Type 0} (rest : S → Option (List ℕ)) (faults : S → ℕ) (first now : S) (p : InPieces) (records : List Record) (bytes more : List ℕ) (n : ℕ) (stop : Stop) → 18446744073709551615 ≤ n → n ≤ length more → HasRead rest faults first now p records (bytes ++ more) → StopsBy rest faults first now stop
+too_long rest faults first now p records bytes more n stop over within has = absurd (omega (arith, over, within, length-append bytes more, has_few rest faults first now p records (bytes ++ more) has))
 
 -- ---- version and count
 

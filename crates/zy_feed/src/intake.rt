@@ -1,11 +1,12 @@
 //! Reading a capture in pieces.
-ghost use Rattle.std.specs.Prelude.{◌≡◌, ◌<◌, ◌≤◌, ℕ, List, [], length, true, false, IfOk, IfErr, IfSome, OnOk, OnErr, IfNone};
+ghost use Rattle.std.specs.Prelude.{◌≡◌, ◌<◌, ◌≤◌, ℕ, List, [], length, true, false};
+ghost use Rattle.std.specs.Prelude.{IfOk, IfErr, IfSome, IfNone, OnOk, OnErr};
 ghost use Rattle.std.specs.Io.KnownBytes.{Consumes, IsAtEnd};
 ghost use Rattle.zy_base.specs.Outside.{Rose};
 ghost use Rattle.zy_capture.specs.declared.record.Record.{Record};
 ghost use Rattle.zy_capture.specs.Standing.{StandsFor};
-ghost use Rattle.zy_feed.specs.Reads.{IsFresh, HasRead, HasBegun, StopsBy, TellsHeader, TellsNoHeader};
-ghost use Rattle.zy_feed.specs.Reads.{Cuts, Gives, TakesFirst, Advances, came_of, ended_by};
+ghost use Rattle.zy_feed.specs.Reads.{IsFresh, HasRead, HasBegun, StopsBy, TellsHeader};
+ghost use Rattle.zy_feed.specs.Reads.{TellsNoHeader, Cuts, Gives, TakesFirst, Advances, came_of, ended_by};
 
 use crate::stop::Stop;
 use std::alloc::Global;
@@ -26,8 +27,8 @@ pub struct Header {
     pub count: u32,
 }
 
-/// A capture that is read in pieces of 64 KiB. Contracts see how far its reader is, and the bytes of
-/// the piece that the reader was not fed yet.
+/// A capture that is read in pieces of 64 KiB. Contracts see how far its reader is, and the bytes
+/// of the piece that the reader was not fed yet.
 #[derive(Drop)]
 pub struct Intake {
     reader: Reader,
@@ -44,7 +45,8 @@ impl Model for Intake {
 
     ghost view = { λ i. in_pieces i.reader (take (i.end - i.at) (drop i.at i.piece.items)) };
 
-    ghost invariant = { λ i. (i.at ≤ i.end) × (i.end ≤ length i.piece.items) × (0 < length i.piece.items) };
+    ghost invariant = { λ i. (i.at ≤ i.end)
+        × (i.end ≤ length i.piece.items) × (0 < length i.piece.items) };
 }
 
 // What came of some bytes.
@@ -61,8 +63,10 @@ pub(crate) enum Came {
 impl Intake {
     /// Reads the magic and the count of the source's capture, and no record.
     pub fn begin<S: Source>(alloc: Global, source: &mut S) -> Result<(Intake, Header), Stop>
-        ensures ok { IfOk result (λ begun. HasBegun S.rest S.faults source.old source.new begun.0 begun.1) }
-        ensures stopped { IfErr result (λ stop. StopsBy S.rest S.faults source.old source.new stop) }
+        ensures ok { IfOk result (λ begun.
+            HasBegun S.rest S.faults source.old source.new begun.0 begun.1) }
+        ensures stopped { IfErr result (λ stop.
+            StopsBy S.rest S.faults source.old source.new stop) }
         ensures count { S.faults source.old ≤ S.faults source.new }
     {
         let mut intake = match Intake::new(alloc) {
@@ -92,8 +96,10 @@ impl Intake {
     // Reads byte after byte until version and count are known.
     fn read_header<S: Source>(&mut self, source: &mut S) -> Result<Header, Stop>
         requires fresh { IsFresh self.old }
-        ensures ok { IfOk result (λ header. HasBegun S.rest S.faults source.old source.new self.new header) }
-        ensures stopped { IfErr result (λ stop. StopsBy S.rest S.faults source.old source.new stop) }
+        ensures ok { IfOk result (λ header.
+            HasBegun S.rest S.faults source.old source.new self.new header) }
+        ensures stopped { IfErr result (λ stop.
+            StopsBy S.rest S.faults source.old source.new stop) }
         ensures count { S.faults source.old ≤ S.faults source.new }
     {
         for _ in 0..u64::MAX {
@@ -166,9 +172,11 @@ impl Intake {
     // Reads the next piece where nothing is left of this one. Gives whether there are bytes.
     fn refill<S: Source>(&mut self, source: &mut S) -> Result<bool, Failed>
         ensures reader { self.new.reader ≡ self.old.reader }
-        ensures ok { OnOk result (Gives (S.rest source.old) (S.rest source.new) self.old.left self.new.left) }
+        ensures ok { OnOk result
+            (Gives (S.rest source.old) (S.rest source.new) self.old.left self.new.left) }
         ensures some { IfOk result (λ some. some ≡ true → 0 < length self.new.left) }
-        ensures end { IfOk result (λ some. some ≡ false → (self.new.left ≡ []) × IsAtEnd (S.rest source.new)) }
+        ensures end { IfOk result (λ some. some ≡ false
+            → (self.new.left ≡ []) × IsAtEnd (S.rest source.new)) }
         ensures failed { OnErr result (Rose (S.faults source.old) (S.faults source.new)) }
         ensures count { S.faults source.old ≤ S.faults source.new }
     {

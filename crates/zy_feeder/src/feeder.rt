@@ -36,15 +36,16 @@ pub trait Feeder {
     fn step(&mut self) -> Fed
         requires fresh { ¬ ended self.old × ¬ broken self.old }
         ensures offered { result ≡ Fed.Offered → HasOffered (inlets self.old) (inlets self.new) }
-        ensures kept { result ≢ Fed.Offered → sent_by (inlets self.new) ≡ sent_by (inlets self.old) }
+        ensures kept { result ≢ Fed.Offered
+            → sent_by (inlets self.new) ≡ sent_by (inlets self.old) }
         ensures full { result ≡ Fed.Full → HasNoRoom (inlets self.new) }
         ensures ended { (result ≡ Fed.Ended) ↔ ended self.new }
         ensures broken { (result ≡ Fed.Broken) ↔ broken self.new }
         ensures rings { rings_of (inlets self.new) ≡ rings_of (inlets self.old) }
         ensures leads { leads self.old self.new };
 
-    /// Shows the inlet of this core and its outlet what the other end did. It offers and takes nothing,
-    /// and takes no memory.
+    /// Shows the inlet of this core and its outlet what the other end did. It offers and takes
+    /// nothing, and takes no memory.
     fn meet(&mut self, core: u32, outlet: &mut Outlet)
         requires ring { slice_get (rings_of (inlets self.old)) core ≡ Some outlet.old.ring }
         ensures all { HasMet core (inlets self.new) outlet.new }

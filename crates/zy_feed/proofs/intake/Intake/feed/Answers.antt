@@ -1,5 +1,4 @@
-use Rattle.std.proofs.Common.{◌≡◌, ◌<◌, ◌≤◌, ℕ, List, length, ◌+◌, ◌-◌, take, drop, arith, ap, ◌∙◌}
-use Rattle.zy_feed.specs.Reads.{TakesFirst}
+use Rattle.std.proofs.Common.{◌≡◌, ◌≤◌, ℕ, List, ◌+◌, ◌-◌, take, drop, arith, ap, ◌∙◌}
 use Rattle.zy_feed.proofs.PieceLemmas.{piece_taken}
 use Rattle.zy_feed.proofs.intake.Intake.feed.Goals as goal
 

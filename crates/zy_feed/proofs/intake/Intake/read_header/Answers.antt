@@ -1,4 +1,4 @@
-use Rattle.std.proofs.Common.{◌≤◌, ℕ, List, [], length, arith}
+use Rattle.std.proofs.Common.{[], arith}
 use Rattle.zy_feed.proofs.ReadLemmas.{fresh_read, has_few, record_absurd, end_absurd}
 use Rattle.zy_feed.proofs.intake.Intake.read_header.Goals as goal
 

@@ -1,0 +1,47 @@
+-- What a feeder has done where it ended or broke.
+use Rattle.std.proofs.Common.{◌≡◌, ℕ, List, [], ◌++◌, sym, ◌∙◌, ap, subst}
+use Rattle.std.specs.Prelude.{Option, Some}
+use Rattle.std.specs.Io.KnownBytes.{Consumes}
+use Rattle.std.proofs.lemmas.List.{append-nil}
+use Rattle.zy_feed.specs.declared.stop.Stop.{Stop}
+use Rattle.zy_feed.specs.declared.stage.Stage.{Stage}
+use Rattle.zy_feed.specs.declared.stage.Stage.TheVariants.{Cutting, Ended, Broken}
+use Rattle.zy_feed.specs.declared.intake.Header.{Header}
+use Rattle.zy_feed.specs.Reads.{HasReadAll, HasBegun}
+use Rattle.zy_feed.specs.Feeding.{Feeding, stop_in, IsReadTo, AreSent, Stands, Leads, HasStopped, AreUnsent, HasFedAll}
+use Rattle.zy_feed.proofs.ReadLemmas.{told_stays, good_as_told}
+
+-- at the start
+begun : {S : Type 0} (rest : S → Option (List ℕ)) (faults : S → ℕ) (first : S) (header : Header) (f : Feeding S) (begun : HasBegun rest faults first f.source f.intake header) → AreUnsent f.sents → f.stage ≡ Cutting
+    → Stands rest faults first f [] begun.bytes
+begun rest faults first header f begins unsent is = record {
+  read = subst (λ (s : Stage). IsReadTo rest faults first f.source f.intake s [] begins.bytes) (sym is) begins.reads;
+  sent = subst (λ (s : Stage). AreSent f.sents s []) (sym is) (λ core sent there. unsent core sent there);
+}
+
+pub fed_all : {S : Type 0} (rest : S → Option (List ℕ)) (faults : S → ℕ) (first : S) (header : Header) (f g : Feeding S) → HasBegun rest faults first f.source f.intake header → AreUnsent f.sents → f.stage ≡ Cutting → g.stage ≡ Ended → Leads rest faults f g
+    → HasFedAll rest faults first g.source header g.sents
+fed_all rest faults first header f g begins unsent start ended leads =
+    let end = leads first [] begins.bytes (begun rest faults first header f begins unsent start) in
+    let bytes : List ℕ = begins.bytes ++ end.1.0 in
+    let all : HasReadAll rest faults first g.source g.intake end.0 bytes = subst (λ (s : Stage). IsReadTo rest faults first g.source g.intake s end.0 bytes) ended end.1.1.read in
+    record {
+      records = end.0;
+      bytes = bytes;
+      good = good_as_told g.intake.reader end.0 bytes header all.reads.reader all.good (told_stays begins.bytes end.1.0 header begins.told);
+      source = subst (λ (l : List ℕ). Consumes (rest first) (rest g.source) l) (ap (λ (l : List ℕ). bytes ++ l) all.none ∙ append-nil bytes) all.reads.source;
+      end = all.end;
+      count = all.reads.count;
+      sent = subst (λ (s : Stage). AreSent g.sents s end.0) ended end.1.1.sent;
+    }
+
+-- it broke by this stop
+stop_is : (stage : Stage) (stop : Stop) → stop_in stage ≡ Some stop → stage ≡ Broken stop
+stop_is (Broken found) stop is = cc
+stop_is stage stop is = cc
+
+pub has_cause : {S : Type 0} (rest : S → Option (List ℕ)) (faults : S → ℕ) (first : S) (header : Header) (f g : Feeding S) (stop : Stop) → HasBegun rest faults first f.source f.intake header → AreUnsent f.sents → f.stage ≡ Cutting → stop_in g.stage ≡ Some stop → Leads rest faults f g
+    → HasStopped rest faults first g.source stop
+has_cause rest faults first header f g stop begins unsent start broken leads =
+    let end = leads first [] begins.bytes (begun rest faults first header f begins unsent start) in
+    subst (λ (s : Stage). IsReadTo rest faults first g.source g.intake s end.0 (begins.bytes ++ end.1.0)) (stop_is g.stage stop broken) end.1.1.read

@@ -1,0 +1,163 @@
+//! The feeder of a run.
+ghost use Rattle.std.specs.Prelude.{◌≡◌, ◌≢◌, ◌↔◌, Some, slice_get, refl};
+ghost use Rattle.std.proofs.Common.{◌∙◌};
+ghost use Rattle.zy_served.specs.Routing as Routing;
+ghost use Rattle.zy_feeder.specs.Feed.{rings_of, sent_by, HasOffered, HasNoRoom, HasMet};
+ghost use Rattle.zy_feed.specs.declared.stage.Stage.TheVariants as Stages;
+ghost use Rattle.zy_feed.specs.Feeding.{state_of, in_stage, stop_in, IsBroken, Leads, StepsTo};
+ghost use Rattle.zy_feed.specs.Leads.{leads_same, leads_on};
+
+use crate::inlets::Inlets;
+use crate::intake::Intake;
+use crate::stage::Stage;
+use crate::stop::Stop;
+use std::mem;
+use zy_base::Source;
+use zy_capture::{Record, Segment};
+use zy_feeder::{Fed, Feeder};
+use zy_rx::{Outlet, Rx};
+
+/// Offers the records of a capture to the home cores of their connections, and then the end to each
+/// core.
+#[derive(Drop)]
+pub struct CaptureFeeder<'s, S> {
+    source: &'s mut S,
+    intake: Intake,
+    inlets: Inlets,
+    stage: Stage,
+}
+
+impl<'s, S: Source> CaptureFeeder<'s, S> {
+    /// A feeder of what this intake has begun to read of the source. Takes no memory.
+    pub fn new(source: &'s mut S, intake: Intake, inlets: Inlets) -> CaptureFeeder<'s, S>
+        ensures source { result.source.ghost_name ≡ source.entry.ghost_name }
+        ensures now { result.source.now ≡ source.old }
+        ensures intake { result.intake ≡ intake }
+        ensures inlets { result.inlets ≡ inlets }
+        ensures stage { result.stage ≡ Stages.Cutting }
+    {
+        CaptureFeeder {
+            source,
+            intake,
+            inlets,
+            stage: Stage::Cutting,
+        }
+    }
+
+    /// The source, the inlets, and what the feeder broke by where it is broken. Takes no memory.
+    pub fn into_parts(self) -> (&'s mut S, Inlets, Option<Stop>)
+        ensures source { result.0.ghost_name ≡ self.entry.source.ghost_name }
+        ensures now { result.0.now ≡ self.entry.source.now }
+        ensures inlets { result.1 ≡ self.entry.inlets }
+        ensures stop { result.2 ≡ stop_in self.entry.stage }
+    {
+        let CaptureFeeder {
+            source,
+            intake: _,
+            inlets,
+            stage,
+        } = self;
+        let stop = match stage {
+            Stage::Broken(stop) => Some(stop),
+            _ => None,
+        };
+        (source, inlets, stop)
+    }
+
+    // Cuts the next record and offers it; where there is none, the end to the first core.
+    fn cut(&mut self) -> Fed
+        ensures source { self.new.source.ghost_name ≡ self.old.source.ghost_name }
+        ensures steps { StepsTo self.old.inlets self.new.inlets self.new.stage result }
+        ensures leads { Leads S.rest S.faults
+            (in_stage self.old Stages.Cutting) (state_of self.new) }
+    {
+        match self.intake.cut(self.source) {
+            Ok(Some(record)) => self.deliver(item_of(record)),
+            Ok(None) => self.end(0),
+            Err(stop) => {
+                self.stage = Stage::Broken(stop);
+                Fed::Broken
+            }
+        }
+    }
+
+    // Offers an item to the core that it is for, and keeps it where it is handed back.
+    fn deliver(&mut self, item: Rx) -> Fed
+        ensures source { self.new.source.ghost_name ≡ self.old.source.ghost_name }
+        ensures steps { StepsTo self.old.inlets self.new.inlets self.new.stage result }
+        ensures leads { Leads S.rest S.faults
+            (in_stage self.old (Stages.Waiting item)) (state_of self.new) }
+    {
+        match self.inlets.deliver(item) {
+            None => {
+                self.stage = Stage::Cutting;
+                Fed::Offered
+            }
+            Some(item) => {
+                self.stage = Stage::Waiting(item);
+                Fed::Full
+            }
+        }
+    }
+
+    // Offers the end to this core, where there is one.
+    fn end(&mut self, core: u32) -> Fed
+        ensures source { self.new.source.ghost_name ≡ self.old.source.ghost_name }
+        ensures steps { StepsTo self.old.inlets self.new.inlets self.new.stage result }
+        ensures leads { Leads S.rest S.faults
+            (in_stage self.old (Stages.Ending core)) (state_of self.new) }
+    {
+        if core >= self.inlets.count() {
+            self.stage = Stage::Ended;
+            return Fed::Ended;
+        }
+        if self.inlets.offer_end(core) {
+            self.stage = Stage::Ending(core + 1);
+            return Fed::Offered;
+        }
+        self.stage = Stage::Ending(core);
+        Fed::Full
+    }
+}
+
+impl<'s, S: Source> Feeder for CaptureFeeder<'s, S> {
+    ghost inlets = { λ f. f.inlets };
+
+    ghost ended = { λ f. f.stage ≡ Stages.Ended };
+
+    ghost broken = { λ f. IsBroken f.stage };
+
+    ghost leads = { λ f g. (g.source.ghost_name ≡ f.source.ghost_name)
+        × Leads S.rest S.faults (state_of f) (state_of g) };
+
+    fn step(&mut self) -> Fed {
+        match mem::replace(&mut self.stage, Stage::Ended) {
+            Stage::Cutting => self.cut(),
+            Stage::Waiting(item) => self.deliver(item),
+            Stage::Ending(core) => self.end(core),
+            Stage::Ended => unreachable!(),
+            Stage::Broken(_) => unreachable!(),
+        }
+    }
+
+    fn meet(&mut self, core: u32, outlet: &mut Outlet) {
+        self.inlets.meet(core, outlet);
+    }
+
+    ghost leads_same = { λ f. (refl, leads_same S.rest S.faults (state_of f)) };
+
+    ghost leads_on = { λ f g h p q. (
+      q.0 ∙ p.0,
+      leads_on S.rest S.faults (state_of f) (state_of g) (state_of h) p.1 q.1,
+    ) };
+}
+
+// The item as which a record is offered; its bytes are moved.
+fn item_of(next: Record) -> Rx
+    ensures value { result ≡ Routing.item_of next }
+{
+    match next {
+        Record::Segment(Segment { conn, bytes }) => Rx::Segment { conn, bytes },
+        Record::Close { conn } => Rx::Close { conn },
+    }
+}

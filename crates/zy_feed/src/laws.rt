@@ -1,0 +1,28 @@
+//! What a feeder has done where it ended or broke.
+ghost use Rattle.std.specs.Prelude.{◌≡◌, Some};
+ghost use Rattle.zy_feed.specs.declared.intake.Header.{Header};
+ghost use Rattle.zy_feed.specs.declared.stop.Stop.{Stop};
+ghost use Rattle.zy_feed.specs.declared.stage.Stage.TheVariants as Stages;
+ghost use Rattle.zy_feed.specs.Reads.{HasBegun};
+ghost use Rattle.zy_feed.specs.Feeding.{Feeding, stop_in, AreUnsent, HasFedAll, HasStopped, Leads};
+
+use zy_base::Source;
+
+/// A feeder of a capture that was begun, whose inlets were fresh, and that has ended: the source
+/// told a capture with the version and the count that were told first, it is at its end, and each
+/// core was sent the items of the records that are for it, and then the end.
+pub fn a_feeder_that_ended_has_offered_the_capture<S: Source>()
+    ensures all { (first : S) (header : Header) (f g : Feeding S)
+        → HasBegun S.rest S.faults first f.source f.intake header → AreUnsent f.sents
+        → f.stage ≡ Stages.Cutting → g.stage ≡ Stages.Ended → Leads S.rest S.faults f g
+        → HasFedAll S.rest S.faults first g.source header g.sents }
+{}
+
+/// One that has broken has its cause: the fault is the verdict on all that the source told before
+/// the first read, or its count of faults rose since, or stands at its last value.
+pub fn a_broken_feeder_has_its_cause<S: Source>()
+    ensures cause { (first : S) (header : Header) (f g : Feeding S) (stop : Stop)
+        → HasBegun S.rest S.faults first f.source f.intake header → AreUnsent f.sents
+        → f.stage ≡ Stages.Cutting → stop_in g.stage ≡ Some stop → Leads S.rest S.faults f g
+        → HasStopped S.rest S.faults first g.source stop }
+{}
