@@ -1,0 +1,11 @@
+-- Each core of a run fits what is shared.
+use Rattle.std.proofs.Common.{◌≡◌, ℕ, List, Some, slice_get}
+use Rattle.zy_core.specs.Share.{Sharing}
+use Rattle.zy_core.specs.Core.{Identity, Fits}
+use Rattle.zy_core.specs.Drive.{EachFits}
+
+pub all_fit : (shared : Sharing) (ids : List Identity) → ((i : ℕ) (d : Identity) → slice_get ids i ≡ Some d → Fits shared d) → EachFits shared ids
+all_fit shared ids all = all
+
+pub fits_at : (shared : Sharing) (ids : List Identity) → EachFits shared ids → (i : ℕ) (d : Identity) → slice_get ids i ≡ Some d → Fits shared d
+fits_at shared ids all = all

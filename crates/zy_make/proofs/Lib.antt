@@ -1,0 +1,4 @@
+pub mod ListLemmas
+pub mod FitLemmas
+pub mod MakeLemmas
+pub mod TakeLemmas

@@ -1,0 +1,4 @@
+pub mod Station
+pub mod Ready
+pub mod Received
+pub mod Progress

@@ -1,0 +1,43 @@
+-- The parts that the cores of a run are made of, and the receive rings that they get.
+use Rattle.std.specs.Prelude.{◌≡◌, ℕ, ◌≤◌, List, [], length, false, Some, slice_get}
+use Rattle.zy_table.specs.declared.name.Name.{Name}
+use Rattle.zy_table.specs.Name.{name_of}
+use Rattle.mc_store.specs.Pass.{Stored}
+use Rattle.zy_rx.specs.Ring.{Offering, offering}
+use Rattle.zy_shuffle.specs.Pass.{Ringed}
+use Rattle.zy_conn.specs.Block.{Blocked}
+use Rattle.zy_home.specs.Home.{Homed, HomeStands}
+use Rattle.zy_steal.specs.Steal.{PassList, ArePasses, AreIdle, seats_of}
+
+-- the home of this core, on its ring among these, with this label; it has received and published nothing
+pub record IsNewHome (rings : List Ringed) (label : Name) (core : ℕ) (h : Homed) : Type 0 where
+  pub core_is : h.core ≡ core
+  pub cores_is : h.cores ≡ length rings
+  pub ring : (r : Ringed) → slice_get rings core ≡ Some r → h.pass.table ≡ r.id
+  pub label_is : h.pass.label ≡ label
+  pub live : h.refused ≡ false
+  pub fresh : h.pass.count ≡ 0
+  pub stands : HomeStands h []
+
+-- the passes of this core on the rings of the others, with this label and nothing in their hands
+pub record AreNewPasses (rings : List Ringed) (label : Name) (core : ℕ) (p : PassList Blocked) : Type 0 where
+  pub core_is : p.core ≡ core
+  pub passes : ArePasses rings p
+  pub idle : AreIdle label (seats_of p.items)
+
+-- the parts of the cores of a run: 1 to 64 rings, and for each, by rising number, a home and passes on the others
+pub record AreReady (rings : List Ringed) (store : Stored) (homes : List Homed) (passes : List (PassList Blocked)) : Type 0 where
+  pub some : 1 ≤ length rings
+  pub few : length rings ≤ 64
+  pub homes_are : length homes ≡ length rings
+  pub passes_are : length passes ≡ length rings
+  pub each_home : (core : ℕ) (h : Homed) → slice_get homes core ≡ Some h → IsNewHome rings (name_of store.id) core h
+  pub each_passes : (core : ℕ) (p : PassList Blocked) → slice_get passes core ≡ Some p → AreNewPasses rings (name_of store.id) core p
+
+-- nothing was offered to a receive ring of 256 slots, and all of them are free
+abbrev pub IsFresh : Offering → Type 0
+IsFresh inlet = inlet ≡ offering inlet.ring [] 256 256
+
+-- the same of the receive ring of each core
+abbrev pub AreFresh : List Offering → Type 0
+AreFresh inlets = (core : ℕ) (inlet : Offering) → slice_get inlets core ≡ Some inlet → IsFresh inlet
