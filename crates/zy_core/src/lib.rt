@@ -5,7 +5,7 @@ mod cores;
 mod dealing;
 mod draws;
 mod driven;
-mod feeder;
+mod feeding;
 mod group;
 pub mod laws;
 mod lent;

@@ -1,9 +1,9 @@
 //! The scope in which threads drive the cores.
 ghost use Rattle.std.specs.Prelude.{◌≡◌, ◌≤◌, true, vec_len, vec_capacity};
 ghost use Rattle.zy_core.specs.Seat.{all_of_groups, AllFit, AllSettled};
-ghost use Rattle.zy_core.specs.Feed.{rings_of};
+ghost use Rattle.zy_feeder.specs.Feed.{rings_of};
 
-use crate::feeder::Feeder;
+use zy_feeder::Feeder;
 use crate::logical::Core;
 use crate::seat::Seat;
 use crate::seats::{join_all, start_all};

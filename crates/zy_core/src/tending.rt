@@ -1,9 +1,10 @@
 //! What the caller does while threads drive the cores.
 ghost use Rattle.std.specs.Prelude.{◌≡◌, vec_len};
 ghost use Rattle.zy_core.specs.Seat.{all_of_seats, AllFit};
-ghost use Rattle.zy_core.specs.Feed.{rings_of};
+ghost use Rattle.zy_feeder.specs.Feed.{rings_of};
 
-use crate::feeder::{Feeder, feed};
+use crate::feeding::feed;
+use zy_feeder::Feeder;
 use crate::seat::Seat;
 use crate::seats::{are_done_here, go_on_here};
 use crate::shared::Shared;

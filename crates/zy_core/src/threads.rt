@@ -2,12 +2,12 @@
 ghost use Rattle.std.specs.Prelude.{◌≡◌, ◌≤◌, true, vec_len, vec_capacity};
 ghost use Rattle.zy_core.specs.Deal.{gathered, lists_of};
 ghost use Rattle.zy_core.specs.Drive.{identities, AreCores, EachSettled, cores_of, IsSettled, IsBroken};
-ghost use Rattle.zy_core.specs.Feed.{rings_of};
+ghost use Rattle.zy_feeder.specs.Feed.{rings_of};
 
 use crate::cores::Cores;
 use crate::dealing::{collect, deal};
 use crate::driven::Driven;
-use crate::feeder::Feeder;
+use zy_feeder::Feeder;
 use crate::lent::{Lent, take_back};
 use crate::logical::Core;
 use crate::room::Room;

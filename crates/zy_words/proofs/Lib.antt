@@ -4,3 +4,4 @@ mod Taken
 mod Turns
 mod Spelling
 pub mod Split
+pub mod Ranges

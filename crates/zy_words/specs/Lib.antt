@@ -1,3 +1,4 @@
 pub mod Grammar
 pub mod Request
 pub mod Splitting
+pub mod Range

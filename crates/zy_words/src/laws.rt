@@ -1,5 +1,9 @@
 //! Worked examples of the definitions: the function does nothing, and its contract is what they compute.
-ghost use Rattle.std.specs.Prelude.{◌≡◌, [], ◌∷◌, codes, Some, None};
+ghost use Rattle.std.specs.Prelude.{◌≡◌, List, [], ◌∷◌, codes, Some, None};
+ghost use Rattle.zy_words.specs.Grammar.{Word};
+ghost use Rattle.zy_words.specs.Range.{IsRunnable};
+ghost use Rattle.zy_words.specs.declared.request.Run.{Run};
+ghost use Rattle.zy_words.specs.declared.request.Out.{Out};
 ghost use Rattle.zy_words.specs.Request.{request_of};
 ghost use Rattle.zy_words.specs.declared.request.Request.TheVariants as Requests;
 ghost use Rattle.zy_words.specs.declared.request.Out.TheVariants as Outs;
@@ -21,4 +25,10 @@ pub fn worked_requests()
     ensures other_out { request_of (codes "run" ∷ codes "--out=x" ∷ []) ≡ None }
     ensures other_command { request_of (codes "check" ∷ codes "--cores=1" ∷ []) ≡ None }
     ensures too_much { request_of (codes "gen" ∷ codes "--conns=1001" ∷ codes "--commands=1000" ∷ []) ≡ None }
+{}
+
+/// A lawful run has 1 to 64 cores, 1 to as many threads, and 1 to 256 shards.
+pub fn runs_are_in_their_ranges()
+    ensures value { (words : List Word) (run : Run) (out : Out)
+        → request_of words ≡ Some (Requests.Run run out) → IsRunnable run }
 {}

@@ -1,4 +1,5 @@
 pub mod Answers
+pub mod Said
+pub mod Headline
 pub mod Ends
-pub mod Reply
-pub mod Words
+pub mod Served

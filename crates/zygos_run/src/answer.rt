@@ -2,28 +2,19 @@
 ghost use Rattle.std.specs.Prelude.{◌≡◌};
 ghost use Rattle.zygos_run.specs.Answers.{status_of};
 
-use crate::store::Store;
-use zy_base::{Entries, Holds};
-
-/// Every call on the store, with its reply, and which core finished how many commands of which connection.
-#[derive(Drop)]
-pub struct Journal {
-    /// The calls, in the order in which they were made.
-    pub entries: Entries,
-    /// The holds, by rising connection and then in the order in which they happened.
-    pub holds: Holds,
-    // The store goes out with the answer, so that who forgets the answer gives nothing of it back.
-    pub(crate) store: Option<Store>,
-}
+use zy_capture::CaptureFault;
+use zy_journal::Journal;
 
 /// How the top call ended.
 #[derive(Drop)]
 pub enum Answer {
-    /// The input was read to its end, its commands were carried out, and all replies were written.
+    /// The capture was read to its end, its commands were carried out, and all was written. The
+    /// journal has every call on the store with its reply, and which core finished how many commands
+    /// of which connection.
     Served(Journal),
     /// The words are not lawful. Nothing was read or written.
     Usage,
-    /// The input isn't served. Nothing was written.
+    /// The input has this fault. Nothing was written.
     Refused(Refusal),
     /// Reading failed. Nothing was written.
     ReadFault,
@@ -33,11 +24,11 @@ pub enum Answer {
     OutOfMemory,
 }
 
-/// Why an input isn't served.
+/// Why an input is refused: the first fault of the part that has one.
 #[derive(Clone, Copy, Debug, PartialEq, Eq)]
 pub enum Refusal {
-    /// It isn't a version 1 capture of at most one connection that sends `set` and `get` lines alone.
-    Unbuilt,
+    /// The capture has a fault.
+    Capture(CaptureFault),
 }
 
 /// The exit status of an answer.

@@ -1,21 +1,15 @@
-//! The top call: words and a capture in, the replies of each connection out.
+//! The top call: words and a capture in, a replies file out.
 #![tactic(auto)]
 
 mod answer;
-mod intake;
-mod reading;
-mod reply;
-mod request;
+mod command;
+mod finished;
+mod running;
 mod saying;
-mod server;
 mod serving;
 mod standard;
-mod stop;
-mod store;
-#[cfg(test)]
-mod tests;
-mod words;
 
-pub use answer::{Answer, Journal, Refusal, status};
+pub use answer::{Answer, Refusal, status};
+pub use finished::Finished;
 pub use serving::serve;
 pub use standard::{StdSink, StdSource};

@@ -1,0 +1,60 @@
+-- The headline: what a served run is.
+use Rattle.std.specs.Prelude.{◌≡◌, ℕ, List, [], ◌++◌, Option, None, Some}
+use Rattle.zy_base.specs.declared.entry.Entry.{Entry}
+use Rattle.zy_base.specs.Order.{IsOrdered}
+use Rattle.zy_base.specs.Outside.{Grew, GrewByPrefix}
+use Rattle.zy_capture.specs.declared.record.Record.{Record}
+use Rattle.zy_capture.specs.Outputs.{AllOutputs}
+use Rattle.zy_capture.specs.Replies.{replies_bytes}
+use Rattle.zy_capture.specs.Verdict.{verdict}
+use Rattle.zy_capture.specs.Verdict.Verdict.{Good}
+use Rattle.zy_journal.specs.declared.journal.Journal.{Journal}
+use Rattle.zy_journal.specs.Journal.{journal_bytes}
+use Rattle.zy_run.specs.Commands.{streams_in, commands_in}
+use Rattle.zy_run.specs.Run.{IsRun}
+use Rattle.zy_run.specs.Output.{all_outputs}
+use Rattle.zy_run.specs.Spans.{Spans}
+use Rattle.zy_words.specs.declared.request.Out.{Out}
+use Rattle.zy_words.specs.declared.request.Out.TheVariants.{Replies, Both}
+
+-- the outputs of all connections of these records, by the replies that the entries tell
+abbrev pub outputs_of : ℕ → ℕ → List Record → List Entry → AllOutputs
+outputs_of version count records es = record { version = version; sessions = all_outputs count (streams_in records) es }
+
+-- what stands before the replies: nothing, or the journal
+abbrev pub front : Out → Journal → List ℕ
+front Replies journal = []
+front Both journal = journal_bytes journal
+
+-- what is written of a run: the journal where it is asked for, and the replies
+abbrev pub written : Out → Journal → AllOutputs → List ℕ
+written out journal outputs = front out journal ++ replies_bytes outputs
+
+-- the journal is that of a served run of the capture that these bytes are, on so many shards, and these are its outputs
+pub record IsServed (shards : ℕ) (bytes : List ℕ) (journal : Journal) (outputs : AllOutputs) : Type 0 where
+  pub version : ℕ
+  pub count : ℕ
+  pub records : List Record
+  -- the bytes are a capture, with these records
+  pub capture : verdict bytes ≡ Good version count records
+  -- the entries are one legal run of its commands, each carried out once, in arrival order, none after quit and none left over
+  pub run : IsRun shards journal.entries count (commands_in records)
+  -- in the order of their stamps
+  pub order : IsOrdered None journal.entries
+  -- and the holds add up to the commands of each connection
+  pub holds : Spans journal.holds count (commands_in records)
+  -- the outputs are exactly each session's replies in that order
+  pub replies : outputs ≡ outputs_of version count records journal.entries
+
+-- the same, and the sink grew by all that is written of it
+pub record IsWritten (shards : ℕ) (out : Out) (bytes : List ℕ) (journal : Journal) (before after : Option (List ℕ)) : Type 0 where
+  pub outputs : AllOutputs
+  pub served : IsServed shards bytes journal outputs
+  pub wrote : Grew before after (written out journal outputs)
+
+-- the same, and the sink grew by a first part of it
+pub record IsPartWritten (shards : ℕ) (out : Out) (bytes : List ℕ) (before after : Option (List ℕ)) : Type 0 where
+  pub journal : Journal
+  pub outputs : AllOutputs
+  pub served : IsServed shards bytes journal outputs
+  pub wrote : GrewByPrefix before after (written out journal outputs)
