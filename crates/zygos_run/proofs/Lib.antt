@@ -1,0 +1,3 @@
+mod PreparedLemmas
+mod OverLemmas
+mod ServedLemmas
