@@ -1,7 +1,8 @@
 -- The places of connections at their homes, and what stands at a place of a list.
 use Rattle.std.specs.Prelude.{◌==◌, cond}
 use Rattle.std.specs.List.{range_with_len, filter}
-use Rattle.std.proofs.Common.{◌≡◌, ◌≢◌, ℕ, zero, suc, ◌+◌, ◌<◌, List, [], ◌∷◌, ◌++◌, length, drop, Some, slice_get, refl, sym, ap, ◌∙◌, subst, arith, eq-eqb, ne_eqb, length-append, append-nil}
+use Rattle.std.proofs.Common.{◌≡◌, ◌≢◌, ℕ, zero, suc, ◌+◌, ◌<◌, ◌≤◌, List, [], ◌∷◌, ◌++◌, length, drop, Some, slice_get, refl, sym, ap, ◌∙◌, subst, arith, eq-eqb, ne_eqb, length-append, append-nil}
+use Rattle.std.proofs.Math.Numerals.{add-one}
 use mathlib.Core.Logic.{dite}
 use native.Mathlib.Decide.{ℕ_discrete}
 use Rattle.std.proofs.lemmas.List.Elements.{filter-append}
@@ -50,10 +51,12 @@ module _ (core cores n : ℕ) where
   own_next : own_conns core cores (n + 1) ≡ own_conns core cores n ++ cond (home_of cores n == core) (n ∷ []) []
   own_next = ap (filter (λ conn. home_of cores conn == core)) (range_next n) ∙ filter-append (λ conn. home_of cores conn == core) (range_with_len 0 n) (n ∷ [])
 
-  own_here : home_of cores n ≡ core → own_conns core cores (n + 1) ≡ own_conns core cores n ++ n ∷ []
+  -- a connection is the last one of its home up to it
+  pub own_here : home_of cores n ≡ core → own_conns core cores (n + 1) ≡ own_conns core cores n ++ n ∷ []
   own_here is = own_next ∙ ap (λ b. own_conns core cores n ++ cond b (n ∷ []) []) (eq-eqb (home_of cores n) core is)
 
-  own_other : home_of cores n ≢ core → own_conns core cores (n + 1) ≡ own_conns core cores n
+  -- and none of another home
+  pub own_other : home_of cores n ≢ core → own_conns core cores (n + 1) ≡ own_conns core cores n
   own_other other = own_next ∙ ap (λ b. own_conns core cores n ++ cond b (n ∷ []) []) (ne_eqb (home_of cores n) core other) ∙ append-nil (own_conns core cores n)
 
   -- one connection more is one place more at its home
@@ -79,3 +82,10 @@ own_at cores (suc n) conn within =
     (dite (ℕ_discrete conn n)
     (λ same. subst (λ (k : ℕ). slice_get (own_conns (home_of cores k) cores (n + 1)) (place_of cores k) ≡ Some k) (sym same) (own_last cores n))
     (λ other. own_stays (home_of cores conn) cores n (place_of cores conn) conn (own_at cores n conn (omega arith))))
+
+-- a core has no more connections than there are
+pub own_few : (core cores n : ℕ) → length (own_conns core cores n) ≤ n
+own_few core cores zero = omega arith
+own_few core cores (suc n) = dite (ℕ_discrete (home_of cores n) core)
+    (λ is. let more = below_here core cores n is in let rest = own_few core cores n in let on = ap (count_below cores core) (add-one n) in omega arith)
+    (λ other. let same = below_other core cores n other in let rest = own_few core cores n in let on = ap (count_below cores core) (add-one n) in omega arith)
