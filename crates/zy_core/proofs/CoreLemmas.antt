@@ -16,6 +16,7 @@ use Rattle.zy_core.proofs.ListLemmas.{get_map, map_set}
 -- ---- one of the cores
 
 pub fits_there : (s : Sharing) (cs ds : List Cored) (i : ℕ) (c : Cored) → i < length ds → c ≡ get_or ds i c → identities ds ≡ identities cs → EachFits s (identities cs) → Fits s (identity_of c)
+unfolding EachFits
 fits_there s cs ds i c lt is same fits = fits i (identity_of c) (ap (λ l. slice_get l i) (sym same) ∙ get_map identity_of ds i c (get_at ds i c c lt is))
 
 pub inlet_there : (rings : List RingName) (cs ds : List Cored) (i : ℕ) (c : Cored) → i < length ds → c ≡ get_or ds i c → identities ds ≡ identities cs → AreInlets rings (identities cs) → slice_get rings c.home.core ≡ Some c.outlet.ring

@@ -3,3 +3,4 @@ pub mod ListLemmas
 pub mod DealLemmas
 pub mod CoreLemmas
 pub mod TurnLemmas
+pub mod GroupLemmas

@@ -12,6 +12,12 @@ module _ {C D : Type 0} (f : C → D) where
   get_map (x ∷ xs) zero c e = let is : x ≡ c = cc in ap (λ y. Some (f y)) is
   get_map (x ∷ xs) (suc i) c e = get_map xs i c e
 
+  -- a measure is that of a member
+  pub map_get : (cs : List C) (i : ℕ) (d : D) → slice_get (map f cs) i ≡ Some d → (c : C) × (slice_get cs i ≡ Some c) × (f c ≡ d)
+  map_get [] i d e = absurd (cc)
+  map_get (x ∷ xs) zero d e = let is : f x ≡ d = cc in (x, refl, is)
+  map_get (x ∷ xs) (suc i) d e = map_get xs i d e
+
   -- a member is changed, and its measure is not
   pub map_set : (cs : List C) (i : ℕ) (c d : C) → slice_get cs i ≡ Some c → f d ≡ f c → map f (set cs i d) ≡ map f cs
   map_set [] i c d at e = refl

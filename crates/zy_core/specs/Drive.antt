@@ -12,7 +12,7 @@ abbrev pub identities : List Cored → List Identity
 identities cores = map identity_of cores
 
 -- each is a core of what is shared
-abbrev pub EachFits : Sharing → List Identity → Type 0
+unfoldable pub EachFits : Sharing → List Identity → Type 0
 EachFits shared ids = (i : ℕ) (d : Identity) → slice_get ids i ≡ Some d → Fits shared d
 
 -- the cores of a run: at least 1 and at most 64, one for each ring, by rising number

@@ -7,3 +7,5 @@ pub mod Round
 pub mod Drive
 pub mod Step
 pub mod Deal
+pub mod Group
+pub mod Seat

@@ -30,7 +30,8 @@ pub fn drive_ordered<R: Wait, F: Feeder, G: Gate>(
     requires cores { AreCores shared.now (identities cores) }
     requires inlets { AreInlets (rings_of (F.inlets feeder.old)) (identities cores) }
     requires fresh { ¬ F.ended feeder.old × ¬ F.broken feeder.old }
-    ensures settled { IsSettled result → F.ended feeder.new × EachSettled (cores_of result) }
+    ensures ended { IsSettled result → F.ended feeder.new }
+    ensures settled { IsSettled result → EachSettled (cores_of result) }
     ensures broken { IsBroken result → F.broken feeder.new }
     ensures same { identities (cores_of result) ≡ identities cores }
     ensures leads { F.leads feeder.old feeder.new }

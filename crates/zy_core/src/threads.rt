@@ -1,0 +1,97 @@
+//! Cores on threads, fed by the caller.
+ghost use Rattle.std.specs.Prelude.{◌≡◌, ◌≤◌, true, vec_len, vec_capacity};
+ghost use Rattle.zy_core.specs.Deal.{gathered, lists_of};
+ghost use Rattle.zy_core.specs.Drive.{identities, AreCores, EachSettled, cores_of, IsSettled, IsBroken};
+ghost use Rattle.zy_core.specs.Feed.{rings_of};
+
+use crate::cores::Cores;
+use crate::dealing::{collect, deal};
+use crate::driven::Driven;
+use crate::feeder::Feeder;
+use crate::lent::{Lent, take_back};
+use crate::logical::Core;
+use crate::room::Room;
+use crate::scoped::{Ran, in_scope};
+use crate::shared::Shared;
+use crate::tending::How;
+use std::alloc::Global;
+use std::sync::Wait;
+use std::sync::atomic::AtomicU64;
+use std::thread::Threads;
+use zy_base::Gate;
+
+/// Drives the cores on threads while the caller feeds them: thread `t` of so many has the cores `i`
+/// with `i` modulo that number `t`. The cores whose thread is refused are driven by the caller. The
+/// call may wait.
+pub fn drive<R: Threads + Wait + Sync, F: Feeder, G: Gate + Sync>(
+    rt: &R,
+    alloc: Global,
+    cores: Cores,
+    threads: u32,
+    shared: &Shared,
+    gate: &G,
+    feeder: &mut F,
+) -> Driven
+    requires cores { AreCores shared.now (identities cores) }
+    requires threads { (1 ≤ threads) × (threads ≤ 64) }
+    requires fresh { ¬ F.ended feeder.old × ¬ F.broken feeder.old }
+    ensures ended { IsSettled result → F.ended feeder.new }
+    ensures settled { IsSettled result → EachSettled (cores_of result) }
+    ensures broken { IsBroken result → F.broken feeder.new }
+    ensures same { identities (cores_of result) ≡ identities cores }
+    ensures leads { F.leads feeder.old feeder.new }
+    ensures rings { rings_of (F.inlets feeder.new) ≡ rings_of (F.inlets feeder.old) }
+{
+    let Cores { items } = cores;
+    let count = items.len();
+    let Ok(room) = Room::new(alloc, count, threads as usize) else {
+        return Driven::NoMemory(Cores { items });
+    };
+    let Room {
+        mut groups,
+        seats,
+        back,
+        whole,
+    } = room;
+    deal(items, &mut groups);
+    let leave = AtomicU64::new(0);
+    let lent = Lent { feeder };
+    let (lent, ran) = in_scope(rt, groups, seats, back, shared, gate, &leave, lent);
+    let Lent { feeder } = lent;
+    take_back(feeder);
+    let Ran {
+        groups,
+        is_done,
+        how,
+    } = ran;
+    answer(together(groups, count, whole), is_done, how)
+}
+
+// The cores of the groups, in the order in which they were dealt.
+fn together(groups: Vec<Vec<Core>>, count: usize, whole: Vec<Core>) -> Cores
+    requires room { (vec_len whole ≡ 0) × (count ≤ vec_capacity whole) }
+    ensures value { result ≡ gathered count (lists_of groups.items) }
+{
+    let mut items = whole;
+    collect(groups, count, &mut items);
+    Cores { items }
+}
+
+// The answer, by how the caller's own loop ended and whether all cores found that all are done.
+fn answer(cores: Cores, is_done: bool, how: How) -> Driven
+    ensures cores { cores_of result ≡ cores }
+    ensures settled { IsSettled result → (how ≡ How.Ended) × (is_done ≡ true) }
+    ensures broken { IsBroken result → how ≡ How.Broken }
+{
+    match how {
+        How::Broken => Driven::Broken(cores),
+        How::Stopped => Driven::NoMemory(cores),
+        How::Ended => {
+            if is_done {
+                Driven::Settled(cores)
+            } else {
+                Driven::NoMemory(cores)
+            }
+        }
+    }
+}
