@@ -1,4 +1,5 @@
 pub mod StepLemmas
+pub mod LawfulLemmas
 pub mod ReadLemmas
 pub mod PieceLemmas
 pub mod InletLemmas

@@ -1,9 +1,8 @@
 -- What is read of a capture, piece after piece.
-use Rattle.std.proofs.Common.{◌≡◌, inl, inr, ℕ, ◌-◌, ◌<◌, ◌≤◌, true, false, List, [], ◌∷◌, ◌++◌, length, take, drop, refl, sym, ◌∙◌, ap, subst, arith, append_assoc, length-append}
+use Rattle.std.proofs.Common.{◌≡◌, ◌⊎◌, inl, inr, ℕ, ◌-◌, ◌≤◌, true, false, List, [], ◌∷◌, ◌++◌, length, take, drop, refl, sym, ◌∙◌, ap, subst, arith, append_assoc, length-append}
 use Rattle.std.specs.Prelude.{◌==◌, Option, None, Some, IfSome, Result, Ok, Err, ⊤, option_to_list}
 use Rattle.std.specs.Io.KnownBytes.{Consumes, IsAtEnd}
 use Rattle.std.proofs.lemmas.List.{append-nil}
-use Rattle.std.proofs.lemmas.Bool.Decides.{nat_tests}
 use Rattle.zy_read.specs.declared.not_taken.NotTaken.{NotTaken}
 use Rattle.zy_read.specs.declared.not_taken.NotTaken.TheVariants.{Fault}
 use Rattle.zy_read.specs.declared.not_taken.NotTaken.TheVariants as Reads
@@ -15,7 +14,7 @@ use Rattle.zy_capture.specs.declared.capture_fault.CaptureFault.{CaptureFault}
 use Rattle.zy_capture.specs.declared.due.Due.{Due}
 use Rattle.zy_capture.specs.declared.due.Due.TheVariants.{Letters, Digit, LineFeed, Count, Nothing, Broken}
 use Rattle.zy_capture.specs.declared.capture_fault.CaptureFault.TheVariants.{BadMagic, ConnCount}
-use Rattle.zy_capture.specs.Capture.{capture_limit}
+use Rattle.zy_capture.specs.Capture.{capture_limit, IsCapture}
 use Rattle.zy_capture.specs.Steps.{Progress, start, step}
 use Rattle.zy_capture.specs.Verdict.{captures, ended, fault_in, read_from, verdict, fault_of, version_in, version_of, count_in, count_of}
 use Rattle.zy_capture.specs.Verdict.Verdict.{Good, Bad}
@@ -24,7 +23,8 @@ use Rattle.zy_capture.proofs.Feeding.{version_here, count_here}
 use Rattle.zy_feed.specs.declared.stop.Stop.{Stop}
 use Rattle.zy_feed.specs.declared.intake.Header.{Header}
 use Rattle.zy_feed.specs.Reads.{InPieces, IsFresh, HasRead, HasReadAll, StopsBy, TellsHeader, TellsNoHeader, Gives, TakesFirst, Advances, came_of, ended_by}
-use Rattle.zy_feed.proofs.StepLemmas.{IsPast, HasVersion, Stays, step_gave, text_stays, text_version, text_short}
+use Rattle.zy_feed.proofs.LawfulLemmas.{known_version, lawful_records}
+use Rattle.zy_feed.proofs.StepLemmas.{IsPast, Stays, step_gave, text_stays, text_short}
 
 -- ---- sources
 
@@ -143,16 +143,9 @@ version_is found told is = elim (found == 0) as (λ t. (found == 0) ≡ t → fo
   | false ↦ λ some_is. let some : version_in found ≡ Some found = rw some_is refl in cc
 ] refl
 
-versions : (due : Due) (version : ℕ) → fault_in due ≡ None → IsPast due → HasVersion due version → 0 < version
-versions Letters version clean past has = absurd past
-versions Digit version clean past has = absurd past
-versions (LineFeed found) version clean past has = absurd past
-versions Count version clean past has = absurd past
-versions (Broken fault) version clean past has = cc
-versions due version clean past has = has
-
-told_version : (version : ℕ) → 0 < version → version_in version ≡ Some version
-told_version version some = let other : (version == 0) ≡ false = grind (arith, nat_tests) in rw other refl
+told_version : (version : ℕ) → (version ≡ 1) ⊎ (version ≡ 2) → version_in version ≡ Some version
+told_version version (inl one) = rw one refl
+told_version version (inr two) = rw two refl
 
 -- after the count, version and count are told
 past_told : (p : Progress) (given : List Record) (b : List ℕ) → StandsFor p given b → fault_of b ≡ None → IsPast p.due → TellsHeader b (record { version = p.version; count = p.count })
@@ -160,8 +153,7 @@ unfolding fault_met reading_of StandsAs
 past_told p given b stands clean past =
     let last : (reading_of captures b).last ≡ p = ap (λ (r : Reading Progress Record). r.last) stands in
     let none : fault_in p.due ≡ None = ap (λ (q : Progress). fault_in q.due) (sym last) ∙ clean in
-    let has : HasVersion p.due p.version = subst (λ (q : Progress). HasVersion q.due q.version) last (text_version b start tt) in
-    (version_here p given b stands ∙ told_version p.version (versions p.due p.version none past has), count_here p given b stands ∙ past_counts p.due p.count past)
+    (version_here p given b stands ∙ told_version p.version (known_version p given b stands none past), count_here p given b stands ∙ past_counts p.due p.count past)
 
 not_early : (p : Progress) (given : List Record) (b : List ℕ) → StandsFor p given b → fault_of b ≡ None → IsPast p.due → TellsNoHeader b → ⊥
 not_early p given b stands clean past (inl none) = let told = past_told p given b stands clean past in let some : version_of b ≡ Some p.version = told.0 in cc
@@ -210,13 +202,24 @@ told_stays text more header told =
     (version, count)
 
 -- a capture has the version and the count that it told
+header_is : (p : Progress) (given : List Record) (b : List ℕ) (header : Header) → StandsFor p given b → p.due ≡ Nothing → TellsHeader b header → (p.version ≡ header.version) × (p.count ≡ header.count)
+header_is p given b header stands due told =
+    let version : p.version ≡ header.version = version_is p.version header.version (sym (version_here p given b stands) ∙ told.0) in
+    let counts : count_in p.due p.count ≡ Some header.count = sym (count_here p given b stands) ∙ told.1 in
+    (version, (counts_past p.due p.count header.count counts).1)
+
 pub good_as_told : (p : Progress) (given : List Record) (b : List ℕ) (header : Header) → StandsFor p given b → EndsAs given (Ok tt) (verdict b) → TellsHeader b header → verdict b ≡ Good header.version header.count given
 good_as_told p given b header stands good told =
     let due : p.due ≡ Nothing = whole_due p given b stands good in
-    let version : p.version ≡ header.version = version_is p.version header.version (sym (version_here p given b stands) ∙ told.0) in
-    let counts : count_in p.due p.count ≡ Some header.count = sym (count_here p given b stands) ∙ told.1 in
-    let count : p.count ≡ header.count = (counts_past p.due p.count header.count counts).1 in
-    verdict_here captures p given b stands ∙ ap (λ (d : Due). ended d p given) due ∙ ap (λ (v : ℕ). Good v p.count given) version ∙ ap (λ (n : ℕ). Good header.version n given) count
+    let is = header_is p given b header stands due told in
+    verdict_here captures p given b stands ∙ ap (λ (d : Due). ended d p given) due ∙ ap (λ (v : ℕ). Good v p.count given) is.0 ∙ ap (λ (n : ℕ). Good header.version n given) is.1
+
+-- and its records are lawful
+pub lawful_as_told : (p : Progress) (given : List Record) (b : List ℕ) (header : Header) → StandsFor p given b → EndsAs given (Ok tt) (verdict b) → TellsHeader b header → IsCapture header.version header.count given
+lawful_as_told p given b header stands good told =
+    let due : p.due ≡ Nothing = whole_due p given b stands good in
+    let is = header_is p given b header stands due told in
+    rw (← is.0, ← is.1) (lawful_records p given b stands due)
 
 -- ---- before the first byte
 

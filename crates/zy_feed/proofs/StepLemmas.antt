@@ -27,14 +27,6 @@ IsPast (Broken (BadMagic at)) = ⊥
 IsPast (Broken (ConnCount number)) = ⊥
 IsPast due = ⊤
 
--- a version that was read is not 0
-abbrev pub HasVersion : Due → ℕ → Type 0
-HasVersion Letters version = ⊤
-HasVersion Digit version = ⊤
-HasVersion (LineFeed found) version = 0 < found
-HasVersion (Broken fault) version = ⊤
-HasVersion due version = 0 < version
-
 -- the version and the count stay
 abbrev pub Stays : Progress → Progress → Type 0
 Stays p q = (q.version ≡ p.version) × ((q.count ≡ p.count) × IsPast q.due)
@@ -44,73 +36,71 @@ record Keeps (due : Due) (p : Progress) (s : Step) : Type 0 where
   goes : fault_in s.next.due ≡ None → (s.next.at ≡ p.at + 1) × (is_open due ≡ true)
   stays : IsPast due → Stays p s.next
   gave : (r : Record) → s.gave ≡ Some r → IsPast due
-  version : HasVersion due p.version → HasVersion s.next.due s.next.version
 
 kept : (due : Due) (p : Progress) (byte : ℕ) → p.due ≡ due → Keeps due p (taken due p byte)
 kept Letters p byte is =
     chosen (Keeps Letters p) (byte == slice_index letters p.at) _ _
     (λ one. chosen (Keeps Letters p) (p.at == 5) _ _
-    (λ last. record { goes = λ none. (refl, refl); stays = λ past. absurd past; gave = λ r e. cc; version = λ has. tt })
-    (λ more. record { goes = λ none. (refl, refl); stays = λ past. absurd past; gave = λ r e. cc; version = λ has. tt }))
-    (λ other. record { goes = λ none. cc; stays = λ past. absurd past; gave = λ r e. cc; version = λ has. tt })
+    (λ last. record { goes = λ none. (refl, refl); stays = λ past. absurd past; gave = λ r e. cc })
+    (λ more. record { goes = λ none. (refl, refl); stays = λ past. absurd past; gave = λ r e. cc }))
+    (λ other. record { goes = λ none. cc; stays = λ past. absurd past; gave = λ r e. cc })
 kept Digit p byte is =
     chosen (Keeps Digit p) (byte == 49) _ _
-    (λ one. record { goes = λ none. (refl, refl); stays = λ past. absurd past; gave = λ r e. cc; version = λ has. omega arith })
+    (λ one. record { goes = λ none. (refl, refl); stays = λ past. absurd past; gave = λ r e. cc })
     (λ other. chosen (Keeps Digit p) (byte == 50) _ _
-    (λ two. record { goes = λ none. (refl, refl); stays = λ past. absurd past; gave = λ r e. cc; version = λ has. omega arith })
-    (λ neither. record { goes = λ none. cc; stays = λ past. absurd past; gave = λ r e. cc; version = λ has. tt }))
+    (λ two. record { goes = λ none. (refl, refl); stays = λ past. absurd past; gave = λ r e. cc })
+    (λ neither. record { goes = λ none. cc; stays = λ past. absurd past; gave = λ r e. cc }))
 kept (LineFeed found) p byte is =
     chosen (Keeps (LineFeed found) p) (byte == 10) _ _
-    (λ one. record { goes = λ none. (refl, refl); stays = λ past. absurd past; gave = λ r e. cc; version = λ has. has })
-    (λ other. record { goes = λ none. cc; stays = λ past. absurd past; gave = λ r e. cc; version = λ has. tt })
+    (λ one. record { goes = λ none. (refl, refl); stays = λ past. absurd past; gave = λ r e. cc })
+    (λ other. record { goes = λ none. cc; stays = λ past. absurd past; gave = λ r e. cc })
 kept Count p byte is =
     let n : ℕ = from_be_bytes w32 (p.field ++ byte ∷ []) in
     chosen (Keeps Count p) (nat_lt (length p.field) 3) _ _
-    (λ short. record { goes = λ none. (refl, refl); stays = λ past. absurd past; gave = λ r e. cc; version = λ has. has })
+    (λ short. record { goes = λ none. (refl, refl); stays = λ past. absurd past; gave = λ r e. cc })
     (λ long. chosen (Keeps Count p) (nat_lt connection_limit n) _ _
-    (λ over. record { goes = λ none. cc; stays = λ past. absurd past; gave = λ r e. cc; version = λ has. tt })
-    (λ few. record { goes = λ none. (refl, refl); stays = λ past. absurd past; gave = λ r e. cc; version = λ has. has }))
+    (λ over. record { goes = λ none. cc; stays = λ past. absurd past; gave = λ r e. cc })
+    (λ few. record { goes = λ none. (refl, refl); stays = λ past. absurd past; gave = λ r e. cc }))
 kept Tag p byte is =
     chosen (Keeps Tag p) (byte == 83) _ _
-    (λ one. record { goes = λ none. (refl, refl); stays = λ past. (refl, (refl, tt)); gave = λ r e. tt; version = λ has. has })
+    (λ one. record { goes = λ none. (refl, refl); stays = λ past. (refl, (refl, tt)); gave = λ r e. tt })
     (λ not_one. chosen (Keeps Tag p) (byte == 69) _ _
-    (λ two. record { goes = λ none. (refl, refl); stays = λ past. (refl, (refl, tt)); gave = λ r e. tt; version = λ has. has })
+    (λ two. record { goes = λ none. (refl, refl); stays = λ past. (refl, (refl, tt)); gave = λ r e. tt })
     (λ not_two. chosen (Keeps Tag p) (byte == 67 && p.version == 2) _ _
-    (λ three. record { goes = λ none. (refl, refl); stays = λ past. (refl, (refl, tt)); gave = λ r e. tt; version = λ has. has })
-    (λ none. record { goes = λ none. cc; stays = λ past. (refl, (refl, tt)); gave = λ r e. tt; version = λ has. tt })))
+    (λ three. record { goes = λ none. (refl, refl); stays = λ past. (refl, (refl, tt)); gave = λ r e. tt })
+    (λ none. record { goes = λ none. cc; stays = λ past. (refl, (refl, tt)); gave = λ r e. tt })))
 kept Connection p byte is =
     let n : ℕ = from_be_bytes w32 (p.field ++ byte ∷ []) in
     chosen (Keeps Connection p) (nat_lt (length p.field) 3) _ _
-    (λ short. record { goes = λ none. (refl, refl); stays = λ past. (refl, (refl, tt)); gave = λ r e. tt; version = λ has. has })
+    (λ short. record { goes = λ none. (refl, refl); stays = λ past. (refl, (refl, tt)); gave = λ r e. tt })
     (λ long. chosen (Keeps Connection p) (nat_lt n p.count) _ _
-    (λ below. record { goes = λ none. (refl, refl); stays = λ past. (refl, (refl, tt)); gave = λ r e. tt; version = λ has. has })
-    (λ over. record { goes = λ none. cc; stays = λ past. (refl, (refl, tt)); gave = λ r e. tt; version = λ has. tt }))
+    (λ below. record { goes = λ none. (refl, refl); stays = λ past. (refl, (refl, tt)); gave = λ r e. tt })
+    (λ over. record { goes = λ none. cc; stays = λ past. (refl, (refl, tt)); gave = λ r e. tt }))
 kept (Length conn) p byte is =
     let n : ℕ = from_be_bytes w32 (p.field ++ byte ∷ []) in
     chosen (Keeps (Length conn) p) (nat_lt (length p.field) 3) _ _
-    (λ short. record { goes = λ none. (refl, refl); stays = λ past. (refl, (refl, tt)); gave = λ r e. tt; version = λ has. has })
+    (λ short. record { goes = λ none. (refl, refl); stays = λ past. (refl, (refl, tt)); gave = λ r e. tt })
     (λ long. chosen (Keeps (Length conn) p) (nat_lt segment_limit n) _ _
-    (λ over. record { goes = λ none. cc; stays = λ past. (refl, (refl, tt)); gave = λ r e. tt; version = λ has. tt })
+    (λ over. record { goes = λ none. cc; stays = λ past. (refl, (refl, tt)); gave = λ r e. tt })
     (λ few. chosen (Keeps (Length conn) p) (n == 0) _ _
-    (λ empty. record { goes = λ none. (refl, refl); stays = λ past. (refl, (refl, tt)); gave = λ r e. tt; version = λ has. has })
-    (λ some. record { goes = λ none. (refl, refl); stays = λ past. (refl, (refl, tt)); gave = λ r e. tt; version = λ has. has })))
+    (λ empty. record { goes = λ none. (refl, refl); stays = λ past. (refl, (refl, tt)); gave = λ r e. tt })
+    (λ some. record { goes = λ none. (refl, refl); stays = λ past. (refl, (refl, tt)); gave = λ r e. tt })))
 kept (Payload conn size) p byte is =
     chosen (Keeps (Payload conn size) p) (nat_lt (length p.payload + 1) size) _ _
-    (λ short. record { goes = λ none. (refl, refl); stays = λ past. (refl, (refl, tt)); gave = λ r e. tt; version = λ has. has })
-    (λ long. record { goes = λ none. (refl, refl); stays = λ past. (refl, (refl, tt)); gave = λ r e. tt; version = λ has. has })
+    (λ short. record { goes = λ none. (refl, refl); stays = λ past. (refl, (refl, tt)); gave = λ r e. tt })
+    (λ long. record { goes = λ none. (refl, refl); stays = λ past. (refl, (refl, tt)); gave = λ r e. tt })
 kept Closed p byte is =
     let n : ℕ = from_be_bytes w32 (p.field ++ byte ∷ []) in
     chosen (Keeps Closed p) (nat_lt (length p.field) 3) _ _
-    (λ short. record { goes = λ none. (refl, refl); stays = λ past. (refl, (refl, tt)); gave = λ r e. tt; version = λ has. has })
+    (λ short. record { goes = λ none. (refl, refl); stays = λ past. (refl, (refl, tt)); gave = λ r e. tt })
     (λ long. chosen (Keeps Closed p) (nat_lt n p.count) _ _
-    (λ below. record { goes = λ none. (refl, refl); stays = λ past. (refl, (refl, tt)); gave = λ r e. tt; version = λ has. has })
-    (λ over. record { goes = λ none. cc; stays = λ past. (refl, (refl, tt)); gave = λ r e. tt; version = λ has. tt }))
-kept Nothing p byte is = record { goes = λ none. cc; stays = λ past. (refl, (refl, tt)); gave = λ r e. tt; version = λ has. tt }
+    (λ below. record { goes = λ none. (refl, refl); stays = λ past. (refl, (refl, tt)); gave = λ r e. tt })
+    (λ over. record { goes = λ none. cc; stays = λ past. (refl, (refl, tt)); gave = λ r e. tt }))
+kept Nothing p byte is = record { goes = λ none. cc; stays = λ past. (refl, (refl, tt)); gave = λ r e. tt }
 kept (Broken fault) p byte is = record {
   goes = λ none. let met : fault_in p.due ≡ Some fault = ap (λ (d : Due). fault_in d) is in cc;
   stays = λ past. (refl, (refl, subst IsPast (sym is) past));
   gave = λ r e. cc;
-  version = λ has. subst (λ (d : Due). HasVersion d p.version) (sym is) tt;
 }
 
 -- a step
@@ -119,9 +109,6 @@ stepped p byte = (step p byte).next
 
 step_stays : (p : Progress) (byte : ℕ) → IsPast p.due → Stays p (stepped p byte)
 step_stays p byte past = chosen (λ (s : Step). Stays p s.next) (is_full p) _ _ (λ full. (refl, (refl, tt))) (λ room. (kept p.due p byte refl).stays past)
-
-step_version : (p : Progress) (byte : ℕ) → HasVersion p.due p.version → HasVersion (stepped p byte).due (stepped p byte).version
-step_version p byte has = chosen (λ (s : Step). HasVersion s.next.due s.next.version) (is_full p) _ _ (λ full. tt) (λ room. (kept p.due p byte refl).version has)
 
 pub step_gave : (p : Progress) (byte : ℕ) (r : Record) → (step p byte).gave ≡ Some r → IsPast p.due
 step_gave p byte r gave = chosen (λ (s : Step). s.gave ≡ Some r → IsPast p.due) (is_full p) _ _ (λ full e. cc) (λ room e. (kept p.due p byte refl).gave r e) gave
@@ -143,11 +130,6 @@ text_stays (byte ∷ text) p past =
     let one : Stays p (stepped p byte) = step_stays p byte past in
     let on : Stays (stepped p byte) (read_from (stepped p byte) text).last = text_stays text (stepped p byte) one.1.1 in
     (on.0 ∙ one.0, (on.1.0 ∙ one.1.0, on.1.1))
-
-pub text_version : (text : List ℕ) (p : Progress) → HasVersion p.due p.version → HasVersion (read_from p text).last.due (read_from p text).last.version
-unfolding read_on
-text_version [] p has = has
-text_version (byte ∷ text) p has = text_version text (stepped p byte) (step_version p byte has)
 
 -- what has no fault at the end had none before
 clean_before : (text : List ℕ) (p : Progress) → fault_in (read_from p text).last.due ≡ None → fault_in p.due ≡ None

@@ -9,7 +9,8 @@ use Rattle.zy_feed.specs.declared.stage.Stage.TheVariants.{Cutting, Ended, Broke
 use Rattle.zy_feed.specs.declared.intake.Header.{Header}
 use Rattle.zy_feed.specs.Reads.{HasReadAll, HasBegun}
 use Rattle.zy_feed.specs.Feeding.{Feeding, stop_in, IsReadTo, AreSent, Stands, Leads, HasStopped, AreUnsent, HasFedAll}
-use Rattle.zy_feed.proofs.ReadLemmas.{told_stays, good_as_told}
+use Rattle.zy_feed.proofs.ReadLemmas.{has_few, told_stays, good_as_told, lawful_as_told}
+use Rattle.zy_feed.proofs.LawfulLemmas.{few_closes}
 
 -- at the start
 begun : {S : Type 0} (rest : S → Option (List ℕ)) (faults : S → ℕ) (first : S) (header : Header) (f : Feeding S) (begun : HasBegun rest faults first f.source f.intake header) → AreUnsent f.sents → f.stage ≡ Cutting
@@ -29,6 +30,8 @@ fed_all rest faults first header f g begins unsent start ended leads =
       records = end.0;
       bytes = bytes;
       good = good_as_told g.intake.reader end.0 bytes header all.reads.reader all.good (told_stays begins.bytes end.1.0 header begins.told);
+      lawful = lawful_as_told g.intake.reader end.0 bytes header all.reads.reader all.good (told_stays begins.bytes end.1.0 header begins.told);
+      few = λ conn. few_closes g.intake.reader end.0 bytes conn all.reads.reader (has_few rest faults first g.source g.intake end.0 bytes all.reads);
       source = subst (λ (l : List ℕ). Consumes (rest first) (rest g.source) l) (ap (λ (l : List ℕ). bytes ++ l) all.none ∙ append-nil bytes) all.reads.source;
       end = all.end;
       count = all.reads.count;

@@ -1,7 +1,9 @@
 -- What a feeder has read of a capture, and what each core was sent.
-use Rattle.std.specs.Prelude.{◌≡◌, ◌≢◌, ◌↔◌, ℕ, ◌≤◌, ◌==◌, nat_lt, if◌then◌else◌, List, [], ◌∷◌, ◌++◌, length, Option, None, Some, slice_get, slice_set, ⊤}
+use Rattle.std.specs.Prelude.{◌≡◌, ◌≢◌, ◌↔◌, ℕ, ◌<◌, ◌^◌, ◌≤◌, ◌==◌, nat_lt, if◌then◌else◌, List, [], ◌∷◌, ◌++◌, length, Option, None, Some, slice_get, slice_set, ⊤}
 use Rattle.std.specs.Io.KnownBytes.{Consumes, IsAtEnd}
 use Rattle.zy_capture.specs.declared.record.Record.{Record}
+use Rattle.zy_capture.specs.Capture.{IsCapture}
+use Rattle.zy_capture.specs.Streams.{closes}
 use Rattle.zy_capture.specs.Verdict.{verdict}
 use Rattle.zy_capture.specs.Verdict.Verdict.{Good}
 use Rattle.zy_rx.specs.declared.rx.Rx.{Rx}
@@ -124,6 +126,9 @@ pub record HasFedAll {S : Type 0} (rest : S → Option (List ℕ)) (faults : S �
   pub records : List Record
   pub bytes : List ℕ
   pub good : verdict bytes ≡ Good header.version header.count records
+  -- the records are those of a capture of this version and count, and few of them are closes
+  pub lawful : IsCapture header.version header.count records
+  pub few : (conn : ℕ) → closes conn records < 2 ^ 31
   pub source : Consumes (rest first) (rest now) bytes
   pub end : IsAtEnd (rest now)
   pub count : faults first ≤ faults now
