@@ -1,13 +1,14 @@
 -- What a feeder has done where it ended or broke.
 use Rattle.std.proofs.Common.{◌≡◌, ℕ, List, [], ◌++◌, sym, ◌∙◌, ap, subst}
-use Rattle.std.specs.Prelude.{Option, Some}
+use Rattle.std.specs.Prelude.{Option, Some, ◌≤◌}
 use Rattle.std.specs.Io.KnownBytes.{Consumes}
 use Rattle.std.proofs.lemmas.List.{append-nil}
 use Rattle.zy_feed.specs.declared.stop.Stop.{Stop}
 use Rattle.zy_feed.specs.declared.stage.Stage.{Stage}
-use Rattle.zy_feed.specs.declared.stage.Stage.TheVariants.{Cutting, Ended, Broken}
+use Rattle.zy_capture.specs.declared.record.Record.{Record}
+use Rattle.zy_feed.specs.declared.stage.Stage.TheVariants.{Cutting, Waiting, Ending, Ended, Broken}
 use Rattle.zy_feed.specs.declared.intake.Header.{Header}
-use Rattle.zy_feed.specs.Reads.{HasReadAll, HasBegun}
+use Rattle.zy_feed.specs.Reads.{InPieces, HasReadAll, HasBegun}
 use Rattle.zy_feed.specs.Feeding.{Feeding, stop_in, IsReadTo, AreSent, Stands, Leads, HasStopped, AreUnsent, HasFedAll}
 use Rattle.zy_feed.proofs.ReadLemmas.{has_few, told_stays, good_as_told, lawful_as_told}
 use Rattle.zy_feed.proofs.LawfulLemmas.{few_closes}
@@ -48,3 +49,18 @@ pub has_cause : {S : Type 0} (rest : S → Option (List ℕ)) (faults : S → �
 has_cause rest faults first header f g stop begins unsent start broken leads =
     let end = leads first [] begins.bytes (begun rest faults first header f begins unsent start) in
     subst (λ (s : Stage). IsReadTo rest faults first g.source g.intake s end.0 (begins.bytes ++ end.1.0)) (stop_is g.stage stop broken) end.1.1.read
+
+-- wherever it is
+counts_to : {S : Type 0} (rest : S → Option (List ℕ)) (faults : S → ℕ) (first now : S) (intake : InPieces) (stage : Stage) (records : List Record) (bytes : List ℕ) → IsReadTo rest faults first now intake stage records bytes
+    → faults first ≤ faults now
+counts_to rest faults first now intake Cutting records bytes read = read.count
+counts_to rest faults first now intake (Waiting item) records bytes read = read.count
+counts_to rest faults first now intake (Ending core) records bytes read = read.reads.count
+counts_to rest faults first now intake Ended records bytes read = read.reads.count
+counts_to rest faults first now intake (Broken stop) records bytes read = read.count
+
+pub counts_on : {S : Type 0} (rest : S → Option (List ℕ)) (faults : S → ℕ) (first : S) (header : Header) (f g : Feeding S) → HasBegun rest faults first f.source f.intake header → AreUnsent f.sents → f.stage ≡ Cutting → Leads rest faults f g
+    → faults first ≤ faults g.source
+counts_on rest faults first header f g begins unsent start leads =
+    let end = leads first [] begins.bytes (begun rest faults first header f begins unsent start) in
+    counts_to rest faults first g.source g.intake g.stage end.0 (begins.bytes ++ end.1.0) end.1.1.read

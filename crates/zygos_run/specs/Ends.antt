@@ -15,7 +15,7 @@ use Rattle.zy_words.specs.declared.request.Out.{Out}
 use Rattle.zy_words.specs.Request.{request_of}
 use Rattle.zy_feed.specs.declared.stop.Stop.{Stop}
 use Rattle.zy_feed.specs.declared.stop.Stop.TheVariants as Stops
-use Rattle.zygos_run.specs.declared.finished.Finished.{Finished}
+use Rattle.zy_finish.specs.declared.finishing.Finished.{Finished}
 use Rattle.zygos_run.specs.declared.answer.Answer.{Answer}
 use Rattle.zygos_run.specs.declared.answer.Answer.TheVariants.{Served, Usage, Refused, ReadFault, WriteFault, OutOfMemory}
 use Rattle.zygos_run.specs.declared.answer.Refusal.{Refusal}

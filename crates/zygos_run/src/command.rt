@@ -1,14 +1,14 @@
 //! The command that the words ask for.
-ghost use Rattle.std.specs.Prelude.{◌≡◌, ◌≤◌, option_map, IfOk};
+ghost use Rattle.std.specs.Prelude.{◌≡◌, ◌≤◌, option_map, IfOk, IfSome};
 ghost use Rattle.zy_base.specs.Outside.{Writes};
 ghost use Rattle.zy_capture.specs.Outputs.{AreOutputs};
 ghost use Rattle.zy_capture.specs.Replies.{replies_bytes};
 ghost use Rattle.zy_journal.specs.Journal.{IsJournal};
+ghost use Rattle.zy_words.specs.Range.{IsRunnable};
 ghost use Rattle.zygos_run.specs.Ends.{HasCause, RunsTo, asked_of, asked};
 ghost use Rattle.zygos_run.specs.Headline.{front, written};
 
 use crate::answer::{Answer, Refusal};
-use crate::finished::Finished;
 use crate::running::run_capture;
 use std::alloc::Global;
 use std::sync::Wait;
@@ -16,7 +16,9 @@ use std::thread::Threads;
 use zy_base::{Blob, Failed, Gate, NoMemory, Sink, Source};
 use zy_capture::{Outputs, write_replies};
 use zy_feed::Stop;
+use zy_finish::Finished;
 use zy_journal::{Journal, write_journal};
+use zy_words::laws::runs_are_in_their_ranges;
 use zy_words::{Out, Request, Run, request_of};
 
 /// Carries out the command that the words ask for.
@@ -51,7 +53,9 @@ pub(crate) fn carry_out<R: Threads + Wait + Sync, S: Source, K: Sink, G: Gate + 
 // The run that the words ask for, and what is written of it; `None` where they ask for none.
 fn asked_of(alloc: Global, words: &[Blob]) -> Result<Option<(Run, Out)>, NoMemory>
     ensures value { IfOk result (λ found. option_map asked found ≡ asked_of words.now) }
+    ensures runnable { IfOk result (λ found. IfSome found (λ pair. IsRunnable pair.0)) }
 {
+    runs_are_in_their_ranges();
     match request_of(alloc, words) {
         Ok(Some(Request::Run { run, out })) => Ok(Some((run, out))),
         Ok(_) => Ok(None),

@@ -5,13 +5,16 @@ ghost use Rattle.zy_feed.specs.declared.intake.Header.{Header};
 ghost use Rattle.zy_feed.specs.Reads.{HasBegun, StopsBy};
 ghost use Rattle.zy_feed.specs.Feeding.{AreUnsent, HasFedAll};
 ghost use Rattle.zy_feeder.specs.Feed.{rings_of, sent_by};
+ghost use Rattle.zy_words.specs.Range.{IsRunnable};
 ghost use Rattle.zy_core.specs.Drive.{AreCores, AreInlets, EachSettled, IsSettled, IsBroken, identities, cores_of};
 
+use std::alloc::Global;
 use std::sync::Wait;
 use std::thread::Threads;
 use zy_base::{Gate, Source};
-use zy_core::{Cores, Driven, Shared, drive_ordered};
-use zy_feed::{CaptureFeeder, Inlets, Intake, Stop};
+use zy_core::{Cores, Driven, Shared, drive, drive_ordered};
+
+use zy_feed::{CaptureFeeder, Inlets, Intake, Stop, a_broken_feeder_has_its_cause, a_feeder_that_ended_has_offered_the_capture};
 use zy_feeder::Feeder;
 use zy_words::Run;
 
@@ -25,6 +28,7 @@ pub(crate) struct Ran {
 /// Feeds the capture to the cores, and drives them until all are settled.
 pub(crate) fn drive_capture<R: Threads + Wait + Sync, S: Source, G: Gate + Sync>(
     rt: &R,
+    alloc: Global,
     run: Run,
     source: &mut S,
     intake: Intake,
@@ -33,6 +37,7 @@ pub(crate) fn drive_capture<R: Threads + Wait + Sync, S: Source, G: Gate + Sync>
     shared: &Shared,
     gate: &G,
 ) -> Result<Ran, Stop>
+    requires runnable { IsRunnable run }
     requires cores { AreCores shared.now (identities cores) }
     requires inlets { AreInlets (rings_of inlets) (identities cores) }
     requires unsent { AreUnsent (sent_by inlets) }
@@ -50,8 +55,10 @@ pub(crate) fn drive_capture<R: Threads + Wait + Sync, S: Source, G: Gate + Sync>
     ensures same { IfOk result (λ ran. identities ran.cores ≡ identities cores) }
     ensures rings { IfOk result (λ ran. rings_of ran.inlets ≡ rings_of inlets) }
 {
+    a_feeder_that_ended_has_offered_the_capture::<S>();
+    a_broken_feeder_has_its_cause::<S>();
     let mut feeder = CaptureFeeder::new(source, intake, inlets);
-    let driven = drive_cores(rt, run, cores, shared, gate, &mut feeder);
+    let driven = drive_cores(rt, alloc, run, cores, shared, gate, &mut feeder);
     let (source, inlets, stop) = feeder.into_parts();
     take_back(source);
     match driven {
@@ -64,15 +71,17 @@ pub(crate) fn drive_capture<R: Threads + Wait + Sync, S: Source, G: Gate + Sync>
     }
 }
 
-// Drives the cores as the words ask for.
+// Drives the cores on one thread, by the order that the words ask for, or on several.
 fn drive_cores<R: Threads + Wait + Sync, F: Feeder, G: Gate + Sync>(
     rt: &R,
+    alloc: Global,
     run: Run,
     cores: Cores,
     shared: &Shared,
     gate: &G,
     feeder: &mut F,
 ) -> Driven
+    requires runnable { IsRunnable run }
     requires cores { AreCores shared.now (identities cores) }
     requires inlets { AreInlets (rings_of (F.inlets feeder.old)) (identities cores) }
     requires fresh { ¬ F.ended feeder.old × ¬ F.broken feeder.old }
@@ -82,7 +91,11 @@ fn drive_cores<R: Threads + Wait + Sync, F: Feeder, G: Gate + Sync>(
     ensures leads { F.leads feeder.old feeder.new }
     ensures rings { rings_of (F.inlets feeder.new) ≡ rings_of (F.inlets feeder.old) }
 {
-    drive_ordered(rt, cores, run.order, shared, gate, feeder)
+    if run.threads == 1 {
+        drive_ordered(rt, cores, run.order, shared, gate, feeder)
+    } else {
+        drive(rt, alloc, cores, run.threads, shared, gate, feeder)
+    }
 }
 
 // This use of a returned reference ties it to what was lent.

@@ -3,13 +3,12 @@
 
 mod answer;
 mod command;
-mod finished;
+mod driving;
 mod running;
 mod saying;
 mod serving;
 mod standard;
 
 pub use answer::{Answer, Refusal, status};
-pub use finished::Finished;
 pub use serving::serve;
 pub use standard::{StdSink, StdSource};
