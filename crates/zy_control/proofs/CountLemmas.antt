@@ -1,53 +1,56 @@
--- How many views are those of cores, and of cores that have counted themselves.
-use Rattle.std.proofs.Common.{◌≡◌, ℕ, zero, suc, ◌+◌, ◌<◌, ◌≤◌, List, [], ◌∷◌, ◌++◌, set, sym, ap, arith}
+-- How many seats there are of each kind, after one was changed or one came.
+use Rattle.std.proofs.Common.{◌≡◌, ℕ, zero, suc, ◌+◌, ◌<◌, ◌≤◌, List, [], ◌∷◌, ◌++◌, set, true, false, sym, ap, arith}
 use mathlib.Core.Option.{some, some-injective, some-ne-none}
 use lib.ListN.{get_elem?}
+use Rattle.zy_control.specs.declared.view.Role.{Role}
+use Rattle.zy_control.specs.declared.view.Role.TheVariants.{Root, Core, Watcher}
 use Rattle.zy_control.specs.declared.view.View.{View}
-use Rattle.zy_control.specs.declared.view.View.TheVariants.{Root, Core, Watch}
-use Rattle.zy_control.specs.ControlRule.{counted, core, counted_in, cores_in}
-use Rattle.zy_control.specs.Step.{IsMissing}
-use Rattle.std.specs.Prelude.{true, false}
+use Rattle.zy_control.specs.View.{IsUncounted}
+use Rattle.zy_control.specs.ControlRule.{has_one, is_one, counted_in, cores_in}
 
--- one view is changed
-pub counted_set : (views : List View) (seat : ℕ) (old new : View) → get_elem? views seat ≡ some old → counted_in (set views seat new) + counted old ≡ counted_in views + counted new
-counted_set [] seat old new is = absurd (some-ne-none old (sym is))
-counted_set (view ∷ views) zero old new is = let same = ap counted (some-injective view old is) in omega arith
-counted_set (view ∷ views) (suc seat) old new is = let rest = counted_set views seat old new is in omega arith
+-- one seat was changed
+pub counted_set : (vs : List View) (j : ℕ) (v w : View) → get_elem? vs j ≡ some v → counted_in (set vs j w) + has_one v.role ≡ counted_in vs + has_one w.role
+counted_set [] j v w e = absurd (some-ne-none v (sym e))
+counted_set (x ∷ xs) zero v w e = let is = ap (λ (y : View). has_one y.role) (some-injective x v e) in omega arith
+counted_set (x ∷ xs) (suc j) v w e = let r = counted_set xs j v w e in omega arith
 
-pub cores_set : (views : List View) (seat : ℕ) (old new : View) → get_elem? views seat ≡ some old → cores_in (set views seat new) + core old ≡ cores_in views + core new
-cores_set [] seat old new is = absurd (some-ne-none old (sym is))
-cores_set (view ∷ views) zero old new is = let same = ap core (some-injective view old is) in omega arith
-cores_set (view ∷ views) (suc seat) old new is = let rest = cores_set views seat old new is in omega arith
+pub cores_set : (vs : List View) (j : ℕ) (v w : View) → get_elem? vs j ≡ some v → cores_in (set vs j w) + is_one v.role ≡ cores_in vs + is_one w.role
+cores_set [] j v w e = absurd (some-ne-none v (sym e))
+cores_set (x ∷ xs) zero v w e = let is = ap (λ (y : View). is_one y.role) (some-injective x v e) in omega arith
+cores_set (x ∷ xs) (suc j) v w e = let r = cores_set xs j v w e in omega arith
 
--- one view more
-pub counted_end : (views : List View) (new : View) → counted_in (views ++ new ∷ []) ≡ counted_in views + counted new
-counted_end [] new = omega arith
-counted_end (view ∷ views) new = let rest = counted_end views new in omega arith
+-- one seat came
+pub counted_end : (vs : List View) (v : View) → counted_in (vs ++ v ∷ []) ≡ counted_in vs + has_one v.role
+counted_end [] v = omega arith
+counted_end (x ∷ xs) v = let r = counted_end xs v in omega arith
 
-pub cores_end : (views : List View) (new : View) → cores_in (views ++ new ∷ []) ≡ cores_in views + core new
-cores_end [] new = omega arith
-cores_end (view ∷ views) new = let rest = cores_end views new in omega arith
+pub cores_end : (vs : List View) (v : View) → cores_in (vs ++ v ∷ []) ≡ cores_in vs + is_one v.role
+cores_end [] v = omega arith
+cores_end (x ∷ xs) v = let r = cores_end xs v in omega arith
 
--- who has counted itself is a core
-counted_core : (view : View) → counted view ≤ core view
-counted_core (Root given cores) = omega arith
-counted_core (Core true cores seen) = omega arith
-counted_core (Core false cores seen) = omega arith
-counted_core (Watch cores seen) = omega arith
+-- only cores count themselves, each once
+one_le : (r : Role) → has_one r ≤ is_one r
+one_le (Root given) = omega arith
+one_le (Core number true) = omega arith
+one_le (Core number false) = omega arith
+one_le Watcher = omega arith
 
-counted_cores : (views : List View) → counted_in views ≤ cores_in views
-counted_cores [] = omega arith
-counted_cores (view ∷ views) = let first = counted_core view in let rest = counted_cores views in omega arith
+pub counted_le : (vs : List View) → counted_in vs ≤ cores_in vs
+counted_le [] = omega arith
+counted_le (v ∷ vs) = let a = one_le v.role in let b = counted_le vs in omega arith
 
-missing_core : (view : View) → IsMissing view → counted view < core view
-missing_core (Core false cores seen) is = omega arith
-missing_core (Core true cores seen) is = absurd is
-missing_core (Root given cores) is = absurd is
-missing_core (Watch cores seen) is = absurd is
+one_less : (r : Role) → IsUncounted r → has_one r < is_one r
+one_less (Root given) is = absurd is
+one_less (Core number true) is = absurd (cc)
+one_less (Core number false) is = omega arith
+one_less Watcher is = absurd is
 
--- where a core has not counted itself, not all have
-pub missing : (views : List View) (seat : ℕ) (view : View) → get_elem? views seat ≡ some view → IsMissing view → counted_in views < cores_in views
-missing [] seat view is gone = absurd (some-ne-none view (sym is))
-missing (first ∷ views) zero view is gone =
-    let a = ap counted (some-injective first view is) in let b = ap core (some-injective first view is) in let c = missing_core view gone in let rest = counted_cores views in omega arith
-missing (first ∷ views) (suc seat) view is gone = let a = counted_core first in let rest = missing views seat view is gone in omega arith
+-- a core that has not counted itself is missing
+pub missing : (vs : List View) (j : ℕ) (v : View) → get_elem? vs j ≡ some v → IsUncounted v.role → counted_in vs < cores_in vs
+missing [] j v e is = absurd (some-ne-none v (sym e))
+missing (x ∷ xs) zero v e is =
+    let same = some-injective x v e in
+    let less = one_less v.role is in
+    let a = ap (λ (y : View). has_one y.role) same in let b = ap (λ (y : View). is_one y.role) same in
+    let r = counted_le xs in omega arith
+missing (x ∷ xs) (suc j) v e is = let a = one_le x.role in let r = missing xs j v e is in omega arith

@@ -1,68 +1,62 @@
--- The rule of the control words, which holds between any two steps of any seats: the first word is the number of cores that
--- have counted themselves, and the second, once it is not 0, stays so. docs/THREADS.md, "The control words".
+-- The rule of the control words: what is so between any two steps.
 use Rattle.std.specs.Prelude.{◌≡◌, ℕ, ◌+◌, ◌^◌, ◌<◌, ◌≤◌, List, [], ◌∷◌, length, true, false, slice_index}
 use mathlib.Core.Option.{some}
 use lib.ListN.{get_elem?}
 use Rattle.atomic_table.specs.Table.{State}
-use Rattle.zy_control.specs.declared.view.Seen.{Seen}
+use Rattle.zy_control.specs.declared.view.Role.{Role}
+use Rattle.zy_control.specs.declared.view.Role.TheVariants.{Root, Core, Watcher}
 use Rattle.zy_control.specs.declared.view.View.{View}
-use Rattle.zy_control.specs.declared.view.View.TheVariants.{Root, Core, Watch}
+use Rattle.zy_control.specs.View.{Covers}
 
--- ---- views
+-- 1 for a core that has counted itself, 0 for every other seat: so only the seats of cores count themselves, and each once
+abbrev pub has_one : Role → ℕ
+has_one (Root given) = 0
+has_one (Core number true) = 1
+has_one (Core number false) = 0
+has_one Watcher = 0
 
--- nothing was seen
-abbrev pub unseen : Seen
-unseen = record { looks = 0; done = 0; stopped = false }
+-- 1 for the seat of a core, 0 for every other seat
+abbrev pub is_one : Role → ℕ
+is_one (Root given) = 0
+is_one (Core number counted) = 1
+is_one Watcher = 0
 
--- what a seat has seen
-abbrev pub seen_of : View → Seen
-seen_of (Root given cores) = unseen
-seen_of (Core has cores seen) = seen
-seen_of (Watch cores seen) = seen
-
--- how many cores a view says there are
-abbrev pub cores_of : View → ℕ
-cores_of (Root given cores) = cores
-cores_of (Core has cores seen) = cores
-cores_of (Watch cores seen) = cores
-
--- 1 where the view is that of a core that has counted itself
-abbrev pub counted : View → ℕ
-counted (Core true cores seen) = 1
-counted view = 0
-
--- 1 where the view is that of a core
-abbrev pub core : View → ℕ
-core (Core has cores seen) = 1
-core view = 0
-
--- how many cores have counted themselves
+-- how many seats have counted themselves
 abbrev pub counted_in : List View → ℕ
 counted_in [] = 0
-counted_in (view ∷ views) = counted view + counted_in views
+counted_in (v ∷ vs) = has_one v.role + counted_in vs
 
--- how many cores have a seat
+-- how many seats are of cores
 abbrev pub cores_in : List View → ℕ
 cores_in [] = 0
-cores_in (view ∷ views) = core view + cores_in views
+cores_in (v ∷ vs) = is_one v.role + cores_in vs
 
--- ---- the rule
+-- seat 0 is the root, and it knows how many seats it gave to cores
+abbrev pub IsRole : List View → ℕ → Role → Type 0
+IsRole vs j (Root given) = (j ≡ 0) × (given ≡ cores_in vs)
+IsRole vs j (Core number counted) = Unit {0}
+IsRole vs j Watcher = Unit {0}
 
--- what the view of a seat says is so: the root is the first seat and knows how many cores have one; whoever has seen the stop
--- word set finds it set
-abbrev pub Knows : ℕ → ℕ → ℕ → ℕ → View → Type 0
-Knows cores given stop seat (Root gave limit) = (seat ≡ 0) × (gave ≡ given) × (limit ≡ cores)
-Knows cores given stop seat (Core has limit seen) = (limit ≡ cores) × (seen.stopped ≡ true → 0 < stop)
-Knows cores given stop seat (Watch limit seen) = (limit ≡ cores) × (seen.stopped ≡ true → 0 < stop)
+-- what is so of the view of seat j
+pub record Knows (words : List ℕ) (vs : List View) (cores j : ℕ) (v : View) : Type 0 where
+  -- it knows how many cores there are
+  pub cores_are : v.cores ≡ cores
+  -- done is at least what it saw: done never falls
+  pub done_seen : v.trace.done.value ≤ slice_index words 0
+  -- a bit of stop that it saw set is set: none is ever cleared
+  pub stop_seen : Covers v.trace.stop.value (slice_index words 1)
+  -- and what it knows by its role
+  pub role : IsRole vs j v.role
 
 -- the rule, where there are so many cores
-pub record Counts (cores : ℕ) (s : State ℕ View) : Type 0 where
-  -- there are two words
+pub record ControlRule (cores : ℕ) (s : State ℕ View) : Type 0 where
+  -- the words are done and stop
   pub wide : length s.words ≡ 2
-  -- the first is how many cores have counted themselves
+  -- done is the number of the seats that have counted themselves
   pub done : slice_index s.words 0 ≡ counted_in s.views
-  -- no more cores have a seat than there are
+  -- at most as many seats are given to cores as there are cores
   pub few : cores_in s.views ≤ cores
-  pub limit : cores < 2 ^ 32
-  -- each seat's view is right
-  pub each : (seat : ℕ) (view : View) → get_elem? s.views seat ≡ some view → Knows cores (cores_in s.views) (slice_index s.words 1) seat view
+  -- and these are few enough for a word
+  pub fits : cores < 2 ^ 64
+  -- what each seat knows is so
+  pub each : (j : ℕ) (v : View) → get_elem? s.views j ≡ some v → Knows s.words s.views cores j v

@@ -1,3 +1,5 @@
+pub mod View
 pub mod ControlRule
+pub mod Pass
 pub mod Step
-pub mod Control
+pub mod PassSeat

@@ -1,52 +1,59 @@
-//! The control words, and the steps on them.
-ghost use Rattle.std.specs.Prelude.{◌≡◌, ◌+◌, ◌<◌, ◌==◌, true, false, IfOk};
-ghost use Rattle.zy_control.specs.ControlRule.{unseen};
-ghost use Rattle.zy_control.specs.Step.{saw_done, saw_stop, set_stop};
-ghost use Rattle.zy_control.specs.Control.{newly_given};
+//! The control words.
+ghost use Rattle.std.specs.Prelude.{◌≡◌, ◌+◌, ◌<◌, ◌≤◌, true, false, ◌==◌, not, IfOk, IsOk};
+ghost use Rattle.std.specs.Int.{bit_at};
+ghost use Rattle.zy_control.specs.declared.view.Role.TheVariants.{Core};
+ghost use Rattle.zy_control.specs.View.{untraced, IsUncounted, MustHaveCounted, Covers};
+ghost use Rattle.zy_control.specs.Pass.{rooted, held, watching, counting, seeing_done, seeing_stop};
 
-use crate::pass::ControlPass;
-use crate::plays::{Begins, Counts, Gives, SeesDone, SeesStop, Stops};
-use crate::root::ControlRoot;
-use crate::view::{Rule, View};
-use crate::watch::ControlWatch;
-use atomic_table::Table;
+use crate::pass::{ControlPass, ControlRoot};
+use crate::plays::{Counts, Enters, Gives, SeesDone, SeesStop, Stops};
+use crate::view::View;
+use atomic_table::{Table, TableRule};
 use std::alloc::Global;
 use std::marker::Model;
 use zy_base::NoMemory;
 
-// The word that counts the cores that are done.
 const DONE: usize = 0;
 
-// The word that says to stop.
 const STOP: usize = 1;
 
-/// The control words of some cores: how many of them are done, and whether to stop. Contracts see
-/// which table it is, and how many cores there are.
+// The rule of the control words: what is so between any two steps.
+pub(crate) struct Rule;
+
+impl TableRule<u8, View, u64> for Rule {
+    ghost use Rattle.zy_control.specs.View.{root_view};
+    ghost use Rattle.zy_control.specs.ControlRule.{ControlRule};
+
+    ghost holds = { ControlRule };
+
+    ghost first = { root_view };
+}
+
+/// The words done and stop. Contracts see which table they are, and how many cores there are.
 #[derive(Drop)]
 pub struct Control {
     table: Table<u8, View, u64, Rule, Global>,
-    cores: u32,
+    cores: u64,
 }
 
 impl Model for Control {
-    ghost use Rattle.std.specs.Prelude.{◌≡◌};
-    ghost use Rattle.zy_control.specs.Control.{Controlled};
+    ghost use Rattle.std.specs.Prelude.{◌≡◌, ◌<◌, ◌^◌};
+    ghost use Rattle.zy_control.specs.Pass.{Controlled, controlled};
 
     ghost Value = { Controlled };
 
-    ghost view = { λ c. record { id = c.table.shared.table_id; cores = c.cores } };
+    ghost view = { λ c. controlled c.table.shared.table_id c.cores };
 
-    ghost invariant = { λ c. (c.table.shared.table_id.words ≡ 2) × (c.table.shared.key ≡ c.cores) };
+    ghost invariant = { λ c. (c.table.shared.table_id.words ≡ 2) × (c.table.shared.key ≡ c.cores) × (c.cores < 2 ^ 64) };
 }
 
 impl Control {
-    /// The control words of so many cores, none of which is done, and their root.
-    pub fn new(alloc: Global, cores: u32) -> Result<(Control, ControlRoot), NoMemory>
+    /// The words of so many cores, of which none is done, and their root.
+    pub fn new(alloc: Global, cores: u64) -> Result<(Control, ControlRoot), NoMemory>
         ensures cores { IfOk result (λ made. made.0.cores ≡ cores) }
-        ensures root { IfOk result (λ made.
-            made.1 ≡ record { table = made.0.id; given = 0; cores = cores }) }
+        ensures root { IfOk result (λ made. made.1 ≡ rooted made.0.id 0 cores) }
     {
-        match Table::of_words(alloc, &[0, 0], &u64::from(cores)) {
+        match Table::of_words(alloc, &[0, 0], &cores) {
             Ok((table, seat)) => Ok((
                 Control { table, cores },
                 ControlRoot {
@@ -59,47 +66,47 @@ impl Control {
         }
     }
 
-    /// The number of cores.
-    pub fn cores(&self) -> u32
-        ensures value { result ≡ self.now.cores }
-    {
-        self.cores
-    }
-
-    /// The seat of one more core, which has not counted itself. Takes no memory.
-    pub fn seat(&self, root: &mut ControlRoot) -> ControlPass
+    /// The pass of the next core. It is never refused, and takes no memory.
+    pub fn seat(&self, root: &mut ControlRoot) -> Result<ControlPass, NoMemory>
         requires table { root.old.table ≡ self.now.id }
-        requires few { root.old.given < root.old.cores }
-        ensures value { result ≡ newly_given root.old }
-        ensures root { root.new ≡ record root.old { given = root.old.given + 1 } }
+        requires few { root.old.given < self.now.cores }
+        ensures succeeds { IsOk result }
+        ensures value { IfOk result (λ pass. pass ≡ held root.old.table (Core root.old.given false) root.old.cores untraced) }
+        ensures ok { root.new ≡ rooted root.old.table (root.old.given + 1) root.old.cores }
     {
+        let number = root.given;
         let seat = self.table.shared.split_seat::<Gives>(&mut root.seat);
-        root.given += 1;
-        ControlPass {
+        root.given = number + 1;
+        Ok(ControlPass {
             seat,
+            number,
             cores: root.cores,
             counted: false,
-        }
+        })
     }
 
-    /// A seat that never counts itself, made by a load of how many cores are done. Takes no memory.
-    pub fn watch(&self) -> ControlWatch
-        ensures table { result.table ≡ self.now.id }
-        ensures cores { result.cores ≡ self.now.cores }
-        ensures seen { result.seen ≡ saw_done unseen result.seen.done }
+    /// A pass of a watcher, which never counts itself: it is made by its first load of stop, and says
+    /// whether the cores are to stop.
+    pub fn watch(&self) -> (ControlPass, bool)
+        ensures value { result.0 ≡ watching self.now result.0.trace.stop.value }
+        ensures stop { result.1 ≡ not (result.0.trace.stop.value == 0) }
     {
-        let (_, seat) = self.table.shared.load_new_seat::<Begins>(DONE);
-        ControlWatch {
+        let (found, seat) = self.table.shared.load_new_seat::<Enters>(STOP);
+        let pass = ControlPass {
             seat,
+            number: 0,
             cores: self.cores,
-        }
+            counted: false,
+        };
+        (pass, found != 0)
     }
 
-    /// The core counts itself, as it may once.
-    pub fn count_self(&self, pass: &mut ControlPass)
+    /// The core counts itself, which it does once: done rises by one.
+    pub fn count(&self, pass: &mut ControlPass)
         requires table { pass.old.table ≡ self.now.id }
-        requires first { pass.old.counted ≡ false }
-        ensures value { pass.new ≡ record pass.old { counted = true } }
+        requires first { IsUncounted pass.old.role }
+        ensures value { pass.new ≡ counting pass.new.trace.done.value pass.old }
+        ensures some { 0 < pass.new.trace.done.value }
     {
         self.table
             .shared
@@ -107,60 +114,36 @@ impl Control {
         pass.counted = true;
     }
 
-    /// Whether all cores have counted themselves, by one load. Then this core has.
+    /// Whether all cores have counted themselves, as one load of done tells. Then this core has.
     pub fn is_done(&self, pass: &mut ControlPass) -> bool
         requires table { pass.old.table ≡ self.now.id }
-        ensures value { result ≡ (pass.new.seen.done == pass.old.cores) }
-        ensures counted { result ≡ true → pass.old.counted ≡ true }
-        ensures pass { pass.new ≡
-            record pass.old { seen = saw_done pass.old.seen pass.new.seen.done } }
+        ensures value { result ≡ (pass.new.trace.done.value == pass.old.cores) }
+        ensures pass { pass.new ≡ seeing_done pass.new.trace.done.value pass.old }
+        ensures counted { result ≡ true → MustHaveCounted pass.old.role }
+        ensures lasts { pass.old.trace.done.value ≤ pass.new.trace.done.value }
     {
-        self.table.shared.load::<SeesDone>(&mut pass.seat, DONE) == u64::from(pass.cores)
+        let done = self.table.shared.load::<SeesDone>(&mut pass.seat, DONE);
+        done == pass.cores
     }
 
-    /// Whether all cores have counted themselves, by one load.
-    pub fn are_done(&self, watch: &mut ControlWatch) -> bool
-        requires table { watch.old.table ≡ self.now.id }
-        ensures value { result ≡ (watch.new.seen.done == watch.old.cores) }
-        ensures watch { watch.new ≡
-            record watch.old { seen = saw_done watch.old.seen watch.new.seen.done } }
-    {
-        self.table.shared.load::<SeesDone>(&mut watch.seat, DONE) == u64::from(watch.cores)
-    }
-
-    /// Says to stop, for good.
+    /// Tells all cores to stop: bit 0 of stop is set.
     pub fn stop(&self, pass: &mut ControlPass)
         requires table { pass.old.table ≡ self.now.id }
-        ensures value { pass.new ≡ record pass.old { seen = set_stop pass.old.seen } }
+        ensures pass { pass.new ≡ seeing_stop pass.new.trace.stop.value pass.old }
+        ensures set { bit_at pass.new.trace.stop.value 0 ≡ 1 }
+        ensures lasts { Covers pass.old.trace.stop.value pass.new.trace.stop.value }
     {
         self.table.shared.fetch_or::<Stops>(&mut pass.seat, STOP, 1);
     }
 
-    /// Whether someone has said to stop, by one load. Whoever has seen it sees it from then on.
+    /// Whether the cores are to stop, as one load of stop tells.
     pub fn is_stopped(&self, pass: &mut ControlPass) -> bool
         requires table { pass.old.table ≡ self.now.id }
-        ensures value { pass.new ≡ record pass.old { seen = saw_stop pass.old.seen result } }
-        ensures lasts { pass.old.seen.stopped ≡ true → result ≡ true }
+        ensures value { result ≡ not (pass.new.trace.stop.value == 0) }
+        ensures pass { pass.new ≡ seeing_stop pass.new.trace.stop.value pass.old }
+        ensures lasts { Covers pass.old.trace.stop.value pass.new.trace.stop.value }
     {
-        self.table.shared.load::<SeesStop>(&mut pass.seat, STOP) > 0
-    }
-
-    /// Says to stop, for good, from a seat that is no core's.
-    pub fn stop_all(&self, watch: &mut ControlWatch)
-        requires table { watch.old.table ≡ self.now.id }
-        ensures value { watch.new ≡ record watch.old { seen = set_stop watch.old.seen } }
-    {
-        self.table
-            .shared
-            .fetch_or::<Stops>(&mut watch.seat, STOP, 1);
-    }
-
-    /// Whether someone has said to stop, by one load, from a seat that is no core's.
-    pub fn are_stopped(&self, watch: &mut ControlWatch) -> bool
-        requires table { watch.old.table ≡ self.now.id }
-        ensures value { watch.new ≡ record watch.old { seen = saw_stop watch.old.seen result } }
-        ensures lasts { watch.old.seen.stopped ≡ true → result ≡ true }
-    {
-        self.table.shared.load::<SeesStop>(&mut watch.seat, STOP) > 0
+        let stop = self.table.shared.load::<SeesStop>(&mut pass.seat, STOP);
+        stop != 0
     }
 }

@@ -1,16 +1,13 @@
-//! The control words that all cores share: how many cores are done, and whether to stop.
+//! The control words that the cores of a run share: how many of them are done, and whether they are to stop.
 #![tactic(auto)]
 
 mod control;
+pub mod laws;
 mod pass;
 mod plays;
-mod root;
 #[cfg(test)]
 mod tests;
 mod view;
-mod watch;
 
 pub use control::Control;
-pub use pass::ControlPass;
-pub use root::ControlRoot;
-pub use watch::ControlWatch;
+pub use pass::{ControlPass, ControlRoot};

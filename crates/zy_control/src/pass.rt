@@ -1,41 +1,63 @@
-//! The seat of a core on the control words.
+//! The rights to make steps on the control words.
 ghost use Rattle.std.specs.Prelude.{◌≡◌};
+ghost use Rattle.zy_control.specs.View.{has_counted, number_of};
 
 use crate::view::View;
 use atomic_table::Seat;
 use std::marker::Model;
 
-/// The seat of a core on the control words. Contracts see the table, how many cores there are,
-/// whether this core has counted itself, and what it has seen.
+/// The right to give each core its pass. Contracts see how many it gave, and how many cores there
+/// are.
+#[derive(Drop)]
+pub struct ControlRoot {
+    pub(crate) seat: Seat<u8, View>,
+    pub(crate) given: u64,
+    pub(crate) cores: u64,
+}
+
+impl Model for ControlRoot {
+    ghost use Rattle.zy_control.specs.Pass.{Rooted, rooted};
+    ghost use Rattle.zy_control.specs.PassSeat.{IsRootSeat};
+
+    ghost Value = { Rooted };
+
+    ghost view = { λ r. rooted r.seat.table_id r.given r.cores };
+
+    ghost invariant = { λ r. IsRootSeat r.given r.cores r.seat.me };
+}
+
+/// The right of a core, or of a watcher, to make steps. Contracts see its role, how many cores there
+/// are, and what it has seen.
 #[derive(Drop)]
 pub struct ControlPass {
     pub(crate) seat: Seat<u8, View>,
-    pub(crate) cores: u32,
+    pub(crate) number: u64,
+    pub(crate) cores: u64,
     pub(crate) counted: bool,
 }
 
 impl Model for ControlPass {
-    ghost use Rattle.std.specs.Prelude.{◌≡◌, []};
-    ghost use Rattle.zy_control.specs.declared.view.View.TheVariants.{Core};
-    ghost use Rattle.zy_control.specs.Control.{Passed};
-    ghost use Rattle.zy_control.specs.ControlRule.{seen_of};
+    ghost use Rattle.zy_control.specs.Pass.{Held, held};
+    ghost use Rattle.zy_control.specs.PassSeat.{IsPassSeat};
 
-    ghost Value = { Passed };
+    ghost Value = { Held };
 
-    ghost view = { λ p. record {
-      table = p.seat.table_id;
-      cores = p.cores;
-      counted = p.counted;
-      seen = seen_of p.seat.me.0;
-    } };
+    ghost view = { λ p. held p.seat.table_id p.seat.me.0.role p.seat.me.0.cores p.seat.me.0.trace };
 
-    ghost invariant = { λ p. p.seat.me ≡ (Core p.counted p.cores (seen_of p.seat.me.0), []) };
+    ghost invariant = { λ p. IsPassSeat p.number p.cores p.counted p.seat.me };
 }
 
 impl ControlPass {
-    /// Whether this core has counted itself.
+    /// The number of its core; 0 for a watcher.
+    pub fn number(&self) -> u64
+        ensures value { result ≡ number_of self.now.role }
+    {
+        self.number
+    }
+
+    /// Whether its core has counted itself.
     pub fn is_counted(&self) -> bool
-        ensures value { result ≡ self.now.counted }
+        ensures value { result ≡ has_counted self.now.role }
     {
         self.counted
     }

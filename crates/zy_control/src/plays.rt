@@ -1,61 +1,50 @@
-//! The kinds of steps on the control words, and what each tells the seat that makes it.
-ghost use Rattle.std.specs.Prelude.{◌≡◌};
+//! What each step on the control words tells its seat. These types are for the proofs alone.
+ghost use Rattle.zy_control.specs.View.{gave, newcomer};
+ghost use Rattle.zy_control.specs.Step.{counts, sees_done, sees_stop, stops, enters};
 
 use crate::view::View;
 use atomic_table::{Play, Split};
 
-/// A core counts itself.
+// A fetch-add of done, by which a core counts itself.
 pub(crate) struct Counts;
 
 impl Play<u8, View> for Counts {
-    ghost use Rattle.zy_control.specs.Step.{counted_after};
-
-    ghost then = { λ _ m _ n. n ≡ counted_after m };
+    ghost then = { λ step before found after. counts before found after };
 }
 
-/// A load of the number of cores that are done.
+// A load of done.
 pub(crate) struct SeesDone;
 
 impl Play<u8, View> for SeesDone {
-    ghost use Rattle.zy_control.specs.Step.{SawDone};
-
-    ghost then = { λ _ m found n. SawDone m found n };
+    ghost then = { λ step before found after. sees_done before found after };
 }
 
-/// A load of the word that says to stop.
+// A load of stop.
 pub(crate) struct SeesStop;
 
 impl Play<u8, View> for SeesStop {
-    ghost use Rattle.zy_control.specs.Step.{SawStop};
-
-    ghost then = { λ _ m found n. SawStop m found n };
+    ghost then = { λ step before found after. sees_stop before found after };
 }
 
-/// Says to stop.
+// A fetch-or of stop.
 pub(crate) struct Stops;
 
 impl Play<u8, View> for Stops {
-    ghost use Rattle.zy_control.specs.Step.{stopped_after};
-
-    ghost then = { λ _ m _ n. n ≡ stopped_after m };
+    ghost then = { λ step before found after. stops step.first before found after };
 }
 
-/// The load that makes the seat of a watch.
-pub(crate) struct Begins;
+// A load of stop that makes the seat of a watcher.
+pub(crate) struct Enters;
 
-impl Play<u8, View> for Begins {
-    ghost use Rattle.zy_control.specs.Step.{watching};
-
-    ghost then = { λ _ first found n. n ≡ watching first found };
+impl Play<u8, View> for Enters {
+    ghost then = { λ step before found after. enters before found after };
 }
 
-/// The seat of one more core.
+// The root gives the seat of a core.
 pub(crate) struct Gives;
 
 impl Split<View> for Gives {
-    ghost use Rattle.zy_control.specs.Step.{root_after, core_given};
+    ghost left = { gave };
 
-    ghost left = { root_after };
-
-    ghost right = { core_given };
+    ghost right = { newcomer };
 }

@@ -1,68 +1,68 @@
-//! Seats on one thread and on two.
-ghost use Rattle.std.specs.Prelude.{◌≡◌, false};
+//! Cores that count themselves, one after the other and on two threads.
+ghost use Rattle.std.specs.Prelude.{◌≡◌};
+ghost use Rattle.zy_control.specs.View.{IsUncounted};
 
 use super::*;
+use std::alloc::Global;
 use std::sync::Wait;
-use std::test::Fail;
+use std::test::*;
 use std::thread;
 
 #[test]
-fn it_is_done_where_each_core_has_counted_itself(rt: HostRuntime) -> Result<(), Fail> {
-    let (control, mut root) = Control::new(rt.alloc(), 2)?;
-    let mut one = control.seat(&mut root);
-    let mut two = control.seat(&mut root);
-    let mut watch = control.watch();
-    control.count_self(&mut one);
-    assert!(rt; one.is_counted() && !control.is_done(&mut one) && !control.are_done(&mut watch));
-    control.count_self(&mut two);
-    assert!(rt; control.is_done(&mut one) && control.is_done(&mut two));
-    assert!(rt; control.are_done(&mut watch));
+fn all_are_done_once_each_has_counted_itself(rt: HostRuntime) -> Result<(), Fail> {
+    let alloc = rt.alloc();
+    let (control, mut root) = Control::new(alloc, 2)?;
+    let mut one = control.seat(&mut root)?;
+    let mut two = control.seat(&mut root)?;
+    assert!(&rt; !control.is_done(&mut one) && !one.is_counted());
+    control.count(&mut one);
+    assert!(&rt; !control.is_done(&mut one) && one.is_counted());
+    control.count(&mut two);
+    assert!(&rt; control.is_done(&mut one) && control.is_done(&mut two));
     Ok(())
 }
 
 #[test]
-fn whoever_says_to_stop_is_heard_by_all(rt: HostRuntime) -> Result<(), Fail> {
-    let (control, mut root) = Control::new(rt.alloc(), 1)?;
-    let mut core = control.seat(&mut root);
-    let mut watch = control.watch();
-    assert!(rt; !control.is_stopped(&mut core) && !control.are_stopped(&mut watch));
+fn a_stop_is_seen_by_all(rt: HostRuntime) -> Result<(), Fail> {
+    let alloc = rt.alloc();
+    let (control, mut root) = Control::new(alloc, 1)?;
+    let mut core = control.seat(&mut root)?;
+    let (mut watcher, stopped) = control.watch();
+    assert!(&rt; !stopped && !control.is_stopped(&mut core));
     control.stop(&mut core);
-    assert!(rt; control.is_stopped(&mut core) && control.are_stopped(&mut watch));
-    control.stop_all(&mut watch);
-    assert!(rt; control.are_stopped(&mut watch) && !control.is_done(&mut core));
+    assert!(&rt; control.is_stopped(&mut watcher) && control.is_stopped(&mut core));
     Ok(())
 }
 
-// Counts the core, and waits until all are done.
-fn count_and_wait<R: Wait>(rt: &R, control: &Control, mut pass: ControlPass) -> bool
+// Counts itself, and waits until all have.
+fn count_and_wait<R: Wait>(rt: &R, control: &Control, mut pass: ControlPass)
     requires table { pass.table ≡ control.now.id }
-    requires first { pass.counted ≡ false }
+    requires first { IsUncounted pass.role }
 {
-    control.count_self(&mut pass);
+    control.count(&mut pass);
     for _ in rt.forever() {
         if control.is_done(&mut pass) {
             break;
         }
         thread::yield_now();
     }
-    pass.is_counted()
 }
 
 #[test]
 fn two_threads_wait_for_one_another(rt: HostRuntime) -> Result<(), Fail> {
-    let (control, mut root) = Control::new(rt.alloc(), 2)?;
-    let one = control.seat(&mut root);
-    let two = control.seat(&mut root);
-    let (runtime, shared) = (&rt, &control);
-    let (first, second) = thread::join(
+    let alloc = rt.alloc();
+    let (control, mut root) = Control::new(alloc, 2)?;
+    let one = control.seat(&mut root)?;
+    let two = control.seat(&mut root)?;
+    let (runtime, words) = (&rt, &control);
+    thread::join(
         &rt,
-        move || -> bool
-            requires { (one.table ≡ shared.now.id) × (one.counted ≡ false) }
-        { count_and_wait(runtime, shared, one) },
-        move || -> bool
-            requires { (two.table ≡ shared.now.id) × (two.counted ≡ false) }
-        { count_and_wait(runtime, shared, two) },
+        move || -> ()
+            requires { (one.table ≡ words.now.id) × IsUncounted one.role }
+        { count_and_wait(runtime, words, one) },
+        move || -> ()
+            requires { (two.table ≡ words.now.id) × IsUncounted two.role }
+        { count_and_wait(runtime, words, two) },
     );
-    assert!(rt; first && second);
     Ok(())
 }

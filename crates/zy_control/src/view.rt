@@ -1,32 +1,29 @@
-//! What a seat on the control words knows, and the rule of the words.
-use atomic_table::TableRule;
+//! What a seat at the control words knows. No value of these types is made.
 
-/// What a seat has seen: how many loads it made, the number of cores done at the last load of that
-/// word, and whether it has seen or set the word that says to stop. No value of it is made.
-pub struct Seen {
-    pub looks: u64,
-    pub done: u64,
-    pub stopped: bool,
+/// The number that a word held after a step on it, and the number of that step.
+pub struct Sight {
+    pub value: u64,
+    pub step: u64,
 }
 
-/// What a seat knows. No value of it is made.
-pub enum View {
-    /// How many seats were given to cores, and how many cores there are.
-    Root(u64, u64),
-    /// Whether the core has counted itself, how many cores there are, and what was seen.
-    Core(bool, u64, Seen),
-    /// How many cores there are, and what was seen. It never counts itself.
-    Watch(u64, Seen),
+/// How many steps a seat has made, and what each word held after its last step on it.
+pub struct Trace {
+    pub steps: u64,
+    pub done: Sight,
+    pub stop: Sight,
 }
 
-/// The rule of the control words.
-pub(crate) struct Rule;
+/// What a seat is for: the root knows how many seats it gave; a core knows its number, and whether
+/// it has counted itself; a watcher never counts itself.
+pub enum Role {
+    Root(u64),
+    Core(u64, bool),
+    Watcher,
+}
 
-impl TableRule<u8, View, u64> for Rule {
-    ghost use Rattle.zy_control.specs.declared.view.View.TheVariants.{Root};
-    ghost use Rattle.zy_control.specs.ControlRule.{Counts};
-
-    ghost holds = { λ cores s. Counts cores s };
-
-    ghost first = { λ cores. Root 0 cores };
+/// What a seat knows: what it is for, how many cores there are, and what it has seen.
+pub struct View {
+    pub role: Role,
+    pub cores: u64,
+    pub trace: Trace,
 }
