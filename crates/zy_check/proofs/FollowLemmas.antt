@@ -122,6 +122,7 @@ stopped asked shards conn done command pace after count along matching few match
     got [] k within = absurd (omega arith)
     got (x ∷ xs) zero within = (x, refl)
     got (x ∷ xs) (suc k) within = got xs k (omega arith)
+
     front : (xs ys : List Due) (k : ℕ) → take (length xs + k) (xs ++ ys) ≡ xs ++ take k ys
     front [] ys k = let none : length {A = Due} [] + k ≡ k = omega arith in ap (λ (n : ℕ). take n ys) none
     front (x ∷ xs) ys k =

@@ -74,7 +74,7 @@ places_step old new count i es e within is size each here others conn below =
     let more = places_more conn es i e within (sym is) in
     elim (eqb_tells e.tag.conn conn) [
       | inl same ↦ (let mine : get_or new conn [] ≡ get_or old conn [] ++ i ∷ [] = rw (← same.1) (here (let s = same.1 in omega arith)) in
-      mine ∙ ap (λ (l : List ℕ). l ++ i ∷ []) (each conn below) ∙ sym (more ∙ ap (λ (b : Bool). places_of conn (take i es) ++ (if b then i ∷ [] else [])) same.0))
+          mine ∙ ap (λ (l : List ℕ). l ++ i ∷ []) (each conn below) ∙ sym (more ∙ ap (λ (b : Bool). places_of conn (take i es) ++ (if b then i ∷ [] else [])) same.0))
       | inr other ↦ others conn (λ s. other.1 (sym s)) ∙ each conn below
           ∙ sym (more ∙ ap (λ (b : Bool). places_of conn (take i es) ++ (if b then i ∷ [] else [])) other.0 ∙ append-nil (places_of conn (take i es)))
     ]

@@ -127,7 +127,6 @@ pub record IsAt (g : Given) (shards : ℕ) (entries : List Entry) (followed : Li
   pub is : slice_get entries at ≡ Some e
 
 module _ (g : Given) (shards : ℕ) (entries : List Entry) (followed : List Followed) (seen : List ℕ) (at : ℕ) (e : Entry) (here : IsAt g shards entries followed seen at e) where
-
   is_given : slice_get g.entries at ≡ Some e
   is_given = ap (λ (l : List Entry). slice_get l at) here.followed_are.entries_are ∙ here.is
 

@@ -93,7 +93,13 @@ fn follow_command(
     if own.len() < pace.matched as usize {
         return Err(NoMemory);
     }
-    let count = matching(own, pace.matched as usize, conn, pace.commands, calls.items());
+    let count = matching(
+        own,
+        pace.matched as usize,
+        conn,
+        pace.commands,
+        calls.items(),
+    );
     pace.matched += count as u64;
     if count < calls.items().len() {
         return Ok(false);

@@ -7,7 +7,6 @@ ghost use Rattle.zy_core.specs.Core.{AreOfOne, CoreKeeps, Fits, cored, identity_
 ghost use Rattle.zy_core.specs.Turn.{TurnTo};
 ghost use Rattle.zy_feeder.specs.Feed.{rings_of};
 
-use zy_feeder::Feeder;
 use crate::shared::Shared;
 use crate::stealing::steal_once;
 use crate::steps::{claim_own, collect_all, receive_all};
@@ -16,6 +15,7 @@ use std::marker::Model;
 use zy_base::{Gate, NoMemory};
 use zy_conn::Block;
 use zy_control::ControlPass;
+use zy_feeder::Feeder;
 use zy_home::Home;
 use zy_rx::Outlet;
 use zy_steal::{Passes, Victims};

@@ -9,12 +9,12 @@ use crate::cores::Cores;
 use crate::draws::{Draws, turn_of};
 use crate::driven::Driven;
 use crate::feeding::feed;
-use zy_feeder::Feeder;
 use crate::logical::Core;
 use crate::rounds::{are_settled, turn_one};
 use crate::shared::Shared;
 use std::sync::Wait;
 use zy_base::{Gate, NoMemory};
+use zy_feeder::Feeder;
 
 /// Drives the cores on the caller's thread: the feeder offers items until one is handed back or all
 /// are offered, then each core takes a turn, and so on until all is settled. A round begins with core

@@ -3,7 +3,6 @@ ghost use Rattle.std.specs.Prelude.{◌≡◌, ◌≤◌, true, vec_len, vec_cap
 ghost use Rattle.zy_core.specs.Seat.{all_of_groups, AllFit, AllSettled};
 ghost use Rattle.zy_feeder.specs.Feed.{rings_of};
 
-use zy_feeder::Feeder;
 use crate::logical::Core;
 use crate::seat::Seat;
 use crate::seats::{join_all, start_all};
@@ -14,6 +13,7 @@ use std::sync::atomic::AtomicU64;
 use std::thread;
 use std::thread::{Scope, Threads};
 use zy_base::Gate;
+use zy_feeder::Feeder;
 
 // The groups of cores as they came back, whether all of them found that all cores are done, and how
 // the caller's own loop ended.

@@ -4,7 +4,6 @@ ghost use Rattle.zy_core.specs.Seat.{all_of_seats, AllFit};
 ghost use Rattle.zy_feeder.specs.Feed.{rings_of};
 
 use crate::feeding::feed;
-use zy_feeder::Feeder;
 use crate::seat::Seat;
 use crate::seats::{are_done_here, go_on_here};
 use crate::shared::Shared;
@@ -12,6 +11,7 @@ use std::sync::Wait;
 use std::thread;
 use zy_base::{Gate, NoMemory};
 use zy_control::ControlPass;
+use zy_feeder::Feeder;
 
 // How the caller's own loop ended.
 #[derive(Clone, Copy, Debug, Drop, PartialEq, Eq)]

@@ -7,7 +7,6 @@ ghost use Rattle.zy_feeder.specs.Feed.{rings_of};
 use crate::cores::Cores;
 use crate::dealing::{collect, deal};
 use crate::driven::Driven;
-use zy_feeder::Feeder;
 use crate::lent::{Lent, take_back};
 use crate::logical::Core;
 use crate::room::Room;
@@ -19,6 +18,7 @@ use std::sync::Wait;
 use std::sync::atomic::AtomicU64;
 use std::thread::Threads;
 use zy_base::Gate;
+use zy_feeder::Feeder;
 
 /// Drives the cores on threads while the caller feeds them: thread `t` of so many has the cores `i`
 /// with `i` modulo that number `t`. The cores whose thread is refused are driven by the caller. The

@@ -45,8 +45,8 @@ shifted : (before conn session : ℕ) (rs : List Record) → stream_after (befor
 shifted before conn session [] = refl
 shifted before conn session (Records.Segment s ∷ rs) =
     let test : ((before + 1) == (session + 1)) ≡ (before == session) = dite (ℕ_discrete before session)
-        (λ e. eq-eqb (before + 1) (session + 1) (omega arith) ∙ sym (eq-eqb before session e))
-        (λ ne. ne_eqb (before + 1) (session + 1) (λ e. ne (omega arith)) ∙ sym (ne_eqb before session ne)) in
+    (λ e. eq-eqb (before + 1) (session + 1) (omega arith) ∙ sym (eq-eqb before session e))
+    (λ ne. ne_eqb (before + 1) (session + 1) (λ e. ne (omega arith)) ∙ sym (ne_eqb before session ne)) in
     λ i. if s.conn == conn && test i then s.bytes ++ shifted before conn session rs i else shifted before conn session rs i
 shifted before conn session (Records.Close c ∷ rs) = λ i. if c == conn then shifted (before + 1) conn session rs i else shifted before conn session rs i
 
@@ -87,7 +87,7 @@ streams-segment : (conn : ℕ) (bytes : List ℕ) (rs : List Record) (t : Bool) 
 streams-segment conn bytes rs false same = same
 streams-segment conn bytes rs true same =
     let later = map-same (λ k. stream conn k rs) (λ k. if 0 == k then bytes ++ stream conn k rs else stream conn k rs) 1 (closes conn rs)
-        (λ k le. sym (ap (λ b. if b then bytes ++ stream conn k rs else stream conn k rs) (ne_eqb 0 k (λ e. absurd (omega arith))))) in
+    (λ k le. sym (ap (λ b. if b then bytes ++ stream conn k rs else stream conn k rs) (ne_eqb 0 k (λ e. absurd (omega arith))))) in
     ap (grown bytes) (same ∙ ap (map (λ k. stream conn k rs)) (range-more 0 (closes conn rs)))
     ∙ ap (λ l. (bytes ++ stream conn 0 rs) ∷ l) later
     ∙ ap (map (λ k. if 0 == k then bytes ++ stream conn k rs else stream conn k rs)) (sym (range-more 0 (closes conn rs)))

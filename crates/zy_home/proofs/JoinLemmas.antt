@@ -85,16 +85,19 @@ module _ (h : Homed) (w : Held Blocked) (n p : ℕ) (b : Blocked) (k : Keeps h) 
 
   pub same_joins : (SameHome h (with_pass h w)) × (w.count ≡ h.pass.count)
   same_joins =
-      let count = ap (λ (v : Held Blocked). v.count) j.is in (record {
-        core = refl;
-        cores = refl;
-        count = refl;
-        table = ap (λ (v : Held Blocked). v.table) j.is;
-        label = ap (λ (v : Held Blocked). v.label) j.is;
-        out = ap (λ (v : Held Blocked). v.out) j.is;
-        conns = refl;
-        once = omega arith;
-      }, count)
+      let count = ap (λ (v : Held Blocked). v.count) j.is in (
+        record {
+          core = refl;
+          cores = refl;
+          count = refl;
+          table = ap (λ (v : Held Blocked). v.table) j.is;
+          label = ap (λ (v : Held Blocked). v.label) j.is;
+          out = ap (λ (v : Held Blocked). v.out) j.is;
+          conns = refl;
+          once = omega arith;
+        },
+        count,
+      )
 
   pub out_joins : n ≡ length h.links → h.refused ≡ false → marked mark_in p h.pass.kept ≡ Some (mark_in b) → IsOut (with_pass h w) p b
   out_joins size live mark =

@@ -83,15 +83,17 @@ new_at label pass p b i l n f ring unused =
     let shown : take b.work.shown (texts_all b.work) ≡ [] = ap (λ k. take k (texts_all b.work)) n.shown in
     let conn : b.work.conn ≡ conn_of l = ap (λ (z : Sent). z.conn) (sym f.output) in
     let is : b.work.ring ≡ l.inlet.ring = sym ring ∙ ap (λ (z : Sending). z.ring) (sym f.inlet_is) in
-    let texts : texts_taken b.work ≡ l.output.texts = shown ∙ ap (λ (z : Sent). z.texts) (sym f.output) in
-    ((λ j. (conn j, (is j, texts j))), record {
-      begun = n.begun;
-      known = n.known;
-      batch = n.batch;
-      taken = n.taken ∙ sym unused ∙ ap (λ (z : Sending). z.sent) (sym f.inlet_is);
-      waiting = f.waiting;
-      finished = ap (λ (z : Sent). z.finished) f.output ∙ sym n.finished;
-    })
+    let texts : texts_taken b.work ≡ l.output.texts = shown ∙ ap (λ (z : Sent). z.texts) (sym f.output) in (
+      (λ j. (conn j, (is j, texts j))),
+      record {
+        begun = n.begun;
+        known = n.known;
+        batch = n.batch;
+        taken = n.taken ∙ sym unused ∙ ap (λ (z : Sending). z.sent) (sym f.inlet_is);
+        waiting = f.waiting;
+        finished = ap (λ (z : Sent). z.finished) f.output ∙ sym n.finished;
+      },
+    )
 
 module _ (core cores count : ℕ) (pass : Held Blocked) (blocks : List Blocked) (inlets : List Sending) (links : List Linked) (parts : HomeParts) (is_pass : pass ≡ parts.pass) (is_blocks : blocks ≡ parts.blocks) (is_inlets : inlets ≡ parts.inlets) (fits : AreParts core cores count parts) (fresh : AreFresh blocks inlets links) where
   -- the home that is made
@@ -137,9 +139,9 @@ module _ (core cores count : ℕ) (pass : Held Blocked) (blocks : List Blocked) 
     long = length-map blocks (λ (b : Blocked). Some b) ∙ sym long;
     places = ap (λ (v : Held Blocked). v.table.slots) is_pass ∙ fits.places ∙ ap (λ (l : List Blocked). length l) (sym is_blocks) ∙ sym long;
     here = λ p b e.
-    let s = slot_at blocks p (Some b) e in
-    let same : s.0 ≡ b = (let one = s.2 in cc) in
-    (hand_at p s.0 s.1, ap (λ (z : Blocked). name_of z.work.table) (sym same) ∙ (new_is p s.0 s.1).labelled ∙ ap (λ (v : Held Blocked). v.label) (sym is_pass));
+        let s = slot_at blocks p (Some b) e in
+        let same : s.0 ≡ b = (let one = s.2 in cc) in
+        (hand_at p s.0 s.1, ap (λ (z : Blocked). name_of z.work.table) (sym same) ∙ (new_is p s.0 s.1).labelled ∙ ap (λ (v : Held Blocked). v.label) (sym is_pass));
     each = λ live p x l eb el. let s = slot_at blocks p x eb in subst (IsAt pass p l) (sym s.2) (is_at p s.0 l s.1 el);
   }
 
@@ -147,8 +149,8 @@ module _ (core cores count : ℕ) (pass : Held Blocked) (blocks : List Blocked) 
   made_stands = record {
     ended = λ c. refl;
     links = λ p l e.
-    let near = get_below links p l e in
-    let b = some_there blocks p (omega (arith, long)) in
-    let r = fresh_at blocks inlets links p b.0 l fresh b.1 e in
-    stands_fresh b.0.work.conn r.inlet l r.fresh (unused_at p r.inlet r.there);
+        let near = get_below links p l e in
+        let b = some_there blocks p (omega (arith, long)) in
+        let r = fresh_at blocks inlets links p b.0 l fresh b.1 e in
+        stands_fresh b.0.work.conn r.inlet l r.fresh (unused_at p r.inlet r.there);
   }

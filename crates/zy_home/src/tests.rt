@@ -6,7 +6,6 @@ ghost use Rattle.zy_table.specs.Name.{name_of};
 mod setup;
 mod threads;
 
-
 use crate::Home;
 use setup::{Setup, set_up};
 use std::alloc::Global;

@@ -31,9 +31,9 @@ pub record At {A : Type 0} (xs : List A) (k : ℕ) : Type 0 where
 there_by : {A : Type 0} (xs : List A) (k : ℕ) (o : Option A) → slice_get xs k ≡ o → k < length xs → At xs k
 there_by xs k (Some x) is near = record { item = x; is = is }
 there_by xs k None is near = elim (slice_get_cases xs k).1 [
-    inl found ↦ record { item = found.0; is = found.1.1.0 }
+  | inl found ↦ record { item = found.0; is = found.1.1.0 }
   | inr past ↦ absurd (let far = past.0 in omega (arith, far, near))
-  ]
+]
 
 pub there : {A : Type 0} (xs : List A) (k : ℕ) → k < length xs → At xs k
 there xs k near = there_by xs k (slice_get xs k) refl near

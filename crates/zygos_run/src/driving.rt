@@ -13,8 +13,10 @@ use std::sync::Wait;
 use std::thread::Threads;
 use zy_base::{Gate, Source};
 use zy_core::{Cores, Driven, Shared, drive, drive_ordered};
-
-use zy_feed::{CaptureFeeder, Inlets, Intake, Stop, a_broken_feeder_has_its_cause, a_feeder_that_ended_has_offered_the_capture};
+use zy_feed::{
+    CaptureFeeder, Inlets, Intake, Stop, a_broken_feeder_has_its_cause,
+    a_feeder_that_ended_has_offered_the_capture,
+};
 use zy_feeder::Feeder;
 use zy_words::Run;
 

@@ -12,3 +12,6 @@ mod standard;
 pub use answer::{Answer, Refusal, status};
 pub use serving::serve;
 pub use standard::{StdSink, StdSource};
+
+#[cfg(test)]
+mod tests;

@@ -50,11 +50,12 @@ pub(crate) fn run_capture<R: Threads + Wait + Sync, S: Source, G: Gate + Sync>(
         Ok(prepared) => prepared,
         Err(_) => return Err(Stop::NoMemory),
     };
-    let Ran { cores, inlets } =
-        match drive_capture(rt, alloc, run, source, intake, cores, inlets, &shared, gate) {
-            Ok(ran) => ran,
-            Err(stop) => return Err(stop),
-        };
+    let Ran { cores, inlets } = match drive_capture(
+        rt, alloc, run, source, intake, cores, inlets, &shared, gate,
+    ) {
+        Ok(ran) => ran,
+        Err(stop) => return Err(stop),
+    };
     let Taken { homes, store } = match take(alloc, cores, shared, inlets) {
         Ok(taken) => taken,
         Err(_) => return Err(Stop::NoMemory),
