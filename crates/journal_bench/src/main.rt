@@ -49,12 +49,7 @@ fn now<R: CpuClock>(rt: &R) -> u64 {
 }
 
 // Merges histories of so many entries together.
-fn merging<R: CpuClock>(
-    rt: &R,
-    alloc: Global,
-    entries: u64,
-    shards: u32,
-) -> Result<Done, NoMemory>
+fn merging<R: CpuClock>(rt: &R, alloc: Global, entries: u64, shards: u32) -> Result<Done, NoMemory>
     requires few { (entries ≤ 2 ^ 32) × (0 < shards) × (shards ≤ 256) }
 {
     let made = histories(alloc, shards, entries / u64::from(shards))?;
