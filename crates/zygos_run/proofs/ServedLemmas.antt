@@ -6,8 +6,16 @@ use Rattle.zy_capture.specs.Verdict.{verdict}
 use Rattle.zy_capture.specs.Verdict.Verdict.{Good}
 use Rattle.zy_journal.specs.declared.journal.Journal.{Journal}
 use Rattle.zy_finish.specs.declared.finishing.Finished.{Finished}
+use Rattle.std.specs.Prelude.{Option, Ok}
+use Rattle.zy_capture.specs.Capture.{IsCapture}
+use Rattle.zy_rx.specs.declared.rx.Rx.{Rx}
+use Rattle.zy_home.specs.Home.{Homed}
+use Rattle.zy_feed.specs.declared.intake.Header.{Header}
+use Rattle.zy_feed.specs.Feeding.{HasFedAll}
+use Rattle.zy_make.specs.Received.{AllSent, HaveReceived}
 use Rattle.zy_finish.specs.Finish.{IsFinished}
 use Rattle.zygos_run.specs.Headline.{IsServed, outputs_of}
+use Rattle.zygos_run.specs.Ends.{RunsTo}
 
 pub served_of : (shards version count : ℕ) (records : List Record) (bytes : List ℕ) (done : Finished) → verdict bytes ≡ Good version count records → IsFinished shards version count records done
     → IsServed shards bytes done.journal done.outputs
@@ -21,3 +29,12 @@ served_of shards version count records bytes done good is = record {
   holds = is.spans;
   replies = ap₂ (λ v s. record { version = v; sessions = s }) is.version_is is.outputs;
 }
+
+-- a capture that was fed whole to cores whose homes have received all of it
+pub runs_to : {S : Type 0} (rest : S → Option (List ℕ)) (faults : S → ℕ) (shards : ℕ) (source source' : S) (header : Header) (sents : List (List Rx)) (homes : List Homed) (done : Finished) → HasFedAll rest faults source source' header sents
+    → ((records : List Record) → AllSent sents records → HaveReceived homes records)
+    → ((records : List Record) → IsCapture header.version header.count records → HaveReceived homes records → IsFinished shards header.version header.count records done)
+    → RunsTo rest faults shards source source' (Ok done)
+runs_to rest faults shards source source' header sents homes done fed received finished =
+    let is = finished fed.records fed.lawful (received fed.records fed.sent) in
+    (fed.bytes, ((fed.source, fed.end), (served_of shards header.version header.count fed.records fed.bytes done fed.good is, (is.lawful, is.journal))))

@@ -1,0 +1,2 @@
+use Rattle.zygos_run.proofs.PreparedLemmas.{ready_of, prepared_of}
+use Rattle.zygos_run.proofs.running.prepare.Goals as goal
