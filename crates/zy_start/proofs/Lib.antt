@@ -1,3 +1,4 @@
 pub mod OwnLemmas
 pub mod PassLemmas
 pub mod MadeLemmas
+pub mod TestLemmas

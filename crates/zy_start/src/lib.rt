@@ -6,5 +6,7 @@ mod made;
 mod own;
 mod ringing;
 mod starting;
+#[cfg(test)]
+mod tests;
 
 pub use starting::{Started, start};
