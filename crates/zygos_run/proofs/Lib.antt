@@ -1,3 +1,4 @@
 mod PreparedLemmas
+mod FeedLemmas
 mod OverLemmas
 mod ServedLemmas

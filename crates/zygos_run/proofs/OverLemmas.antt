@@ -1,8 +1,7 @@
 -- The homes of cores that were prepared and driven until all are settled are over.
 use Rattle.std.proofs.Common.{◌≡◌, ℕ, ◌≤◌, List, length, refl, sym, ◌∙◌, ap, subst, arith, true}
 use Rattle.std.specs.Prelude.{Some, slice_get}
-use Rattle.std.proofs.lemmas.List.{length-map}
-use Rattle.std.proofs.lemmas.Option.{slice_get-map}
+use Rattle.zy_make.proofs.ListLemmas.{map_at, length_map}
 use Rattle.atomic_table.specs.Seated.{TableId}
 use Rattle.zy_capture.specs.Capture.{connection_limit}
 use Rattle.zy_home.specs.Home.{Homed, is_settled}
@@ -12,19 +11,16 @@ use Rattle.zy_make.specs.Station.{Station, station_of, stations_of, stations_in,
 use Rattle.zy_make.specs.Received.{AreSettled}
 use Rattle.zygos_run.specs.Prepared.{IsStation, AreStations}
 
-station_there : (homes : List Homed) (core : ℕ) (h : Homed) → slice_get homes core ≡ Some h → slice_get (stations_of homes) core ≡ Some (station_of h)
-station_there homes core h found = slice_get-map station_of homes core ∙ rw found refl
-
 pub over_of : (store : TableId) (count : ℕ) (ids : List Identity) (homes : List Homed) → count ≤ connection_limit → 1 ≤ length ids → length ids ≤ 64
     → AreStations store count (stations_in ids) → stations_of homes ≡ stations_in ids → AreSettled homes → AreOver store count homes
 over_of store count ids homes within some few stations same settled =
-    let all : length homes ≡ length ids = sym (length-map station_of homes) ∙ ap length same ∙ length-map station_in ids in
-    let wide : length (stations_in ids) ≡ length homes = length-map station_in ids ∙ sym all in
+    let all : length homes ≡ length ids = sym (length_map station_of homes) ∙ ap length same ∙ length_map station_in ids in
+    let wide : length (stations_in ids) ≡ length homes = length_map station_in ids ∙ sym all in
     record {
       some = omega (arith, all, some);
       few = omega (arith, all, few);
       connections = within;
       each = λ core h found.
-          let is = stations core (station_of h) (subst (λ (l : List Station). slice_get l core ≡ Some (station_of h)) same (station_there homes core h found)) in
+          let is = stations core (station_of h) (subst (λ (l : List Station). slice_get l core ≡ Some (station_of h)) same (map_at station_of homes core h found)) in
           record { core_is = is.core_is; cores_is = is.cores_is ∙ wide; count_is = is.count_is; settled = settled core h found; label = is.label_is };
     }

@@ -1,8 +1,9 @@
 -- What a run begins with can be made into cores, which are then prepared to be driven.
 use Rattle.std.proofs.Common.{◌≡◌, ℕ, ◌<◌, ◌≤◌, List, length, map, refl, sym, ◌∙◌, ap, subst, arith, inl, inr}
 use Rattle.std.specs.Prelude.{Option, Some, None, slice_get, option_map}
-use Rattle.std.proofs.lemmas.Option.{slice_get-map, slice_get_within, slice_get_cases}
-use Rattle.std.proofs.lemmas.List.{length-map}
+use Rattle.std.proofs.lemmas.Option.{slice_get_within}
+use Rattle.zy_home.proofs.JoinLemmas.{some_there}
+use Rattle.zy_make.proofs.ListLemmas.{of_map, length_map}
 use Rattle.zy_table.specs.Name.{name_of}
 use Rattle.atomic_table.specs.Seated.{TableId}
 use Rattle.mc_store.specs.Pass.{Rooted, Stored}
@@ -28,15 +29,8 @@ pub record At {A : Type 0} (xs : List A) (k : ℕ) : Type 0 where
   pub item : A
   pub is : slice_get xs k ≡ Some item
 
-there_by : {A : Type 0} (xs : List A) (k : ℕ) (o : Option A) → slice_get xs k ≡ o → k < length xs → At xs k
-there_by xs k (Some x) is near = record { item = x; is = is }
-there_by xs k None is near = elim (slice_get_cases xs k).1 [
-  | inl found ↦ record { item = found.0; is = found.1.1.0 }
-  | inr past ↦ absurd (let far = past.0 in omega (arith, far, near))
-]
-
-pub there : {A : Type 0} (xs : List A) (k : ℕ) → k < length xs → At xs k
-there xs k near = there_by xs k (slice_get xs k) refl near
+there : {A : Type 0} (xs : List A) (k : ℕ) → k < length xs → At xs k
+there xs k near = let found = some_there xs k near in record { item = found.0; is = found.1 }
 
 -- ---- the parts
 
@@ -86,15 +80,8 @@ pub record HomeAt (homes : List Homed) (core : ℕ) (s : Station) : Type 0 where
   pub found : slice_get homes core ≡ Some home
   pub same : station_of home ≡ s
 
-home_by : (homes : List Homed) (core : ℕ) (s : Station) (o : Option Homed) → slice_get homes core ≡ o → option_map station_of o ≡ Some s → HomeAt homes core s
-home_by homes core s None is e = cc
-home_by homes core s (Some h) is e = let same : station_of h ≡ s = cc in record { home = h; found = is; same = same }
-
-pub home_at : (homes : List Homed) (core : ℕ) (s : Station) → slice_get (stations_of homes) core ≡ Some s → HomeAt homes core s
-home_at homes core s e = home_by homes core s (slice_get homes core) refl (sym (slice_get-map station_of homes core) ∙ e)
-
-length_of : (homes : List Homed) → length (stations_of homes) ≡ length homes
-length_of homes = length-map station_of homes
+home_at : (homes : List Homed) (core : ℕ) (s : Station) → slice_get (stations_of homes) core ≡ Some s → HomeAt homes core s
+home_at homes core s at = let found = of_map station_of homes core s at in record { home = found.0; found = found.1; same = found.2 }
 
 stations_new : (count cores shards : ℕ) (start : Started) (stations : List Station) → starts.IsStart count cores shards start → stations ≡ stations_of start.homes.items
     → AreStations start.store.id count stations
@@ -102,7 +89,7 @@ stations_new count cores shards start stations is same core s e =
     let at = home_at start.homes.items core s (subst (λ (l : List Station). slice_get l core ≡ Some s) same e) in
     let ring = ring_at count cores shards start is core at.home at.found in
     let new = is.homes core at.home ring.item at.found ring.is in
-    let all : length stations ≡ cores = ap length same ∙ length_of start.homes.items ∙ is.homes_count in
+    let all : length stations ≡ cores = ap length same ∙ length_map station_of start.homes.items ∙ is.homes_count in
     subst (IsStation start.store.id (length stations) count core) at.same
     (record { core_is = new.core_is; cores_is = new.cores_is ∙ sym all; count_is = new.count_is; label_is = new.label_is })
 

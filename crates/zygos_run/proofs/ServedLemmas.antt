@@ -37,4 +37,4 @@ pub runs_to : {S : Type 0} (rest : S → Option (List ℕ)) (faults : S → ℕ)
     → RunsTo rest faults shards source source' (Ok done)
 runs_to rest faults shards source source' header sents homes done fed received finished =
     let is = finished fed.records fed.lawful (received fed.records fed.sent) in
-    (fed.bytes, ((fed.source, fed.end), (served_of shards header.version header.count fed.records fed.bytes done fed.good is, (is.lawful, is.journal))))
+    (fed.bytes, (fed.source, fed.end), served_of shards header.version header.count fed.records fed.bytes done fed.good is, is.lawful, is.journal)

@@ -1,0 +1,29 @@
+-- A feeder that was made of an intake that has begun, and of inlets that nothing was sent to.
+use Rattle.std.proofs.Common.{◌≡◌, ℕ, ◌≤◌, List, sym, subst}
+use Rattle.std.specs.Prelude.{Option, Some}
+use Rattle.zy_rx.specs.Ring.{Offering}
+use Rattle.zy_feeder.specs.Feed.{sent_by}
+use Rattle.zy_feed.specs.declared.stop.Stop.{Stop}
+use Rattle.zy_feed.specs.declared.stage.Stage.{Stage}
+use Rattle.zy_feed.specs.declared.stage.Stage.TheVariants.{Cutting, Ended}
+use Rattle.zy_feed.specs.declared.intake.Header.{Header}
+use Rattle.zy_feed.specs.Reads.{InPieces, HasBegun, StopsBy}
+use Rattle.zy_feed.specs.Feeding.{feeding, stop_in, AreUnsent, HasFedAll, Leads}
+use Rattle.zy_feed.proofs.WholeLemmas.{fed_all, has_cause, counts_on}
+
+-- what it was made of, and what it is later
+module _ {S : Type 0} (rest : S → Option (List ℕ)) (faults : S → ℕ) (first : S) (header : Header) (given now later : S) (intake made further : InPieces) (inlets ends after : List Offering) (stage stage' : Stage) (begins : HasBegun rest faults first given intake header) (unsent : AreUnsent (sent_by inlets)) (same : now ≡ given) (is : made ≡ intake) (are : ends ≡ inlets) (cutting : stage ≡ Cutting) (leads : Leads rest faults (feeding now made ends stage) (feeding later further after stage')) where
+  begun : HasBegun rest faults first now made header
+  begun = subst (λ (s : S). HasBegun rest faults first s made header) (sym same) (subst (λ (i : InPieces). HasBegun rest faults first given i header) (sym is) begins)
+
+  none : AreUnsent (sent_by ends)
+  none = subst (λ (l : List Offering). AreUnsent (sent_by l)) (sym are) unsent
+
+  pub fed : stage' ≡ Ended → HasFedAll rest faults first later header (sent_by after)
+  fed ended = fed_all rest faults first header (feeding now made ends stage) (feeding later further after stage') begun none cutting ended leads
+
+  pub stopped : (stop : Stop) → stop_in stage' ≡ Some stop → StopsBy rest faults first later stop
+  stopped stop broken = (has_cause rest faults first header (feeding now made ends stage) (feeding later further after stage') stop begun none cutting broken leads).cause
+
+  pub counted : faults first ≤ faults later
+  counted = counts_on rest faults first header (feeding now made ends stage) (feeding later further after stage') begun none cutting leads
