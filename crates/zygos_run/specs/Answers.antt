@@ -58,7 +58,7 @@ refusal_line (Capture fault) = fault_line fault
 -- the line of an answer that is no refusal; of a served run nothing is said
 abbrev pub plain_line : Answer → List ℕ
 plain_line (Served journal) = []
-plain_line Usage = codes "zygos: usage: zygos run [options]\n"
+plain_line Usage = codes "zygos: usage: zygos run|check|gen|self [options]\n"
 plain_line (Refused refusal) = []
 plain_line ReadFault = codes "zygos: reading failed\n"
 plain_line WriteFault = codes "zygos: writing failed\n"
