@@ -37,12 +37,27 @@ struct Case(
     u64,
 );
 
-const CASES: [Case; 8] = [
+const CASES: [Case; 10] = [
     Case(&[b"run"], EMPTY, 0, b"ZYGREP1\nE", 0),
     Case(&[b"run", b"--cores=1"], FIRST, 0, FIRST_REPLIES, 2),
     Case(&[b"run", b"--cores", b"2"], TWO, 0, TWO_REPLIES, 2),
     Case(
         &[b"run", b"--cores=3", b"--threads=1", b"--order=5"],
+        TWO,
+        0,
+        TWO_REPLIES,
+        2,
+    ),
+    // more cores than connections, on one thread and on eight
+    Case(
+        &[b"run", b"--cores=64", b"--threads=1", b"--order", b"9"],
+        FIRST,
+        0,
+        FIRST_REPLIES,
+        2,
+    ),
+    Case(
+        &[b"run", b"--cores=8", b"--shards=1"],
         TWO,
         0,
         TWO_REPLIES,
