@@ -78,6 +78,7 @@ const CASES: [Case; 10] = [
 ];
 
 // Counts how often it was passed.
+#[derive(Drop)]
 struct Counted {
     passed: AtomicU64,
 }
