@@ -18,7 +18,7 @@ const FIRST: &[u8] = b"ZYGCAP1\n\0\0\0\x01S\0\0\0\0\0\0\0\x17set a 0 0 1\r\nx\r\
 const FIRST_REPLIES: &[u8] =
     b"ZYGREP1\nR\0\0\0\0\0\0\0\0\0\0\0\x1dSTORED\r\nVALUE a 0 1\r\nx\r\nEND\r\nE";
 
-// Two connections, of which the first quits with a command behind it.
+// Two connections, of which the first quits with a command behind it: one command in all.
 const TWO: &[u8] =
     b"ZYGCAP1\n\0\0\0\x02S\0\0\0\0\0\0\0\x0dquit\r\nget a\r\nS\0\0\0\x01\0\0\0\x05get bS\0\0\0\x01\0\0\0\x02\r\nE";
 
@@ -40,13 +40,13 @@ struct Case(
 const CASES: [Case; 10] = [
     Case(&[b"run"], EMPTY, 0, b"ZYGREP1\nE", 0),
     Case(&[b"run", b"--cores=1"], FIRST, 0, FIRST_REPLIES, 2),
-    Case(&[b"run", b"--cores", b"2"], TWO, 0, TWO_REPLIES, 2),
+    Case(&[b"run", b"--cores", b"2"], TWO, 0, TWO_REPLIES, 1),
     Case(
         &[b"run", b"--cores=3", b"--threads=1", b"--order=5"],
         TWO,
         0,
         TWO_REPLIES,
-        2,
+        1,
     ),
     // more cores than connections, on one thread and on eight
     Case(
@@ -61,7 +61,7 @@ const CASES: [Case; 10] = [
         TWO,
         0,
         TWO_REPLIES,
-        2,
+        1,
     ),
     // a connection that sends nothing
     Case(
