@@ -17,6 +17,9 @@ use zy_base::{NoMemory, read_number};
 fn main(rt: HostRuntime) -> ExitCode {
     let which = word(&rt, 1);
     let calls = word(&rt, 2).min(1 << 32);
+    if calls == 0 {
+        return ExitCode::from(0);
+    }
     let Ok(start) = Instant::now(&rt) else {
         return ExitCode::from(1);
     };
