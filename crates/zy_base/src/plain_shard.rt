@@ -198,7 +198,7 @@ impl PlainShard {
 }
 
 fn hit(item: &Item) -> Result<CallReply, NoMemory>
-    ensures { IfOk result (λ reply. reply ≡ Hit item.now.flags item.now.unique item.now.value) }
+    ensures hit { IfOk result (λ reply. reply ≡ Hit item.now.flags item.now.unique item.now.value) }
 {
     Ok(CallReply::Hit {
         flags: item.flags,
@@ -209,7 +209,7 @@ fn hit(item: &Item) -> Result<CallReply, NoMemory>
 
 // The item of the first of these keys that is this one.
 fn first_item<'a>(items: &'a [(Blob, Item)], key: &Blob) -> Option<&'a Item>
-    ensures { option_copied result ≡ get (items_of items.now) key.now }
+    ensures found { option_copied result ≡ get (items_of items.now) key.now }
 {
     for pair in items {
         if key.cmp(&pair.0).is_eq() {
@@ -221,7 +221,7 @@ fn first_item<'a>(items: &'a [(Blob, Item)], key: &Blob) -> Option<&'a Item>
 
 // Leaves out the items of this key.
 fn leave_out(items: &mut Vec<(Blob, Item)>, key: &Blob)
-    ensures { items.new.items ≡ filter (λ pair. not (eq_by_cmp (slice_cmp nat_cmp) key.now pair.0)) items.old.items }
+    ensures left { items.new.items ≡ filter (λ pair. not (eq_by_cmp (slice_cmp nat_cmp) key.now pair.0)) items.old.items }
 {
     items.retain(|pair| key.cmp(&pair.0).is_ne());
 }

@@ -52,7 +52,7 @@ pub(crate) fn start_group<'s, E, R: Wait + Sync, G: Gate + Sync>(
         Keeps { before },
         move || -> Group
             requires { EachFits shared.now (identities group.cores) }
-            ensures { identities result.cores ≡ identities group.cores }
+            ensures same { identities result.cores ≡ identities group.cores }
         { drive_group(rt, group, shared, gate, leave, bit) },
     ) {
         Ok(handle) => Seat::Away(handle),
