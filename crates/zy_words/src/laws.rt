@@ -1,8 +1,9 @@
 //! Worked examples of the definitions: the function does nothing, and its contract is what they compute.
-ghost use Rattle.std.specs.Prelude.{◌≡◌, List, [], ◌∷◌, codes, Some, None};
+ghost use Rattle.std.specs.Prelude.{◌≡◌, ℕ, List, [], ◌∷◌, codes, Some, None};
 ghost use Rattle.zy_words.specs.Grammar.{Word};
-ghost use Rattle.zy_words.specs.Range.{IsRunnable};
+ghost use Rattle.zy_words.specs.Range.{IsRunnable, AreShards, IsMakeable};
 ghost use Rattle.zy_words.specs.declared.request.Run.{Run};
+ghost use Rattle.zy_words.specs.declared.request.Traffic.{Traffic};
 ghost use Rattle.zy_words.specs.declared.request.Out.{Out};
 ghost use Rattle.zy_words.specs.Request.{request_of};
 ghost use Rattle.zy_words.specs.declared.request.Request.TheVariants as Requests;
@@ -27,8 +28,17 @@ pub fn worked_requests()
     ensures too_much { request_of (codes "gen" ∷ codes "--conns=1001" ∷ codes "--commands=1000" ∷ []) ≡ None }
 {}
 
-/// A lawful run has 1 to 64 cores, 1 to as many threads, and 1 to 256 shards.
-pub fn runs_are_in_their_ranges()
-    ensures value { (words : List Word) (run : Run) (out : Out)
+/// A lawful run has 1 to 64 cores, 1 to as many threads, and 1 to 256 shards; a check has 1 to 256
+/// shards; made traffic has 1 to 4,096 connections and at most 1,000,000 commands.
+pub fn requests_are_in_their_ranges()
+    ensures run { (words : List Word) (run : Run) (out : Out)
         → request_of words ≡ Some (Requests.Run run out) → IsRunnable run }
+    ensures check { (words : List Word) (shards : ℕ)
+        → request_of words ≡ Some (Requests.Check shards) → AreShards shards }
+    ensures traffic { (words : List Word) (traffic : Traffic)
+        → request_of words ≡ Some (Requests.Gen traffic) → IsMakeable traffic }
+    ensures self_traffic { (words : List Word) (traffic : Traffic) (run : Run)
+        → request_of words ≡ Some (Requests.SelfTest traffic run) → IsMakeable traffic }
+    ensures self_run { (words : List Word) (traffic : Traffic) (run : Run)
+        → request_of words ≡ Some (Requests.SelfTest traffic run) → IsRunnable run }
 {}
