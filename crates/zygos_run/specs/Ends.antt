@@ -8,19 +8,30 @@ use Rattle.zy_capture.specs.Verdict.{Verdict, verdict}
 use Rattle.zy_capture.specs.Verdict.Verdict.{Good, Bad}
 use Rattle.zy_journal.specs.declared.journal.Journal.{Journal}
 use Rattle.zy_journal.specs.Journal.{IsJournal}
+use Rattle.zy_run.specs.Commands.{commands_in}
+use Rattle.zy_parts.specs.declared.stop.Refusal.TheVariants.{Capture}
+use Rattle.zy_parts.specs.declared.stop.Stop.{Stop as PartStop}
+use Rattle.zy_parts.specs.declared.stop.Stop.TheVariants as PartStops
+use Rattle.zy_parts.specs.Parts.{AreParts, HasPartFault}
+use Rattle.zy_check.specs.declared.verdict.Verdict.{Verdict as Certified}
+use Rattle.zy_check.specs.Given.{given}
+use Rattle.zy_check.specs.Cause.{HasVerdict}
+use Rattle.zy_gen.specs.Traffic.{gen_bytes}
 use Rattle.zy_words.specs.declared.request.Request.{Request}
 use Rattle.zy_words.specs.declared.request.Request.TheVariants as Requests
 use Rattle.zy_words.specs.declared.request.Run.{Run}
 use Rattle.zy_words.specs.declared.request.Out.{Out}
+use Rattle.zy_words.specs.declared.request.Traffic.{Traffic}
 use Rattle.zy_words.specs.Request.{request_of}
 use Rattle.zy_feed.specs.declared.stop.Stop.{Stop}
 use Rattle.zy_feed.specs.declared.stop.Stop.TheVariants as Stops
 use Rattle.zy_finish.specs.declared.finishing.Finished.{Finished}
+use Rattle.zygos_run.specs.declared.summary.Summary.{Summary}
 use Rattle.zygos_run.specs.declared.answer.Answer.{Answer}
-use Rattle.zygos_run.specs.declared.answer.Answer.TheVariants.{Served, Usage, Refused, ReadFault, WriteFault, OutOfMemory}
-use Rattle.zygos_run.specs.declared.answer.Refusal.{Refusal}
-use Rattle.zygos_run.specs.declared.answer.Refusal.TheVariants.{Capture}
+use Rattle.zygos_run.specs.declared.answer.Answer.TheVariants.{Served, Checked, Made, Tested, Usage, Refused, ReadFault, WriteFault, OutOfMemory}
 use Rattle.zygos_run.specs.Headline.{IsServed, IsWritten, IsPartWritten, written}
+use Rattle.zygos_run.specs.Lines.{verdict_line, summary_line}
+use Rattle.zygos_run.specs.Numbers.{summary_of}
 
 -- ---- words
 
@@ -41,9 +52,19 @@ run_in (Some (Requests.Check shards)) = None
 run_in (Some (Requests.Gen traffic)) = None
 run_in (Some (Requests.SelfTest traffic run)) = None
 
--- the run that the words ask for; the words are lawful where there is one
+-- the run that the words ask for, where they ask for one
 abbrev pub asked_of : List (List ℕ) → Option Asked
 asked_of words = run_in (request_of words)
+
+-- the request reads nothing: the words are not lawful, or they ask for traffic, or for a test run
+abbrev pub ReadsNothing : Option Request → Type 0
+ReadsNothing (Some (Requests.Run run out)) = ⊥
+ReadsNothing (Some (Requests.Check shards)) = ⊥
+ReadsNothing request = ⊤
+
+-- the capture of some traffic
+abbrev pub traffic_bytes : Traffic → List ℕ
+traffic_bytes traffic = gen_bytes traffic.number traffic.conns traffic.commands
 
 -- ---- reading
 
@@ -51,25 +72,90 @@ asked_of words = run_in (request_of words)
 abbrev pub ReadsAll : Option (List ℕ) → Option (List ℕ) → List ℕ → Type 0
 ReadsAll before after bytes = Consumes before after bytes × IsAtEnd after
 
+-- ---- what was read
+
+-- of bytes that the source gave, where it tells them, this is so, and it is at its end
+abbrev pub OfGiven : Option (List ℕ) → Option (List ℕ) → (List ℕ → Type 0) → Type 0
+OfGiven before after Holds = (bytes : List ℕ) × ReadsAll before after bytes × Holds bytes
+
+-- the bytes are a capture, a journal and a replies file, one behind the other, and this is the verdict on them
+pub record IsChecked (shards : ℕ) (bytes : List ℕ) (verdict : Certified) : Type 0 where
+  pub streams : List (List (List ℕ))
+  pub journal : Journal
+  pub outputs : AllOutputs
+  pub parts : AreParts bytes streams journal outputs
+  pub verdict_is : HasVerdict (given shards streams journal outputs) verdict
+
+-- a journal and numbers are those of a served run of generated traffic
+pub record IsTested (traffic : Traffic) (shards : ℕ) (journal : Journal) (summary : Summary) : Type 0 where
+  pub outputs : AllOutputs
+  pub served : IsServed shards (traffic_bytes traffic) journal outputs
+  pub summary_is : summary ≡ summary_of served.count (commands_in served.records) journal outputs
+
 -- ---- causes
 
--- each answer has its cause, and leaves source and sink as it says
-abbrev pub HasCause : {S K : Type 0} → (S → Option (List ℕ)) → (S → ℕ) → (K → Option (List ℕ)) → (K → ℕ) → Option Asked → S → S → K → K → Answer → Type 0
-HasCause rest read holds wrote None source source' sink sink' Usage = (source' ≡ source) × (sink' ≡ sink)
-HasCause rest read holds wrote (Some asked) source source' sink sink' (Served journal) =
-    (bytes : List ℕ) × ReadsAll (rest source) (rest source') bytes × IsWritten asked.run.shards asked.out bytes journal (holds sink) (holds sink')
-HasCause rest read holds wrote (Some asked) source source' sink sink' (Refused (Capture fault)) =
+-- how a run ends, and what it leaves of the sink
+abbrev pub RunEnds : {S K : Type 0} → (S → Option (List ℕ)) → (S → ℕ) → (K → Option (List ℕ)) → (K → ℕ) → ℕ → Out → S → S → K → K → Answer → Type 0
+RunEnds rest read holds wrote shards out source source' sink sink' (Served journal) =
+    OfGiven (rest source) (rest source') (λ bytes. IsWritten shards out bytes journal (holds sink) (holds sink'))
+RunEnds rest read holds wrote shards out source source' sink sink' (Refused (Capture fault)) =
     IfSome (rest source) (λ bytes. verdict bytes ≡ Bad fault) × (sink' ≡ sink)
-HasCause rest read holds wrote (Some asked) source source' sink sink' ReadFault = Rose (read source) (read source') × (sink' ≡ sink)
-HasCause rest read holds wrote (Some asked) source source' sink sink' WriteFault =
-    ((bytes : List ℕ) × ReadsAll (rest source) (rest source') bytes × IsPartWritten asked.run.shards asked.out bytes (holds sink) (holds sink'))
+RunEnds rest read holds wrote shards out source source' sink sink' ReadFault = Rose (read source) (read source') × (sink' ≡ sink)
+RunEnds rest read holds wrote shards out source source' sink sink' WriteFault =
+    OfGiven (rest source) (rest source') (λ bytes. IsPartWritten shards out bytes (holds sink) (holds sink')) × Rose (wrote sink) (wrote sink')
+RunEnds rest read holds wrote shards out source source' sink sink' OutOfMemory = sink' ≡ sink
+RunEnds rest read holds wrote shards out source source' sink sink' answer = ⊥
+
+-- how a check ends, and what it leaves of the sink
+abbrev pub CheckEnds : {S K : Type 0} → (S → Option (List ℕ)) → (S → ℕ) → (K → Option (List ℕ)) → (K → ℕ) → ℕ → S → S → K → K → Answer → Type 0
+CheckEnds rest read holds wrote shards source source' sink sink' (Checked found) =
+    OfGiven (rest source) (rest source') (λ bytes. IsChecked shards bytes found) × Grew (holds sink) (holds sink') (verdict_line found)
+CheckEnds rest read holds wrote shards source source' sink sink' (Refused refusal) =
+    IfSome (rest source) (λ bytes. HasPartFault bytes refusal) × (sink' ≡ sink)
+CheckEnds rest read holds wrote shards source source' sink sink' ReadFault = Rose (read source) (read source') × (sink' ≡ sink)
+CheckEnds rest read holds wrote shards source source' sink sink' WriteFault =
+    ((found : Certified) × OfGiven (rest source) (rest source') (λ bytes. IsChecked shards bytes found) × GrewByPrefix (holds sink) (holds sink') (verdict_line found))
     × Rose (wrote sink) (wrote sink')
-HasCause rest read holds wrote asked source source' sink sink' OutOfMemory = sink' ≡ sink
-HasCause rest read holds wrote asked source source' sink sink' answer = ⊥
+CheckEnds rest read holds wrote shards source source' sink sink' OutOfMemory = sink' ≡ sink
+CheckEnds rest read holds wrote shards source source' sink sink' answer = ⊥
+
+-- how making traffic ends, and what it leaves of the sink
+abbrev pub GenEnds : {K : Type 0} → (K → Option (List ℕ)) → (K → ℕ) → Traffic → K → K → Answer → Type 0
+GenEnds holds wrote traffic sink sink' Made = Grew (holds sink) (holds sink') (traffic_bytes traffic)
+GenEnds holds wrote traffic sink sink' WriteFault = GrewByPrefix (holds sink) (holds sink') (traffic_bytes traffic) × Rose (wrote sink) (wrote sink')
+GenEnds holds wrote traffic sink sink' OutOfMemory = sink' ≡ sink
+GenEnds holds wrote traffic sink sink' answer = ⊥
+
+-- how a test run ends, and what it leaves of the sink
+abbrev pub SelfEnds : {K : Type 0} → (K → Option (List ℕ)) → (K → ℕ) → Traffic → ℕ → K → K → Answer → Type 0
+SelfEnds holds wrote traffic shards sink sink' (Tested journal summary) =
+    IsTested traffic shards journal summary × Grew (holds sink) (holds sink') (summary_line summary)
+SelfEnds holds wrote traffic shards sink sink' WriteFault =
+    ((journal : Journal) × (summary : Summary) × IsTested traffic shards journal summary × GrewByPrefix (holds sink) (holds sink') (summary_line summary))
+    × Rose (wrote sink) (wrote sink')
+SelfEnds holds wrote traffic shards sink sink' OutOfMemory = sink' ≡ sink
+SelfEnds holds wrote traffic shards sink sink' answer = ⊥
+
+-- how a call ends whose words are not lawful, and what it leaves of the sink
+abbrev pub UnlawfulEnds : {K : Type 0} → K → K → Answer → Type 0
+UnlawfulEnds sink sink' Usage = sink' ≡ sink
+UnlawfulEnds sink sink' OutOfMemory = sink' ≡ sink
+UnlawfulEnds sink sink' answer = ⊥
+
+-- each answer has its cause, and leaves the sink as it says
+abbrev pub HasCause : {S K : Type 0} → (S → Option (List ℕ)) → (S → ℕ) → (K → Option (List ℕ)) → (K → ℕ) → Option Request → S → S → K → K → Answer → Type 0
+HasCause rest read holds wrote None source source' sink sink' answer = UnlawfulEnds sink sink' answer
+HasCause rest read holds wrote (Some (Requests.Run run out)) source source' sink sink' answer = RunEnds rest read holds wrote run.shards out source source' sink sink' answer
+HasCause rest read holds wrote (Some (Requests.Check shards)) source source' sink sink' answer = CheckEnds rest read holds wrote shards source source' sink sink' answer
+HasCause rest read holds wrote (Some (Requests.Gen traffic)) source source' sink sink' answer = GenEnds holds wrote traffic sink sink' answer
+HasCause rest read holds wrote (Some (Requests.SelfTest traffic run)) source source' sink sink' answer = SelfEnds holds wrote traffic run.shards sink sink' answer
 
 -- the answers after which the sink is as it was
 abbrev pub LeavesSink : Answer → Type 0
 LeavesSink (Served journal) = ⊥
+LeavesSink (Checked found) = ⊥
+LeavesSink Made = ⊥
+LeavesSink (Tested journal summary) = ⊥
 LeavesSink WriteFault = ⊥
 LeavesSink answer = ⊤
 
@@ -83,3 +169,12 @@ RunsTo rest faults shards source source' (Ok done) =
 RunsTo rest faults shards source source' (Err (Stops.Refused fault)) = IfSome (rest source) (λ bytes. verdict bytes ≡ Bad fault)
 RunsTo rest faults shards source source' (Err Stops.ReadFault) = Rose (faults source) (faults source')
 RunsTo rest faults shards source source' (Err Stops.NoMemory) = ⊤
+
+-- ---- checking
+
+-- how a check ends before anything is written: with its verdict, or it stopped, for its cause
+abbrev pub ChecksTo : {S : Type 0} → (S → Option (List ℕ)) → (S → ℕ) → ℕ → S → S → Result Certified PartStop → Type 0
+ChecksTo rest faults shards source source' (Ok found) = OfGiven (rest source) (rest source') (λ bytes. IsChecked shards bytes found)
+ChecksTo rest faults shards source source' (Err (PartStops.Refused refusal)) = IfSome (rest source) (λ bytes. HasPartFault bytes refusal)
+ChecksTo rest faults shards source source' (Err PartStops.ReadFault) = Rose (faults source) (faults source')
+ChecksTo rest faults shards source source' (Err PartStops.NoMemory) = ⊤

@@ -1,5 +1,7 @@
 pub mod Answers
+pub mod Lines
 pub mod Said
+pub mod Numbers
 pub mod Headline
 pub mod Prepared
 pub mod Ends

@@ -2,16 +2,24 @@
 ghost use Rattle.std.specs.Prelude.{◌≡◌};
 ghost use Rattle.zygos_run.specs.Answers.{status_of};
 
-use zy_capture::CaptureFault;
+use crate::summary::Summary;
+use zy_check::Verdict;
 use zy_journal::Journal;
+use zy_parts::Refusal;
 
 /// How the top call ended.
 #[derive(Drop)]
 pub enum Answer {
-    /// The capture was read to its end, its commands were carried out, and all was written. The
-    /// journal has every call on the store with its reply, and which core finished how many commands
-    /// of which connection.
+    /// `run`: the capture was read to its end, its commands were carried out, and all was written.
+    /// The journal has every call on the store with its reply, and which core finished how many
+    /// commands of which connection.
     Served(Journal),
+    /// `check`: the input was read to its end, this is the verdict on it, and its line was written.
+    Checked(Verdict),
+    /// `gen`: the capture was made and written.
+    Made,
+    /// `self`: the capture was made, served and checked, and the line of these numbers was written.
+    Tested(Journal, Summary),
     /// The words are not lawful. Nothing was read or written.
     Usage,
     /// The input has this fault. Nothing was written.
@@ -24,19 +32,14 @@ pub enum Answer {
     OutOfMemory,
 }
 
-/// Why an input is refused: the first fault of the part that has one.
-#[derive(Clone, Copy, Debug, PartialEq, Eq)]
-pub enum Refusal {
-    /// The capture has a fault.
-    Capture(CaptureFault),
-}
-
 /// The exit status of an answer.
 pub fn status(answer: &Answer) -> u8
     ensures value { result ≡ status_of answer.now }
 {
     match answer {
-        Answer::Served(_) => 0,
+        Answer::Served(_) | Answer::Made | Answer::Tested(_, _) => 0,
+        Answer::Checked(Verdict::Yes) => 0,
+        Answer::Checked(Verdict::No(_)) => 1,
         Answer::Usage => 2,
         Answer::Refused(_) => 3,
         Answer::ReadFault => 4,

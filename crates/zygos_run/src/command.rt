@@ -1,25 +1,19 @@
 //! The command that the words ask for.
-ghost use Rattle.std.specs.Prelude.{◌≡◌, ◌≤◌, option_map, IfOk, IfSome};
-ghost use Rattle.zy_base.specs.Outside.{Writes};
-ghost use Rattle.zy_capture.specs.Outputs.{AreOutputs};
-ghost use Rattle.zy_capture.specs.Replies.{replies_bytes};
-ghost use Rattle.zy_journal.specs.Journal.{IsJournal};
-ghost use Rattle.zy_words.specs.Range.{IsRunnable};
-ghost use Rattle.zygos_run.specs.Ends.{HasCause, RunsTo, asked_of, asked};
-ghost use Rattle.zygos_run.specs.Headline.{front, written};
+ghost use Rattle.std.specs.Prelude.{◌≡◌, ◌≤◌};
+ghost use Rattle.zy_words.specs.Request.{request_of};
+ghost use Rattle.zygos_run.specs.Ends.{HasCause, ReadsNothing};
 
-use crate::answer::{Answer, Refusal};
-use crate::running::run_capture;
+use crate::answer::Answer;
+use crate::checking::check_input;
+use crate::making::make_traffic;
+use crate::serving_capture::serve_capture;
+use crate::testing::test_traffic;
 use std::alloc::Global;
 use std::sync::Wait;
 use std::thread::Threads;
-use zy_base::{Blob, Failed, Gate, NoMemory, Sink, Source};
-use zy_capture::{Outputs, write_replies};
-use zy_feed::Stop;
-use zy_finish::Finished;
-use zy_journal::{Journal, write_journal};
-use zy_words::laws::runs_are_in_their_ranges;
-use zy_words::{Out, Request, Run, request_of};
+use zy_base::{Blob, Gate, Sink, Source};
+use zy_words::laws::requests_are_in_their_ranges;
+use zy_words::{Request, request_of};
 
 /// Carries out the command that the words ask for.
 pub(crate) fn carry_out<R: Threads + Wait + Sync, S: Source, K: Sink, G: Gate + Sync>(
@@ -32,67 +26,20 @@ pub(crate) fn carry_out<R: Threads + Wait + Sync, S: Source, K: Sink, G: Gate + 
 ) -> Answer
     ensures reads { S.faults source.old ≤ S.faults source.new }
     ensures writes { K.faults sink.old ≤ K.faults sink.new }
-    ensures cause { HasCause S.rest S.faults K.holds K.faults (asked_of words.now) source.old source.new sink.old sink.new result }
+    ensures cause { HasCause S.rest S.faults K.holds K.faults (request_of words.now) source.old source.new sink.old sink.new result }
+    ensures source_kept { ReadsNothing (request_of words.now) → source.new ≡ source.old }
 {
-    let (run, out) = match asked_of(alloc, words) {
-        Ok(Some(asked)) => asked,
-        Ok(None) => return Answer::Usage,
-        Err(_) => return Answer::OutOfMemory,
-    };
-    match run_capture(rt, alloc, run, source, gate) {
-        Ok(done) => match write_all(sink, out, &done) {
-            Ok(()) => Answer::Served(done.journal),
-            Err(_) => Answer::WriteFault,
-        },
-        Err(Stop::Refused(fault)) => Answer::Refused(Refusal::Capture(fault)),
-        Err(Stop::ReadFault) => Answer::ReadFault,
-        Err(Stop::NoMemory) => Answer::OutOfMemory,
-    }
-}
-
-// The run that the words ask for, and what is written of it; `None` where they ask for none.
-fn asked_of(alloc: Global, words: &[Blob]) -> Result<Option<(Run, Out)>, NoMemory>
-    ensures value { IfOk result (λ found. option_map asked found ≡ asked_of words.now) }
-    ensures runnable { IfOk result (λ found. IfSome found (λ pair. IsRunnable pair.0)) }
-{
-    runs_are_in_their_ranges();
+    requests_are_in_their_ranges();
     match request_of(alloc, words) {
-        Ok(Some(Request::Run { run, out })) => Ok(Some((run, out))),
-        Ok(_) => Ok(None),
-        Err(e) => Err(e),
-    }
-}
-
-// Writes the journal where it is asked for, and the replies, and finishes. Takes no memory.
-fn write_all<K: Sink>(sink: &mut K, out: Out, done: &Finished) -> Result<(), Failed>
-    requires outputs { AreOutputs done.now.outputs }
-    requires journal { IsJournal done.now.journal }
-    ensures writes { Writes K.holds K.faults sink.old sink.new result (written out done.now.journal done.now.outputs) }
-{
-    match write_front(sink, out, &done.journal) {
-        Ok(()) => write_back(sink, &done.outputs),
-        Err(failed) => Err(failed),
-    }
-}
-
-// Writes the replies, and finishes.
-fn write_back<K: Sink>(sink: &mut K, outputs: &Outputs) -> Result<(), Failed>
-    requires outputs { AreOutputs outputs.now }
-    ensures writes { Writes K.holds K.faults sink.old sink.new result (replies_bytes outputs.now) }
-{
-    if let Err(failed) = write_replies(sink, outputs) {
-        return Err(failed);
-    }
-    sink.finish()
-}
-
-// Writes what stands before the replies.
-fn write_front<K: Sink>(sink: &mut K, out: Out, journal: &Journal) -> Result<(), Failed>
-    requires journal { IsJournal journal.now }
-    ensures writes { Writes K.holds K.faults sink.old sink.new result (front out journal.now) }
-{
-    match out {
-        Out::Replies => Ok(()),
-        Out::Both => write_journal(sink, journal),
+        Ok(Some(Request::Run { run, out })) => {
+            serve_capture(rt, alloc, run, out, source, sink, gate)
+        }
+        Ok(Some(Request::Check { shards })) => check_input(alloc, shards, source, sink),
+        Ok(Some(Request::Gen { traffic })) => make_traffic(alloc, traffic, sink),
+        Ok(Some(Request::SelfTest { traffic, run })) => {
+            test_traffic(rt, alloc, traffic, run, sink, gate)
+        }
+        Ok(None) => Answer::Usage,
+        Err(_) => Answer::OutOfMemory,
     }
 }

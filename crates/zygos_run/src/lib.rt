@@ -1,17 +1,27 @@
-//! The top call: words and a capture in, a replies file out.
+//! The top call: words and an input in; replies, a verdict, or a capture out.
 #![tactic(auto)]
 
 mod answer;
+mod checking;
 mod command;
 mod driving;
+mod lines;
+mod making;
+mod numbers;
 mod running;
 mod saying;
 mod serving;
+mod serving_capture;
 mod standard;
+mod summary;
+mod testing;
 
-pub use answer::{Answer, Refusal, status};
+pub use answer::{Answer, status};
 pub use serving::serve;
 pub use standard::{StdSink, StdSource};
+pub use summary::Summary;
+pub use zy_check::{Cause, Verdict};
+pub use zy_parts::Refusal;
 
 #[cfg(test)]
 mod tests;

@@ -1,13 +1,14 @@
 //! The line that is said of an answer.
 ghost use Rattle.std.specs.Prelude.{◌≡◌};
 ghost use Rattle.zy_base.specs.Outside.{Writes};
-ghost use Rattle.zygos_run.specs.Answers.{line_of, plain_line, fault_line, fault_text, fault_middle, line_with, line_with_two};
+ghost use Rattle.zygos_run.specs.Lines.{line_of, plain_line, fault_line, fault_text, fault_middle, journal_text, replies_text, file_line};
 ghost use Rattle.zygos_run.specs.Said.{Said};
 
-use crate::answer::{Answer, Refusal};
-use itoa::Buffer;
-use zy_base::{Failed, Sink, write_pieces, write_whole};
+use crate::answer::Answer;
+use crate::lines::{write_number, write_two};
+use zy_base::{Failed, FileFault, Sink, write_whole};
 use zy_capture::CaptureFault;
+use zy_parts::Refusal;
 
 /// Says the line of the answer. That it fails changes nothing.
 pub(crate) fn say<E: Sink>(says: &mut E, answer: &Answer)
@@ -21,6 +22,12 @@ fn say_line<E: Sink>(says: &mut E, answer: &Answer) -> Result<(), Failed>
 {
     match answer {
         Answer::Refused(Refusal::Capture(fault)) => say_fault(says, *fault),
+        Answer::Refused(Refusal::Journal(fault)) => {
+            say_file_fault(says, journal_text(*fault), *fault)
+        }
+        Answer::Refused(Refusal::Replies(fault)) => {
+            say_file_fault(says, replies_text(*fault), *fault)
+        }
         _ => write_whole(says, plain_line(answer)),
     }
 }
@@ -30,7 +37,8 @@ fn plain_line(answer: &Answer) -> &'static [u8]
     ensures value { result.now ≡ plain_line answer.now }
 {
     match answer {
-        Answer::Served(_) | Answer::Refused(_) => b"",
+        Answer::Served(_) | Answer::Checked(_) | Answer::Made | Answer::Tested(_, _) => b"",
+        Answer::Refused(_) => b"",
         Answer::Usage => b"zygos: usage: zygos run|check|gen|self [options]\n",
         Answer::ReadFault => b"zygos: reading failed\n",
         Answer::WriteFault => b"zygos: writing failed\n",
@@ -45,15 +53,15 @@ fn say_fault<E: Sink>(says: &mut E, fault: CaptureFault) -> Result<(), Failed>
     let text = fault_text(fault);
     let middle = fault_middle(fault);
     match fault {
-        CaptureFault::BadMagic { at } => say_number(says, text, at),
-        CaptureFault::ConnCount { number } => say_number(says, text, number as u64),
-        CaptureFault::BadTag { at, byte } => say_two(says, text, at, middle, byte as u64),
-        CaptureFault::ConnRange { at, number } => say_two(says, text, at, middle, number as u64),
+        CaptureFault::BadMagic { at } => write_number(says, text, at),
+        CaptureFault::ConnCount { number } => write_number(says, text, number as u64),
+        CaptureFault::BadTag { at, byte } => write_two(says, text, at, middle, byte as u64),
+        CaptureFault::ConnRange { at, number } => write_two(says, text, at, middle, number as u64),
         CaptureFault::SegmentLength { at, number } => {
-            say_two(says, text, at, middle, number as u64)
+            write_two(says, text, at, middle, number as u64)
         }
-        CaptureFault::Truncated { at } => say_number(says, text, at),
-        CaptureFault::Trailing { at } => say_number(says, text, at),
+        CaptureFault::Truncated { at } => write_number(says, text, at),
+        CaptureFault::Trailing { at } => write_number(says, text, at),
         CaptureFault::TooLong => write_whole(says, text),
     }
 }
@@ -84,28 +92,34 @@ fn fault_middle(fault: CaptureFault) -> &'static [u8]
     }
 }
 
-// A line with a number at its end.
-fn say_number<E: Sink>(says: &mut E, text: &[u8], number: u64) -> Result<(), Failed>
-    ensures writes { Writes E.holds E.faults says.old says.new result (line_with text.now number) }
+// The line of a fault of a journal or a replies file, which begins so.
+fn say_file_fault<E: Sink>(says: &mut E, text: &[u8], fault: FileFault) -> Result<(), Failed>
+    ensures writes { Writes E.holds E.faults says.old says.new result (file_line text.now fault) }
 {
-    let mut buffer = Buffer::new();
-    let digits = buffer.format(number).as_bytes();
-    write_pieces(says, &[text, digits, b"\n"])
+    match fault {
+        FileFault::Form { at } | FileFault::Truncated { at } => write_number(says, text, at),
+        FileFault::TooLong => write_whole(says, text),
+    }
 }
 
-// A line with two numbers.
-fn say_two<E: Sink>(
-    says: &mut E,
-    text: &[u8],
-    number: u64,
-    middle: &[u8],
-    other: u64,
-) -> Result<(), Failed>
-    ensures writes { Writes E.holds E.faults says.old says.new result (line_with_two text.now number middle.now other) }
+// How the line of a fault of a journal begins.
+fn journal_text(fault: FileFault) -> &'static [u8]
+    ensures value { result.now ≡ journal_text fault }
 {
-    let mut buffer = Buffer::new();
-    let mut other_buffer = Buffer::new();
-    let digits = buffer.format(number).as_bytes();
-    let others = other_buffer.format(other).as_bytes();
-    write_pieces(says, &[text, digits, middle, others, b"\n"])
+    match fault {
+        FileFault::Form { .. } => b"zygos: journal: form at ",
+        FileFault::Truncated { .. } => b"zygos: journal: truncated at ",
+        FileFault::TooLong => b"zygos: journal: too-long\n",
+    }
+}
+
+// How the line of a fault of a replies file begins.
+fn replies_text(fault: FileFault) -> &'static [u8]
+    ensures value { result.now ≡ replies_text fault }
+{
+    match fault {
+        FileFault::Form { .. } => b"zygos: replies: form at ",
+        FileFault::Truncated { .. } => b"zygos: replies: truncated at ",
+        FileFault::TooLong => b"zygos: replies: too-long\n",
+    }
 }

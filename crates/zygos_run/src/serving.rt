@@ -1,12 +1,12 @@
 //! The top call.
-ghost use Rattle.std.specs.Prelude.{◌≡◌, ◌≤◌, None, IfSome};
+ghost use Rattle.std.specs.Prelude.{◌≡◌, ◌≤◌, None};
 ghost use Rattle.zy_base.specs.Outside.{Rose};
-ghost use Rattle.zy_capture.specs.Verdict.{verdict};
-ghost use Rattle.zy_capture.specs.Verdict.Verdict.{Bad};
-ghost use Rattle.zygos_run.specs.declared.answer.Refusal.TheVariants as Refusals;
-ghost use Rattle.zygos_run.specs.Answers.{line_of};
-ghost use Rattle.zygos_run.specs.Ends.{LeavesSink, asked_of};
-ghost use Rattle.zygos_run.specs.Served.{HasServed, HeadlineHolds, HasPart, AsksRun, NoneRose, IsToldGood, IsToldBad, IsServedOr, IsRefusedOr, IsUsageOr};
+ghost use Rattle.zy_words.specs.Request.{request_of};
+ghost use Rattle.zygos_run.specs.Lines.{line_of};
+ghost use Rattle.zygos_run.specs.Ends.{LeavesSink, ReadsNothing, asked_of};
+ghost use Rattle.zygos_run.specs.Served.{HasServed, HeadlineHolds, HasChecked, CheckHolds, HasMade, HasTested};
+ghost use Rattle.zygos_run.specs.Served.{HasPart, IsFaultOf, IsToldGood, IsToldBad, NoneRose};
+ghost use Rattle.zygos_run.specs.Served.{ReadsInput, IsDoneOr, IsRefusedOr, IsUsageOr};
 ghost use Rattle.zygos_run.specs.Said.{Said};
 
 use crate::answer::Answer;
@@ -21,10 +21,14 @@ use zy_base::{Blob, Gate, Sink, Source};
 ///
 /// `words` are the words after the program's name. `run` reads a capture from `source` to its end,
 /// carries out its commands on the cores that the words ask for, and writes the replies file of all
-/// sessions to `sink`, with `--out both` behind the journal; the sink is finished once. A line on an
-/// answer that isn't `Served` goes to `says`; a fault there changes nothing. `gate` is passed once for
-/// each command, when it is begun. Want of memory is free, and comes only before the first byte is
-/// written.
+/// sessions to `sink`, with `--out both` behind the journal. `check` reads a capture, a journal and a
+/// replies file, and writes a line with the verdict on them. `gen` writes the capture of generated
+/// traffic. `self` makes that capture, serves it, checks what came, and writes a line with its
+/// numbers: that the check says yes is proved. The sink is finished once.
+///
+/// A line on an answer that is no success goes to `says`; a fault there changes nothing. `gate` is
+/// passed once for each command, when it is begun. Want of memory is free, and comes only before the
+/// first byte is written.
 pub fn serve<R: Threads + Wait + Sync, S: Source, K: Sink, E: Sink, G: Gate + Sync>(
     rt: &R,
     alloc: Global,
@@ -40,25 +44,37 @@ pub fn serve<R: Threads + Wait + Sync, S: Source, K: Sink, E: Sink, G: Gate + Sy
     ensures served { (j : _) → result ≡ Answer.Served j
         → HasServed (asked_of words.now) (S.rest source.old) (S.rest source.new) (K.holds sink.old) (K.holds sink.new) j }
 
+    // The other commands.
+    ensures verdict { (v : _) → result ≡ Answer.Checked v
+        → CheckHolds (request_of words.now) (S.rest source.old) (S.rest source.new) v }
+    ensures checked { (v : _) → result ≡ Answer.Checked v
+        → HasChecked (request_of words.now) (S.rest source.old) (S.rest source.new) (K.holds sink.old) (K.holds sink.new) v }
+    ensures made { result ≡ Answer.Made → HasMade (request_of words.now) (K.holds sink.old) (K.holds sink.new) }
+    ensures tested { (j m : _) → result ≡ Answer.Tested j m
+        → HasTested (request_of words.now) (K.holds sink.old) (K.holds sink.new) j m }
+
     // The other answers, each with its cause.
-    ensures usage { result ≡ Answer.Usage → asked_of words.now ≡ None }
-    ensures unlawful { asked_of words.now ≡ None → IsUsageOr result }
-    ensures refused { (f : _) → result ≡ Answer.Refused (Refusals.Capture f)
-        → IfSome (S.rest source.old) (λ b. verdict b ≡ Bad f) }
-    ensures read_fault { result ≡ Answer.ReadFault → Rose (S.faults source.old) (S.faults source.new) }
+    ensures usage { result ≡ Answer.Usage → request_of words.now ≡ None }
+    ensures unlawful { request_of words.now ≡ None → IsUsageOr result }
+    ensures refused { (r : _) → result ≡ Answer.Refused r
+        → IsFaultOf (request_of words.now) (S.rest source.old) r }
+    ensures read_fault { result ≡ Answer.ReadFault
+        → ReadsInput (request_of words.now) × Rose (S.faults source.old) (S.faults source.new) }
     ensures write_fault { result ≡ Answer.WriteFault → Rose (K.faults sink.old) (K.faults sink.new) }
     ensures write_part { result ≡ Answer.WriteFault
-        → HasPart (asked_of words.now) (S.rest source.old) (S.rest source.new) (K.holds sink.old) (K.holds sink.new) }
+        → HasPart (request_of words.now) (S.rest source.old) (S.rest source.new) (K.holds sink.old) (K.holds sink.new) }
 
     // When the answer must come, unless memory runs out.
-    ensures complete { AsksRun (asked_of words.now) → IsToldGood (S.rest source.old)
-        → NoneRose (S.faults source.old) (S.faults source.new) (K.faults sink.old) (K.faults sink.new) → IsServedOr result }
-    ensures refuses { (f : _) → AsksRun (asked_of words.now) → IsToldBad (S.rest source.old) f
-        → NoneRose (S.faults source.old) (S.faults source.new) (K.faults sink.old) (K.faults sink.new) → IsRefusedOr f result }
+    ensures complete { IsToldGood (request_of words.now) (S.rest source.old)
+        → NoneRose (S.faults source.old) (S.faults source.new) (K.faults sink.old) (K.faults sink.new)
+        → IsDoneOr (request_of words.now) result }
+    ensures refuses { (r : _) → IsToldBad (request_of words.now) (S.rest source.old) r
+        → NoneRose (S.faults source.old) (S.faults source.new) (K.faults sink.old) (K.faults sink.new)
+        → IsRefusedOr r result }
 
     // What stays.
     ensures sink_kept { LeavesSink result → sink.new ≡ sink.old }
-    ensures source_kept { result ≡ Answer.Usage → source.new ≡ source.old }
+    ensures source_kept { ReadsNothing (request_of words.now) → source.new ≡ source.old }
     ensures reads { S.faults source.old ≤ S.faults source.new }
     ensures writes { K.faults sink.old ≤ K.faults sink.new }
 

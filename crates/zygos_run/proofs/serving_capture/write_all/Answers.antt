@@ -1,7 +1,7 @@
 use Rattle.zy_base.proofs.WritingLemmas.{writes_on, writes_no_more}
 use Rattle.zy_capture.specs.Replies.{replies_bytes}
 use Rattle.zygos_run.specs.Headline.{front}
-use Rattle.zygos_run.proofs.command.write_all.Goals as goal
+use Rattle.zygos_run.proofs.serving_capture.write_all.Goals as goal
 
 pub returns-in-Ok : goal.returns-in-Ok
 returns-in-Ok g c = record {

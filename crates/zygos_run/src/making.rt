@@ -1,0 +1,44 @@
+//! Making traffic.
+ghost use Rattle.std.specs.Prelude.{◌≡◌, ◌≤◌, IfOk};
+ghost use Rattle.zy_base.specs.Outside.{Writes};
+ghost use Rattle.zy_words.specs.Range.{IsMakeable};
+ghost use Rattle.zygos_run.specs.Ends.{GenEnds, traffic_bytes};
+
+use crate::answer::Answer;
+use std::alloc::Global;
+use zy_base::{Blob, Failed, NoMemory, Sink, write_whole};
+use zy_gen::generate;
+use zy_words::Traffic;
+
+/// Makes the capture of some traffic, and writes it.
+pub(crate) fn make_traffic<K: Sink>(alloc: Global, traffic: Traffic, sink: &mut K) -> Answer
+    requires makeable { IsMakeable traffic }
+    ensures writes { K.faults sink.old ≤ K.faults sink.new }
+    ensures cause { GenEnds K.holds K.faults traffic sink.old sink.new result }
+{
+    match capture_of(alloc, traffic) {
+        Err(_) => Answer::OutOfMemory,
+        Ok(capture) => match write_last(sink, capture.bytes()) {
+            Ok(()) => Answer::Made,
+            Err(_) => Answer::WriteFault,
+        },
+    }
+}
+
+/// The capture of some traffic.
+pub(crate) fn capture_of(alloc: Global, traffic: Traffic) -> Result<Blob, NoMemory>
+    requires makeable { IsMakeable traffic }
+    ensures value { IfOk result (λ capture. capture ≡ traffic_bytes traffic) }
+{
+    generate(alloc, traffic.number, traffic.conns, traffic.commands)
+}
+
+// Writes the whole piece, and finishes.
+fn write_last<K: Sink>(sink: &mut K, piece: &[u8]) -> Result<(), Failed>
+    ensures writes { Writes K.holds K.faults sink.old sink.new result piece.now }
+{
+    if let Err(failed) = write_whole(sink, piece) {
+        return Err(failed);
+    }
+    sink.finish()
+}

@@ -1,0 +1,68 @@
+//! The numbers of a test run.
+ghost use Rattle.std.specs.Prelude.{◌≡◌, ◌<◌, ℕ, List, IfOk, length};
+ghost use Rattle.mc_parse.specs.declared.command.Command.{Command};
+ghost use Rattle.zy_capture.specs.Streams.{sessions_of};
+ghost use Rattle.zy_run.specs.Spans.{Spans};
+ghost use Rattle.zygos_run.specs.Numbers.{all_held, bytes_of, all_bytes, summary_of};
+
+use crate::summary::Summary;
+use zy_base::{Hold, NoMemory};
+use zy_capture::Outputs;
+use zy_finish::Finished;
+
+/// The numbers of a run whose holds span its commands.
+pub(crate) fn summary_of(done: &Finished) -> Result<Summary, NoMemory>
+    ensures value { IfOk result (λ summary. (count : ℕ) (commands : ℕ → List Command)
+        → Spans done.now.journal.holds count commands
+        → summary ≡ summary_of count commands done.now.journal done.now.outputs) }
+{
+    Ok(Summary {
+        commands: all_held(done.journal.holds.items())?,
+        calls: done.journal.entries.items().len() as u64,
+        reply_bytes: all_bytes(&done.outputs)?,
+    })
+}
+
+// The counts of all holds, added up.
+fn all_held(holds: &[Hold]) -> Result<u64, NoMemory>
+    ensures value { IfOk result (λ n. n ≡ all_held holds.now) }
+{
+    let mut total = 0;
+    for hold in holds {
+        total = sum(total, hold.count as u64)?;
+    }
+    Ok(total)
+}
+
+// How many bytes the outputs of all connections have.
+fn all_bytes(outputs: &Outputs) -> Result<u64, NoMemory>
+    ensures value { IfOk result (λ n. n ≡ all_bytes outputs.now.sessions) }
+{
+    let mut total = 0;
+    for conn in 0..outputs.count() {
+        total = sum(total, bytes_of(outputs, conn)?)?;
+    }
+    Ok(total)
+}
+
+// How many bytes the outputs of a connection have.
+fn bytes_of(outputs: &Outputs, conn: u32) -> Result<u64, NoMemory>
+    requires within { conn < length outputs.now.sessions }
+    ensures value { IfOk result (λ n. n ≡ bytes_of (sessions_of outputs.now.sessions conn)) }
+{
+    let mut total = 0;
+    for session in 0..outputs.sessions(conn) {
+        total = sum(total, outputs.output(conn, session).len() as u64)?;
+    }
+    Ok(total)
+}
+
+// Two numbers added up, where 64 bits hold the sum.
+fn sum(first: u64, second: u64) -> Result<u64, NoMemory>
+    ensures value { IfOk result (λ n. n ≡ first + second) }
+{
+    match first.checked_add(second) {
+        Some(total) => Ok(total),
+        None => Err(NoMemory),
+    }
+}
