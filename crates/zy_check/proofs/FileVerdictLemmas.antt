@@ -1,7 +1,6 @@
 -- What is given of a capture's records is a run's exactly where the journal and the outputs are.
-use Rattle.std.specs.List.{slice_get, AllByRecursion, range_with_len}
-use Rattle.std.proofs.Common.{◌≡◌, ℕ, zero, suc, ◌+◌, ◌<◌, ◌≤◌, List, [], ◌∷◌, length, map, refl, sym, ap, ◌∙◌, subst, arith}
-use Rattle.std.proofs.lemmas.List.{get_or_past}
+use Rattle.std.specs.List.{AllByRecursion}
+use Rattle.std.proofs.Common.{◌≡◌, ℕ, zero, suc, ◌<◌, ◌≤◌, List, [], ◌∷◌, length, sym, ap, ◌∙◌, subst, arith}
 use Rattle.std.proofs.lemmas.List.FromFn.{fill_by_all, length-map-range_with_len, get_or-map-range_with_len}
 use mathlib.Core.Logic.{dite}
 use native.Mathlib.Decide.{dec_lt}
@@ -14,7 +13,7 @@ use Rattle.zy_capture.proofs.AddLemmas.{streams_size}
 use Rattle.zy_journal.specs.declared.journal.Journal.{Journal}
 use Rattle.zy_journal.specs.Journal.{IsHold, IsJournal}
 use Rattle.mc_parse.specs.Calls.{due}
-use Rattle.zy_run.specs.Commands.{streams_in, commands_in, commands_over, commands_held}
+use Rattle.zy_run.specs.Commands.{streams_in, commands_held}
 use Rattle.zy_run.specs.Run.{AreOfConnections, IsRun}
 use Rattle.zy_run.specs.Output.{outputs_of, all_outputs}
 use Rattle.zy_run.specs.Spans.{AreHoldsOf, Spans}
@@ -22,7 +21,7 @@ use Rattle.zy_run.proofs.StreamLemmas.{streams_held, held_commands, length-strea
 use Rattle.zy_run.proofs.OutputLemmas.{length-outputs_of}
 use Rattle.zy_check.specs.Cause.{IsRight}
 use Rattle.zy_check.specs.OfRun.{IsOfRun, AreOfRun, given_of}
-use Rattle.zy_check.proofs.RunVerdictLemmas.{element_at, no_sessions}
+use Rattle.zy_check.proofs.RunVerdictLemmas.{no_sessions}
 use Rattle.zy_check.proofs.YesVerdictLemmas.{yes_is_run, yes_outputs, yes_spans}
 
 -- ---- all outputs
@@ -50,7 +49,7 @@ module _ (shards count : ℕ) (records : List Record) (journal : Journal) (outpu
   module _ (are : AreOfRun shards count records journal outputs) where
     own_outputs : (conn : ℕ) → sessions_of outputs.sessions conn ≡ outputs_of conn (sessions_of kept conn) journal.entries
     own_outputs conn =
-        ap (λ (l : List (List (List ℕ))). sessions_of l conn) are.outputs
+        ap (λ (l : List (List (List ℕ))). sessions_of l conn) are.replies
         ∙ dite (dec_lt conn count)
         (λ within.
         all_outputs-at count (streams_in records) journal.entries conn within
@@ -132,7 +131,7 @@ module _ (shards count : ℕ) (records : List Record) (journal : Journal) (outpu
         connections = subst (λ (n : ℕ). AreOfConnections n journal.entries) size run.connections;
         calls = λ conn within. run.calls conn (omega (arith, size)) ∙ ap (due shards conn) (held_commands count conn records within);
       };
-      outputs = fill_by_all (λ conn. outputs_of conn (streams_in records conn) journal.entries) outputs.sessions count [] (omega (arith, no_more, no_less)) due_outputs;
+      replies = fill_by_all (λ conn. outputs_of conn (streams_in records conn) journal.entries) outputs.sessions count [] (omega (arith, no_more, no_less)) due_outputs;
       holds = record {
         rising = span.rising;
         connections = subst (λ (n : ℕ). AreHoldsOf n journal.holds) size span.connections;

@@ -1,6 +1,6 @@
 -- On what is given there is one verdict.
 use Rattle.std.specs.List.{slice_get}
-use Rattle.std.proofs.Common.{◌≡◌, inl, inr, ℕ, ◌<◌, ◌≤◌, length, Some, refl, sym, ap, ◌∙◌, subst, arith}
+use Rattle.std.proofs.Common.{◌≡◌, inl, inr, ℕ, ◌<◌, length, Some, refl, sym, ap, ◌∙◌, subst, arith}
 use Rattle.std.proofs.lemmas.Option.{slice_get_within}
 use Rattle.zy_base.specs.Order.{of_connection}
 use Rattle.mc_parse.specs.Calls.{Due}
@@ -8,8 +8,8 @@ use Rattle.zy_check.specs.declared.verdict.Verdict.{Verdict}
 use Rattle.zy_check.specs.declared.verdict.Verdict.TheVariants.{Yes, No}
 use Rattle.zy_check.specs.declared.verdict.Cause.{Cause}
 use Rattle.zy_check.specs.declared.verdict.Cause.TheVariants.{NotNext, WrongReply, Missing, WrongOutput, WrongHolds}
-use Rattle.zy_check.specs.Given.{Given, IsNextAt, AreRight, due_in, IsWhole, found_output, due_output, IsOutput}
-use Rattle.zy_check.specs.Cause.{IsNotNext, IsWrongReply, IsMissing, IsComplete, IsWrongOutput, IsWrongHolds, IsRight, agreeing_in, HasVerdict}
+use Rattle.zy_check.specs.Given.{Given, IsNextAt, AreRight, due_in, IsWhole, found_output, due_output}
+use Rattle.zy_check.specs.Cause.{IsNotNext, IsWrongReply, IsMissing, IsWrongOutput, IsWrongHolds, IsRight, agreeing_in, HasVerdict}
 
 -- two numbers are the same where neither is below the other
 level : (a b : ℕ) → (a < b → ⊥) → (b < a → ⊥) → a ≡ b

@@ -1,5 +1,5 @@
 -- Where what is given is a run's, the verdict is yes.
-use Rattle.std.specs.Prelude.{◌==◌, IfSome, get_or}
+use Rattle.std.specs.Prelude.{IfSome}
 use Rattle.std.specs.List.{slice_get}
 use Rattle.std.proofs.Common.{◌≡◌, inl, inr, ℕ, zero, suc, ◌+◌, ◌<◌, ◌≤◌, List, [], ◌∷◌, ◌++◌, length, take, drop, Option, Some, refl, sym, ap, ◌∙◌, subst, arith}
 use Rattle.std.proofs.lemmas.Bool.Decides.{eqb_tells}
@@ -13,7 +13,7 @@ use Rattle.zy_base.specs.Shard.{empty_state, reply_to}
 use Rattle.zy_base.specs.History.{IsLegal, replayed}
 use Rattle.zy_base.proofs.ReplayLemmas.{IsLegal-front, IsLegal-reply}
 use Rattle.zy_capture.specs.Streams.{sessions_of}
-use Rattle.mc_parse.specs.Calls.{Due, due, due_of, dues_of}
+use Rattle.mc_parse.specs.Calls.{Due, due, due_of}
 use Rattle.zy_run.specs.Commands.{commands_over, commands_held}
 use Rattle.zy_run.specs.Run.{AreOfConnections, IsRun}
 use Rattle.zy_run.specs.Spans.{held_of, AreHoldsOf, Spans}

@@ -1,5 +1,5 @@
 -- Where the verdict is yes, what is given is a run's.
-use Rattle.std.specs.Prelude.{◌==◌, IfSome}
+use Rattle.std.specs.Prelude.{IfSome}
 use Rattle.std.specs.List.{slice_get, AllByRecursion}
 use Rattle.std.proofs.Common.{◌≡◌, inl, inr, ℕ, zero, suc, ◌+◌, ◌<◌, ◌≤◌, List, [], ◌∷◌, ◌++◌, length, take, Option, None, Some, refl, sym, ap, ◌∙◌, subst, arith}
 use Rattle.std.proofs.lemmas.Bool.Decides.{eqb_tells}
@@ -14,12 +14,12 @@ use Rattle.zy_base.specs.History.{IsLegal}
 use Rattle.zy_base.proofs.ReplayLemmas.{IsLegal-push}
 use Rattle.zy_capture.specs.Streams.{sessions_of}
 use Rattle.zy_journal.specs.Journal.{AreByConnection}
-use Rattle.mc_parse.specs.Calls.{Due, due, due_of, dues_of}
+use Rattle.mc_parse.specs.Calls.{due_of, dues_of}
 use Rattle.zy_run.specs.Commands.{commands_over, commands_held}
 use Rattle.zy_run.specs.Run.{AreOfConnections, IsRun}
 use Rattle.zy_run.specs.Output.{outputs_of}
 use Rattle.zy_run.specs.Spans.{held_of, AreHoldsOf, Spans}
-use Rattle.zy_check.specs.Given.{Given, due_in, IsNext, IsAnswered, AreRight, IsWhole}
+use Rattle.zy_check.specs.Given.{Given, due_in, IsNext, IsAnswered, AreRight}
 use Rattle.zy_check.specs.Cause.{IsComplete, IsRight}
 use Rattle.zy_check.proofs.WalkLemmas.{take_next, next_within, right_so_far}
 use Rattle.zy_check.proofs.RunVerdictLemmas.{element_at, no_sessions}

@@ -22,7 +22,7 @@ pub record IsOfRun (g : Given) : Type 0 where
 -- a journal and outputs are those of a run of the commands of these records, which are of so many connections
 pub record AreOfRun (shards count : ℕ) (records : List Record) (journal : Journal) (outputs : AllOutputs) : Type 0 where
   pub run : IsRun shards journal.entries count (commands_in records)
-  pub outputs : outputs.sessions ≡ all_outputs count (streams_in records) journal.entries
+  pub replies : outputs.sessions ≡ all_outputs count (streams_in records) journal.entries
   pub holds : Spans journal.holds count (commands_in records)
 
 -- these records' streams, a journal and outputs
