@@ -3,3 +3,7 @@ pub mod PlaceLemmas
 pub mod CursorLemmas
 pub mod FollowLemmas
 pub mod WalkLemmas
+pub mod OneVerdictLemmas
+pub mod RunVerdictLemmas
+pub mod YesVerdictLemmas
+pub mod FileVerdictLemmas

@@ -1,5 +1,6 @@
 pub mod Given
 pub mod Cause
+pub mod OfRun
 pub mod Own
 pub mod Cursor
 pub mod Follow

@@ -3,10 +3,15 @@
 
 mod cursor;
 mod follow;
+mod laws;
 mod own;
 mod pace;
 mod places;
 mod verdict;
 mod walk;
 
+pub use laws::{
+    a_run_is_right, served_runs_check, there_is_one_verdict, what_checks_is_of_a_run,
+    yes_means_a_run,
+};
 pub use verdict::{Cause, Verdict};

@@ -1,0 +1,5 @@
+use Rattle.zy_check.proofs.OneVerdictLemmas.{one_verdict}
+use Rattle.zy_check.proofs.laws.there_is_one_verdict.Goals as goal
+
+pub returns : goal.returns
+returns c = record { same = one_verdict }

@@ -1,0 +1,67 @@
+//! Laws of the definitions: each is the contract of a function without a body.
+ghost use Rattle.std.specs.Prelude.{◌≡◌, ℕ, ◌<◌, ◌≤◌, List, length, None};
+ghost use Rattle.std.specs.List.{AllByRecursion};
+ghost use Rattle.zy_base.specs.declared.hold.Hold.{Hold};
+ghost use Rattle.zy_base.specs.Order.{IsOrdered};
+ghost use Rattle.zy_capture.specs.declared.record.Record.{Record};
+ghost use Rattle.zy_capture.specs.Outputs.{AllOutputs, AreOutputs};
+ghost use Rattle.zy_capture.specs.Streams.{sessions_of};
+ghost use Rattle.zy_journal.specs.declared.journal.Journal.{Journal};
+ghost use Rattle.zy_journal.specs.Journal.{AreByConnection, IsJournal};
+ghost use Rattle.zy_run.specs.Commands.{commands_held};
+ghost use Rattle.zy_run.specs.Run.{IsRun};
+ghost use Rattle.zy_run.specs.Output.{outputs_of};
+ghost use Rattle.zy_run.specs.Spans.{Spans};
+ghost use Rattle.zy_check.specs.declared.verdict.Verdict.{Verdict};
+ghost use Rattle.zy_check.specs.declared.verdict.Verdict.TheVariants.{Yes};
+ghost use Rattle.zy_check.specs.Given.{Given};
+ghost use Rattle.zy_check.specs.Cause.{HasVerdict};
+ghost use Rattle.zy_check.specs.OfRun.{IsOfRun, AreOfRun, given_of};
+
+/// On what is given there is one verdict.
+pub fn there_is_one_verdict()
+    ensures same { (g : Given) (a b : Verdict) → HasVerdict g a → HasVerdict g b → a ≡ b }
+{}
+
+// ---- runs
+
+/// Where what is given is a run's, the verdict is yes, and no other is.
+pub fn a_run_is_right()
+    ensures right { (g : Given) → IsOfRun g → HasVerdict g Yes }
+    ensures only { (g : Given) (v : Verdict) → IsOfRun g → HasVerdict g v → v ≡ Yes }
+{}
+
+/// Where the verdict is yes, what is given is a run's: of holds this is said where they stand by
+/// rising connection and each counts a command.
+pub fn yes_means_a_run()
+    ensures run { (g : Given) → 1 ≤ g.shards → HasVerdict g Yes
+        → IsRun g.shards g.entries (length g.streams) (commands_held g.streams) }
+    ensures outputs { (g : Given) (conn : ℕ) → HasVerdict g Yes
+        → sessions_of g.outputs conn ≡ outputs_of conn (sessions_of g.streams conn) g.entries }
+    ensures holds { (g : Given) → AreByConnection 0 g.holds
+        → AllByRecursion (λ (h : Hold). 0 < h.count) g.holds → HasVerdict g Yes
+        → Spans g.holds (length g.streams) (commands_held g.streams) }
+{}
+
+// ---- files
+
+/// Where a journal and outputs are those of a run of a capture's records, the verdict on them and
+/// the capture's streams is yes, and no other is.
+pub fn served_runs_check()
+    ensures right { (shards count : ℕ) (records : List Record) (journal : Journal)
+        (outputs : AllOutputs) → AreOfRun shards count records journal outputs
+        → HasVerdict (given_of shards count records journal outputs) Yes }
+    ensures only { (shards count : ℕ) (records : List Record) (journal : Journal)
+        (outputs : AllOutputs) (v : Verdict) → AreOfRun shards count records journal outputs
+        → HasVerdict (given_of shards count records journal outputs) v → v ≡ Yes }
+{}
+
+/// Where the verdict on a journal and outputs that have a spelling and a capture's streams is yes,
+/// they are those of a run of the capture's records, in the order of their stamps.
+pub fn what_checks_is_of_a_run()
+    ensures run { (shards count : ℕ) (records : List Record) (journal : Journal)
+        (outputs : AllOutputs) → 1 ≤ shards → IsJournal journal → AreOutputs outputs
+        → HasVerdict (given_of shards count records journal outputs) Yes
+        → AreOfRun shards count records journal outputs }
+    ensures order { (journal : Journal) → IsJournal journal → IsOrdered None journal.entries }
+{}
