@@ -1,6 +1,7 @@
 //! Checks whether a journal and outputs are those of a run of some streams, and gives the first cause where they are not.
 #![tactic(auto)]
 
+mod checking;
 mod cursor;
 mod follow;
 mod laws;
@@ -10,6 +11,7 @@ mod places;
 mod verdict;
 mod walk;
 
+pub use checking::check;
 pub use laws::{
     a_run_is_right, served_runs_check, there_is_one_verdict, what_checks_is_of_a_run,
     yes_means_a_run,
