@@ -7,3 +7,5 @@ pub mod OneVerdictLemmas
 pub mod RunVerdictLemmas
 pub mod YesVerdictLemmas
 pub mod FileVerdictLemmas
+pub mod SameLawLemmas
+pub mod SomeVerdictLemmas

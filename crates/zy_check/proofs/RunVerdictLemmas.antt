@@ -36,13 +36,20 @@ pub no_sessions : (streams : List (List (List ℕ))) (conn : ℕ) → length str
 no_sessions streams conn past = get_or_past streams conn [] past
 
 -- no hold
-held_none : (count conn : ℕ) (holds : List Hold) → AreHoldsOf count holds → count ≤ conn → held_of conn holds ≡ 0
+pub held_none : (count conn : ℕ) (holds : List Hold) → AreHoldsOf count holds → count ≤ conn → held_of conn holds ≡ 0
 held_none count conn [] are past = refl
 held_none count conn (h ∷ hs) are past =
     elim (eqb_tells h.conn conn) [
       | inl same ↦ (let low = are.0 in let is = same.1 in absurd (omega arith))
       | inr other ↦ rw other.0 (held_none count conn hs are.1 past)
     ]
+
+-- no call due
+pub whole_past : (g : Given) (conn : ℕ) → length g.streams ≤ conn → IsWhole g conn
+whole_past g conn past =
+    let none : length (due_in g conn) ≡ 0 =
+    ap (λ (l : List (List ℕ)). length (due g.shards conn (commands_over l))) (no_sessions g.streams conn past) in
+    omega arith
 
 -- and no entry
 connection_at : (count : ℕ) (es : List Entry) (at : ℕ) (e : Entry) → AreOfConnections count es → slice_get es at ≡ Some e → e.tag.conn < count
@@ -84,10 +91,7 @@ module _ (g : Given) (run : IsRun g.shards g.entries (length g.streams) (command
       let same = ap (λ (l : List Due). length l) (run.calls conn within) in
       let size = length-map (of_connection conn g.entries) due_of in
       omega arith)
-      (λ past.
-      let none : length (due_in g conn) ≡ 0 =
-      ap (λ (l : List (List ℕ)). length (due g.shards conn (commands_over l))) (no_sessions g.streams conn (omega arith)) in
-      omega arith)
+      (λ past. whole_past g conn (omega arith))
 
 -- ---- the holds
 

@@ -18,8 +18,9 @@ ghost use Rattle.zy_check.specs.Given.{Given};
 ghost use Rattle.zy_check.specs.Cause.{HasVerdict};
 ghost use Rattle.zy_check.specs.OfRun.{IsOfRun, AreOfRun, given_of};
 
-/// On what is given there is one verdict.
+/// On whatever is given there is one verdict.
 pub fn there_is_one_verdict()
+    ensures some { (g : Given) → (v : Verdict) × HasVerdict g v }
     ensures same { (g : Given) (a b : Verdict) → HasVerdict g a → HasVerdict g b → a ≡ b }
 {}
 
