@@ -1,0 +1,79 @@
+-- The serial run is a run, and each run has its summary.
+use Rattle.std.proofs.Common.{◌≡◌, ℕ, zero, suc, ◌+◌, ◌<◌, ◌≤◌, List, [], ◌∷◌, ◌++◌, length, refl, sym, ap, ◌∙◌, arith}
+use Rattle.std.specs.Prelude.{flat_map, None}
+use Rattle.std.specs.List.{AllByRecursion, range_with_len}
+use Rattle.std.proofs.lemmas.List.Elements.{recursion_from_All}
+use Rattle.zy_base.specs.declared.entry.Entry.{Entry}
+use Rattle.zy_base.specs.Shard.{State, empty_state}
+use Rattle.zy_base.specs.History.{states_after}
+use Rattle.zy_base.specs.Order.{of_connection, IsOrdered}
+use Rattle.mc_parse.specs.declared.command.Command.{Command}
+use Rattle.mc_parse.specs.Calls.{Due, due, dues_of, IsDueOn}
+use Rattle.mc_parse.proofs.CallLemmas.{due_within}
+use Rattle.zy_run.specs.Run.{AreOfConnections, IsRun}
+use Rattle.zy_run.specs.Output.{all_outputs}
+use Rattle.zy_same.specs.Apart.{AreApart}
+use Rattle.zy_same.specs.Serial.{answered, entry_of, made, all_due, serial}
+use Rattle.zy_same.specs.Summary.{Summary, bytes_in, count_of_commands, commands_of_all, summary, summary_of_run}
+use Rattle.zy_same.proofs.CountLemmas.{length-same}
+use Rattle.zy_same.proofs.DueLemmas.{each-append}
+use Rattle.zy_same.proofs.RunLemmas.{all_outputs-same}
+use Rattle.zy_same.proofs.SerialLemmas.{legal-answered, ordered-answered, own-answered, own-all_due, due_from_of}
+
+-- ---- the serial run
+
+-- what holds of the calls due of each connection holds of all calls due
+each_due : (P : Due → Type 0) (shards : ℕ) (commands : ℕ → List Command) (first n : ℕ) → ((conn : ℕ) → conn < first + n → AllByRecursion P (due shards conn (commands conn)))
+    → AllByRecursion P (flat_map (λ conn. due shards conn (commands conn)) (range_with_len first n))
+each_due P shards commands first zero each = tt
+each_due P shards commands first (suc n) each =
+    each-append P (due shards first (commands first)) (flat_map (λ conn. due shards conn (commands conn)) (range_with_len (first + 1) n))
+    (each first (omega arith)) (each_due P shards commands (first + 1) n (λ conn within. each conn (omega arith)))
+
+connections-answered : (count shards : ℕ) (states : ℕ → State) (stamp : ℕ) (dues : List Due) → AllByRecursion (λ due. due.tag.conn < count) dues → AreOfConnections count (answered shards states stamp dues)
+connections-answered count shards states stamp [] of = tt
+connections-answered count shards states stamp (due ∷ dues) of = (of.0, connections-answered count shards (states_after shards states (entry_of states stamp due)) (stamp + 1) dues of.1)
+
+below_of : (count conn : ℕ) (dues : List Due) → conn < count → AllByRecursion (λ due. due.tag.conn ≡ conn) dues → AllByRecursion (λ due. due.tag.conn < count) dues
+below_of count conn [] within of = tt
+below_of count conn (due ∷ dues) within of = ((let is = of.0 in omega arith), below_of count conn dues within of.1)
+
+-- the serial run is a run
+pub serial_is_run : (shards count : ℕ) (commands : ℕ → List Command) → 1 ≤ shards → IsRun shards (serial shards count commands) count commands
+serial_is_run shards count commands some = record {
+  legal = legal-answered shards (λ number. empty_state) 1 (all_due shards count commands)
+      (each_due (IsDueOn shards) shards commands 0 count (λ conn within. recursion_from_All (IsDueOn shards) (due shards conn (commands conn)) (due_within shards conn (commands conn) some)));
+  connections = connections-answered count shards (λ number. empty_state) 1 (all_due shards count commands)
+      (each_due (λ due. due.tag.conn < count) shards commands 0 count (λ conn within. below_of count conn (due shards conn (commands conn)) (omega arith) (due_from_of shards conn 0 (commands conn))));
+  calls = λ conn within. own-answered conn shards (λ number. empty_state) 1 (all_due shards count commands) ∙ own-all_due shards count conn commands within;
+}
+
+made_ordered : (shards : ℕ) (dues : List Due) → IsOrdered None (made shards dues)
+made_ordered shards [] = tt
+made_ordered shards (due ∷ dues) =
+    (tt, ordered-answered shards (states_after shards (λ number. empty_state) (entry_of (λ number. empty_state) 1 due)) 2 (entry_of (λ number. empty_state) 1 due) dues (omega arith))
+
+-- its entries stand in order of their stamps
+pub serial_ordered : (shards count : ℕ) (commands : ℕ → List Command) → IsOrdered None (serial shards count commands)
+serial_ordered shards count commands = made_ordered shards (all_due shards count commands)
+
+-- ---- summaries
+
+each_below : (count : ℕ) (es : List Entry) → AreOfConnections count es → AllByRecursion (λ e. e.tag.conn < count) es
+each_below count [] of = tt
+each_below count (e ∷ es) of = (of.0, each_below count es of.1)
+
+-- two runs of the same commands have as many entries
+pub length-run : (shards count : ℕ) (commands : ℕ → List Command) (es others : List Entry) → IsRun shards es count commands → IsRun shards others count commands → length es ≡ length others
+length-run shards count commands es others run other =
+    length-same count es others (each_below count es run.connections) (each_below count others other.connections) (λ conn within. run.calls conn within ∙ sym (other.calls conn within))
+
+-- each run of commands that do not meet has the summary of the serial one
+pub summary-run : (shards count : ℕ) (streams : ℕ → List (List ℕ)) (es : List Entry) → 1 ≤ shards → AreApart count (commands_of_all streams) → IsRun shards es count (commands_of_all streams)
+    → summary_of_run count streams es ≡ summary shards count streams
+summary-run shards count streams es some apart run =
+    let other : IsRun shards (serial shards count (commands_of_all streams)) count (commands_of_all streams) = serial_is_run shards count (commands_of_all streams) some in
+    ap (λ (n : ℕ). record { commands = count_of_commands count (commands_of_all streams); calls = n; reply_bytes = bytes_in (all_outputs count streams es) })
+    (length-run shards count (commands_of_all streams) es (serial shards count (commands_of_all streams)) run other)
+    ∙ ap (λ (outputs : List (List (List ℕ))). record { commands = count_of_commands count (commands_of_all streams); calls = length (serial shards count (commands_of_all streams)); reply_bytes = bytes_in outputs })
+    (all_outputs-same shards count streams es (serial shards count (commands_of_all streams)) apart run other)

@@ -1,0 +1,5 @@
+pub mod Apart
+pub mod Serial
+pub mod Summary
+pub mod Told
+pub mod Keyed
