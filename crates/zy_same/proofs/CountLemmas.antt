@@ -1,13 +1,11 @@
--- How many entries lists have whose connections were asked the same.
-use Rattle.std.proofs.Common.{◌≡◌, ℕ, zero, suc, ◌+◌, ◌<◌, ◌≤◌, List, [], ◌∷◌, length, refl, sym, ap, ◌∙◌, subst, arith}
+-- How many entries lists have whose connections have as many.
+use Rattle.std.proofs.Common.{◌≡◌, ℕ, zero, suc, ◌+◌, ◌<◌, ◌≤◌, List, [], ◌∷◌, length, refl, sym, ap, ◌∙◌, arith}
 use Rattle.std.specs.List.{AllByRecursion}
-use Rattle.std.proofs.lemmas.List.{length-map}
 use mathlib.Core.Logic.{dite}
 use native.Mathlib.Decide.{ℕ_discrete}
 use Rattle.zy_base.specs.declared.entry.Entry.{Entry}
 use Rattle.zy_base.specs.Order.{of_connection}
 use Rattle.zy_base.proofs.EntryLemmas.{of_connection-here, of_connection-other}
-use Rattle.mc_parse.specs.Calls.{due_of, dues_of}
 
 -- how many entries of the first so many connections there are, counted connection by connection
 tally : ℕ → List Entry → ℕ
@@ -47,16 +45,15 @@ tally-all : (count : ℕ) (es : List Entry) → AllByRecursion (λ e. e.tag.conn
 tally-all count [] of = sym (tally-none count)
 tally-all count (e ∷ es) of = let rest = tally-all count es of.1 in let more = tally-more count e es of.0 in omega arith
 
-tally-same : (n : ℕ) (es others : List Entry) → ((conn : ℕ) → conn < n → dues_of (of_connection conn es) ≡ dues_of (of_connection conn others)) → tally n es ≡ tally n others
+tally-same : (n : ℕ) (es others : List Entry) → ((conn : ℕ) → conn < n → length (of_connection conn es) ≡ length (of_connection conn others)) → tally n es ≡ tally n others
 unfolding tally
 tally-same zero es others same = refl
 tally-same (suc n) es others same =
     let rest = tally-same n es others (λ conn within. same conn (omega arith)) in
-    let here : length (of_connection n es) ≡ length (of_connection n others) =
-    sym (length-map (of_connection n es) due_of) ∙ ap length (same n (omega arith)) ∙ length-map (of_connection n others) due_of in
+    let here : length (of_connection n es) ≡ length (of_connection n others) = same n (omega arith) in
     omega arith
 
--- two lists whose connections were asked the same have as many entries
+-- two lists whose connections have as many entries have as many entries
 pub length-same : (count : ℕ) (es others : List Entry) → AllByRecursion (λ e. e.tag.conn < count) es → AllByRecursion (λ e. e.tag.conn < count) others
-    → ((conn : ℕ) → conn < count → dues_of (of_connection conn es) ≡ dues_of (of_connection conn others)) → length es ≡ length others
+    → ((conn : ℕ) → conn < count → length (of_connection conn es) ≡ length (of_connection conn others)) → length es ≡ length others
 length-same count es others of of_others same = tally-all count es of ∙ tally-same count es others same ∙ sym (tally-all count others of_others)

@@ -1,15 +1,17 @@
 -- The calls due of connections that are apart are steady, and about keys of their own.
-use Rattle.std.proofs.Common.{◌≡◌, ℕ, ◌+◌, ◌<◌, true, false, List, [], ◌∷◌, ◌++◌, refl, arith}
+use Rattle.std.proofs.Common.{◌≡◌, ℕ, ◌+◌, ◌<◌, true, false, List, [], ◌∷◌, ◌++◌, refl, sym, ap, ◌∙◌, arith}
 use Rattle.std.specs.Prelude.{map, All}
 use Rattle.std.specs.List.{AllByRecursion, Contains}
+use Rattle.std.proofs.lemmas.List.{map-append}
 use Rattle.std.proofs.lemmas.List.Elements.{recursion_from_All, Contains-append_left, Contains-append_right}
+use Rattle.zy_base.specs.declared.call.Call.TheVariants.{Get as GetCall}
 use Rattle.mc_parse.specs.declared.command.Command.{Command}
 use Rattle.mc_parse.specs.declared.command.Command.TheVariants.{Store, Cas, Get, Delete, Count, Version, Verbosity, Flush, Fault}
 use Rattle.mc_parse.specs.declared.verb.Verb.TheVariants.{Set, Add, Replace, Append, Prepend}
 use Rattle.mc_parse.specs.declared.shard_call.ShardCall.{ShardCall}
-use Rattle.mc_parse.specs.Calls.{Due, calls_of, get_at, tagged, due, due_from, due_at}
-use Rattle.zy_same.specs.Apart.{keys_of, all_keys_of, IsPlain, AreApart}
-use Rattle.zy_same.specs.Keyed.{IsKeyed, IsDueOwn}
+use Rattle.mc_parse.specs.Calls.{Due, calls_of, get_at, on_shard, tag_of, tagged, due, due_from, due_at}
+use Rattle.zy_same.specs.Apart.{keys_of, all_keys_of, IsPlain}
+use Rattle.zy_same.specs.Keyed.{IsKeyed, IsDueOwn, bare}
 
 -- ---- lists
 
@@ -70,3 +72,33 @@ pub due_own : (shards count conn : ℕ) (commands : ℕ → List Command) → co
     → AllByRecursion (IsDueOwn shards count (λ c. all_keys_of (commands c))) (due shards conn (commands conn))
 due_own shards count conn commands within plain =
     due_from_own shards count conn 0 (λ c. all_keys_of (commands c)) (commands conn) within (recursion_from_All IsPlain (commands conn) plain) (λ key inside. inside)
+
+-- ---- calls due without their shards
+
+gets_bare : (shards others conn index part : ℕ) (keys : List (List ℕ)) → map bare (tagged conn index part (map (get_at shards) keys)) ≡ map bare (tagged conn index part (map (get_at others) keys))
+gets_bare shards others conn index part [] = refl
+gets_bare shards others conn index part (key ∷ keys) =
+    ap (λ (l : List Due). record { tag = tag_of conn index part; call = on_shard (GetCall key) 0 } ∷ l) (gets_bare shards others conn index (part + 1) keys)
+
+calls_bare : (shards others conn index : ℕ) (command : Command) → IsPlain command → map bare (due_at shards conn index command) ≡ map bare (due_at others conn index command)
+calls_bare shards others conn index (Store verb key flags value quiet) plain = refl
+calls_bare shards others conn index (Cas key flags unique value quiet) plain = refl
+calls_bare shards others conn index (Get keys unique) plain = gets_bare shards others conn index 0 keys
+calls_bare shards others conn index (Delete key quiet) plain = refl
+calls_bare shards others conn index (Count key up amount quiet) plain = refl
+calls_bare shards others conn index Version plain = refl
+calls_bare shards others conn index (Verbosity quiet) plain = refl
+calls_bare shards others conn index (Flush quiet) plain = absurd plain
+calls_bare shards others conn index (Fault line quiet) plain = refl
+
+due_from_bare : (shards others conn index : ℕ) (commands : List Command) → AllByRecursion IsPlain commands → map bare (due_from shards conn index commands) ≡ map bare (due_from others conn index commands)
+due_from_bare shards others conn index [] plain = refl
+due_from_bare shards others conn index (command ∷ commands) plain =
+    map-append bare (due_at shards conn index command) (due_from shards conn (index + 1) commands)
+    ∙ ap (λ (l : List Due). l ++ map bare (due_from shards conn (index + 1) commands)) (calls_bare shards others conn index command plain.0)
+    ∙ ap (λ (l : List Due). map bare (due_at others conn index command) ++ l) (due_from_bare shards others conn (index + 1) commands plain.1)
+    ∙ sym (map-append bare (due_at others conn index command) (due_from others conn (index + 1) commands))
+
+-- but for shards the same calls are due of plain commands, whatever the number of shards
+pub due_bare : (shards others conn : ℕ) (commands : List Command) → All IsPlain commands → map bare (due shards conn commands) ≡ map bare (due others conn commands)
+due_bare shards others conn commands plain = due_from_bare shards others conn 0 commands (recursion_from_All IsPlain commands plain)

@@ -1,18 +1,18 @@
 -- What is seen at one key of a shard depends on the calls with this key alone.
-use Rattle.std.proofs.Common.{◌≡◌, ◌≢◌, ℕ, ◌+◌, ◌<◌, Bool, true, false, cond, List, length, refl, sym, ap, ◌∙◌, subst, Option, None, Some}
+use Rattle.std.proofs.Common.{◌≡◌, ℕ, ◌+◌, Bool, true, false, cond, List, length, refl, sym, ap, ◌∙◌, subst, Option, None, Some}
 use Rattle.std.specs.Prelude.{◌++◌, nat_lt}
 use Rattle.std.specs.Ordering.{nat_cmp, eq_by_cmp, is_eq}
 use Rattle.std.specs.declared.cmp.Ordering.{Ordering}
 use Rattle.std.specs.declared.cmp.Ordering.TheVariants.{Less, Equal, Greater}
 use Rattle.std.specs.Cmp.Lexicographic.{slice_cmp, nat_list_cmp_total}
-use Rattle.std.specs.FinMap.{get, empty, get-empty, get-insert, get-remove, nat_cmp-IsAntisymmetric, slice_cmp-IsAntisymmetric}
+use Rattle.std.specs.FinMap.{get, get-empty, get-insert, get-remove, nat_cmp-IsAntisymmetric, slice_cmp-IsAntisymmetric}
 use Rattle.zy_base.specs.declared.item.Item.{Item}
 use Rattle.zy_base.specs.declared.call.Call.{Call}
 use Rattle.zy_base.specs.declared.call.Call.TheVariants.{Get, Set, Add, Replace, Append, Prepend, Cas, Incr, Decr, Delete, Flush}
 use Rattle.zy_base.specs.declared.call_reply.CallReply.TheVariants.{TooLarge}
 use Rattle.zy_base.specs.Call.{key_of}
 use Rattle.zy_base.specs.Number.{number_of}
-use Rattle.zy_base.specs.Shard.{Items, State, Effect, keeps, stores, removes, empties, value_limit, unique_of, reply_to, state_after, state_with, item_at, outcome_of, outcome_on, answers, stored, joined, counted_up, counted_down, exchanged}
+use Rattle.zy_base.specs.Shard.{Items, State, Effect, keeps, stores, removes, empties, value_limit, unique_of, reply_to, state_after, state_with, item_at, outcome_of, outcome_on, answers, stored, counted_up, counted_down}
 use Rattle.zy_same.specs.Told.{told, seen, seen_at, seen_after, IsSteady, IsAtOnly}
 
 -- ---- what a call answers and does
@@ -155,14 +155,14 @@ effect-same state other call key steady named same =
     ∙ ap (λ found. (outcome_of call found).effect) (ap seen (item-named state.items call key named) ∙ same ∙ sym (ap seen (item-named other.items call key named)))
     ∙ sym (effect-outcome_of call (item_at other.items (key_of call)) steady)
 
--- so a key at which the same is seen has the same after the call
-pub seen_at-both : (shards number : ℕ) (state other : State) (call : Call) (own key : List ℕ) → IsSteady call → key_of call ≡ Some own
-    → seen_at own state ≡ seen_at own other → seen_at key state ≡ seen_at key other → seen_at key (state_after shards number state call) ≡ seen_at key (state_after shards number other call)
-seen_at-both shards number state other call own key steady named same_own same =
+-- so a key at which the same is seen has the same after the call, also where the shards have other numbers
+pub seen_at-both : (shards number shards' number' : ℕ) (state other : State) (call : Call) (own key : List ℕ) → IsSteady call → key_of call ≡ Some own
+    → seen_at own state ≡ seen_at own other → seen_at key state ≡ seen_at key other → seen_at key (state_after shards number state call) ≡ seen_at key (state_after shards' number' other call)
+seen_at-both shards number shards' number' state other call own key steady named same_own same =
     seen_at-state_with shards number state (outcome_on state.items call).effect key
     ∙ ap (λ effect. seen_after effect key (seen_at key state)) (effect-same state other call own steady named same_own)
     ∙ ap (seen_after (outcome_on other.items call).effect key) same
-    ∙ sym (seen_at-state_with shards number other (outcome_on other.items call).effect key)
+    ∙ sym (seen_at-state_with shards' number' other (outcome_on other.items call).effect key)
 
 -- a call leaves what is seen at other keys
 pub seen_at-other : (shards number : ℕ) (state : State) (call : Call) (own key : List ℕ) → IsSteady call → key_of call ≡ Some own → (own ≡ key → ⊥)

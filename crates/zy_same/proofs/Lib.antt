@@ -7,3 +7,5 @@ pub mod TextLemmas
 pub mod OutputLemmas
 pub mod RunLemmas
 pub mod SummaryLemmas
+pub mod CommandLemmas
+pub mod WorkedLemmas

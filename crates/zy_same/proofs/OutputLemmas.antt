@@ -1,11 +1,10 @@
 -- Where two runs tell a connection the same but for uniques, its outputs are the same.
 use Rattle.std.proofs.Common.{◌≡◌, ℕ, zero, suc, ◌+◌, ◌<◌, ◌≤◌, List, [], ◌∷◌, ◌++◌, length, map, refl, sym, ap, ◌∙◌, arith}
-use Rattle.std.specs.Prelude.{flat_map, All}
+use Rattle.std.specs.Prelude.{All}
 use Rattle.std.specs.List.{AllByRecursion, concat, range_with_len, slice_index_or}
 use Rattle.std.proofs.lemmas.List.Elements.{recursion_from_All}
 use Rattle.zy_base.specs.declared.entry.Entry.{Entry}
 use Rattle.zy_base.specs.Order.{of_connection}
-use Rattle.mc_parse.specs.declared.command.Command.{Command}
 use Rattle.mc_reply.specs.Texts.{texts_from}
 use Rattle.zy_frame.specs.Cut.{commands_of}
 use Rattle.zy_run.specs.Commands.{commands_over}

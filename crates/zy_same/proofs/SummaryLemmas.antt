@@ -1,23 +1,22 @@
 -- The serial run is a run, and each run has its summary.
-use Rattle.std.proofs.Common.{◌≡◌, ℕ, zero, suc, ◌+◌, ◌<◌, ◌≤◌, List, [], ◌∷◌, ◌++◌, length, refl, sym, ap, ◌∙◌, arith}
+use Rattle.std.proofs.Common.{◌≡◌, ℕ, zero, suc, ◌+◌, ◌<◌, ◌≤◌, List, [], ◌∷◌, length, ap, ◌∙◌, arith}
 use Rattle.std.specs.Prelude.{flat_map, None}
 use Rattle.std.specs.List.{AllByRecursion, range_with_len}
 use Rattle.std.proofs.lemmas.List.Elements.{recursion_from_All}
 use Rattle.zy_base.specs.declared.entry.Entry.{Entry}
 use Rattle.zy_base.specs.Shard.{State, empty_state}
 use Rattle.zy_base.specs.History.{states_after}
-use Rattle.zy_base.specs.Order.{of_connection, IsOrdered}
+use Rattle.zy_base.specs.Order.{IsOrdered}
 use Rattle.mc_parse.specs.declared.command.Command.{Command}
-use Rattle.mc_parse.specs.Calls.{Due, due, dues_of, IsDueOn}
+use Rattle.mc_parse.specs.Calls.{Due, due, IsDueOn}
 use Rattle.mc_parse.proofs.CallLemmas.{due_within}
 use Rattle.zy_run.specs.Run.{AreOfConnections, IsRun}
 use Rattle.zy_run.specs.Output.{all_outputs}
-use Rattle.zy_same.specs.Apart.{AreApart}
+use Rattle.zy_same.specs.Apart.{commands_of_all, AreApart}
 use Rattle.zy_same.specs.Serial.{answered, entry_of, made, all_due, serial}
-use Rattle.zy_same.specs.Summary.{Summary, bytes_in, count_of_commands, commands_of_all, summary, summary_of_run}
-use Rattle.zy_same.proofs.CountLemmas.{length-same}
+use Rattle.zy_same.specs.Summary.{bytes_in, count_of_commands, summary, summary_of_run}
 use Rattle.zy_same.proofs.DueLemmas.{each-append}
-use Rattle.zy_same.proofs.RunLemmas.{all_outputs-same}
+use Rattle.zy_same.proofs.RunLemmas.{all_outputs-same, length-run}
 use Rattle.zy_same.proofs.SerialLemmas.{legal-answered, ordered-answered, own-answered, own-all_due, due_from_of}
 
 -- ---- the serial run
@@ -59,21 +58,12 @@ serial_ordered shards count commands = made_ordered shards (all_due shards count
 
 -- ---- summaries
 
-each_below : (count : ℕ) (es : List Entry) → AreOfConnections count es → AllByRecursion (λ e. e.tag.conn < count) es
-each_below count [] of = tt
-each_below count (e ∷ es) of = (of.0, each_below count es of.1)
-
--- two runs of the same commands have as many entries
-pub length-run : (shards count : ℕ) (commands : ℕ → List Command) (es others : List Entry) → IsRun shards es count commands → IsRun shards others count commands → length es ≡ length others
-length-run shards count commands es others run other =
-    length-same count es others (each_below count es run.connections) (each_below count others other.connections) (λ conn within. run.calls conn within ∙ sym (other.calls conn within))
-
 -- each run of commands that do not meet has the summary of the serial one
-pub summary-run : (shards count : ℕ) (streams : ℕ → List (List ℕ)) (es : List Entry) → 1 ≤ shards → AreApart count (commands_of_all streams) → IsRun shards es count (commands_of_all streams)
-    → summary_of_run count streams es ≡ summary shards count streams
-summary-run shards count streams es some apart run =
-    let other : IsRun shards (serial shards count (commands_of_all streams)) count (commands_of_all streams) = serial_is_run shards count (commands_of_all streams) some in
+pub summary-run : (shards others count : ℕ) (streams : ℕ → List (List ℕ)) (es : List Entry) → 1 ≤ others → AreApart count (commands_of_all streams) → IsRun shards es count (commands_of_all streams)
+    → summary_of_run count streams es ≡ summary others count streams
+summary-run shards others count streams es some apart run =
+    let serials : IsRun others (serial others count (commands_of_all streams)) count (commands_of_all streams) = serial_is_run others count (commands_of_all streams) some in
     ap (λ (n : ℕ). record { commands = count_of_commands count (commands_of_all streams); calls = n; reply_bytes = bytes_in (all_outputs count streams es) })
-    (length-run shards count (commands_of_all streams) es (serial shards count (commands_of_all streams)) run other)
-    ∙ ap (λ (outputs : List (List (List ℕ))). record { commands = count_of_commands count (commands_of_all streams); calls = length (serial shards count (commands_of_all streams)); reply_bytes = bytes_in outputs })
-    (all_outputs-same shards count streams es (serial shards count (commands_of_all streams)) apart run other)
+    (length-run shards others count (commands_of_all streams) es (serial others count (commands_of_all streams)) apart run serials)
+    ∙ ap (λ (outputs : List (List (List ℕ))). record { commands = count_of_commands count (commands_of_all streams); calls = length (serial others count (commands_of_all streams)); reply_bytes = bytes_in outputs })
+    (all_outputs-same shards others count streams es (serial others count (commands_of_all streams)) apart run serials)

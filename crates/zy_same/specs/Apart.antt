@@ -1,8 +1,9 @@
 -- Connections whose commands do not meet: no key is called by two of them, and no reply tells or compares a unique.
-use Rattle.std.specs.Prelude.{◌≡◌, ℕ, ◌<◌, Bool, true, false, List, [], ◌∷◌, flat_map, All}
+use Rattle.std.specs.Prelude.{◌≡◌, ℕ, ◌<◌, true, List, [], ◌∷◌, flat_map, All}
 use Rattle.std.specs.List.{Contains}
 use Rattle.mc_parse.specs.declared.command.Command.{Command}
-use Rattle.mc_parse.specs.declared.command.Command.TheVariants.{Store, Cas, Get, Delete, Count, Version, Verbosity, Flush, Fault}
+use Rattle.mc_parse.specs.declared.command.Command.TheVariants.{Store, Cas, Get, Delete, Count, Flush}
+use Rattle.zy_run.specs.Commands.{commands_over}
 
 -- the keys that a command calls
 abbrev pub keys_of : Command → List (List ℕ)
@@ -23,6 +24,10 @@ IsPlain (Get keys true) = ⊥
 IsPlain (Cas key flags unique value quiet) = ⊥
 IsPlain (Flush quiet) = ⊥
 IsPlain command = Unit {0}
+
+-- the commands of connections, the streams of whose sessions these are
+abbrev pub commands_of_all : (ℕ → List (List ℕ)) → ℕ → List Command
+commands_of_all streams conn = commands_over (streams conn)
 
 -- the commands of so many connections do not meet
 pub record AreApart (count : ℕ) (commands : ℕ → List Command) : Type 0 where

@@ -3,8 +3,8 @@ use Rattle.std.specs.Prelude.{ℕ, List, length}
 use Rattle.std.specs.List.{range_with_len, sum_by}
 use Rattle.zy_base.specs.declared.entry.Entry.{Entry}
 use Rattle.mc_parse.specs.declared.command.Command.{Command}
-use Rattle.zy_run.specs.Commands.{commands_over}
 use Rattle.zy_run.specs.Output.{all_outputs}
+use Rattle.zy_same.specs.Apart.{commands_of_all}
 use Rattle.zy_same.specs.Serial.{serial}
 
 -- how many commands, calls on shards, and bytes of replies
@@ -20,10 +20,6 @@ count_of_commands count commands = sum_by (λ conn. length (commands conn)) (ran
 -- how many bytes are in the outputs of all sessions of all connections
 abbrev pub bytes_in : List (List (List ℕ)) → ℕ
 bytes_in outputs = sum_by (λ sessions. sum_by length sessions) outputs
-
--- the commands of so many connections, the streams of whose sessions these are
-abbrev pub commands_of_all : (ℕ → List (List ℕ)) → ℕ → List Command
-commands_of_all streams conn = commands_over (streams conn)
 
 -- the summary of a run: its commands, its entries, and the bytes of its outputs
 abbrev pub summary_of_run : ℕ → (ℕ → List (List ℕ)) → List Entry → Summary

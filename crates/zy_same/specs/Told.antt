@@ -1,5 +1,5 @@
--- Items, replies and entries as they are seen without uniques and stamps. No public clause cites this module.
-use Rattle.std.specs.Prelude.{◌≡◌, ℕ, List, [], ◌∷◌, map, Bool, true, false, if◌then◌else◌, Option, None, Some}
+-- Items, replies and entries as they are seen without uniques, shards and stamps. No public clause cites this module.
+use Rattle.std.specs.Prelude.{◌≡◌, ℕ, List, map, if◌then◌else◌, Option, None, Some}
 use Rattle.std.specs.Ordering.{nat_cmp, eq_by_cmp}
 use Rattle.std.specs.Cmp.Lexicographic.{slice_cmp}
 use Rattle.std.specs.FinMap.{get}
@@ -18,11 +18,11 @@ abbrev pub told : CallReply → CallReply
 told (Hit flags unique value) = Hit flags 0 value
 told reply = reply
 
--- an entry without its unique and its stamp
+-- an entry without its shard, its unique and its stamp
 abbrev pub told_of : Entry → Entry
-told_of e = record { tag = e.tag; shard = e.shard; call = e.call; reply = told e.reply; stamp = 0 }
+told_of e = record { tag = e.tag; shard = 0; call = e.call; reply = told e.reply; stamp = 0 }
 
--- entries without uniques and stamps
+-- entries without shards, uniques and stamps
 abbrev pub all_told : List Entry → List Entry
 all_told es = map told_of es
 
