@@ -1,0 +1,11 @@
+pub mod KeyLemmas
+pub mod AloneLemmas
+pub mod DueLemmas
+pub mod SerialLemmas
+pub mod CountLemmas
+pub mod TextLemmas
+pub mod OutputLemmas
+pub mod RunLemmas
+pub mod SummaryLemmas
+pub mod CommandLemmas
+pub mod WorkedLemmas
