@@ -5,13 +5,8 @@ use Rattle.zy_base.specs.declared.entry.Entry.{Entry}
 use Rattle.mc_parse.specs.declared.command.Command.{Command}
 use Rattle.zy_run.specs.Output.{all_outputs}
 use Rattle.zy_same.specs.Apart.{commands_of_all}
+use Rattle.zy_same.specs.declared.summary.Summary.{Summary}
 use Rattle.zy_same.specs.Serial.{serial}
-
--- how many commands, calls on shards, and bytes of replies
-pub record Summary : Type 0 where
-  pub commands : ℕ
-  pub calls : ℕ
-  pub reply_bytes : ℕ
 
 -- how many commands so many connections have
 abbrev pub count_of_commands : ℕ → (ℕ → List Command) → ℕ

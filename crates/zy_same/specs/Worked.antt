@@ -5,7 +5,7 @@ use Rattle.zy_base.specs.declared.call_reply.CallReply.TheVariants as Replies
 use Rattle.zy_base.specs.declared.entry.Entry.{Entry}
 use Rattle.zy_capture.specs.declared.record.Record.{Record}
 use Rattle.zy_capture.specs.declared.record.Record.TheVariants as Kinds
-use Rattle.zy_same.specs.Summary.{Summary}
+use Rattle.zy_same.specs.declared.summary.Summary.{Summary}
 
 -- connection 0 stores "a" and asks for it, and connection 1 asks for "b" in between
 abbrev pub worked_records : List Record

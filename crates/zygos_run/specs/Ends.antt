@@ -8,7 +8,8 @@ use Rattle.zy_capture.specs.Verdict.{Verdict, verdict}
 use Rattle.zy_capture.specs.Verdict.Verdict.{Good, Bad}
 use Rattle.zy_journal.specs.declared.journal.Journal.{Journal}
 use Rattle.zy_journal.specs.Journal.{IsJournal}
-use Rattle.zy_run.specs.Commands.{commands_in}
+use Rattle.zy_run.specs.Commands.{streams_in}
+use Rattle.zy_same.specs.Summary.{summary_of_run}
 use Rattle.zy_parts.specs.declared.stop.Refusal.TheVariants.{Capture}
 use Rattle.zy_parts.specs.declared.stop.Stop.{Stop as PartStop}
 use Rattle.zy_parts.specs.declared.stop.Stop.TheVariants as PartStops
@@ -26,12 +27,11 @@ use Rattle.zy_words.specs.Request.{request_of}
 use Rattle.zy_feed.specs.declared.stop.Stop.{Stop}
 use Rattle.zy_feed.specs.declared.stop.Stop.TheVariants as Stops
 use Rattle.zy_finish.specs.declared.finishing.Finished.{Finished}
-use Rattle.zygos_run.specs.declared.summary.Summary.{Summary}
+use Rattle.zy_same.specs.declared.summary.Summary.{Summary}
 use Rattle.zygos_run.specs.declared.answer.Answer.{Answer}
 use Rattle.zygos_run.specs.declared.answer.Answer.TheVariants.{Served, Checked, Made, Tested, Usage, Refused, ReadFault, WriteFault, OutOfMemory}
 use Rattle.zygos_run.specs.Headline.{IsServed, IsWritten, IsPartWritten, written}
 use Rattle.zygos_run.specs.Lines.{verdict_line, summary_line}
-use Rattle.zygos_run.specs.Numbers.{summary_of}
 
 -- ---- words
 
@@ -90,7 +90,7 @@ pub record IsChecked (shards : ℕ) (bytes : List ℕ) (verdict : Certified) : T
 pub record IsTested (traffic : Traffic) (shards : ℕ) (journal : Journal) (summary : Summary) : Type 0 where
   pub outputs : AllOutputs
   pub served : IsServed shards (traffic_bytes traffic) journal outputs
-  pub summary_is : summary ≡ summary_of served.count (commands_in served.records) journal outputs
+  pub summary_is : summary ≡ summary_of_run served.count (streams_in served.records) journal.entries
 
 -- ---- causes
 

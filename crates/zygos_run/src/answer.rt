@@ -2,10 +2,10 @@
 ghost use Rattle.std.specs.Prelude.{◌≡◌};
 ghost use Rattle.zygos_run.specs.Answers.{status_of};
 
-use crate::summary::Summary;
 use zy_check::Verdict;
 use zy_journal::Journal;
 use zy_parts::Refusal;
+use zy_same::Summary;
 
 /// How the top call ended.
 #[derive(Drop)]

@@ -13,15 +13,14 @@ mod saying;
 mod serving;
 mod serving_capture;
 mod standard;
-mod summary;
 mod testing;
 
 pub use answer::{Answer, status};
 pub use serving::serve;
 pub use standard::{StdSink, StdSource};
-pub use summary::Summary;
 pub use zy_check::{Cause, Verdict};
 pub use zy_parts::Refusal;
+pub use zy_same::Summary;
 
 #[cfg(test)]
 mod tests;

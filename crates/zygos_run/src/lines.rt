@@ -3,10 +3,10 @@ ghost use Rattle.std.specs.Prelude.{◌≡◌};
 ghost use Rattle.zy_base.specs.Outside.{Writes};
 ghost use Rattle.zygos_run.specs.Lines.{line_with, line_with_two, line_with_three, output_line, cause_text, cause_line, verdict_line, summary_line};
 
-use crate::summary::Summary;
 use itoa::Buffer;
 use zy_base::{Failed, Sink, write_pieces, write_whole};
 use zy_check::{Cause, Verdict};
+use zy_same::Summary;
 
 /// Writes a line with a number at its end.
 pub(crate) fn write_number<K: Sink>(sink: &mut K, text: &[u8], number: u64) -> Result<(), Failed>

@@ -1,20 +1,25 @@
 //! The numbers of a test run.
-ghost use Rattle.std.specs.Prelude.{◌≡◌, ◌<◌, ℕ, List, IfOk, length};
-ghost use Rattle.mc_parse.specs.declared.command.Command.{Command};
+ghost use Rattle.std.specs.Prelude.{◌≡◌, ◌+◌, ◌<◌, ℕ, List, IfOk, length};
+ghost use Rattle.std.specs.List.{sum_by};
+ghost use Rattle.zy_capture.specs.declared.record.Record.{Record};
 ghost use Rattle.zy_capture.specs.Streams.{sessions_of};
+ghost use Rattle.zy_run.specs.Commands.{streams_in, commands_in};
 ghost use Rattle.zy_run.specs.Spans.{Spans};
-ghost use Rattle.zygos_run.specs.Numbers.{all_held, bytes_of, all_bytes, summary_of};
+ghost use Rattle.zy_same.specs.Summary.{bytes_in, summary_of_run};
+ghost use Rattle.zygos_run.specs.Headline.{outputs_of};
+ghost use Rattle.zygos_run.specs.Numbers.{all_held};
 
-use crate::summary::Summary;
 use zy_base::{Hold, NoMemory};
 use zy_capture::Outputs;
 use zy_finish::Finished;
+use zy_same::Summary;
 
-/// The numbers of a run whose holds span its commands.
+/// The numbers of a served run.
 pub(crate) fn summary_of(done: &Finished) -> Result<Summary, NoMemory>
-    ensures value { IfOk result (λ summary. (count : ℕ) (commands : ℕ → List Command)
-        → Spans done.now.journal.holds count commands
-        → summary ≡ summary_of count commands done.now.journal done.now.outputs) }
+    ensures value { IfOk result (λ summary. (count version : ℕ) (records : List Record)
+        → Spans done.now.journal.holds count (commands_in records)
+        → done.now.outputs ≡ outputs_of version count records done.now.journal.entries
+        → summary ≡ summary_of_run count (streams_in records) done.now.journal.entries) }
 {
     Ok(Summary {
         commands: all_held(done.journal.holds.items())?,
@@ -36,7 +41,7 @@ fn all_held(holds: &[Hold]) -> Result<u64, NoMemory>
 
 // How many bytes the outputs of all connections have.
 fn all_bytes(outputs: &Outputs) -> Result<u64, NoMemory>
-    ensures value { IfOk result (λ n. n ≡ all_bytes outputs.now.sessions) }
+    ensures value { IfOk result (λ n. n ≡ bytes_in outputs.now.sessions) }
 {
     let mut total = 0;
     for conn in 0..outputs.count() {
@@ -48,7 +53,7 @@ fn all_bytes(outputs: &Outputs) -> Result<u64, NoMemory>
 // How many bytes the outputs of a connection have.
 fn bytes_of(outputs: &Outputs, conn: u32) -> Result<u64, NoMemory>
     requires within { conn < length outputs.now.sessions }
-    ensures value { IfOk result (λ n. n ≡ bytes_of (sessions_of outputs.now.sessions conn)) }
+    ensures value { IfOk result (λ n. n ≡ sum_by length (sessions_of outputs.now.sessions conn)) }
 {
     let mut total = 0;
     for session in 0..outputs.sessions(conn) {

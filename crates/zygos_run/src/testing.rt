@@ -15,7 +15,6 @@ use crate::lines::write_summary;
 use crate::making::capture_of;
 use crate::numbers::summary_of;
 use crate::running::run_capture;
-use crate::summary::Summary;
 use std::alloc::Global;
 use std::sync::Wait;
 use std::thread::Threads;
@@ -27,6 +26,7 @@ use zy_finish::Finished;
 use zy_gen::generated_traffic_is_a_good_capture;
 use zy_journal::Journal;
 use zy_parts::read_streams;
+use zy_same::Summary;
 use zy_words::{Run, Traffic};
 
 /// Serves generated traffic, checks what came, and writes the line of its numbers.
