@@ -29,7 +29,8 @@ request_small kind words =
     let P : DrawnRequest → Type 0 = λ (d : DrawnRequest). IsSmall d.request in
     either P (nat_lt kind 8) _ _ tt (either P (kind == 8) _ _ tt (either P (nat_lt kind 11) _ _ (set_small false words) (either P (kind == 11) _ _ (set_small true words) (either P (kind == 12) _ _ tt (either P (kind == 13) _ _ tt (either P (kind == 14) _ _ tt tt))))))
 
-command_small : (words : Lcg) → IsSmall (draw_command words).command.request
+-- flags and blocks of a command that is drawn are small
+pub command_small : (words : Lcg) → IsSmall (draw_command words).command.request
 command_small words = request_small (draw 16 words).value (draw 64 (draw 16 words).left).left
 
 -- ---- segments

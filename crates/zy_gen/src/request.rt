@@ -2,7 +2,7 @@
 
 /// What a command asks for, beside its key.
 #[derive(Clone, Copy, Debug, PartialEq, Eq)]
-pub(crate) enum Request {
+pub enum Request {
     /// `get` of the key.
     Get,
     /// `get` of 50 keys, this one first.
@@ -21,7 +21,7 @@ pub(crate) enum Request {
 
 /// A command: the number of its key among those of its connection, and what it asks for.
 #[derive(Clone, Copy, Debug)]
-pub(crate) struct Command {
-    pub(crate) item: u32,
-    pub(crate) request: Request,
+pub struct Command {
+    pub item: u32,
+    pub request: Request,
 }
