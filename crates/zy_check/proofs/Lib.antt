@@ -1,5 +1,9 @@
+pub mod ListLemmas
 pub mod OwnLemmas
 pub mod PlaceLemmas
 pub mod CursorLemmas
 pub mod FollowLemmas
 pub mod WalkLemmas
+pub mod RightLemmas
+pub mod ByteLemmas
+pub mod AnswerLemmas
