@@ -1,8 +1,9 @@
 -- The entries of the next command: their number, their replies, and that they answer it.
 use Rattle.std.specs.Prelude.{All}
-use Rattle.std.proofs.Common.{◌≡◌, ◌≢◌, ℕ, zero, suc, ◌+◌, ◌<◌, ◌≤◌, List, [], ◌∷◌, ◌++◌, length, take, drop, map, refl, sym, ap, ◌∙◌, subst, arith}
+use Rattle.std.specs.List.{slice_get}
+use Rattle.std.proofs.Common.{◌≡◌, ◌≢◌, ℕ, zero, suc, ◌+◌, ◌-◌, ◌<◌, ◌≤◌, List, [], ◌∷◌, ◌++◌, length, take, drop, map, Some, refl, sym, ap, ◌∙◌, subst, arith}
 use Rattle.std.proofs.Math.Seq.{take-append_seam, drop-append_seam}
-use Rattle.std.proofs.lemmas.List.{append-nil, append_assoc, length-append, length-map, take-map, drop-map, take-append-drop}
+use Rattle.std.proofs.lemmas.List.{append-nil, append_assoc, length-append, length-map, map-append, take-map, drop-map, take-append-drop}
 use Rattle.std.proofs.lemmas.List.Elements.{All-nil, All-cons, All-head, All-tail, All-append}
 use Rattle.zy_base.specs.declared.call_reply.CallReply.{CallReply}
 use Rattle.zy_base.specs.declared.entry.Entry.{Entry}
@@ -16,6 +17,7 @@ use Rattle.mc_parse.proofs.CallLemmas.{due-append, due-more, length-tagged}
 use Rattle.mc_reply.specs.Answers.{AnswerEach, AnswerCommand}
 use Rattle.zy_check.specs.declared.pace.Pace.{Pace}
 use Rattle.zy_check.specs.Output.{AreCallsOf, IsAfter, AreNext, IsPast}
+use Rattle.zy_check.proofs.FollowLemmas.{take_one}
 
 -- ---- calls of other commands
 
@@ -74,15 +76,38 @@ answers_drop zero es kinds = kinds
 answers_drop (suc n) [] kinds = tt
 answers_drop (suc n) (e ∷ es) kinds = answers_drop n es kinds.1
 
+-- ---- the replies of entries
+
+-- the replies up to a place, and then one more
+pub replies_more : (own : List Entry) (from at : ℕ) (e : Entry) (reply : CallReply) → from ≤ at → slice_get own at ≡ Some e → reply ≡ e.reply
+    → map reply_in (take (at - from) (drop from own)) ++ reply ∷ [] ≡ map reply_in (take (at + 1 - from) (drop from own))
+replies_more own from at e reply rising is same =
+    let on : at + 1 - from ≡ suc (at - from) = omega arith in
+    let place : from + (at - from) ≡ at = omega arith in
+    let there : slice_get (drop from own) (at - from) ≡ Some e = get_drop from own (at - from) ∙ ap (slice_get own) place ∙ is in
+    let one : suc (at - from) ≡ at - from + 1 = omega arith in
+    ap (λ (r : CallReply). map reply_in (take (at - from) (drop from own)) ++ r ∷ []) same
+    ∙ sym (ap (λ (n : ℕ). map reply_in (take n (drop from own))) (on ∙ one) ∙ ap (map reply_in) (take_one (drop from own) (at - from) e there)
+    ∙ map-append reply_in (take (at - from) (drop from own)) (e ∷ []))
+  where
+    get_drop : (n : ℕ) (xs : List Entry) (k : ℕ) → slice_get (drop n xs) k ≡ slice_get xs (n + k)
+    get_drop zero xs k = let none : 0 + k ≡ k = omega arith in ap (slice_get xs) (sym none)
+    get_drop (suc n) [] k = refl
+    get_drop (suc n) (x ∷ xs) k = let on : suc n + k ≡ suc (n + k) = omega arith in get_drop n xs k ∙ sym (ap (slice_get (x ∷ xs)) on)
+
 -- ---- the next command
 
 module _ (own : List Entry) (shards : ℕ) (command : Command) (pace : Pace) (next : AreNext own shards (command ∷ []) pace) where
-  calls : List ShardCall
+  abbrev calls : List ShardCall
   calls = calls_of shards command
 
-  front here behind : List Due
+  abbrev front : List Due
   front = due shards next.conn next.done
+
+  abbrev here : List Due
   here = tagged next.conn pace.commands 0 calls
+
+  abbrev behind : List Due
   behind = due_from shards next.conn (pace.commands + 1) next.later
 
   whole : dues_of own ≡ front ++ (here ++ behind)
@@ -94,7 +119,7 @@ module _ (own : List Entry) (shards : ℕ) (command : Command) (pace : Pace) (ne
   size_here = sym (length-tagged next.conn pace.commands 0 calls)
 
   -- there are entries for all its calls
-  pub next_within : pace.matched + length calls ≤ length own
+  pub next_within : pace.matched + length (calls_of shards command) ≤ length own
   next_within =
       let all = length-map own due_of in
       let long = ap (λ (l : List Due). length l) whole in
@@ -104,8 +129,10 @@ module _ (own : List Entry) (shards : ℕ) (command : Command) (pace : Pace) (ne
       let h = size_here in
       omega arith
 
-  mine rest : List Entry
+  abbrev mine : List Entry
   mine = take (length calls) (drop pace.matched own)
+
+  abbrev rest : List Entry
   rest = drop (length calls) (drop pace.matched own)
 
   dues_first : dues_of (take pace.matched own) ≡ front
@@ -125,8 +152,8 @@ module _ (own : List Entry) (shards : ℕ) (command : Command) (pace : Pace) (ne
       sym (drop-map due_of (length calls) (drop pace.matched own)) ∙ (λ i. drop (size_here i) (dues_behind i)) ∙ drop-append_seam here behind
 
   -- their replies are those of the command
-  pub next_replies : map reply_in mine ≡ replies_at pace.commands own
-  next_replies =
+  mine_replies : map reply_in mine ≡ replies_at pace.commands own
+  mine_replies =
       let index = pace.commands in
       let many = next.after.commands in
       let none_first : replies_at index (take pace.matched own) ≡ [] = replies_none index (take pace.matched own)
@@ -140,13 +167,23 @@ module _ (own : List Entry) (shards : ℕ) (command : Command) (pace : Pace) (ne
       ∙ ap (λ (l : List CallReply). replies_at index mine ++ l) none_rest ∙ append-nil (replies_at index mine) ∙ all_mine)
 
   -- and answer it
-  pub next_answers : 1 ≤ shards → shards ≤ 256 → AnswerCommand command (map reply_in mine)
-  next_answers some limit = record {
+  mine_answers : 1 ≤ shards → shards ≤ 256 → AnswerCommand command (map reply_in mine)
+  mine_answers some limit = record {
     shards = shards;
     some = some;
     limit = limit;
     each = answer_each next.conn pace.commands 0 mine calls dues_mine (answers_take (length calls) (drop pace.matched own) (answers_drop pace.matched own next.calls.kinds));
   }
+
+  module _ (end : ℕ) (replies : List CallReply) (far : end ≡ pace.matched + length (calls_of shards command)) (made : replies ≡ map reply_in (take (end - pace.matched) (drop pace.matched own))) where
+    made_mine : replies ≡ map reply_in mine
+    made_mine = let size : end - pace.matched ≡ length calls = omega arith in made ∙ ap (λ (n : ℕ). map reply_in (take n (drop pace.matched own))) size
+
+    pub next_replies : replies ≡ replies_at pace.commands own
+    next_replies = made_mine ∙ mine_replies
+
+    pub next_answers : 1 ≤ shards → shards ≤ 256 → AnswerCommand command replies
+    next_answers some limit = subst (AnswerCommand command) (sym made_mine) (mine_answers some limit)
 
 -- a command more is done
 pub past_more : (shards : ℕ) (command : Command) (before after : Pace) → after.matched ≡ before.matched + length (calls_of shards command) → after.commands ≡ before.commands + 1

@@ -7,3 +7,6 @@ pub mod WalkLemmas
 pub mod RightLemmas
 pub mod ByteLemmas
 pub mod AnswerLemmas
+pub mod SessionLemmas
+pub mod OutputLemmas
+pub mod HoldLemmas

@@ -1,5 +1,5 @@
 //! The texts of commands, made again from the replies of their entries.
-ghost use Rattle.std.specs.Prelude.{◌≡◌, ◌≤◌, ◌+◌, [], ◌∷◌, length, take, drop, map, IfOk, OnOk};
+ghost use Rattle.std.specs.Prelude.{◌≡◌, ◌≤◌, ◌+◌, ◌-◌, [], ◌∷◌, length, take, drop, map, IfOk, OnOk};
 ghost use Rattle.zy_base.specs.declared.entry.Entry.{Entry};
 ghost use Rattle.zy_base.specs.Replies.{replies_at};
 ghost use Rattle.mc_parse.specs.Calls.{calls_of};
@@ -29,20 +29,22 @@ pub fn next_text(
     ensures past { OnOk result (IsPast shards (command.now ∷ []) pace.old pace.new) }
     ensures on { OnOk result (pace.new.commands ≡ pace.old.commands + 1) }
 {
-    let count = call_count(command, shards);
+    let Some(end) = pace.matched.checked_add(call_count(command, shards)) else {
+        return Err(NoMemory);
+    };
     let Some(more) = pace.commands.checked_add(1) else {
         return Err(NoMemory);
     };
-    let replies = replies_from(alloc, own, pace.matched as usize, count)?;
+    let replies = replies_from(alloc, own, pace.matched as usize, end as usize)?;
     let mut made = Blob::new(alloc);
     reply_text(&mut made, command, &replies)?;
-    pace.matched += count as u64;
+    pace.matched = end;
     pace.commands = more;
     Ok(made)
 }
 
 // How many calls a command has.
-fn call_count(command: &Command, shards: u32) -> usize
+fn call_count(command: &Command, shards: u32) -> u64
     ensures value { result ≡ length (calls_of shards command.now) }
 {
     match command {
@@ -50,21 +52,22 @@ fn call_count(command: &Command, shards: u32) -> usize
         | Command::Cas { .. }
         | Command::Delete { .. }
         | Command::Count { .. } => 1,
-        Command::Get { keys, .. } => keys.items().len(),
-        Command::Flush { .. } => shards as usize,
+        Command::Get { keys, .. } => keys.items().len() as u64,
+        Command::Flush { .. } => shards as u64,
         Command::Version | Command::Verbosity { .. } | Command::Fault { .. } => 0,
     }
 }
 
-// The replies of so many entries from a place on.
-fn replies_from(alloc: Global, own: &Own, from: usize, count: usize) -> Result<Replies, NoMemory>
-    requires within { from + count ≤ length own.now }
+// The replies of the entries from a place up to another.
+fn replies_from(alloc: Global, own: &Own, from: usize, end: usize) -> Result<Replies, NoMemory>
+    requires rising { from ≤ end }
+    requires within { end ≤ length own.now }
     ensures value { IfOk result (λ replies. replies
-        ≡ map (λ (e : Entry). e.reply) (take count (drop from own.now))) }
+        ≡ map (λ (e : Entry). e.reply) (take (end - from) (drop from own.now))) }
 {
     let mut replies = Replies::new(alloc);
-    for part in 0..count {
-        if let Err((_, e)) = replies.push(own.entry(from + part).reply.copy()?) {
+    for at in from..end {
+        if let Err((_, e)) = replies.push(own.entry(at).reply.copy()?) {
             return Err(e);
         }
     }

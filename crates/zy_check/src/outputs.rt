@@ -94,6 +94,7 @@ fn first_differing(
 // How many outputs of a connection there are.
 fn given_count(outputs: &Outputs, conn: u32) -> u32
     ensures value { result ≡ length (sessions_of outputs.now.sessions conn) }
+    ensures there { 0 < result → conn < length outputs.now.sessions }
     ensures none { result ≡ 0 → length outputs.now.sessions ≤ conn }
 {
     if conn < outputs.count() {
