@@ -56,7 +56,7 @@ module _ (g : Given) (conn session : ℕ) where
   pub lacks_output : session < length streams → length outputs ≤ session → ((s : ℕ) → s < session → IsOutput g conn s) → IsDiffering g conn session 0
   lacks_output within lacks first = record {
     first = first;
-    wrong = λ same. let both : None {A = List ℕ} ≡ Some (output conn session streams g.entries) = sym (found_past lacks) ∙ same ∙ due_there within in absurd (cc);
+    wrong = λ same. let both : None ≡ Some (output conn session streams g.entries) = sym (found_past lacks) ∙ same ∙ due_there within in absurd (cc);
     agrees = ap (λ (o : Option (List ℕ)). agreeing_in o (due_output g conn session)) (found_past lacks);
   }
 
@@ -64,7 +64,7 @@ module _ (g : Given) (conn session : ℕ) where
   pub more_output : length streams ≤ session → session < length outputs → ((s : ℕ) → s < session → IsOutput g conn s) → IsDiffering g conn session 0
   more_output past more first = record {
     first = first;
-    wrong = λ same. let both : Some (slice_index_or outputs session []) ≡ None {A = List ℕ} = sym (found_there more) ∙ same ∙ due_past past in absurd (cc);
+    wrong = λ same. let both : Some (slice_index_or outputs session []) ≡ None = sym (found_there more) ∙ same ∙ due_past past in absurd (cc);
     agrees = λ i. agreeing_in (found_there more i) (due_past past i);
   }
 
@@ -96,6 +96,13 @@ pub outputs_more : (g : Given) (conn session : ℕ) → ((s : ℕ) → s < sessi
 outputs_more g conn session first last s below = dite (ℕ_discrete session s)
     (λ same. subst (IsOutput g conn) same last)
     (λ other. first s (omega arith))
+
+-- there are no more
+pub outputs_whole : (g : Given) (conn count : ℕ) → ((s : ℕ) → s < count → IsOutput g conn s) → length (sessions_of g.streams conn) ≤ count → length (sessions_of g.outputs conn) ≤ count
+    → (s : ℕ) → IsOutput g conn s
+outputs_whole g conn count first none lacks s = dite (dec_lt s count)
+    (λ low. first s low)
+    (λ high. no_output g conn s (omega arith) (omega arith))
 
 -- the commands of a session are next
 pub session_next : (g : Given) (conn session : ℕ) (own : List Entry) (stream : List ℕ) (pace : Pace) → IsComplete g → own ≡ of_connection conn g.entries → session < length (sessions_of g.streams conn)
