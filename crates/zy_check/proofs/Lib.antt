@@ -10,3 +10,4 @@ pub mod AnswerLemmas
 pub mod SessionLemmas
 pub mod OutputLemmas
 pub mod HoldLemmas
+pub mod GivenLemmas

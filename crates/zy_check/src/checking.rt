@@ -1,7 +1,6 @@
 //! Whether a journal and outputs are those of a run.
 ghost use Rattle.std.specs.Prelude.{◌≡◌, ◌≤◌, length, IfOk};
-ghost use Rattle.zy_capture.specs.Outputs.{AllOutputs};
-ghost use Rattle.zy_check.specs.Given.{given};
+ghost use Rattle.zy_check.specs.Given.{Given, given};
 ghost use Rattle.zy_check.specs.Cause.{HasVerdict};
 ghost use Rattle.zy_check.specs.Missing.{FoundMissing};
 ghost use Rattle.zy_check.specs.Walk.{AreFollowed};
@@ -15,7 +14,7 @@ use crate::places::places;
 use crate::verdict::{Cause, Verdict};
 use crate::walk::first_wrong;
 use std::alloc::Global;
-use zy_base::NoMemory;
+use zy_base::{Entry, NoMemory};
 use zy_capture::{Outputs, Streams};
 use zy_journal::Journal;
 
@@ -35,15 +34,16 @@ pub fn check(
         (HasVerdict (given shards streams.now journal.now outputs.now)) }
 {
     let entries = journal.entries.items();
-    let lists = places(alloc, entries, streams.count())?;
+    let count = streams.count();
+    let lists = places(alloc, entries, count)?;
     let followed = follow_all(alloc, streams, shards, entries, &lists)?;
-    if let Some(cause) = first_of_calls(alloc, streams, journal, shards, &followed)? {
+    if let Some(cause) = first_of_calls(alloc, entries, shards, &followed, count)? {
         return Ok(Verdict::No(cause));
     }
     if let Some(cause) = first_output(alloc, streams, journal, outputs, shards, &lists)? {
         return Ok(Verdict::No(cause));
     }
-    match first_unheld(alloc, journal.holds.items(), &followed, streams.count())? {
+    match first_unheld(alloc, journal.holds.items(), &followed, count)? {
         None => Ok(Verdict::Yes),
         Some(conn) => Ok(Verdict::No(Cause::WrongHolds { conn })),
     }
@@ -52,20 +52,18 @@ pub fn check(
 // The first cause among the entries and the calls that have none, where there is one.
 fn first_of_calls(
     alloc: Global,
-    streams: &Streams,
-    journal: &Journal,
+    entries: &[Entry],
     shards: u32,
     followed: &[Followed],
+    count: u32,
 ) -> Result<Option<Cause>, NoMemory>
     requires limit { shards ≤ 256 }
-    requires same { length followed.now ≡ length streams.now }
-    ensures found { IfOk result (λ found. (outputs : AllOutputs)
-        → AreFollowed (given shards streams.now journal.now outputs) shards
-        journal.now.entries followed.now
-        → FoundMissing (given shards streams.now journal.now outputs) found) }
+    requires same { length followed.now ≡ count }
+    ensures found { IfOk result (λ found. (g : Given)
+        → AreFollowed g shards entries.now followed.now → FoundMissing g found) }
 {
-    if let Some(cause) = first_wrong(alloc, journal.entries.items(), shards, followed)? {
+    if let Some(cause) = first_wrong(alloc, entries, shards, followed)? {
         return Ok(Some(cause));
     }
-    Ok(first_missing(followed, streams.count()))
+    Ok(first_missing(followed, count))
 }
