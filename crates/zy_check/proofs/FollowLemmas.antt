@@ -173,7 +173,7 @@ session_stopped asked shards conn done given later commands command pace is stop
     subst (λ (l : List Command). IsStopped asked shards conn l pace) whole (stopped_on asked shards conn ((done ++ given) ++ command ∷ []) later pace stop)
 
 -- the commands of sessions before one, of that one, and of those behind it
-commands_split : (session : ℕ) (streams : List (List ℕ)) → session < length streams
+pub commands_split : (session : ℕ) (streams : List (List ℕ)) → session < length streams
     → commands_over streams ≡ (commands_over (take session streams) ++ commands_of (get_or streams session [])) ++ commands_over (drop (session + 1) streams)
 commands_split session streams within =
     ap commands_over (sym (take-append-drop session streams)) ∙ flat_map-append commands_of (take session streams) (drop session streams)

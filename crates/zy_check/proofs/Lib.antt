@@ -1,3 +1,4 @@
+pub mod ListLemmas
 pub mod OwnLemmas
 pub mod PlaceLemmas
 pub mod CursorLemmas
@@ -9,3 +10,10 @@ pub mod YesVerdictLemmas
 pub mod FileVerdictLemmas
 pub mod SameLawLemmas
 pub mod SomeVerdictLemmas
+pub mod RightLemmas
+pub mod ByteLemmas
+pub mod AnswerLemmas
+pub mod SessionLemmas
+pub mod OutputLemmas
+pub mod HoldLemmas
+pub mod GivenLemmas

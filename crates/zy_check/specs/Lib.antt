@@ -5,3 +5,6 @@ pub mod Own
 pub mod Cursor
 pub mod Follow
 pub mod Walk
+pub mod Missing
+pub mod Output
+pub mod Held

@@ -1,6 +1,6 @@
 -- The entries of one connection, by their places. No public clause cites this module.
 use Rattle.std.specs.Prelude.{◌≡◌, ℕ, ◌+◌, ◌<◌, ◌==◌, if◌then◌else◌, List, [], ◌∷◌, length, option_to_list, flat_map}
-use Rattle.std.specs.List.{slice_get}
+use Rattle.std.specs.List.{slice_get, slice_index_or}
 use Rattle.zy_base.specs.declared.entry.Entry.{Entry}
 
 -- the places of a connection's entries, where the first entry has this one
@@ -21,3 +21,7 @@ picked es places = flat_map (λ place. option_to_list (slice_get es place)) plac
 abbrev pub AreWithin : ℕ → List ℕ → Type 0
 AreWithin count [] = Unit {0}
 AreWithin count (place ∷ places) = (place < count) × AreWithin count places
+
+-- the lists are the places of the entries of the first connections, connection by connection
+abbrev pub ArePlaces : List (List ℕ) → List Entry → Type 0
+ArePlaces lists es = (conn : ℕ) → conn < length lists → slice_index_or lists conn [] ≡ places_of conn es

@@ -1,0 +1,16 @@
+//! Comparing bytes.
+ghost use Rattle.std.specs.Prelude.{◌≡◌, ◌≤◌, length};
+ghost use Rattle.zy_check.specs.Cause.{agreeing};
+
+/// How many first bytes of two texts agree.
+pub fn agreeing(one: &[u8], other: &[u8]) -> usize
+    ensures value { result ≡ agreeing one.now other.now }
+    ensures few { result ≤ length one.now }
+{
+    for at in 0..one.len() {
+        if other.len() <= at || one[at] != other[at] {
+            return at;
+        }
+    }
+    one.len()
+}

@@ -1,0 +1,84 @@
+//! The holds of each connection, added up.
+ghost use Rattle.std.specs.Prelude.{◌≡◌, ◌↔◌, ◌≢◌, ◌+◌, ◌<◌, ◌≤◌, ℕ, List, ◌++◌, ◌∷◌, [], length, get_or, IfOk, OnOk};
+ghost use Rattle.std.specs.List.{slice_set};
+ghost use Rattle.zy_base.specs.declared.hold.Hold.{Hold};
+ghost use Rattle.zy_check.specs.Given.{Given};
+ghost use Rattle.zy_check.specs.Held.{AreSums, AreCounted, FoundStray, FoundUnheld};
+
+use crate::pace::Followed;
+use std::alloc::Global;
+use zy_base::{Hold, NoMemory};
+
+/// The first connection whose holds do not add up to the number of its commands, where there is
+/// one.
+pub fn first_unheld(
+    alloc: Global,
+    holds: &[Hold],
+    followed: &[Followed],
+    count: u32,
+) -> Result<Option<u32>, NoMemory>
+    requires same { length followed.now ≡ count }
+    ensures found { IfOk result (λ found. (g : Given) → AreCounted g holds.now followed.now
+        → FoundUnheld g found) }
+{
+    let sums = sums(alloc, holds, count)?;
+    for conn in 0..count {
+        if sums[conn as usize] != followed[conn as usize].pace.commands {
+            return Ok(Some(conn));
+        }
+    }
+    Ok(first_stray(holds, count))
+}
+
+// The holds of each of so many connections, added up.
+fn sums(alloc: Global, holds: &[Hold], count: u32) -> Result<Vec<u64>, NoMemory>
+    ensures sums { IfOk result (λ sums. AreSums count holds.now sums.items) }
+{
+    let Ok(mut sums) = vec![in alloc; 0; count as usize] else {
+        return Err(NoMemory);
+    };
+    for at in 0..holds.len() {
+        add(&mut sums, holds[at])?;
+    }
+    Ok(sums)
+}
+
+// Adds a hold to the sum of its connection, where there is one.
+fn add(sums: &mut Vec<u64>, hold: Hold) -> Result<(), NoMemory>
+    ensures sums { OnOk result ((count : ℕ) (before : List Hold) → AreSums count before sums.old.items
+        → AreSums count (before ++ hold ∷ []) sums.new.items) }
+{
+    let conn = hold.conn as usize;
+    if conn < sums.len() {
+        let Some(sum) = sums[conn].checked_add(hold.count as u64) else {
+            return Err(NoMemory);
+        };
+        sums[conn] = sum;
+    }
+    Ok(())
+}
+
+// The first connection from a number on whose holds are more than 0 together, where there is one.
+fn first_stray(holds: &[Hold], count: u32) -> Option<u32>
+    ensures found { FoundStray count holds.now result }
+{
+    let mut found = None;
+    for at in 0..holds.len() {
+        found = lower_stray(found, holds[at], count);
+    }
+    found
+}
+
+// The same with one hold more.
+fn lower_stray(found: Option<u32>, hold: Hold, count: u32) -> Option<u32>
+    ensures found { (before : List Hold) → FoundStray count before found
+        → FoundStray count (before ++ hold ∷ []) result }
+{
+    if hold.conn < count || hold.count == 0 {
+        return found;
+    }
+    match found {
+        Some(stray) if stray <= hold.conn => found,
+        _ => Some(hold.conn),
+    }
+}
