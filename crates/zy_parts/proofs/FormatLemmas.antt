@@ -1,11 +1,9 @@
 -- Formats in which a byte behind a whole text is a fault: of the first parts of a text at most one is whole.
 use Rattle.std.proofs.Common.{◌≡◌, ◌⊎◌, inl, inr, ℕ, Bool, true, false, List, [], ◌∷◌, ◌++◌, refl, sym, ◌∙◌, ap, subst, append_assoc}
-use Rattle.std.specs.Prelude.{Option, None, Some, option_to_list, Result, Ok, Err}
+use Rattle.std.specs.Prelude.{Option, None, Some, option_to_list}
 use Rattle.std.proofs.lemmas.List.{append-nil, append_cancel_left}
-use Rattle.zy_read.specs.declared.not_taken.NotTaken.{NotTaken}
-use Rattle.zy_read.specs.declared.not_taken.NotTaken.TheVariants.{Fault, NoMemory}
 use Rattle.zy_read.specs.Format.{Format, IsLasting, Reading, reading_of, fault_met, verdict_on}
-use Rattle.zy_read.specs.Standing.{StandsAs, FeedsAs, TellsFault, TellsLasting}
+use Rattle.zy_read.specs.Standing.{StandsAs, MeetsFault}
 use Rattle.zy_read.proofs.Feeding.{fed_step, fault_here, verdict_here, fault_stays, fault_lasts}
 use Rattle.zy_parts.specs.Reading.{GoesOn, IsWhole, HasNoWhole}
 
@@ -104,3 +102,11 @@ none_later format good once text more byte fault goes_on met front back is whole
         (append_cancel_left text (byte ∷ more) (longer.0 ++ back) (whole_is ∙ ap (λ (l : List ℕ). l ++ back) longer.1 ∙ append_assoc text longer.0 back))
         (subst (λ (l : List ℕ). IsWhole format good l) longer.1 whole)
     go (inr shorter) = none_yet format good once text goes_on front shorter.0 shorter.1 whole
+
+-- ---- bytes that are fed
+
+-- a text that goes on has a fault at its next byte, whatever follows
+pub fed_fault : {P G F V : Type 0} (format : Format P G F V) (good : V → Bool) (once : EndsOnce format good) (p : P) (given : List G) (text more : List ℕ) (byte : ℕ) (fault : F) → StandsAs format p given text → GoesOn format good text → MeetsFault format p (byte ∷ []) (Some fault)
+    → HasNoWhole format good ((text ++ byte ∷ []) ++ more) × (verdict_on format ((text ++ byte ∷ []) ++ more) ≡ format.bad fault)
+fed_fault format good once p given text more byte fault stands goes_on met =
+    (none_later format good once text more byte fault goes_on (met given text stands), fault_lasts format once.lasting (text ++ byte ∷ []) more fault (met given text stands))

@@ -1,2 +1,4 @@
 pub mod PartLemmas
 pub mod FormatLemmas
+pub mod CaptureLemmas
+pub mod RepliesLemmas

@@ -30,8 +30,10 @@ KeepsStreams None given = given ≡ []
 KeepsStreams (Some streams) given = (count : ℕ) × (streams ≡ with_records (no_bytes count) given)
 
 -- these bytes of a capture were fed, and their records are kept
-abbrev pub StandsForCapture : CapturePart → List ℕ → Type 0
-StandsForCapture part bytes = (given : List Record) × StandsFor part.reader given bytes × KeepsStreams part.streams given
+pub record StandsForCapture (part : CapturePart) (bytes : List ℕ) : Type 0 where
+  pub given : List Record
+  pub reader : StandsFor part.reader given bytes
+  pub kept : KeepsStreams part.streams given
 
 -- the text has this fault as a capture
 abbrev pub IsFaultyCapture : List ℕ → Refusal → Type 0
@@ -50,8 +52,9 @@ capture_kind = record {
 -- ---- journals
 
 -- these bytes of a journal were fed
-abbrev pub StandsForJournalPart : JournalPart → List ℕ → Type 0
-StandsForJournalPart part bytes = (given : List ⊤) × StandsForJournal part.reader given bytes
+pub record StandsForJournalPart (part : JournalPart) (bytes : List ℕ) : Type 0 where
+  pub given : List ⊤
+  pub reader : StandsForJournal part.reader given bytes
 
 -- the text has this fault as a journal
 abbrev pub IsFaultyJournal : List ℕ → Refusal → Type 0
@@ -72,12 +75,14 @@ journal_kind = record {
 -- the outputs are those that were given; before the version was read there is none
 abbrev pub KeepsOutputs : Option AllOutputs → List SessionBytes → Type 0
 KeepsOutputs None given = given ≡ []
-KeepsOutputs (Some outputs) given = (items_of outputs ≡ given) × AreOutputs outputs
+KeepsOutputs (Some outputs) given = items_of outputs ≡ given
 
 -- these bytes of a replies file were fed, and their outputs are kept
-abbrev pub StandsForRepliesPart : RepliesPart → List ℕ → Type 0
-StandsForRepliesPart part bytes =
-    (given : List SessionBytes) × StandsForReplies part.reader given bytes × KeepsOutputs part.outputs given × AreBytes bytes
+pub record StandsForRepliesPart (part : RepliesPart) (bytes : List ℕ) : Type 0 where
+  pub given : List SessionBytes
+  pub reader : StandsForReplies part.reader given bytes
+  pub kept : KeepsOutputs part.outputs given
+  pub bytes_are : AreBytes bytes
 
 -- no text is whole before the source is at its end
 abbrev pub never : Replies.Verdict → Bool

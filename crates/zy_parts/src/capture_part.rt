@@ -1,9 +1,11 @@
 //! Reading the capture, whose records go into streams.
-ghost use Rattle.std.specs.Prelude.{◌≡◌, ◌<◌, ◌^◌, ◌++◌, ◌∷◌, [], List, length, true, None, Some, IfOk, IfErr, OnOk};
+ghost use Rattle.std.specs.Prelude.{◌≡◌, ◌<◌, ◌^◌, ◌++◌, ◌∷◌, [], ℕ, List, length, true, None, Some, IfOk, IfErr, OnOk, option_to_list};
 ghost use Rattle.zy_capture.specs.declared.record.Record.{Record};
 ghost use Rattle.zy_capture.specs.Standing.{StandsFor};
 ghost use Rattle.zy_capture.specs.Streams.{sessions_of, with_record};
 ghost use Rattle.zy_parts.specs.declared.stop.Stop.TheVariants as Stops;
+ghost use Rattle.zy_capture.specs.Verdict.{fault_of};
+ghost use Rattle.zy_parts.specs.Reading.{Takes};
 ghost use Rattle.zy_parts.specs.Kinds.{KeepsStreams, capture_kind};
 
 use crate::part::Part;
@@ -55,15 +57,40 @@ impl CapturePart {
     }
 
     // Adds a record to the streams.
-    fn add(&mut self, record: &Record) -> Result<(), NoMemory>
+    fn add(&mut self, item: &Record) -> Result<(), NoMemory>
         ensures reader { self.new.reader ≡ self.old.reader }
         ensures value { (given : List Record) → KeepsStreams self.old.streams given
-            → OnOk result (KeepsStreams self.new.streams (given ++ record.now ∷ [])) }
+            → OnOk result (KeepsStreams self.new.streams (given ++ item.now ∷ [])) }
     {
         match &mut self.streams {
-            Some(streams) => add_record(streams, record),
+            Some(streams) => add_record(streams, item),
             // A reader gives no record before the count.
             None => Err(NoMemory),
+        }
+    }
+
+    // Keeps what the reader gave.
+    fn keep(&mut self, gave: Option<Record>) -> Result<(), NoMemory>
+        ensures reader { self.new.reader ≡ self.old.reader }
+        ensures value { (given : List Record) → KeepsStreams self.old.streams given
+            → OnOk result (KeepsStreams self.new.streams (given ++ option_to_list gave)) }
+    {
+        match gave {
+            Some(item) => self.add(&item),
+            None => self.begin(),
+        }
+    }
+
+    // Keeps what the reader gave at a byte. Gives whether the capture is whole.
+    fn go_on(&mut self, gave: Option<Record>) -> Result<bool, Stop>
+        ensures value { (given : List Record) (bytes : List ℕ)
+            → StandsFor self.old.reader (given ++ option_to_list gave) bytes
+            → fault_of bytes ≡ None → KeepsStreams self.old.streams given
+            → Takes capture_kind self.new bytes result }
+    {
+        match self.keep(gave) {
+            Ok(()) => Ok(self.reader.is_done()),
+            Err(NoMemory) => Err(Stop::NoMemory),
         }
     }
 }
@@ -74,25 +101,22 @@ impl Part for CapturePart {
     ghost kind = { capture_kind };
 
     fn take(&mut self, byte: u8) -> Result<bool, Stop> {
-        let kept = match self.reader.feed(byte) {
-            Ok(Some(record)) => self.add(&record),
-            Ok(None) => self.begin(),
-            Err(FeedFault::Fault(fault)) => return Err(Stop::Refused(Refusal::Capture(fault))),
-            Err(FeedFault::NoMemory) => return Err(Stop::NoMemory),
-        };
-        match kept {
-            Ok(()) => Ok(self.reader.is_done()),
-            Err(NoMemory) => Err(Stop::NoMemory),
+        match self.reader.feed(byte) {
+            Ok(gave) => self.go_on(gave),
+            Err(FeedFault::Fault(fault)) => Err(Stop::Refused(Refusal::Capture(fault))),
+            Err(FeedFault::NoMemory) => Err(Stop::NoMemory),
         }
     }
 
     fn end(self) -> Result<Streams, Stop> {
-        if let Err(fault) = self.reader.end() {
+        let CapturePart {
+            reader, streams, ..
+        } = self;
+        if let Err(fault) = reader.end() {
             return Err(Stop::Refused(Refusal::Capture(fault)));
         }
-        let count = self.reader.count();
-        match self.streams {
-            Some(streams) => checked(streams, count),
+        match streams {
+            Some(streams) => checked(streams, reader.count()),
             // A capture that is whole has told its count.
             None => Err(Stop::NoMemory),
         }
@@ -112,10 +136,10 @@ fn checked(streams: Streams, count: Option<u32>) -> Result<Streams, Stop>
 
 // Adds a record to streams. A record of another connection, or a close of one that has no room for a
 // further session, is refused; a reader gives none.
-fn add_record(streams: &mut Streams, record: &Record) -> Result<(), NoMemory>
-    ensures ok { OnOk result (streams.new ≡ with_record streams.old record.now) }
+fn add_record(streams: &mut Streams, item: &Record) -> Result<(), NoMemory>
+    ensures ok { OnOk result (streams.new ≡ with_record streams.old item.now) }
 {
-    match record {
+    match item {
         Record::Segment(segment) if segment.conn < streams.count() => streams.add(segment),
         Record::Close { conn } if has_room(streams, *conn) => streams.close(*conn),
         _ => Err(NoMemory),

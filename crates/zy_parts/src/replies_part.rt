@@ -1,11 +1,12 @@
 //! Reading the replies file.
-ghost use Rattle.std.specs.Prelude.{◌≡◌, ◌<◌, ◌++◌, ◌∷◌, [], ℕ, List, length, true, None, Some, IfOk, IfErr, OnOk};
+ghost use Rattle.std.specs.Prelude.{◌≡◌, ◌<◌, ◌++◌, ◌∷◌, [], ℕ, List, length, true, None, Some, IfOk, IfErr, OnOk, option_to_list};
 ghost use Rattle.zy_capture.specs.declared.session_bytes.SessionBytes.{SessionBytes};
 ghost use Rattle.zy_capture.specs.Capture.{AreBytes};
 ghost use Rattle.zy_capture.specs.Outputs.{AreOutputs, MayAdd, with_output};
 ghost use Rattle.zy_capture.specs.RepliesStanding.{StandsForReplies};
 ghost use Rattle.zy_capture.specs.RepliesVerdict.{fault_of};
 ghost use Rattle.zy_parts.specs.declared.stop.Stop.TheVariants as Stops;
+ghost use Rattle.zy_parts.specs.Reading.{Takes};
 ghost use Rattle.zy_parts.specs.Kinds.{KeepsOutputs, replies_kind};
 
 use crate::part::Part;
@@ -63,9 +64,39 @@ impl RepliesPart {
     {
         let version = self.reader.version();
         match &mut self.outputs {
-            Some(outputs) if version == Some(outputs.version()) => add_output(outputs, item),
+            Some(outputs) if has_version(outputs, version) => add_output(outputs, item),
             // A reader gives no output before the version, nor of another one.
             _ => Err(NoMemory),
+        }
+    }
+
+    // Keeps what the reader gave.
+    fn keep(&mut self, gave: Option<SessionBytes>) -> Result<(), NoMemory>
+        ensures reader { self.new.reader ≡ self.old.reader }
+        ensures value { (given : List SessionBytes) (bytes : List ℕ)
+            → StandsForReplies self.old.reader (given ++ option_to_list gave) bytes
+            → fault_of bytes ≡ None → AreBytes bytes → KeepsOutputs self.old.outputs given
+            → OnOk result (KeepsOutputs self.new.outputs (given ++ option_to_list gave)) }
+    {
+        match gave {
+            Some(item) => self.add(item),
+            None => {
+                self.begin();
+                Ok(())
+            }
+        }
+    }
+
+    // Keeps what the reader gave at a byte. The file ends with the source.
+    fn go_on(&mut self, gave: Option<SessionBytes>) -> Result<bool, Stop>
+        ensures value { (given : List SessionBytes) (bytes : List ℕ)
+            → StandsForReplies self.old.reader (given ++ option_to_list gave) bytes
+            → fault_of bytes ≡ None → AreBytes bytes → KeepsOutputs self.old.outputs given
+            → Takes replies_kind self.new bytes result }
+    {
+        match self.keep(gave) {
+            Ok(()) => Ok(false),
+            Err(NoMemory) => Err(Stop::NoMemory),
         }
     }
 }
@@ -77,26 +108,21 @@ impl Part for RepliesPart {
 
     fn take(&mut self, byte: u8) -> Result<bool, Stop> {
         match self.reader.feed(byte) {
-            Ok(Some(item)) => match self.add(item) {
-                Ok(()) => Ok(false),
-                Err(NoMemory) => Err(Stop::NoMemory),
-            },
-            Ok(None) => {
-                self.begin();
-                Ok(false)
-            }
+            Ok(gave) => self.go_on(gave),
             Err(FileFeed::Fault(fault)) => Err(Stop::Refused(Refusal::Replies(fault))),
             Err(FileFeed::NoMemory) => Err(Stop::NoMemory),
         }
     }
 
     fn end(self) -> Result<Outputs, Stop> {
-        if let Err(fault) = self.reader.end() {
+        let RepliesPart {
+            reader, outputs, ..
+        } = self;
+        if let Err(fault) = reader.end() {
             return Err(Stop::Refused(Refusal::Replies(fault)));
         }
-        let version = self.reader.version();
-        match self.outputs {
-            Some(outputs) => checked(outputs, version),
+        match outputs {
+            Some(outputs) => checked(outputs, reader.version()),
             // A replies file that is whole has told its version.
             None => Err(Stop::NoMemory),
         }
@@ -106,11 +132,25 @@ impl Part for RepliesPart {
 // The outputs, where they have this version. Those of a whole replies file have it.
 fn checked(outputs: Outputs, version: Option<u32>) -> Result<Outputs, Stop>
     ensures value { IfOk result (λ same. (same ≡ outputs) × (version ≡ Some outputs.version)) }
+    ensures lawful { AreOutputs outputs }
     ensures memory { IfErr result (λ stop. stop ≡ Stops.NoMemory) }
 {
+    if has_version(&outputs, version) {
+        Ok(outputs)
+    } else {
+        Err(Stop::NoMemory)
+    }
+}
+
+// Whether this is the version of the outputs.
+fn has_version(outputs: &Outputs, version: Option<u32>) -> bool
+    ensures value { result ≡ true → version ≡ Some outputs.now.version }
+    ensures lawful { AreOutputs outputs.now }
+{
+    let own = outputs.version();
     match version {
-        Some(version) if version == outputs.version() => Ok(outputs),
-        _ => Err(Stop::NoMemory),
+        Some(version) => version == own,
+        None => false,
     }
 }
 
