@@ -76,9 +76,10 @@ pub record HasFaultBehind {P T : Type 0} (kind : Kind P T) (before text : List �
   pub whole : text ≡ before ++ rest
   pub faulty : kind.faulty rest refusal
 
--- the cause of each stop in a part
+-- the cause of each stop in a part: the fault is one that a part of this kind may have, and that of what the source told
 abbrev pub StopsBy : {P T S : Type 0} → Kind P T → (S → Option (List ℕ)) → (S → ℕ) → S → S → List ℕ → Stop → Type 0
-StopsBy kind rest faults first now before (Refused refusal) = IfSome (rest first) (λ text. HasFaultBehind kind before text refusal)
+StopsBy kind rest faults first now before (Refused refusal) =
+    ((text : List ℕ) × kind.faulty text refusal) × IfSome (rest first) (λ text. HasFaultBehind kind before text refusal)
 StopsBy kind rest faults first now before ReadFault = Rose (faults first) (faults now)
 StopsBy kind rest faults first now before NoMemory = ⊤
 
