@@ -45,8 +45,7 @@ took kind rest faults first now left before bytes byte reader (Ok true) given ta
   end = inl takes.1;
 }
 took kind rest faults first now left before bytes byte reader (Err (Refused refusal)) given takes =
-    let taken : List ℕ = bytes ++ byte ∷ [] in
-    (
+    let taken : List ℕ = bytes ++ byte ∷ [] in (
       (taken ++ [], takes []),
       told_first (rest first) (rest now) ((before ++ taken) ++ left) (λ (text : List ℕ). HasFaultBehind kind before text refusal) (byte_given rest faults first now left before bytes byte given).source
           (λ more. record { rest = taken ++ (left ++ more); whole = regrouped before taken left more; faulty = takes (left ++ more) }),
@@ -68,8 +67,7 @@ ended {P} {T} {S} kind rest faults first now left before reader answer stopped w
     go (Ok gave) whole cut (inr over) = record { bytes = stopped.bytes; given = stopped.given; gives = cut stopped.bytes stopped.stands over.0; end = inr over.1 }
     go (Err (Refused refusal)) whole cut (inl is) = absurd (whole stopped.bytes stopped.stands is)
     go (Err (Refused refusal)) whole cut (inr over) =
-        let faulty : kind.faulty stopped.bytes refusal = cut stopped.bytes stopped.stands over.0 in
-        (
+        let faulty : kind.faulty stopped.bytes refusal = cut stopped.bytes stopped.stands over.0 in (
           (stopped.bytes, faulty),
           told_all (rest first) (rest now) (before ++ stopped.bytes) (λ (text : List ℕ). HasFaultBehind kind before text refusal)
               (subst (λ (l : List ℕ). Consumes (rest first) (rest now) l) (ap (λ (l : List ℕ). (before ++ stopped.bytes) ++ l) over.1.0 ∙ append-nil (before ++ stopped.bytes)) stopped.given.source) over.1.1

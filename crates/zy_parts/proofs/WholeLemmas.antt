@@ -141,8 +141,7 @@ pub all_parts : {S : Type 0} (rest : S → Option (List ℕ)) (faults : S → �
 all_parts rest faults first now left bytes more parts streams journal has =
     let end = over rest faults first now left (bytes ++ more) parts.outputs has in
     let text : List ℕ = (bytes ++ more) ++ has.bytes in
-    let source : Consumes (rest first) (rest now) text = subst (λ (l : List ℕ). Consumes (rest first) (rest now) l) (ap (λ (l : List ℕ). text ++ l) end.0 ∙ append-nil text) has.given.source in
-    (
+    let source : Consumes (rest first) (rest now) text = subst (λ (l : List ℕ). Consumes (rest first) (rest now) l) (ap (λ (l : List ℕ). text ++ l) end.0 ∙ append-nil text) has.given.source in (
       text,
       (source, end.1),
       record {

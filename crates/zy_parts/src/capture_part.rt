@@ -110,7 +110,9 @@ impl Part for CapturePart {
 
     fn end(self) -> Result<Streams, Stop> {
         let CapturePart {
-            reader, streams, ..
+            reader,
+            streams,
+            ..
         } = self;
         if let Err(fault) = reader.end() {
             return Err(Stop::Refused(Refusal::Capture(fault)));

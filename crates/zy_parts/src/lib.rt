@@ -9,6 +9,8 @@ mod parts;
 mod pieces;
 mod replies_part;
 mod stop;
+#[cfg(test)]
+mod tests;
 
 pub use laws::{parts_have_no_fault, there_is_one_part_fault};
 pub use parts::{Parts, read_parts, read_streams};

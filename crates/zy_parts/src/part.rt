@@ -76,7 +76,7 @@ fn advance<P: Part, S: Source>(
     ensures value { (first : S) (before bytes : List ℕ)
         → IsReading P.kind S.rest S.faults first source.old pieces.old before bytes part.old
         → Advances P.kind S.rest S.faults first source.new pieces.new before bytes part.new
-            result }
+        result }
     ensures count { S.faults source.old ≤ S.faults source.new }
 {
     match pieces.next(source) {

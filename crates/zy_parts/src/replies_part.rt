@@ -116,7 +116,9 @@ impl Part for RepliesPart {
 
     fn end(self) -> Result<Outputs, Stop> {
         let RepliesPart {
-            reader, outputs, ..
+            reader,
+            outputs,
+            ..
         } = self;
         if let Err(fault) = reader.end() {
             return Err(Stop::Refused(Refusal::Replies(fault)));
