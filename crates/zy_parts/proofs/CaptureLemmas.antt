@@ -1,7 +1,6 @@
 -- What is kept of a capture while it is read.
 use Rattle.std.proofs.Common.{◌≡◌, ℕ, Bool, true, false, List, [], ◌∷◌, ◌++◌, length, refl, sym, ◌∙◌, ap, subst}
-use Rattle.std.specs.Prelude.{◌&&◌, nat_le, Option, None, Some, Result, Ok, Err, OnOk, IfOk, IfErr, ⊤}
-use Rattle.zy_read.specs.Format.{IsLasting}
+use Rattle.std.specs.Prelude.{Option, None, Some, Result, Ok, Err, OnOk, IfOk, IfErr, ⊤}
 use Rattle.zy_read.proofs.Feeding.{verdict_here}
 use Rattle.zy_base.specs.declared.outside.NoMemory as Outside
 use Rattle.zy_capture.specs.declared.record.Record.{Record}
@@ -13,7 +12,7 @@ use Rattle.zy_capture.specs.Streams.{no_bytes, with_record, with_records}
 use Rattle.zy_capture.specs.Steps.{Progress, step}
 use Rattle.zy_capture.specs.Standing.{StandsFor, EndsAs}
 use Rattle.zy_capture.specs.Verdict.{captures, ended, fault_in, is_good, verdict, fault_of, count_of, count_in}
-use Rattle.zy_capture.specs.Verdict.Verdict.{Good, Bad}
+use Rattle.zy_capture.specs.Verdict.Verdict.{Good}
 use Rattle.zy_capture.proofs.Feeding.{lasting, count_here}
 use Rattle.zy_capture.proofs.AddLemmas.{records_on, streams_size}
 use Rattle.zy_parts.specs.declared.capture_part.CapturePart.{CapturePart}

@@ -1,5 +1,5 @@
 -- An input has parts or a fault, and not both, and it has one first fault.
-use Rattle.std.proofs.Common.{◌≡◌, ℕ, Bool, true, false, List, [], ◌∷◌, ◌++◌, refl, sym, ◌∙◌, ap, subst}
+use Rattle.std.proofs.Common.{◌≡◌, ℕ, List, ◌++◌, sym, ◌∙◌, ap, subst}
 use Rattle.zy_base.specs.declared.file_fault.FileFault.{FileFault}
 use Rattle.zy_capture.specs.declared.capture_fault.CaptureFault.{CaptureFault}
 use Rattle.zy_capture.specs.Outputs.{AllOutputs}
@@ -11,7 +11,7 @@ use Rattle.journal_reader.specs.Verdict as Journals
 use Rattle.zy_parts.specs.declared.stop.Refusal.{Refusal}
 use Rattle.zy_parts.specs.declared.stop.Refusal.TheVariants.{Capture, Journal as OfJournal, Replies as OfReplies}
 use Rattle.zy_parts.specs.Parts.{IsCapture, IsJournal, AreParts, HasCaptureFault, HasJournalFault, HasRepliesFault, HasPartFault}
-use Rattle.zy_parts.proofs.FormatLemmas.{one_first, one_rest}
+use Rattle.zy_parts.proofs.FormatLemmas.{one_rest}
 use Rattle.zy_parts.proofs.CaptureLemmas as OfCapture
 use Rattle.zy_parts.proofs.JournalLemmas as InJournal
 use Rattle.zy_parts.proofs.WholeLemmas.{is_capture, is_journal}

@@ -1,10 +1,10 @@
 -- Formats in which a byte behind a whole text is a fault: of the first parts of a text at most one is whole.
 use Rattle.std.proofs.Common.{◌≡◌, ◌⊎◌, inl, inr, ℕ, Bool, true, false, List, [], ◌∷◌, ◌++◌, refl, sym, ◌∙◌, ap, subst, append_assoc}
-use Rattle.std.specs.Prelude.{Option, None, Some, option_to_list}
+use Rattle.std.specs.Prelude.{None, Some, option_to_list}
 use Rattle.std.proofs.lemmas.List.{append-nil, append_cancel_left}
 use Rattle.zy_read.specs.Format.{Format, IsLasting, Reading, reading_of, fault_met, verdict_on}
 use Rattle.zy_read.specs.Standing.{StandsAs, MeetsFault}
-use Rattle.zy_read.proofs.Feeding.{fed_step, fault_here, verdict_here, fault_stays, fault_lasts}
+use Rattle.zy_read.proofs.Feeding.{fed_step, fault_here, fault_stays, fault_lasts}
 use Rattle.zy_parts.specs.Reading.{GoesOn, IsWhole, HasNoWhole}
 
 -- the first fault counts, a byte behind a whole text is a fault, and a text with a fault is not whole

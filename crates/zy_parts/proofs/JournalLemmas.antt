@@ -1,6 +1,6 @@
 -- A byte behind a journal is a fault.
 use Rattle.std.proofs.Common.{◌≡◌, ℕ, Bool, true, false, List, refl, sym}
-use Rattle.std.specs.Prelude.{Some, None, Result, Ok, ⊤}
+use Rattle.std.specs.Prelude.{Some, None, Ok, ⊤}
 use Rattle.zy_base.specs.declared.file_fault.FileFault.{FileFault}
 use Rattle.zy_base.specs.declared.file_fault.FileFault.TheVariants.{Form}
 use Rattle.journal_reader.specs.declared.due.Due.{Due}

@@ -1,12 +1,11 @@
 -- What is read of a part, byte after byte, for all kinds of parts.
-use Rattle.std.proofs.Common.{◌≡◌, ◌⊎◌, inl, inr, ℕ, ◌≤◌, Bool, true, false, List, [], ◌∷◌, ◌++◌, refl, sym, ◌∙◌, ap, subst, append_assoc}
-use Rattle.std.specs.Prelude.{Option, None, Some, IfSome, Result, Ok, Err, ⊤}
+use Rattle.std.proofs.Common.{◌≡◌, ◌⊎◌, inl, inr, ℕ, Bool, true, false, List, [], ◌∷◌, ◌++◌, refl, sym, ◌∙◌, ap, subst, append_assoc}
+use Rattle.std.specs.Prelude.{Option, None, Some, IfSome, Result, Ok, Err}
 use Rattle.std.specs.Io.KnownBytes.{Consumes, IsAtEnd}
 use Rattle.std.proofs.lemmas.List.{append-nil}
-use Rattle.zy_parts.specs.declared.stop.Refusal.{Refusal}
 use Rattle.zy_parts.specs.declared.stop.Stop.{Stop}
 use Rattle.zy_parts.specs.declared.stop.Stop.TheVariants.{Refused, ReadFault, NoMemory}
-use Rattle.zy_parts.specs.Reading.{Kind, HasGiven, IsOver, IsReading, HasStopped, HasFaultBehind, HasRead, StopsBy, Takes, EndsWhole, EndsCut, Advances, Feeds, Reads}
+use Rattle.zy_parts.specs.Reading.{Kind, HasGiven, IsOver, HasStopped, HasFaultBehind, Takes, EndsWhole, EndsCut, Advances, Reads}
 
 -- ---- what the source told
 

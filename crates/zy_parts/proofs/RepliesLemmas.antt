@@ -12,7 +12,7 @@ use Rattle.zy_capture.specs.Replies.{AreInOrder, items_of}
 use Rattle.zy_capture.specs.RepliesSteps.{Progress}
 use Rattle.zy_capture.specs.RepliesStanding.{StandsForReplies, EndsAs}
 use Rattle.zy_capture.specs.RepliesVerdict.{replies, ended, verdict, fault_of, outputs_of, version_in, version_of}
-use Rattle.zy_capture.specs.RepliesVerdict.Verdict.{Good, Bad}
+use Rattle.zy_capture.specs.RepliesVerdict.Verdict.{Good}
 use Rattle.zy_capture.proofs.AddLemmas.{next_adds}
 use Rattle.zy_capture.proofs.RepliesFeeding.{lasting, version_here}
 use Rattle.zy_capture.proofs.RepliesSoFarLemmas.{outputs_so_far}

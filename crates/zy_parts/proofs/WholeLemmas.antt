@@ -1,16 +1,13 @@
 -- The three parts of an input, one behind the other.
-use Rattle.std.proofs.Common.{◌≡◌, ◌⊎◌, inl, inr, ℕ, ◌≤◌, true, false, List, [], ◌∷◌, ◌++◌, refl, sym, ◌∙◌, ap, subst, arith, append_assoc}
-use Rattle.std.specs.Prelude.{Option, None, Some, IfSome, Result, Ok, Err, ⊤}
-use Rattle.std.specs.Io.KnownBytes.{Consumes, IsAtEnd}
+use Rattle.std.proofs.Common.{◌≡◌, ◌⊎◌, inl, inr, ℕ, List, [], ◌++◌, refl, sym, ◌∙◌, ap, subst, arith, append_assoc}
+use Rattle.std.specs.Prelude.{Option, None, Some, IfSome, Result, Ok, Err}
+use Rattle.std.specs.Io.KnownBytes.{Consumes}
 use Rattle.std.proofs.lemmas.List.{append-nil}
 use Rattle.zy_read.specs.Format.{reading_of, read_on, fault_met, verdict_on}
-use Rattle.zy_base.specs.declared.file_fault.FileFault.{FileFault}
-use Rattle.zy_capture.specs.declared.capture_fault.CaptureFault.{CaptureFault}
 use Rattle.zy_capture.specs.Outputs.{AllOutputs}
 use Rattle.zy_capture.specs.Standing.{StandsFor}
 use Rattle.zy_capture.specs.RepliesStanding.{StandsForReplies}
 use Rattle.zy_capture.specs.Verdict as Captures
-use Rattle.zy_capture.specs.RepliesVerdict as Replies
 use Rattle.zy_journal.specs.declared.journal.Journal.{Journal}
 use Rattle.journal_reader.specs.Standing.{StandsForJournal}
 use Rattle.journal_reader.specs.Verdict as Journals
@@ -22,9 +19,9 @@ use Rattle.zy_parts.specs.declared.stop.Refusal.{Refusal}
 use Rattle.zy_parts.specs.declared.stop.Refusal.TheVariants.{Capture, Journal as OfJournal, Replies as OfReplies}
 use Rattle.zy_parts.specs.declared.stop.Stop.{Stop}
 use Rattle.zy_parts.specs.declared.stop.Stop.TheVariants.{Refused, ReadFault, NoMemory}
-use Rattle.zy_parts.specs.Parts.{IsCapture, IsJournal, HasStreams, AreParts, HasPartFault, HasCaptureFault, HasReadParts, HasReadStreams}
+use Rattle.zy_parts.specs.Parts.{IsCapture, IsJournal, HasStreams, HasPartFault, HasCaptureFault, HasReadParts, HasReadStreams}
 use Rattle.zy_parts.specs.Reading.{HasGiven, IsOver, IsReading, HasFaultBehind, HasRead, StopsBy, Reads}
-use Rattle.zy_parts.specs.Kinds.{KeepsStreams, KeepsOutputs, StandsForCapture, StandsForJournalPart, StandsForRepliesPart, capture_kind, journal_kind, replies_kind}
+use Rattle.zy_parts.specs.Kinds.{KeepsStreams, KeepsOutputs, capture_kind, journal_kind, replies_kind}
 use Rattle.zy_parts.proofs.PartLemmas.{told_first}
 use Rattle.zy_parts.proofs.FormatLemmas.{one_first}
 use Rattle.zy_parts.proofs.CaptureLemmas.{once}

@@ -1,4 +1,3 @@
-use Rattle.std.proofs.Common.{◌≡◌}
 use Rattle.zy_capture.specs.Verdict.{captures, is_good}
 use Rattle.zy_parts.proofs.FormatLemmas.{fed_fault}
 use Rattle.zy_parts.proofs.CaptureLemmas.{once}

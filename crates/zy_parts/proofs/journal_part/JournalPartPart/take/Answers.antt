@@ -1,4 +1,3 @@
-use Rattle.std.proofs.Common.{◌≡◌}
 use Rattle.journal_reader.specs.Verdict.{journals, is_good}
 use Rattle.zy_parts.proofs.FormatLemmas.{fed_fault}
 use Rattle.zy_parts.proofs.JournalLemmas.{once}
