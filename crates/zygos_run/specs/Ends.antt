@@ -9,7 +9,7 @@ use Rattle.zy_capture.specs.Verdict.Verdict.{Good, Bad}
 use Rattle.zy_journal.specs.declared.journal.Journal.{Journal}
 use Rattle.zy_journal.specs.Journal.{IsJournal}
 use Rattle.zy_run.specs.Commands.{streams_in}
-use Rattle.zy_same.specs.Summary.{summary_of_run}
+use Rattle.zy_same.specs.Summary.{summary}
 use Rattle.zy_parts.specs.declared.stop.Refusal.TheVariants.{Capture}
 use Rattle.zy_parts.specs.declared.stop.Stop.{Stop as PartStop}
 use Rattle.zy_parts.specs.declared.stop.Stop.TheVariants as PartStops
@@ -17,7 +17,7 @@ use Rattle.zy_parts.specs.Parts.{AreParts, HasPartFault}
 use Rattle.zy_check.specs.declared.verdict.Verdict.{Verdict as Certified}
 use Rattle.zy_check.specs.Given.{given}
 use Rattle.zy_check.specs.Cause.{HasVerdict}
-use Rattle.zy_gen.specs.Traffic.{gen_bytes}
+use Rattle.zy_gen.specs.Traffic.{gen_bytes, records_of}
 use Rattle.zy_words.specs.declared.request.Request.{Request}
 use Rattle.zy_words.specs.declared.request.Request.TheVariants as Requests
 use Rattle.zy_words.specs.declared.request.Run.{Run}
@@ -62,9 +62,16 @@ ReadsNothing (Some (Requests.Run run out)) = ⊥
 ReadsNothing (Some (Requests.Check shards)) = ⊥
 ReadsNothing request = ⊤
 
+-- ---- traffic
+
 -- the capture of some traffic
 abbrev pub traffic_bytes : Traffic → List ℕ
 traffic_bytes traffic = gen_bytes traffic.number traffic.conns traffic.commands
+
+-- the numbers that all runs of some traffic have in common: those of the run that makes all calls of connection 0, then all of connection 1, and so on
+abbrev pub traffic_summary : ℕ → Traffic → Summary
+traffic_summary shards traffic =
+    summary shards traffic.conns (streams_in (records_of traffic.number traffic.conns traffic.commands))
 
 -- ---- reading
 
@@ -86,11 +93,11 @@ pub record IsChecked (shards : ℕ) (bytes : List ℕ) (verdict : Certified) : T
   pub parts : AreParts bytes streams journal outputs
   pub verdict_is : HasVerdict (given shards streams journal outputs) verdict
 
--- a journal and numbers are those of a served run of generated traffic
-pub record IsTested (traffic : Traffic) (shards : ℕ) (journal : Journal) (summary : Summary) : Type 0 where
+-- the journal is that of a served run of generated traffic, and the numbers are those of all its runs
+pub record IsTested (traffic : Traffic) (shards : ℕ) (journal : Journal) (numbers : Summary) : Type 0 where
   pub outputs : AllOutputs
   pub served : IsServed shards (traffic_bytes traffic) journal outputs
-  pub summary_is : summary ≡ summary_of_run served.count (streams_in served.records) journal.entries
+  pub numbers_are : numbers ≡ traffic_summary shards traffic
 
 -- ---- causes
 
@@ -128,10 +135,10 @@ GenEnds holds wrote traffic sink sink' answer = ⊥
 
 -- how a test run ends, and what it leaves of the sink
 abbrev pub SelfEnds : {K : Type 0} → (K → Option (List ℕ)) → (K → ℕ) → Traffic → ℕ → K → K → Answer → Type 0
-SelfEnds holds wrote traffic shards sink sink' (Tested journal summary) =
-    IsTested traffic shards journal summary × Grew (holds sink) (holds sink') (summary_line summary)
+SelfEnds holds wrote traffic shards sink sink' (Tested journal numbers) =
+    IsTested traffic shards journal numbers × Grew (holds sink) (holds sink') (summary_line numbers)
 SelfEnds holds wrote traffic shards sink sink' WriteFault =
-    ((journal : Journal) × (summary : Summary) × IsTested traffic shards journal summary × GrewByPrefix (holds sink) (holds sink') (summary_line summary))
+    ((journal : Journal) × (numbers : Summary) × IsTested traffic shards journal numbers × GrewByPrefix (holds sink) (holds sink') (summary_line numbers))
     × Rose (wrote sink) (wrote sink')
 SelfEnds holds wrote traffic shards sink sink' OutOfMemory = sink' ≡ sink
 SelfEnds holds wrote traffic shards sink sink' answer = ⊥
@@ -155,7 +162,7 @@ abbrev pub LeavesSink : Answer → Type 0
 LeavesSink (Served journal) = ⊥
 LeavesSink (Checked found) = ⊥
 LeavesSink Made = ⊥
-LeavesSink (Tested journal summary) = ⊥
+LeavesSink (Tested journal numbers) = ⊥
 LeavesSink WriteFault = ⊥
 LeavesSink answer = ⊤
 

@@ -60,9 +60,9 @@ HasMade request holds holds' = ⊥
 
 -- a test run was asked for, this is its journal, these are its numbers, and their line was written
 abbrev pub HasTested : Option Request → Option (List ℕ) → Option (List ℕ) → Journal → Summary → Type 0
-HasTested (Some (Requests.SelfTest traffic run)) holds holds' journal summary =
-    IsTested traffic run.shards journal summary × Grew holds holds' (summary_line summary)
-HasTested request holds holds' journal summary = ⊥
+HasTested (Some (Requests.SelfTest traffic run)) holds holds' journal numbers =
+    IsTested traffic run.shards journal numbers × Grew holds holds' (summary_line numbers)
+HasTested request holds holds' journal numbers = ⊥
 
 -- ---- a fault of writing
 
@@ -74,7 +74,7 @@ HasPart (Some (Requests.Check shards)) rest rest' holds holds' =
     (found : Certified) × OfGiven rest rest' (λ bytes. IsChecked shards bytes found) × GrewByPrefix holds holds' (verdict_line found)
 HasPart (Some (Requests.Gen traffic)) rest rest' holds holds' = GrewByPrefix holds holds' (traffic_bytes traffic)
 HasPart (Some (Requests.SelfTest traffic run)) rest rest' holds holds' =
-    (journal : Journal) × (summary : Summary) × IsTested traffic run.shards journal summary × GrewByPrefix holds holds' (summary_line summary)
+    (journal : Journal) × (numbers : Summary) × IsTested traffic run.shards journal numbers × GrewByPrefix holds holds' (summary_line numbers)
 
 -- ---- a refusal
 
@@ -126,7 +126,7 @@ abbrev pub IsDone : Option Request → Answer → Type 0
 IsDone (Some (Requests.Run run out)) (Served journal) = ⊤
 IsDone (Some (Requests.Check shards)) (Checked found) = ⊤
 IsDone (Some (Requests.Gen traffic)) Made = ⊤
-IsDone (Some (Requests.SelfTest traffic run)) (Tested journal summary) = ⊤
+IsDone (Some (Requests.SelfTest traffic run)) (Tested journal numbers) = ⊤
 IsDone request answer = ⊥
 
 -- the same, unless memory ran out

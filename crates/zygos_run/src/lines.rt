@@ -1,5 +1,5 @@
 //! Lines with numbers in them, and the lines that a check and a test run write.
-ghost use Rattle.std.specs.Prelude.{◌≡◌};
+ghost use Rattle.std.specs.Prelude.{◌≡◌, get_or};
 ghost use Rattle.zy_base.specs.Outside.{Writes};
 ghost use Rattle.zygos_run.specs.Lines.{line_with, line_with_two, line_with_three, output_line, cause_text, cause_line, verdict_line, summary_line};
 

@@ -27,6 +27,7 @@ use zy_gen::generated_traffic_is_a_good_capture;
 use zy_journal::Journal;
 use zy_parts::read_streams;
 use zy_same::Summary;
+use zy_traffic::each_run_of_generated_traffic_has_the_summary;
 use zy_words::{Run, Traffic};
 
 /// Serves generated traffic, checks what came, and writes the line of its numbers.
@@ -64,6 +65,8 @@ fn run_test<R: Threads + Wait + Sync, G: Gate + Sync>(
     requires runnable { IsRunnable run }
     ensures tested { IfOk result (λ t. IsTested traffic run.shards t.0 t.1) }
 {
+    generated_traffic_is_a_good_capture();
+    each_run_of_generated_traffic_has_the_summary();
     let mut capture = capture_of(alloc, traffic)?;
     capture.share()?;
     let streams = streams_of(alloc, capture.copy()?)?;

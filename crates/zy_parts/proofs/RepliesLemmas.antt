@@ -1,0 +1,92 @@
+-- What is kept of a replies file while it is read.
+use Rattle.std.proofs.Common.{◌≡◌, ◌≢◌, ℕ, ◌<◌, true, false, List, [], ◌∷◌, ◌++◌, refl, sym, ◌∙◌, ap, subst}
+use Rattle.std.specs.Prelude.{◌==◌, Option, None, Some, Result, Ok, Err, OnOk, IfOk, IfErr, ⊤}
+use Rattle.zy_read.proofs.Feeding.{given_here, verdict_here}
+use Rattle.zy_base.specs.declared.outside.NoMemory as Outside
+use Rattle.zy_capture.specs.declared.session_bytes.SessionBytes.{SessionBytes}
+use Rattle.zy_capture.specs.declared.replies_due.RepliesDue.{RepliesDue}
+use Rattle.zy_capture.specs.declared.replies_due.RepliesDue.TheVariants.{Nothing, Broken}
+use Rattle.zy_capture.specs.Capture.{AreBytes}
+use Rattle.zy_capture.specs.Outputs.{AllOutputs, AreOutputs, with_output}
+use Rattle.zy_capture.specs.Replies.{AreInOrder, items_of}
+use Rattle.zy_capture.specs.RepliesSteps.{Progress}
+use Rattle.zy_capture.specs.RepliesStanding.{StandsForReplies, EndsAs}
+use Rattle.zy_capture.specs.RepliesVerdict.{replies, ended, verdict, fault_of, outputs_of, version_in, version_of}
+use Rattle.zy_capture.specs.RepliesVerdict.Verdict.{Good}
+use Rattle.zy_capture.proofs.AddLemmas.{next_adds}
+use Rattle.zy_capture.proofs.RepliesFeeding.{lasting, version_here}
+use Rattle.zy_capture.proofs.RepliesSoFarLemmas.{outputs_so_far}
+use Rattle.zy_parts.specs.declared.replies_part.RepliesPart.{RepliesPart}
+use Rattle.zy_parts.specs.declared.stop.Stop.{Stop}
+use Rattle.zy_parts.specs.declared.stop.Stop.TheVariants.{Refused, ReadFault, NoMemory}
+use Rattle.zy_parts.specs.Reading.{EndsCut}
+use Rattle.zy_parts.specs.Kinds.{StandsForRepliesPart, KeepsOutputs, HasOutputs, never, replies_kind}
+use Rattle.zy_parts.proofs.FormatLemmas.{EndsOnce}
+
+-- ---- the format
+
+-- no replies file is whole before the end of the source
+pub once : EndsOnce replies never
+once = record { lasting = lasting; closes = λ p given byte good. cc; bad = λ fault. refl }
+
+-- ---- what is kept
+
+-- a byte more
+pub bytes_on : (bytes : List ℕ) (byte : ℕ) → AreBytes bytes → byte < 256 → AreBytes (bytes ++ byte ∷ [])
+bytes_on [] byte are small = (small, tt)
+bytes_on (first ∷ bytes) byte are small = (are.0, bytes_on bytes byte are.1 small)
+
+some_item : (given : List SessionBytes) (item : SessionBytes) → given ++ item ∷ [] ≢ []
+some_item [] item none = cc
+some_item (first ∷ given) item none = cc
+
+-- an output that a reader gave comes after those before it
+in_order : (p : Progress) (old : AllOutputs) (item : SessionBytes) (given : List SessionBytes) (bytes : List ℕ) → StandsForReplies p (given ++ item ∷ []) bytes → fault_of bytes ≡ None → AreBytes bytes → version_of bytes ≡ Some old.version → items_of old ≡ given → AreInOrder old.version 0 0 (items_of old ++ item ∷ [])
+in_order p old item given bytes stands clean are told kept =
+    let outputs_are : outputs_of bytes ≡ given ++ item ∷ [] = given_here replies p (given ++ item ∷ []) bytes stands in
+    let so_far = outputs_so_far bytes are clean (λ none. some_item given item (sym outputs_are ∙ none)) in
+    let version_is : version_of bytes ≡ Some so_far.version = so_far.version_is in
+    let same : so_far.version ≡ old.version = cc in
+    let items_are : outputs_of bytes ≡ items_of old ++ item ∷ [] = outputs_are ∙ ap (λ (l : List SessionBytes). l ++ item ∷ []) (sym kept) in
+    rw (← same, ← items_are) so_far.lawful.ordered
+
+-- an output more
+pub output_kept : (p : Progress) (old new : AllOutputs) (item : SessionBytes) (given : List SessionBytes) (bytes : List ℕ) (answer : Result ⊤ Outside.NoMemory) → OnOk answer (new ≡ with_output old item.conn item.bytes) → AreOutputs old
+    → StandsForReplies p (given ++ item ∷ []) bytes → fault_of bytes ≡ None → AreBytes bytes → version_of bytes ≡ Some old.version → KeepsOutputs (Some old) given → OnOk answer (KeepsOutputs (Some new) (given ++ item ∷ []))
+output_kept p old new item given bytes (Ok done) added lawful stands clean are told kept =
+    ap (λ (o : AllOutputs). items_of o) added ∙ (next_adds old item lawful (in_order p old item given bytes stands clean are told kept)).items ∙ ap (λ (l : List SessionBytes). l ++ item ∷ []) kept
+output_kept p old new item given bytes (Err e) added lawful stands clean are told kept = tt
+
+-- ---- the end
+
+-- the version of a whole replies file was told
+version_is : (found told : ℕ) → version_in found ≡ Some told → found ≡ told
+version_is found told is = elim (found == 0) as (λ t. (found == 0) ≡ t → found ≡ told) [
+  | true ↦ λ zero_is. let none : version_in found ≡ None = rw zero_is refl in cc
+  | false ↦ λ some_is. let some : version_in found ≡ Some found = rw some_is refl in cc
+] refl
+
+due_version : (due : RepliesDue) (p : Progress) (given : List SessionBytes) (version : ℕ) → ended due p given ≡ Good version given → p.version ≡ version
+due_version Nothing p given version is = cc
+due_version (Broken fault) p given version is = cc
+due_version due p given version is = cc
+
+-- the outputs are those of the replies file
+outputs_of_file : (part : RepliesPart) (outputs : AllOutputs) (bytes : List ℕ) → StandsForRepliesPart part bytes → part.outputs ≡ Some outputs → AreOutputs outputs → ((given : List SessionBytes) (b : List ℕ) → StandsForReplies part.reader given b → EndsAs given (Ok tt) (verdict b))
+    → ((given : List SessionBytes) (b : List ℕ) → StandsForReplies part.reader given b → Some outputs.version ≡ version_of b) → HasOutputs outputs bytes
+outputs_of_file part outputs bytes stands is lawful ends versions =
+    let good = ends stands.given bytes stands.reader in
+    let kept : KeepsOutputs (Some outputs) stands.given = subst (λ (o : Option AllOutputs). KeepsOutputs o stands.given) is stands.kept in
+    let here : part.reader.version ≡ good.0 = due_version part.reader.due part.reader stands.given good.0 (sym (verdict_here replies part.reader stands.given bytes stands.reader) ∙ good.1) in
+    let told : part.reader.version ≡ outputs.version = version_is part.reader.version outputs.version (sym (version_here part.reader stands.given bytes stands.reader) ∙ sym (versions stands.given bytes stands.reader)) in
+    (good.1 ∙ ap (λ (v : ℕ). Good v stands.given) (sym here ∙ told) ∙ ap (λ (l : List SessionBytes). Good outputs.version l) (sym kept), lawful)
+
+-- what a replies file gives whose reader was fed all of it
+pub checked_ends : (part : RepliesPart) (outputs : AllOutputs) (bytes : List ℕ) (version : Option ℕ) (answer : Result AllOutputs Stop) → StandsForRepliesPart part bytes → part.outputs ≡ Some outputs → AreOutputs outputs → ((given : List SessionBytes) (b : List ℕ) → StandsForReplies part.reader given b → EndsAs given (Ok tt) (verdict b))
+    → ((given : List SessionBytes) (b : List ℕ) → StandsForReplies part.reader given b → version ≡ version_of b) → IfOk answer (λ same. (same ≡ outputs) × (version ≡ Some outputs.version)) → IfErr answer (λ stop. stop ≡ NoMemory) → EndsCut replies_kind bytes answer
+checked_ends part outputs bytes version (Ok same) stands is lawful ends versions value memory =
+    subst (λ (o : AllOutputs). HasOutputs o bytes) (sym value.0)
+    (outputs_of_file part outputs bytes stands is lawful ends (λ given b fed. sym value.1 ∙ versions given b fed))
+checked_ends part outputs bytes version (Err (Refused refusal)) stands is lawful ends versions value memory = let no : Refused refusal ≡ NoMemory = memory in cc
+checked_ends part outputs bytes version (Err ReadFault) stands is lawful ends versions value memory = let no : ReadFault ≡ NoMemory = memory in cc
+checked_ends part outputs bytes version (Err NoMemory) stands is lawful ends versions value memory = tt

@@ -1,0 +1,49 @@
+//! Reading the journal.
+ghost use Rattle.std.specs.Prelude.{[]};
+ghost use Rattle.journal_reader.specs.Standing.{StandsForJournal};
+ghost use Rattle.zy_parts.specs.Kinds.{journal_kind};
+
+use crate::part::Part;
+use crate::stop::{Refusal, Stop};
+use journal_reader::JournalReader;
+use std::alloc::Global;
+use zy_journal::Journal;
+use zy_read::FileFeed;
+
+/// The reader of the journal.
+#[derive(Drop)]
+pub(crate) struct JournalPart {
+    reader: JournalReader,
+}
+
+impl JournalPart {
+    // No byte was taken yet.
+    pub(crate) fn new(alloc: Global) -> JournalPart
+        ensures value { StandsForJournal result.reader [] [] }
+    {
+        JournalPart {
+            reader: JournalReader::new(alloc),
+        }
+    }
+}
+
+impl Part for JournalPart {
+    type Gives = Journal;
+
+    ghost kind = { journal_kind };
+
+    fn take(&mut self, byte: u8) -> Result<bool, Stop> {
+        match self.reader.feed(byte) {
+            Ok(_) => Ok(self.reader.is_done()),
+            Err(FileFeed::Fault(fault)) => Err(Stop::Refused(Refusal::Journal(fault))),
+            Err(FileFeed::NoMemory) => Err(Stop::NoMemory),
+        }
+    }
+
+    fn end(self) -> Result<Journal, Stop> {
+        match self.reader.end() {
+            Ok(journal) => Ok(journal),
+            Err(fault) => Err(Stop::Refused(Refusal::Journal(fault))),
+        }
+    }
+}

@@ -1,0 +1,19 @@
+//! Laws over the definitions of this crate.
+ghost use Rattle.std.specs.Prelude.{◌≡◌, ℕ, List};
+ghost use Rattle.zy_capture.specs.Outputs.{AllOutputs};
+ghost use Rattle.zy_journal.specs.declared.journal.Journal.{Journal};
+ghost use Rattle.zy_parts.specs.declared.stop.Refusal.{Refusal};
+ghost use Rattle.zy_parts.specs.Parts.{AreParts, HasPartFault};
+
+/// An input that has parts has no fault.
+pub fn parts_have_no_fault()
+    ensures none { (text : List ℕ) (streams : List (List (List ℕ))) (journal : Journal)
+        (outputs : AllOutputs) (refusal : Refusal)
+        → AreParts text streams journal outputs → ¬ HasPartFault text refusal }
+{}
+
+/// An input has at most one first fault.
+pub fn there_is_one_part_fault()
+    ensures same { (text : List ℕ) (first second : Refusal)
+        → HasPartFault text first → HasPartFault text second → first ≡ second }
+{}

@@ -1,0 +1,17 @@
+//! The input of a check: a capture, a journal and a replies file, read from one source.
+#![tactic(auto)]
+
+mod capture_part;
+mod journal_part;
+mod laws;
+mod part;
+mod parts;
+mod pieces;
+mod replies_part;
+mod stop;
+#[cfg(test)]
+mod tests;
+
+pub use laws::{parts_have_no_fault, there_is_one_part_fault};
+pub use parts::{Parts, read_parts, read_streams};
+pub use stop::{Refusal, Stop};

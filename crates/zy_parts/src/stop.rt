@@ -1,0 +1,27 @@
+//! Why an input is read no further.
+
+use zy_base::FileFault;
+use zy_capture::CaptureFault;
+
+/// Why an input is refused: the first fault, of the part that has it. Places count from the start of
+/// that part.
+#[derive(Clone, Copy, Debug, PartialEq, Eq)]
+pub enum Refusal {
+    /// The capture has this fault. It is not `Trailing`: what follows the capture is the journal.
+    Capture(CaptureFault),
+    /// The journal has this fault.
+    Journal(FileFault),
+    /// The replies file has this fault.
+    Replies(FileFault),
+}
+
+/// Why an input is read no further.
+#[derive(Clone, Copy, Debug, PartialEq, Eq)]
+pub enum Stop {
+    /// The input has this fault.
+    Refused(Refusal),
+    /// A read failed.
+    ReadFault,
+    /// Memory was wanted and not found.
+    NoMemory,
+}
