@@ -5,3 +5,4 @@ pub mod RepliesLemmas
 pub mod JournalLemmas
 pub mod WholeLemmas
 pub mod FaultLemmas
+pub mod DivisionLemmas
