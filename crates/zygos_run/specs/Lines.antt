@@ -27,7 +27,7 @@ line_with_two text number middle other = text ++ decimal number ++ middle ++ dec
 -- a line with three numbers
 abbrev pub line_with_three : List ℕ → ℕ → List ℕ → ℕ → List ℕ → ℕ → List ℕ → List ℕ
 line_with_three text first middle second last third ending =
-    text ++ decimal first ++ middle ++ decimal second ++ last ++ decimal third ++ ending
+    text ++ (decimal first ++ (middle ++ (decimal second ++ (last ++ (decimal third ++ (ending ++ codes "\n"))))))
 
 -- ---- a refusal
 
@@ -111,7 +111,7 @@ cause_text (WrongHolds conn) = codes "no wrong-holds connection "
 abbrev pub output_line : List ℕ → ℕ → ℕ → ℕ → List ℕ
 output_line text conn zero at = line_with_two text conn (codes " at ") at
 output_line text conn (suc session) at =
-    line_with_three text conn (codes " session ") (suc session) (codes " at ") at (codes "\n")
+    line_with_three text conn (codes " session ") (suc session) (codes " at ") at []
 
 -- the line of a cause
 abbrev pub cause_line : Cause → List ℕ
@@ -132,4 +132,4 @@ verdict_line (No cause) = cause_line cause
 abbrev pub summary_line : Summary → List ℕ
 summary_line summary =
     line_with_three (codes "commands ") summary.commands (codes " calls ") summary.calls (codes " reply-bytes ") summary.reply_bytes
-    (codes " check yes\n")
+    (codes " check yes")

@@ -1,5 +1,5 @@
 //! Lines with numbers in them, and the lines that a check and a test run write.
-ghost use Rattle.std.specs.Prelude.{◌≡◌, get_or};
+ghost use Rattle.std.specs.Prelude.{◌≡◌};
 ghost use Rattle.zy_base.specs.Outside.{Writes};
 ghost use Rattle.zygos_run.specs.Lines.{line_with, line_with_two, line_with_three, output_line, cause_text, cause_line, verdict_line, summary_line};
 
@@ -35,22 +35,31 @@ pub(crate) fn write_two<K: Sink>(
 }
 
 // Writes a line with three numbers.
-fn write_three<K: Sink>(
+fn write_three<'a, K: Sink>(
     sink: &mut K,
-    text: &[u8],
-    numbers: [u64; 3],
-    middle: &[u8],
-    last: &[u8],
-    ending: &[u8],
+    text: &'a [u8],
+    first: u64,
+    middle: &'a [u8],
+    second: u64,
+    last: &'a [u8],
+    third: u64,
+    ending: &'a [u8],
 ) -> Result<(), Failed>
     ensures writes { Writes K.holds K.faults sink.old sink.new result
-        (line_with_three text.now (get_or numbers 0 0) middle.now (get_or numbers 1 0) last.now (get_or numbers 2 0) ending.now) }
+        (line_with_three text.now first middle.now second last.now third ending.now) }
 {
-    let mut buffers = (Buffer::new(), Buffer::new(), Buffer::new());
-    let first = buffers.0.format(numbers[0]).as_bytes();
-    let second = buffers.1.format(numbers[1]).as_bytes();
-    let third = buffers.2.format(numbers[2]).as_bytes();
-    write_pieces(sink, &[text, first, middle, second, last, third, ending])
+    let mut buffer = Buffer::new();
+    let mut second_buffer = Buffer::new();
+    let mut third_buffer = Buffer::new();
+    let digits = buffer.format(first).as_bytes();
+    let seconds = second_buffer.format(second).as_bytes();
+    let thirds = third_buffer.format(third).as_bytes();
+    write_pieces(
+        sink,
+        &[
+            text, digits, middle, seconds, last, thirds, ending, b"\n",
+        ],
+    )
 }
 
 /// Writes the line of a verdict.
@@ -91,8 +100,16 @@ fn write_output<K: Sink>(
     if session == 0 {
         write_two(sink, text, conn as u64, b" at ", at)
     } else {
-        let numbers = [conn as u64, session as u64, at];
-        write_three(sink, text, numbers, b" session ", b" at ", b"\n")
+        write_three(
+            sink,
+            text,
+            conn as u64,
+            b" session ",
+            session as u64,
+            b" at ",
+            at,
+            b"",
+        )
     }
 }
 
@@ -113,13 +130,14 @@ fn cause_text(cause: Cause) -> &'static [u8]
 pub(crate) fn write_summary<K: Sink>(sink: &mut K, summary: &Summary) -> Result<(), Failed>
     ensures writes { Writes K.holds K.faults sink.old sink.new result (summary_line summary.now) }
 {
-    let numbers = [summary.commands, summary.calls, summary.reply_bytes];
     write_three(
         sink,
         b"commands ",
-        numbers,
+        summary.commands,
         b" calls ",
+        summary.calls,
         b" reply-bytes ",
-        b" check yes\n",
+        summary.reply_bytes,
+        b" check yes",
     )
 }
