@@ -2,3 +2,7 @@ mod PreparedLemmas
 mod FeedLemmas
 mod OverLemmas
 mod ServedLemmas
+pub mod NumberLemmas
+pub mod WriteLemmas
+pub mod CheckLemmas
+pub mod TestLemmas

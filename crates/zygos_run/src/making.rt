@@ -1,6 +1,7 @@
 //! Making traffic.
 ghost use Rattle.std.specs.Prelude.{◌≡◌, ◌≤◌, IfOk};
 ghost use Rattle.zy_base.specs.Outside.{Writes};
+ghost use Rattle.zy_gen.specs.Traffic.{IsTraffic};
 ghost use Rattle.zy_words.specs.Range.{IsMakeable};
 ghost use Rattle.zygos_run.specs.Ends.{GenEnds, traffic_bytes};
 
@@ -25,10 +26,11 @@ pub(crate) fn make_traffic<K: Sink>(alloc: Global, traffic: Traffic, sink: &mut 
     }
 }
 
-/// The capture of some traffic.
+/// The capture of some traffic, which is within the bounds of traffic that can be made.
 pub(crate) fn capture_of(alloc: Global, traffic: Traffic) -> Result<Blob, NoMemory>
     requires makeable { IsMakeable traffic }
     ensures value { IfOk result (λ capture. capture ≡ traffic_bytes traffic) }
+    ensures traffic { IsTraffic traffic.number traffic.conns traffic.commands }
 {
     generate(alloc, traffic.number, traffic.conns, traffic.commands)
 }

@@ -33,8 +33,8 @@ fn all_held(holds: &[Hold]) -> Result<u64, NoMemory>
     ensures value { IfOk result (λ n. n ≡ all_held holds.now) }
 {
     let mut total = 0;
-    for hold in holds {
-        total = sum(total, hold.count as u64)?;
+    for at in 0..holds.len() {
+        total = sum(total, holds[at].count as u64)?;
     }
     Ok(total)
 }

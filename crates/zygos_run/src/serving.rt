@@ -16,6 +16,7 @@ use std::alloc::Global;
 use std::sync::Wait;
 use std::thread::Threads;
 use zy_base::{Blob, Gate, Sink, Source};
+use zy_parts::{parts_have_no_fault, there_is_one_part_fault};
 
 /// Carries out the command that the words ask for.
 ///
@@ -81,6 +82,8 @@ pub fn serve<R: Threads + Wait + Sync, S: Source, K: Sink, E: Sink, G: Gate + Sy
     // What is said.
     ensures said { Said (E.holds says.old) (E.holds says.new) (E.faults says.old) (E.faults says.new) (line_of result) }
 {
+    parts_have_no_fault();
+    there_is_one_part_fault();
     let answer = carry_out(rt, alloc, words, source, sink, gate);
     say(says, &answer);
     answer

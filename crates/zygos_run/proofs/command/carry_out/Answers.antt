@@ -1,0 +1,31 @@
+use Rattle.std.proofs.Common.{◌≡◌, sym, ◌∙◌, ap, Some}
+use Rattle.zy_words.specs.declared.request.Request.TheVariants as Requests
+use Rattle.zy_words.specs.Request.{request_of}
+use Rattle.zygos_run.proofs.command.carry_out.Goals as goal
+
+pub serve_capture-requires-clause-runnable : goal.serve_capture-requires-clause-runnable
+serve_capture-requires-clause-runnable g c κs within =
+    c.requests_are_in_their_ranges.ensures.run c.args.words.now c.in-Ok-Some-Run.run' c.in-Ok-Some-Run.out
+    (sym c.in-Ok-Some-Run.ensures.value ∙ c.in-Ok-Some-Run.field-0-is ∙ ap Some c.in-Ok-Some-Run.field-0-0-is)
+
+pub check_input-requires : goal.check_input-requires
+check_input-requires g c = record {
+  shards = c.requests_are_in_their_ranges.ensures.check c.args.words.now c.in-Ok-Some-Check.shards
+      (sym c.in-Ok-Some-Check.ensures.value ∙ c.in-Ok-Some-Check.field-0-is ∙ ap Some c.in-Ok-Some-Check.field-0-0-is);
+}
+
+pub make_traffic-requires : goal.make_traffic-requires
+make_traffic-requires g c = record {
+  makeable = c.requests_are_in_their_ranges.ensures.traffic c.args.words.now c.in-Ok-Some-Gen.traffic
+      (sym c.in-Ok-Some-Gen.ensures.value ∙ c.in-Ok-Some-Gen.field-0-is ∙ ap Some c.in-Ok-Some-Gen.field-0-0-is);
+}
+
+pub test_traffic-requires-clause-makeable : goal.test_traffic-requires-clause-makeable
+test_traffic-requires-clause-makeable g c κs within =
+    c.requests_are_in_their_ranges.ensures.self_traffic c.args.words.now c.in-Ok-Some-SelfTest.traffic c.in-Ok-Some-SelfTest.run'
+    (sym c.in-Ok-Some-SelfTest.ensures.value ∙ c.in-Ok-Some-SelfTest.field-0-is ∙ ap Some c.in-Ok-Some-SelfTest.field-0-0-is)
+
+pub test_traffic-requires-clause-runnable : goal.test_traffic-requires-clause-runnable
+test_traffic-requires-clause-runnable g c κs within =
+    c.requests_are_in_their_ranges.ensures.self_run c.args.words.now c.in-Ok-Some-SelfTest.traffic c.in-Ok-Some-SelfTest.run'
+    (sym c.in-Ok-Some-SelfTest.ensures.value ∙ c.in-Ok-Some-SelfTest.field-0-is ∙ ap Some c.in-Ok-Some-SelfTest.field-0-0-is)
