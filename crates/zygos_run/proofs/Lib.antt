@@ -6,3 +6,4 @@ pub mod NumberLemmas
 pub mod WriteLemmas
 pub mod CheckLemmas
 pub mod TestLemmas
+pub mod RefuseLemmas
