@@ -157,9 +157,9 @@ module _ (own : List Entry) (shards : ℕ) (command : Command) (pace : Pace) (ne
       let index = pace.commands in
       let many = next.after.commands in
       let none_first : replies_at index (take pace.matched own) ≡ [] = replies_none index (take pace.matched own)
-          (subst (All (IsOther index)) (sym dues_first) (due_from_other shards next.conn 0 next.done index (λ k low high. omega arith))) in
+      (subst (All (IsOther index)) (sym dues_first) (due_from_other shards next.conn 0 next.done index (λ k low high. omega arith))) in
       let none_rest : replies_at index rest ≡ [] = replies_none index rest
-          (subst (All (IsOther index)) (sym dues_rest) (due_from_other shards next.conn (index + 1) next.later index (λ k low high. omega arith))) in
+      (subst (All (IsOther index)) (sym dues_rest) (due_from_other shards next.conn (index + 1) next.later index (λ k low high. omega arith))) in
       let all_mine = replies_all next.conn index 0 mine calls dues_mine in
       sym (ap (replies_at index) (sym (take-append-drop pace.matched own)) ∙ replies_at-append index (take pace.matched own) (drop pace.matched own)
       ∙ ap (λ (l : List CallReply). l ++ replies_at index (drop pace.matched own)) none_first

@@ -41,14 +41,14 @@ missing_here g conn pace right first stop =
     let size = length-map own due_of in
     let within = stop.within in
     let all : pace.matched ≡ length own = dite (dec_lt pace.matched (length own))
-        (λ low. absurd (stop.not_asked (right_all g conn pace.matched right low ∙ stop.is_due)))
-        (λ high. omega arith) in record {
-          right = right;
-          first = first;
-          call = stop.call;
-          is_due = ap (λ (n : ℕ). slice_get (due_in g conn) n) (sym all) ∙ stop.is_due;
-          is_of = stop.is_of;
-        }
+    (λ low. absurd (stop.not_asked (right_all g conn pace.matched right low ∙ stop.is_due)))
+    (λ high. omega arith) in record {
+      right = right;
+      first = first;
+      call = stop.call;
+      is_due = ap (λ (n : ℕ). slice_get (due_in g conn) n) (sym all) ∙ stop.is_due;
+      is_of = stop.is_of;
+    }
 
 -- where it did not stop, no call is
 pub whole_here : (g : Given) (conn : ℕ) (pace : Pace)
