@@ -3,7 +3,7 @@ use Rattle.std.specs.Prelude.{All}
 use Rattle.std.specs.List.{slice_get}
 use Rattle.std.proofs.Common.{◌≡◌, ◌≢◌, ℕ, zero, suc, ◌+◌, ◌-◌, ◌<◌, ◌≤◌, List, [], ◌∷◌, ◌++◌, length, take, drop, map, Some, refl, sym, ap, ◌∙◌, subst, arith}
 use Rattle.std.proofs.Math.Seq.{take-append_seam, drop-append_seam}
-use Rattle.std.proofs.lemmas.List.{append-nil, append_assoc, length-append, length-map, map-append, take-map, drop-map, take-append-drop}
+use Rattle.std.proofs.lemmas.List.{append-nil, length-append, length-map, map-append, take-map, drop-map, take-append-drop}
 use Rattle.std.proofs.lemmas.List.Elements.{All-nil, All-cons, All-head, All-tail, All-append}
 use Rattle.zy_base.specs.declared.call_reply.CallReply.{CallReply}
 use Rattle.zy_base.specs.declared.entry.Entry.{Entry}
@@ -16,7 +16,7 @@ use Rattle.mc_parse.specs.Calls.{Due, due, due_at, due_from, due_of, dues_of, ta
 use Rattle.mc_parse.proofs.CallLemmas.{due-append, due-more, length-tagged}
 use Rattle.mc_reply.specs.Answers.{AnswerEach, AnswerCommand}
 use Rattle.zy_check.specs.declared.pace.Pace.{Pace}
-use Rattle.zy_check.specs.Output.{AreCallsOf, IsAfter, AreNext, IsPast}
+use Rattle.zy_check.specs.Output.{AreNext, IsPast}
 use Rattle.zy_check.proofs.FollowLemmas.{take_one}
 
 -- ---- calls of other commands
@@ -157,9 +157,9 @@ module _ (own : List Entry) (shards : ℕ) (command : Command) (pace : Pace) (ne
       let index = pace.commands in
       let many = next.after.commands in
       let none_first : replies_at index (take pace.matched own) ≡ [] = replies_none index (take pace.matched own)
-          (subst (All (IsOther index)) (sym dues_first) (due_from_other shards next.conn 0 next.done index (λ k low high. omega arith))) in
+      (subst (All (IsOther index)) (sym dues_first) (due_from_other shards next.conn 0 next.done index (λ k low high. omega arith))) in
       let none_rest : replies_at index rest ≡ [] = replies_none index rest
-          (subst (All (IsOther index)) (sym dues_rest) (due_from_other shards next.conn (index + 1) next.later index (λ k low high. omega arith))) in
+      (subst (All (IsOther index)) (sym dues_rest) (due_from_other shards next.conn (index + 1) next.later index (λ k low high. omega arith))) in
       let all_mine = replies_all next.conn index 0 mine calls dues_mine in
       sym (ap (replies_at index) (sym (take-append-drop pace.matched own)) ∙ replies_at-append index (take pace.matched own) (drop pace.matched own)
       ∙ ap (λ (l : List CallReply). l ++ replies_at index (drop pace.matched own)) none_first

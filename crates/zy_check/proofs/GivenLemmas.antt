@@ -10,7 +10,7 @@ use Rattle.mc_parse.specs.Calls.{dues_of}
 use Rattle.zy_run.specs.Commands.{commands_held}
 use Rattle.zy_check.specs.declared.pace.Followed.{Followed}
 use Rattle.zy_check.specs.Given.{Given, given}
-use Rattle.zy_check.specs.Cause.{IsComplete, IsRight, IsWrongHolds, HasVerdict}
+use Rattle.zy_check.specs.Cause.{IsComplete, IsRight, IsWrongHolds}
 use Rattle.zy_check.specs.Follow.{IsFollowed}
 use Rattle.zy_check.specs.Held.{AreCounted, FoundUnheld}
 use Rattle.zy_check.specs.Output.{FoundOutput}

@@ -1,6 +1,6 @@
 -- Lists, element by element.
 use Rattle.std.specs.List.{slice_get}
-use Rattle.std.proofs.Common.{◌≡◌, ℕ, zero, suc, ◌<◌, ◌≤◌, List, [], ◌∷◌, ◌++◌, length, get_or, Option, None, Some, refl, sym, ◌∙◌, subst, arith}
+use Rattle.std.proofs.Common.{◌≡◌, ℕ, zero, suc, ◌<◌, ◌≤◌, List, [], ◌∷◌, ◌++◌, length, get_or, None, Some, refl, subst, arith}
 use Rattle.std.proofs.lemmas.Option.{slice_get_read, get_or_from_slice_get}
 
 module _ {A : Type 0} where

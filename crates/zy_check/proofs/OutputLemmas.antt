@@ -1,7 +1,6 @@
 -- The outputs that were given, and those that are due.
-use Rattle.std.specs.Prelude.{flat_map}
-use Rattle.std.specs.List.{slice_get, slice_index_or}
-use Rattle.std.proofs.Common.{◌≡◌, ◌⊎◌, inl, inr, ℕ, zero, suc, ◌+◌, ◌<◌, ◌≤◌, List, [], ◌∷◌, ◌++◌, length, take, drop, get_or, Option, None, Some, refl, sym, ap, ◌∙◌, subst, arith}
+use Rattle.std.specs.List.{slice_index_or}
+use Rattle.std.proofs.Common.{◌≡◌, inl, inr, ℕ, ◌+◌, ◌<◌, ◌≤◌, List, [], ◌∷◌, ◌++◌, length, take, drop, get_or, Option, None, Some, sym, ap, ◌∙◌, subst, arith}
 use Rattle.std.proofs.lemmas.List.{append-nil, append_assoc, take_more, get_or_past}
 use Rattle.std.proofs.lemmas.List.Concat.{flat_map-append}
 use Rattle.std.proofs.lemmas.Option.{slice_get-get_or, slice_get_past}
@@ -16,10 +15,9 @@ use Rattle.zy_run.specs.Commands.{commands_over}
 use Rattle.zy_run.specs.Output.{commands_before, output, outputs_of}
 use Rattle.zy_run.proofs.OutputLemmas.{length-outputs_of, outputs_of-at}
 use Rattle.zy_check.specs.declared.pace.Pace.{Pace}
-use Rattle.zy_check.specs.declared.session.Differing.{Differing}
 use Rattle.zy_check.specs.Given.{Given, found_output, due_output, IsOutput}
-use Rattle.zy_check.specs.Cause.{agreeing, agreeing_in, ComesBefore, IsComplete, IsWrongOutput}
-use Rattle.zy_check.specs.Output.{AreCallsOf, IsAfter, AreNext, IsPast, Compares, IsDiffering, FoundDiffering, FoundOutput}
+use Rattle.zy_check.specs.Cause.{agreeing_in, ComesBefore, IsComplete, IsWrongOutput}
+use Rattle.zy_check.specs.Output.{AreCallsOf, IsAfter, AreNext, IsPast, Compares, IsDiffering, FoundDiffering}
 use Rattle.zy_check.proofs.FollowLemmas.{commands_split}
 use Rattle.zy_check.proofs.RightLemmas.{asked_all, right_kinds}
 use Rattle.zy_check.proofs.SessionLemmas.{made_of}

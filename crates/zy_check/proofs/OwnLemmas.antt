@@ -1,7 +1,7 @@
 -- The entries at some places of a list.
-use Rattle.std.specs.Prelude.{option_to_list, flat_map}
+use Rattle.std.specs.Prelude.{option_to_list}
 use Rattle.std.specs.List.{slice_get}
-use Rattle.std.proofs.Common.{◌≡◌, ℕ, zero, suc, ◌+◌, ◌<◌, List, [], ◌∷◌, ◌++◌, length, get_or, Option, Some, refl, sym, ap, ◌∙◌, subst, arith}
+use Rattle.std.proofs.Common.{◌≡◌, ℕ, zero, suc, ◌<◌, List, [], ◌∷◌, ◌++◌, length, get_or, Option, Some, refl, sym, ap, ◌∙◌, arith}
 use Rattle.zy_base.specs.declared.entry.Entry.{Entry}
 use Rattle.zy_check.specs.Own.{picked, AreWithin}
 

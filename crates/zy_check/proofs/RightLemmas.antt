@@ -1,7 +1,7 @@
 -- Where all entries are right: what was asked is what is due, and each call may get its reply.
 use Rattle.std.specs.Prelude.{IfSome}
-use Rattle.std.specs.List.{slice_get, slice_index_or}
-use Rattle.std.proofs.Common.{◌≡◌, ℕ, zero, suc, ◌<◌, ◌≤◌, Bool, true, false, List, [], ◌∷◌, length, take, Option, None, Some, refl, sym, ap, ◌∙◌, subst, arith}
+use Rattle.std.specs.List.{slice_get}
+use Rattle.std.proofs.Common.{◌≡◌, ℕ, suc, ◌<◌, ◌≤◌, Bool, true, false, List, [], ◌∷◌, length, take, Option, Some, refl, sym, ap, ◌∙◌, subst, arith}
 use Rattle.std.proofs.lemmas.List.{take_all, length-map, get_or_past}
 use Rattle.std.proofs.lemmas.Option.{slice_get_within}
 use mathlib.Core.Logic.{dite}
@@ -17,7 +17,7 @@ use Rattle.mc_parse.specs.Calls.{Due, due, due_of, dues_of}
 use Rattle.zy_run.specs.Commands.{commands_held, commands_over}
 use Rattle.zy_check.specs.declared.pace.Followed.{Followed}
 use Rattle.zy_check.specs.declared.pace.Pace.{Pace}
-use Rattle.zy_check.specs.Given.{Given, due_in, IsAnswered, AreRightBelow, AreRight, IsWhole}
+use Rattle.zy_check.specs.Given.{Given, due_in, IsAnswered, AreRight, IsWhole}
 use Rattle.zy_check.specs.Cause.{IsMissing, IsComplete}
 use Rattle.zy_check.specs.Follow.{IsAlong, IsStopped, IsFollowed}
 use Rattle.zy_check.specs.Walk.{AreFollowed}
@@ -41,14 +41,14 @@ missing_here g conn pace right first stop =
     let size = length-map own due_of in
     let within = stop.within in
     let all : pace.matched ≡ length own = dite (dec_lt pace.matched (length own))
-        (λ low. absurd (stop.not_asked (right_all g conn pace.matched right low ∙ stop.is_due)))
-        (λ high. omega arith) in record {
-          right = right;
-          first = first;
-          call = stop.call;
-          is_due = ap (λ (n : ℕ). slice_get (due_in g conn) n) (sym all) ∙ stop.is_due;
-          is_of = stop.is_of;
-        }
+    (λ low. absurd (stop.not_asked (right_all g conn pace.matched right low ∙ stop.is_due)))
+    (λ high. omega arith) in record {
+      right = right;
+      first = first;
+      call = stop.call;
+      is_due = ap (λ (n : ℕ). slice_get (due_in g conn) n) (sym all) ∙ stop.is_due;
+      is_of = stop.is_of;
+    }
 
 -- where it did not stop, no call is
 pub whole_here : (g : Given) (conn : ℕ) (pace : Pace)

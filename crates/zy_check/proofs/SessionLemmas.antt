@@ -15,7 +15,7 @@ use Rattle.zy_check.specs.declared.pace.Pace.{Pace}
 use Rattle.zy_check.specs.Cause.{agreeing}
 use Rattle.zy_check.specs.Cursor.{Reading, HasGiven}
 use Rattle.zy_check.specs.Output.{AreCallsOf, IsAfter, AreNext, IsPast, Compares, IsPastSame}
-use Rattle.zy_check.proofs.ByteLemmas.{agreeing_few, agreeing_self, agreeing_short, agreeing_all, agreeing_behind, agreeing_differs, agreeing_differs_first}
+use Rattle.zy_check.proofs.ByteLemmas.{agreeing_few, agreeing_short, agreeing_all, agreeing_behind, agreeing_differs, agreeing_differs_first}
 use Rattle.zy_check.proofs.CursorLemmas.{given_first, take_on}
 
 -- the texts of commands, joined, where the first has this index

@@ -1,25 +1,24 @@
 -- Walking through the entries: what is next, what was seen, and how the shards stand.
-use Rattle.std.specs.Prelude.{◌==◌, filter, replicate, All, IfSome}
+use Rattle.std.specs.Prelude.{All, IfSome}
 use Rattle.std.specs.List.{slice_get, slice_set}
-use Rattle.std.proofs.Common.{◌≡◌, ◌≢◌, inl, inr, ℕ, zero, suc, ◌+◌, ◌<◌, ◌≤◌, Bool, true, false, List, [], ◌∷◌, ◌++◌, length, take, drop, get_or, Option, None, Some, refl, sym, ap, ◌∙◌, subst, arith}
-use Rattle.std.proofs.lemmas.List.{length-set, get_or-set_same, get_or-set_other, take_more, length-append, length-map, length-replicate, get_or-replicate}
+use Rattle.std.proofs.Common.{◌≡◌, ◌≢◌, ℕ, zero, suc, ◌+◌, ◌<◌, ◌≤◌, Bool, true, false, List, [], ◌∷◌, ◌++◌, length, take, get_or, Option, Some, refl, sym, ap, ◌∙◌, subst, arith}
+use Rattle.std.proofs.lemmas.List.{length-set, get_or-set_same, get_or-set_other, take_more, length-append}
 use Rattle.std.proofs.lemmas.List.Elements.{All-head, All-tail}
-use Rattle.std.proofs.lemmas.Option.{slice_get_within, slice_get_past, slice_get-get_or, get_or_from_slice_get}
+use Rattle.std.proofs.lemmas.Option.{slice_get_within, get_or_from_slice_get}
 use mathlib.Core.Logic.{dite}
 use native.Mathlib.Decide.{ℕ_discrete, dec_lt}
 use Rattle.zy_base.specs.declared.entry.Entry.{Entry}
 use Rattle.zy_base.specs.Order.{of_connection, at_shard}
-use Rattle.zy_base.specs.Shard.{State, empty_state, reply_to, state_after}
+use Rattle.zy_base.specs.Shard.{State, empty_state, reply_to}
 use Rattle.zy_base.specs.History.{replayed}
 use Rattle.zy_base.proofs.SetLemmas.{slice_get-set, slice_get-set_other}
 use Rattle.zy_base.proofs.ReplayLemmas.{replayed-push}
 use Rattle.zy_base.proofs.EntryLemmas.{of_connection-here, of_connection-other, of_connection-push, of_connection-push_other, at_shard-push, at_shard-push_other}
-use Rattle.mc_parse.specs.Calls.{Due, due, due_of, dues_of, IsDueOn}
+use Rattle.mc_parse.specs.Calls.{Due, due_of, dues_of, IsDueOn}
 use Rattle.mc_parse.proofs.CallLemmas.{due_within}
 use Rattle.mc_shard.specs.Replay.{Replayed, replaying, state_replayed}
 use Rattle.zy_run.specs.Commands.{commands_held}
 use Rattle.zy_check.specs.declared.pace.Followed.{Followed}
-use Rattle.zy_check.specs.declared.pace.Pace.{Pace}
 use Rattle.zy_check.specs.Given.{Given, due_in, IsNext, IsNextAt, IsAnswered, IsAnsweredAt, AreRightBelow}
 use Rattle.zy_check.specs.Cause.{IsNotNext, IsWrongReply}
 use Rattle.zy_check.specs.Follow.{IsFollowed}

@@ -15,6 +15,8 @@ mod own;
 mod pace;
 mod places;
 mod session;
+#[cfg(test)]
+mod tests;
 mod verdict;
 mod walk;
 

@@ -58,5 +58,9 @@ fn rest_of(at: usize, found: &[u8]) -> Option<u64>
     ensures none { result ≡ None → length found.now ≤ at }
     ensures some { IfSome result (λ place. (place ≡ at) × (at < length found.now)) }
 {
-    if at < found.len() { Some(at as u64) } else { None }
+    if at < found.len() {
+        Some(at as u64)
+    } else {
+        None
+    }
 }

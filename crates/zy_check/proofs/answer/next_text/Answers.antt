@@ -1,6 +1,4 @@
-use Rattle.std.proofs.Common.{◌≡◌, ◌∙◌, ◌+◌, List, ◌++◌, [], length, ap, arith}
-use Rattle.zy_base.specs.declared.call_reply.CallReply.{CallReply}
-use Rattle.mc_parse.specs.Calls.{calls_of}
+use Rattle.std.proofs.Common.{◌∙◌, ◌+◌, ◌++◌, ap, arith}
 use Rattle.mc_reply.specs.Text.{text}
 use Rattle.zy_check.proofs.AnswerLemmas.{next_within, next_replies, next_answers, past_more}
 use Rattle.zy_check.proofs.answer.next_text.Goals as goal

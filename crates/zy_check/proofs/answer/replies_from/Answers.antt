@@ -1,6 +1,6 @@
-use Rattle.std.proofs.Common.{◌≡◌, ◌∙◌, ◌-◌, ◌+◌, ℕ, List, [], ◌∷◌, ◌++◌, map, take, drop, ap, sym, arith}
+use Rattle.std.proofs.Common.{◌∙◌, List, [], ◌∷◌, ◌++◌, ap, arith}
 use Rattle.zy_base.specs.declared.call_reply.CallReply.{CallReply}
-use Rattle.zy_check.proofs.AnswerLemmas.{reply_in, replies_more}
+use Rattle.zy_check.proofs.AnswerLemmas.{replies_more}
 use Rattle.zy_check.proofs.answer.replies_from.Goals as goal
 
 pub loop-at-preserved : goal.loop-at-preserved

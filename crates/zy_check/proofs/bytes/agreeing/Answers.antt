@@ -1,4 +1,4 @@
-use Rattle.std.proofs.Common.{◌≡◌, ℕ, List, length, take, sym, subst, arith}
+use Rattle.std.proofs.Common.{◌≡◌, ℕ, length, sym, subst, arith}
 use Rattle.zy_check.specs.Cause.{agreeing}
 use Rattle.zy_check.proofs.ByteLemmas.{agreeing_at}
 use Rattle.zy_check.proofs.bytes.agreeing.Goals as goal

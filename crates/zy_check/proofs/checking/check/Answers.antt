@@ -8,7 +8,7 @@ returns-in-Some c =
     let g = given c.args.shards c.args.streams.now c.args.journal.now c.args.outputs.now in
     let entries = c.items-entries.result.now in
     let are = given_followed c.args.shards c.args.streams.now c.args.journal.now c.args.outputs.now entries c.in_ok-followed.followed.items c.deref-2.result.now c.requires.some
-        c.items-entries.ensures.value c.deref-2.ensures.value c.in_ok-followed.ensures.count c.in_ok-followed.ensures.each in
+    c.items-entries.ensures.value c.deref-2.ensures.value c.in_ok-followed.ensures.count c.in_ok-followed.ensures.each in
     let found = rw c.in-Some.is at c.in_ok-cause.ensures.found in
     record { verdict = found g are }
 
@@ -17,7 +17,7 @@ first_output-requires-clause-complete c =
     let g = given c.args.shards c.args.streams.now c.args.journal.now c.args.outputs.now in
     let entries = c.items-entries.result.now in
     let are = given_followed c.args.shards c.args.streams.now c.args.journal.now c.args.outputs.now entries c.in_ok-followed.followed.items c.deref-2.result.now c.requires.some
-        c.items-entries.ensures.value c.deref-2.ensures.value c.in_ok-followed.ensures.count c.in_ok-followed.ensures.each in
+    c.items-entries.ensures.value c.deref-2.ensures.value c.in_ok-followed.ensures.count c.in_ok-followed.ensures.each in
     let found = rw c.in_default.is at c.in_ok-cause.ensures.found in
     found g are
 
@@ -27,7 +27,7 @@ returns-in-None c =
     let entries = c.items-entries.result.now in
     let followed = c.deref-2.result.now in
     let are = given_followed c.args.shards c.args.streams.now c.args.journal.now c.args.outputs.now entries c.in_ok-followed.followed.items followed c.requires.some
-        c.items-entries.ensures.value c.deref-2.ensures.value c.in_ok-followed.ensures.count c.in_ok-followed.ensures.each in
+    c.items-entries.ensures.value c.deref-2.ensures.value c.in_ok-followed.ensures.count c.in_ok-followed.ensures.each in
     let found = rw c.in_default.is at c.in_ok-cause.ensures.found in
     let complete = found g are in
     let outputs = rw c.in_default-2.is at c.in_ok-cause-2.ensures.found in
@@ -41,7 +41,7 @@ returns c =
     let entries = c.items-entries.result.now in
     let followed = c.deref-2.result.now in
     let are = given_followed c.args.shards c.args.streams.now c.args.journal.now c.args.outputs.now entries c.in_ok-followed.followed.items followed c.requires.some
-        c.items-entries.ensures.value c.deref-2.ensures.value c.in_ok-followed.ensures.count c.in_ok-followed.ensures.each in
+    c.items-entries.ensures.value c.deref-2.ensures.value c.in_ok-followed.ensures.count c.in_ok-followed.ensures.each in
     let found = rw c.in_default.is at c.in_ok-cause.ensures.found in
     let complete = found g are in
     let outputs = rw c.in_default-2.is at c.in_ok-cause-2.ensures.found in

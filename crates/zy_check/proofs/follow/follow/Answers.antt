@@ -1,4 +1,4 @@
-use Rattle.std.proofs.Common.{◌≡◌, ◌∙◌, ◌<◌, ℕ, take, subst, arith}
+use Rattle.std.proofs.Common.{take, arith}
 use Rattle.mc_parse.specs.Calls.{dues_of}
 use Rattle.zy_capture.specs.Streams.{sessions_of}
 use Rattle.zy_run.specs.Commands.{commands_over}

@@ -1,5 +1,5 @@
-use Rattle.std.proofs.Common.{◌≡◌, ◌<◌, ◌∙◌, List, length, refl, sym, ap, subst, arith, rules}
-use Rattle.mc_parse.specs.Calls.{dues_of, tagged, calls_of}
+use Rattle.std.proofs.Common.{◌∙◌, List, length, refl, ap, subst, arith}
+use Rattle.mc_parse.specs.Calls.{dues_of, tagged}
 use Rattle.mc_parse.specs.declared.shard_call.ShardCall.{ShardCall}
 use Rattle.zy_check.specs.Follow.{AreMatching}
 use Rattle.zy_check.proofs.FollowLemmas.{along_more, stopped}

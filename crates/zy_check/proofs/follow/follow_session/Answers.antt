@@ -1,4 +1,4 @@
-use Rattle.std.proofs.Common.{◌≡◌, ◌++◌, List, [], ◌∷◌}
+use Rattle.std.proofs.Common.{◌++◌, [], ◌∷◌}
 use Rattle.mc_parse.specs.Calls.{dues_of}
 use Rattle.zy_frame.specs.Cut.{commands_of}
 use Rattle.zy_check.proofs.CursorLemmas.{given_first}

@@ -1,4 +1,4 @@
-use Rattle.std.proofs.Common.{◌≡◌, ◌<◌, ℕ, length, true, refl, subst, arith}
+use Rattle.std.proofs.Common.{◌≡◌, ℕ, length, refl, subst, arith}
 use Rattle.std.proofs.lemmas.Option.{slice_get_read}
 use Rattle.mc_parse.specs.Calls.{dues_of, tagged}
 use Rattle.mc_parse.proofs.CallLemmas.{length-tagged}

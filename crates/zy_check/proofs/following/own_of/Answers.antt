@@ -1,4 +1,4 @@
-use Rattle.std.proofs.Common.{◌≡◌, ◌∙◌, ℕ, List, [], length, sym, ap, subst}
+use Rattle.std.proofs.Common.{◌≡◌, ◌∙◌, [], length, sym, ap, subst}
 use Rattle.zy_check.specs.Own.{picked, places_of, AreWithin}
 use Rattle.zy_check.proofs.ListLemmas.{read_at}
 use Rattle.zy_check.proofs.PlaceLemmas.{places_pick, places_within}

@@ -1,4 +1,4 @@
-use Rattle.std.proofs.Common.{◌≡◌, ◌<◌, ◌+◌, length, ap, sym, ◌∙◌, arith}
+use Rattle.std.proofs.Common.{◌<◌, ◌+◌, length, ap, sym, ◌∙◌, arith}
 use Rattle.zy_check.proofs.ListLemmas.{read_at}
 use Rattle.zy_check.proofs.HoldLemmas.{sums_more, sums_same}
 use Rattle.zy_check.proofs.holds.add.Goals as goal

@@ -1,4 +1,4 @@
-use Rattle.std.proofs.Common.{◌≡◌, true, false, length, arith, subst}
+use Rattle.std.proofs.Common.{arith}
 use Rattle.std.proofs.lemmas.Option.{slice_get-get_or}
 use Rattle.zy_check.proofs.RightLemmas.{followed_stopped, followed_whole, whole_all}
 use Rattle.zy_check.proofs.missing.first_missing.Goals as goal

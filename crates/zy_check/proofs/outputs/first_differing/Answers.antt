@@ -1,7 +1,6 @@
-use Rattle.std.proofs.Common.{◌≡◌, ◌<◌, ◌≤◌, ℕ, take, length, sym, subst, arith}
+use Rattle.std.proofs.Common.{arith}
 use Rattle.zy_capture.specs.Streams.{sessions_of}
-use Rattle.zy_run.specs.Commands.{commands_over}
-use Rattle.zy_check.specs.Given.{Given, given, IsOutput}
+use Rattle.zy_check.specs.Given.{given}
 use Rattle.zy_check.proofs.OutputLemmas.{lacks_output, more_output, outputs_whole, same_output, other_output, outputs_more, session_next, session_done}
 use Rattle.zy_check.proofs.outputs.first_differing.Goals as goal
 

@@ -1,4 +1,4 @@
-use Rattle.std.proofs.Common.{◌≡◌, ◌≤◌, arith}
+use Rattle.std.proofs.Common.{arith}
 use Rattle.zy_check.specs.Given.{given}
 use Rattle.zy_check.proofs.OutputLemmas.{connection_more}
 use Rattle.zy_check.proofs.outputs.first_output.Goals as goal

@@ -1,4 +1,4 @@
-use Rattle.std.proofs.Common.{◌≡◌, ◌≤◌, ℕ, [], length, ◌+◌, vec_capacity}
+use Rattle.std.proofs.Common.{◌≡◌, ◌≤◌, ℕ, [], length, vec_capacity}
 use Rattle.std.specs.List.{slice_index_or}
 use Rattle.zy_check.proofs.places.empty_lists.Given as goal
 

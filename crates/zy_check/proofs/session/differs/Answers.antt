@@ -1,9 +1,9 @@
-use Rattle.std.proofs.Common.{◌≡◌, ◌<◌, ◌≤◌, ◌+◌, ℕ, List, Some, length, drop, sym, ap, ◌∙◌, subst, arith}
+use Rattle.std.proofs.Common.{◌≡◌, ◌+◌, ℕ, List, Some, length, drop, sym, ap, ◌∙◌, subst, arith}
 use Rattle.std.proofs.lemmas.List.{take_rest}
 use Rattle.zy_frame.specs.Cut.{commands_of}
 use Rattle.zy_check.specs.Cause.{agreeing}
 use Rattle.zy_check.specs.Output.{Compares}
-use Rattle.zy_check.proofs.SessionLemmas.{IsMade, made_of, made_none, command_next, command_differs, command_made, session_compares, session_past}
+use Rattle.zy_check.proofs.SessionLemmas.{IsMade, made_of, made_none, command_next, command_differs, command_made, session_compares}
 use Rattle.zy_check.proofs.session.differs.Goals as goal
 
 pub loop-init : goal.loop-init

@@ -1,4 +1,4 @@
-use Rattle.std.proofs.Common.{◌≡◌, ◌<◌, length, get_or, Some, take, refl, arith}
+use Rattle.std.proofs.Common.{length, refl, arith}
 use Rattle.std.proofs.lemmas.Option.{slice_get_read}
 use Rattle.zy_check.proofs.WalkLemmas.{IsAt, is_next_at, is_not_next, is_wrong_reply, answered_at, at_answered, replayed_step, seen_step, right_step}
 use Rattle.zy_check.proofs.walk.first_wrong.Goals as goal

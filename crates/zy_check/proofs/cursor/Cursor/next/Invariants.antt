@@ -1,4 +1,4 @@
-use Rattle.std.proofs.Common.{ℕ, ◌-◌, List, length}
+use Rattle.std.proofs.Common.{◌-◌, List, length}
 use Rattle.mc_parse.specs.declared.command.Command.{Command}
 use Rattle.zy_check.specs.Cursor.{HasGiven}
 use Rattle.zy_check.proofs.cursor.Cursor.next.Given as goal

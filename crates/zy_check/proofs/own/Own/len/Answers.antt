@@ -1,5 +1,4 @@
-use Rattle.std.proofs.Common.{◌∙◌, sym, ap, length, List}
-use Rattle.zy_base.specs.declared.entry.Entry.{Entry}
+use Rattle.std.proofs.Common.{sym}
 use Rattle.zy_check.proofs.OwnLemmas.{length_picked}
 use Rattle.zy_check.proofs.own.Own.len.Goals as goal
 
