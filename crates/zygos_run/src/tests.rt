@@ -1,4 +1,7 @@
 //! Whole runs over memory, and what the real streams do.
+mod breaking;
+mod gated;
+
 use crate::{StdSink, StdSource, serve, status};
 use std::alloc::Global;
 use std::io;
@@ -89,6 +92,16 @@ impl Gate for Counted {
     }
 }
 
+fn blobs(alloc: Global, words: &[&[u8]]) -> Result<Vec<Blob>, NoMemory> {
+    let mut blobs = Vec::new(alloc);
+    for word in words {
+        if blobs.push(Blob::copy_of(alloc, word)?).is_err() {
+            return Err(NoMemory);
+        }
+    }
+    Ok(blobs)
+}
+
 // The exit status of a run, and how often the gate was passed.
 fn run<R: Threads + Wait + Sync, S: Source, K: Sink>(
     rt: &R,
@@ -97,12 +110,7 @@ fn run<R: Threads + Wait + Sync, S: Source, K: Sink>(
     source: &mut S,
     sink: &mut K,
 ) -> Result<(u8, u64), NoMemory> {
-    let mut blobs = Vec::new(alloc);
-    for word in words {
-        if blobs.push(Blob::copy_of(alloc, word)?).is_err() {
-            return Err(NoMemory);
-        }
-    }
+    let blobs = blobs(alloc, words)?;
     let mut says = SureSink::new(alloc, 64)?;
     let gate = Counted {
         passed: AtomicU64::new(0),
