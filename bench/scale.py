@@ -126,9 +126,10 @@ def picture(found, commands):
         lines.append(f'<polyline points="{drawn}" fill="none" stroke="{colour}" stroke-width="2"/>')
         lines += [f'<circle cx="{at:.0f}" cy="{up:.0f}" r="3" fill="{colour}"/>' for at, up in points]
         names.append((points[-1][1], kind, colour))
-    for at, (up, name, colour) in enumerate(sorted(names)):
-        above = max(up, 40 + 16 * at)
-        lines.append(f'<text x="{x[max(THREADS)] + 10}" y="{above + 4:.0f}" fill="{colour}">{name}</text>')
+    below = 0
+    for up, name, colour in sorted(names):
+        below = max(up, below + 15)
+        lines.append(f'<text x="{x[max(THREADS)] + 10}" y="{below + 4:.0f}" fill="{colour}">{name}</text>')
     lines.append("</svg>\n")
     return "\n".join(lines)
 
