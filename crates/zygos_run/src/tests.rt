@@ -40,7 +40,7 @@ struct Case(
     u64,
 );
 
-const CASES: [Case; 10] = [
+const CASES: [Case; 11] = [
     Case(&[b"run"], EMPTY, 0, b"ZYGREP1\nE", 0),
     Case(&[b"run", b"--cores=1"], FIRST, 0, FIRST_REPLIES, 2),
     Case(&[b"run", b"--cores", b"2"], TWO, 0, TWO_REPLIES, 1),
@@ -51,7 +51,7 @@ const CASES: [Case; 10] = [
         TWO_REPLIES,
         1,
     ),
-    // more cores than connections, on one thread and on eight
+    // more cores than connections, on one thread, on 64 and on eight
     Case(
         &[b"run", b"--cores=64", b"--threads=1", b"--order", b"9"],
         FIRST,
@@ -59,6 +59,7 @@ const CASES: [Case; 10] = [
         FIRST_REPLIES,
         2,
     ),
+    Case(&[b"run", b"--cores=64"], FIRST, 0, FIRST_REPLIES, 2),
     Case(
         &[b"run", b"--cores=8", b"--shards=1"],
         TWO,

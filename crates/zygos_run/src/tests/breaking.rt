@@ -51,17 +51,18 @@ impl<W: Feeder> Feeder for Breaking<W> {
     ghost leads_on = { λ b c d p q. W.leads_on b.inner c.inner d.inner p q };
 }
 
-// How many cores there are.
+// How many cores there are, 64 at most.
 fn count_of(cores: Cores) -> u32 {
     let mut cores = cores;
-    let mut count = 0;
-    while count < 64 && cores.next().is_some() {
-        count += 1;
+    for count in 0..64 {
+        if cores.next().is_none() {
+            return count;
+        }
     }
-    count
+    64
 }
 
-// How many cores come back where the feeder breaks at its third step, in a run on so many threads.
+// How many cores come back where the feeder breaks at its third step; none where driving ends otherwise.
 fn broken_at_three<R: Threads + Wait + Sync>(
     rt: &R,
     alloc: Global,
