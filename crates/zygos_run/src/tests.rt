@@ -1,6 +1,7 @@
 //! Whole runs over memory, and what the real streams do.
 mod breaking;
 mod gated;
+mod gates;
 
 use crate::{StdSink, StdSource, serve, status};
 use std::alloc::Global;

@@ -1,135 +1,13 @@
-//! Gates that count, by core and connection: the holds of the journal are what happened, and two
-//! threads hold commands at once.
+//! Runs with gates: the holds of the journal are what happened, and two threads hold commands at once.
 use super::blobs;
+use super::gates::{Meeting, Tally};
 use crate::{Answer, serve};
 use std::alloc::Global;
 use std::sync::Wait;
-use std::sync::atomic::{AtomicBool, AtomicU64, Ordering};
 use std::test::Fail;
 use std::thread::Threads;
 use zy_base::{Blob, Gate, Hold, NoMemory, SureSink, SureSource};
 use zy_journal::Journal;
-
-// The cores and connections that are told apart; all others have one place behind theirs.
-const CORES: u32 = 2;
-
-const CONNS: u32 = 7;
-
-const PLACES: usize = 15;
-
-// Counts how often it was passed, by core and connection.
-#[derive(Drop)]
-struct Tally {
-    counts: Vec<AtomicU64>,
-}
-
-// Where a core and a connection are counted.
-fn place_of(core: u32, conn: u32) -> usize {
-    if core < CORES && conn < CONNS {
-        (core * CONNS + conn) as usize
-    } else {
-        PLACES - 1
-    }
-}
-
-impl Tally {
-    fn new(alloc: Global) -> Result<Tally, NoMemory> {
-        let mut counts = Vec::new(alloc);
-        for _ in 0..PLACES {
-            if counts.push(AtomicU64::new(0)).is_err() {
-                return Err(NoMemory);
-            }
-        }
-        Ok(Tally { counts })
-    }
-
-    // How often it was passed at a place.
-    fn count(&self, place: usize) -> u64 {
-        match self.counts.get(place) {
-            Some(count) => count.load(Ordering::SeqCst),
-            None => 0,
-        }
-    }
-
-    // Whether it was passed, for each core and connection, as often as these holds say.
-    fn is_told_by(&self, holds: &[Hold]) -> bool {
-        for place in 0..PLACES {
-            if self.count(place) != held_at(holds, place) {
-                return false;
-            }
-        }
-        true
-    }
-}
-
-// How many commands holds count at a place.
-fn held_at(holds: &[Hold], place: usize) -> u64 {
-    let mut sum = 0u64;
-    for hold in holds {
-        if place_of(hold.core, hold.conn) == place {
-            sum = sum.saturating_add(u64::from(hold.count));
-        }
-    }
-    sum
-}
-
-impl Gate for Tally {
-    fn pass(&self, core: u32, conn: u32, _index: u64) {
-        if let Some(count) = self.counts.get(place_of(core, conn)) {
-            count.fetch_add(1, Ordering::SeqCst);
-        }
-    }
-}
-
-// The most turns for which a command is held.
-const TURNS: u32 = 20_000_000;
-
-// Counts, and holds each command whose index is a multiple of 64, until one of connection 0 and one of
-// another connection were held at once, or for so many turns.
-#[derive(Drop)]
-struct Meeting {
-    tally: Tally,
-    first: AtomicBool,
-    second: AtomicBool,
-    met: AtomicBool,
-}
-
-impl Meeting {
-    fn new(tally: Tally) -> Meeting {
-        Meeting {
-            tally,
-            first: AtomicBool::new(false),
-            second: AtomicBool::new(false),
-            met: AtomicBool::new(false),
-        }
-    }
-
-    fn hold(&self, own: &AtomicBool, other: &AtomicBool) {
-        own.store(true, Ordering::SeqCst);
-        for _ in 0..TURNS {
-            if self.met.load(Ordering::SeqCst) {
-                break;
-            }
-            if other.load(Ordering::SeqCst) {
-                self.met.store(true, Ordering::SeqCst);
-            }
-        }
-        own.store(false, Ordering::SeqCst);
-    }
-}
-
-impl Gate for Meeting {
-    fn pass(&self, core: u32, conn: u32, index: u64) {
-        self.tally.pass(core, conn, index);
-        if index % 64 == 0 {
-            if conn == 0 {
-                self.hold(&self.first, &self.second);
-            } else {
-                self.hold(&self.second, &self.first);
-            }
-        }
-    }
-}
 
 // The journal of a run that is served, and the sink that it was written to.
 #[derive(Drop)]
@@ -169,53 +47,25 @@ const TWO_OF_THREE: &[u8] =
 const FOUR_OF_SEVEN: &[u8] =
     b"ZYGCAP1\n\0\0\0\x07S\0\0\0\0\0\0\0\x09version\r\nS\0\0\0\x02\0\0\0\x09version\r\nS\0\0\0\x04\0\0\0\x09version\r\nS\0\0\0\x06\0\0\0\x09version\r\nE";
 
-// Words behind `run --cores 2 --threads 1`, a capture in which connections 0, 2, .. send a command each,
-// and the core that holds each of these.
+// Words, a capture in which connections 0, 2, .. send a command each, and the core that holds each of
+// these.
 struct Case(&'static [&'static [u8]], &'static [u8], &'static [u32]);
 
+const BY_NUMBER: &[&[u8]] = &[b"run", b"--cores=2", b"--threads=1", b"--out=both"];
+
+// The first draws are cores 1, 1 and 0.
+const BY_DRAWS: &[&[u8]] = &[
+    b"run",
+    b"--cores=2",
+    b"--threads=1",
+    b"--order=42",
+    b"--out=both",
+];
+
 const CASES: [Case; 3] = [
-    Case(
-        &[
-            b"run",
-            b"--cores",
-            b"2",
-            b"--threads",
-            b"1",
-            b"--out",
-            b"both",
-        ],
-        TWO_OF_THREE,
-        &[0, 1],
-    ),
-    Case(
-        &[
-            b"run",
-            b"--cores",
-            b"2",
-            b"--threads",
-            b"1",
-            b"--out",
-            b"both",
-        ],
-        FOUR_OF_SEVEN,
-        &[0, 1, 0, 1],
-    ),
-    // the first draws are cores 1, 1 and 0
-    Case(
-        &[
-            b"run",
-            b"--cores",
-            b"2",
-            b"--threads",
-            b"1",
-            b"--order",
-            b"42",
-            b"--out",
-            b"both",
-        ],
-        FOUR_OF_SEVEN,
-        &[0, 1, 0, 0],
-    ),
+    Case(BY_NUMBER, TWO_OF_THREE, &[0, 1]),
+    Case(BY_NUMBER, FOUR_OF_SEVEN, &[0, 1, 0, 1]),
+    Case(BY_DRAWS, FOUR_OF_SEVEN, &[0, 1, 0, 0]),
 ];
 
 // Whether the holds are those of one command each of connections 0, 2, .. by these cores.
@@ -286,7 +136,7 @@ fn two_threads_hold_commands_at_once(rt: HostRuntime) -> Result<(), Fail> {
         return Ok(());
     };
     assert_eq!(rt; ran.sink.bytes(), Some(replies.bytes()));
-    assert!(rt; gate.met.load(Ordering::SeqCst));
+    assert!(rt; gate.has_met());
     assert!(rt; gate.tally.is_told_by(ran.journal.holds.items()));
     Ok(())
 }
