@@ -74,7 +74,7 @@ pub(crate) fn drive_capture<R: Threads + Wait + Sync, S: Source, G: Gate + Sync>
 }
 
 // Drives the cores on one thread, by the order that the words ask for, or on several.
-fn drive_cores<R: Threads + Wait + Sync, F: Feeder, G: Gate + Sync>(
+pub(crate) fn drive_cores<R: Threads + Wait + Sync, F: Feeder, G: Gate + Sync>(
     rt: &R,
     alloc: Global,
     run: Run,

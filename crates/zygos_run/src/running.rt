@@ -68,15 +68,15 @@ pub(crate) fn run_capture<R: Threads + Wait + Sync, S: Source, G: Gate + Sync>(
 
 // The cores of a run before they are driven, and the root of their store.
 #[derive(Drop)]
-struct Prepared {
-    cores: Cores,
-    shared: Shared,
-    inlets: Inlets,
-    root: Root,
+pub(crate) struct Prepared {
+    pub(crate) cores: Cores,
+    pub(crate) shared: Shared,
+    pub(crate) inlets: Inlets,
+    pub(crate) root: Root,
 }
 
 // Makes the cores of a run.
-fn prepare(alloc: Global, run: Run, count: u32) -> Result<Prepared, NoMemory>
+pub(crate) fn prepare(alloc: Global, run: Run, count: u32) -> Result<Prepared, NoMemory>
     requires runnable { IsRunnable run }
     requires connections { count ≤ 4096 }
     ensures prepared { IfOk result (λ p. IsPrepared count run.shards p.shared (identities p.cores) p.inlets p.root) }

@@ -1,4 +1,8 @@
 //! Whole runs over memory, and what the real streams do.
+mod breaking;
+mod gated;
+mod gates;
+
 use crate::{StdSink, StdSource, serve, status};
 use std::alloc::Global;
 use std::io;
@@ -37,7 +41,7 @@ struct Case(
     u64,
 );
 
-const CASES: [Case; 10] = [
+const CASES: [Case; 11] = [
     Case(&[b"run"], EMPTY, 0, b"ZYGREP1\nE", 0),
     Case(&[b"run", b"--cores=1"], FIRST, 0, FIRST_REPLIES, 2),
     Case(&[b"run", b"--cores", b"2"], TWO, 0, TWO_REPLIES, 1),
@@ -48,7 +52,7 @@ const CASES: [Case; 10] = [
         TWO_REPLIES,
         1,
     ),
-    // more cores than connections, on one thread and on eight
+    // more cores than connections, on one thread, on 64 and on eight
     Case(
         &[b"run", b"--cores=64", b"--threads=1", b"--order", b"9"],
         FIRST,
@@ -56,6 +60,7 @@ const CASES: [Case; 10] = [
         FIRST_REPLIES,
         2,
     ),
+    Case(&[b"run", b"--cores=64"], FIRST, 0, FIRST_REPLIES, 2),
     Case(
         &[b"run", b"--cores=8", b"--shards=1"],
         TWO,
@@ -89,6 +94,16 @@ impl Gate for Counted {
     }
 }
 
+fn blobs(alloc: Global, words: &[&[u8]]) -> Result<Vec<Blob>, NoMemory> {
+    let mut blobs = Vec::new(alloc);
+    for word in words {
+        if blobs.push(Blob::copy_of(alloc, word)?).is_err() {
+            return Err(NoMemory);
+        }
+    }
+    Ok(blobs)
+}
+
 // The exit status of a run, and how often the gate was passed.
 fn run<R: Threads + Wait + Sync, S: Source, K: Sink>(
     rt: &R,
@@ -97,12 +112,7 @@ fn run<R: Threads + Wait + Sync, S: Source, K: Sink>(
     source: &mut S,
     sink: &mut K,
 ) -> Result<(u8, u64), NoMemory> {
-    let mut blobs = Vec::new(alloc);
-    for word in words {
-        if blobs.push(Blob::copy_of(alloc, word)?).is_err() {
-            return Err(NoMemory);
-        }
-    }
+    let blobs = blobs(alloc, words)?;
     let mut says = SureSink::new(alloc, 64)?;
     let gate = Counted {
         passed: AtomicU64::new(0),
