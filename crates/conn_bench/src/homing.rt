@@ -1,7 +1,6 @@
 //! A home of 200 connections, each of which gets a segment in turn.
 ghost use Rattle.std.specs.Prelude.{◌≡◌, ◌≤◌, ◌+◌, ◌*◌, ◌^◌, false, OnOk};
 ghost use Rattle.zy_table.specs.Name.{name_of};
-ghost use Rattle.zy_start.specs.Start.{IsStart};
 
 use crate::load::text_of;
 use crate::nanos;
@@ -13,42 +12,12 @@ use zy_conn::Block;
 use zy_home::{Home, Own};
 use zy_rx::Rx;
 use zy_shuffle::Ring;
-use zy_start::{Started, start};
 
-const CONNECTIONS: u32 = 200;
+/// The connections of the home.
+pub(crate) const CONNECTIONS: u32 = 200;
 
-/// The nanoseconds of so many rounds, in each of which each connection gets a segment, on a store of 16
-/// shards.
-pub(crate) fn homed<R: CpuClock>(
-    rt: &R,
-    alloc: Global,
-    rounds: u64,
-    size: u64,
-) -> Result<u64, NoMemory>
-    requires rounds { rounds ≤ 2 ^ 20 }
-{
-    let mut started = start(alloc, CONNECTIONS, 1, 16)?;
-    serve_started(rt, alloc, &mut started, rounds, size)
-}
-
-// The same, of what was made.
-fn serve_started<R: CpuClock>(
-    rt: &R,
-    alloc: Global,
-    started: &mut Started,
-    rounds: u64,
-    size: u64,
-) -> Result<u64, NoMemory>
-    requires rounds { rounds ≤ 2 ^ 20 }
-    requires start { IsStart 200 1 16 started.old }
-{
-    let ring = started.rings.ring(0);
-    let home = &mut started.homes[0];
-    serve_all(rt, alloc, ring, &started.store, home, rounds, size)
-}
-
-// Each connection gets a segment, and then the home serves them all, so many times.
-fn serve_all<R: CpuClock>(
+/// The nanoseconds of so many rounds: each connection gets a segment, and then the home serves them all.
+pub(crate) fn serve_all<R: CpuClock>(
     rt: &R,
     alloc: Global,
     ring: &Ring<Block>,

@@ -8,6 +8,7 @@ mod holding;
 mod homing;
 mod load;
 mod shard;
+mod starting;
 
 use std::alloc::Global;
 use std::env::Env;
@@ -45,7 +46,7 @@ fn work<R: CpuClock>(
     match which {
         0 => shard::alone(rt, alloc, rounds * 200, size),
         1 => holding::held(rt, alloc, rounds * 200, size),
-        _ => homing::homed(rt, alloc, rounds, size),
+        _ => starting::homed(rt, alloc, rounds, size),
     }
 }
 
