@@ -29,6 +29,21 @@ const TWO: &[u8] =
 const TWO_REPLIES: &[u8] =
     b"ZYGREP1\nR\0\0\0\0\0\0\0\0\0\0\0\0R\0\0\0\x01\0\0\0\0\0\0\0\x05END\r\nE";
 
+// The first capture, the journal of its run on one core, and the replies.
+const FIRST_FILES: &[u8] = b"ZYGCAP1\n\0\0\0\x01S\0\0\0\0\0\0\0\x17set a 0 0 1\r\nx\r\nget a\r\nE\
+ZYGJRN1\nJ\0\0\0\0\0\0\0\x01\0\0\0\x0c\0\0\0\0\0\0\0\0\0\0\0\0\0\0\0\0\x02\x01a\0\0\0\0\0\0\0\x01x\x03\
+J\0\0\0\0\0\0\0\x02\0\0\0\x0c\0\0\0\0\0\0\0\0\0\0\0\x01\0\0\0\0\x01\x01a\x02\0\0\0\0\0\0\0\0\0\0\0\x1c\0\0\0\x01x\
+H\0\0\0\0\0\0\0\0\0\0\0\x02E\
+ZYGREP1\nR\0\0\0\0\0\0\0\0\0\0\0\x1dSTORED\r\nVALUE a 0 1\r\nx\r\nEND\r\nE";
+
+const SMALL_GEN: [&[u8]; 4] = [b"gen", b"--number=42", b"--conns=1", b"--commands=1"];
+
+const SMALL_SELF: [&[u8]; 4] = [b"self", b"--number=42", b"--conns=1", b"--commands=1"];
+
+// `get k0:9`, cut after six bytes.
+const SMALL: &[u8] =
+    b"ZYGCAP1\n\0\0\0\x01S\0\0\0\0\0\0\0\x06get k0S\0\0\0\0\0\0\0\x04:9\r\nE";
+
 // The calls of the sink that the run of the first capture makes: twelve writes, and then it is finished.
 const CALLS: u64 = 13;
 
@@ -41,7 +56,7 @@ struct Case(
     u64,
 );
 
-const CASES: [Case; 11] = [
+const CASES: [Case; 17] = [
     Case(&[b"run"], EMPTY, 0, b"ZYGREP1\nE", 0),
     Case(&[b"run", b"--cores=1"], FIRST, 0, FIRST_REPLIES, 2),
     Case(&[b"run", b"--cores", b"2"], TWO, 0, TWO_REPLIES, 1),
@@ -80,6 +95,26 @@ const CASES: [Case; 11] = [
     Case(&[b"run"], b"ZYGCAP1\n\0\0\0\x01", 3, b"", 0),
     Case(&[b"run"], b"ZYGCAP1\n\0\0\x10\x01E", 3, b"", 0),
     Case(&[b"ran"], FIRST, 2, b"", 0),
+    // traffic of one command, and a test run of it
+    Case(&SMALL_GEN, b"", 0, SMALL, 0),
+    Case(
+        &SMALL_SELF,
+        b"",
+        0,
+        b"commands 1 calls 1 reply-bytes 5 check yes\n",
+        1,
+    ),
+    // the files of a run, on its shards and on another number, with a byte more, and cut short
+    Case(&[b"check"], FIRST_FILES, 0, b"yes\n", 0),
+    Case(
+        &[b"check", b"--shards=1"],
+        FIRST_FILES,
+        1,
+        b"no not-next entry 0\n",
+        0,
+    ),
+    Case(&[b"check", b"--shards", b"0"], FIRST_FILES, 2, b"", 0),
+    Case(&[b"check"], FIRST, 3, b"", 0),
 ];
 
 // Counts how often it was passed.
