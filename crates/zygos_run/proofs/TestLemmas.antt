@@ -34,11 +34,11 @@ tested_of traffic shards records journal outputs numbers records_are good all se
     let count_is : served.count ≡ traffic.conns = good_count same in
     let same_records : served.records ≡ records = good_records same in
     let run : IsRun shards journal.entries traffic.conns (commands_in records) =
-        subst (λ (n : ℕ). IsRun shards journal.entries n (commands_in records)) count_is
-        (subst (λ (r : List Record). IsRun shards journal.entries served.count (commands_in r)) same_records served.run) in
+    subst (λ (n : ℕ). IsRun shards journal.entries n (commands_in records)) count_is
+    (subst (λ (r : List Record). IsRun shards journal.entries served.count (commands_in r)) same_records served.run) in
     let sums : numbers ≡ summary shards traffic.conns (streams_in records) =
-        told served.count served.version served.records served.holds served.replies
-        ∙ ap₂ (λ (n : ℕ) (r : List Record). summary_of_run n (streams_in r) journal.entries) count_is same_records ∙ all journal.entries run in
+    told served.count served.version served.records served.holds served.replies
+    ∙ ap₂ (λ (n : ℕ) (r : List Record). summary_of_run n (streams_in r) journal.entries) count_is same_records ∙ all journal.entries run in
     record {
       outputs = outputs;
       served = served;

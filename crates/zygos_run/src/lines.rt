@@ -56,9 +56,7 @@ fn write_three<'a, K: Sink>(
     let thirds = third_buffer.format(third).as_bytes();
     write_pieces(
         sink,
-        &[
-            text, digits, middle, seconds, last, thirds, ending, b"\n",
-        ],
+        &[text, digits, middle, seconds, last, thirds, ending, b"\n"],
     )
 }
 

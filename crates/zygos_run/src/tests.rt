@@ -41,8 +41,7 @@ const SMALL_GEN: [&[u8]; 4] = [b"gen", b"--number=42", b"--conns=1", b"--command
 const SMALL_SELF: [&[u8]; 4] = [b"self", b"--number=42", b"--conns=1", b"--commands=1"];
 
 // `get k0:9`, cut after six bytes.
-const SMALL: &[u8] =
-    b"ZYGCAP1\n\0\0\0\x01S\0\0\0\0\0\0\0\x06get k0S\0\0\0\0\0\0\0\x04:9\r\nE";
+const SMALL: &[u8] = b"ZYGCAP1\n\0\0\0\x01S\0\0\0\0\0\0\0\x06get k0S\0\0\0\0\0\0\0\x04:9\r\nE";
 
 // The calls of the sink that the run of the first capture makes: twelve writes, and then it is finished.
 const CALLS: u64 = 13;
