@@ -1,5 +1,5 @@
-//! Times a shard and the holds of a block: the words are what is timed, how many rounds there are, and
-//! how many commands come at once, of which a round has 200 times so many.
+//! Times a shard, the holds of a block, and a home: the words are what is timed, how many rounds there
+//! are, and how many commands come at once, of which a round has 200 times so many.
 #![tactic(auto)]
 
 ghost use Rattle.std.specs.Prelude.{◌≤◌, ◌^◌};
@@ -8,6 +8,7 @@ mod holding;
 mod homing;
 mod load;
 mod shard;
+mod starting;
 
 use std::alloc::Global;
 use std::env::Env;
@@ -30,8 +31,8 @@ fn main(rt: HostRuntime) -> ExitCode {
     }
 }
 
-// The nanoseconds that so many rounds take, each of 200 times so many commands: 0 is a shard alone,
-// and 1 a block.
+// The nanoseconds that so many rounds take, each of 200 times so many commands: 0 is a shard alone, 1
+// a block, and any other number a home.
 fn work<R: CpuClock>(
     rt: &R,
     alloc: Global,
@@ -45,7 +46,7 @@ fn work<R: CpuClock>(
     match which {
         0 => shard::alone(rt, alloc, rounds * 200, size),
         1 => holding::held(rt, alloc, rounds * 200, size),
-        _ => Err(NoMemory),
+        _ => starting::homed(rt, alloc, rounds, size),
     }
 }
 
