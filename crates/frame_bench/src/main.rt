@@ -49,7 +49,8 @@ fn traffic_frames(alloc: Global, bytes: u64, piece: u64) -> Result<u64, NoMemory
     count_frames(alloc, traffic.bytes(), bytes, piece)
 }
 
-// The number of frames in so many bytes of the traffic, which begins again at its end, that come in pieces of this length.
+// The number of frames in so many bytes of the traffic, which begins again at its end, that come in pieces of this
+// length.
 fn count_frames(alloc: Global, traffic: &[u8], bytes: u64, piece: u64) -> Result<u64, NoMemory> {
     let mut framer = Framer::new(alloc);
     let mut frames = Frames::new(alloc);

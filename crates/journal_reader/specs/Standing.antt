@@ -41,6 +41,7 @@ MayWant p byte = takes_memory p.due ≡ true
 
 -- ---- for the reader alone
 
--- an answer and a new state are those of a step; want of memory changes nothing, and comes only where memory may be wanted
+-- an answer and a new state are those of a step; want of memory changes nothing, and comes only where memory may be
+-- wanted
 abbrev pub Takes : Step → Progress → Progress → Result (Option ⊤) (NotTaken FileFault) → Type 0
 Takes step old new result = Follows journals MayWant step old new 0 result

@@ -1,5 +1,5 @@
--- What each byte of a journal does, by what is due where it stands: the tables of docs/FORMATS.md, "Journal". A field is
--- judged at its last byte.
+-- What each byte of a journal does, by what is due where it stands: the tables of docs/FORMATS.md, "Journal". A field
+-- is judged at its last byte.
 use Rattle.std.specs.Prelude.{ℕ, ◌+◌, ◌-◌, ◌^◌, ◌==◌, ◌&&◌, ◌||◌, nat_lt, nat_le, if◌then◌else◌, Bool, true, false, List, [], ◌∷◌, ◌++◌, length, None, Some, ⊤}
 use Rattle.std.specs.List.{slice_index}
 use Rattle.std.specs.Int.{from_be_bytes, w32, w64}
@@ -48,7 +48,16 @@ pub record Progress : Type 0 where
 
 -- before the first byte
 abbrev pub start : Progress
-start = record { due = Byte Magic; field = []; payload = []; draft = fresh; entries = []; holds = []; past = record { stamp = 0; shard = 0; conn = 0 }; at = 0 }
+start = record {
+  due = Byte Magic;
+  field = [];
+  payload = [];
+  draft = fresh;
+  entries = [];
+  holds = [];
+  past = record { stamp = 0; shard = 0; conn = 0 };
+  at = 0;
+}
 
 -- what a byte does: where it leads, and whether it ends the journal
 abbrev pub Step : Type 0
@@ -75,12 +84,20 @@ begins p field size = goes (record p { payload = []; draft = record p.draft { si
 -- the byte ends an entry, which has this reply
 abbrev pub ends_entry : Progress → CallReply → Step
 ends_entry p reply =
-    goes (record p { draft = fresh; entries = p.entries ++ entry_of p.draft reply ∷ []; past = record p.past { stamp = p.draft.stamp; shard = p.draft.shard } }) (Byte Tag)
+    goes (record p {
+      draft = fresh;
+      entries = p.entries ++ entry_of p.draft reply ∷ [];
+      past = record p.past { stamp = p.draft.stamp; shard = p.draft.shard };
+    }) (Byte Tag)
 
 -- the byte ends a hold, which has this count
 abbrev pub ends_hold : Progress → ℕ → Step
 ends_hold p count =
-    goes (record p { draft = fresh; holds = p.holds ++ hold_of p.draft count ∷ []; past = record p.past { conn = p.draft.conn } }) (Byte Tag)
+    goes (record p {
+      draft = fresh;
+      holds = p.holds ++ hold_of p.draft count ∷ [];
+      past = record p.past { conn = p.draft.conn };
+    }) (Byte Tag)
 
 -- the byte ends the journal
 abbrev pub ends : Progress → Step
@@ -96,7 +113,8 @@ keeps p due byte = record { next = record p { due = due; field = p.field ++ byte
 
 -- the byte is one of a key or a value, and not the last one
 abbrev pub grows : Progress → Due → ℕ → Step
-grows p due byte = record { next = record p { due = due; payload = p.payload ++ byte ∷ []; at = p.at + 1 }; gave = None }
+grows p due byte =
+    record { next = record p { due = due; payload = p.payload ++ byte ∷ []; at = p.at + 1 }; gave = None }
 
 -- where bytes of a key or a value lead, of which none is its last one
 abbrev pub grown_by : Progress → List ℕ → Progress
@@ -115,11 +133,13 @@ lawful_byte ReplyCode p byte = nat_le 1 byte && nat_le byte 11
 -- what a lawful one does
 abbrev pub after_byte : ByteField → Progress → ℕ → Step
 after_byte Magic p byte = if p.at == 7 then goes p (Byte Tag) else goes p (Byte Magic)
-after_byte Tag p byte = if byte == 69 then ends p else if byte == 72 then goes p (Number HoldConnection) else goes p (Long Stamp)
+after_byte Tag p byte =
+    if byte == 69 then ends p else if byte == 72 then goes p (Number HoldConnection) else goes p (Long Stamp)
 after_byte CallCode p byte = knows p (record p.draft { kind = kind_of byte }) (after_code (kind_of byte))
 after_byte KeyLength p byte = begins p Key byte
 after_byte ReplyCode p byte =
-    if byte == 2 then goes p (Number FoundFlags) else if byte == 8 then goes p (Long ReplyNumber) else ends_entry p (plain_reply byte)
+    if byte == 2 then goes p (Number FoundFlags) else if byte == 8 then goes p (Long ReplyNumber)
+    else ends_entry p (plain_reply byte)
 
 -- ---- numbers of four bytes
 
@@ -142,7 +162,8 @@ after_four Shard p n = knows p (record p.draft { shard = n }) (Number Connection
 after_four Connection p n = knows p (record p.draft { conn = n }) (Long Index)
 after_four Part p n = knows p (record p.draft { part = n }) (Byte CallCode)
 after_four Flags p n = knows p (record p.draft { flags = n }) (after_flags p.draft.kind)
-after_four ValueLength p n = if n == 0 then knows p (record p.draft { value = [] }) (Byte ReplyCode) else begins p Value n
+after_four ValueLength p n =
+    if n == 0 then knows p (record p.draft { value = [] }) (Byte ReplyCode) else begins p Value n
 after_four FoundFlags p n = knows p (record p.draft { found_flags = n }) (Long FoundUnique)
 after_four FoundLength p n =
     if n == 0 then ends_entry p (Replies.Hit p.draft.found_flags p.draft.found_unique []) else begins p FoundValue n
@@ -172,9 +193,12 @@ after_eight ReplyNumber p n = ends_entry p (Replies.Number n)
 
 -- what a whole key or value does
 abbrev pub after_bytes : BytesField → Progress → List ℕ → Step
-after_bytes Key p bytes = knows (record p { payload = [] }) (record p.draft { key = bytes; size = 0 }) (after_key p.draft.kind)
-after_bytes Value p bytes = knows (record p { payload = [] }) (record p.draft { value = bytes; size = 0 }) (Byte ReplyCode)
-after_bytes FoundValue p bytes = ends_entry (record p { payload = [] }) (Replies.Hit p.draft.found_flags p.draft.found_unique bytes)
+after_bytes Key p bytes =
+    knows (record p { payload = [] }) (record p.draft { key = bytes; size = 0 }) (after_key p.draft.kind)
+after_bytes Value p bytes =
+    knows (record p { payload = [] }) (record p.draft { value = bytes; size = 0 }) (Byte ReplyCode)
+after_bytes FoundValue p bytes =
+    ends_entry (record p { payload = [] }) (Replies.Hit p.draft.found_flags p.draft.found_unique bytes)
 
 -- ---- what a byte does, by what is due
 
@@ -182,20 +206,23 @@ after_bytes FoundValue p bytes = ends_entry (record p { payload = [] }) (Replies
 abbrev pub four : NumberField → Progress → ℕ → Step
 four field p byte =
     if nat_lt (length p.field) 3 then keeps p (Number field) byte
-    else if lawful_number field p (from_be_bytes w32 (p.field ++ byte ∷ [])) then after_four field p (from_be_bytes w32 (p.field ++ byte ∷ []))
+    else if lawful_number field p (from_be_bytes w32 (p.field ++ byte ∷ [])) then after_four field p
+    (from_be_bytes w32 (p.field ++ byte ∷ []))
     else refuses p (Form (p.at - 3))
 
 -- a byte of a number of eight bytes
 abbrev pub eight : LongField → Progress → ℕ → Step
 eight field p byte =
     if nat_lt (length p.field) 7 then keeps p (Long field) byte
-    else if lawful_long field p (from_be_bytes w64 (p.field ++ byte ∷ [])) then after_eight field p (from_be_bytes w64 (p.field ++ byte ∷ []))
+    else if lawful_long field p (from_be_bytes w64 (p.field ++ byte ∷ [])) then after_eight field p
+    (from_be_bytes w64 (p.field ++ byte ∷ []))
     else refuses p (Form (p.at - 7))
 
 -- a byte of a key or a value
 abbrev pub bytes : BytesField → Progress → ℕ → Step
 bytes field p byte =
-    if nat_lt (length p.payload + 1) p.draft.size then grows p (Bytes field) byte else after_bytes field p (p.payload ++ byte ∷ [])
+    if nat_lt (length p.payload + 1) p.draft.size then grows p (Bytes field) byte
+    else after_bytes field p (p.payload ++ byte ∷ [])
 
 -- a byte, where this is due
 abbrev pub taken : Due → Progress → ℕ → Step

@@ -19,7 +19,8 @@ pub fn worked_answers()
         ≡ [] }
     ensures hit { text (Command.Get (codes "a" ∷ []) false) (Replies.Hit 0 28 (codes "x") ∷ [])
         ≡ codes "VALUE a 0 1\r\nx\r\nEND\r\n" }
-    ensures unique { text (Command.Get (codes "a" ∷ codes "b" ∷ []) true) (Replies.Hit 7 28 (codes "x") ∷ Replies.Miss ∷ [])
+    ensures unique { text (Command.Get (codes "a" ∷ codes "b" ∷ []) true)
+        (Replies.Hit 7 28 (codes "x") ∷ Replies.Miss ∷ [])
         ≡ codes "VALUE a 7 1 28\r\nx\r\nEND\r\n" }
     ensures miss { text (Command.Get (codes "a" ∷ []) false) (Replies.Miss ∷ []) ≡ codes "END\r\n" }
     ensures number { text (Command.Count (codes "a") true 1 false) (Replies.Number 100 ∷ [])

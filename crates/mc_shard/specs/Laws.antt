@@ -42,7 +42,8 @@ FailedReplaceKeeps = (key : List ℕ) (flags : ℕ) (value : List ℕ) → Keeps
 
 -- after a flush every key misses
 abbrev pub FlushedMisses : Type 0
-FlushedMisses = (shards number : ℕ) (state : State) (key : List ℕ) → reply_to (state_after shards number state Flush) (Get key) ≡ Miss
+FlushedMisses = (shards number : ℕ) (state : State) (key : List ℕ)
+    → reply_to (state_after shards number state Flush) (Get key) ≡ Miss
 
 -- a flush leaves the counter
 abbrev pub FlushKeepsCount : Type 0
@@ -54,7 +55,8 @@ FlushKeepsCount = (shards number : ℕ) (state : State) → (state_after shards 
 -- to these, uniques aside, whatever the other calls and the shard's numbers are
 abbrev pub KeyStandsAlone : Type 0
 KeyStandsAlone =
-    (shards number shards' number' : ℕ) (key : List ℕ) (calls calls' : List Call) → AreWithoutCas calls → AreWithoutCas calls'
+    (shards number shards' number' : ℕ) (key : List ℕ) (calls calls' : List Call) → AreWithoutCas calls
+    → AreWithoutCas calls'
     → calls_about key calls ≡ calls_about key calls'
     → replies_about shards number empty_state key calls ≡ replies_about shards' number' empty_state key calls'
 

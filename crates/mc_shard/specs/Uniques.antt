@@ -21,13 +21,15 @@ given_by after empties = []
 -- the unique that an entry's call gives, where the shards are in these states
 abbrev pub given : ℕ → (ℕ → State) → Entry → List ℕ
 given shards states e =
-    given_by (state_after shards e.shard (states e.shard) e.call).items (outcome_on (states e.shard).items e.call).effect
+    given_by (state_after shards e.shard (states e.shard) e.call).items
+    (outcome_on (states e.shard).items e.call).effect
 
 -- the uniques that the calls on one shard give, in the list's order, where the shards begin in these states
 abbrev pub uniques_from : ℕ → ℕ → (ℕ → State) → List Entry → List ℕ
 uniques_from shards number states [] = []
 uniques_from shards number states (e ∷ es) =
-    (if e.shard == number then given shards states e else []) ++ uniques_from shards number (states_after shards states e) es
+    (if e.shard == number then given shards states e else [])
+    ++ uniques_from shards number (states_after shards states e) es
 
 -- the uniques that the calls on one shard give, in the list's order, where all shards are empty at first
 abbrev pub uniques_at : ℕ → ℕ → List Entry → List ℕ

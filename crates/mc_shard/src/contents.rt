@@ -99,7 +99,10 @@ impl Contents {
     // Puts the item at the key, and counts it.
     fn put(&mut self, key: Hashed, item: Item) -> Result<(), NoMemory>
         requires room { self.old.count < 2 ^ 52 }
-        ensures ok { OnOk result (self.new ≡ record { items = insert self.old.items key item; count = self.old.count + 1 }) }
+        ensures ok { OnOk result (self.new ≡ record {
+          items = insert self.old.items key item;
+          count = self.old.count + 1;
+        }) }
         ensures err { OnErr result (self.new ≡ self.old) }
     {
         match self.items.insert(key, item) {

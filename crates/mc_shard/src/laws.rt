@@ -24,14 +24,16 @@ pub fn worked_calls_without_an_item()
 pub fn worked_calls_with_an_item()
     ensures get { outcome_of (Calls.Get (codes "a")) (item_of (codes "one"))
         ≡ outcome (Replies.Hit 7 19 (codes "one")) keeps }
-    ensures add { outcome_of (Calls.Add (codes "a") 5 (codes "x")) (item_of (codes "one")) ≡ outcome Replies.NotStored keeps }
+    ensures add { outcome_of (Calls.Add (codes "a") 5 (codes "x")) (item_of (codes "one"))
+        ≡ outcome Replies.NotStored keeps }
     ensures replace { outcome_of (Calls.Replace (codes "a") 5 (codes "x")) (item_of (codes "one"))
         ≡ outcome Replies.Stored (stores (codes "a") 5 (codes "x")) }
     ensures append { outcome_of (Calls.Append (codes "a") (codes "+")) (item_of (codes "one"))
         ≡ outcome Replies.Stored (stores (codes "a") 7 (codes "one+")) }
     ensures prepend { outcome_of (Calls.Prepend (codes "a") (codes "-")) (item_of (codes "one"))
         ≡ outcome Replies.Stored (stores (codes "a") 7 (codes "-one")) }
-    ensures exists { outcome_of (Calls.Cas (codes "a") 5 20 (codes "x")) (item_of (codes "one")) ≡ outcome Replies.Exists keeps }
+    ensures exists { outcome_of (Calls.Cas (codes "a") 5 20 (codes "x")) (item_of (codes "one"))
+        ≡ outcome Replies.Exists keeps }
     ensures cas { outcome_of (Calls.Cas (codes "a") 5 19 (codes "x")) (item_of (codes "one"))
         ≡ outcome Replies.Stored (stores (codes "a") 5 (codes "x")) }
     ensures delete { outcome_of (Calls.Delete (codes "a")) (item_of (codes "one"))
@@ -48,8 +50,10 @@ pub fn worked_counts()
         ≡ outcome (Replies.Number 0) (stores (codes "n") 7 (decimal 0)) }
     ensures padded { outcome_of (Calls.Incr (codes "n") 0) (item_of (codes "00000000000000000042"))
         ≡ outcome (Replies.Number 42) (stores (codes "n") 7 (decimal 42)) }
-    ensures long { outcome_of (Calls.Incr (codes "n") 1) (item_of (codes "000000000000000000042")) ≡ outcome Replies.NotNumber keeps }
-    ensures great { outcome_of (Calls.Decr (codes "n") 1) (item_of (codes "18446744073709551616")) ≡ outcome Replies.NotNumber keeps }
+    ensures long { outcome_of (Calls.Incr (codes "n") 1) (item_of (codes "000000000000000000042"))
+        ≡ outcome Replies.NotNumber keeps }
+    ensures great { outcome_of (Calls.Decr (codes "n") 1) (item_of (codes "18446744073709551616"))
+        ≡ outcome Replies.NotNumber keeps }
     ensures empty { outcome_of (Calls.Incr (codes "n") 1) (item_of (codes "")) ≡ outcome Replies.NotNumber keeps }
 {}
 

@@ -78,7 +78,8 @@ fn reply_alone(reply: CallReply) -> Step
 
 // The item is answered.
 fn hit(item: &Item) -> Result<Step, NoMemory>
-    ensures value { (key : List ℕ) → Gives (Some key) result (table.answers (Hit item.now.flags item.now.unique item.now.value)) }
+    ensures value { (key : List ℕ) → Gives (Some key) result
+        (table.answers (Hit item.now.flags item.now.unique item.now.value)) }
 {
     Ok(reply_alone(CallReply::Hit {
         flags: item.flags,
@@ -132,7 +133,8 @@ fn exchange(item: &Item, flags: u32, unique: u64, value: &Blob) -> Result<Step, 
 
 // A value that is a number is counted up, modulo 2^64.
 fn count_up(alloc: Global, item: &Item, amount: u64) -> Result<Step, NoMemory>
-    ensures value { (key : List ℕ) → Gives (Some key) result (table.counted_up key item.now amount (number_of item.now.value)) }
+    ensures value { (key : List ℕ) → Gives (Some key) result
+        (table.counted_up key item.now amount (number_of item.now.value)) }
 {
     match read_number(item.value.bytes()) {
         Some(number) => put_number(alloc, item, number.wrapping_add(amount)),
@@ -142,7 +144,8 @@ fn count_up(alloc: Global, item: &Item, amount: u64) -> Result<Step, NoMemory>
 
 // A value that is a number is counted down, and not below 0.
 fn count_down(alloc: Global, item: &Item, amount: u64) -> Result<Step, NoMemory>
-    ensures value { (key : List ℕ) → Gives (Some key) result (table.counted_down key item.now amount (number_of item.now.value)) }
+    ensures value { (key : List ℕ) → Gives (Some key) result
+        (table.counted_down key item.now amount (number_of item.now.value)) }
 {
     match read_number(item.value.bytes()) {
         Some(number) => put_number(alloc, item, number.saturating_sub(amount)),

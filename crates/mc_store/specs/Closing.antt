@@ -10,7 +10,8 @@ use Rattle.mc_store.specs.Joined.{Joined, calls_of}
 pub record AreClosed (shards : ℕ) (joined : Joined) (histories : List (List Entry)) : Type 0 where
   -- there is one for each shard; its replies are those of a replay, and its stamps rise from 1 to 2^60 - 1 at most
   pub sound : AreHistories shards histories
-  -- the calls of a connection on a shard are those that its pass made there, in the pass's order; no connection has others
+  -- the calls of a connection on a shard are those that its pass made there, in the pass's order; no connection has
+  -- others
   pub calls : (conn shard : ℕ) → of_connection conn (history_of histories shard) ≡ at_shard shard (calls_of conn joined)
   -- stamps rise along the calls of each pass
   pub rise : (conn : ℕ) → StampsRise 0 (calls_of conn joined)

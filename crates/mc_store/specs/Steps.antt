@@ -70,7 +70,10 @@ abbrev pub HasWon : Step Kept → Seated → ℕ → Seated → Type 0
 HasWon step before found after =
     (history : List Entry)
     × (step.first ≡ 2 * length history)
-    × (after ≡ (holding step.word history (traced (exchanges step.word found) before.0), (step.word, kept step.word step.slots history) ∷ before.1))
+    × (after ≡ (
+      holding step.word history (traced (exchanges step.word found) before.0),
+      (step.word, kept step.word step.slots history) ∷ before.1,
+    ))
     × IsReady (kept step.word step.slots history) (mine_of before.0)
 
 -- an exchange took the shard, or it is noted

@@ -40,7 +40,8 @@ module _ (shards : ℕ) (slots : List (Option Kept)) (seats : ℕ → ℕ) (shar
   Lies (away conn) = 0 < seats conn
 
 -- one shard of so many, with its history, at its place
-pub record ShardIs (shards : ℕ) (words : List ℕ) (slots : List (Option Kept)) (seats : ℕ → ℕ) (shard : ℕ) (history : List Entry) (place : Place) : Type 0 where
+pub record ShardIs (shards : ℕ) (words : List ℕ) (slots : List (Option Kept)) (seats : ℕ → ℕ) (shard : ℕ)
+    (history : List Entry) (place : Place) : Type 0 where
   -- its word is 2 k where it is free with k entries, and 2 k + 1 where it is away
   pub shows : slice_index words shard ≡ word_of (length history) place
   pub lies : Lies shards slots seats shard history place
@@ -66,10 +67,13 @@ module _ (histories : ℕ → List Entry) (places : ℕ → Place) (shards conn 
   -- the pass of a connection has taken this shard with this history, and no other shard
   abbrev pub Holds : std.Option (ℕ × List Entry) → Type 0
   Holds std.None = (shard : ℕ) → places shard ≡ away conn → ⊥
-  Holds (std.Some x) = (x.0 < shards) × (histories x.0 ≡ x.1) × (places x.0 ≡ away conn) × ((shard : ℕ) → places shard ≡ away conn → shard ≡ x.0)
+  Holds (std.Some x) = (x.0 < shards) × (histories x.0 ≡ x.1) × (places x.0 ≡ away conn)
+      × ((shard : ℕ) → places shard ≡ away conn → shard ≡ x.0)
 
-module _ (histories : ℕ → List Entry) (places : ℕ → Place) (calls : ℕ → List Entry) (seats : ℕ → ℕ) (shards seat : ℕ) where
-  -- the root knows which passes are out, and the calls of all others; a pass knows its seat, its calls and what it has taken
+module _ (histories : ℕ → List Entry) (places : ℕ → Place) (calls : ℕ → List Entry) (seats : ℕ → ℕ)
+    (shards seat : ℕ) where
+  -- the root knows which passes are out, and the calls of all others; a pass knows its seat, its calls and what it
+  -- has taken
   abbrev pub Knows : View → Type 0
   Knows Spent = Unit {0}
   Knows (Root given joined) =
@@ -92,11 +96,14 @@ pub record StoreRule (s : State Kept View) : Type 0 where
   -- there is a word for each shard, and beyond them there is nothing
   pub wide : length s.words ≡ length s.homes
   pub beyond : (shard : ℕ) → length s.homes ≤ shard → (histories shard ≡ []) × (places shard ≡ free)
-  pub each_shard : (shard : ℕ) → shard < length s.homes → ShardIs (length s.homes) s.words s.homes seats shard (histories shard) (places shard)
+  pub each_shard : (shard : ℕ) → shard < length s.homes
+      → ShardIs (length s.homes) s.words s.homes seats shard (histories shard) (places shard)
   pub each_connection : (conn : ℕ) → ConnectionIs (halves s.words) histories conn (calls conn)
-  pub each_seat : (seat : ℕ) (view : View) → get_elem? s.views seat ≡ some view → Knows histories places calls seats (length s.homes) seat view
+  pub each_seat : (seat : ℕ) (view : View) → get_elem? s.views seat ≡ some view
+      → Knows histories places calls seats (length s.homes) seat view
   -- the pass of a connection is at its seat
   pub live : (conn seat : ℕ) → seats conn ≡ suc seat
-      → (taken : std.Option (ℕ × List Entry)) × (trace : Trace) × (get_elem? s.views seat ≡ some (Pass conn (calls conn) taken trace))
+      → (taken : std.Option (ℕ × List Entry)) × (trace : Trace)
+      × (get_elem? s.views seat ≡ some (Pass conn (calls conn) taken trace))
   -- the entries are the calls of at most 4,096 connections, so there are at most 2^52
   pub sums : halves s.words ≡ sum_below 4096 (λ conn. length (calls conn))

@@ -9,7 +9,8 @@ use Rattle.zy_base.specs.Order.{AreAt, StampsRise, AreStampsBelow, history_of}
 -- each entry's reply is that of its call, where the entries before it left the shard
 abbrev pub IsReplay : ℕ → ℕ → State → List Entry → Type 0
 IsReplay shards number state [] = Unit {0}
-IsReplay shards number state (e ∷ es) = (e.reply ≡ reply_to state e.call) × IsReplay shards number (state_after shards number state e.call) es
+IsReplay shards number state (e ∷ es) =
+    (e.reply ≡ reply_to state e.call) × IsReplay shards number (state_after shards number state e.call) es
 
 -- the shard after the calls of these entries
 abbrev pub replayed : ℕ → ℕ → State → List Entry → State
@@ -36,7 +37,8 @@ states_after shards states e number =
 abbrev pub IsLegalFrom : ℕ → (ℕ → State) → List Entry → Type 0
 IsLegalFrom shards states [] = Unit {0}
 IsLegalFrom shards states (e ∷ es) =
-    (e.shard < shards) × (e.reply ≡ reply_to (states e.shard) e.call) × IsLegalFrom shards (states_after shards states e) es
+    (e.shard < shards) × (e.reply ≡ reply_to (states e.shard) e.call)
+    × IsLegalFrom shards (states_after shards states e) es
 
 -- the entries are those of one run of calls on so many shards, which were empty at first
 abbrev pub IsLegal : ℕ → List Entry → Type 0

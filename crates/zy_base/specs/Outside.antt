@@ -17,7 +17,8 @@ GrewByPrefix before after bytes = (n : ℕ) × (n ≤ length bytes) × Grew befo
 
 -- a write took its first n bytes at `Ok(n)`, and none at `Err`
 abbrev pub WriteGrew : {E : Type 0} → Option (List ℕ) → Option (List ℕ) → Result ℕ E → List ℕ → Type 0
-WriteGrew before after result from = MatchResult result (λ n. Grew before after (take n from)) (λ _. Grew before after [])
+WriteGrew before after result from =
+    MatchResult result (λ n. Grew before after (take n from)) (λ _. Grew before after [])
 
 -- `Ok(n)` took at most the whole piece, and something of a piece that is not empty
 abbrev pub TakesSome : {E : Type 0} → Result ℕ E → List ℕ → Type 0
@@ -29,7 +30,8 @@ told_since None now = None
 told_since (Some first) now = now
 
 -- a call that writes a text wrote it whole, or failed after some first part of it
-pub record Writes {K E : Type 0} (holds : K → Option (List ℕ)) (faults : K → ℕ) (old new : K) (result : Result ⊤ E) (text : List ℕ) : Type 0 where
+pub record Writes {K E : Type 0} (holds : K → Option (List ℕ)) (faults : K → ℕ) (old new : K) (result : Result ⊤ E)
+    (text : List ℕ) : Type 0 where
   -- at `Ok` the sink grew by the text
   pub whole : OnOk result (Grew (holds old) (holds new) text)
   -- at `Err` it grew by a prefix of the text

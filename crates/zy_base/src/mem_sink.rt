@@ -25,7 +25,14 @@ impl Model for MemSink {
 
     ghost Value = { Writing };
 
-    ghost view = { λ s. record { holds = s.kept.holds; room = s.kept.room; most = s.most; failing = s.failing; calls = s.calls; faults = s.faults } };
+    ghost view = { λ s. record {
+      holds = s.kept.holds;
+      room = s.kept.room;
+      most = s.most;
+      failing = s.failing;
+      calls = s.calls;
+      faults = s.faults;
+    } };
 
     ghost invariant = { λ s. 1 ≤ s.most };
 }
@@ -40,7 +47,14 @@ impl MemSink {
         failing: CallNumbers,
     ) -> Result<MemSink, NoMemory>
         requires some { 1 ≤ most }
-        ensures value { IfOk result (λ sink. sink ≡ record { holds = Some []; room = room; most = most; failing = failing; calls = 0; faults = 0 }) }
+        ensures value { IfOk result (λ sink. sink ≡ record {
+          holds = Some [];
+          room = room;
+          most = most;
+          failing = failing;
+          calls = 0;
+          faults = 0;
+        }) }
     {
         let kept = SureSink::new(alloc, room)?;
         Ok(MemSink {

@@ -26,7 +26,13 @@ impl Model for MemSource {
 
     ghost Value = { Reading };
 
-    ghost view = { λ s. record { rest = drop s.at s.bytes; most = s.most; failing = s.failing; calls = s.calls; faults = s.faults } };
+    ghost view = { λ s. record {
+      rest = drop s.at s.bytes;
+      most = s.most;
+      failing = s.failing;
+      calls = s.calls;
+      faults = s.faults;
+    } };
 
     ghost invariant = { λ s. record { within : s.at ≤ length s.bytes; some : 1 ≤ s.most } };
 }

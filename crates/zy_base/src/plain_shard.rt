@@ -221,7 +221,8 @@ fn first_item<'a>(items: &'a [(Blob, Item)], key: &Blob) -> Option<&'a Item>
 
 // Leaves out the items of this key.
 fn leave_out(items: &mut Vec<(Blob, Item)>, key: &Blob)
-    ensures left { items.new.items ≡ filter (λ pair. not (eq_by_cmp (slice_cmp nat_cmp) key.now pair.0)) items.old.items }
+    ensures left { items.new.items ≡ filter (λ pair. not (eq_by_cmp (slice_cmp nat_cmp) key.now pair.0))
+        items.old.items }
 {
     items.retain(|pair| key.cmp(&pair.0).is_ne());
 }

@@ -1,6 +1,6 @@
 -- The faults of a capture, docs/FORMATS.md, "Capture": what a text is that has one of them. Each comes after bytes that
--- spell the beginning of a capture, where the first wrong byte or number follows. That the verdict on a text is bad with
--- a fault exactly where the text has it is a law in src/laws.rt.
+-- spell the beginning of a capture, where the first wrong byte or number follows. That the verdict on a text is bad
+-- with a fault exactly where the text has it is a law in src/laws.rt.
 use Rattle.std.specs.Prelude.{◌≡◌, ◌⊎◌, ℕ, ◌+◌, ◌^◌, ◌<◌, ◌≤◌, List, [], ◌∷◌, ◌++◌, length, flat_map}
 use Rattle.std.specs.Int.{to_be_bytes, w32}
 use Rattle.zy_capture.specs.declared.record.Record.{Record}

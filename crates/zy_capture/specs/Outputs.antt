@@ -15,12 +15,14 @@ pub record AllOutputs : Type 0 where
 abbrev pub MayAdd : AllOutputs → ℕ → Type 0
 MayAdd outputs conn =
     ((conn ≡ length outputs.sessions) × (conn < connection_limit))
-    ⊎ ((outputs.version ≡ 2) × (conn + 1 ≡ length outputs.sessions) × (length (sessions_of outputs.sessions conn) < 2 ^ 31))
+    ⊎ ((outputs.version ≡ 2) × (conn + 1 ≡ length outputs.sessions)
+    × (length (sessions_of outputs.sessions conn) < 2 ^ 31))
 
 -- the sessions with one output more, of the next connection or of one that is there
 abbrev pub with_session : List (List (List ℕ)) → ℕ → List ℕ → List (List (List ℕ))
 with_session sessions conn bytes =
-    if conn == length sessions then sessions ++ (bytes ∷ []) ∷ [] else slice_set sessions conn (sessions_of sessions conn ++ bytes ∷ [])
+    if conn == length sessions then sessions ++ (bytes ∷ []) ∷ []
+    else slice_set sessions conn (sessions_of sessions conn ++ bytes ∷ [])
 
 -- the outputs with one more
 abbrev pub with_output : AllOutputs → ℕ → List ℕ → AllOutputs

@@ -37,7 +37,8 @@ connection_text version conn sessions = numbered_from (output_text version conn)
 
 -- a replies file: its magic, its records, connection by connection, and the end
 unfoldable pub replies_bytes : AllOutputs → List ℕ
-replies_bytes outputs = magic outputs.version ++ numbered_from (connection_text outputs.version) 0 outputs.sessions ++ 69 ∷ []
+replies_bytes outputs =
+    magic outputs.version ++ numbered_from (connection_text outputs.version) 0 outputs.sessions ++ 69 ∷ []
 
 -- ---- files by their records
 
@@ -52,7 +53,8 @@ spelling version items = magic version ++ flat_map (spelled version) items ++ 69
 -- the sessions of a connection from some session on
 abbrev pub session_items : ℕ → ℕ → List (List ℕ) → List SessionBytes
 session_items conn number [] = []
-session_items conn number (bytes ∷ sessions) = record { conn = conn; session = number; bytes = bytes } ∷ session_items conn (number + 1) sessions
+session_items conn number (bytes ∷ sessions) =
+    record { conn = conn; session = number; bytes = bytes } ∷ session_items conn (number + 1) sessions
 
 -- the sessions of all connections from some connection on
 abbrev pub all_items : ℕ → List (List (List ℕ)) → List SessionBytes

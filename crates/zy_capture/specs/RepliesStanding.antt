@@ -23,7 +23,8 @@ EndsAs given (Err fault) found = found ≡ Bad fault
 
 -- the bytes fed are a replies file with the outputs that were given, or have this fault as they end
 abbrev pub EndsBy : Progress → Result ⊤ FileFault → Type 0
-EndsBy p answer = (given : List SessionBytes) (b : List ℕ) → StandsForReplies p given b → EndsAs given answer (verdict b)
+EndsBy p answer =
+    (given : List SessionBytes) (b : List ℕ) → StandsForReplies p given b → EndsAs given answer (verdict b)
 
 -- the byte is one of an output
 abbrev pub IsOfOutput : Progress → ℕ → Type 0
@@ -35,7 +36,8 @@ IsOfOutput p byte = ((conn session size : ℕ) × (p.due ≡ Output conn session
 abbrev pub Takes : Step → Progress → Progress → ℕ → Result (Option SessionBytes) (NotTaken FileFault) → Type 0
 Takes step old new byte result = Follows replies IsOfOutput step old new byte result
 
--- what is due is within its bounds: the place of a letter, the bytes of a number, the numbers, and the bytes of an output
+-- what is due is within its bounds: the place of a letter, the bytes of a number, the numbers, and the bytes of an
+-- output
 abbrev pub IsWithin : RepliesDue → ℕ → ℕ → List ℕ → Type 0
 IsWithin Letters at seen payload = at < 6
 IsWithin Connection at seen payload = seen < 4

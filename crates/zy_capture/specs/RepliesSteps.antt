@@ -1,5 +1,5 @@
--- What each byte of a replies file does, by what is due where it stands: the table of docs/FORMATS.md, "Replies". A number
--- is judged at its last byte.
+-- What each byte of a replies file does, by what is due where it stands: the table of docs/FORMATS.md, "Replies". A
+-- number is judged at its last byte.
 use Rattle.std.specs.Prelude.{ℕ, ◌+◌, ◌-◌, ◌^◌, ◌==◌, ◌&&◌, ◌||◌, nat_lt, nat_le, if◌then◌else◌, Bool, true, false, List, [], ◌∷◌, ◌++◌, length, None, Some}
 use Rattle.std.specs.List.{slice_index}
 use Rattle.std.specs.Int.{from_be_bytes, w32, w64}
@@ -53,7 +53,14 @@ after_output p conn session =
 -- the byte ends the output of this session
 abbrev pub gives : Progress → ℕ → ℕ → List ℕ → Step
 gives p conn session bytes =
-    record { next = after_output p conn session; gave = Some (record { conn = conn; session = session; bytes = bytes }) }
+    record {
+      next = after_output p conn session;
+      gave = Some (record {
+        conn = conn;
+        session = session;
+        bytes = bytes;
+      });
+    }
 
 -- the byte is a fault, and nothing after it is read
 abbrev pub refuses : Progress → FileFault → Step
@@ -65,7 +72,8 @@ keeps p due byte = record { next = record p { due = due; field = p.field ++ byte
 
 -- the byte is one of an output, and not the last one
 abbrev pub grows : Progress → RepliesDue → ℕ → Step
-grows p due byte = record { next = record p { due = due; payload = p.payload ++ byte ∷ []; at = p.at + 1 }; gave = None }
+grows p due byte =
+    record { next = record p { due = due; payload = p.payload ++ byte ∷ []; at = p.at + 1 }; gave = None }
 
 -- where bytes of an output lead, of which none is its last one
 abbrev pub grown_by : Progress → List ℕ → Progress
@@ -76,7 +84,8 @@ grown_by p bytes = record p { payload = p.payload ++ bytes; at = p.at + length b
 -- a letter of the magic
 abbrev pub letter : Progress → ℕ → Step
 letter p byte =
-    if byte == slice_index letters p.at then (if p.at == 5 then goes p Digit else goes p Letters) else refuses p (Form p.at)
+    if byte == slice_index letters p.at then (if p.at == 5 then goes p Digit else goes p Letters)
+    else refuses p (Form p.at)
 
 -- the digit of the magic
 abbrev pub digit : Progress → ℕ → Step
@@ -93,7 +102,8 @@ tag p byte = if byte == 82 then goes p Connection else if byte == 69 then goes p
 
 -- the connection of a record: that of the last one, which only version 2 has, or the next one
 abbrev pub may_come : Progress → ℕ → Bool
-may_come p conn = nat_lt conn connection_limit && (conn == p.connections || (p.version == 2 && conn + 1 == p.connections))
+may_come p conn =
+    nat_lt conn connection_limit && (conn == p.connections || (p.version == 2 && conn + 1 == p.connections))
 
 -- the session that is due of a connection
 abbrev pub due_session : Progress → ℕ → ℕ
@@ -102,12 +112,14 @@ due_session p conn = if conn == p.connections then 0 else p.sessions
 -- the whole connection of a record
 abbrev pub connection : Progress → ℕ → Step
 connection p conn =
-    if may_come p conn then (if p.version == 2 then goes p (Session conn) else goes p (Length conn 0)) else refuses p (Form (p.at - 3))
+    if may_come p conn then (if p.version == 2 then goes p (Session conn) else goes p (Length conn 0))
+    else refuses p (Form (p.at - 3))
 
 -- the whole session of a record
 abbrev pub session : ℕ → Progress → ℕ → Step
 session conn p number =
-    if number == due_session p conn && nat_lt number (2 ^ 31) then goes p (Length conn number) else refuses p (Form (p.at - 3))
+    if number == due_session p conn && nat_lt number (2 ^ 31) then goes p (Length conn number)
+    else refuses p (Form (p.at - 3))
 
 -- the whole length of an output
 abbrev pub size_read : ℕ → ℕ → Progress → ℕ → Step
@@ -116,16 +128,19 @@ size_read conn session p size =
 
 -- a byte of a number of four bytes
 abbrev pub four : RepliesDue → (Progress → ℕ → Step) → Progress → ℕ → Step
-four due judged p byte = if nat_lt (length p.field) 3 then keeps p due byte else judged p (from_be_bytes w32 (p.field ++ byte ∷ []))
+four due judged p byte =
+    if nat_lt (length p.field) 3 then keeps p due byte else judged p (from_be_bytes w32 (p.field ++ byte ∷ []))
 
 -- a byte of a number of eight bytes
 abbrev pub eight : RepliesDue → (Progress → ℕ → Step) → Progress → ℕ → Step
-eight due judged p byte = if nat_lt (length p.field) 7 then keeps p due byte else judged p (from_be_bytes w64 (p.field ++ byte ∷ []))
+eight due judged p byte =
+    if nat_lt (length p.field) 7 then keeps p due byte else judged p (from_be_bytes w64 (p.field ++ byte ∷ []))
 
 -- a byte of an output
 abbrev pub output : ℕ → ℕ → ℕ → Progress → ℕ → Step
 output conn session size p byte =
-    if nat_lt (length p.payload + 1) size then grows p (Output conn session size) byte else gives p conn session (p.payload ++ byte ∷ [])
+    if nat_lt (length p.payload + 1) size then grows p (Output conn session size) byte
+    else gives p conn session (p.payload ++ byte ∷ [])
 
 -- a byte, where this is due
 abbrev pub taken : RepliesDue → Progress → ℕ → Step

@@ -1,5 +1,5 @@
--- What each byte of a capture does, by what is due where it stands: the table of docs/FORMATS.md, "Capture". A number is
--- judged at its last byte.
+-- What each byte of a capture does, by what is due where it stands: the table of docs/FORMATS.md, "Capture". A number
+-- is judged at its last byte.
 use Rattle.std.specs.Prelude.{ℕ, ◌+◌, ◌-◌, ◌==◌, ◌&&◌, nat_lt, nat_le, if◌then◌else◌, Bool, true, false, List, [], ◌∷◌, ◌++◌, length, None, Some}
 use Rattle.std.specs.List.{slice_index}
 use Rattle.std.specs.Int.{from_be_bytes, w32}
@@ -61,7 +61,8 @@ keeps p due byte = record { next = record p { due = due; field = p.field ++ byte
 
 -- the byte is one of a segment, and not the last one
 abbrev pub grows : Progress → Due → ℕ → Step
-grows p due byte = record { next = record p { due = due; payload = p.payload ++ byte ∷ []; at = p.at + 1 }; gave = None }
+grows p due byte =
+    record { next = record p { due = due; payload = p.payload ++ byte ∷ []; at = p.at + 1 }; gave = None }
 
 -- where bytes of a segment lead, of which none is its last one
 abbrev pub grown_by : Progress → List ℕ → Progress
@@ -72,7 +73,8 @@ grown_by p bytes = record p { payload = p.payload ++ bytes; at = p.at + length b
 -- a letter of the magic
 abbrev pub letter : Progress → ℕ → Step
 letter p byte =
-    if byte == slice_index letters p.at then (if p.at == 5 then goes p Digit else goes p Letters) else refuses p (BadMagic p.at)
+    if byte == slice_index letters p.at then (if p.at == 5 then goes p Digit else goes p Letters)
+    else refuses p (BadMagic p.at)
 
 -- the digit of the magic
 abbrev pub digit : Progress → ℕ → Step
@@ -99,12 +101,14 @@ place p = p.at - 3
 abbrev pub judged : Due → Progress → ℕ → Step
 judged Count p number =
     if nat_lt connection_limit number then refuses p (ConnCount number) else goes (record p { count = number }) Tag
-judged Connection p number = if nat_lt number p.count then goes p (Length number) else refuses p (ConnRange (place p) number)
+judged Connection p number =
+    if nat_lt number p.count then goes p (Length number) else refuses p (ConnRange (place p) number)
 judged (Length conn) p number =
     if nat_lt segment_limit number then refuses p (SegmentLength (place p) number)
     else if number == 0 then gives p (Kinds.Segment (record { conn = conn; bytes = [] }))
     else goes (record p { payload = [] }) (Payload conn number)
-judged Closed p number = if nat_lt number p.count then gives p (Kinds.Close number) else refuses p (ConnRange (place p) number)
+judged Closed p number =
+    if nat_lt number p.count then gives p (Kinds.Close number) else refuses p (ConnRange (place p) number)
 judged due p number = goes p due
 
 -- a byte of a number of four bytes

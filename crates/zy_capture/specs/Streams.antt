@@ -12,16 +12,18 @@ closes conn [] = 0
 closes conn (Kinds.Segment s ∷ items) = closes conn items
 closes conn (Kinds.Close other ∷ items) = if other == conn then closes conn items + 1 else closes conn items
 
--- the bytes, joined in order, of those segments of a connection that have so many close records of it before them, where
--- some were before the first
+-- the bytes, joined in order, of those segments of a connection that have so many close records of it before them,
+-- where some were before the first
 abbrev pub stream_after : ℕ → ℕ → ℕ → List Record → List ℕ
 stream_after before conn session [] = []
 stream_after before conn session (Kinds.Segment s ∷ items) =
-    if s.conn == conn && before == session then s.bytes ++ stream_after before conn session items else stream_after before conn session items
+    if s.conn == conn && before == session then s.bytes ++ stream_after before conn session items
+    else stream_after before conn session items
 stream_after before conn session (Kinds.Close other ∷ items) =
     if other == conn then stream_after (before + 1) conn session items else stream_after before conn session items
 
--- the bytes, joined in order, of those segments of a connection that have exactly so many close records of it before them
+-- the bytes, joined in order, of those segments of a connection that have exactly so many close records of it before
+-- them
 abbrev pub stream : ℕ → ℕ → List Record → List ℕ
 stream conn session items = stream_after 0 conn session items
 

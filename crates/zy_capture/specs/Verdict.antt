@@ -1,6 +1,6 @@
 -- What a whole text is: the capture that it spells, or its first fault. A text is read from its first byte to its last.
--- That it is good exactly where it is a spelling, and bad exactly where it has a fault of specs/Faults.antt, are laws in
--- src/laws.rt.
+-- That it is good exactly where it is a spelling, and bad exactly where it has a fault of specs/Faults.antt, are laws
+-- in src/laws.rt.
 use Rattle.std.specs.Prelude.{ℕ, ◌==◌, if◌then◌else◌, Bool, true, false, List, Option, None, Some}
 use Rattle.zy_read.specs.Format.{Format, Reading, read_on, reading_of, given_by, fault_met, verdict_on}
 use Rattle.zy_capture.specs.declared.record.Record.{Record}

@@ -14,8 +14,8 @@ use Rattle.zy_run.specs.Commands.{commands_held}
 use Rattle.zy_run.specs.Output.{outputs_of}
 use Rattle.zy_run.specs.Spans.{held_of}
 
--- how many shards there are, the streams of all connections' sessions, a journal's entries and holds, and the outputs of
--- all connections' sessions
+-- how many shards there are, the streams of all connections' sessions, a journal's entries and holds, and the outputs
+-- of all connections' sessions
 pub record Given : Type 0 where
   pub shards : ℕ
   pub streams : List (List (List ℕ))
@@ -26,7 +26,13 @@ pub record Given : Type 0 where
 -- streams, a journal and outputs, on so many shards
 abbrev pub given : ℕ → List (List (List ℕ)) → Journal → AllOutputs → Given
 given shards streams journal outputs =
-    record { shards = shards; streams = streams; entries = journal.entries; holds = journal.holds; outputs = outputs.sessions }
+    record {
+      shards = shards;
+      streams = streams;
+      entries = journal.entries;
+      holds = journal.holds;
+      outputs = outputs.sessions;
+    }
 
 -- ---- entries
 

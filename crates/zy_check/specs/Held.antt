@@ -22,7 +22,8 @@ FoundStray count holds (Some stray) =
 pub record AreCounted (g : Given) (holds : List Hold) (followed : List Followed) : Type 0 where
   pub holds_are : g.holds ≡ holds
   pub count : length followed ≡ length g.streams
-  pub each : (conn : ℕ) (f : Followed) → slice_get followed conn ≡ Some f → f.pace.commands ≡ length (commands_held g.streams conn)
+  pub each : (conn : ℕ) (f : Followed) → slice_get followed conn ≡ Some f
+      → f.pace.commands ≡ length (commands_held g.streams conn)
 
 -- the holds of each connection add up to the number of its commands, or this is the first whose do not
 abbrev pub FoundUnheld : Given → Option ℕ → Type 0

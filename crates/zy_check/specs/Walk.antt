@@ -27,7 +27,8 @@ pub record AreFollowed (g : Given) (shards : ℕ) (entries : List Entry) (follow
 -- so many shards after the calls of entries
 pub record AreReplayed (shards : ℕ) (es : List Entry) (states : List Replayed) : Type 0 where
   pub count : length states ≡ shards
-  pub each : (s : ℕ) → s < shards → slice_get states s ≡ Some (replaying s shards (replayed shards s empty_state (at_shard s es)))
+  pub each : (s : ℕ) → s < shards → slice_get states s
+      ≡ Some (replaying s shards (replayed shards s empty_state (at_shard s es)))
 
 -- how many of the entries are of each of so many connections
 pub record AreSeen (count : ℕ) (es : List Entry) (seen : List ℕ) : Type 0 where

@@ -1,4 +1,5 @@
-//! Checks whether a journal and outputs are those of a run of some streams, and gives the first cause where they are not.
+//! Checks whether a journal and outputs are those of a run of some streams, and gives the first cause where they are
+//! not.
 #![tactic(auto)]
 
 mod answer;

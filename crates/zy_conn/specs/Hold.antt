@@ -39,7 +39,8 @@ pub record AreHolds (connection finished : ℕ) (holds : List Hold) : Type 0 whe
 abbrev pub hold_by : ℕ → ℕ → ℕ → Hold
 hold_by core connection count = record { core = core; conn = connection; count = count }
 
--- where commands were finished there is one hold more, which says by which core, of which connection and how many; else the holds stay as they were
+-- where commands were finished there is one hold more, which says by which core, of which connection and how many;
+-- else the holds stay as they were
 pub record IsRecorded (core : ℕ) (before after : Blocked) : Type 0 where
   pub none : after.work.finished ≡ before.work.finished → after.holds ≡ before.holds
   pub one : before.work.finished < after.work.finished

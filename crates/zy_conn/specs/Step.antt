@@ -82,7 +82,8 @@ CallStopsBy asked before after (Busy shard loaded found) =
     WasBusy asked.shard before.trace after.trace shard loaded found
 
 -- what came of the next of these calls, of the replies and the pass before and after it
-module _ (index : ℕ) (calls : List ShardCall) (replies : List CallReply) (before : Passed) (replies' : List CallReply) (after : Passed) where
+module _ (index : ℕ) (calls : List ShardCall) (replies : List CallReply) (before : Passed) (replies' : List CallReply)
+    (after : Passed) where
   abbrev pub Makes : Made → Type 0
   Makes Call = (asked : ShardCall) × (slice_get calls (length replies) ≡ Some asked)
       × (entry : Entry) × IsPart before.conn index (length replies) asked entry

@@ -40,7 +40,8 @@ is_begun (going command calls replies) = true
 
 -- ---- the work
 
--- a connection with its store and event ring, the frames taken and those known, what is begun, how many commands are finished and for how many the texts were taken, the texts that wait, and the calls of its pass
+-- a connection with its store and event ring, the frames taken and those known, what is begun, how many commands are
+-- finished and for how many the texts were taken, the texts that wait, and the calls of its pass
 pub record Worked : Type 0 where
   pub conn : ℕ
   pub table : TableId

@@ -110,7 +110,12 @@ impl Block {
     /// The texts that wait, with the number of finished commands; none is left. Takes no memory.
     pub fn take_batch(&mut self) -> Batch
         ensures batch { (result.texts ≡ self.old.work.batch) × (result.finished ≡ self.old.work.finished) }
-        ensures block { self.new ≡ record self.old { work = record self.old.work { shown = self.old.work.finished; batch = [] } } }
+        ensures block { self.new ≡ record self.old {
+          work = record self.old.work {
+            shown = self.old.work.finished;
+            batch = [];
+          };
+        } }
         ensures texts { texts_taken self.new.work ≡ texts_taken self.old.work ++ self.old.work.batch }
     {
         self.work.take_batch()

@@ -21,7 +21,8 @@ impl Model for EventInlet {
 
     ghost Value = { Sending };
 
-    ghost view = { λ i. sending (ring_named i.producer.end.words i.producer.end.slots i.producer.end.names) (sent i.producer) (known_free i.producer) };
+    ghost view = { λ i. sending (ring_named i.producer.end.words i.producer.end.slots i.producer.end.names)
+        (sent i.producer) (known_free i.producer) };
 
     ghost invariant = { λ i. producer_capacity i.producer ≡ 64 };
 }

@@ -47,9 +47,13 @@ impl Model for Work {
 
     ghost Value = { Worked };
 
-    ghost view = { λ w. worked w.pass (ring_named w.frames.end.words w.frames.end.slots w.frames.end.names) (received w.frames) (known_items w.frames) (start_of w.begun w.replies.items) w.batch.finished w.shown w.batch.texts };
+    ghost view = { λ w. worked w.pass (ring_named w.frames.end.words w.frames.end.slots w.frames.end.names)
+        (received w.frames) (known_items w.frames)
+        (start_of w.begun w.replies.items) w.batch.finished w.shown w.batch.texts };
 
-    ghost invariant = { λ w. Kept (worked w.pass (ring_named w.frames.end.words w.frames.end.slots w.frames.end.names) (received w.frames) (known_items w.frames) (start_of w.begun w.replies.items) w.batch.finished w.shown w.batch.texts) };
+    ghost invariant = { λ w. Kept (worked w.pass (ring_named w.frames.end.words w.frames.end.slots w.frames.end.names)
+        (received w.frames) (known_items w.frames)
+        (start_of w.begun w.replies.items) w.batch.finished w.shown w.batch.texts) };
 }
 
 impl Work {

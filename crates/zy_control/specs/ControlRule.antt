@@ -8,7 +8,8 @@ use Rattle.zy_control.specs.declared.view.Role.TheVariants.{Root, Core, Watcher}
 use Rattle.zy_control.specs.declared.view.View.{View}
 use Rattle.zy_control.specs.View.{Covers}
 
--- 1 for a core that has counted itself, 0 for every other seat: so only the seats of cores count themselves, and each once
+-- 1 for a core that has counted itself, 0 for every other seat: so only the seats of cores count themselves, and each
+-- once
 abbrev pub has_one : Role → ℕ
 has_one (Root given) = 0
 has_one (Core number true) = 1

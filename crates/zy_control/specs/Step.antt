@@ -15,7 +15,8 @@ counts m r n = n ≡ (view (counted m.0.role) m.0.cores (done_step (r + 1) m.0.t
 
 -- done was loaded: where it is the number of cores, this core has counted itself
 abbrev pub sees_done : Seated → ℕ → Seated → Type 0
-sees_done m r n = (n ≡ (view m.0.role m.0.cores (done_step r m.0.trace), m.1)) × (m.0.trace.done.value ≤ r) × (r ≡ m.0.cores → MustHaveCounted m.0.role)
+sees_done m r n = (n ≡ (view m.0.role m.0.cores (done_step r m.0.trace), m.1)) × (m.0.trace.done.value ≤ r)
+    × (r ≡ m.0.cores → MustHaveCounted m.0.role)
 
 -- stop was loaded: what was set is set
 abbrev pub sees_stop : Seated → ℕ → Seated → Type 0
@@ -23,7 +24,8 @@ sees_stop m r n = (n ≡ (view m.0.role m.0.cores (stop_step r m.0.trace), m.1))
 
 -- bits of stop were set
 abbrev pub stops : ℕ → Seated → ℕ → Seated → Type 0
-stops mask m r n = (n ≡ (view m.0.role m.0.cores (stop_step (bit_or r mask) m.0.trace), m.1)) × Covers m.0.trace.stop.value (bit_or r mask)
+stops mask m r n = (n ≡ (view m.0.role m.0.cores (stop_step (bit_or r mask) m.0.trace), m.1))
+    × Covers m.0.trace.stop.value (bit_or r mask)
 
 -- a watcher came, whose first load of stop found this
 abbrev pub enters : Seated → ℕ → Seated → Type 0

@@ -71,7 +71,8 @@ impl Control {
         requires table { root.old.table ≡ self.now.id }
         requires few { root.old.given < self.now.cores }
         ensures succeeds { IsOk result }
-        ensures value { IfOk result (λ pass. pass ≡ held root.old.table (Core root.old.given false) root.old.cores untraced) }
+        ensures value { IfOk result (λ pass. pass ≡ held root.old.table
+            (Core root.old.given false) root.old.cores untraced) }
         ensures ok { root.new ≡ rooted root.old.table (root.old.given + 1) root.old.cores }
     {
         let number = root.given;

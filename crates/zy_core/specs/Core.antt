@@ -16,7 +16,8 @@ use Rattle.zy_core.specs.Share.{Sharing}
 
 -- ---- values
 
--- a core: its home, who it is as a thief with its passes on the other rings, the end of its receive ring, its pass on the control words, and how many turns it has taken
+-- a core: its home, who it is as a thief with its passes on the other rings, the end of its receive ring, its pass on
+-- the control words, and how many turns it has taken
 pub record Cored : Type 0 where
   pub home : Homed
   pub thief : Thief
@@ -26,7 +27,8 @@ pub record Cored : Type 0 where
   pub turns : ℕ
 
 abbrev pub cored : Homed → Thief → PassList Blocked → Taking → control.Held → ℕ → Cored
-cored home thief passes outlet control turns = record { home = home; thief = thief; passes = passes; outlet = outlet; control = control; turns = turns }
+cored home thief passes outlet control turns =
+    record { home = home; thief = thief; passes = passes; outlet = outlet; control = control; turns = turns }
 
 -- ---- what each core keeps
 
@@ -55,7 +57,9 @@ pub record CoreKeeps (c : Cored) : Type 0 where
 
 -- ---- what stays
 
--- what no turn changes of a core: its number, of how many, the connections that are its own, its ring with that ring's label, the tables of its passes with what is in their hands, the end of its receive ring, and its control words
+-- what no turn changes of a core: its number, of how many, the connections that are its own, its ring with that
+-- ring's label, the tables of its passes with what is in their hands, the end of its receive ring, and its control
+-- words
 pub record Identity : Type 0 where
   pub core : ℕ
   pub cores : ℕ
@@ -86,6 +90,7 @@ identity_of c = record {
 pub record Fits (shared : Sharing) (i : Identity) : Type 0 where
   pub cores : length shared.rings ≡ i.cores
   pub ring : (r : Ringed) → slice_get shared.rings i.core ≡ Some r → i.table ≡ r.id
-  pub others : (at : ℕ) (s : SeatOf) (r : Ringed) → slice_get i.seats at ≡ Some s → slice_get shared.rings (other_core i.core at) ≡ Some r → s.table ≡ r.id
+  pub others : (at : ℕ) (s : SeatOf) (r : Ringed) → slice_get i.seats at ≡ Some s
+      → slice_get shared.rings (other_core i.core at) ≡ Some r → s.table ≡ r.id
   pub store : i.label ≡ name_of shared.store.id
   pub control : i.control ≡ shared.control.id

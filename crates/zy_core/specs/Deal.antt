@@ -12,10 +12,12 @@ module _ {X : Type 0} where
   AreEmpty [] = Unit {0}
   AreEmpty (group ∷ groups) = (group ≡ []) × AreEmpty groups
 
-  -- taking the first of the first group, again and again, with that group going to the end each time, gives these, and leaves none
+  -- taking the first of the first group, again and again, with that group going to the end each time, gives these,
+  -- and leaves none
   abbrev pub Deals : List (List X) → List X → Type 0
   Deals groups [] = AreEmpty groups
-  Deals groups (x ∷ xs) = (group : List X) × (others : List (List X)) × (groups ≡ (x ∷ group) ∷ others) × Deals (others ++ group ∷ []) xs
+  Deals groups (x ∷ xs) =
+      (group : List X) × (others : List (List X)) × (groups ≡ (x ∷ group) ∷ others) × Deals (others ++ group ∷ []) xs
 
   -- what is taken so in so many steps
   abbrev pub gathered : ℕ → List (List X) → List X

@@ -54,7 +54,8 @@ answer false own looks false = Idle own looks
 abbrev pub places_of : Cored → ℕ
 places_of c = c.home.pass.table.slots
 
--- nothing was received, collected, claimed or stolen. A look showed that the outlet knew no item; then the ring's collect took nothing; then the home's own claim, and one at every other core
+-- nothing was received, collected, claimed or stolen. A look showed that the outlet knew no item; then the ring's
+-- collect took nothing; then the home's own claim, and one at every other core
 pub record FindsNothing (before after : Cored) (own : Look) (looks : List (Option Look)) : Type 0 where
   pub taken : after.outlet.taken ≡ before.outlet.taken
   pub known : after.outlet.known ≡ []
@@ -73,7 +74,8 @@ HasCollected before = (first : Homed) × CollectsTo (places_of before) before.ho
 
 -- a block was claimed from the core's own queue
 abbrev pub HasClaimed : Cored → Cored → Type 0
-HasClaimed before after = (between : Homed) × CollectsTo (places_of before) before.home between false × ClaimsTo (places_of before) between after.home None
+HasClaimed before after = (between : Homed) × CollectsTo (places_of before) before.home between false
+    × ClaimsTo (places_of before) between after.home None
 
 -- a block was stolen
 abbrev pub HasStolen : Cored → Cored → Type 0
@@ -81,6 +83,8 @@ HasStolen before after = Steals before.passes after.passes
 
 -- what a turn came to
 abbrev pub TurnTo : Cored → Cored → Turn → Type 0
-TurnTo before after Worked = HasReceived before after ⊎ HasCollected before ⊎ HasClaimed before after ⊎ HasStolen before after
+TurnTo before after Worked =
+    HasReceived before after ⊎ HasCollected before ⊎ HasClaimed before after ⊎ HasStolen before after
 TurnTo before after (Idle own looks) = FindsNothing before after own looks × (is_settled after.home ≡ false)
-TurnTo before after (Settled looks) = ((own : Look) × FindsNothing before after own looks) × (is_settled after.home ≡ true)
+TurnTo before after (Settled looks) =
+    ((own : Look) × FindsNothing before after own looks) × (is_settled after.home ≡ true)

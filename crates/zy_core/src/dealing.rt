@@ -50,7 +50,8 @@ pub(crate) fn deal<T: Drop>(items: Vec<T>, groups: &mut Vec<Vec<T>>)
 fn put_before<T: Drop>(groups: &mut Vec<Vec<T>>, item: T)
     requires some { 0 < vec_len groups.old }
     requires room { HaveRoom 1 groups.old.items }
-    ensures dealt { (rest : List T) → Deals (lists_of groups.old.items) rest → Deals (lists_of groups.new.items) (item ∷ rest) }
+    ensures dealt { (rest : List T) → Deals (lists_of groups.old.items) rest
+        → Deals (lists_of groups.new.items) (item ∷ rest) }
     ensures room { (n : ℕ) → HaveRoom (n + 1) groups.old.items → HaveRoom n groups.new.items }
     ensures len { vec_len groups.new ≡ vec_len groups.old }
 {

@@ -120,7 +120,9 @@ impl Core {
     // Shows the outlet and the feeder's inlet what the other end did.
     pub(crate) fn meet<F: Feeder>(&mut self, feeder: &mut F)
         requires ring { slice_get (rings_of (F.inlets feeder.old)) self.old.home.core ≡ Some self.old.outlet.ring }
-        ensures core { self.new ≡ record self.old { outlet = record self.old.outlet { known = self.new.outlet.known } } }
+        ensures core { self.new ≡ record self.old {
+          outlet = record self.old.outlet { known = self.new.outlet.known };
+        } }
         ensures rings { rings_of (F.inlets feeder.new) ≡ rings_of (F.inlets feeder.old) }
         ensures ended { (F.ended feeder.new ↔ F.ended feeder.old) × (F.broken feeder.new ↔ F.broken feeder.old) }
         ensures leads { F.leads feeder.old feeder.new }

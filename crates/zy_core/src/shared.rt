@@ -74,7 +74,8 @@ impl Shared {
         requires table { root.old.table ≡ self.now.control.id }
         requires few { root.old.given < length self.now.rings }
         ensures succeeds { IsOk result }
-        ensures value { IfOk result (λ pass. pass ≡ held root.old.table (Core root.old.given false) root.old.cores untraced) }
+        ensures value { IfOk result (λ pass. pass ≡ held root.old.table
+            (Core root.old.given false) root.old.cores untraced) }
         ensures ok { root.new ≡ rooted root.old.table (root.old.given + 1) root.old.cores }
     {
         self.control.seat(root)

@@ -72,7 +72,8 @@ end_before core next = if nat_lt core next then End ∷ [] else []
 abbrev pub kept_for : ℕ → ℕ → Rx → List Rx
 kept_for cores core item = if home_in cores item == core then item ∷ [] else []
 
--- what a core was sent, by a feeder that has cut these records: the items that are for it, without the one that waits, and then the end where it was offered
+-- what a core was sent, by a feeder that has cut these records: the items that are for it, without the one that
+-- waits, and then the end where it was offered
 abbrev pub IsSent : ℕ → ℕ → Stage → List Rx → List Record → Type 0
 IsSent cores core (Waiting item) sent records = sent ++ kept_for cores core item ≡ items_for cores core records
 IsSent cores core (Ending next) sent records = sent ≡ items_for cores core records ++ end_before core next
@@ -81,29 +82,36 @@ IsSent cores core stage sent records = sent ≡ items_for cores core records
 
 -- each core was sent so
 abbrev pub AreSent : List (List Rx) → Stage → List Record → Type 0
-AreSent sents stage records = (core : ℕ) (sent : List Rx) → slice_get sents core ≡ Some sent → IsSent (length sents) core stage sent records
+AreSent sents stage records =
+    (core : ℕ) (sent : List Rx) → slice_get sents core ≡ Some sent → IsSent (length sents) core stage sent records
 
 -- it stopped, and this is the cause
-pub record HasStopped {S : Type 0} (rest : S → Option (List ℕ)) (faults : S → ℕ) (first now : S) (stop : Stop) : Type 0 where
+pub record HasStopped {S : Type 0} (rest : S → Option (List ℕ)) (faults : S → ℕ) (first now : S)
+    (stop : Stop) : Type 0 where
   pub cause : StopsBy rest faults first now stop
   pub count : faults first ≤ faults now
 
--- what it has read, by where it is: these records of these bytes, the whole capture from the end of its records on, or it stopped
-abbrev pub IsReadTo : {S : Type 0} → (S → Option (List ℕ)) → (S → ℕ) → S → S → InPieces → Stage → List Record → List ℕ → Type 0
+-- what it has read, by where it is: these records of these bytes, the whole capture from the end of its records on,
+-- or it stopped
+abbrev pub IsReadTo : {S : Type 0} → (S → Option (List ℕ)) → (S → ℕ) → S → S → InPieces → Stage → List Record → List ℕ
+    → Type 0
 IsReadTo rest faults first now intake Cutting records bytes = HasRead rest faults first now intake records bytes
 IsReadTo rest faults first now intake (Waiting item) records bytes = HasRead rest faults first now intake records bytes
-IsReadTo rest faults first now intake (Ending core) records bytes = HasReadAll rest faults first now intake records bytes
+IsReadTo rest faults first now intake (Ending core) records bytes =
+    HasReadAll rest faults first now intake records bytes
 IsReadTo rest faults first now intake Ended records bytes = HasReadAll rest faults first now intake records bytes
 IsReadTo rest faults first now intake (Broken stop) records bytes = HasStopped rest faults first now stop
 
 -- since its source was the first one it has cut these records of these bytes, and sent their items
-pub record Stands {S : Type 0} (rest : S → Option (List ℕ)) (faults : S → ℕ) (first : S) (f : Feeding S) (records : List Record) (bytes : List ℕ) : Type 0 where
+pub record Stands {S : Type 0} (rest : S → Option (List ℕ)) (faults : S → ℕ) (first : S) (f : Feeding S)
+    (records : List Record) (bytes : List ℕ) : Type 0 where
   pub read : IsReadTo rest faults first f.source f.intake f.stage records bytes
   pub sent : AreSent f.sents f.stage records
 
 -- the later one has cut further records of further bytes, whatever the earlier one stands for
 abbrev pub Leads : {S : Type 0} → (S → Option (List ℕ)) → (S → ℕ) → Feeding S → Feeding S → Type 0
-Leads {S} rest faults f g = (first : S) (records : List Record) (bytes : List ℕ) → Stands rest faults first f records bytes
+Leads {S} rest faults f g =
+    (first : S) (records : List Record) (bytes : List ℕ) → Stands rest faults first f records bytes
     → (more : List Record) × ((fed : List ℕ) × Stands rest faults first g (records ++ more) (bytes ++ fed))
 
 -- what a step's answer says of inlets and stage
@@ -121,8 +129,10 @@ pub record StepsTo (before after : List Offering) (stage : Stage) (fed : Fed) : 
 abbrev pub AreUnsent : List (List Rx) → Type 0
 AreUnsent sents = (core : ℕ) (sent : List Rx) → slice_get sents core ≡ Some sent → sent ≡ []
 
--- the source told a capture with this version and count and came to its end, and each core was sent the items of its records that are for it, and then the end
-pub record HasFedAll {S : Type 0} (rest : S → Option (List ℕ)) (faults : S → ℕ) (first now : S) (header : Header) (sents : List (List Rx)) : Type 0 where
+-- the source told a capture with this version and count and came to its end, and each core was sent the items of its
+-- records that are for it, and then the end
+pub record HasFedAll {S : Type 0} (rest : S → Option (List ℕ)) (faults : S → ℕ) (first now : S) (header : Header)
+    (sents : List (List Rx)) : Type 0 where
   pub records : List Record
   pub bytes : List ℕ
   pub good : verdict bytes ≡ Good header.version header.count records
@@ -132,4 +142,5 @@ pub record HasFedAll {S : Type 0} (rest : S → Option (List ℕ)) (faults : S �
   pub source : Consumes (rest first) (rest now) bytes
   pub end : IsAtEnd (rest now)
   pub count : faults first ≤ faults now
-  pub sent : (core : ℕ) (sent : List Rx) → slice_get sents core ≡ Some sent → sent ≡ offered_to (length sents) core records
+  pub sent : (core : ℕ) (sent : List Rx) → slice_get sents core ≡ Some sent
+      → sent ≡ offered_to (length sents) core records

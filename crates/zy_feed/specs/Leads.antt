@@ -9,8 +9,18 @@ pub leads_same : {S : Type 0} (rest : S → Option (List ℕ)) (faults : S → �
 leads_same rest faults f first records bytes stands = ([], ([], rw (append-nil records, append-nil bytes) stands))
 
 -- and what comes after a later one comes after an earlier one
-pub leads_on : {S : Type 0} (rest : S → Option (List ℕ)) (faults : S → ℕ) (f g h : Feeding S) → Leads rest faults f g → Leads rest faults g h → Leads rest faults f h
+pub leads_on : {S : Type 0} (rest : S → Option (List ℕ)) (faults : S → ℕ) (f g h : Feeding S) → Leads rest faults f g
+    → Leads rest faults g h → Leads rest faults f h
 leads_on rest faults f g h one two first records bytes stands =
     let mid = one first records bytes stands in
-    let end = two first (records ++ mid.0) (bytes ++ mid.1.0) mid.1.1 in
-    (mid.0 ++ end.0, (mid.1.0 ++ end.1.0, rw (← append_assoc records mid.0 end.0, ← append_assoc bytes mid.1.0 end.1.0) end.1.1))
+    let end = two first (records ++ mid.0) (bytes ++ mid.1.0) mid.1.1 in (
+      mid.0 ++ end.0,
+      (
+        mid.1.0 ++ end.1.0,
+        rw (
+          ← append_assoc records mid.0 end.0,
+          ← append_assoc bytes mid.1.0
+              end.1.0,
+        ) end.1.1,
+      ),
+    )

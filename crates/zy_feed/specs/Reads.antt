@@ -32,21 +32,25 @@ in_pieces reader left = record { reader = reader; left = left }
 abbrev pub IsFresh : InPieces → Type 0
 IsFresh intake = StandsFor intake.reader [] [] × (intake.left ≡ [])
 
--- these records were cut of these bytes, in which no fault was met; since a source was the first one it gave these bytes, and then what is left of the piece
-pub record HasRead {S : Type 0} (rest : S → Option (List ℕ)) (faults : S → ℕ) (first now : S) (intake : InPieces) (records : List Record) (bytes : List ℕ) : Type 0 where
+-- these records were cut of these bytes, in which no fault was met; since a source was the first one it gave these
+-- bytes, and then what is left of the piece
+pub record HasRead {S : Type 0} (rest : S → Option (List ℕ)) (faults : S → ℕ) (first now : S) (intake : InPieces)
+    (records : List Record) (bytes : List ℕ) : Type 0 where
   pub reader : StandsFor intake.reader records bytes
   pub clean : fault_of bytes ≡ None
   pub source : Consumes (rest first) (rest now) (bytes ++ intake.left)
   pub count : faults first ≤ faults now
 
 -- the bytes are a capture with these records, and the source is at its end
-pub record HasReadAll {S : Type 0} (rest : S → Option (List ℕ)) (faults : S → ℕ) (first now : S) (intake : InPieces) (records : List Record) (bytes : List ℕ) : Type 0 where
+pub record HasReadAll {S : Type 0} (rest : S → Option (List ℕ)) (faults : S → ℕ) (first now : S) (intake : InPieces)
+    (records : List Record) (bytes : List ℕ) : Type 0 where
   pub reads : HasRead rest faults first now intake records bytes
   pub good : EndsAs records (Ok tt) (verdict bytes)
   pub none : intake.left ≡ []
   pub end : IsAtEnd (rest now)
 
--- the cause of each stop: the fault is the verdict on all that the source told at first, or its count of faults rose, or stands at its last value; want of memory is free
+-- the cause of each stop: the fault is the verdict on all that the source told at first, or its count of faults rose,
+-- or stands at its last value; want of memory is free
 abbrev pub StopsBy : {S : Type 0} → (S → Option (List ℕ)) → (S → ℕ) → S → S → Stop → Type 0
 StopsBy rest faults first now (Refused fault) = IfSome (rest first) (λ text. verdict text ≡ Bad fault)
 StopsBy rest faults first now ReadFault = Rose (faults first) (faults now)
@@ -63,7 +67,8 @@ abbrev pub TellsNoHeader : List ℕ → Type 0
 TellsNoHeader bytes = (version_of bytes ≡ None) ⊎ (count_of bytes ≡ None)
 
 -- no record was cut yet, and version and count were told
-pub record HasBegun {S : Type 0} (rest : S → Option (List ℕ)) (faults : S → ℕ) (first now : S) (intake : InPieces) (header : Header) : Type 0 where
+pub record HasBegun {S : Type 0} (rest : S → Option (List ℕ)) (faults : S → ℕ) (first now : S) (intake : InPieces)
+    (header : Header) : Type 0 where
   pub bytes : List ℕ
   pub reads : HasRead rest faults first now intake [] bytes
   pub told : TellsHeader bytes header
@@ -71,9 +76,12 @@ pub record HasBegun {S : Type 0} (rest : S → Option (List ℕ)) (faults : S �
 -- ---- a record more
 
 -- a record was cut, or the capture came to its end, or it is read no further
-abbrev pub Cuts : {S : Type 0} → (S → Option (List ℕ)) → (S → ℕ) → S → S → InPieces → List Record → List ℕ → Result (Option Record) Stop → Type 0
-Cuts rest faults first now intake records bytes (Ok (Some record')) = (more : List ℕ) × HasRead rest faults first now intake (records ++ record' ∷ []) (bytes ++ more)
-Cuts rest faults first now intake records bytes (Ok None) = (more : List ℕ) × HasReadAll rest faults first now intake records (bytes ++ more)
+abbrev pub Cuts : {S : Type 0} → (S → Option (List ℕ)) → (S → ℕ) → S → S → InPieces → List Record → List ℕ
+    → Result (Option Record) Stop → Type 0
+Cuts rest faults first now intake records bytes (Ok (Some record')) =
+    (more : List ℕ) × HasRead rest faults first now intake (records ++ record' ∷ []) (bytes ++ more)
+Cuts rest faults first now intake records bytes (Ok None) =
+    (more : List ℕ) × HasReadAll rest faults first now intake records (bytes ++ more)
 Cuts rest faults first now intake records bytes (Err stop) = StopsBy rest faults first now stop
 
 -- ---- for the intake alone
@@ -85,7 +93,8 @@ pub record Gives (before after : Option (List ℕ)) (left now : List ℕ) : Type
   pub follows : now ≡ left ++ read
 
 -- the reader took some first bytes of what was left, at most so many, and this is its answer
-pub record TakesFirst (most : ℕ) (old new : InPieces) (answer : Result (Option Record) (NotTaken CaptureFault)) : Type 0 where
+pub record TakesFirst (most : ℕ) (old new : InPieces)
+    (answer : Result (Option Record) (NotTaken CaptureFault)) : Type 0 where
   pub fed : List ℕ
   pub left : old.left ≡ fed ++ new.left
   pub few : length fed ≤ most
@@ -107,9 +116,13 @@ ended_by (Ok done) = Ok Comes.End
 ended_by (Err fault) = Err (Refused fault)
 
 -- a record was cut, or some bytes ended none, or the capture came to its end, or it is read no further
-abbrev pub Advances : {S : Type 0} → (S → Option (List ℕ)) → (S → ℕ) → ℕ → S → S → InPieces → List Record → List ℕ → Result Came Stop → Type 0
+abbrev pub Advances : {S : Type 0} → (S → Option (List ℕ)) → (S → ℕ) → ℕ → S → S → InPieces → List Record → List ℕ
+    → Result Came Stop → Type 0
 Advances rest faults most first now intake records bytes (Ok (Comes.Record record')) =
-    (more : List ℕ) × ((length more ≤ most) × HasRead rest faults first now intake (records ++ record' ∷ []) (bytes ++ more))
-Advances rest faults most first now intake records bytes (Ok Comes.Nothing) = (more : List ℕ) × ((0 < length more) × HasRead rest faults first now intake records (bytes ++ more))
-Advances rest faults most first now intake records bytes (Ok Comes.End) = HasReadAll rest faults first now intake records bytes
+    (more : List ℕ) × ((length more ≤ most) × HasRead rest faults first now intake (records ++ record' ∷ [])
+    (bytes ++ more))
+Advances rest faults most first now intake records bytes (Ok Comes.Nothing) =
+    (more : List ℕ) × ((0 < length more) × HasRead rest faults first now intake records (bytes ++ more))
+Advances rest faults most first now intake records bytes (Ok Comes.End) =
+    HasReadAll rest faults first now intake records bytes
 Advances rest faults most first now intake records bytes (Err stop) = StopsBy rest faults first now stop

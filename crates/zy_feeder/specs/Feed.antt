@@ -28,4 +28,5 @@ pub record HasNoRoom (inlets : List Offering) : Type 0 where
 
 -- the items offered to this core are those that its outlet has taken, and then those that it knows
 abbrev pub HasMet : ℕ → List Offering → Taking → Type 0
-HasMet core inlets outlet = (inlet : Offering) → slice_get inlets core ≡ Some inlet → inlet.sent ≡ outlet.taken ++ outlet.known
+HasMet core inlets outlet =
+    (inlet : Offering) → slice_get inlets core ≡ Some inlet → inlet.sent ≡ outlet.taken ++ outlet.known

@@ -11,7 +11,8 @@ added sessions [] = sessions
 added sessions (part ∷ parts) = sessions ++ (part ∷ parts) ∷ []
 
 -- so many outputs of one connection were added, and these are left to add
-pub record HasAdded (before : List (List (List ℕ))) (all : List (List ℕ)) (count : ℕ) (left : List (List ℕ)) (sessions : List (List (List ℕ))) : Type 0 where
+pub record HasAdded (before : List (List (List ℕ))) (all : List (List ℕ)) (count : ℕ) (left : List (List ℕ))
+    (sessions : List (List (List ℕ))) : Type 0 where
   pub parts : List (List ℕ)
   pub whole : parts ++ left ≡ all
   pub count_is : length parts ≡ count

@@ -26,7 +26,8 @@ pub(crate) fn add_sessions(
     requires next { conn ≡ length outputs.old.sessions }
     requires few { conn < connection_limit }
     ensures version { outputs.new.version ≡ outputs.old.version }
-    ensures ok { OnOk result (outputs.new.sessions ≡ outputs.old.sessions ++ cut_at (session_ends outputs.old.version ends.now) output.texts ∷ []) }
+    ensures ok { OnOk result (outputs.new.sessions ≡ outputs.old.sessions
+        ++ cut_at (session_ends outputs.old.version ends.now) output.texts ∷ []) }
 {
     if outputs.version() == 1 || ends.is_empty() {
         return add(outputs, conn, output.into_bytes());

@@ -36,7 +36,10 @@ pub record DrawnCommand : Type 0 where
 -- a `set`: its flags, and the size of its block
 abbrev pub draw_set : Bool → Lcg → DrawnRequest
 draw_set quiet words =
-    record { request = Set (draw 65536 words).value (draw 256 (draw 65536 words).left).value quiet; left = (draw 256 (draw 65536 words).left).left }
+    record {
+      request = Set (draw 65536 words).value (draw 256 (draw 65536 words).left).value quiet;
+      left = (draw 256 (draw 65536 words).left).left;
+    }
 
 -- a request without further draws
 abbrev pub plain : Request → Lcg → DrawnRequest

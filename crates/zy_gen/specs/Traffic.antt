@@ -1,5 +1,5 @@
--- Generated traffic, docs/FORMATS.md, "Generator": the bytes of each command, the segments in which they come, and the whole
--- capture.
+-- Generated traffic, docs/FORMATS.md, "Generator": the bytes of each command, the segments in which they come, and
+-- the whole capture.
 use Rattle.std.specs.Prelude.{ℕ, zero, suc, ◌+◌, ◌*◌, ◌%◌, ◌≤◌, ◌^◌, ◌<◌, Bool, true, false, List, [], ◌∷◌, ◌++◌, length, take, drop, codes, decimal}
 use Rattle.std.specs.Int.{to_be_bytes, w32}
 use Rattle.rand_pcg.specs.Lcg.{Lcg}
@@ -39,7 +39,9 @@ unfoldable pub request_text : ℕ → ℕ → Request → List ℕ
 request_text connection item Get = codes "get " ++ (key connection item ++ codes "\r\n")
 request_text connection item GetMany = codes "get" ++ (keys connection item 50 ++ codes "\r\n")
 request_text connection item (Set flags size quiet) =
-    codes "set " ++ (key connection item ++ (codes " " ++ (decimal flags ++ (codes " 3600 " ++ (decimal size ++ (quiet_word quiet ++ (codes "\r\n" ++ (block item size ++ codes "\r\n"))))))))
+    codes "set " ++ (key connection item ++ (codes " "
+    ++ (decimal flags ++ (codes " 3600 " ++ (decimal size
+    ++ (quiet_word quiet ++ (codes "\r\n" ++ (block item size ++ codes "\r\n"))))))))
 request_text connection item SetTen = codes "set " ++ (key connection item ++ codes " 0 3600 2\r\n10\r\n")
 request_text connection item Incr = codes "incr " ++ (key connection item ++ codes " 7\r\n")
 request_text connection item Append = codes "append " ++ (key connection item ++ codes " 0 0 1\r\n9\r\n")
@@ -84,12 +86,14 @@ one_command connection words =
 -- one command of each of so many connections, from one on
 unfoldable pub one_round : ℕ → ℕ → Lcg → Made
 one_round connection zero words = record { items = []; left = words }
-one_round connection (suc count) words = behind (one_command connection words).items (one_round (connection + 1) count (one_command connection words).left)
+one_round connection (suc count) words = behind (one_command connection words).items
+    (one_round (connection + 1) count (one_command connection words).left)
 
 -- so many rounds
 unfoldable pub rounds : ℕ → ℕ → Lcg → Made
 rounds connections zero words = record { items = []; left = words }
-rounds connections (suc count) words = behind (one_round 0 connections words).items (rounds connections count (one_round 0 connections words).left)
+rounds connections (suc count) words =
+    behind (one_round 0 connections words).items (rounds connections count (one_round 0 connections words).left)
 
 -- ---- the capture
 

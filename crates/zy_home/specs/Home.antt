@@ -13,7 +13,9 @@ use Rattle.zy_home.specs.Own.{own_conns}
 
 -- ---- values
 
--- a home: its core, of how many, and the count of all connections; its pass; for each of its connections, by rising number, the block where it is in the home's hand, and what the home keeps beside it; whether the end was received; and whether memory was refused
+-- a home: its core, of how many, and the count of all connections; its pass; for each of its connections, by rising
+-- number, the block where it is in the home's hand, and what the home keeps beside it; whether the end was received;
+-- and whether memory was refused
 pub record Homed : Type 0 where
   pub core : ℕ
   pub cores : ℕ
@@ -50,7 +52,8 @@ pub record IsMade (core cores count : ℕ) (pass : Held Blocked) (blocks : List 
 
 -- ---- the rule
 
--- what is so of a connection's block: in the hand it is idle and has the mark that is due; away from it the pass keeps this mark for its place
+-- what is so of a connection's block: in the hand it is idle and has the mark that is due; away from it the pass
+-- keeps this mark for its place
 abbrev pub IsAt : Held Blocked → ℕ → Linked → Option Blocked → Type 0
 IsAt pass place link (Some block) = (mark_in block ≡ due_mark link) × IsIdle block.work link
 IsAt pass place link None =
@@ -74,7 +77,8 @@ pub record Keeps (h : Homed) : Type 0 where
   pub each : h.refused ≡ false → (p : ℕ) (x : Option Blocked) (l : Linked)
       → slice_get h.blocks p ≡ Some x → slice_get h.links p ≡ Some l → IsAt h.pass p l x
 
--- these items may be what the home received: each of its connections may have received the sessions that they have for it
+-- these items may be what the home received: each of its connections may have received the sessions that they have
+-- for it
 pub record HomeStands (h : Homed) (items : List Rx) : Type 0 where
   pub ended : (conn : ℕ) → (sessions_of conn items).ended ≡ h.ended
   pub links : (p : ℕ) (l : Linked) → slice_get h.links p ≡ Some l

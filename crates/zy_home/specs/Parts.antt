@@ -40,7 +40,8 @@ pub record IsNew (label : Name) (block : Blocked) : Type 0 where
 abbrev pub IsUnused : Sending → Type 0
 IsUnused inlet = inlet.sent ≡ []
 
--- the parts of the home of a core: new blocks of its connections below the count, in rising order, with the ring's label; their unused inlets, in the same order; and a ring with a place for each, all in the hand of the pass
+-- the parts of the home of a core: new blocks of its connections below the count, in rising order, with the ring's
+-- label; their unused inlets, in the same order; and a ring with a place for each, all in the hand of the pass
 pub record AreParts (core cores count : ℕ) (parts : HomeParts) : Type 0 where
   pub conns : conns_of_blocks parts.blocks ≡ own_conns core cores count
   pub new : AllByRecursion (IsNew parts.pass.label) parts.blocks

@@ -16,7 +16,8 @@ use Rattle.zy_table.specs.declared.name.Name.{Name}
 
 -- ---- what is handed out
 
--- what is handed out of a connection that received these sessions: its block, which has the label, and its output with the ends of its sessions; the block's work is kept, and so the connection is finished
+-- what is handed out of a connection that received these sessions: its block, which has the label, and its output
+-- with the ends of its sessions; the block's work is kept, and so the connection is finished
 pub record IsFinished (label : Name) (received : ℕ → Sessions) (block : Blocked) (end : Ended) : Type 0 where
   pub conn : block.work.conn ≡ end.output.conn
   pub labelled : HasLabel label block

@@ -43,7 +43,8 @@ pub record IsPlace (pass : Held Blocked) (place : ℕ) (link : Linked) (slot : O
   pub here : (block : Blocked) → slot ≡ Some block → IsHere pass place block
   pub at : IsAt pass place link slot
 
--- an item was taken in where the block is in its slot: it was settled; and where it is away: nothing was published, what waits was offered, and the same mark is due
+-- an item was taken in where the block is in its slot: it was settled; and where it is away: nothing was published,
+-- what waits was offered, and the same mark is due
 abbrev pub IsFed : ℕ → Linked → Linked → Held Blocked → Held Blocked → Option Blocked → Option Blocked → Type 0
 IsFed place link link' pass pass' (Some block) slot' = IsSettled place link' pass pass' slot'
 IsFed place link link' pass pass' None slot' =
@@ -75,7 +76,8 @@ turned h place slot link pass refused = record h {
 }
 
 -- the step is one that a home may make
-pub record Turns (h : Homed) (place : ℕ) (slot' : Option Blocked) (link link' : Linked) (pass' : Held Blocked) (refused' : Bool) : Type 0 where
+pub record Turns (h : Homed) (place : ℕ) (slot' : Option Blocked) (link link' : Linked) (pass' : Held Blocked)
+    (refused' : Bool) : Type 0 where
   pub there : slice_get h.links place ≡ Some link
   pub conn : conn_of link' ≡ conn_of link
   pub pass : PassTurns place h.pass pass'

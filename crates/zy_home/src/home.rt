@@ -36,7 +36,16 @@ impl Model for Home {
 
     ghost Value = { Homed };
 
-    ghost view = { λ h. record { core = h.core; cores = h.cores; count = h.count; pass = h.pass; blocks = h.blocks.items; links = h.links.items; ended = h.ended; refused = h.refused } };
+    ghost view = { λ h. record {
+      core = h.core;
+      cores = h.cores;
+      count = h.count;
+      pass = h.pass;
+      blocks = h.blocks.items;
+      links = h.links.items;
+      ended = h.ended;
+      refused = h.refused;
+    } };
 
     ghost invariant = { λ h. Keeps (record {
       core = h.core;

@@ -38,7 +38,8 @@ call_text (Add key flags value) = 3 ∷ item_text key flags value
 call_text (Replace key flags value) = 4 ∷ item_text key flags value
 call_text (Append key value) = 5 ∷ (key_text key ++ value_text value)
 call_text (Prepend key value) = 6 ∷ (key_text key ++ value_text value)
-call_text (Cas key flags unique value) = 7 ∷ (key_text key ++ (to_be_bytes w32 flags ++ (to_be_bytes w64 unique ++ value_text value)))
+call_text (Cas key flags unique value) =
+    7 ∷ (key_text key ++ (to_be_bytes w32 flags ++ (to_be_bytes w64 unique ++ value_text value)))
 call_text (Incr key amount) = 8 ∷ (key_text key ++ to_be_bytes w64 amount)
 call_text (Decr key amount) = 9 ∷ (key_text key ++ to_be_bytes w64 amount)
 call_text (Delete key) = 10 ∷ key_text key
@@ -61,7 +62,8 @@ reply_text Flushed = 11 ∷ []
 -- the tag of an entry, when and where it was, and whose call it is
 unfoldable pub entry_head : Entry → List ℕ
 entry_head e =
-    74 ∷ (to_be_bytes w64 e.stamp ++ (to_be_bytes w32 e.shard ++ (to_be_bytes w32 e.tag.conn ++ (to_be_bytes w64 e.tag.index ++ to_be_bytes w32 e.tag.part))))
+    74 ∷ (to_be_bytes w64 e.stamp ++ (to_be_bytes w32 e.shard
+    ++ (to_be_bytes w32 e.tag.conn ++ (to_be_bytes w64 e.tag.index ++ to_be_bytes w32 e.tag.part))))
 
 -- an entry
 unfoldable pub entry_text : Entry → List ℕ

@@ -1,5 +1,5 @@
--- When the entries of several histories have their turn in the merged list: by stamp, and where stamps are equal by shard.
--- No public clause cites this module.
+-- When the entries of several histories have their turn in the merged list: by stamp, and where stamps are equal by
+-- shard. No public clause cites this module.
 use Rattle.std.specs.Prelude.{◌≡◌, ℕ, ◌+◌, ◌<◌, ◌≤◌, ◌==◌, ◌&&◌, ◌||◌, nat_lt, get_or, Bool, true, false, List, [], ◌∷◌, ◌++◌, length, take, drop, filter, map, Option, None, Some}
 use Rattle.zy_base.specs.declared.entry.Entry.{Entry}
 use Rattle.zy_base.specs.Order.{at_shard, history_of}
@@ -74,7 +74,8 @@ pub record AreJoined (xs ys : List Turn) (i j : ℕ) (ts : List Turn) : Type 0 w
 -- ---- moving the entries
 
 -- so many first turns were taken: these entries came out of the histories, and this is left of each
-pub record AreMoved (histories : List (List Entry)) (ts : List Turn) (taken : ℕ) (rests : List (List Entry)) (es : List Entry) : Type 0 where
+pub record AreMoved (histories : List (List Entry)) (ts : List Turn) (taken : ℕ) (rests : List (List Entry))
+    (es : List Entry) : Type 0 where
   pub count : length rests ≡ length histories
   pub turns : turns_of es ≡ take taken ts
   pub parts : (shard : ℕ) → at_shard shard es ++ history_of rests shard ≡ history_of histories shard

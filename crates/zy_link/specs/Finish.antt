@@ -13,7 +13,9 @@ use Rattle.zy_link.specs.Link.{ends_from, streams_in}
 abbrev pub commands_in : Sessions → List Command
 commands_in s = flat_map commands_of (streams_in s)
 
--- the end of a connection that received these sessions, with its calls on so many shards, its output, and the ends of its sessions: each call due was made, in order; the output has the texts of all commands, each with the replies of its own calls; all commands are finished; and each closed session ends behind its commands
+-- the end of a connection that received these sessions, with its calls on so many shards, its output, and the ends of
+-- its sessions: each call due was made, in order; the output has the texts of all commands, each with the replies of
+-- its own calls; all commands are finished; and each closed session ends behind its commands
 pub record ConnEnd (shards : ℕ) (calls : List Entry) (s : Sessions) (output : Sent) (ends : List ℕ) : Type 0 where
   pub dues : dues_of calls ≡ due shards output.conn (commands_in s)
   pub texts : output.texts ≡ texts_of (commands_in s) calls

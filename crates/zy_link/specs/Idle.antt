@@ -8,11 +8,13 @@ use Rattle.zy_link.specs.Link.{Linked, conn_of}
 abbrev pub mark_in : Blocked → Mark
 mark_in block = mark_of block.work
 
--- the mark that the block of a connection has: the connection, its event ring, and the texts of its output as those ever taken from the block
+-- the mark that the block of a connection has: the connection, its event ring, and the texts of its output as those
+-- ever taken from the block
 abbrev pub due_mark : Linked → Mark
 due_mark l = (conn_of l, (l.inlet.ring, l.output.texts))
 
--- the block has no event, no begun command and no pending text, it has taken all that was offered, and no frame waits for it; the output has its number of finished commands
+-- the block has no event, no begun command and no pending text, it has taken all that was offered, and no frame waits
+-- for it; the output has its number of finished commands
 pub record IsIdle (work : Worked) (l : Linked) : Type 0 where
   pub begun : work.begun ≡ idle
   pub known : work.known ≡ []

@@ -11,7 +11,8 @@ use Rattle.zy_conn.specs.Ring.{Sending}
 
 -- ---- values
 
--- the end of its event ring that frames are offered to, what its framer is in the middle of, the frames that wait, the ends of its closed sessions, how many frames were cut, and its output
+-- the end of its event ring that frames are offered to, what its framer is in the middle of, the frames that wait,
+-- the ends of its closed sessions, how many frames were cut, and its output
 pub record Linked : Type 0 where
   pub inlet : Sending
   pub framer : Progress
@@ -40,7 +41,8 @@ ends_from before [] = []
 ends_from before (stream ∷ streams) =
     (before + length (frames_of stream)) ∷ ends_from (before + length (frames_of stream)) streams
 
--- the connection may have received these sessions: its framer stands for the open one, the frames offered and then those that wait are those of all sessions, and each closed session ends behind the frames cut up to then
+-- the connection may have received these sessions: its framer stands for the open one, the frames offered and then
+-- those that wait are those of all sessions, and each closed session ends behind the frames cut up to then
 pub record LinkStands (l : Linked) (s : Sessions) : Type 0 where
   pub framer : StandsFor l.framer s.current
   pub frames : l.inlet.sent ++ l.waiting ≡ frames_in s

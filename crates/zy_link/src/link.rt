@@ -36,7 +36,14 @@ impl Model for Link {
 
     ghost Value = { Linked };
 
-    ghost view = { λ l. record { inlet = l.inlet; framer = l.framer; waiting = option_to_list l.front ++ l.waiting; ends = l.ends.items; cut = l.cut; output = l.output } };
+    ghost view = { λ l. record {
+      inlet = l.inlet;
+      framer = l.framer;
+      waiting = option_to_list l.front ++ l.waiting;
+      ends = l.ends.items;
+      cut = l.cut;
+      output = l.output;
+    } };
 }
 
 impl Link {
@@ -81,7 +88,8 @@ impl Link {
 impl Link {
     // Cuts the next bytes of the session.
     fn segment(&mut self, bytes: &[u8]) -> Result<(), NoMemory>
-        ensures stands { OnOk result ((s : Sessions) → LinkStands self.old s → LinkStands self.new (with_bytes bytes.now s)) }
+        ensures stands { OnOk result ((s : Sessions) → LinkStands self.old s
+            → LinkStands self.new (with_bytes bytes.now s)) }
         ensures kept { (self.new.inlet ≡ self.old.inlet) × (self.new.output ≡ self.old.output) }
     {
         let before = self.waiting.len();
@@ -177,7 +185,8 @@ fn next_waiting(front: &mut Option<Frame>, waiting: &mut Frames) -> Option<Frame
 // Offers frames until one is handed back or none is left.
 fn offer_all(inlet: &mut EventInlet, front: &mut Option<Frame>, waiting: &mut Frames)
     ensures ring { inlet.new.ring ≡ inlet.old.ring }
-    ensures offers { Offers inlet.old (option_to_list front.old ++ waiting.old) inlet.new (option_to_list front.new ++ waiting.new) }
+    ensures offers { Offers inlet.old (option_to_list front.old ++ waiting.old) inlet.new (option_to_list front.new
+        ++ waiting.new) }
     ensures filled { IsFilled inlet.old inlet.new (option_to_list front.new ++ waiting.new) }
     ensures full { option_to_list front.new ++ waiting.new ≢ [] → inlet.new.free ≡ 0 }
 {

@@ -31,7 +31,8 @@ pub record Adds (shared : Sharing) (home : Homed) (m m' : Making) : Type 0 where
   pub fresh : IsFresh inlet
 
 -- cores were made of all homes but these
-pub record HasMade (shared : Sharing) (homes : List Homed) (m : Making) (left : List Homed) (passes : List (PassList Blocked)) : Type 0 where
+pub record HasMade (shared : Sharing) (homes : List Homed) (m : Making) (left : List Homed)
+    (passes : List (PassList Blocked)) : Type 0 where
   pub count : length m.inlets.items + length left ≡ length shared.rings
   pub passes_are : length passes ≡ length left
   pub root : m.root ≡ rooted shared.control.id (length m.inlets.items) (length shared.rings)
@@ -40,8 +41,10 @@ pub record HasMade (shared : Sharing) (homes : List Homed) (m : Making) (left : 
   pub numbers : (i : ℕ) (c : Cored) → slice_get m.cores i ≡ Some c → c.home.core ≡ i
   pub each : (i : ℕ) (c : Cored) → slice_get m.cores i ≡ Some c → Fits shared (identity_of c)
   pub fresh : AreFresh m.inlets.items
-  pub each_home : (i core : ℕ) (h : Homed) → slice_get left i ≡ Some h → core ≡ length m.inlets.items + i → IsNewHome shared.rings (name_of shared.store.id) core h
-  pub each_passes : (i core : ℕ) (p : PassList Blocked) → slice_get passes i ≡ Some p → core ≡ length m.inlets.items + i → AreNewPasses shared.rings (name_of shared.store.id) core p
+  pub each_home : (i core : ℕ) (h : Homed) → slice_get left i ≡ Some h → core ≡ length m.inlets.items + i
+      → IsNewHome shared.rings (name_of shared.store.id) core h
+  pub each_passes : (i core : ℕ) (p : PassList Blocked) → slice_get passes i ≡ Some p
+      → core ≡ length m.inlets.items + i → AreNewPasses shared.rings (name_of shared.store.id) core p
 
 -- cores were made of all homes
 pub record HasMadeAll (shared : Sharing) (homes : List Homed) (m : Making) : Type 0 where
@@ -55,7 +58,8 @@ pub record HasMadeAll (shared : Sharing) (homes : List Homed) (m : Making) : Typ
 
 -- ---- taking apart
 
--- what a core kept, and what the two ends of its receive ring have shown: what was sent was taken, or is known and was not taken
+-- what a core kept, and what the two ends of its receive ring have shown: what was sent was taken, or is known and
+-- was not taken
 pub record HasShown (inlet : Offering) (c : Cored) : Type 0 where
   pub keeps : CoreKeeps c
   pub known : List Rx

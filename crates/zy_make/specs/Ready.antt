@@ -26,13 +26,15 @@ pub record AreNewPasses (rings : List Ringed) (label : Name) (core : ℕ) (p : P
   pub idle : AreIdle label (seats_of p.items)
 
 -- the parts of the cores of a run: 1 to 64 rings, and for each, by rising number, a home and passes on the others
-pub record AreReady (rings : List Ringed) (store : Stored) (homes : List Homed) (passes : List (PassList Blocked)) : Type 0 where
+pub record AreReady (rings : List Ringed) (store : Stored) (homes : List Homed)
+    (passes : List (PassList Blocked)) : Type 0 where
   pub some : 1 ≤ length rings
   pub few : length rings ≤ 64
   pub homes_are : length homes ≡ length rings
   pub passes_are : length passes ≡ length rings
   pub each_home : (core : ℕ) (h : Homed) → slice_get homes core ≡ Some h → IsNewHome rings (name_of store.id) core h
-  pub each_passes : (core : ℕ) (p : PassList Blocked) → slice_get passes core ≡ Some p → AreNewPasses rings (name_of store.id) core p
+  pub each_passes : (core : ℕ) (p : PassList Blocked) → slice_get passes core ≡ Some p
+      → AreNewPasses rings (name_of store.id) core p
 
 -- nothing was offered to a receive ring of 256 slots, and all of them are free
 abbrev pub IsFresh : Offering → Type 0

@@ -16,8 +16,10 @@ AreSettled homes = (core : ℕ) (h : Homed) → slice_get homes core ≡ Some h 
 
 -- each core was sent just what it is offered of these records
 abbrev pub AllSent : List (List Rx) → List Record → Type 0
-AllSent sents records = (core : ℕ) (sent : List Rx) → slice_get sents core ≡ Some sent → sent ≡ offered_to (length sents) core records
+AllSent sents records =
+    (core : ℕ) (sent : List Rx) → slice_get sents core ≡ Some sent → sent ≡ offered_to (length sents) core records
 
 -- each home may have received just what its core is offered of these records
 abbrev pub HaveReceived : List Homed → List Record → Type 0
-HaveReceived homes records = (core : ℕ) (h : Homed) → slice_get homes core ≡ Some h → HomeStands h (offered_to h.cores h.core records)
+HaveReceived homes records =
+    (core : ℕ) (h : Homed) → slice_get homes core ≡ Some h → HomeStands h (offered_to h.cores h.core records)

@@ -14,7 +14,8 @@ pub record Station : Type 0 where
   pub label : Name
 
 abbrev pub station : ℕ → ℕ → ℕ → List ℕ → Name → Station
-station core cores count conns label = record { core = core; cores = cores; count = count; conns = conns; label = label }
+station core cores count conns label =
+    record { core = core; cores = cores; count = count; conns = conns; label = label }
 
 -- that of a home
 abbrev pub station_of : Homed → Station

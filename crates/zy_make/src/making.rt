@@ -130,7 +130,8 @@ impl Making {
         requires next { length self.old.inlets.items < count }
         requires root { self.old.root ≡ rooted shared.now.control.id (length self.old.inlets.items) count }
         requires home { IsNewHome shared.now.rings (name_of shared.now.store.id) (length self.old.inlets.items) home }
-        requires passes { AreNewPasses shared.now.rings (name_of shared.now.store.id) (length self.old.inlets.items) passes }
+        requires passes { AreNewPasses shared.now.rings (name_of shared.now.store.id)
+            (length self.old.inlets.items) passes }
         ensures ok { OnOk result (Adds shared.now home self.old self.new) }
     {
         let number = self.inlets.len() as u32;

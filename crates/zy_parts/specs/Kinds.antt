@@ -90,7 +90,8 @@ never verdict = false
 
 -- the text is a replies file with these outputs
 abbrev pub HasOutputs : AllOutputs → List ℕ → Type 0
-HasOutputs outputs text = (Replies.verdict text ≡ Replies.Verdict.Good outputs.version (items_of outputs)) × AreOutputs outputs
+HasOutputs outputs text =
+    (Replies.verdict text ≡ Replies.Verdict.Good outputs.version (items_of outputs)) × AreOutputs outputs
 
 -- the text has this fault as a replies file
 abbrev pub IsFaultyReplies : List ℕ → Refusal → Type 0

@@ -1,5 +1,5 @@
--- The input of the command check: a capture, a journal and a replies file, one behind the other. Each part ends where it
--- ends by itself, and the first fault of the input counts.
+-- The input of the command check: a capture, a journal and a replies file, one behind the other. Each part ends where
+-- it ends by itself, and the first fault of the input counts.
 use Rattle.std.specs.Prelude.{◌≡◌, ℕ, true, List, ◌++◌, Option, Result, Ok, Err, IfSome, ⊤}
 use Rattle.std.specs.Io.KnownBytes.{Consumes, IsAtEnd}
 use Rattle.zy_base.specs.declared.file_fault.FileFault.{FileFault}
@@ -38,7 +38,8 @@ pub record HasStreams (text : List ℕ) (streams : List (List (List ℕ))) : Typ
   pub joined : streams ≡ with_records (no_bytes count) records
 
 -- the text is a capture with these streams, then this journal, and then a replies file with these outputs
-pub record AreParts (text : List ℕ) (streams : List (List (List ℕ))) (journal : Journal) (outputs : AllOutputs) : Type 0 where
+pub record AreParts (text : List ℕ) (streams : List (List (List ℕ))) (journal : Journal)
+    (outputs : AllOutputs) : Type 0 where
   pub capture_text : List ℕ
   pub journal_text : List ℕ
   pub replies_text : List ℕ
@@ -93,15 +94,18 @@ HasPartFault text (OfReplies fault) = HasRepliesFault text fault
 abbrev pub ReadsAll : Option (List ℕ) → Option (List ℕ) → List ℕ → Type 0
 ReadsAll before after bytes = Consumes before after bytes × IsAtEnd after
 
--- the parts are those of all that the source gave; or its text has this fault, or its count of faults rose, or stands at its last value; want of memory is free
+-- the parts are those of all that the source gave; or its text has this fault, or its count of faults rose, or stands
+-- at its last value; want of memory is free
 abbrev pub HasReadParts : {S : Type 0} → (S → Option (List ℕ)) → (S → ℕ) → S → S → Result Parts Stop → Type 0
 HasReadParts rest faults first now (Ok parts) =
-    (text : List ℕ) × ReadsAll (rest first) (rest now) text × AreParts text parts.streams parts.journal parts.outputs × AreOutputs parts.outputs
+    (text : List ℕ) × ReadsAll (rest first) (rest now) text × AreParts text parts.streams parts.journal parts.outputs
+    × AreOutputs parts.outputs
 HasReadParts rest faults first now (Err (Refused refusal)) = IfSome (rest first) (λ text. HasPartFault text refusal)
 HasReadParts rest faults first now (Err ReadFault) = Rose (faults first) (faults now)
 HasReadParts rest faults first now (Err NoMemory) = ⊤
 
--- the source gave a capture with these streams, and may have given some bytes behind it; where all that it told is a capture, it is this one
+-- the source gave a capture with these streams, and may have given some bytes behind it; where all that it told is a
+-- capture, it is this one
 pub record HasGivenStreams (before after : Option (List ℕ)) (streams : List (List (List ℕ))) : Type 0 where
   pub text : List ℕ
   pub behind : List ℕ
@@ -109,10 +113,13 @@ pub record HasGivenStreams (before after : Option (List ℕ)) (streams : List (L
   pub are : HasStreams text streams
   pub all : IfSome before (λ told. IsCapture told → told ≡ text)
 
--- the streams are those of the capture that the source gave; or it has this fault, or the source's count of faults rose, or stands at its last value; want of memory is free
-abbrev pub HasReadStreams : {S : Type 0} → (S → Option (List ℕ)) → (S → ℕ) → S → S → Result (List (List (List ℕ))) Stop → Type 0
+-- the streams are those of the capture that the source gave; or it has this fault, or the source's count of faults
+-- rose, or stands at its last value; want of memory is free
+abbrev pub HasReadStreams : {S : Type 0} → (S → Option (List ℕ)) → (S → ℕ) → S → S
+    → Result (List (List (List ℕ))) Stop → Type 0
 HasReadStreams rest faults first now (Ok streams) = HasGivenStreams (rest first) (rest now) streams
-HasReadStreams rest faults first now (Err (Refused (Capture fault))) = IfSome (rest first) (λ text. HasCaptureFault text fault)
+HasReadStreams rest faults first now (Err (Refused (Capture fault))) =
+    IfSome (rest first) (λ text. HasCaptureFault text fault)
 HasReadStreams rest faults first now (Err (Refused other)) = ⊥
 HasReadStreams rest faults first now (Err ReadFault) = Rose (faults first) (faults now)
 HasReadStreams rest faults first now (Err NoMemory) = ⊤

@@ -11,7 +11,8 @@ use Rattle.zy_parts.specs.declared.stop.Stop.TheVariants.{Refused, ReadFault, No
 -- ---- a source in pieces
 
 -- since a source was the first one it gave these bytes, and then what is left of the piece
-pub record HasGiven {S : Type 0} (rest : S → Option (List ℕ)) (faults : S → ℕ) (first now : S) (left taken : List ℕ) : Type 0 where
+pub record HasGiven {S : Type 0} (rest : S → Option (List ℕ)) (faults : S → ℕ) (first now : S)
+    (left taken : List ℕ) : Type 0 where
   pub source : Consumes (rest first) (rest now) (taken ++ left)
   pub count : faults first ≤ faults now
 
@@ -20,15 +21,18 @@ abbrev pub IsOver : Option (List ℕ) → List ℕ → Type 0
 IsOver rest left = (left ≡ []) × IsAtEnd rest
 
 -- there are bytes, or none are left, or the count of faults rose, or stands at its last value
-abbrev pub Refills : {S : Type 0} → (S → Option (List ℕ)) → (S → ℕ) → S → S → List ℕ → List ℕ → Result Bool Failed → Type 0
+abbrev pub Refills : {S : Type 0} → (S → Option (List ℕ)) → (S → ℕ) → S → S → List ℕ → List ℕ → Result Bool Failed
+    → Type 0
 Refills rest faults first now left taken (Ok true) = HasGiven rest faults first now left taken
 Refills rest faults first now left taken (Ok false) = HasGiven rest faults first now left taken × IsOver (rest now) left
 Refills rest faults first now left taken (Err failed) = Rose (faults first) (faults now)
 
 -- one byte more was taken, or none are left, or the count of faults rose, or stands at its last value
-abbrev pub TakesNext : {S : Type 0} → (S → Option (List ℕ)) → (S → ℕ) → S → S → List ℕ → List ℕ → Result (Option ℕ) Failed → Type 0
+abbrev pub TakesNext : {S : Type 0} → (S → Option (List ℕ)) → (S → ℕ) → S → S → List ℕ → List ℕ
+    → Result (Option ℕ) Failed → Type 0
 TakesNext rest faults first now left taken (Ok (Some byte)) = HasGiven rest faults first now left (taken ++ byte ∷ [])
-TakesNext rest faults first now left taken (Ok None) = HasGiven rest faults first now left taken × IsOver (rest now) left
+TakesNext rest faults first now left taken (Ok None) =
+    HasGiven rest faults first now left taken × IsOver (rest now) left
 TakesNext rest faults first now left taken (Err failed) = Rose (faults first) (faults now)
 
 -- ---- a part
@@ -46,7 +50,8 @@ pub record Kind (P T : Type 0) : Type 1 where
   -- the text has this fault, and doesn't begin with a whole part
   pub faulty : List ℕ → Refusal → Type 0
 
--- where a byte that is taken leads: the part goes on or is whole, or has a fault whatever follows; want of memory is free
+-- where a byte that is taken leads: the part goes on or is whole, or has a fault whatever follows; want of memory is
+-- free
 abbrev pub Takes : {P T : Type 0} → Kind P T → P → List ℕ → Result Bool Stop → Type 0
 Takes kind now bytes (Ok false) = kind.stands now bytes × kind.goes_on bytes
 Takes kind now bytes (Ok true) = kind.stands now bytes × kind.whole bytes
@@ -76,7 +81,8 @@ pub record HasFaultBehind {P T : Type 0} (kind : Kind P T) (before text : List �
   pub whole : text ≡ before ++ rest
   pub faulty : kind.faulty rest refusal
 
--- the cause of each stop in a part: the fault is one that a part of this kind may have, and that of what the source told
+-- the cause of each stop in a part: the fault is one that a part of this kind may have, and that of what the source
+-- told
 abbrev pub StopsBy : {P T S : Type 0} → Kind P T → (S → Option (List ℕ)) → (S → ℕ) → S → S → List ℕ → Stop → Type 0
 StopsBy kind rest faults first now before (Refused refusal) =
     ((text : List ℕ) × kind.faulty text refusal) × IfSome (rest first) (λ text. HasFaultBehind kind before text refusal)
@@ -84,38 +90,46 @@ StopsBy kind rest faults first now before ReadFault = Rose (faults first) (fault
 StopsBy kind rest faults first now before NoMemory = ⊤
 
 -- the reader stands for these bytes of the part, which goes on
-pub record IsReading {P T S : Type 0} (kind : Kind P T) (rest : S → Option (List ℕ)) (faults : S → ℕ) (first now : S) (left before bytes : List ℕ) (reader : P) : Type 0 where
+pub record IsReading {P T S : Type 0} (kind : Kind P T) (rest : S → Option (List ℕ)) (faults : S → ℕ) (first now : S)
+    (left before bytes : List ℕ) (reader : P) : Type 0 where
   pub given : HasGiven rest faults first now left (before ++ bytes)
   pub stands : kind.stands reader bytes
   pub goes_on : kind.goes_on bytes
 
 -- the reader stands for all bytes of the part, or of the source
-pub record HasStopped {P T S : Type 0} (kind : Kind P T) (rest : S → Option (List ℕ)) (faults : S → ℕ) (first now : S) (left before : List ℕ) (reader : P) : Type 0 where
+pub record HasStopped {P T S : Type 0} (kind : Kind P T) (rest : S → Option (List ℕ)) (faults : S → ℕ) (first now : S)
+    (left before : List ℕ) (reader : P) : Type 0 where
   pub bytes : List ℕ
   pub given : HasGiven rest faults first now left (before ++ bytes)
   pub stands : kind.stands reader bytes
   pub end : kind.whole bytes ⊎ (kind.goes_on bytes × IsOver (rest now) left)
 
 -- the part goes on after one byte more, or is read no further
-abbrev pub Advances : {P T S : Type 0} → Kind P T → (S → Option (List ℕ)) → (S → ℕ) → S → S → List ℕ → List ℕ → List ℕ → P → Result Bool Stop → Type 0
-Advances kind rest faults first now left before bytes reader (Ok false) = (byte : ℕ) × IsReading kind rest faults first now left before (bytes ++ byte ∷ []) reader
-Advances kind rest faults first now left before bytes reader (Ok true) = HasStopped kind rest faults first now left before reader
+abbrev pub Advances : {P T S : Type 0} → Kind P T → (S → Option (List ℕ)) → (S → ℕ) → S → S → List ℕ → List ℕ → List ℕ
+    → P → Result Bool Stop → Type 0
+Advances kind rest faults first now left before bytes reader (Ok false) =
+    (byte : ℕ) × IsReading kind rest faults first now left before (bytes ++ byte ∷ []) reader
+Advances kind rest faults first now left before bytes reader (Ok true) =
+    HasStopped kind rest faults first now left before reader
 Advances kind rest faults first now left before bytes reader (Err stop) = StopsBy kind rest faults first now before stop
 
 -- the reader was fed the whole part, or all that is left of the source
-abbrev pub Feeds : {P T S : Type 0} → Kind P T → (S → Option (List ℕ)) → (S → ℕ) → S → S → List ℕ → List ℕ → P → Result ⊤ Stop → Type 0
+abbrev pub Feeds : {P T S : Type 0} → Kind P T → (S → Option (List ℕ)) → (S → ℕ) → S → S → List ℕ → List ℕ → P
+    → Result ⊤ Stop → Type 0
 Feeds kind rest faults first now left before reader (Ok done) = HasStopped kind rest faults first now left before reader
 Feeds kind rest faults first now left before reader (Err stop) = StopsBy kind rest faults first now before stop
 
 -- the source gave a part behind what it gave before: one that is whole, or all that is left of it
-pub record HasRead {P T S : Type 0} (kind : Kind P T) (rest : S → Option (List ℕ)) (faults : S → ℕ) (first now : S) (left before : List ℕ) (gave : T) : Type 0 where
+pub record HasRead {P T S : Type 0} (kind : Kind P T) (rest : S → Option (List ℕ)) (faults : S → ℕ) (first now : S)
+    (left before : List ℕ) (gave : T) : Type 0 where
   pub bytes : List ℕ
   pub given : HasGiven rest faults first now left (before ++ bytes)
   pub gives : kind.gives gave bytes
   pub end : kind.whole bytes ⊎ IsOver (rest now) left
 
 -- a part was read, or it is read no further
-abbrev pub Reads : {P T S : Type 0} → Kind P T → (S → Option (List ℕ)) → (S → ℕ) → S → S → List ℕ → List ℕ → Result T Stop → Type 0
+abbrev pub Reads : {P T S : Type 0} → Kind P T → (S → Option (List ℕ)) → (S → ℕ) → S → S → List ℕ → List ℕ
+    → Result T Stop → Type 0
 Reads kind rest faults first now left before (Ok gave) = HasRead kind rest faults first now left before gave
 Reads kind rest faults first now left before (Err stop) = StopsBy kind rest faults first now before stop
 

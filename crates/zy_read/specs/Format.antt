@@ -8,8 +8,8 @@ pub record Step (P G : Type 0) : Type 0 where
   pub next : P
   pub gave : Option G
 
--- a format: where a text begins, what a byte does, the fault that was met up to some place, the verdict on a text that ends
--- there and gave these records, and the verdict on a text with a fault
+-- a format: where a text begins, what a byte does, the fault that was met up to some place, the verdict on a text
+-- that ends there and gave these records, and the verdict on a text with a fault
 pub record Format (P G F V : Type 0) : Type 0 where
   pub start : P
   pub step : P → ℕ → Step P G
@@ -19,8 +19,10 @@ pub record Format (P G F V : Type 0) : Type 0 where
 
 -- the first fault counts: after it no byte does anything, and it is the verdict
 pub record IsLasting {P G F V : Type 0} (format : Format P G F V) : Type 0 where
-  pub still : (p : P) (byte : ℕ) (fault : F) → format.fault_in p ≡ Some fault → format.step p byte ≡ record { next = p; gave = None }
-  pub counts : (p : P) (given : List G) (fault : F) → format.fault_in p ≡ Some fault → format.ended p given ≡ format.bad fault
+  pub still : (p : P) (byte : ℕ) (fault : F) → format.fault_in p ≡ Some fault
+      → format.step p byte ≡ record { next = p; gave = None }
+  pub counts : (p : P) (given : List G) (fault : F) → format.fault_in p ≡ Some fault
+      → format.ended p given ≡ format.bad fault
 
 -- ---- a text
 

@@ -17,16 +17,19 @@ given_in (Err e) = []
 
 -- with these bytes more, these records more were given
 abbrev pub Feeds : {P G F V : Type 0} → Format P G F V → P → P → List ℕ → List G → Type 0
-Feeds {P} {G} format old new bytes gave = (given : List G) (b : List ℕ) → StandsAs format old given b → StandsAs format new (given ++ gave) (b ++ bytes)
+Feeds {P} {G} format old new bytes gave =
+    (given : List G) (b : List ℕ) → StandsAs format old given b → StandsAs format new (given ++ gave) (b ++ bytes)
 
 -- with these bytes more, this is the fault that was met
 abbrev pub MeetsFault : {P G F V : Type 0} → Format P G F V → P → List ℕ → Option F → Type 0
-MeetsFault {P} {G} format old bytes told = (given : List G) (b : List ℕ) → StandsAs format old given b → fault_met format (b ++ bytes) ≡ told
+MeetsFault {P} {G} format old bytes told =
+    (given : List G) (b : List ℕ) → StandsAs format old given b → fault_met format (b ++ bytes) ≡ told
 
 -- with these bytes more, this is the fault of every longer text
 abbrev pub LastsAs : {P G F V : Type 0} → Format P G F V → P → List ℕ → F → Type 0
 LastsAs {P} {G} format old bytes fault =
-    (given : List G) (b more : List ℕ) → StandsAs format old given b → verdict_on format (b ++ (bytes ++ more)) ≡ format.bad fault
+    (given : List G) (b more : List ℕ) → StandsAs format old given b
+    → verdict_on format (b ++ (bytes ++ more)) ≡ format.bad fault
 
 -- an answer gives the records of the bytes; where memory is wanted nothing changed
 abbrev pub FeedsAs : {P G F V : Type 0} → Format P G F V → P → P → List ℕ → Result (Option G) (NotTaken F) → Type 0
@@ -61,12 +64,16 @@ taken_with before (Err NoMemory) = before
 abbrev pub FeedsPieces : {P G F V : Type 0} → Format P G F V → P → P → List (List ℕ) → List G → Type 0
 FeedsPieces format old new [] gave = (new ≡ old) × (gave ≡ [])
 FeedsPieces {P} {G} format old new (piece ∷ pieces) gave =
-    (between : P) × ((first : List G) × ((others : List G) × (Feeds format old between piece first × FeedsPieces format between new pieces others × (gave ≡ first ++ others))))
+    (between : P) × ((first : List G) × ((others : List G)
+    × (Feeds format old between piece first × FeedsPieces format between new pieces others
+    × (gave ≡ first ++ others))))
 
 -- ---- for readers alone
 
 -- an answer and a new state are those of a step; want of memory changes nothing, and comes only at such a byte
-abbrev pub Follows : {P G F V : Type 0} → Format P G F V → (P → ℕ → Type 0) → Step P G → P → P → ℕ → Result (Option G) (NotTaken F) → Type 0
+abbrev pub Follows : {P G F V : Type 0} → Format P G F V → (P → ℕ → Type 0) → Step P G → P → P → ℕ
+    → Result (Option G) (NotTaken F) → Type 0
 Follows format wants step old new byte (Ok gave) = (new ≡ step.next) × (gave ≡ step.gave) × (format.fault_in new ≡ None)
-Follows format wants step old new byte (Err (Fault fault)) = (new ≡ step.next) × (step.gave ≡ None) × (format.fault_in new ≡ Some fault)
+Follows format wants step old new byte (Err (Fault fault)) =
+    (new ≡ step.next) × (step.gave ≡ None) × (format.fault_in new ≡ Some fault)
 Follows format wants step old new byte (Err NoMemory) = (new ≡ old) × wants old byte

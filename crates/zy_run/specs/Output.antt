@@ -15,7 +15,8 @@ commands_before session streams = length (commands_over (take session streams))
 -- counted over all sessions of the connection
 abbrev pub output : ℕ → ℕ → List (List ℕ) → List Entry → List ℕ
 output conn session streams es =
-    concat (texts_from (commands_before session streams) (commands_of (slice_index_or streams session [])) (of_connection conn es))
+    concat (texts_from (commands_before session streams) (commands_of (slice_index_or streams session []))
+    (of_connection conn es))
 
 -- the outputs of all sessions of a connection with these streams
 abbrev pub outputs_of : ℕ → List (List ℕ) → List Entry → List (List ℕ)

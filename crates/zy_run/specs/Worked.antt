@@ -20,9 +20,27 @@ worked_records =
 -- one of its legal runs on 16 shards: connection 1 is first
 abbrev pub worked_entries : List Entry
 worked_entries =
-    record { tag = record { conn = 1; index = 0; part = 0 }; shard = 12; call = Calls.Get (codes "a"); reply = Replies.Miss; stamp = 1 }
-    ∷ record { tag = record { conn = 0; index = 0; part = 0 }; shard = 12; call = Calls.Set (codes "a") 0 (codes "x"); reply = Replies.Stored; stamp = 2 }
-    ∷ record { tag = record { conn = 0; index = 1; part = 0 }; shard = 12; call = Calls.Get (codes "a"); reply = Replies.Hit 0 28 (codes "x"); stamp = 3 }
+    record {
+      tag = record { conn = 1; index = 0; part = 0 };
+      shard = 12;
+      call = Calls.Get (codes "a");
+      reply = Replies.Miss;
+      stamp = 1;
+    }
+    ∷ record {
+      tag = record { conn = 0; index = 0; part = 0 };
+      shard = 12;
+      call = Calls.Set (codes "a") 0 (codes "x");
+      reply = Replies.Stored;
+      stamp = 2;
+    }
+    ∷ record {
+      tag = record { conn = 0; index = 1; part = 0 };
+      shard = 12;
+      call = Calls.Get (codes "a");
+      reply = Replies.Hit 0 28 (codes "x");
+      stamp = 3;
+    }
     ∷ []
 
 -- the outputs that belong to this run, session by session

@@ -1,5 +1,6 @@
 -- Which core is the home of a connection.
--- George Prekas, Marios Kogias and Edouard Bugnion, "ZygOS", SOSP 2017: flow groups, each with one home core. Here a connection's group is its number modulo 128, and the groups are dealt to the cores in turn.
+-- George Prekas, Marios Kogias and Edouard Bugnion, "ZygOS", SOSP 2017: flow groups, each with one home core. Here a
+-- connection's group is its number modulo 128, and the groups are dealt to the cores in turn.
 use Rattle.std.specs.Prelude.{ℕ, ◌%◌}
 
 -- the flow group of a connection

@@ -14,7 +14,8 @@ pub record RingName : Type 0 where
 abbrev pub ring_named : Ptr → Ptr → Names → RingName
 ring_named words slots names = record { words = words; slots = slots; names = names }
 
--- the end that items are offered to: the items offered and not handed back, the slots that it knows to be free, and how many the ring has
+-- the end that items are offered to: the items offered and not handed back, the slots that it knows to be free, and
+-- how many the ring has
 pub record Offering : Type 0 where
   pub ring : RingName
   pub sent : List Rx

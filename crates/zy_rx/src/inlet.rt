@@ -18,7 +18,8 @@ impl Model for Inlet {
 
     ghost Value = { Offering };
 
-    ghost view = { λ i. offering (ring_named i.producer.end.words i.producer.end.slots i.producer.end.names) (sent i.producer) (known_free i.producer) (producer_capacity i.producer) };
+    ghost view = { λ i. offering (ring_named i.producer.end.words i.producer.end.slots i.producer.end.names)
+        (sent i.producer) (known_free i.producer) (producer_capacity i.producer) };
 }
 
 impl Inlet {

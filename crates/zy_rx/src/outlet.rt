@@ -22,7 +22,8 @@ impl Model for Outlet {
 
     ghost Value = { Taking };
 
-    ghost view = { λ o. taking (ring_named o.consumer.end.words o.consumer.end.slots o.consumer.end.names) (received o.consumer) (known_items o.consumer) };
+    ghost view = { λ o. taking (ring_named o.consumer.end.words o.consumer.end.slots o.consumer.end.names)
+        (received o.consumer) (known_items o.consumer) };
 }
 
 impl Outlet {

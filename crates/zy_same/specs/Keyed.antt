@@ -28,7 +28,8 @@ IsEntryOwn shards count keys e = IsDueOwn shards count keys (due_of e)
 
 -- at each of these keys a store has what one shard has, but for uniques
 abbrev pub Agree : ℕ → List (List ℕ) → (ℕ → State) → State → Type 0
-Agree shards keys states single = (key : List ℕ) → Contains keys key → seen_at key (states (shard_of key shards)) ≡ seen_at key single
+Agree shards keys states single =
+    (key : List ℕ) → Contains keys key → seen_at key (states (shard_of key shards)) ≡ seen_at key single
 
 -- the entries of calls due that are made one after another on one shard, without shards, uniques and stamps
 abbrev pub told_by : State → List Due → List Entry

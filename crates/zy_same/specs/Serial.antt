@@ -10,13 +10,20 @@ use Rattle.mc_parse.specs.Calls.{Due, due}
 -- the entry of a call due, answered as its shard stands, with this stamp
 abbrev pub entry_of : (ℕ → State) → ℕ → Due → Entry
 entry_of states stamp due =
-    record { tag = due.tag; shard = due.call.shard; call = due.call.call; reply = reply_to (states due.call.shard) due.call.call; stamp = stamp }
+    record {
+      tag = due.tag;
+      shard = due.call.shard;
+      call = due.call.call;
+      reply = reply_to (states due.call.shard) due.call.call;
+      stamp = stamp;
+    }
 
 -- the entries of calls due that are made one after another on these shards, with stamps that count on from this one
 abbrev pub answered : ℕ → (ℕ → State) → ℕ → List Due → List Entry
 answered shards states stamp [] = []
 answered shards states stamp (due ∷ dues) =
-    entry_of states stamp due ∷ answered shards (states_after shards states (entry_of states stamp due)) (stamp + 1) dues
+    entry_of states stamp due
+    ∷ answered shards (states_after shards states (entry_of states stamp due)) (stamp + 1) dues
 
 -- the entries of calls due that are made one after another on empty shards; the stamp of each is its place, from 1 on
 abbrev pub made : ℕ → List Due → List Entry

@@ -1,4 +1,5 @@
-//! Where no key is called by two connections and no reply tells or compares a unique, all runs of the same commands have the same outputs: laws over lists.
+//! Where no key is called by two connections and no reply tells or compares a unique, all runs of the same commands
+//! have the same outputs: laws over lists.
 #![tactic(auto)]
 
 mod laws;

@@ -19,10 +19,12 @@ abbrev pub all_sent : ℕ → (ℕ → Left) → List (List (List ℕ))
 all_sent count left = map (λ conn. cut_at (left conn).ends (left conn).texts) (range_with_len 0 count)
 
 -- all that these records have of so many connections was served, the store is closed, and its histories are merged
-pub record AreServed (shards count : ℕ) (records : List Record) (left : ℕ → Left) (joined : Joined) (es : List Entry) : Type 0 where
+pub record AreServed (shards count : ℕ) (records : List Record) (left : ℕ → Left) (joined : Joined)
+    (es : List Entry) : Type 0 where
   pub histories : List (List Entry)
   -- each connection is served, by the calls of its pass
-  pub each : (conn : ℕ) → conn < count → IsServed shards conn (streams_in records conn) (calls_of conn joined) (left conn)
+  pub each : (conn : ℕ) → conn < count → IsServed shards conn (streams_in records conn) (calls_of conn joined)
+      (left conn)
   -- no other connection made a call
   pub others : (conn : ℕ) → count ≤ conn → calls_of conn joined ≡ []
   -- the histories are those of the store when all these passes were joined

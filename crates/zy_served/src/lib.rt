@@ -1,4 +1,5 @@
-//! From what is left of each connection when all is served, and the histories of the store, to one run of the capture's commands: laws over lists.
+//! From what is left of each connection when all is served, and the histories of the store, to one run of the
+//! capture's commands: laws over lists.
 #![tactic(auto)]
 
 mod laws;

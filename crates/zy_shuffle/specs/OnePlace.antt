@@ -31,7 +31,8 @@ module _ {T : Type 0} (s : RingState T) where
 
     -- a place in a hand is not in the queue, and its doorbell bit is 0
     abbrev pub HandsApart : Type 0
-    HandsApart = (j place : ℕ) → Holds j place → (bell_at s.words (length s.homes) place ≡ 0) × ((k : ℕ) → IsQueued k place → ⊥)
+    HandsApart = (j place : ℕ) → Holds j place → (bell_at s.words (length s.homes) place ≡ 0)
+        × ((k : ℕ) → IsQueued k place → ⊥)
 
     -- the doorbell bit of a place in the queue is 0
     abbrev pub QueueApart : Type 0

@@ -1,19 +1,23 @@
 -- The ownership machine of one home core: where each of its connections is, and which events move it.
--- George Prekas, Marios Kogias and Edouard Bugnion, "ZygOS", SOSP 2017: the states idle, ready and busy of a connection, and the shuffle queue of its home core. Busy is here two places: in the hand of a core, and given back to the home.
+-- George Prekas, Marios Kogias and Edouard Bugnion, "ZygOS", SOSP 2017: the states idle, ready and busy of a
+-- connection, and the shuffle queue of its home core. Busy is here two places: in the hand of a core, and given back
+-- to the home.
 use Rattle.std.specs.Prelude.{◌≡◌, ◌≢◌, ◌↔◌, ℕ, ◌+◌, ◌<◌, ◌≤◌, List, [], ◌∷◌, ◌++◌, true}
 use Rattle.zy_table.specs.Member.{is_in, IsDistinct}
 use Rattle.zy_table.specs.Put.{put}
 
 -- ---- states
 
--- where a connection is: at home with nothing to do, in the queue, in the hand of a core, or given back and not collected yet
+-- where a connection is: at home with nothing to do, in the queue, in the hand of a core, or given back and not
+-- collected yet
 pub data Place : Type 0 where
   idle : Place
   ready : Place
   held : ℕ → Place
   returned : Place
 
--- where each connection is, which are ready, in the order in which they became so, and how many requests of each arrived and were finished
+-- where each connection is, which are ready, in the order in which they became so, and how many requests of each
+-- arrived and were finished
 pub record Owners : Type 0 where
   pub places : ℕ → Place
   pub queue : List ℕ
@@ -26,7 +30,8 @@ no_requests = record { places = λ _. idle; queue = []; arrived = λ _. 0; finis
 
 -- ---- events
 
--- what may happen next: requests of a connection arrive, a core takes the first of the queue, finishes a request of a connection, gives a connection back, or the home collects a connection or settles it
+-- what may happen next: requests of a connection arrive, a core takes the first of the queue, finishes a request of a
+-- connection, gives a connection back, or the home collects a connection or settles it
 pub data Event : Type 0 where
   Arrive : (connection count : ℕ) → Event
   Claim : (core : ℕ) → Event
@@ -56,7 +61,8 @@ abbrev pub happens : ℕ → Owners → Event → Owners → Type 0
 happens home s (Arrive c count) t = (1 ≤ count)
     × (s.places c ≡ idle → t ≡ queued c (with_requests c count s))
     × (s.places c ≢ idle → t ≡ with_requests c count s)
-happens home s (Claim core) t = (c : ℕ) × (rest : List ℕ) × (s.queue ≡ c ∷ rest) × (t ≡ record (moved c (held core) s) { queue = rest })
+happens home s (Claim core) t =
+    (c : ℕ) × (rest : List ℕ) × (s.queue ≡ c ∷ rest) × (t ≡ record (moved c (held core) s) { queue = rest })
 happens home s (Handle core c) t = (s.places c ≡ held core) × (s.finished c < s.arrived c) × (t ≡ with_finished c s)
 happens home s (GiveBack core c) t = (s.places c ≡ held core) × (core ≢ home) × (t ≡ moved c returned s)
 happens home s (Collect c) t = (s.places c ≡ returned) × (t ≡ moved c (held home) s)

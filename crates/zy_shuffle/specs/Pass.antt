@@ -25,7 +25,8 @@ pub record Ringed : Type 0 where
 abbrev pub ringed : TableId → ℕ → Ringed
 ringed id places = record { id = id; places = places }
 
--- what a pass knows: its table and the ring's label, its hand, the blocks whose marks it keeps, how often its home has published, how many passes are out, and what it has seen. A core has 0 for the two numbers
+-- what a pass knows: its table and the ring's label, its hand, the blocks whose marks it keeps, how often its home
+-- has published, how many passes are out, and what it has seen. A core has 0 for the two numbers
 pub record Held (T : Type 0) : Type 0 where
   pub table : TableId
   pub label : Name
@@ -53,11 +54,27 @@ out_of (Closed gone) = 0
 
 -- what is seen of the view of a seat
 abbrev pub held : {T : Type 0} → TableId → View T → Held T
-held id v = record { table = id; label = v.label; hand = v.hand; kept = v.kept; count = tail_of v.role; out = out_of v.role; trace = v.trace }
+held id v = record {
+  table = id;
+  label = v.label;
+  hand = v.hand;
+  kept = v.kept;
+  count = tail_of v.role;
+  out = out_of v.role;
+  trace = v.trace;
+}
 
 -- a new home: all its places are in its hand
 abbrev pub newly_held : {T : Type 0} → TableId → Name → ℕ → Held T
-newly_held id label places = record { table = id; label = label; hand = below_then places []; kept = []; count = 0; out = 0; trace = untraced }
+newly_held id label places = record {
+  table = id;
+  label = label;
+  hand = below_then places [];
+  kept = [];
+  count = 0;
+  out = 0;
+  trace = untraced;
+}
 
 -- each place of the ring is in the hand
 abbrev pub HasAll : ℕ → List ℕ → Type 0
@@ -69,7 +86,8 @@ newly_given home = record home { hand = []; kept = []; count = 0; out = 0; trace
 
 -- a home that published this block at its place
 abbrev pub after_publish : {T : Type 0} → ℕ → T → Held T → Trace → Held T
-after_publish place block v trace = record v { hand = without place v.hand; kept = (place, block) ∷ v.kept; count = v.count + 1; trace = trace }
+after_publish place block v trace =
+    record v { hand = without place v.hand; kept = (place, block) ∷ v.kept; count = v.count + 1; trace = trace }
 
 -- a core that gave this place back
 abbrev pub after_give_back : {T : Type 0} → ℕ → Held T → Trace → Held T
@@ -120,33 +138,41 @@ module _ {T M : Type 0} (mark : T → M) (label : T → Name) (places : ℕ) (v 
     pub apart : is_in place v.hand ≡ false
     pub labelled : label block ≡ v.label
 
-  -- took: the exchange found the head that was loaded. Empty: the tail was the head, and the head was still so at that load. Raced: the exchange found another head
+  -- took: the exchange found the head that was loaded. Empty: the tail was the head, and the head was still so at
+  -- that load. Raced: the exchange found another head
   abbrev pub Claimed : Claim T → Type 0
-  Claimed (Took place block) = Joined place block × ((head tail : ℕ) × Loaded v.trace.steps head tail w.trace × (head < tail) × Tried head w.trace)
+  Claimed (Took place block) = Joined place block × ((head tail : ℕ) × Loaded v.trace.steps head tail w.trace
+      × (head < tail) × Tried head w.trace)
   Claimed (Empty at) = Unchanged v w × Loaded v.trace.steps at at w.trace × (w.trace.under ≡ at)
-  Claimed (Raced saw found) = Unchanged v w × ((tail : ℕ) × Loaded v.trace.steps saw tail w.trace × (saw < tail)) × Tried found w.trace × (found ≢ saw)
+  Claimed (Raced saw found) = Unchanged v w × ((tail : ℕ) × Loaded v.trace.steps saw tail w.trace × (saw < tail))
+      × Tried found w.trace × (found ≢ saw)
 
-  -- none: each doorbell word was loaded, and it was 0. Some: the words before that of the place were 0, and its bit was the lowest
+  -- none: each doorbell word was loaded, and it was 0. Some: the words before that of the place were 0, and its bit
+  -- was the lowest
   abbrev pub Collected : Option (ℕ × T) → Type 0
   Collected None = Unchanged v w × ((word : ℕ) → word < bell_words places → Rang v.trace.steps word 0 w.trace)
   Collected (Some x) = Joined x.0 x.1
       × ((bits : ℕ) × Rang v.trace.steps (x.0 / 64) bits w.trace × (bit_at bits (x.0 % 64) ≡ 1)
-      × ((word : ℕ) → word < x.0 / 64 → Rang v.trace.steps word 0 w.trace) × ((i : ℕ) → i < x.0 % 64 → bit_at bits i ≡ 0))
+      × ((word : ℕ) → word < x.0 / 64 → Rang v.trace.steps word 0 w.trace)
+      × ((i : ℕ) → i < x.0 % 64 → bit_at bits i ≡ 0))
 
   -- the same of one doorbell word
   abbrev pub LookedAt : ℕ → Option (ℕ × T) → Type 0
   LookedAt word None = Unchanged v w × (w.trace ≡ bell_step word 0 v.trace)
   LookedAt word (Some x) = Joined x.0 x.1 × (x.0 / 64 ≡ word)
-      × ((bits : ℕ) × (w.trace ≡ plain_step (bell_step word bits v.trace)) × (bit_at bits (x.0 % 64) ≡ 1) × ((i : ℕ) → i < x.0 % 64 → bit_at bits i ≡ 0))
+      × ((bits : ℕ) × (w.trace ≡ plain_step (bell_step word bits v.trace)) × (bit_at bits (x.0 % 64) ≡ 1)
+      × ((i : ℕ) → i < x.0 % 64 → bit_at bits i ≡ 0))
 
 -- ---- what is left at the end
 
 module _ {T M : Type 0} (mark : T → M) (label : T → Name) (places : ℕ) (v : Held T) where
-  -- the slot of each place of the home's hand has no block, and each other the block of its place, with the mark that the home keeps and the ring's label
+  -- the slot of each place of the home's hand has no block, and each other the block of its place, with the mark that
+  -- the home keeps and the ring's label
   pub record LeftSlots (slots : List (Option T)) : Type 0 where
     pub count : length slots ≡ places
     pub taken : (p : ℕ) → p < places → is_in p v.hand ≡ true → slice_get slots p ≡ Some None
-    pub full : (p : ℕ) → p < places → is_in p v.hand ≡ false → (b : T) × (slice_get slots p ≡ Some (Some b)) × (marked mark p v.kept ≡ Some (mark b)) × (label b ≡ v.label)
+    pub full : (p : ℕ) → p < places → is_in p v.hand ≡ false
+        → (b : T) × (slice_get slots p ≡ Some (Some b)) × (marked mark p v.kept ≡ Some (mark b)) × (label b ≡ v.label)
 
   -- the blocks of these slots, with their places
   abbrev pub AreLeft : List (ℕ × T) → Type 0

@@ -30,7 +30,8 @@ bells_of (Closed gone) = None
 
 -- the seat of a home that knows this tail
 abbrev pub IsHomeSeat : {T : Type 0} → ℕ → ℕ → Seated T → Type 0
-IsHomeSeat places tail m = (m.1 ≡ emptied m.0.hand) × (m.0.role ≡ Home tail None (bells_of m.0.role) (out_of m.0.role)) × Within places m.0.hand
+IsHomeSeat places tail m = (m.1 ≡ emptied m.0.hand)
+    × (m.0.role ≡ Home tail None (bells_of m.0.role) (out_of m.0.role)) × Within places m.0.hand
 
 -- the seat of a core
 abbrev pub IsCoreSeat : {T : Type 0} → ℕ → Seated T → Type 0

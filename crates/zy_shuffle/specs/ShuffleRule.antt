@@ -1,4 +1,5 @@
--- The rule of the shuffle queue: what is so of the words, the slots and the views of a ring's table between any two steps.
+-- The rule of the shuffle queue: what is so of the words, the slots and the views of a ring's table between any two
+-- steps.
 use Rattle.std.specs.Prelude.{◌≡◌, ℕ, zero, suc, ◌+◌, ◌*◌, ◌/◌, ◌%◌, ◌<◌, ◌≤◌, List, [], ◌∷◌, length, Bool, true, false, slice_index}
 use Rattle.std.specs.Prelude as std
 use mathlib.Core.Option.{Option, none, some}
@@ -44,7 +45,8 @@ module _ (words : List ℕ) (head tail m : ℕ) where
 -- each bit that the home found to be 1 is that of a place which was given back, until the home clears it
 abbrev pub IsRung : ℕ → (ℕ → Holder) → std.Option (ℕ × ℕ) → Type 0
 IsRung m holders std.None = Unit {0}
-IsRung m holders (std.Some x) = (i : ℕ) → i < 64 → bit_at x.1 i ≡ 1 → (64 * x.0 + i < m) × (holders (64 * x.0 + i) ≡ at_bell)
+IsRung m holders (std.Some x) =
+    (i : ℕ) → i < 64 → bit_at x.1 i ≡ 1 → (64 * x.0 + i < m) × (holders (64 * x.0 + i) ≡ at_bell)
 
 module _ {T M : Type 0} (mark : T → M) (label : T → Name) where
   -- ---- slots
@@ -52,7 +54,8 @@ module _ {T M : Type 0} (mark : T → M) (label : T → Name) where
   module _ (homes : List (Option (std.Option T))) (marks : ℕ → std.Option M) (name : Name) (place : ℕ) where
     -- the slot is at home, with a block that has the mark of its place and the label of the ring
     abbrev pub HasBlock : Type 0
-    HasBlock = (b : T) × (get_elem? homes place ≡ some (some (std.Some b))) × (marks place ≡ std.Some (mark b)) × (label b ≡ name)
+    HasBlock = (b : T) × (get_elem? homes place ≡ some (some (std.Some b))) × (marks place ≡ std.Some (mark b))
+        × (label b ≡ name)
 
     -- where the slot of a place is, by who has the place
     abbrev pub Lies : Holder → Type 0
@@ -62,7 +65,8 @@ module _ {T M : Type 0} (mark : T → M) (label : T → Name) where
     Lies at_bell = HasBlock
 
   -- what is so of one place
-  pub record PlaceRule (words : List ℕ) (homes : List (Option (std.Option T))) (head tail : ℕ) (marks : ℕ → std.Option M) (name : Name) (place : ℕ) (holder : Holder) : Type 0 where
+  pub record PlaceRule (words : List ℕ) (homes : List (Option (std.Option T))) (head tail : ℕ)
+      (marks : ℕ → std.Option M) (name : Name) (place : ℕ) (holder : Holder) : Type 0 where
     -- its slot is at home exactly where the place is in the queue or at its doorbell
     pub lies : Lies homes marks name place holder
     -- its doorbell bit is 1 exactly where it was given back
@@ -72,8 +76,11 @@ module _ {T M : Type 0} (mark : T → M) (label : T → Name) where
 
   -- ---- views
 
-  module _ (words : List ℕ) (m head tail : ℕ) (holders : ℕ → Holder) (marks : ℕ → std.Option M) (name : Name) (count j : ℕ) (hand : List ℕ) (own_label : Name) (kept : List (ℕ × T)) where
-    -- what a seat knows by its role. Each role but a spent one and the first has the label of the ring, and the home is seat 0. The home knows the tail, the passes that are out, the cell that it stored, the bits that it noted, and the mark of every place
+  module _ (words : List ℕ) (m head tail : ℕ) (holders : ℕ → Holder) (marks : ℕ → std.Option M) (name : Name)
+      (count j : ℕ) (hand : List ℕ) (own_label : Name) (kept : List (ℕ × T)) where
+    -- what a seat knows by its role. Each role but a spent one and the first has the label of the ring, and the home
+    -- is seat 0. The home knows the tail, the passes that are out, the cell that it stored, the bits that it noted,
+    -- and the mark of every place
     abbrev pub IsRole : Role → Type 0
     IsRole Spent = hand ≡ []
     IsRole Start = (j ≡ 0) × (count ≡ 0) × (hand ≡ []) × (tail ≡ 0) × ((p : ℕ) → holders p ≡ nobody)
@@ -87,7 +94,8 @@ module _ {T M : Type 0} (mark : T → M) (label : T → Name) where
         × ((p : ℕ) → p < m → is_in p gone ≡ false → IsInTable (holders p))
 
   -- what is so of the view of seat j
-  pub record Knows (words : List ℕ) (m head tail : ℕ) (holders : ℕ → Holder) (marks : ℕ → std.Option M) (name : Name) (count j : ℕ) (v : View T) : Type 0 where
+  pub record Knows (words : List ℕ) (m head tail : ℕ) (holders : ℕ → Holder) (marks : ℕ → std.Option M) (name : Name)
+      (count j : ℕ) (v : View T) : Type 0 where
     -- the places of its hand are in no other hand, nor in the queue, nor at their doorbells
     pub hand : (p : ℕ) → is_in p v.hand ≡ true → (p < m) × (holders p ≡ in_hand j)
     -- its hand has each of them once
@@ -116,19 +124,25 @@ module _ {T M : Type 0} (mark : T → M) (label : T → Name) where
     pub wide : length s.words ≡ 32 + length s.homes + bell_words (length s.homes)
     pub head_is : slice_index s.words 0 ≡ head
     pub tail_is : slice_index s.words 16 ≡ tail
-    -- head and the number of places in the queue make the tail; so the tail is at least the head, and at most the head and the number of places. That the home knows the tail stands in `IsRole`
+    -- head and the number of places in the queue make the tail; so the tail is at least the head, and at most the
+    -- head and the number of places. That the home knows the tail stands in `IsRole`
     pub sums : head + sum_below (length s.homes) (λ p. weight (holders p)) ≡ tail
     -- a ring without places has an empty queue
     pub barren : length s.homes ≡ 0 → tail ≡ 0
-    -- part 2: each cell from the head to the tail holds a place, and that place is in the queue as this one. So different cells hold different places, in this order
-    pub each_cell : (k : ℕ) → head ≤ k → k < tail → (cell s.words (length s.homes) k < length s.homes) × (holders (cell s.words (length s.homes) k) ≡ in_queue k)
+    -- part 2: each cell from the head to the tail holds a place, and that place is in the queue as this one. So
+    -- different cells hold different places, in this order
+    pub each_cell : (k : ℕ) → head ≤ k → k < tail → (cell s.words (length s.homes) k < length s.homes)
+        × (holders (cell s.words (length s.homes) k) ≡ in_queue k)
     -- parts 3 and 4: each place has its one holder, and its slot lies where that says
     pub each_place : (p : ℕ) → p < length s.homes → PlaceRule s.words s.homes head tail marks name p (holders p)
     -- a place in the hand of a seat is in the hand of its view
-    pub live : (p j : ℕ) → p < length s.homes → holders p ≡ in_hand j → (v : View T) × (get_elem? s.views j ≡ some v) × (is_in p v.hand ≡ true)
+    pub live : (p j : ℕ) → p < length s.homes → holders p ≡ in_hand j
+        → (v : View T) × (get_elem? s.views j ≡ some v) × (is_in p v.hand ≡ true)
     -- no bit is set that is of no place
     pub blank : (p : ℕ) → length s.homes ≤ p → bell_at s.words (length s.homes) p ≡ 0
     -- part 5, and what parts 1, 3 and 4 say of views: what each seat has seen, noted, stored and kept still holds
-    pub each_seat : (j : ℕ) (v : View T) → get_elem? s.views j ≡ some v → Knows s.words (length s.homes) head tail holders marks name (cores s.views) j v
-    -- each step is an event of the ownership machine, or none: what the table shows is a state that a run of the machine reaches
+    pub each_seat : (j : ℕ) (v : View T) → get_elem? s.views j ≡ some v
+        → Knows s.words (length s.homes) head tail holders marks name (cores s.views) j v
+    -- each step is an event of the ownership machine, or none: what the table shows is a state that a run of the
+    -- machine reaches
     pub follows : Follows s.words (length s.homes) head tail holders

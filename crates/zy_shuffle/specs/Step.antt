@@ -26,7 +26,8 @@ module _ {T : Type 0} where
 
   -- the place came into the hand, with its block
   abbrev pub taking : ℕ → T → ℕ → View T → View T
-  taking p b found v = record v { hand = p ∷ v.hand; kept = (p, b) ∷ v.kept; note = None; trace = try_step found v.trace }
+  taking p b found v =
+      record v { hand = p ∷ v.hand; kept = (p, b) ∷ v.kept; note = None; trace = try_step found v.trace }
 
   -- the home stored the place in the next cell, and its slot lies in front
   abbrev pub storing : ℕ → View T → View T
@@ -36,7 +37,12 @@ module _ {T : Type 0} where
   abbrev pub publishing : View T → List (ℕ × Option T) → View T
   publishing v [] = v
   publishing v ((p, None) ∷ cs) = v
-  publishing v ((p, Some b) ∷ cs) = record v { role = with_published v.role; hand = rest_of v.hand; kept = (p, b) ∷ v.kept; trace = plain_step v.trace }
+  publishing v ((p, Some b) ∷ cs) = record v {
+    role = with_published v.role;
+    hand = rest_of v.hand;
+    kept = (p, b) ∷ v.kept;
+    trace = plain_step v.trace;
+  }
 
   -- the slot of the place lies in front
   abbrev pub fronting : ℕ → ℕ → View T → View T
@@ -48,11 +54,17 @@ module _ {T : Type 0} where
 
   -- the home loaded a doorbell word
   abbrev pub noting_bells : ℕ → ℕ → View T → View T
-  noting_bells word found v = record v { role = with_bells (Some (word, found)) v.role; trace = bell_step word found v.trace }
+  noting_bells word found v =
+      record v { role = with_bells (Some (word, found)) v.role; trace = bell_step word found v.trace }
 
   -- the place came back into the home's hand, with its block
   abbrev pub collecting : ℕ → T → View T → View T
-  collecting p b v = record v { role = with_bells None v.role; hand = p ∷ v.hand; kept = (p, b) ∷ v.kept; trace = plain_step v.trace }
+  collecting p b v = record v {
+    role = with_bells None v.role;
+    hand = p ∷ v.hand;
+    kept = (p, b) ∷ v.kept;
+    trace = plain_step v.trace;
+  }
 
   -- the first seat became the home's, with all m places in its hand
   abbrev pub naming : Name → ℕ → View T
@@ -81,7 +93,8 @@ module _ {T : Type 0} where
 
   -- there is a head at that moment, and it is at most the tail
   abbrev pub saw_tail : Step (Option T) → Seated T → ℕ → Seated T → Type 0
-  saw_tail st m r n = (u : ℕ) × (n ≡ (traced (tail_step r u) m.0, m.1)) × (m.0.trace.head.value ≤ u) × (u ≤ r) × (st.slots ≡ 0 → r ≡ 0)
+  saw_tail st m r n = (u : ℕ) × (n ≡ (traced (tail_step r u) m.0, m.1)) × (m.0.trace.head.value ≤ u) × (u ≤ r)
+      × (st.slots ≡ 0 → r ≡ 0)
 
   abbrev pub saw_cell : Step (Option T) → Seated T → ℕ → Seated T → Type 0
   saw_cell st m r n = n ≡ (noting m.0.trace.head.value r m.0, m.1)
@@ -110,13 +123,16 @@ module _ {T : Type 0} where
   module _ {M : Type 0} (mark : T → M) (label : T → Name) where
     -- the block that comes with a place has the ring's label, and for the home the mark that it keeps
     abbrev pub Comes : ℕ → View T → ℕ → T → Type 0
-    Comes m v p b = (p < m) × (is_in p v.hand ≡ false) × (label b ≡ v.label) × (IsHome v.role → marked mark p v.kept ≡ Some (mark b))
+    Comes m v p b = (p < m) × (is_in p v.hand ≡ false) × (label b ≡ v.label)
+        × (IsHome v.role → marked mark p v.kept ≡ Some (mark b))
 
     -- the exchange of the head took the place that was noted, or it failed
     abbrev pub claimed : Step (Option T) → Seated T → ℕ → Seated T → Type 0
     claimed st m r n =
-        (r ≡ st.first → (b : T) × (n ≡ (taking (noted_place m.0) b r m.0, (noted_place m.0, Some b) ∷ m.1)) × Comes st.slots m.0 (noted_place m.0) b)
+        (r ≡ st.first → (b : T) × (n ≡ (taking (noted_place m.0) b r m.0, (noted_place m.0, Some b) ∷ m.1))
+        × Comes st.slots m.0 (noted_place m.0) b)
         × (r ≢ st.first → n ≡ (traced (try_step r) m.0, m.1))
 
     abbrev pub collected : Step (Option T) → Seated T → Seated T → Type 0
-    collected st m n = (b : T) × (n ≡ (collecting (rung_place m.0.role) b m.0, (rung_place m.0.role, Some b) ∷ m.1)) × Comes st.slots m.0 (rung_place m.0.role) b
+    collected st m n = (b : T) × (n ≡ (collecting (rung_place m.0.role) b m.0, (rung_place m.0.role, Some b) ∷ m.1))
+        × Comes st.slots m.0 (rung_place m.0.role) b

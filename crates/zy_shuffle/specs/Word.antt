@@ -1,4 +1,5 @@
--- The words of a ring with m places, by their numbers: 0 is the head and 16 the tail, the cells begin at 32, and the doorbells follow them.
+-- The words of a ring with m places, by their numbers: 0 is the head and 16 the tail, the cells begin at 32, and the
+-- doorbells follow them.
 use Rattle.std.specs.Prelude.{ℕ, ◌+◌, ◌/◌, ◌%◌, List, slice_index}
 use Rattle.std.specs.Int.{bit_at}
 

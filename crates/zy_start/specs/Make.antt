@@ -75,7 +75,8 @@ others_among core cores = if nat_lt core cores then cores - 1 else cores
 pub record HasPasses (label : Name) (rings : List Ringed) (core : ℕ) (passes : PassList Blocked) : Type 0 where
   pub core_is : passes.core ≡ core
   pub count : length passes.items ≡ others_among core (length rings)
-  pub tables : (at : ℕ) (v : Held Blocked) (r : Ringed) → slice_get passes.items at ≡ Some v → slice_get rings (other_core core at) ≡ Some r → v.table ≡ r.id
+  pub tables : (at : ℕ) (v : Held Blocked) (r : Ringed) → slice_get passes.items at ≡ Some v
+      → slice_get rings (other_core core at) ≡ Some r → v.table ≡ r.id
   pub idle : AreIdle label (seats_of passes.items)
 
 -- ---- cores
@@ -84,6 +85,8 @@ pub record HasPasses (label : Name) (rings : List Ringed) (core : ℕ) (passes :
 pub record AreMade (store : TableId) (cores count : ℕ) (made : Made) : Type 0 where
   pub same : length made.rings ≡ length made.homes.items
   pub all : length made.passes.items ≡ cores
-  pub homes : (core : ℕ) (h : Homed) (r : Ringed) → slice_get made.homes.items core ≡ Some h → slice_get made.rings core ≡ Some r
+  pub homes : (core : ℕ) (h : Homed) (r : Ringed) → slice_get made.homes.items core ≡ Some h
+      → slice_get made.rings core ≡ Some r
       → IsNewHome store cores count core r h
-  pub passes : (core : ℕ) (p : PassList Blocked) → slice_get made.passes.items core ≡ Some p → HasPasses (name_of store) made.rings core p
+  pub passes : (core : ℕ) (p : PassList Blocked) → slice_get made.passes.items core ≡ Some p
+      → HasPasses (name_of store) made.rings core p

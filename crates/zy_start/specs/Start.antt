@@ -9,7 +9,8 @@ use Rattle.zy_home.specs.Home.{Homed, HomeStands}
 use Rattle.zy_finish.specs.Over.{IsRootOf}
 use Rattle.zy_start.specs.declared.starting.Started.{Started}
 
--- the home of this core, of so many, with this count of connections, as it begins: on this ring, which has the store as its label, it has published nothing; it was not refused, and it has received nothing
+-- the home of this core, of so many, with this count of connections, as it begins: on this ring, which has the store
+-- as its label, it has published nothing; it was not refused, and it has received nothing
 pub record IsNewHome (store : TableId) (cores count core : ℕ) (ring : Ringed) (h : Homed) : Type 0 where
   pub core_is : h.core ≡ core
   pub cores_is : h.cores ≡ cores
@@ -20,7 +21,8 @@ pub record IsNewHome (store : TableId) (cores count core : ℕ) (ring : Ringed) 
   pub live : h.refused ≡ false
   pub stands : HomeStands h []
 
--- the passes of this core as they begin: one on each other core's ring, with the store as their label, and nothing in their hands
+-- the passes of this core as they begin: one on each other core's ring, with the store as their label, and nothing in
+-- their hands
 pub record AreNewPasses (store : TableId) (rings : List Ringed) (core : ℕ) (passes : PassList Blocked) : Type 0 where
   pub core_is : passes.core ≡ core
   pub rings_are : ArePasses rings passes
@@ -32,7 +34,8 @@ pub record IsStart (count cores shards : ℕ) (start : Started) : Type 0 where
   pub homes_count : length start.homes.items ≡ cores
   pub rings_count : length start.rings ≡ cores
   pub passes_count : length start.passes.items ≡ cores
-  pub homes : (core : ℕ) (h : Homed) (ring : Ringed) → slice_get start.homes.items core ≡ Some h → slice_get start.rings core ≡ Some ring
+  pub homes : (core : ℕ) (h : Homed) (ring : Ringed) → slice_get start.homes.items core ≡ Some h
+      → slice_get start.rings core ≡ Some ring
       → IsNewHome start.store.id cores count core ring h
   pub passes : (core : ℕ) (p : PassList Blocked) → slice_get start.passes.items core ≡ Some p
       → AreNewPasses start.store.id start.rings core p

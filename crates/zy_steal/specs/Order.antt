@@ -1,7 +1,8 @@
 -- The order in which a core looks at the others.
 use Rattle.std.specs.Prelude.{ℕ, zero, suc, ◌+◌, ◌-◌, ◌%◌, List, [], ◌∷◌, ◌++◌, nat_lt, if◌then◌else◌}
 
--- the t-th core that a core looks at in its m-th steal call, among so many cores: all others in turn, and each call begins with the next one
+-- the t-th core that a core looks at in its m-th steal call, among so many cores: all others in turn, and each call
+-- begins with the next one
 abbrev pub victim : ℕ → ℕ → ℕ → ℕ → ℕ
 victim cores core m t = (core + 1 + (m + t) % (cores - 1)) % cores
 

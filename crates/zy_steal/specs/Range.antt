@@ -11,7 +11,8 @@ use Rattle.zy_steal.specs.Order.{other_core}
 use Rattle.zy_steal.specs.Steal.{Thief, seats_of, Found, Looked}
 
 -- one pass made a claim
-pub record ClaimsAt {T M : Type 0} (mark : T → M) (label : T → Name) (vs ws : List (Held T)) (at : ℕ) (claim : Claim T) : Type 0 where
+pub record ClaimsAt {T M : Type 0} (mark : T → M) (label : T → Name) (vs ws : List (Held T)) (at : ℕ)
+    (claim : Claim T) : Type 0 where
   pub before : Held T
   pub after : Held T
   pub places : ℕ
@@ -20,7 +21,8 @@ pub record ClaimsAt {T M : Type 0} (mark : T → M) (label : T → Name) (vs ws 
   pub claimed : Claimed mark label places before after claim
 
 -- one pass made a claim that took nothing, and its look was noted
-pub record MissesAt {T : Type 0} (core : ℕ) (vs ws : List (Held T)) (looks looks' : List (Option Look)) (at : ℕ) : Type 0 where
+pub record MissesAt {T : Type 0} (core : ℕ) (vs ws : List (Held T)) (looks looks' : List (Option Look))
+    (at : ℕ) : Type 0 where
   pub before : Held T
   pub after : Held T
   pub look : Look
@@ -30,25 +32,30 @@ pub record MissesAt {T : Type 0} (core : ℕ) (vs ws : List (Held T)) (looks loo
   pub notes : Notes (other_core core at) look looks looks'
 
 -- the passes from one number on to another made claims that took nothing, and the others did nothing
-pub record Ranges {T : Type 0} (core : ℕ) (vs ws : List (Held T)) (looks looks' : List (Option Look)) (from to : ℕ) : Type 0 where
+pub record Ranges {T : Type 0} (core : ℕ) (vs ws : List (Held T)) (looks looks' : List (Option Look))
+    (from to : ℕ) : Type 0 where
   pub seats : seats_of ws ≡ seats_of vs
   pub looked : (at : ℕ) → from ≤ at → at < to → Looked core vs ws looks' at
   pub rest : (at : ℕ) → (at < from) ⊎ (to ≤ at) → slice_get ws at ≡ slice_get vs at
-  pub others : (other : ℕ) → ((at : ℕ) → from ≤ at → at < to → other_core core at ≢ other) → look_at looks' other ≡ look_at looks other
+  pub others : (other : ℕ) → ((at : ℕ) → from ≤ at → at < to → other_core core at ≢ other)
+      → look_at looks' other ≡ look_at looks other
 
 -- one of them took a block, and those before it nothing
-pub record StopsAt {T M : Type 0} (mark : T → M) (label : T → Name) (core : ℕ) (vs ws : List (Held T)) (looks looks' : List (Option Look)) (from to : ℕ) (taken : Taken T) : Type 0 where
+pub record StopsAt {T M : Type 0} (mark : T → M) (label : T → Name) (core : ℕ) (vs ws : List (Held T))
+    (looks looks' : List (Option Look)) (from to : ℕ) (taken : Taken T) : Type 0 where
   pub middle : List (Held T)
   pub from_on : from ≤ taken.at
   pub below : taken.at < to
   pub ranges : Ranges core vs middle looks looks' from taken.at
   pub takes : ClaimsAt mark label middle ws taken.at (claims.Took taken.place taken.block)
 
-module _ {T M : Type 0} (mark : T → M) (label : T → Name) (core : ℕ) (vs ws : List (Held T)) (looks looks' : List (Option Look)) where
+module _ {T M : Type 0} (mark : T → M) (label : T → Name) (core : ℕ) (vs ws : List (Held T))
+    (looks looks' : List (Option Look)) where
   -- one claim
   abbrev pub LooksOnce : ℕ → Option (Taken T) → Type 0
   LooksOnce at None = MissesAt core vs ws looks looks' at
-  LooksOnce at (Some taken) = (taken.at ≡ at) × (looks' ≡ looks) × ClaimsAt mark label vs ws at (claims.Took taken.place taken.block)
+  LooksOnce at (Some taken) =
+      (taken.at ≡ at) × (looks' ≡ looks) × ClaimsAt mark label vs ws at (claims.Took taken.place taken.block)
 
   -- a range of claims
   abbrev pub RangesTo : ℕ → ℕ → Option (Taken T) → Type 0
@@ -60,11 +67,13 @@ abbrev pub turned : ℕ → ℕ → ℕ → ℕ
 turned start count t = if nat_lt (start + t) count then start + t else start + t - count
 
 -- a block was taken at the t-th number of a turn, and those before it took nothing
-pub record StopsInTurn {T M : Type 0} (mark : T → M) (label : T → Name) (core : ℕ) (vs ws : List (Held T)) (start count : ℕ) (taken : Taken T) : Type 0 where
+pub record StopsInTurn {T M : Type 0} (mark : T → M) (label : T → Name) (core : ℕ) (vs ws : List (Held T))
+    (start count : ℕ) (taken : Taken T) : Type 0 where
   pub turn : ℕ
   pub few : turn < count
   pub is : taken.at ≡ turned start count turn
-  pub earlier : (t : ℕ) (v w : Held T) → t < turn → slice_get vs (turned start count t) ≡ Some v → slice_get ws (turned start count t) ≡ Some w → (look : Look) × Found v w look
+  pub earlier : (t : ℕ) (v w : Held T) → t < turn → slice_get vs (turned start count t) ≡ Some v
+      → slice_get ws (turned start count t) ≡ Some w → (look : Look) × Found v w look
   pub later : (t : ℕ) → turn < t → t < count → slice_get ws (turned start count t) ≡ slice_get vs (turned start count t)
   pub middle : List (Held T)
   pub seats : seats_of middle ≡ seats_of vs
@@ -72,9 +81,11 @@ pub record StopsInTurn {T M : Type 0} (mark : T → M) (label : T → Name) (cor
   pub takes : ClaimsAt mark label middle ws taken.at (claims.Took taken.place taken.block)
 
 -- a whole turn
-abbrev pub TurnsTo : {T M : Type 0} → (T → M) → (T → Name) → ℕ → List (Held T) → List (Held T) → List (Option Look) → List (Option Look) → ℕ → ℕ → Option (Taken T) → Type 0
+abbrev pub TurnsTo : {T M : Type 0} → (T → M) → (T → Name) → ℕ → List (Held T) → List (Held T) → List (Option Look)
+    → List (Option Look) → ℕ → ℕ → Option (Taken T) → Type 0
 TurnsTo mark label core vs ws looks looks' start count None = Ranges core vs ws looks looks' 0 count
-TurnsTo mark label core vs ws looks looks' start count (Some taken) = StopsInTurn mark label core vs ws start count taken
+TurnsTo mark label core vs ws looks looks' start count (Some taken) =
+    StopsInTurn mark label core vs ws start count taken
 
 -- the number with which a thief begins
 abbrev pub IsFirst : Thief → ℕ → Type 0

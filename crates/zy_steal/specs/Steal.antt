@@ -35,7 +35,8 @@ thief core cores calls = record { core = core; cores = cores; calls = calls }
 pub record ArePasses {T : Type 0} (rings : List Ringed) (p : PassList T) : Type 0 where
   pub count : length p.items + 1 ≡ length rings
   pub core : p.core < length rings
-  pub tables : (at : ℕ) (v : Held T) (r : Ringed) → slice_get p.items at ≡ Some v → slice_get rings (other_core p.core at) ≡ Some r → v.table ≡ r.id
+  pub tables : (at : ℕ) (v : Held T) (r : Ringed) → slice_get p.items at ≡ Some v
+      → slice_get rings (other_core p.core at) ≡ Some r → v.table ≡ r.id
 
 -- another core than this one, among so many
 abbrev pub IsOther : ℕ → ℕ → ℕ → Type 0
@@ -69,13 +70,15 @@ pub record Holds {T M : Type 0} (mark : T → M) (label : T → Name) (v : Held 
   pub kept : marked mark place v.kept ≡ Some (mark block)
 
 -- it is with the pass on the ring of this core
-pub record HoldsOf {T M : Type 0} (mark : T → M) (label : T → Name) (p : PassList T) (core place : ℕ) (block : T) : Type 0 where
+pub record HoldsOf {T M : Type 0} (mark : T → M) (label : T → Name) (p : PassList T) (core place : ℕ)
+    (block : T) : Type 0 where
   pub pass : Held T
   pub there : slice_get p.items (number_of p.core core) ≡ Some pass
   pub holds : Holds mark label pass place block
 
 -- the block of a place came into the hand of the pass on the ring of this core
-pub record TakesFrom {T M : Type 0} (mark : T → M) (label : T → Name) (p q : PassList T) (core place : ℕ) (block : T) : Type 0 where
+pub record TakesFrom {T M : Type 0} (mark : T → M) (label : T → Name) (p q : PassList T) (core place : ℕ)
+    (block : T) : Type 0 where
   pub before : Held T
   pub after : Held T
   pub was : slice_get p.items (number_of p.core core) ≡ Some before
@@ -88,18 +91,21 @@ pub record TakesFrom {T M : Type 0} (mark : T → M) (label : T → Name) (p q :
 pub record GivesTo {T : Type 0} (p q : PassList T) (core place : ℕ) : Type 0 where
   pub before : Held T
   pub was : slice_get p.items (number_of p.core core) ≡ Some before
-  pub seats : seats_of q.items ≡ slice_set (seats_of p.items) (number_of p.core core) (record { table = before.table; label = before.label; hand = without place before.hand })
+  pub seats : seats_of q.items ≡ slice_set (seats_of p.items) (number_of p.core core)
+      (record { table = before.table; label = before.label; hand = without place before.hand })
 
 -- ---- looks
 
 -- a claim by the pass took nothing, and this is why: by the steps that the pass made in it
 abbrev pub Found : {T : Type 0} → Held T → Held T → Look → Type 0
 Found v w (Empty at) = Unchanged v w × Loaded v.trace.steps at at w.trace × (w.trace.under ≡ at)
-Found v w (Raced saw found) = Unchanged v w × ((tail : ℕ) × Loaded v.trace.steps saw tail w.trace × (saw < tail)) × Tried found w.trace × (found ≢ saw)
+Found v w (Raced saw found) = Unchanged v w × ((tail : ℕ) × Loaded v.trace.steps saw tail w.trace × (saw < tail))
+    × Tried found w.trace × (found ≢ saw)
 
 -- the pass with this number among the others looked, and this look was noted for its core
 abbrev pub Looked : {T : Type 0} → ℕ → List (Held T) → List (Held T) → List (Option Look) → ℕ → Type 0
-Looked {T} core vs ws looks at = (v w : Held T) → slice_get vs at ≡ Some v → slice_get ws at ≡ Some w → (look : Look) × (look_at looks (other_core core at) ≡ Some look) × Found v w look
+Looked {T} core vs ws looks at = (v w : Held T) → slice_get vs at ≡ Some v → slice_get ws at ≡ Some w
+    → (look : Look) × (look_at looks (other_core core at) ≡ Some look) × Found v w look
 
 -- a look at each other core was made, and no other is noted
 pub record AllLooked {T : Type 0} (p q : PassList T) (looks : List (Option Look)) : Type 0 where
@@ -119,11 +125,16 @@ abbrev pub IfNothing : {T : Type 0} → Stolen T → (List (Option Look) → Typ
 IfNothing (Took core place block) P = Unit {0}
 IfNothing (Nothing looks) P = P looks
 
--- the core is that of one turn of the order. At the cores of earlier turns a claim was made, which took nothing, and at those of later turns none
+-- the core is that of one turn of the order. At the cores of earlier turns a claim was made, which took nothing, and
+-- at those of later turns none
 pub record InTurn {T : Type 0} (h : Thief) (p q : PassList T) (core : ℕ) : Type 0 where
   pub turn : ℕ
   pub few : turn + 1 < h.cores
   pub is : core ≡ victim h.cores h.core h.calls turn
-  pub earlier : (t : ℕ) (v w : Held T) → t < turn → slice_get p.items (number_of h.core (victim h.cores h.core h.calls t)) ≡ Some v → slice_get q.items (number_of h.core (victim h.cores h.core h.calls t)) ≡ Some w
+  pub earlier : (t : ℕ) (v w : Held T) → t < turn → slice_get p.items
+      (number_of h.core (victim h.cores h.core h.calls t)) ≡ Some v
+      → slice_get q.items (number_of h.core (victim h.cores h.core h.calls t)) ≡ Some w
       → (look : Look) × Found v w look
-  pub later : (t : ℕ) → turn < t → t + 1 < h.cores → slice_get q.items (number_of h.core (victim h.cores h.core h.calls t)) ≡ slice_get p.items (number_of h.core (victim h.cores h.core h.calls t))
+  pub later : (t : ℕ) → turn < t → t + 1 < h.cores
+      → slice_get q.items (number_of h.core (victim h.cores h.core h.calls t))
+      ≡ slice_get p.items (number_of h.core (victim h.cores h.core h.calls t))

@@ -7,10 +7,13 @@ use zy_shuffle::Marked;
 
 /// A block that was stolen by passes with this label has the label.
 pub fn a_stolen_block_has_the_label<T: Marked>()
-    ensures value { (label : Name) (p q : PassList T) (core place : ℕ) (block : T) → AreIdle label (seats_of p.items) → TakesFrom T.mark T.label p q core place block → T.label block ≡ label }
+    ensures value { (label : Name) (p q : PassList T) (core place : ℕ) (block : T) → AreIdle label (seats_of p.items)
+        → TakesFrom T.mark T.label p q core place block → T.label block ≡ label }
 {}
 
 /// Once a stolen block was given back, the passes have in their hands what they had before: nothing.
 pub fn a_block_given_back_leaves_the_hands<T: Marked>()
-    ensures value { (label : Name) (p q r : PassList T) (core place : ℕ) (block : T) → q.core ≡ p.core → AreIdle label (seats_of p.items) → TakesFrom T.mark T.label p q core place block → GivesTo q r core place → seats_of r.items ≡ seats_of p.items }
+    ensures value { (label : Name) (p q r : PassList T) (core place : ℕ) (block : T) → q.core ≡ p.core
+        → AreIdle label (seats_of p.items) → TakesFrom T.mark T.label p q core place block → GivesTo q r core place
+        → seats_of r.items ≡ seats_of p.items }
 {}

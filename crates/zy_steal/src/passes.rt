@@ -88,7 +88,8 @@ impl<T: Marked> Passes<T> {
         requires few { length rings.now ≤ 64 }
         requires start { start ≤ length self.old.items }
         ensures kept { self.new.core ≡ self.old.core }
-        ensures value { TurnsTo T.mark T.label self.old.core self.old.items self.new.items looks.old looks.new start (length self.old.items) result }
+        ensures value { TurnsTo T.mark T.label self.old.core self.old.items self.new.items looks.old looks.new start
+            (length self.old.items) result }
     {
         let count = self.items.len() as u32;
         match self.range(rings, start, count, looks) {
@@ -103,7 +104,8 @@ impl<T: Marked> Passes<T> {
         requires few { length rings.now ≤ 64 }
         requires to { (from ≤ to) × (to ≤ length self.old.items) }
         ensures kept { self.new.core ≡ self.old.core }
-        ensures value { RangesTo T.mark T.label self.old.core self.old.items self.new.items looks.old looks.new from to result }
+        ensures value { RangesTo T.mark T.label self.old.core self.old.items self.new.items looks.old looks.new from
+            to result }
     {
         let mut at = from;
         while at < to {
@@ -121,7 +123,8 @@ impl<T: Marked> Passes<T> {
         requires few { length rings.now ≤ 64 }
         requires at { at < length self.old.items }
         ensures kept { self.new.core ≡ self.old.core }
-        ensures value { LooksOnce T.mark T.label self.old.core self.old.items self.new.items looks.old looks.new at result }
+        ensures value { LooksOnce T.mark T.label self.old.core self.old.items self.new.items looks.old looks.new at
+            result }
     {
         let other = other_core(self.core, at);
         match self.claim(rings, at) {

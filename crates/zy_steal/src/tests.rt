@@ -243,19 +243,24 @@ fn every_place_comes_back_from_four_thieves(rt: HostRuntime) -> Result<(), Fail>
     let (mut home, wrong) = thread::join(
         &rt,
         move || -> HomePass<Block>
-            requires { (length shared.now ≡ 2) × ((r : Ringed) → slice_get shared.now 0 ≡ Some r → home.table ≡ r.id) × (home.count ≤ 4) }
+            requires { (length shared.now ≡ 2) × ((r : Ringed) → slice_get shared.now 0 ≡ Some r → home.table ≡ r.id)
+                × (home.count ≤ 4) }
             ensures { result.table ≡ home.table }
         { tend(runtime, shared.ring(0), home, ended) },
         move || -> (u32, u32)
-            requires { (length shared.now ≡ 2) × ArePasses shared.now one × (one.core ≡ 1) × ArePasses shared.now two × (two.core ≡ 1) × ArePasses shared.now three × (three.core ≡ 1) × ArePasses shared.now four × (four.core ≡ 1) }
+            requires { (length shared.now ≡ 2) × ArePasses shared.now one × (one.core ≡ 1) × ArePasses shared.now two
+                × (two.core ≡ 1) × ArePasses shared.now three × (three.core ≡ 1) × ArePasses shared.now four
+                × (four.core ≡ 1) }
         {
             thread::join(
                 runtime,
                 move || -> u32
-                    requires { (length shared.now ≡ 2) × ArePasses shared.now one × (one.core ≡ 1) × ArePasses shared.now two × (two.core ≡ 1) }
+                    requires { (length shared.now ≡ 2) × ArePasses shared.now one × (one.core ≡ 1)
+                        × ArePasses shared.now two × (two.core ≡ 1) }
                 { rob_both(runtime, shared, one, two, ended) },
                 move || -> u32
-                    requires { (length shared.now ≡ 2) × ArePasses shared.now three × (three.core ≡ 1) × ArePasses shared.now four × (four.core ≡ 1) }
+                    requires { (length shared.now ≡ 2) × ArePasses shared.now three × (three.core ≡ 1)
+                        × ArePasses shared.now four × (four.core ≡ 1) }
                 { rob_both(runtime, shared, three, four, ended) },
             )
         },

@@ -5,11 +5,27 @@ use Rattle.zy_table.specs.declared.name.Name.{Name}
 
 -- the name of the table with this identity
 abbrev pub name_of : TableId → Name
-name_of z = record { words = z.words; slots = z.slots; views_name = z.views_name; atom = z.atom; block = z.block; offset = z.offset; slot_names = z.slot_names }
+name_of z = record {
+  words = z.words;
+  slots = z.slots;
+  views_name = z.views_name;
+  atom = z.atom;
+  block = z.block;
+  offset = z.offset;
+  slot_names = z.slot_names;
+}
 
 -- the identity of the table with this name
 abbrev pub id_of : Name → TableId
-id_of n = record { words = n.words; slots = n.slots; views_name = n.views_name; atom = n.atom; block = n.block; offset = n.offset; slot_names = n.slot_names }
+id_of n = record {
+  words = n.words;
+  slots = n.slots;
+  views_name = n.views_name;
+  atom = n.atom;
+  block = n.block;
+  offset = n.offset;
+  slot_names = n.slot_names;
+}
 
 -- a name for what has none yet
 abbrev pub no_name : Name

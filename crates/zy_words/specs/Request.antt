@@ -56,7 +56,8 @@ shards_of options = number_or 1 256 16 (value_of (codes "shards") options)
 
 -- what is written, by its name
 abbrev pub out_named : Word → Option Out
-out_named word = if bytes_eq word (codes "replies") then Some Replies else (if bytes_eq word (codes "both") then Some Both else None)
+out_named word = if bytes_eq word (codes "replies") then Some Replies
+    else (if bytes_eq word (codes "both") then Some Both else None)
 
 -- what is written
 abbrev pub out_from : Option Word → Option Out
@@ -83,7 +84,8 @@ commands_of options = number_or 1 1000000 100 (value_of (codes "commands") optio
 -- the options of a run, with so many threads
 abbrev pub run_on : ℕ → ℕ → Options → Option Run
 run_on cores threads options = option_and_then (λ order. option_map (λ shards.
-    record { cores = cores; threads = threads; order = order; shards = shards }) (shards_of options)) (order_of threads options)
+    record { cores = cores; threads = threads; order = order; shards = shards }) (shards_of options))
+    (order_of threads options)
 
 -- the options of a run
 abbrev pub run_of : Options → Option Run
@@ -114,7 +116,8 @@ abbrev pub names_of : Verb → List Word
 names_of Verbs.Run = codes "cores" ∷ codes "threads" ∷ codes "order" ∷ codes "out" ∷ codes "shards" ∷ []
 names_of Verbs.Check = codes "shards" ∷ []
 names_of Verbs.Gen = codes "number" ∷ codes "conns" ∷ codes "commands" ∷ []
-names_of Verbs.SelfTest = codes "number" ∷ codes "conns" ∷ codes "commands" ∷ codes "cores" ∷ codes "threads" ∷ codes "order" ∷ codes "shards" ∷ []
+names_of Verbs.SelfTest = codes "number" ∷ codes "conns" ∷ codes "commands" ∷ codes "cores" ∷ codes "threads" ∷ codes
+    "order" ∷ codes "shards" ∷ []
 
 -- serve a capture
 abbrev pub run_by : Options → Option Request
@@ -122,7 +125,8 @@ run_by options = option_and_then (λ run. option_map (Requests.Run run) (out_of 
 
 -- make a capture, serve it, and check what came
 abbrev pub self_by : Options → Option Request
-self_by options = option_and_then (λ traffic. option_map (Requests.SelfTest traffic) (run_of options)) (traffic_of options)
+self_by options =
+    option_and_then (λ traffic. option_map (Requests.SelfTest traffic) (run_of options)) (traffic_of options)
 
 -- what a command with its options asks for
 abbrev pub asked_by : Verb → Options → Option Request

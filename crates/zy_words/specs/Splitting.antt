@@ -46,7 +46,13 @@ app_named command names = app_with command (map option_rule names)
 -- what the parser keeps of an option with its value
 abbrev pub row_of_option : Text → Text → Row
 row_of_option name value =
-    record { id = name; values = value ∷ []; count = None; source = Some CommandLine; reading = reading_by (plain_rule name) }
+    record {
+      id = name;
+      values = value ∷ [];
+      count = None;
+      source = Some CommandLine;
+      reading = reading_by (plain_rule name);
+    }
 
 -- what it keeps of all of them
 abbrev pub rows_for : Options → List Row

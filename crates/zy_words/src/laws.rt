@@ -19,7 +19,8 @@ pub fn worked_requests()
         ≡ Some (Requests.Run (record { cores = 2; threads = 2; order = None; shards = 16 }) Outs.Both) }
     ensures order { request_of (codes "run" ∷ codes "--threads" ∷ codes "1" ∷ codes "--order" ∷ codes "7" ∷ [])
         ≡ Some (Requests.Run (record { cores = 4; threads = 1; order = Some 7; shards = 16 }) Outs.Replies) }
-    ensures threaded_order { request_of (codes "run" ∷ codes "--cores" ∷ codes "2" ∷ codes "--order" ∷ codes "1" ∷ []) ≡ None }
+    ensures threaded_order { request_of (codes "run" ∷ codes "--cores" ∷ codes "2" ∷ codes "--order" ∷ codes "1" ∷ [])
+        ≡ None }
     ensures no_core { request_of (codes "run" ∷ codes "--cores" ∷ codes "0" ∷ []) ≡ None }
     ensures twice { request_of (codes "run" ∷ codes "--cores" ∷ codes "2" ∷ codes "--cores" ∷ codes "2" ∷ []) ≡ None }
     ensures dashes { request_of (codes "run" ∷ codes "--" ∷ []) ≡ None }

@@ -7,7 +7,8 @@ use std::str;
 /// The word as text, where it is plain.
 #[tactic(auto, using(crate::proofs::Ascii::ascii_is_text))]
 pub(crate) fn plain_text(word: &[u8]) -> Option<&str>
-    ensures value { MatchOption result (is_plain word.now ≡ false) (λ text. (text.now ≡ word.now) × (is_plain word.now ≡ true)) }
+    ensures value { MatchOption result (is_plain word.now ≡ false) (λ text. (text.now ≡ word.now)
+        × (is_plain word.now ≡ true)) }
 {
     if !is_plain(word) {
         return None;

@@ -3,7 +3,6 @@ mod FeedLemmas
 mod OverLemmas
 mod ServedLemmas
 pub mod NumberLemmas
-pub mod WriteLemmas
 pub mod CheckLemmas
 pub mod TestLemmas
 pub mod RefuseLemmas

@@ -1,6 +1,5 @@
 -- How the top call ends, by its answer: the causes of each answer, and what it leaves of source and sink.
 use Rattle.std.specs.Prelude.{◌≡◌, ◌≢◌, ◌⊎◌, ℕ, List, [], Option, None, Some, Result, Ok, Err, ⊤, IfSome}
-use Rattle.std.specs.Io.KnownBytes.{Consumes, IsAtEnd}
 use Rattle.zy_base.specs.Outside.{Rose, Grew, GrewByPrefix}
 use Rattle.zy_capture.specs.declared.capture_fault.CaptureFault.{CaptureFault}
 use Rattle.zy_capture.specs.Outputs.{AllOutputs, AreOutputs}
@@ -13,7 +12,7 @@ use Rattle.zy_same.specs.Summary.{summary}
 use Rattle.zy_parts.specs.declared.stop.Refusal.TheVariants.{Capture}
 use Rattle.zy_parts.specs.declared.stop.Stop.{Stop as PartStop}
 use Rattle.zy_parts.specs.declared.stop.Stop.TheVariants as PartStops
-use Rattle.zy_parts.specs.Parts.{AreParts, HasPartFault}
+use Rattle.zy_parts.specs.Parts.{AreParts, HasPartFault, ReadsAll}
 use Rattle.zy_check.specs.declared.verdict.Verdict.{Verdict as Certified}
 use Rattle.zy_check.specs.Given.{given}
 use Rattle.zy_check.specs.Cause.{HasVerdict}
@@ -68,16 +67,11 @@ ReadsNothing request = ⊤
 abbrev pub traffic_bytes : Traffic → List ℕ
 traffic_bytes traffic = gen_bytes traffic.number traffic.conns traffic.commands
 
--- the numbers that all runs of some traffic have in common: those of the run that makes all calls of connection 0, then all of connection 1, and so on
+-- the numbers that all runs of some traffic have in common: those of the run that makes all calls of connection 0,
+-- then all of connection 1, and so on
 abbrev pub traffic_summary : ℕ → Traffic → Summary
 traffic_summary shards traffic =
     summary shards traffic.conns (streams_in (records_of traffic.number traffic.conns traffic.commands))
-
--- ---- reading
-
--- the source gave these bytes, where it tells them, and is at its end
-abbrev pub ReadsAll : Option (List ℕ) → Option (List ℕ) → List ℕ → Type 0
-ReadsAll before after bytes = Consumes before after bytes × IsAtEnd after
 
 -- ---- what was read
 
@@ -102,26 +96,33 @@ pub record IsTested (traffic : Traffic) (shards : ℕ) (journal : Journal) (numb
 -- ---- causes
 
 -- how a run ends, and what it leaves of the sink
-abbrev pub RunEnds : {S K : Type 0} → (S → Option (List ℕ)) → (S → ℕ) → (K → Option (List ℕ)) → (K → ℕ) → ℕ → Out → S → S → K → K → Answer → Type 0
+abbrev pub RunEnds : {S K : Type 0} → (S → Option (List ℕ)) → (S → ℕ) → (K → Option (List ℕ)) → (K → ℕ) → ℕ → Out → S
+    → S → K → K → Answer → Type 0
 RunEnds rest read holds wrote shards out source source' sink sink' (Served journal) =
     OfGiven (rest source) (rest source') (λ bytes. IsWritten shards out bytes journal (holds sink) (holds sink'))
 RunEnds rest read holds wrote shards out source source' sink sink' (Refused (Capture fault)) =
     IfSome (rest source) (λ bytes. verdict bytes ≡ Bad fault) × (sink' ≡ sink)
-RunEnds rest read holds wrote shards out source source' sink sink' ReadFault = Rose (read source) (read source') × (sink' ≡ sink)
+RunEnds rest read holds wrote shards out source source' sink sink' ReadFault =
+    Rose (read source) (read source') × (sink' ≡ sink)
 RunEnds rest read holds wrote shards out source source' sink sink' WriteFault =
-    OfGiven (rest source) (rest source') (λ bytes. IsPartWritten shards out bytes (holds sink) (holds sink')) × Rose (wrote sink) (wrote sink')
+    OfGiven (rest source) (rest source') (λ bytes. IsPartWritten shards out bytes (holds sink) (holds sink'))
+    × Rose (wrote sink) (wrote sink')
 RunEnds rest read holds wrote shards out source source' sink sink' OutOfMemory = sink' ≡ sink
 RunEnds rest read holds wrote shards out source source' sink sink' answer = ⊥
 
 -- how a check ends, and what it leaves of the sink
-abbrev pub CheckEnds : {S K : Type 0} → (S → Option (List ℕ)) → (S → ℕ) → (K → Option (List ℕ)) → (K → ℕ) → ℕ → S → S → K → K → Answer → Type 0
+abbrev pub CheckEnds : {S K : Type 0} → (S → Option (List ℕ)) → (S → ℕ) → (K → Option (List ℕ)) → (K → ℕ) → ℕ → S → S
+    → K → K → Answer → Type 0
 CheckEnds rest read holds wrote shards source source' sink sink' (Checked found) =
-    OfGiven (rest source) (rest source') (λ bytes. IsChecked shards bytes found) × Grew (holds sink) (holds sink') (verdict_line found)
+    OfGiven (rest source) (rest source') (λ bytes. IsChecked shards bytes found)
+    × Grew (holds sink) (holds sink') (verdict_line found)
 CheckEnds rest read holds wrote shards source source' sink sink' (Refused refusal) =
     IfSome (rest source) (λ bytes. HasPartFault bytes refusal) × (sink' ≡ sink)
-CheckEnds rest read holds wrote shards source source' sink sink' ReadFault = Rose (read source) (read source') × (sink' ≡ sink)
+CheckEnds rest read holds wrote shards source source' sink sink' ReadFault =
+    Rose (read source) (read source') × (sink' ≡ sink)
 CheckEnds rest read holds wrote shards source source' sink sink' WriteFault =
-    ((found : Certified) × OfGiven (rest source) (rest source') (λ bytes. IsChecked shards bytes found) × GrewByPrefix (holds sink) (holds sink') (verdict_line found))
+    ((found : Certified) × OfGiven (rest source) (rest source') (λ bytes. IsChecked shards bytes found)
+    × GrewByPrefix (holds sink) (holds sink') (verdict_line found))
     × Rose (wrote sink) (wrote sink')
 CheckEnds rest read holds wrote shards source source' sink sink' OutOfMemory = sink' ≡ sink
 CheckEnds rest read holds wrote shards source source' sink sink' answer = ⊥
@@ -129,7 +130,8 @@ CheckEnds rest read holds wrote shards source source' sink sink' answer = ⊥
 -- how making traffic ends, and what it leaves of the sink
 abbrev pub GenEnds : {K : Type 0} → (K → Option (List ℕ)) → (K → ℕ) → Traffic → K → K → Answer → Type 0
 GenEnds holds wrote traffic sink sink' Made = Grew (holds sink) (holds sink') (traffic_bytes traffic)
-GenEnds holds wrote traffic sink sink' WriteFault = GrewByPrefix (holds sink) (holds sink') (traffic_bytes traffic) × Rose (wrote sink) (wrote sink')
+GenEnds holds wrote traffic sink sink' WriteFault =
+    GrewByPrefix (holds sink) (holds sink') (traffic_bytes traffic) × Rose (wrote sink) (wrote sink')
 GenEnds holds wrote traffic sink sink' OutOfMemory = sink' ≡ sink
 GenEnds holds wrote traffic sink sink' answer = ⊥
 
@@ -138,7 +140,8 @@ abbrev pub SelfEnds : {K : Type 0} → (K → Option (List ℕ)) → (K → ℕ)
 SelfEnds holds wrote traffic shards sink sink' (Tested journal numbers) =
     IsTested traffic shards journal numbers × Grew (holds sink) (holds sink') (summary_line numbers)
 SelfEnds holds wrote traffic shards sink sink' WriteFault =
-    ((journal : Journal) × (numbers : Summary) × IsTested traffic shards journal numbers × GrewByPrefix (holds sink) (holds sink') (summary_line numbers))
+    ((journal : Journal) × (numbers : Summary) × IsTested traffic shards journal numbers
+    × GrewByPrefix (holds sink) (holds sink') (summary_line numbers))
     × Rose (wrote sink) (wrote sink')
 SelfEnds holds wrote traffic shards sink sink' OutOfMemory = sink' ≡ sink
 SelfEnds holds wrote traffic shards sink sink' answer = ⊥
@@ -150,12 +153,17 @@ UnlawfulEnds sink sink' OutOfMemory = sink' ≡ sink
 UnlawfulEnds sink sink' answer = ⊥
 
 -- each answer has its cause, and leaves the sink as it says
-abbrev pub HasCause : {S K : Type 0} → (S → Option (List ℕ)) → (S → ℕ) → (K → Option (List ℕ)) → (K → ℕ) → Option Request → S → S → K → K → Answer → Type 0
+abbrev pub HasCause : {S K : Type 0} → (S → Option (List ℕ)) → (S → ℕ) → (K → Option (List ℕ)) → (K → ℕ)
+    → Option Request → S → S → K → K → Answer → Type 0
 HasCause rest read holds wrote None source source' sink sink' answer = UnlawfulEnds sink sink' answer
-HasCause rest read holds wrote (Some (Requests.Run run out)) source source' sink sink' answer = RunEnds rest read holds wrote run.shards out source source' sink sink' answer
-HasCause rest read holds wrote (Some (Requests.Check shards)) source source' sink sink' answer = CheckEnds rest read holds wrote shards source source' sink sink' answer
-HasCause rest read holds wrote (Some (Requests.Gen traffic)) source source' sink sink' answer = GenEnds holds wrote traffic sink sink' answer
-HasCause rest read holds wrote (Some (Requests.SelfTest traffic run)) source source' sink sink' answer = SelfEnds holds wrote traffic run.shards sink sink' answer
+HasCause rest read holds wrote (Some (Requests.Run run out)) source source' sink sink' answer =
+    RunEnds rest read holds wrote run.shards out source source' sink sink' answer
+HasCause rest read holds wrote (Some (Requests.Check shards)) source source' sink sink' answer =
+    CheckEnds rest read holds wrote shards source source' sink sink' answer
+HasCause rest read holds wrote (Some (Requests.Gen traffic)) source source' sink sink' answer =
+    GenEnds holds wrote traffic sink sink' answer
+HasCause rest read holds wrote (Some (Requests.SelfTest traffic run)) source source' sink sink' answer =
+    SelfEnds holds wrote traffic run.shards sink sink' answer
 
 -- the answers after which the sink is as it was
 abbrev pub LeavesSink : Answer → Type 0
@@ -173,7 +181,8 @@ abbrev pub RunsTo : {S : Type 0} → (S → Option (List ℕ)) → (S → ℕ) �
 RunsTo rest faults shards source source' (Ok done) =
     (bytes : List ℕ) × ReadsAll (rest source) (rest source') bytes × IsServed shards bytes done.journal done.outputs
     × AreOutputs done.outputs × IsJournal done.journal
-RunsTo rest faults shards source source' (Err (Stops.Refused fault)) = IfSome (rest source) (λ bytes. verdict bytes ≡ Bad fault)
+RunsTo rest faults shards source source' (Err (Stops.Refused fault)) =
+    IfSome (rest source) (λ bytes. verdict bytes ≡ Bad fault)
 RunsTo rest faults shards source source' (Err Stops.ReadFault) = Rose (faults source) (faults source')
 RunsTo rest faults shards source source' (Err Stops.NoMemory) = ⊤
 
@@ -181,7 +190,9 @@ RunsTo rest faults shards source source' (Err Stops.NoMemory) = ⊤
 
 -- how a check ends before anything is written: with its verdict, or it stopped, for its cause
 abbrev pub ChecksTo : {S : Type 0} → (S → Option (List ℕ)) → (S → ℕ) → ℕ → S → S → Result Certified PartStop → Type 0
-ChecksTo rest faults shards source source' (Ok found) = OfGiven (rest source) (rest source') (λ bytes. IsChecked shards bytes found)
-ChecksTo rest faults shards source source' (Err (PartStops.Refused refusal)) = IfSome (rest source) (λ bytes. HasPartFault bytes refusal)
+ChecksTo rest faults shards source source' (Ok found) =
+    OfGiven (rest source) (rest source') (λ bytes. IsChecked shards bytes found)
+ChecksTo rest faults shards source source' (Err (PartStops.Refused refusal)) =
+    IfSome (rest source) (λ bytes. HasPartFault bytes refusal)
 ChecksTo rest faults shards source source' (Err PartStops.ReadFault) = Rose (faults source) (faults source')
 ChecksTo rest faults shards source source' (Err PartStops.NoMemory) = ⊤

@@ -37,7 +37,8 @@ pub record IsServed (shards : ℕ) (bytes : List ℕ) (journal : Journal) (outpu
   pub records : List Record
   -- the bytes are a capture, with these records
   pub capture : verdict bytes ≡ Good version count records
-  -- the entries are one legal run of its commands, each carried out once, in arrival order, none after quit and none left over
+  -- the entries are one legal run of its commands, each carried out once, in arrival order, none after quit and none
+  -- left over
   pub run : IsRun shards journal.entries count (commands_in records)
   -- in the order of their stamps
   pub order : IsOrdered None journal.entries
@@ -47,7 +48,8 @@ pub record IsServed (shards : ℕ) (bytes : List ℕ) (journal : Journal) (outpu
   pub replies : outputs ≡ outputs_of version count records journal.entries
 
 -- the same, and the sink grew by all that is written of it
-pub record IsWritten (shards : ℕ) (out : Out) (bytes : List ℕ) (journal : Journal) (before after : Option (List ℕ)) : Type 0 where
+pub record IsWritten (shards : ℕ) (out : Out) (bytes : List ℕ) (journal : Journal)
+    (before after : Option (List ℕ)) : Type 0 where
   pub outputs : AllOutputs
   pub served : IsServed shards bytes journal outputs
   pub wrote : Grew before after (written out journal outputs)

@@ -52,8 +52,10 @@ abbrev pub fault_line : CaptureFault → List ℕ
 fault_line (BadMagic at) = line_with (fault_text (BadMagic at)) at
 fault_line (ConnCount number) = line_with (fault_text (ConnCount number)) number
 fault_line (BadTag at byte) = line_with_two (fault_text (BadTag at byte)) at (fault_middle (BadTag at byte)) byte
-fault_line (ConnRange at number) = line_with_two (fault_text (ConnRange at number)) at (fault_middle (ConnRange at number)) number
-fault_line (SegmentLength at number) = line_with_two (fault_text (SegmentLength at number)) at (fault_middle (SegmentLength at number)) number
+fault_line (ConnRange at number) =
+    line_with_two (fault_text (ConnRange at number)) at (fault_middle (ConnRange at number)) number
+fault_line (SegmentLength at number) =
+    line_with_two (fault_text (SegmentLength at number)) at (fault_middle (SegmentLength at number)) number
 fault_line (Truncated at) = line_with (fault_text (Truncated at)) at
 fault_line (Trailing at) = line_with (fault_text (Trailing at)) at
 fault_line TooLong = fault_text TooLong
@@ -131,5 +133,6 @@ verdict_line (No cause) = cause_line cause
 -- the line of its numbers
 abbrev pub summary_line : Summary → List ℕ
 summary_line summary =
-    line_with_three (codes "commands ") summary.commands (codes " calls ") summary.calls (codes " reply-bytes ") summary.reply_bytes
+    line_with_three (codes "commands ") summary.commands (codes " calls ") summary.calls
+    (codes " reply-bytes ") summary.reply_bytes
     (codes " check yes")

@@ -21,10 +21,12 @@ pub record IsStation (store : TableId) (cores count core : ℕ) (s : Station) : 
 
 -- so have the homes of all cores, by rising number
 abbrev pub AreStations : TableId → ℕ → List Station → Type 0
-AreStations store count stations = (core : ℕ) (s : Station) → slice_get stations core ≡ Some s → IsStation store (length stations) count core s
+AreStations store count stations =
+    (core : ℕ) (s : Station) → slice_get stations core ≡ Some s → IsStation store (length stations) count core s
 
 -- the cores can be driven, and taken apart again
-pub record IsPrepared (count shards : ℕ) (shared : Sharing) (ids : List Identity) (inlets : List Offering) (root : Rooted) : Type 0 where
+pub record IsPrepared (count shards : ℕ) (shared : Sharing) (ids : List Identity) (inlets : List Offering)
+    (root : Rooted) : Type 0 where
   pub cores : AreCores shared ids
   pub feeds : AreInlets (rings_of inlets) ids
   pub unsent : AreUnsent (sent_by inlets)

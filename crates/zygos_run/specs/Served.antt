@@ -9,7 +9,7 @@ use Rattle.zy_journal.specs.declared.journal.Journal.{Journal}
 use Rattle.zy_base.specs.Outside.{Rose, Grew, GrewByPrefix}
 use Rattle.zy_parts.specs.declared.stop.Refusal.{Refusal}
 use Rattle.zy_parts.specs.declared.stop.Refusal.TheVariants.{Capture}
-use Rattle.zy_parts.specs.Parts.{AreParts, HasPartFault}
+use Rattle.zy_parts.specs.Parts.{AreParts, HasPartFault, ReadsAll}
 use Rattle.zy_check.specs.declared.verdict.Verdict.{Verdict as Certified}
 use Rattle.zy_words.specs.declared.request.Request.{Request}
 use Rattle.zy_words.specs.declared.request.Request.TheVariants as Requests
@@ -17,19 +17,21 @@ use Rattle.zy_same.specs.declared.summary.Summary.{Summary}
 use Rattle.zygos_run.specs.declared.answer.Answer.{Answer}
 use Rattle.zygos_run.specs.declared.answer.Answer.TheVariants.{Served, Checked, Made, Tested, Usage, Refused, OutOfMemory}
 use Rattle.zygos_run.specs.Headline.{IsWritten, IsPartWritten}
-use Rattle.zygos_run.specs.Ends.{Asked, ReadsAll, OfGiven, IsChecked, IsTested, traffic_bytes}
+use Rattle.zygos_run.specs.Ends.{Asked, OfGiven, IsChecked, IsTested, traffic_bytes}
 use Rattle.zygos_run.specs.Lines.{verdict_line, summary_line}
 
 -- ---- a run
 
 -- the run that was asked for was served of bytes that the source gave, and all of it was written
-abbrev pub HasServed : Option Asked → Option (List ℕ) → Option (List ℕ) → Option (List ℕ) → Option (List ℕ) → Journal → Type 0
+abbrev pub HasServed : Option Asked → Option (List ℕ) → Option (List ℕ) → Option (List ℕ) → Option (List ℕ) → Journal
+    → Type 0
 HasServed None rest rest' holds holds' journal = ⊥
 HasServed (Some asked) rest rest' holds holds' journal =
     (bytes : List ℕ) × ReadsAll rest rest' bytes × IsWritten asked.run.shards asked.out bytes journal holds holds'
 
 -- the same, of all that a source told at first; of a source that tells nothing nothing is said
-abbrev pub HeadlineHolds : Option Asked → Option (List ℕ) → Option (List ℕ) → Option (List ℕ) → Option (List ℕ) → Journal → Type 0
+abbrev pub HeadlineHolds : Option Asked → Option (List ℕ) → Option (List ℕ) → Option (List ℕ) → Option (List ℕ)
+    → Journal → Type 0
 HeadlineHolds None rest rest' holds holds' journal = ⊥
 HeadlineHolds (Some asked) None rest' holds holds' journal = ⊤
 HeadlineHolds (Some asked) (Some bytes) rest' holds holds' journal =
@@ -37,13 +39,15 @@ HeadlineHolds (Some asked) (Some bytes) rest' holds holds' journal =
 
 -- ---- the other commands
 
--- of all that a source told at first this is so, and nothing of it is left; of a source that tells nothing nothing is said
+-- of all that a source told at first this is so, and nothing of it is left; of a source that tells nothing nothing is
+-- said
 abbrev pub OfTold : Option (List ℕ) → Option (List ℕ) → (List ℕ → Type 0) → Type 0
 OfTold None rest' Holds = ⊤
 OfTold (Some bytes) rest' Holds = (rest' ≡ Some []) × Holds bytes
 
 -- a check was asked for, and this is the verdict on the bytes that the source gave, whose line was written
-abbrev pub HasChecked : Option Request → Option (List ℕ) → Option (List ℕ) → Option (List ℕ) → Option (List ℕ) → Certified → Type 0
+abbrev pub HasChecked : Option Request → Option (List ℕ) → Option (List ℕ) → Option (List ℕ) → Option (List ℕ)
+    → Certified → Type 0
 HasChecked (Some (Requests.Check shards)) rest rest' holds holds' found =
     OfGiven rest rest' (λ bytes. IsChecked shards bytes found) × Grew holds holds' (verdict_line found)
 HasChecked request rest rest' holds holds' found = ⊥
@@ -66,15 +70,19 @@ HasTested request holds holds' journal numbers = ⊥
 
 -- ---- a fault of writing
 
--- what was asked for was done of bytes that the source gave, where it reads any, and a first part of what is due was written
+-- what was asked for was done of bytes that the source gave, where it reads any, and a first part of what is due was
+-- written
 abbrev pub HasPart : Option Request → Option (List ℕ) → Option (List ℕ) → Option (List ℕ) → Option (List ℕ) → Type 0
 HasPart None rest rest' holds holds' = ⊥
-HasPart (Some (Requests.Run run out)) rest rest' holds holds' = OfGiven rest rest' (λ bytes. IsPartWritten run.shards out bytes holds holds')
+HasPart (Some (Requests.Run run out)) rest rest' holds holds' =
+    OfGiven rest rest' (λ bytes. IsPartWritten run.shards out bytes holds holds')
 HasPart (Some (Requests.Check shards)) rest rest' holds holds' =
-    (found : Certified) × OfGiven rest rest' (λ bytes. IsChecked shards bytes found) × GrewByPrefix holds holds' (verdict_line found)
+    (found : Certified) × OfGiven rest rest' (λ bytes. IsChecked shards bytes found)
+    × GrewByPrefix holds holds' (verdict_line found)
 HasPart (Some (Requests.Gen traffic)) rest rest' holds holds' = GrewByPrefix holds holds' (traffic_bytes traffic)
 HasPart (Some (Requests.SelfTest traffic run)) rest rest' holds holds' =
-    (journal : Journal) × (numbers : Summary) × IsTested traffic run.shards journal numbers × GrewByPrefix holds holds' (summary_line numbers)
+    (journal : Journal) × (numbers : Summary) × IsTested traffic run.shards journal numbers
+    × GrewByPrefix holds holds' (summary_line numbers)
 
 -- ---- a refusal
 
@@ -84,7 +92,8 @@ ReadsInput (Some (Requests.Run run out)) = ⊤
 ReadsInput (Some (Requests.Check shards)) = ⊤
 ReadsInput request = ⊥
 
--- the bytes have this fault as the request reads them: a run reads a capture, a check reads a capture and what follows it
+-- the bytes have this fault as the request reads them: a run reads a capture, a check reads a capture and what
+-- follows it
 abbrev pub HasFault : Option Request → List ℕ → Refusal → Type 0
 HasFault (Some (Requests.Run run out)) bytes (Capture fault) = verdict bytes ≡ Bad fault
 HasFault (Some (Requests.Check shards)) bytes refusal = HasPartFault bytes refusal
@@ -108,7 +117,8 @@ IsToldBad request (Some bytes) refusal = HasFault request bytes refusal
 
 -- ---- completeness
 
--- the bytes are those that the request asks for: of a run a capture, of a check a capture, a journal and a replies file; a request that reads nothing asks for none
+-- the bytes are those that the request asks for: of a run a capture, of a check a capture, a journal and a replies
+-- file; a request that reads nothing asks for none
 abbrev pub IsToldGood : Option Request → Option (List ℕ) → Type 0
 IsToldGood None rest = ⊥
 IsToldGood (Some (Requests.Run run out)) None = ⊥

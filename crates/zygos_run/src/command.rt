@@ -26,7 +26,8 @@ pub(crate) fn carry_out<R: Threads + Wait + Sync, S: Source, K: Sink, G: Gate + 
 ) -> Answer
     ensures reads { S.faults source.old ≤ S.faults source.new }
     ensures writes { K.faults sink.old ≤ K.faults sink.new }
-    ensures cause { HasCause S.rest S.faults K.holds K.faults (request_of words.now) source.old source.new sink.old sink.new result }
+    ensures cause { HasCause S.rest S.faults K.holds K.faults
+        (request_of words.now) source.old source.new sink.old sink.new result }
     ensures source_kept { ReadsNothing (request_of words.now) → source.new ≡ source.old }
 {
     requests_are_in_their_ranges();

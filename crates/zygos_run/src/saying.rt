@@ -12,7 +12,8 @@ use zy_parts::Refusal;
 
 /// Says the line of the answer. That it fails changes nothing.
 pub(crate) fn say<E: Sink>(says: &mut E, answer: &Answer)
-    ensures said { Said (E.holds says.old) (E.holds says.new) (E.faults says.old) (E.faults says.new) (line_of answer.now) }
+    ensures said { Said (E.holds says.old) (E.holds says.new) (E.faults says.old) (E.faults says.new)
+        (line_of answer.now) }
 {
     let _ = say_line(says, answer);
 }

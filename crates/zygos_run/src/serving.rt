@@ -41,15 +41,18 @@ pub fn serve<R: Threads + Wait + Sync, S: Source, K: Sink, E: Sink, G: Gate + Sy
 ) -> Answer
     // The headline.
     ensures headline { (j : _) → result ≡ Answer.Served j
-        → HeadlineHolds (asked_of words.now) (S.rest source.old) (S.rest source.new) (K.holds sink.old) (K.holds sink.new) j }
+        → HeadlineHolds (asked_of words.now) (S.rest source.old) (S.rest source.new) (K.holds sink.old)
+        (K.holds sink.new) j }
     ensures served { (j : _) → result ≡ Answer.Served j
-        → HasServed (asked_of words.now) (S.rest source.old) (S.rest source.new) (K.holds sink.old) (K.holds sink.new) j }
+        → HasServed (asked_of words.now) (S.rest source.old) (S.rest source.new) (K.holds sink.old)
+        (K.holds sink.new) j }
 
     // The other commands.
     ensures verdict { (v : _) → result ≡ Answer.Checked v
         → CheckHolds (request_of words.now) (S.rest source.old) (S.rest source.new) v }
     ensures checked { (v : _) → result ≡ Answer.Checked v
-        → HasChecked (request_of words.now) (S.rest source.old) (S.rest source.new) (K.holds sink.old) (K.holds sink.new) v }
+        → HasChecked (request_of words.now) (S.rest source.old) (S.rest source.new) (K.holds sink.old)
+        (K.holds sink.new) v }
     ensures made { result ≡ Answer.Made → HasMade (request_of words.now) (K.holds sink.old) (K.holds sink.new) }
     ensures tested { (j m : _) → result ≡ Answer.Tested j m
         → HasTested (request_of words.now) (K.holds sink.old) (K.holds sink.new) j m }

@@ -34,7 +34,8 @@ pub(crate) fn serve_capture<R: Threads + Wait + Sync, S: Source, K: Sink, G: Gat
     requires runnable { IsRunnable run }
     ensures reads { S.faults source.old ≤ S.faults source.new }
     ensures writes { K.faults sink.old ≤ K.faults sink.new }
-    ensures cause { RunEnds S.rest S.faults K.holds K.faults run.shards out source.old source.new sink.old sink.new result }
+    ensures cause { RunEnds S.rest S.faults K.holds K.faults run.shards out source.old source.new sink.old sink.new
+        result }
 {
     match run_capture(rt, alloc, run, source, gate) {
         Ok(done) => match write_all(sink, out, &done) {

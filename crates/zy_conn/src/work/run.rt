@@ -38,7 +38,8 @@ impl Work {
     ) -> Result<Option<HoldEnd>, NoMemory>
         requires table { self.old.table ≡ store.now.id }
         ensures goes { Goes self.old self.new }
-        ensures none { IfOk result (λ stop. MatchOption stop ((self.new.finished ≡ self.old.finished + 1) × (self.new.begun ≡ idle))
+        ensures none { IfOk result (λ stop. MatchOption stop ((self.new.finished ≡ self.old.finished + 1)
+            × (self.new.begun ≡ idle))
             (λ end. (self.new.finished ≡ self.old.finished) × StopsBy self.old self.new end)) }
         ensures err { OnErr result (self.new.finished ≡ self.old.finished) }
     {

@@ -30,7 +30,8 @@ impl Home {
 
         // What is dropped.
         ensures still { self.old.ended ≡ true → (result ≡ Ok tt) × (self.new ≡ self.old) }
-        ensures others { IsOfOthers self.old.core self.old.cores self.old.count item → (result ≡ Ok tt) × (self.new ≡ self.old) }
+        ensures others { IsOfOthers self.old.core self.old.cores self.old.count item
+            → (result ≡ Ok tt) × (self.new ≡ self.old) }
 
         // What stays, and a refusal.
         ensures same { SameHome self.old self.new }
@@ -49,7 +50,8 @@ impl Home {
         ensures ended { OnOk result (self.new.ended ≡ (self.old.ended || is_end item.now)) }
         ensures forwards { OnOk result (Forwards self.old self.new item.now) }
         ensures still { self.old.ended ≡ true → (result ≡ Ok tt) × (self.new ≡ self.old) }
-        ensures others { IsOfOthers self.old.core self.old.cores self.old.count item.now → (result ≡ Ok tt) × (self.new ≡ self.old) }
+        ensures others { IsOfOthers self.old.core self.old.cores self.old.count item.now
+            → (result ≡ Ok tt) × (self.new ≡ self.old) }
         ensures same { SameHome self.old self.new }
         ensures refused { self.new.refused ≡ is_err result }
         ensures err { OnErr result (SameHand self.old self.new) }

@@ -55,7 +55,8 @@ fn block_of(
     requires table { root.old.table ≡ store.now.id }
     requires within { conn < 4096 }
     requires fresh { is_in conn root.old.given ≡ false }
-    ensures block { IfOk result (λ made. made.0 ≡ blocked (worked (passed store.now.id conn [] untraced) made.1.ring [] [] idle 0 0 []) []) }
+    ensures block { IfOk result (λ made. made.0 ≡ blocked
+        (worked (passed store.now.id conn [] untraced) made.1.ring [] [] idle 0 0 []) []) }
     ensures inlet { IfOk result (λ made. made.1.sent ≡ []) }
     ensures root { OnOk result ((root.new.table ≡ store.now.id) × (root.new.given ≡ conn ∷ root.old.given)) }
 {
