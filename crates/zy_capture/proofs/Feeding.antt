@@ -8,7 +8,7 @@ use Rattle.zy_capture.specs.declared.capture_fault.CaptureFault.{CaptureFault}
 use Rattle.zy_capture.specs.declared.due.Due.{Due}
 use Rattle.zy_capture.specs.declared.due.Due.TheVariants.{Broken}
 use Rattle.zy_capture.specs.Steps.{Progress, step}
-use Rattle.zy_capture.specs.Verdict.{captures, ended, fault_in, version_of, version_in, count_of, count_in}
+use Rattle.zy_capture.specs.Verdict.{captures, ended, fault_in, version_of, version_in, count_of, count_in, is_within, is_within_record}
 use Rattle.zy_capture.specs.Standing.{StandsFor}
 
 pub is_broken : (due : Due) (fault : CaptureFault) → fault_in due ≡ Some fault → due ≡ Broken fault
@@ -28,3 +28,7 @@ version_here p given b stands = ap (λ (r : Reading Progress Record). version_in
 pub count_here : (p : Progress) (given : List Record) (b : List ℕ) → StandsFor p given b → count_of b ≡ count_in p.due p.count
 unfolding count_of StandsAs
 count_here p given b stands = ap (λ (r : Reading Progress Record). count_in r.last.due r.last.count) stands
+
+pub within_here : (p : Progress) (given : List Record) (b : List ℕ) → StandsFor p given b → is_within_record b ≡ is_within p.due
+unfolding is_within_record StandsAs
+within_here p given b stands = ap (λ (r : Reading Progress Record). is_within r.last.due) stands

@@ -7,7 +7,7 @@ use Rattle.zy_capture.specs.declared.record.Record.{Record}
 use Rattle.zy_capture.specs.declared.capture_fault.CaptureFault.{CaptureFault}
 use Rattle.zy_capture.specs.declared.capture_fault.CaptureFault.TheVariants.{BadMagic, ConnCount, Truncated}
 use Rattle.zy_capture.specs.declared.due.Due.{Due}
-use Rattle.zy_capture.specs.declared.due.Due.TheVariants.{Letters, Digit, LineFeed, Count, Nothing, Broken}
+use Rattle.zy_capture.specs.declared.due.Due.TheVariants.{Letters, Digit, LineFeed, Count, Connection, Length, Payload, Closed, Nothing, Broken}
 use Rattle.zy_capture.specs.Steps.{Progress, start, step}
 
 -- ---- a whole text
@@ -63,6 +63,14 @@ count_in (Broken (BadMagic at)) count = None
 count_in (Broken (ConnCount number)) count = None
 count_in due count = Some count
 
+-- a record was begun, and has not ended
+abbrev pub is_within : Due → Bool
+is_within Connection = true
+is_within (Length conn) = true
+is_within (Payload conn length) = true
+is_within Closed = true
+is_within due = false
+
 -- the records that are whole in a text, before its first fault
 abbrev pub records_of : List ℕ → List Record
 records_of text = given_by captures text
@@ -78,6 +86,10 @@ version_of text = version_in (reading_of captures text).last.version
 -- the connection count of a text
 unfoldable pub count_of : List ℕ → Option ℕ
 count_of text = count_in (reading_of captures text).last.due (reading_of captures text).last.count
+
+-- a record was begun in a text, and has not ended
+unfoldable pub is_within_record : List ℕ → Bool
+is_within_record text = is_within (reading_of captures text).last.due
 
 -- ---- for proofs
 

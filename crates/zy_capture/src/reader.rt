@@ -5,7 +5,7 @@ ghost use Rattle.zy_read.specs.declared.not_taken.NotTaken.TheVariants.{NoMemory
 ghost use Rattle.zy_capture.specs.declared.due.Due.TheVariants as Dues;
 ghost use Rattle.zy_capture.specs.Capture.{capture_limit};
 ghost use Rattle.zy_capture.specs.Steps.{grown_by};
-ghost use Rattle.zy_capture.specs.Verdict.{captures, verdict, version_of, count_of, is_good};
+ghost use Rattle.zy_capture.specs.Verdict.{captures, verdict, version_of, count_of, is_within_record, is_good};
 ghost use Rattle.zy_capture.specs.Standing.{StandsFor, EndsBy, IsLengthEnd};
 
 mod steps;
@@ -171,6 +171,17 @@ impl Reader {
             | Due::Broken(CaptureFault::ConnCount { .. }) => None,
             _ => Some(self.count),
         }
+    }
+
+    #[tactic(auto, using(crate::proofs::Feeding::within_here))]
+    /// True exactly where a record was begun that has not ended.
+    pub fn is_within_record(&self) -> bool
+        ensures value { AnswersBy captures self.now is_within_record result }
+    {
+        matches!(
+            self.due,
+            Due::Connection | Due::Length { .. } | Due::Payload { .. } | Due::Closed
+        )
     }
 
     #[tactic(auto, using(zy_read::proofs::Feeding::verdict_here))]
