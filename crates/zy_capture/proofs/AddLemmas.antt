@@ -1,5 +1,5 @@
 -- One more at the end: a record of the streams, and an output of the outputs.
-use Rattle.std.proofs.Common.{◌≡◌, inl, inr, ℕ, zero, suc, ◌+◌, List, [], ◌∷◌, ◌++◌, length, set, get_or, refl, sym, ◌∙◌, ap, subst, arith, append_assoc}
+use Rattle.std.proofs.Common.{◌≡◌, ◌⊎◌, inl, inr, ℕ, zero, suc, ◌+◌, List, [], ◌∷◌, ◌++◌, length, set, get_or, refl, sym, ◌∙◌, ap, subst, arith, append_assoc}
 use Rattle.std.specs.Prelude.{◌==◌, false}
 use Rattle.std.specs.List.{AllByRecursion, slice_set}
 use Rattle.std.proofs.lemmas.List.{append-nil, length-set, length-replicate}
@@ -92,30 +92,35 @@ sessions_are version conn before zero ((first ∷ sessions) ∷ next ∷ connect
 sessions_are version conn before (suc i) ((first ∷ sessions) ∷ connections) all last =
     sessions_past conn 0 before first sessions (all_items (conn + 1) connections) ∙ sessions_are version (conn + 1) (0 + length (first ∷ sessions)) i connections all.1 (omega (arith, last))
 
+-- the session that an output of this connection has when it is added: the first of the next connection, or one more of the last
+abbrev pub IsAdded : List (List (List ℕ)) → ℕ → ℕ → Type 0
+IsAdded sessions conn session =
+    ((conn ≡ length sessions) × (session ≡ 0)) ⊎ ((conn + 1 ≡ length sessions) × (session ≡ length (sessions_of sessions conn)))
+
+-- an output that is added is the last one
+pub added_last : (outputs : AllOutputs) (item : SessionBytes) → IsAdded outputs.sessions item.conn item.session → items_of (with_output outputs item.conn item.bytes) ≡ items_of outputs ++ item ∷ []
+added_last outputs item (inl next) =
+    let is : with_session outputs.sessions item.conn item.bytes ≡ outputs.sessions ++ (item.bytes ∷ []) ∷ [] = rw (eq-eqb item.conn (length outputs.sessions) next.0) refl in
+    let same : output_of (0 + length outputs.sessions) 0 item.bytes ≡ item = (let place : 0 + length outputs.sessions ≡ item.conn = omega (arith, next.0) in rw (place, sym next.1) refl) in
+    ap (λ (l : List (List (List ℕ))). all_items 0 l) is ∙ next_on 0 outputs.sessions item.bytes ∙ ap (λ (o : SessionBytes). items_of outputs ++ o ∷ []) same
+added_last outputs item (inr last) =
+    let old : List (List ℕ) = sessions_of outputs.sessions item.conn in
+    let differs : (item.conn == length outputs.sessions) ≡ false = grind (arith, nat_tests, last.0) in
+    let is : with_session outputs.sessions item.conn item.bytes ≡ slice_set outputs.sessions item.conn (old ++ item.bytes ∷ []) = rw differs refl in
+    ap (λ (l : List (List (List ℕ))). all_items 0 l) is ∙ last_on 0 item.conn outputs.sessions item.bytes last.0
+    ∙ ap (λ (n : ℕ). all_items 0 outputs.sessions ++ output_of n (length old) item.bytes ∷ []) (omega arith)
+    ∙ ap (λ (n : ℕ). items_of outputs ++ output_of item.conn n item.bytes ∷ []) (sym last.1)
+
 -- an output that comes next in a file may be added, and its session is the one that is added
 pub record Adds (outputs : AllOutputs) (item : SessionBytes) : Type 0 where
   pub may : MayAdd outputs item.conn
   pub items : items_of (with_output outputs item.conn item.bytes) ≡ items_of outputs ++ item ∷ []
 
 adds : (outputs : AllOutputs) (item : SessionBytes) → AreOutputs outputs → IsNext outputs.version (length outputs.sessions) (sessions_after 0 (items_of outputs)) item.conn item.session → AreNumbers item.conn item.session → Adds outputs item
-adds outputs item are (inl next) numbers =
-    let is : with_session outputs.sessions item.conn item.bytes ≡ outputs.sessions ++ (item.bytes ∷ []) ∷ [] = rw (eq-eqb item.conn (length outputs.sessions) next.0) refl in
-    let same : output_of (0 + length outputs.sessions) 0 item.bytes ≡ item = (let place : 0 + length outputs.sessions ≡ item.conn = omega (arith, next.0) in rw (place, sym next.1) refl) in
-    record {
-      may = inl (next.0, numbers.0);
-      items = ap (λ (l : List (List (List ℕ))). all_items 0 l) is ∙ next_on 0 outputs.sessions item.bytes ∙ ap (λ (o : SessionBytes). items_of outputs ++ o ∷ []) same;
-    }
+adds outputs item are (inl next) numbers = record { may = inl (next.0, numbers.0); items = added_last outputs item (inl next) }
 adds outputs item are (inr last) numbers =
-    let old : List (List ℕ) = sessions_of outputs.sessions item.conn in
-    let differs : (item.conn == length outputs.sessions) ≡ false = grind (arith, nat_tests, last.1) in
-    let is : with_session outputs.sessions item.conn item.bytes ≡ slice_set outputs.sessions item.conn (old ++ item.bytes ∷ []) = rw differs refl in
-    let count : item.session ≡ length old = last.2 ∙ sessions_are outputs.version 0 0 item.conn outputs.sessions are.sessions last.1 in
-    record {
-      may = inr (last.0, last.1, omega (arith, count, numbers.1));
-      items = ap (λ (l : List (List (List ℕ))). all_items 0 l) is ∙ last_on 0 item.conn outputs.sessions item.bytes last.1
-          ∙ ap (λ (n : ℕ). all_items 0 outputs.sessions ++ output_of n (length old) item.bytes ∷ []) (omega arith)
-          ∙ ap (λ (n : ℕ). items_of outputs ++ output_of item.conn n item.bytes ∷ []) (sym count);
-    }
+    let count : item.session ≡ length (sessions_of outputs.sessions item.conn) = last.2 ∙ sessions_are outputs.version 0 0 item.conn outputs.sessions are.sessions last.1 in
+    record { may = inr (last.0, last.1, omega (arith, count, numbers.1)); items = added_last outputs item (inr (last.1, count)) }
 
 pub next_adds : (outputs : AllOutputs) (item : SessionBytes) → AreOutputs outputs → AreInOrder outputs.version 0 0 (items_of outputs ++ item ∷ []) → Adds outputs item
 next_adds outputs item are ordered =
