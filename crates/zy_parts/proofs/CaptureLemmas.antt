@@ -1,27 +1,34 @@
 -- What is kept of a capture while it is read.
-use Rattle.std.proofs.Common.{◌≡◌, ℕ, Bool, true, false, List, [], ◌∷◌, ◌++◌, length, refl, sym, ◌∙◌, ap, subst}
-use Rattle.std.specs.Prelude.{Option, None, Some, Result, Ok, Err, OnOk, IfOk, IfErr, ⊤}
+use Rattle.std.proofs.Common.{◌≡◌, ◌⊎◌, inl, inr, ℕ, ◌+◌, ◌==◌, Bool, true, false, List, [], ◌∷◌, ◌++◌, length, refl, sym, ◌∙◌, ap, subst}
+use Rattle.std.specs.Int.{from_be_bytes, w32}
+use Rattle.std.specs.Prelude.{nat_lt, if◌then◌else◌, Option, None, Some, Result, Ok, Err, OnOk, IfOk, IfErr, ⊤}
+use Rattle.zy_read.specs.declared.not_taken.NotTaken.{NotTaken}
+use Rattle.zy_read.specs.declared.not_taken.NotTaken.TheVariants.{Fault}
+use Rattle.zy_read.specs.Standing.{given_in, Feeds, MeetsFault, TellsFault}
 use Rattle.zy_read.proofs.Feeding.{verdict_here}
 use Rattle.zy_base.specs.declared.outside.NoMemory as Outside
 use Rattle.zy_capture.specs.declared.record.Record.{Record}
+use Rattle.zy_capture.specs.declared.record.Record.TheVariants as Kinds
 use Rattle.zy_capture.specs.declared.capture_fault.CaptureFault.{CaptureFault}
-use Rattle.zy_capture.specs.declared.capture_fault.CaptureFault.TheVariants.{Trailing}
+use Rattle.zy_capture.specs.declared.capture_fault.CaptureFault.TheVariants.{ConnRange, SegmentLength, Trailing, TooLong}
 use Rattle.zy_capture.specs.declared.due.Due.{Due}
-use Rattle.zy_capture.specs.declared.due.Due.TheVariants.{Nothing, Broken}
+use Rattle.zy_capture.specs.declared.due.Due.TheVariants.{Letters, Digit, LineFeed, Count, Tag, Connection, Length, Payload, Closed, Nothing, Broken}
 use Rattle.zy_capture.specs.Streams.{no_bytes, with_record, with_records}
-use Rattle.zy_capture.specs.Steps.{Progress, step}
+use Rattle.zy_capture.specs.Capture.{segment_limit}
+use Rattle.zy_capture.specs.Steps.{Progress, Step, goes, gives, refuses, keeps, grows, place, judged, number, taken, is_full, step}
 use Rattle.zy_capture.specs.Standing.{StandsFor, EndsAs}
-use Rattle.zy_capture.specs.Verdict.{captures, ended, fault_in, is_good, verdict, fault_of, count_of, count_in}
+use Rattle.zy_capture.specs.Verdict.{captures, ended, fault_in, is_good, verdict, fault_of, count_of, count_in, is_within, is_within_record}
 use Rattle.zy_capture.specs.Verdict.Verdict.{Good}
-use Rattle.zy_capture.proofs.Feeding.{lasting, count_here}
+use Rattle.zy_capture.proofs.Feeding.{lasting, count_here, within_here}
 use Rattle.zy_capture.proofs.AddLemmas.{records_on, streams_size}
 use Rattle.zy_parts.specs.declared.capture_part.CapturePart.{CapturePart}
-use Rattle.zy_parts.specs.Parts.{HasStreams}
+use Rattle.zy_parts.specs.Parts.{HasStreams, HasCaptureFault}
 use Rattle.zy_parts.specs.declared.stop.Stop.{Stop}
 use Rattle.zy_parts.specs.declared.stop.Stop.TheVariants.{Refused, ReadFault, NoMemory}
-use Rattle.zy_parts.specs.Reading.{Takes, EndsWhole}
+use Rattle.zy_parts.specs.Reading.{Takes, EndsWhole, GoesOn}
 use Rattle.zy_parts.specs.Kinds.{KeepsStreams, StandsForCapture, capture_kind}
-use Rattle.zy_parts.proofs.FormatLemmas.{EndsOnce}
+use Rattle.journal_reader.proofs.CallLemmas.{either}
+use Rattle.zy_parts.proofs.FormatLemmas.{EndsOnce, StaysOpen, piece_fault}
 
 -- ---- the format
 
@@ -37,6 +44,79 @@ closes p given byte good = let is : p.due ≡ Nothing = end_read p.due p given g
 -- a byte behind a capture is a fault
 pub once : EndsOnce captures is_good
 once = record { lasting = lasting; closes = closes; bad = λ fault. refl }
+
+-- ---- pieces
+
+-- within a record a byte that doesn't end it leads on within it, or to a fault
+abbrev LeadsOn : Step → Type 0
+LeadsOn s = s.gave ≡ None → (is_within s.next.due ≡ true) ⊎ ((fault : CaptureFault) × (fault_in s.next.due ≡ Some fault))
+
+faulty : (p : Progress) (fault : CaptureFault) → LeadsOn (refuses p fault)
+faulty p fault none = inr (fault, refl)
+
+judged_leads : (due : Due) (p : Progress) (n : ℕ) → is_within due ≡ true → LeadsOn (judged due p n)
+judged_leads Connection p n within =
+    either LeadsOn (nat_lt n p.count) (goes p (Length n)) (refuses p (ConnRange (place p) n)) (λ none. inl refl) (faulty p (ConnRange (place p) n))
+judged_leads (Length conn) p n within =
+    either LeadsOn (nat_lt segment_limit n) (refuses p (SegmentLength (place p) n)) (if n == 0 then gives p (Kinds.Segment (record { conn = conn; bytes = [] })) else goes (record p { payload = [] }) (Payload conn n)) (faulty p (SegmentLength (place p) n))
+    (either LeadsOn (n == 0) (gives p (Kinds.Segment (record { conn = conn; bytes = [] }))) (goes (record p { payload = [] }) (Payload conn n)) (λ none. cc) (λ none. inl refl))
+judged_leads Closed p n within =
+    either LeadsOn (nat_lt n p.count) (gives p (Kinds.Close n)) (refuses p (ConnRange (place p) n)) (λ none. cc) (faulty p (ConnRange (place p) n))
+judged_leads (Payload conn size) p n within = λ none. inl refl
+judged_leads Count p n within = cc
+judged_leads Letters p n within = cc
+judged_leads Digit p n within = cc
+judged_leads (LineFeed version) p n within = cc
+judged_leads Tag p n within = cc
+judged_leads Nothing p n within = cc
+judged_leads (Broken fault) p n within = cc
+
+number_leads : (due : Due) (p : Progress) (byte : ℕ) → is_within due ≡ true → LeadsOn (number due p byte)
+number_leads due p byte within =
+    let n : ℕ = from_be_bytes w32 (p.field ++ byte ∷ []) in
+    either LeadsOn (nat_lt (length p.field) 3) (keeps p due byte) (judged due p n) (λ none. inl within) (judged_leads due p n within)
+
+taken_leads : (due : Due) (p : Progress) (byte : ℕ) → is_within due ≡ true → LeadsOn (taken due p byte)
+taken_leads Connection p byte within = number_leads Connection p byte within
+taken_leads (Length conn) p byte within = number_leads (Length conn) p byte within
+taken_leads Closed p byte within = number_leads Closed p byte within
+taken_leads (Payload conn size) p byte within =
+    either LeadsOn (nat_lt (length p.payload + 1) size) (grows p (Payload conn size) byte) (gives p (Kinds.Segment (record { conn = conn; bytes = p.payload ++ byte ∷ [] }))) (λ none. inl refl) (λ none. cc)
+taken_leads Count p byte within = cc
+taken_leads Letters p byte within = cc
+taken_leads Digit p byte within = cc
+taken_leads (LineFeed version) p byte within = cc
+taken_leads Tag p byte within = cc
+taken_leads Nothing p byte within = cc
+taken_leads (Broken fault) p byte within = cc
+
+step_leads : (p : Progress) (byte : ℕ) → is_within p.due ≡ true → LeadsOn (step p byte)
+step_leads p byte within = either LeadsOn (is_full p) (refuses p TooLong) (taken p.due p byte) (faulty p TooLong) (taken_leads p.due p byte within)
+
+-- a record was begun, and has not ended
+abbrev pub IsWithin : Progress → Type 0
+IsWithin p = is_within p.due ≡ true
+
+within_not_read : (due : Due) (p : Progress) (given : List Record) → is_within due ≡ true → is_good (ended due p given) ≡ true → ⊥
+within_not_read Nothing p given within good = cc
+within_not_read (Broken fault) p given within good = cc
+within_not_read due p given within good = cc
+
+pub stays : StaysOpen captures is_good IsWithin
+stays = record {
+  never = λ p given within good. within_not_read p.due p given within good;
+  goes = λ p byte within none. step_leads p byte within none;
+}
+
+-- a fault within a record, whatever follows
+pub fault_within : (part : CapturePart) (q : Progress) (bytes piece more : List ℕ) (answer : Result (Option Record) (NotTaken CaptureFault)) (fault : CaptureFault) → answer ≡ Err (Fault fault) → StandsForCapture part bytes → GoesOn captures is_good bytes → is_within_record bytes ≡ true
+    → Feeds captures part.reader q piece (given_in answer) → TellsFault captures part.reader piece answer → HasCaptureFault ((bytes ++ piece) ++ more) fault
+fault_within part q bytes piece more answer fault is stands goes_on within feeds tells =
+    let fed : Feeds captures part.reader q piece [] = subst (λ (a : Result (Option Record) (NotTaken CaptureFault)). Feeds captures part.reader q piece (given_in a)) is feeds in
+    let met : MeetsFault captures part.reader piece (Some fault) = subst (λ (a : Result (Option Record) (NotTaken CaptureFault)). TellsFault captures part.reader piece a) is tells in
+    let here : IsWithin part.reader = sym (within_here part.reader stands.given bytes stands.reader) ∙ within in
+    let found = piece_fault captures is_good once IsWithin stays part.reader q stands.given bytes piece more fault stands.reader here goes_on fed met in
+    record { none = found.0; bad = found.1 }
 
 -- ---- what is kept
 

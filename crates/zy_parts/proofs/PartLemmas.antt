@@ -1,8 +1,8 @@
--- What is read of a part, byte after byte, for all kinds of parts.
-use Rattle.std.proofs.Common.{◌≡◌, ◌⊎◌, inl, inr, ℕ, Bool, true, false, List, [], ◌∷◌, ◌++◌, refl, sym, ◌∙◌, ap, subst, append_assoc}
+-- What is read of a part, piece after piece, for all kinds of parts.
+use Rattle.std.proofs.Common.{◌≡◌, ◌⊎◌, inl, inr, ℕ, ◌+◌, ◌-◌, ◌≤◌, Bool, true, false, List, [], ◌++◌, length, take, drop, refl, sym, ◌∙◌, ap, subst, arith, append_assoc, length-drop}
 use Rattle.std.specs.Prelude.{Option, None, Some, IfSome, Result, Ok, Err}
 use Rattle.std.specs.Io.KnownBytes.{Consumes, IsAtEnd}
-use Rattle.std.proofs.lemmas.List.{append-nil}
+use Rattle.std.proofs.lemmas.List.{append-nil, take-append-drop, drop-take, drop-drop, length-take-le}
 use Rattle.zy_parts.specs.declared.stop.Stop.{Stop}
 use Rattle.zy_parts.specs.declared.stop.Stop.TheVariants.{Refused, ReadFault, NoMemory}
 use Rattle.zy_parts.specs.Reading.{Kind, HasGiven, IsOver, HasStopped, HasFaultBehind, Takes, EndsWhole, EndsCut, Advances, Reads}
@@ -21,36 +21,54 @@ told_all None after bytes P consumed end holds = tt
 told_all (Some u) None bytes P consumed end holds = absurd consumed
 told_all (Some u) (Some v) bytes P consumed end holds = subst P (sym (consumed ∙ ap (λ (l : List ℕ). bytes ++ l) end ∙ append-nil bytes)) holds
 
--- ---- one byte more
+-- ---- some bytes more
 
--- one byte more of a part that goes on
-byte_given : {S : Type 0} (rest : S → Option (List ℕ)) (faults : S → ℕ) (first now : S) (left before bytes : List ℕ) (byte : ℕ) → HasGiven rest faults first now left ((before ++ bytes) ++ byte ∷ []) → HasGiven rest faults first now left (before ++ (bytes ++ byte ∷ []))
-byte_given rest faults first now left before bytes byte given =
-    subst (λ (l : List ℕ). HasGiven rest faults first now left l) (append_assoc before bytes (byte ∷ [])) given
+-- what is left of a piece after its first bytes
+pub piece_on : (piece left : List ℕ) (at end count : ℕ) → left ≡ take (end - at) (drop at piece) → count ≤ length left → at ≤ end → end ≤ length piece → take (end - (at + count)) (drop (at + count) piece) ≡ drop count left
+piece_on piece left at end count is few rising within =
+    let size : length left ≡ end - at = ap length is ∙ length-take-le (end - at) (drop at piece) (let dropped = length-drop at piece in omega arith) in
+    let all : end - at ≡ count + (end - (at + count)) = omega arith in
+    sym (ap (λ (l : List ℕ). drop count l) is ∙ ap (λ (n : ℕ). drop count (take n (drop at piece))) all ∙ drop-take count (end - (at + count)) (drop at piece) ∙ ap (λ (l : List ℕ). take (end - (at + count)) l) (drop-drop count at piece))
 
 -- the bytes of the part and then the others, behind what came before
 regrouped : (before bytes left more : List ℕ) → ((before ++ bytes) ++ left) ++ more ≡ before ++ (bytes ++ (left ++ more))
 regrouped before bytes left more = append_assoc (before ++ bytes) left more ∙ append_assoc before bytes (left ++ more)
 
--- where the byte that was taken leads
-pub took : {P T S : Type 0} (kind : Kind P T) (rest : S → Option (List ℕ)) (faults : S → ℕ) (first now : S) (left before bytes : List ℕ) (byte : ℕ) (reader : P) (answer : Result Bool Stop) → HasGiven rest faults first now left ((before ++ bytes) ++ byte ∷ [])
-    → Takes kind reader (bytes ++ byte ∷ []) answer → Advances kind rest faults first now left before bytes reader answer
-took kind rest faults first now left before bytes byte reader (Ok false) given takes =
-    (byte, record { given = byte_given rest faults first now left before bytes byte given; stands = takes.0; goes_on = takes.1 })
-took kind rest faults first now left before bytes byte reader (Ok true) given takes = record {
-  bytes = bytes ++ byte ∷ [];
-  given = byte_given rest faults first now left before bytes byte given;
+-- first bytes of what is left of the piece are the next of the part
+taken_from : (before bytes left : List ℕ) (count : ℕ) → (before ++ bytes) ++ left ≡ (before ++ (bytes ++ take count left)) ++ drop count left
+taken_from before bytes left count =
+    ap (λ (l : List ℕ). (before ++ bytes) ++ l) (sym (take-append-drop count left))
+    ∙ sym (append_assoc (before ++ bytes) (take count left) (drop count left))
+    ∙ ap (λ (l : List ℕ). l ++ drop count left) (append_assoc before bytes (take count left))
+
+-- some bytes more of a part
+given_on : {S : Type 0} (rest : S → Option (List ℕ)) (faults : S → ℕ) (first now : S) (left before bytes : List ℕ) (count : ℕ) → HasGiven rest faults first now left (before ++ bytes)
+    → HasGiven rest faults first now (drop count left) (before ++ (bytes ++ take count left))
+given_on rest faults first now left before bytes count given = record {
+  source = subst (λ (l : List ℕ). Consumes (rest first) (rest now) l) (taken_from before bytes left count) given.source;
+  count = given.count;
+}
+
+-- where the bytes that were taken lead
+pub took : {P T S : Type 0} (kind : Kind P T) (rest : S → Option (List ℕ)) (faults : S → ℕ) (first now : S) (left before bytes : List ℕ) (count : ℕ) (reader : P) (answer : Result Bool Stop) → HasGiven rest faults first now left (before ++ bytes)
+    → Takes kind reader (bytes ++ take count left) answer → Advances kind rest faults first now (drop count left) before bytes reader answer
+took kind rest faults first now left before bytes count reader (Ok false) given takes =
+    (take count left, record { given = given_on rest faults first now left before bytes count given; stands = takes.0; goes_on = takes.1 })
+took kind rest faults first now left before bytes count reader (Ok true) given takes = record {
+  bytes = bytes ++ take count left;
+  given = given_on rest faults first now left before bytes count given;
   stands = takes.0;
   end = inl takes.1;
 }
-took kind rest faults first now left before bytes byte reader (Err (Refused refusal)) given takes =
-    let taken : List ℕ = bytes ++ byte ∷ [] in (
+took kind rest faults first now left before bytes count reader (Err (Refused refusal)) given takes =
+    let taken : List ℕ = bytes ++ take count left in
+    let others : List ℕ = drop count left in (
       (taken ++ [], takes []),
-      told_first (rest first) (rest now) ((before ++ taken) ++ left) (λ (text : List ℕ). HasFaultBehind kind before text refusal) (byte_given rest faults first now left before bytes byte given).source
-          (λ more. record { rest = taken ++ (left ++ more); whole = regrouped before taken left more; faulty = takes (left ++ more) }),
+      told_first (rest first) (rest now) ((before ++ taken) ++ others) (λ (text : List ℕ). HasFaultBehind kind before text refusal) (given_on rest faults first now left before bytes count given).source
+          (λ more. record { rest = taken ++ (others ++ more); whole = regrouped before taken others more; faulty = takes (others ++ more) }),
     )
-took kind rest faults first now left before bytes byte reader (Err ReadFault) given takes = absurd takes
-took kind rest faults first now left before bytes byte reader (Err NoMemory) given takes = tt
+took kind rest faults first now left before bytes count reader (Err ReadFault) given takes = absurd takes
+took kind rest faults first now left before bytes count reader (Err NoMemory) given takes = tt
 
 -- ---- the end
 

@@ -13,14 +13,14 @@ use Rattle.zy_capture.specs.RepliesSteps.{Progress}
 use Rattle.zy_capture.specs.RepliesStanding.{StandsForReplies, EndsAs}
 use Rattle.zy_capture.specs.RepliesVerdict.{replies, ended, verdict, fault_of, outputs_of, version_in, version_of}
 use Rattle.zy_capture.specs.RepliesVerdict.Verdict.{Good}
-use Rattle.zy_capture.proofs.AddLemmas.{next_adds}
+use Rattle.zy_capture.proofs.AddLemmas.{added_last}
 use Rattle.zy_capture.proofs.RepliesFeeding.{lasting, version_here}
 use Rattle.zy_capture.proofs.RepliesSoFarLemmas.{outputs_so_far}
 use Rattle.zy_parts.specs.declared.replies_part.RepliesPart.{RepliesPart}
 use Rattle.zy_parts.specs.declared.stop.Stop.{Stop}
 use Rattle.zy_parts.specs.declared.stop.Stop.TheVariants.{Refused, ReadFault, NoMemory}
 use Rattle.zy_parts.specs.Reading.{EndsCut}
-use Rattle.zy_parts.specs.Kinds.{StandsForRepliesPart, KeepsOutputs, HasOutputs, never, replies_kind}
+use Rattle.zy_parts.specs.Kinds.{StandsForRepliesPart, KeepsOutputs, ComesNext, HasOutputs, never, replies_kind}
 use Rattle.zy_parts.proofs.FormatLemmas.{EndsOnce}
 
 -- ---- the format
@@ -31,31 +31,12 @@ once = record { lasting = lasting; closes = λ p given byte good. cc; bad = λ f
 
 -- ---- what is kept
 
--- a byte more
-pub bytes_on : (bytes : List ℕ) (byte : ℕ) → AreBytes bytes → byte < 256 → AreBytes (bytes ++ byte ∷ [])
-bytes_on [] byte are small = (small, tt)
-bytes_on (first ∷ bytes) byte are small = (are.0, bytes_on bytes byte are.1 small)
-
-some_item : (given : List SessionBytes) (item : SessionBytes) → given ++ item ∷ [] ≢ []
-some_item [] item none = cc
-some_item (first ∷ given) item none = cc
-
--- an output that a reader gave comes after those before it
-in_order : (p : Progress) (old : AllOutputs) (item : SessionBytes) (given : List SessionBytes) (bytes : List ℕ) → StandsForReplies p (given ++ item ∷ []) bytes → fault_of bytes ≡ None → AreBytes bytes → version_of bytes ≡ Some old.version → items_of old ≡ given → AreInOrder old.version 0 0 (items_of old ++ item ∷ [])
-in_order p old item given bytes stands clean are told kept =
-    let outputs_are : outputs_of bytes ≡ given ++ item ∷ [] = given_here replies p (given ++ item ∷ []) bytes stands in
-    let so_far = outputs_so_far bytes are clean (λ none. some_item given item (sym outputs_are ∙ none)) in
-    let version_is : version_of bytes ≡ Some so_far.version = so_far.version_is in
-    let same : so_far.version ≡ old.version = cc in
-    let items_are : outputs_of bytes ≡ items_of old ++ item ∷ [] = outputs_are ∙ ap (λ (l : List SessionBytes). l ++ item ∷ []) (sym kept) in
-    rw (← same, ← items_are) so_far.lawful.ordered
-
 -- an output more
-pub output_kept : (p : Progress) (old new : AllOutputs) (item : SessionBytes) (given : List SessionBytes) (bytes : List ℕ) (answer : Result ⊤ Outside.NoMemory) → OnOk answer (new ≡ with_output old item.conn item.bytes) → AreOutputs old
-    → StandsForReplies p (given ++ item ∷ []) bytes → fault_of bytes ≡ None → AreBytes bytes → version_of bytes ≡ Some old.version → KeepsOutputs (Some old) given → OnOk answer (KeepsOutputs (Some new) (given ++ item ∷ []))
-output_kept p old new item given bytes (Ok done) added lawful stands clean are told kept =
-    ap (λ (o : AllOutputs). items_of o) added ∙ (next_adds old item lawful (in_order p old item given bytes stands clean are told kept)).items ∙ ap (λ (l : List SessionBytes). l ++ item ∷ []) kept
-output_kept p old new item given bytes (Err e) added lawful stands clean are told kept = tt
+pub output_kept : (old new : AllOutputs) (item : SessionBytes) (given : List SessionBytes) (answer : Result ⊤ Outside.NoMemory) → OnOk answer (new ≡ with_output old item.conn item.bytes) → OnOk answer (ComesNext old.sessions item.conn item.session)
+    → KeepsOutputs (Some old) given → OnOk answer (KeepsOutputs (Some new) (given ++ item ∷ []))
+output_kept old new item given (Ok done) added next kept =
+    ap (λ (o : AllOutputs). items_of o) added ∙ added_last old item next ∙ ap (λ (l : List SessionBytes). l ++ item ∷ []) kept
+output_kept old new item given (Err e) added next kept = tt
 
 -- ---- the end
 

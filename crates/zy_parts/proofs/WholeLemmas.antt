@@ -59,7 +59,7 @@ pub replies_begun : {S : Type 0} (rest : S → Option (List ℕ)) (faults : S �
 unfolding fault_met verdict_on reading_of read_on
 replies_begun rest faults first now left bytes part given reader outputs = record {
   given = given_before rest faults first now left bytes given;
-  stands = record { given = []; reader = reader; kept = subst (λ (o : Option AllOutputs). KeepsOutputs o []) (sym outputs) refl; bytes_are = tt };
+  stands = record { given = []; reader = reader; kept = subst (λ (o : Option AllOutputs). KeepsOutputs o []) (sym outputs) refl };
   goes_on = (refl, refl);
 }
 

@@ -1,10 +1,9 @@
 -- The three kinds of parts: which bytes brought their readers to where they are, and what a text of each kind gives. No
 -- public clause cites this module.
-use Rattle.std.specs.Prelude.{◌≡◌, ℕ, Bool, false, List, [], Option, None, Some, ⊤}
+use Rattle.std.specs.Prelude.{◌≡◌, ◌⊎◌, ℕ, ◌+◌, Bool, false, List, [], length, Option, None, Some, ⊤}
 use Rattle.zy_capture.specs.declared.record.Record.{Record}
 use Rattle.zy_capture.specs.declared.session_bytes.SessionBytes.{SessionBytes}
-use Rattle.zy_capture.specs.Capture.{AreBytes}
-use Rattle.zy_capture.specs.Streams.{no_bytes, with_records}
+use Rattle.zy_capture.specs.Streams.{sessions_of, no_bytes, with_records}
 use Rattle.zy_capture.specs.Outputs.{AllOutputs, AreOutputs}
 use Rattle.zy_capture.specs.Replies.{items_of}
 use Rattle.zy_capture.specs.Standing.{StandsFor}
@@ -77,12 +76,17 @@ abbrev pub KeepsOutputs : Option AllOutputs → List SessionBytes → Type 0
 KeepsOutputs None given = given ≡ []
 KeepsOutputs (Some outputs) given = items_of outputs ≡ given
 
+-- the output of this session comes next: it is the first one of the next connection, or one more of the last one
+abbrev pub ComesNext : List (List (List ℕ)) → ℕ → ℕ → Type 0
+ComesNext sessions conn session =
+    ((conn ≡ length sessions) × (session ≡ 0))
+    ⊎ ((conn + 1 ≡ length sessions) × (session ≡ length (sessions_of sessions conn)))
+
 -- these bytes of a replies file were fed, and their outputs are kept
 pub record StandsForRepliesPart (part : RepliesPart) (bytes : List ℕ) : Type 0 where
   pub given : List SessionBytes
   pub reader : StandsForReplies part.reader given bytes
   pub kept : KeepsOutputs part.outputs given
-  pub bytes_are : AreBytes bytes
 
 -- no text is whole before the source is at its end
 abbrev pub never : Replies.Verdict → Bool

@@ -1,4 +1,4 @@
--- What was read of a source, byte after byte, and what a part makes of its bytes. No public clause cites this module.
+-- What was read of a source, piece after piece, and what a part makes of its bytes. No public clause cites this module.
 use Rattle.std.specs.Prelude.{◌≡◌, ◌⊎◌, ℕ, ◌≤◌, Bool, true, false, List, [], ◌∷◌, ◌++◌, Option, None, Some, Result, Ok, Err, IfSome, ⊤}
 use Rattle.std.specs.Io.KnownBytes.{Consumes, IsAtEnd}
 use Rattle.zy_base.specs.Outside.{Rose}
@@ -27,14 +27,6 @@ Refills rest faults first now left taken (Ok true) = HasGiven rest faults first 
 Refills rest faults first now left taken (Ok false) = HasGiven rest faults first now left taken × IsOver (rest now) left
 Refills rest faults first now left taken (Err failed) = Rose (faults first) (faults now)
 
--- one byte more was taken, or none are left, or the count of faults rose, or stands at its last value
-abbrev pub TakesNext : {S : Type 0} → (S → Option (List ℕ)) → (S → ℕ) → S → S → List ℕ → List ℕ
-    → Result (Option ℕ) Failed → Type 0
-TakesNext rest faults first now left taken (Ok (Some byte)) = HasGiven rest faults first now left (taken ++ byte ∷ [])
-TakesNext rest faults first now left taken (Ok None) =
-    HasGiven rest faults first now left taken × IsOver (rest now) left
-TakesNext rest faults first now left taken (Err failed) = Rose (faults first) (faults now)
-
 -- ---- a part
 
 -- a kind of part, which a reader reads and which gives something
@@ -50,7 +42,7 @@ pub record Kind (P T : Type 0) : Type 1 where
   -- the text has this fault, and doesn't begin with a whole part
   pub faulty : List ℕ → Refusal → Type 0
 
--- where a byte that is taken leads: the part goes on or is whole, or has a fault whatever follows; want of memory is
+-- where bytes that are taken lead: the part goes on or is whole, or has a fault whatever follows; want of memory is
 -- free
 abbrev pub Takes : {P T : Type 0} → Kind P T → P → List ℕ → Result Bool Stop → Type 0
 Takes kind now bytes (Ok false) = kind.stands now bytes × kind.goes_on bytes
@@ -104,11 +96,11 @@ pub record HasStopped {P T S : Type 0} (kind : Kind P T) (rest : S → Option (L
   pub stands : kind.stands reader bytes
   pub end : kind.whole bytes ⊎ (kind.goes_on bytes × IsOver (rest now) left)
 
--- the part goes on after one byte more, or is read no further
+-- the part goes on after some bytes more, or is read no further
 abbrev pub Advances : {P T S : Type 0} → Kind P T → (S → Option (List ℕ)) → (S → ℕ) → S → S → List ℕ → List ℕ → List ℕ
     → P → Result Bool Stop → Type 0
 Advances kind rest faults first now left before bytes reader (Ok false) =
-    (byte : ℕ) × IsReading kind rest faults first now left before (bytes ++ byte ∷ []) reader
+    (more : List ℕ) × IsReading kind rest faults first now left before (bytes ++ more) reader
 Advances kind rest faults first now left before bytes reader (Ok true) =
     HasStopped kind rest faults first now left before reader
 Advances kind rest faults first now left before bytes reader (Err stop) = StopsBy kind rest faults first now before stop

@@ -1,18 +1,19 @@
 //! Reading the capture, whose records go into streams.
-ghost use Rattle.std.specs.Prelude.{◌≡◌, ◌<◌, ◌^◌, ◌++◌, ◌∷◌, [], ℕ, List, length, true, None, Some, IfOk, IfErr, OnOk, option_to_list};
+ghost use Rattle.std.specs.Prelude.{◌≡◌, ◌<◌, ◌≤◌, ◌^◌, ◌++◌, ◌∷◌, [], ℕ, List, length, take, true, None, Some, Ok, IfOk, IfErr, OnOk, option_to_list};
 ghost use Rattle.zy_capture.specs.declared.record.Record.{Record};
 ghost use Rattle.zy_capture.specs.Standing.{StandsFor};
 ghost use Rattle.zy_capture.specs.Streams.{sessions_of, with_record};
 ghost use Rattle.zy_parts.specs.declared.stop.Stop.TheVariants as Stops;
-ghost use Rattle.zy_capture.specs.Verdict.{fault_of};
+ghost use Rattle.zy_capture.specs.Verdict.{fault_of, is_within_record};
 ghost use Rattle.zy_parts.specs.Reading.{Takes};
 ghost use Rattle.zy_parts.specs.Kinds.{KeepsStreams, capture_kind};
 
-use crate::part::Part;
+use crate::part::{Part, Taken};
 use crate::stop::{Refusal, Stop};
 use std::alloc::Global;
 use zy_base::NoMemory;
 use zy_capture::{FeedFault, Reader, Record, Streams};
+use zy_read::Fed;
 
 /// The reader of the capture, and the streams of the records that it gave.
 #[derive(Drop)]
@@ -81,7 +82,7 @@ impl CapturePart {
         }
     }
 
-    // Keeps what the reader gave at a byte. Gives whether the capture is whole.
+    // Keeps what the reader gave for some bytes. Gives whether the capture is whole.
     fn go_on(&mut self, gave: Option<Record>) -> Result<bool, Stop>
         ensures value { (given : List Record) (bytes : List ℕ)
             → StandsFor self.old.reader (given ++ option_to_list gave) bytes
@@ -93,6 +94,44 @@ impl CapturePart {
             Err(NoMemory) => Err(Stop::NoMemory),
         }
     }
+
+    // Takes one byte. Gives whether the capture is whole.
+    fn take_byte(&mut self, byte: u8) -> Result<bool, Stop>
+        ensures value { (bytes : List ℕ) → capture_kind.stands self.old bytes
+            → capture_kind.goes_on bytes → Takes capture_kind self.new (bytes ++ byte ∷ []) result }
+    {
+        match self.reader.feed(byte) {
+            Ok(gave) => self.go_on(gave),
+            Err(FeedFault::Fault(fault)) => Err(Stop::Refused(Refusal::Capture(fault))),
+            Err(FeedFault::NoMemory) => Err(Stop::NoMemory),
+        }
+    }
+
+    // Takes bytes of a record, up to its end at most.
+    fn take_piece(&mut self, next: &[u8]) -> Taken
+        requires some { 0 < length next.now }
+        ensures within { result.count ≤ length next.now }
+        ensures taken { (whole : _) → result.answer ≡ Ok whole → 0 < result.count }
+        ensures value { (bytes : List ℕ) → capture_kind.stands self.old bytes
+            → capture_kind.goes_on bytes → is_within_record bytes ≡ true
+            → Takes capture_kind self.new (bytes ++ take result.count next.now) result.answer }
+    {
+        let Fed { taken, answer } = self.reader.feed_piece(next);
+        match answer {
+            Ok(gave) => Taken {
+                count: taken,
+                answer: self.go_on(gave),
+            },
+            Err(FeedFault::Fault(fault)) => Taken {
+                count: taken,
+                answer: Err(Stop::Refused(Refusal::Capture(fault))),
+            },
+            Err(FeedFault::NoMemory) => Taken {
+                count: taken,
+                answer: Err(Stop::NoMemory),
+            },
+        }
+    }
 }
 
 impl Part for CapturePart {
@@ -100,11 +139,14 @@ impl Part for CapturePart {
 
     ghost kind = { capture_kind };
 
-    fn take(&mut self, byte: u8) -> Result<bool, Stop> {
-        match self.reader.feed(byte) {
-            Ok(gave) => self.go_on(gave),
-            Err(FeedFault::Fault(fault)) => Err(Stop::Refused(Refusal::Capture(fault))),
-            Err(FeedFault::NoMemory) => Err(Stop::NoMemory),
+    // Within a record the end of the capture doesn't come; elsewhere it may be the next byte.
+    fn take(&mut self, next: &[u8]) -> Taken {
+        if self.reader.is_within_record() {
+            return self.take_piece(next);
+        }
+        Taken {
+            count: 1,
+            answer: self.take_byte(next[0]),
         }
     }
 

@@ -3,12 +3,12 @@ ghost use Rattle.std.specs.Prelude.{[]};
 ghost use Rattle.journal_reader.specs.Standing.{StandsForJournal};
 ghost use Rattle.zy_parts.specs.Kinds.{journal_kind};
 
-use crate::part::Part;
+use crate::part::{Part, Taken};
 use crate::stop::{Refusal, Stop};
 use journal_reader::JournalReader;
 use std::alloc::Global;
 use zy_journal::Journal;
-use zy_read::FileFeed;
+use zy_read::{Fed, FileFeed};
 
 /// The reader of the journal.
 #[derive(Drop)]
@@ -32,11 +32,21 @@ impl Part for JournalPart {
 
     ghost kind = { journal_kind };
 
-    fn take(&mut self, byte: u8) -> Result<bool, Stop> {
-        match self.reader.feed(byte) {
-            Ok(_) => Ok(self.reader.is_done()),
-            Err(FileFeed::Fault(fault)) => Err(Stop::Refused(Refusal::Journal(fault))),
-            Err(FileFeed::NoMemory) => Err(Stop::NoMemory),
+    fn take(&mut self, next: &[u8]) -> Taken {
+        let Fed { taken, answer } = self.reader.feed_piece(next);
+        match answer {
+            Ok(_) => Taken {
+                count: taken,
+                answer: Ok(self.reader.is_done()),
+            },
+            Err(FileFeed::Fault(fault)) => Taken {
+                count: taken,
+                answer: Err(Stop::Refused(Refusal::Journal(fault))),
+            },
+            Err(FileFeed::NoMemory) => Taken {
+                count: taken,
+                answer: Err(Stop::NoMemory),
+            },
         }
     }
 

@@ -1,10 +1,17 @@
 //! Reading one part of an input.
-ghost use Rattle.std.specs.Prelude.{◌≤◌, ℕ, List, [], ◌∷◌, ◌++◌};
+ghost use Rattle.std.specs.Prelude.{◌≡◌, ◌<◌, ◌≤◌, ℕ, List, [], ◌++◌, length, take, Ok};
 ghost use Rattle.zy_parts.specs.Reading.{Kind, HasGiven, IsReading, Takes, EndsWhole, EndsCut, Advances, Feeds, Reads};
 
 use crate::pieces::Pieces;
 use crate::stop::Stop;
 use zy_base::{Failed, Source};
+
+/// How many bytes a part took, and whether it is whole with them.
+#[derive(Clone, Copy, Debug, PartialEq, Eq)]
+pub(crate) struct Taken {
+    pub(crate) count: usize,
+    pub(crate) answer: Result<bool, Stop>,
+}
 
 /// The reader of a part.
 pub(crate) trait Part: Drop {
@@ -14,10 +21,13 @@ pub(crate) trait Part: Drop {
     // What its bytes mean.
     ghost kind: { Kind Self Self.Gives };
 
-    // Takes the next byte. Gives whether the part is whole.
-    fn take(&mut self, byte: u8) -> Result<bool, Stop>
+    // Takes some first bytes of those that come next, none of them behind the end of the part.
+    fn take(&mut self, next: &[u8]) -> Taken
+        requires some { 0 < length next.now }
+        ensures within { result.count ≤ length next.now }
+        ensures taken { (whole : _) → result.answer ≡ Ok whole → 0 < result.count }
         ensures value { (bytes : List ℕ) → kind.stands self.old bytes → kind.goes_on bytes
-            → Takes kind self.new (bytes ++ byte ∷ []) result };
+            → Takes kind self.new (bytes ++ take result.count next.now) result.answer };
 
     // What the bytes give that were taken, or what they lack.
     fn end(self) -> Result<Self::Gives, Stop>
@@ -67,7 +77,7 @@ fn feed_all<P: Part, S: Source>(
     Err(Stop::NoMemory)
 }
 
-// Feeds the reader one byte. Gives whether there is nothing more to feed.
+// Feeds the reader some bytes. Gives whether there is nothing more to feed.
 fn advance<P: Part, S: Source>(
     part: &mut P,
     pieces: &mut Pieces,
@@ -79,9 +89,13 @@ fn advance<P: Part, S: Source>(
         result }
     ensures count { S.faults source.old ≤ S.faults source.new }
 {
-    match pieces.next(source) {
-        Ok(Some(byte)) => part.take(byte),
-        Ok(None) => Ok(true),
+    match pieces.refill(source) {
+        Ok(true) => {
+            let Taken { count, answer } = part.take(pieces.left());
+            pieces.pass(count);
+            answer
+        }
+        Ok(false) => Ok(true),
         Err(Failed) => Err(Stop::ReadFault),
     }
 }

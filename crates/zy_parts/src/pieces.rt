@@ -1,6 +1,6 @@
-//! The bytes of a source, read in pieces and taken one by one.
-ghost use Rattle.std.specs.Prelude.{◌≡◌, ◌<◌, ◌≤◌, ℕ, List, [], ◌∷◌, length, true, Ok, IfOk};
-ghost use Rattle.zy_parts.specs.Reading.{HasGiven, Refills, TakesNext};
+//! The bytes of a source, read in pieces.
+ghost use Rattle.std.specs.Prelude.{◌≡◌, ◌<◌, ◌≤◌, ℕ, List, [], length, drop, true, Ok, IfOk};
+ghost use Rattle.zy_parts.specs.Reading.{HasGiven, Refills};
 
 use std::alloc::Global;
 use std::marker::Model;
@@ -43,23 +43,8 @@ impl Pieces {
         }
     }
 
-    // Takes the next byte, and reads the next piece before where none is left of this one; `None`
-    // where the source is at its end.
-    pub(crate) fn next<S: Source>(&mut self, source: &mut S) -> Result<Option<u8>, Failed>
-        ensures value { (first : S) (taken : List ℕ)
-            → HasGiven S.rest S.faults first source.old self.old taken
-            → TakesNext S.rest S.faults first source.new self.new taken result }
-        ensures count { S.faults source.old ≤ S.faults source.new }
-    {
-        match self.refill(source) {
-            Ok(true) => Ok(Some(self.first())),
-            Ok(false) => Ok(None),
-            Err(Failed) => Err(Failed),
-        }
-    }
-
     // Reads the next piece where none is left of this one. Gives whether there are bytes.
-    fn refill<S: Source>(&mut self, source: &mut S) -> Result<bool, Failed>
+    pub(crate) fn refill<S: Source>(&mut self, source: &mut S) -> Result<bool, Failed>
         ensures value { (first : S) (taken : List ℕ)
             → HasGiven S.rest S.faults first source.old self.old taken
             → Refills S.rest S.faults first source.new self.new taken result }
@@ -79,13 +64,18 @@ impl Pieces {
         }
     }
 
-    // Takes the first byte that is left.
-    fn first(&mut self) -> u8
-        requires some { 0 < length self.old }
-        ensures value { self.old ≡ result ∷ self.new }
+    // The bytes that are left.
+    pub(crate) fn left(&self) -> &[u8]
+        ensures value { result.now ≡ self.now }
     {
-        let byte = self.piece[self.at];
-        self.at += 1;
-        byte
+        &self.piece[self.at..self.end]
+    }
+
+    // Takes so many first bytes of those that are left.
+    pub(crate) fn pass(&mut self, count: usize)
+        requires within { count ≤ length self.old }
+        ensures value { self.new ≡ drop count self.old }
+    {
+        self.at += count;
     }
 }

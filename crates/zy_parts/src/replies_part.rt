@@ -1,20 +1,19 @@
 //! Reading the replies file.
 ghost use Rattle.std.specs.Prelude.{◌≡◌, ◌<◌, ◌++◌, ◌∷◌, [], ℕ, List, length, true, None, Some, IfOk, IfErr, OnOk, option_to_list};
 ghost use Rattle.zy_capture.specs.declared.session_bytes.SessionBytes.{SessionBytes};
-ghost use Rattle.zy_capture.specs.Capture.{AreBytes};
 ghost use Rattle.zy_capture.specs.Outputs.{AreOutputs, MayAdd, with_output};
 ghost use Rattle.zy_capture.specs.RepliesStanding.{StandsForReplies};
 ghost use Rattle.zy_capture.specs.RepliesVerdict.{fault_of};
 ghost use Rattle.zy_parts.specs.declared.stop.Stop.TheVariants as Stops;
 ghost use Rattle.zy_parts.specs.Reading.{Takes};
-ghost use Rattle.zy_parts.specs.Kinds.{KeepsOutputs, replies_kind};
+ghost use Rattle.zy_parts.specs.Kinds.{KeepsOutputs, ComesNext, replies_kind};
 
-use crate::part::Part;
+use crate::part::{Part, Taken};
 use crate::stop::{Refusal, Stop};
 use std::alloc::Global;
 use zy_base::NoMemory;
 use zy_capture::{Outputs, RepliesReader, SessionBytes};
-use zy_read::FileFeed;
+use zy_read::{Fed, FileFeed};
 
 /// The reader of the replies file, and the outputs that it gave.
 #[derive(Drop)]
@@ -57,41 +56,34 @@ impl RepliesPart {
     // Adds an output that the reader gave.
     fn add(&mut self, item: SessionBytes) -> Result<(), NoMemory>
         ensures reader { self.new.reader ≡ self.old.reader }
-        ensures value { (given : List SessionBytes) (bytes : List ℕ)
-            → StandsForReplies self.old.reader (given ++ item ∷ []) bytes
-            → fault_of bytes ≡ None → AreBytes bytes → KeepsOutputs self.old.outputs given
+        ensures value { (given : List SessionBytes) → KeepsOutputs self.old.outputs given
             → OnOk result (KeepsOutputs self.new.outputs (given ++ item ∷ [])) }
     {
-        let version = self.reader.version();
         match &mut self.outputs {
-            Some(outputs) if has_version(outputs, version) => add_output(outputs, item),
-            // A reader gives no output before the version, nor of another one.
-            _ => Err(NoMemory),
+            Some(outputs) => add_output(outputs, item),
+            // A reader gives no output before the version.
+            None => Err(NoMemory),
         }
     }
 
     // Keeps what the reader gave.
     fn keep(&mut self, gave: Option<SessionBytes>) -> Result<(), NoMemory>
         ensures reader { self.new.reader ≡ self.old.reader }
-        ensures value { (given : List SessionBytes) (bytes : List ℕ)
-            → StandsForReplies self.old.reader (given ++ option_to_list gave) bytes
-            → fault_of bytes ≡ None → AreBytes bytes → KeepsOutputs self.old.outputs given
+        ensures value { (given : List SessionBytes) → KeepsOutputs self.old.outputs given
             → OnOk result (KeepsOutputs self.new.outputs (given ++ option_to_list gave)) }
     {
+        self.begin();
         match gave {
             Some(item) => self.add(item),
-            None => {
-                self.begin();
-                Ok(())
-            }
+            None => Ok(()),
         }
     }
 
-    // Keeps what the reader gave at a byte. The file ends with the source.
+    // Keeps what the reader gave for some bytes. The file ends with the source.
     fn go_on(&mut self, gave: Option<SessionBytes>) -> Result<bool, Stop>
         ensures value { (given : List SessionBytes) (bytes : List ℕ)
             → StandsForReplies self.old.reader (given ++ option_to_list gave) bytes
-            → fault_of bytes ≡ None → AreBytes bytes → KeepsOutputs self.old.outputs given
+            → fault_of bytes ≡ None → KeepsOutputs self.old.outputs given
             → Takes replies_kind self.new bytes result }
     {
         match self.keep(gave) {
@@ -106,11 +98,21 @@ impl Part for RepliesPart {
 
     ghost kind = { replies_kind };
 
-    fn take(&mut self, byte: u8) -> Result<bool, Stop> {
-        match self.reader.feed(byte) {
-            Ok(gave) => self.go_on(gave),
-            Err(FileFeed::Fault(fault)) => Err(Stop::Refused(Refusal::Replies(fault))),
-            Err(FileFeed::NoMemory) => Err(Stop::NoMemory),
+    fn take(&mut self, next: &[u8]) -> Taken {
+        let Fed { taken, answer } = self.reader.feed_piece(next);
+        match answer {
+            Ok(gave) => Taken {
+                count: taken,
+                answer: self.go_on(gave),
+            },
+            Err(FileFeed::Fault(fault)) => Taken {
+                count: taken,
+                answer: Err(Stop::Refused(Refusal::Replies(fault))),
+            },
+            Err(FileFeed::NoMemory) => Taken {
+                count: taken,
+                answer: Err(Stop::NoMemory),
+            },
         }
     }
 
@@ -156,11 +158,12 @@ fn has_version(outputs: &Outputs, version: Option<u32>) -> bool
     }
 }
 
-// Adds an output to outputs. One that may not come next is refused; a reader gives none.
+// Adds an output to outputs. One that doesn't come next is refused; a reader gives none.
 fn add_output(outputs: &mut Outputs, item: SessionBytes) -> Result<(), NoMemory>
     ensures ok { OnOk result (outputs.new ≡ with_output outputs.old item.conn item.bytes) }
+    ensures next { OnOk result (ComesNext outputs.old.sessions item.conn item.session) }
 {
-    if !may_add(outputs, item.conn) {
+    if !comes_next(outputs, item.conn, item.session) {
         return Err(NoMemory);
     }
     match outputs.add(item.conn, item.bytes) {
@@ -169,13 +172,18 @@ fn add_output(outputs: &mut Outputs, item: SessionBytes) -> Result<(), NoMemory>
     }
 }
 
-// Whether an output of this connection may come next.
-fn may_add(outputs: &Outputs, conn: u32) -> bool
-    ensures value { result ≡ true → MayAdd outputs.now conn }
+// Whether the output of this session comes next.
+fn comes_next(outputs: &Outputs, conn: u32, session: u32) -> bool
+    ensures may { result ≡ true → MayAdd outputs.now conn }
+    ensures last { result ≡ true → ComesNext outputs.now.sessions conn session }
 {
     let count = outputs.count();
     if conn >= count {
-        return conn == count && conn < 4096;
+        return conn == count && conn < 4096 && session == 0;
     }
-    outputs.version() == 2 && conn + 1 == count && outputs.sessions(conn) < 2_147_483_648
+    if outputs.version() != 2 || conn + 1 != count {
+        return false;
+    }
+    let sessions = outputs.sessions(conn);
+    sessions < 2_147_483_648 && session == sessions
 }

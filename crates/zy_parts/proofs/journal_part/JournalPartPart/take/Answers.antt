@@ -1,9 +1,13 @@
-use Rattle.journal_reader.specs.Verdict.{journals, is_good}
-use Rattle.zy_parts.proofs.FormatLemmas.{fed_fault}
-use Rattle.zy_parts.proofs.JournalLemmas.{once}
+use Rattle.std.proofs.Common.{rules, ◌≡◌, take}
+use Rattle.std.specs.Prelude.{Err}
+use Rattle.zy_read.specs.declared.not_taken.NotTaken.{NotTaken}
+use Rattle.zy_read.specs.declared.not_taken.NotTaken.TheVariants.{Fault}
+use Rattle.zy_base.specs.declared.file_fault.FileFault.{FileFault}
+use Rattle.zy_parts.proofs.JournalLemmas.{fault_in_piece}
 use Rattle.zy_parts.proofs.journal_part.JournalPartPart.take.Goals as goal
 
-pub returns-in-Err-Fault : goal.returns-in-Err-Fault
-returns-in-Err-Fault c =
-    let exact = rw c.in-Err-Fault.field-0-is at c.in-Err-Fault.ensures.exact in
-    record { value = λ bytes stands goes_on more. fed_fault journals is_good once c.args.self.now.reader stands.given bytes more c.args.byte c.in-Err-Fault.fault stands.reader goes_on exact }
+pub returns-in-Err-Fault-clause-value : goal.returns-in-Err-Fault-clause-value
+returns-in-Err-Fault-clause-value c bytes stands goes_on more =
+    let told : c.feed_piece-taken.result.answer ≡ Err (Fault c.in-Err-Fault.fault) = search rules in
+    fault_in_piece c.args.self.now c.feed_piece-taken.new.self bytes (take c.feed_piece-taken.result.taken c.args.next.now) more c.feed_piece-taken.result.answer c.in-Err-Fault.fault told stands goes_on
+    c.feed_piece-taken.ensures.fed c.feed_piece-taken.ensures.exact
