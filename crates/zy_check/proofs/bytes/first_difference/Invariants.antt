@@ -1,5 +1,5 @@
 use Rattle.std.proofs.Common.{◌≡◌, ◌≤◌, length, take}
-use Rattle.zy_check.proofs.bytes.agreeing.Given as goal
+use Rattle.zy_check.proofs.bytes.first_difference.Given as goal
 
 abbrev pub invariant-loop-at : goal.invariant-loop-at
 invariant-loop-at l = record {
