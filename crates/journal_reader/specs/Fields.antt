@@ -124,6 +124,12 @@ IsWithin (Number field) at seen payload size = seen < 4
 IsWithin (Bytes field) at seen payload size = length payload < size
 IsWithin due at seen payload size = ⊤
 
+-- a number is due, and so many of its bytes come before its last one
+abbrev pub IsNumber : Due → ℕ → Type 0
+IsNumber (Number field) most = most ≡ 3
+IsNumber (Long field) most = most ≡ 7
+IsNumber due most = ⊥
+
 -- what is due is no fault, and its bounds hold anywhere while none of its bytes was read
 abbrev pub IsOpenAnywhere : Due → Type 0
 IsOpenAnywhere due = (fault_in due ≡ None) × ((at size : ℕ) (payload : List ℕ) → IsWithin due at 0 payload size)

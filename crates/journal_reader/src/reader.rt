@@ -12,6 +12,7 @@ mod contents;
 mod ends;
 mod long_numbers;
 mod numbers;
+mod runs;
 mod steps;
 
 use crate::draft::Draft;
@@ -128,44 +129,6 @@ impl JournalReader {
             taken: at,
             answer: Ok(None),
         }
-    }
-
-    #[tactic(auto, using(crate::proofs::RunLemmas::run_fed, zy_read::proofs::Feeding::fed_none))]
-    // Takes bytes of a key or a value at once, from some place on, but neither its last one
-    // nor that of the piece. Gives how many; where memory is wanted for them, none.
-    fn feed_run(&mut self, bytes: &[u8], at: usize) -> usize
-        requires place { at < length bytes.now }
-        ensures within { at + result < length bytes.now }
-        ensures fed { Feeds journals self.old self.new (take result (drop at bytes.now)) [] }
-    {
-        match self.due {
-            Due::Bytes(field) if self.at < JOURNAL_LIMIT => {
-                let left = self.draft.size as usize - self.payload.len() - 1;
-                let room = JOURNAL_LIMIT - self.at;
-                let run = (left.min(bytes.len() - at - 1) as u64).min(room) as usize;
-                if self.append(field, &bytes[at..at + run]) {
-                    run
-                } else {
-                    0
-                }
-            }
-            _ => 0,
-        }
-    }
-
-    // Takes bytes of a key or a value, but not its last one, where there is memory.
-    fn append(&mut self, field: BytesField, bytes: &[u8]) -> bool
-        requires due { self.old.due ≡ Dues.Bytes field }
-        requires fits { length self.old.payload + length bytes.now < self.old.draft.size }
-        requires room { self.old.at + length bytes.now ≤ journal_limit }
-        ensures ok { result ≡ true → self.new ≡ grown_by self.old bytes.now }
-        ensures kept { result ≡ false → self.new ≡ self.old }
-    {
-        if self.payload.extend_from_slice(bytes).is_err() {
-            return false;
-        }
-        self.at += bytes.len() as u64;
-        true
     }
 
     #[tactic(auto, using(zy_read::proofs::Feeding::verdict_here))]

@@ -1,21 +1,19 @@
 -- What is kept of a replies file while it is read.
-use Rattle.std.proofs.Common.{◌≡◌, ◌≢◌, ℕ, ◌<◌, true, false, List, [], ◌∷◌, ◌++◌, refl, sym, ◌∙◌, ap, subst}
+use Rattle.std.proofs.Common.{◌≡◌, ℕ, true, false, List, [], ◌∷◌, ◌++◌, refl, sym, ◌∙◌, ap, subst}
 use Rattle.std.specs.Prelude.{◌==◌, Option, None, Some, Result, Ok, Err, OnOk, IfOk, IfErr, ⊤}
-use Rattle.zy_read.proofs.Feeding.{given_here, verdict_here}
+use Rattle.zy_read.proofs.Feeding.{verdict_here}
 use Rattle.zy_base.specs.declared.outside.NoMemory as Outside
 use Rattle.zy_capture.specs.declared.session_bytes.SessionBytes.{SessionBytes}
 use Rattle.zy_capture.specs.declared.replies_due.RepliesDue.{RepliesDue}
 use Rattle.zy_capture.specs.declared.replies_due.RepliesDue.TheVariants.{Nothing, Broken}
-use Rattle.zy_capture.specs.Capture.{AreBytes}
 use Rattle.zy_capture.specs.Outputs.{AllOutputs, AreOutputs, with_output}
-use Rattle.zy_capture.specs.Replies.{AreInOrder, items_of}
+use Rattle.zy_capture.specs.Replies.{items_of}
 use Rattle.zy_capture.specs.RepliesSteps.{Progress}
 use Rattle.zy_capture.specs.RepliesStanding.{StandsForReplies, EndsAs}
-use Rattle.zy_capture.specs.RepliesVerdict.{replies, ended, verdict, fault_of, outputs_of, version_in, version_of}
+use Rattle.zy_capture.specs.RepliesVerdict.{replies, ended, verdict, version_in, version_of}
 use Rattle.zy_capture.specs.RepliesVerdict.Verdict.{Good}
 use Rattle.zy_capture.proofs.AddLemmas.{added_last}
 use Rattle.zy_capture.proofs.RepliesFeeding.{lasting, version_here}
-use Rattle.zy_capture.proofs.RepliesSoFarLemmas.{outputs_so_far}
 use Rattle.zy_parts.specs.declared.replies_part.RepliesPart.{RepliesPart}
 use Rattle.zy_parts.specs.declared.stop.Stop.{Stop}
 use Rattle.zy_parts.specs.declared.stop.Stop.TheVariants.{Refused, ReadFault, NoMemory}

@@ -1,4 +1,4 @@
-use Rattle.std.proofs.Common.{◌≡◌, length, take, sym, ◌∙◌, arith}
+use Rattle.std.proofs.Common.{length, sym, ◌∙◌, arith}
 use Rattle.std.proofs.Math.Seq.{take-length}
 use Rattle.zy_check.proofs.ByteLemmas.{agreeing_at}
 use Rattle.zy_check.proofs.bytes.agreeing.Goals as goal

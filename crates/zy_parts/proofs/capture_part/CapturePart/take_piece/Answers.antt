@@ -1,8 +1,6 @@
 use Rattle.std.proofs.Common.{rules, ◌≡◌, take}
 use Rattle.std.specs.Prelude.{Err}
-use Rattle.zy_read.specs.declared.not_taken.NotTaken.{NotTaken}
 use Rattle.zy_read.specs.declared.not_taken.NotTaken.TheVariants.{Fault}
-use Rattle.zy_capture.specs.declared.capture_fault.CaptureFault.{CaptureFault}
 use Rattle.zy_parts.proofs.CaptureLemmas.{fault_within}
 use Rattle.zy_parts.proofs.capture_part.CapturePart.take_piece.Goals as goal
 

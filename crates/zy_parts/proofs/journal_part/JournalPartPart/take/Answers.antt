@@ -1,8 +1,6 @@
 use Rattle.std.proofs.Common.{rules, ◌≡◌, take}
 use Rattle.std.specs.Prelude.{Err}
-use Rattle.zy_read.specs.declared.not_taken.NotTaken.{NotTaken}
 use Rattle.zy_read.specs.declared.not_taken.NotTaken.TheVariants.{Fault}
-use Rattle.zy_base.specs.declared.file_fault.FileFault.{FileFault}
 use Rattle.zy_parts.proofs.JournalLemmas.{fault_in_piece}
 use Rattle.zy_parts.proofs.journal_part.JournalPartPart.take.Goals as goal
 
