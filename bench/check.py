@@ -1,9 +1,9 @@
 #!/usr/bin/env python3
-"""Makes traffic of 200 connections with 1,000,000 and 100,000 commands, serves it, checks the run, and prints what the
-check costs.
+"""Makes traffic of 200 connections, serves it, checks the run, and prints what the check costs.
 
-Microseconds of processor time an entry of the journal, resident memory as a multiple of the input, and the ratios
-between the two sizes.
+Microseconds of processor time an entry of the journal, resident memory as a multiple of the input, and both ratios to
+those of the least size. Values grow by `append`, so ten times the commands bring more than ten times the bytes; the
+size between is the one whose input has ten times the bytes.
 
 usage: bench/check.sh     (the program is built first where it isn't)
 """
@@ -15,6 +15,7 @@ import tempfile
 TOP = os.path.dirname(os.path.dirname(os.path.realpath(__file__)))
 PROGRAM = os.path.join(TOP, "zygos")
 CONNECTIONS = 200
+COMMANDS = (100000, 755000, 1000000)
 
 
 def run(words, source, sink):
@@ -48,17 +49,14 @@ def certify(commands, room):
 def main():
     subprocess.run([PROGRAM], stdout=subprocess.DEVNULL, stderr=subprocess.DEVNULL, check=False)
     with tempfile.TemporaryDirectory() as room:
-        found = {commands: certify(commands, room) for commands in (100000, 1000000)}
-    for commands, (entries, size, seconds, resident) in found.items():
+        found = [(commands, *certify(commands, room)) for commands in COMMANDS]
+    _, _, least, fastest, smallest = found[0]
+    for commands, entries, size, seconds, resident in found:
         print(
             f"{commands} commands, {entries} entries, {size / 1e6:.0f} MB: {seconds * 1e6 / entries:.2f} microseconds of"
-            f" processor time an entry, {resident / size:.1f} times the input resident"
+            f" processor time an entry, {resident / size:.1f} times the input resident; the input is"
+            f" {size / least:.1f}, the time {seconds / fastest:.1f} and the memory {resident / smallest:.1f} times the least"
         )
-    small, large = found[100000], found[1000000]
-    print(
-        f"ten times the commands take {large[2] / small[2]:.1f} times the time"
-        f" and {large[3] / small[3]:.1f} times the memory"
-    )
 
 
 main()
