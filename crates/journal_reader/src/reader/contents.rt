@@ -7,7 +7,6 @@ ghost use Rattle.journal_reader.specs.declared.due.BytesField.TheVariants as Con
 
 use super::JournalReader;
 use crate::due::{ByteField, BytesField, Due};
-use std::mem;
 use zy_base::{Blob, NoMemory};
 use zy_read::FileFeed;
 
@@ -73,7 +72,8 @@ impl JournalReader {
     }
 }
 
-// Takes out the bytes with this one as their last; after a refusal they are unchanged.
+// The bytes with this one as their last, copied so that they take no more room than they need, and
+// short ones none; none are left. After a refusal they are unchanged.
 pub(super) fn ended(bytes: &mut Vec<u8>, byte: u8) -> Result<Blob, NoMemory>
     ensures value { IfOk result (λ all. all ≡ bytes.old.items ++ byte ∷ []) }
     ensures ok { OnOk result (bytes.new.items ≡ []) }
@@ -82,6 +82,14 @@ pub(super) fn ended(bytes: &mut Vec<u8>, byte: u8) -> Result<Blob, NoMemory>
     if bytes.push(byte).is_err() {
         return Err(NoMemory);
     }
-    let alloc = *bytes.allocator();
-    Ok(Blob::from_vec(mem::replace(bytes, Vec::new(alloc))))
+    match Blob::copy_of(*bytes.allocator(), bytes.as_slice()) {
+        Ok(all) => {
+            bytes.clear();
+            Ok(all)
+        }
+        Err(NoMemory) => {
+            let _ = bytes.pop();
+            Err(NoMemory)
+        }
+    }
 }
