@@ -3,12 +3,9 @@
 It is written from the tables of docs/PROFILE.md, and takes its time.
 """
 import functools
-import os
 import re
-import sys
 from collections import namedtuple
 
-sys.path.insert(0, os.path.join(os.path.dirname(os.path.dirname(os.path.realpath(__file__))), "tools"))
 from formats import MOST_KEY, MOST_VALUE, Call, Reply
 
 MOST_LINE = 65536

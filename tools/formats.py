@@ -238,8 +238,19 @@ def output(version, connection, session, text):
     return b"R" + big(4, connection) + (big(4, session) if version == 2 else b"") + big(8, len(text)) + text
 
 
-def replies(version, outputs):
+def replies_file(version, outputs):
     return b"ZYGREP%d\n" % version + b"".join(output(version, *one) for one in outputs) + b"E"
+
+
+def replies(texts):
+    """A replies file of version 1: the output of each connection."""
+    return replies_file(1, [Output(connection, 0, text) for connection, text in enumerate(texts)])
+
+
+def sessions(texts):
+    """A replies file of version 2: of each connection, the outputs of its sessions."""
+    return replies_file(2, [Output(connection, session, text) for connection, of_sessions in enumerate(texts)
+                            for session, text in enumerate(of_sessions)])
 
 
 # ---- what all share
