@@ -3,7 +3,7 @@ import random
 
 import edits
 import plain
-from drawn import drawn_capture
+from drawn import OTHERS, drawn_capture
 from formats import (Call, Entry, Hold, Part, Reply, capture, close, journal, read_capture, read_journal, read_replies,
                      replies, segment, sessions)
 from program import BOTH, ONE, answer, check, run, same
@@ -150,6 +150,13 @@ def other_shards():
             says(f"{text!r} on {count} shards, checked as on 16", files, f"no {line}")
 
 
+def edges():
+    """A run of all lines at the edges of the profile, each with a look at some keys behind it."""
+    text = b"".join(line + b"gets a b c\r\nincr c 1\r\n" for line in OTHERS)
+    whole = capture(1, [segment(0, text)])
+    says("lines at the edges of the profile", whole + run([*ONE, *BOTH], whole).stdout, "yes")
+
+
 def drawn(numbers=range(100)):
     """Runs of drawn captures, by the program and by the plain model, with a bit changed, and edited."""
     for number in numbers:
@@ -171,5 +178,5 @@ def drawn(numbers=range(100)):
 
 
 def certificates():
-    for part in (worked, orders, later_sessions, changes, known_edits, all_edits, other_shards, drawn):
+    for part in (worked, orders, later_sessions, changes, known_edits, all_edits, other_shards, edges, drawn):
         part()

@@ -3,11 +3,22 @@ from formats import capture, close, segment
 from model import shard_of
 
 KEYS = [b"a", b"b", b"c", b"k" * 250]
-# lines that are no storage lines: without a call, or with a fault, or that end a session
-OTHERS = [
-    b"version\r\n", b"verbosity 1\r\n", b"flush_all\r\n", b"flush_all 0 noreply\r\n", b"\r\n", b"stats\r\n", b"get\r\n",
-    b"set a 0 0\r\n", b"set a 0 0 -1\r\n", b"incr a z\r\n", b"delete a 0\n", b" get  a  \r\r\n", b"delete noreply\r\n",
-    b"get " + b"k" * 251 + b"\r\n", b"quit now\r\n", b"quit\r\n",
+# lines without a call, faulty ones, and lines at the edges of the profile
+LINES = """
+version; version 1; verbosity 1; verbosity 4294967295 noreply; verbosity 4294967296; verbosity noreply; verbosity
+flush_all; flush_all noreply; flush_all 00 noreply; flush_all 1; flush_all 0 0; flush_all noreply noreply
+stats; GET a; get; gets; quit now; delete; delete noreply; delete a noreply; delete a 1; delete b 00; delete a 0 a
+delete b 00 noreply; incr a; incr a z; incr a noreply; incr a z noreply; decr a 1 1; incr a 18446744073709551615
+incr a 18446744073709551616; incr a 00000000000000000001 noreply; incr a 000000000000000000001; decr a -1; get noreply
+set a 0 0; set a 0 0 -1; set a 0 0 1 norepl; set a 4294967296 0 1; set a 0 0 4294967296; set a 0 +1 1; set a 0 - 1
+set a 0 10000000000000000000 1; cas a 0 0 1; cas a 0 0 1 x; cas a 0 0 1 18446744073709551616; cas a 0 0 1 1 x
+"""
+OTHERS = [line.strip().encode() + b"\r\n" for line in LINES.strip().replace("\n", ";").split(";")] + [
+    b"\r\n", b"\n", b"  \r\n", b"version\n", b"version\r\r\n", b" get  a  \r\n", b"get a\t\0\r\r\n",
+    b"get " + b"k" * 251 + b"\r\n", b"gets a " + b"k" * 251 + b"\r\n", b"incr " + b"k" * 251 + b" z\r\n",
+    b"set a 0 0 1 noreply \n5\r\n", b"set a 4294967295 -9999999999999999999 1\r\n5\r\n",
+    b"set b 0 9999999999999999999 0\n\r\n", b"set c 0 0 3\r\n1 2\r\n", b"set c 0 0 21\r\n000000000000000000001\r\n",
+    b"set c 0 0 20\r\n18446744073709551616\r\n", b"quit\r\n",
 ]
 
 
