@@ -118,7 +118,7 @@ def known_edits():
     says("a run of the plain model", whole + edits.written(made), "yes")
     says("other holds that add up", whole + edits.written(held), "yes")
     says("a replies file of version 2", whole + edits.written(made, 2), "yes")
-    for find in (edits.wrong_entries, edits.wrong_fields, edits.wrong_holds):
+    for find in (edits.wrong_entries, edits.wrong_fields, edits.wrong_holds, edits.wrong_twice):
         for name, edited, line in find(made):
             says(name, whole + edits.written(edited), line)
     for name, texts, line in edits.wrong_outputs(made):

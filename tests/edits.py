@@ -65,6 +65,27 @@ def wrong_holds(made):
         yield name, made._replace(holds=holds), f"no {line}"
 
 
+def wrong_twice(made):
+    """Two things are wrong, and the one that comes first is told."""
+    one, two, three, four, five = made.entries
+    other, bad = two._replace(reply=three.reply), five._replace(reply=three.reply)
+    short = [output._replace(text=output.text[:-1]) for output in made.outputs]
+    for name, changed, line in (
+        ("a wrong reply, and two entries swapped", {"entries": [one, other, three, five, four]}, "wrong-reply entry 1"),
+        ("two entries swapped, and a wrong reply", {"entries": [two, one, three, four, bad]}, "not-next entry 0"),
+        ("a wrong reply to a wrong call", {"entries": [one, other._replace(part=1), *made.entries[2:]]},
+         "not-next entry 1"),
+        ("a wrong reply, and no last entry", {"entries": [one, other, three, four]}, "wrong-reply entry 1"),
+        ("no last entry of both", {"entries": [one, two, four]}, "missing connection 0 command 1"),
+        ("no last entry, and short outputs", {"entries": [one, two, three, four], "outputs": short},
+         "missing connection 1 command 1"),
+        ("short outputs", {"outputs": short}, f"wrong-output connection 0 at {len(short[0].text)}"),
+        ("a short output, and no holds", {"outputs": [made.outputs[0], short[1]], "holds": []},
+         f"wrong-output connection 1 at {len(short[1].text)}"),
+    ):
+        yield name, made._replace(**changed), f"no {line}"
+
+
 def wrong_outputs(made):
     """Of each connection the outputs of its sessions, edited."""
     first, second = [output.text for output in made.outputs]
