@@ -24,7 +24,7 @@ SEVERAL = capture(2, [
 
 
 def of_shards(shards):
-    """The words for so many shards, of which 16 are what is had without."""
+    """The words for so many shards; none for 16, which is the default."""
     return [] if shards == 16 else ["--shards", str(shards)]
 
 

@@ -1,7 +1,7 @@
 """The files of zygos, captures, journals and replies files, read and written as docs/FORMATS.md says.
 
-A reader gives the values that a file stands for, or raises its first fault. Names in small letters give the bytes of a
-value, those of `read_` and of `.._records` the values of bytes.
+`read_capture`, `capture_records` and the like give the values that bytes stand for, or raise their first fault; `capture`,
+`segment` and the like give the bytes of values.
 """
 from collections import namedtuple
 
