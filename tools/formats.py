@@ -1,7 +1,7 @@
 """The files of zygos, captures, journals and replies files, read and written as docs/FORMATS.md says.
 
-`read_capture`, `capture_records` and the like give the values that bytes stand for, or raise their first fault; `capture`,
-`segment` and the like give the bytes of values.
+`read_capture`, `capture_records` and the like give the values that bytes stand for, or raise their first fault;
+`capture`, `segment` and the like give the bytes of values.
 """
 from collections import namedtuple
 
