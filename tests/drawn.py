@@ -1,0 +1,60 @@
+"""Drawn captures: a few connections that send commands of all kinds on the same few keys, and some faulty lines."""
+from formats import capture, close, segment
+from model import shard_of
+
+KEYS = [b"a", b"b", b"c", b"k" * 250]
+# lines without a call, faulty ones, and lines at the edges of the profile
+LINES = """
+version; version 1; verbosity 1; verbosity 4294967295 noreply; verbosity 4294967296; verbosity noreply; verbosity
+flush_all; flush_all noreply; flush_all 00 noreply; flush_all 1; flush_all 0 0; flush_all noreply noreply
+stats; GET a; get; gets; quit now; delete; delete noreply; delete a noreply; delete a 1; delete b 00; delete a 0 a
+delete b 00 noreply; incr a; incr a z; incr a noreply; incr a z noreply; decr a 1 1; incr a 18446744073709551615
+incr a 18446744073709551616; incr a 00000000000000000001 noreply; incr a 000000000000000000001; decr a -1; get noreply
+set a 0 0; set a 0 0 -1; set a 0 0 1 norepl; set a 4294967296 0 1; set a 0 0 4294967296; set a 0 +1 1; set a 0 - 1
+set a 0 10000000000000000000 1; cas a 0 0 1; cas a 0 0 1 x; cas a 0 0 1 18446744073709551616; cas a 0 0 1 1 x
+"""
+OTHERS = [line.strip().encode() + b"\r\n" for line in LINES.strip().replace("\n", ";").split(";")] + [
+    b"\r\n", b"\n", b"  \r\n", b"version\n", b"version\r\r\n", b" get  a  \r\n", b"get a\t\0\r\r\n",
+    b"get " + b"k" * 251 + b"\r\n", b"gets a " + b"k" * 251 + b"\r\n", b"incr " + b"k" * 251 + b" z\r\n",
+    b"set a 0 0 1 noreply \n5\r\n", b"set a 4294967295 -9999999999999999999 1\r\n5\r\n",
+    b"set b 0 9999999999999999999 0\n\r\n", b"set c 0 0 3\r\n1 2\r\n", b"set c 0 0 21\r\n000000000000000000001\r\n",
+    b"set c 0 0 20\r\n18446744073709551616\r\n", b"quit\r\n",
+]
+
+
+def storage(draw, shards):
+    """A storage line with its block, which now and then ends otherwise."""
+    verb = draw.choice((b"set", b"set", b"add", b"replace", b"append", b"prepend", b"cas"))
+    key, value = draw.choice(KEYS), draw.choice((b"", b"7", b"18446744073709551615", b"x" * draw.randrange(9)))
+    # the unique of one of the first items of the key's shard
+    unique = b" %d" % (shards * draw.randrange(1, 4) + shard_of(key, shards)) if verb == b"cas" else b""
+    quiet, end = draw.choice((b"", b"", b" noreply")), b"\n\n" if draw.randrange(9) == 0 else b"\r\n"
+    return b"%s %s %d 0 %d%s%s\r\n%s%s" % (verb, key, draw.randrange(9), len(value), unique, quiet, value, end)
+
+
+def request(draw, shards):
+    key, quiet, kind = draw.choice(KEYS), draw.choice((b"", b"", b" noreply")), draw.randrange(10)
+    if kind < 4:
+        return storage(draw, shards)
+    if kind < 7:
+        keys = [draw.choice(KEYS) for _ in range(draw.randrange(1, 4))]
+        return b" ".join([draw.choice((b"get", b"gets")), *keys]) + b"\r\n"
+    if kind == 7:
+        return b"%s %s %d%s\r\n" % (draw.choice((b"incr", b"decr")), key, draw.randrange(20), quiet)
+    return b"delete %s%s\r\n" % (key, quiet) if kind == 8 else draw.choice(OTHERS)
+
+
+def drawn_capture(draw, shards):
+    """A capture whose segments cut requests; a close drops what was not sent of one."""
+    version, count, records = draw.choice((1, 2)), draw.randrange(1, 5), []
+    left = [b""] * count
+    for _ in range(draw.randrange(30)):
+        connection = draw.randrange(count)
+        text = left[connection] + request(draw, shards)
+        cut = draw.randrange(len(text) + 1)
+        records.append(segment(connection, text[:cut]))
+        left[connection] = text[cut:]
+        if version == 2 and draw.randrange(6) == 0:
+            records.append(close(connection))
+            left[connection] = b""
+    return capture(count, [*records, *(segment(connection, text) for connection, text in enumerate(left))], version)
