@@ -94,19 +94,20 @@ def later_sessions():
 # ---- changes of a run's files
 
 
-def changed(text):
-    """A text with one bit changed, for each of its bits."""
+def changed(text, first=0):
+    """A text with one bit changed, for each of its bits; of its first bytes, so many, for one bit each."""
     for place, byte in enumerate(text):
-        for bit in range(8):
+        for bit in [place % 8] if place < first else range(8):
             yield f"bit {bit} of byte {place} changed", text[:place] + bytes([byte ^ 1 << bit]) + text[place + 1 :]
 
 
 def changes():
-    """Two small runs, with each bit changed: of the capture, of the journal and of the replies."""
-    for name, whole, shards in (("the first run", FIRST_CAPTURE, 16), ("a run of sessions", SEVERAL, 3)):
+    """Two small runs with each bit of the journal and of the replies changed, and with each byte of the capture."""
+    for name, whole, shards, first in (("the first run", FIRST_CAPTURE, 16, 0),
+                                       ("a run of sessions", SEVERAL, 3, len(SEVERAL))):
         files = whole + run([*ONE, *BOTH, *of_shards(shards)], whole).stdout
         says(name, files, "yes", shards)
-        for what, text in changed(files):
+        for what, text in changed(files, first):
             agree(f"{name}, {what}", text, shards)
 
 
