@@ -1,5 +1,5 @@
 -- What is read of a part, piece after piece, for all kinds of parts.
-use Rattle.std.proofs.Common.{◌≡◌, ◌⊎◌, inl, inr, ℕ, ◌+◌, ◌-◌, ◌≤◌, Bool, true, false, List, [], ◌++◌, length, take, drop, refl, sym, ◌∙◌, ap, subst, arith, append_assoc, length-drop}
+use Rattle.std.proofs.Common.{◌≡◌, ◌⊎◌, inl, inr, ℕ, ◌+◌, ◌-◌, ◌<◌, ◌≤◌, Bool, true, false, List, [], ◌++◌, length, take, drop, refl, sym, ◌∙◌, ap, subst, arith, append_assoc, length-drop}
 use Rattle.std.specs.Prelude.{Option, None, Some, IfSome, Result, Ok, Err}
 use Rattle.std.specs.Io.KnownBytes.{Consumes, IsAtEnd}
 use Rattle.std.proofs.lemmas.List.{append-nil, take-append-drop, drop-take, drop-drop, length-take-le}
@@ -50,25 +50,25 @@ given_on rest faults first now left before bytes count given = record {
 }
 
 -- where the bytes that were taken lead
-pub took : {P T S : Type 0} (kind : Kind P T) (rest : S → Option (List ℕ)) (faults : S → ℕ) (first now : S) (left before bytes : List ℕ) (count : ℕ) (reader : P) (answer : Result Bool Stop) → HasGiven rest faults first now left (before ++ bytes)
+pub took : {P T S : Type 0} (kind : Kind P T) (rest : S → Option (List ℕ)) (faults : S → ℕ) (first now : S) (left before bytes : List ℕ) (count : ℕ) (reader : P) (answer : Result Bool Stop) → HasGiven rest faults first now left (before ++ bytes) → count ≤ length left → ((whole : Bool) → answer ≡ Ok whole → 0 < count)
     → Takes kind reader (bytes ++ take count left) answer → Advances kind rest faults first now (drop count left) before bytes reader answer
-took kind rest faults first now left before bytes count reader (Ok false) given takes =
-    (take count left, record { given = given_on rest faults first now left before bytes count given; stands = takes.0; goes_on = takes.1 })
-took kind rest faults first now left before bytes count reader (Ok true) given takes = record {
+took kind rest faults first now left before bytes count reader (Ok false) given within some takes =
+    (take count left, (let size = length-take-le count left within in let more = some false refl in omega arith), record { given = given_on rest faults first now left before bytes count given; stands = takes.0; goes_on = takes.1 })
+took kind rest faults first now left before bytes count reader (Ok true) given within some takes = record {
   bytes = bytes ++ take count left;
   given = given_on rest faults first now left before bytes count given;
   stands = takes.0;
   end = inl takes.1;
 }
-took kind rest faults first now left before bytes count reader (Err (Refused refusal)) given takes =
+took kind rest faults first now left before bytes count reader (Err (Refused refusal)) given within some takes =
     let taken : List ℕ = bytes ++ take count left in
     let others : List ℕ = drop count left in (
       (taken ++ [], takes []),
       told_first (rest first) (rest now) ((before ++ taken) ++ others) (λ (text : List ℕ). HasFaultBehind kind before text refusal) (given_on rest faults first now left before bytes count given).source
           (λ more. record { rest = taken ++ (others ++ more); whole = regrouped before taken others more; faulty = takes (others ++ more) }),
     )
-took kind rest faults first now left before bytes count reader (Err ReadFault) given takes = absurd takes
-took kind rest faults first now left before bytes count reader (Err NoMemory) given takes = tt
+took kind rest faults first now left before bytes count reader (Err ReadFault) given within some takes = absurd takes
+took kind rest faults first now left before bytes count reader (Err NoMemory) given within some takes = tt
 
 -- ---- the end
 

@@ -1,5 +1,5 @@
 -- What was read of a source, piece after piece, and what a part makes of its bytes. No public clause cites this module.
-use Rattle.std.specs.Prelude.{◌≡◌, ◌⊎◌, ℕ, ◌≤◌, Bool, true, false, List, [], ◌++◌, Option, None, Result, Ok, Err, IfSome, ⊤}
+use Rattle.std.specs.Prelude.{◌≡◌, ◌⊎◌, ℕ, ◌<◌, ◌≤◌, Bool, true, false, List, [], ◌++◌, length, Option, None, Result, Ok, Err, IfSome, ⊤}
 use Rattle.std.specs.Io.KnownBytes.{Consumes, IsAtEnd}
 use Rattle.zy_base.specs.Outside.{Rose}
 use Rattle.zy_base.specs.declared.outside.Failed.{Failed}
@@ -100,7 +100,7 @@ pub record HasStopped {P T S : Type 0} (kind : Kind P T) (rest : S → Option (L
 abbrev pub Advances : {P T S : Type 0} → Kind P T → (S → Option (List ℕ)) → (S → ℕ) → S → S → List ℕ → List ℕ → List ℕ
     → P → Result Bool Stop → Type 0
 Advances kind rest faults first now left before bytes reader (Ok false) =
-    (more : List ℕ) × IsReading kind rest faults first now left before (bytes ++ more) reader
+    (more : List ℕ) × (0 < length more) × IsReading kind rest faults first now left before (bytes ++ more) reader
 Advances kind rest faults first now left before bytes reader (Ok true) =
     HasStopped kind rest faults first now left before reader
 Advances kind rest faults first now left before bytes reader (Err stop) = StopsBy kind rest faults first now before stop
