@@ -1,13 +1,17 @@
 -- Holds, one more at a time.
-use Rattle.std.specs.List.{slice_set}
-use Rattle.std.proofs.Common.{◌≡◌, ◌≢◌, inl, inr, ◌⊎◌, ℕ, ◌+◌, ◌<◌, ◌≤◌, List, [], ◌∷◌, ◌++◌, length, get_or, Option, None, Some, refl, sym, ◌∙◌, arith}
+use Rattle.std.specs.List.{slice_get, slice_set}
+use Rattle.std.proofs.Common.{◌≡◌, ◌≢◌, inl, inr, ◌⊎◌, ℕ, ◌+◌, ◌<◌, ◌≤◌, List, [], ◌∷◌, ◌++◌, length, get_or, Option, None, Some, refl, sym, ap, ◌∙◌, arith}
 use Rattle.std.proofs.lemmas.List.{length-set, get_or-set_same, get_or-set_other}
 use Rattle.std.proofs.lemmas.Bool.Decides.{eqb_tells}
 use mathlib.Core.Logic.{dite}
 use native.Mathlib.Decide.{ℕ_discrete}
 use Rattle.zy_base.specs.declared.hold.Hold.{Hold}
 use Rattle.zy_run.specs.Spans.{held_of}
+use Rattle.zy_check.specs.declared.track.Track.{Track}
+use Rattle.zy_check.specs.Given.{Given, IsHeld}
 use Rattle.zy_check.specs.Held.{AreSums, FoundStray}
+use Rattle.zy_check.specs.Missing.{AreEnded}
+use Rattle.zy_check.proofs.StepLemmas.{ended_count}
 
 -- ---- the sum of a connection
 
@@ -66,6 +70,16 @@ sums_same count before h sums past are =
       count_is = size;
       each = λ conn below. are.each conn below ∙ sym (held_other conn before h (λ same. omega arith));
     }
+
+-- a connection at its end is held exactly where its sum is the number of its commands
+pub held_exactly : (g : Given) (tracks : List Track) (count conn sum : ℕ) (hs : List Hold) (sums : List ℕ) (t : Track) → AreEnded g tracks → AreSums count hs sums → hs ≡ g.holds → conn < count
+    → slice_get tracks conn ≡ Some t → get_or sums conn 0 ≡ sum → (sum ≡ t.commands → IsHeld g conn) × (IsHeld g conn → sum ≡ t.commands)
+held_exactly g tracks count conn sum hs sums t ended are holds below is sum_is =
+    let commands = ended_count g tracks conn t ended is in
+    let held : held_of conn g.holds ≡ sum = ap (held_of conn) (sym holds) ∙ sym (are.each conn below) ∙ sum_is in (
+      (λ same. held ∙ same ∙ commands),
+      (λ same. sym held ∙ same ∙ sym commands),
+    )
 
 -- ---- connections that are not there
 

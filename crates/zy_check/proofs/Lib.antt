@@ -1,8 +1,7 @@
 pub mod ListLemmas
-pub mod OwnLemmas
-pub mod PlaceLemmas
+pub mod DueLemmas
+pub mod AskedLemmas
 pub mod CursorLemmas
-pub mod FollowLemmas
 pub mod WalkLemmas
 pub mod OneVerdictLemmas
 pub mod RunVerdictLemmas
@@ -12,8 +11,9 @@ pub mod SameLawLemmas
 pub mod SomeVerdictLemmas
 pub mod RightLemmas
 pub mod ByteLemmas
+pub mod CompareLemmas
 pub mod AnswerLemmas
-pub mod SessionLemmas
 pub mod OutputLemmas
+pub mod TrackLemmas
+pub mod StepLemmas
 pub mod HoldLemmas
-pub mod GivenLemmas

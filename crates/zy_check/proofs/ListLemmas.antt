@@ -1,6 +1,6 @@
 -- Lists, element by element.
 use Rattle.std.specs.List.{slice_get}
-use Rattle.std.proofs.Common.{◌≡◌, ℕ, zero, suc, ◌<◌, ◌≤◌, List, [], ◌∷◌, ◌++◌, length, get_or, None, Some, refl, subst, arith}
+use Rattle.std.proofs.Common.{◌≡◌, ℕ, zero, suc, ◌+◌, ◌<◌, ◌≤◌, List, [], ◌∷◌, ◌++◌, length, take, drop, get_or, None, Some, refl, ap, ◌∙◌, sym, arith}
 use Rattle.std.proofs.lemmas.Option.{slice_get_read, get_or_from_slice_get}
 
 module _ {A : Type 0} where
@@ -15,14 +15,38 @@ module _ {A : Type 0} where
       let tail = same_lists xs ys (omega arith) (λ j within. same (suc j) (omega arith)) in
       λ i. head i ∷ tail i
 
-  -- what holds of each element holds with one element more
-  pub each_more : (P : ℕ → A → Type 0) (xs : List A) (x : A) → ((k : ℕ) (y : A) → slice_get xs k ≡ Some y → P k y) → P (length xs) x
-      → (k : ℕ) (y : A) → slice_get (xs ++ x ∷ []) k ≡ Some y → P k y
-  each_more P [] x each last zero y is = let same : x ≡ y = cc in subst (P 0) same last
-  each_more P [] x each last (suc k) y is = absurd (cc)
-  each_more P (z ∷ zs) x each last zero y is = each 0 y is
-  each_more P (z ∷ zs) x each last (suc k) y is = each_more (λ n. P (suc n)) zs x (λ n w found. each (suc n) w found) last k y is
-
   -- the element that is read at a place
   pub read_at : (xs : List A) (at : ℕ) (x d : A) → at < length xs → x ≡ get_or xs at x → get_or xs at d ≡ x
   read_at xs at x d within is = get_or_from_slice_get xs at x d (slice_get_read xs (length xs) at x refl within is)
+
+  -- there is an element at each place within a list
+  pub there : (xs : List A) (k : ℕ) → k < length xs → (x : A) × (slice_get xs k ≡ Some x)
+  there [] k within = absurd (omega arith)
+  there (x ∷ xs) zero within = (x, refl)
+  there (x ∷ xs) (suc k) within = there xs k (omega arith)
+
+  -- the elements of two lists, one behind the other
+  pub get_append : (xs ys : List A) (k : ℕ) → k < length xs → slice_get (xs ++ ys) k ≡ slice_get xs k
+  get_append [] ys k within = absurd (omega arith)
+  get_append (x ∷ xs) ys zero within = refl
+  get_append (x ∷ xs) ys (suc k) within = get_append xs ys k (omega arith)
+
+  pub get_behind : (xs ys : List A) (k : ℕ) → slice_get (xs ++ ys) (length xs + k) ≡ slice_get ys k
+  get_behind [] ys k = let none : length {A = A} [] + k ≡ k = omega arith in ap (λ (n : ℕ). slice_get ys n) none
+  get_behind (x ∷ xs) ys k =
+      let on : length (x ∷ xs) + k ≡ suc (length xs + k) = omega arith in
+      ap (λ (n : ℕ). slice_get (x ∷ (xs ++ ys)) n) on ∙ get_behind xs ys k
+
+  -- and from a place on
+  pub get_drop : (n : ℕ) (xs : List A) (k : ℕ) → slice_get (drop n xs) k ≡ slice_get xs (n + k)
+  get_drop zero xs k = let none : 0 + k ≡ k = omega arith in ap (slice_get xs) (sym none)
+  get_drop (suc n) [] k = refl
+  get_drop (suc n) (x ∷ xs) k = let on : suc n + k ≡ suc (n + k) = omega arith in get_drop n xs k ∙ sym (ap (slice_get (x ∷ xs)) on)
+
+  -- one element more
+  pub take_one : (xs : List A) (k : ℕ) (x : A) → slice_get xs k ≡ Some x → take (k + 1) xs ≡ take k xs ++ x ∷ []
+  take_one [] k x is = absurd (cc)
+  take_one (y ∷ ys) zero x is = let same : y ≡ x = cc in ap (λ (z : A). z ∷ []) same
+  take_one (y ∷ ys) (suc k) x is =
+      let on : suc k + 1 ≡ suc (k + 1) = omega arith in
+      ap (λ (n : ℕ). take n (y ∷ ys)) on ∙ ap (λ (l : List A). y ∷ l) (take_one ys k x is)

@@ -20,7 +20,7 @@ use Rattle.zy_run.specs.Spans.{held_of, AreHoldsOf, Spans}
 use Rattle.zy_check.specs.Given.{Given, due_in, IsNext, IsAnswered, AreRight, IsWhole, IsHeld}
 use Rattle.zy_check.specs.Cause.{IsRight}
 use Rattle.zy_check.specs.OfRun.{IsOfRun}
-use Rattle.zy_check.proofs.FollowLemmas.{asked_at}
+use Rattle.zy_check.proofs.DueLemmas.{asked_at}
 use Rattle.zy_check.proofs.WalkLemmas.{take_next, own_here}
 
 -- there is an element at each place of a list

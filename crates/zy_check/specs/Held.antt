@@ -1,10 +1,7 @@
 -- Adding the holds up. No public clause cites this module.
 use Rattle.std.specs.Prelude.{◌≡◌, ◌≢◌, ℕ, ◌<◌, ◌≤◌, get_or, List, length, Option, None, Some}
-use Rattle.std.specs.List.{slice_get}
 use Rattle.zy_base.specs.declared.hold.Hold.{Hold}
-use Rattle.zy_run.specs.Commands.{commands_held}
 use Rattle.zy_run.specs.Spans.{held_of}
-use Rattle.zy_check.specs.declared.pace.Followed.{Followed}
 use Rattle.zy_check.specs.Given.{Given, IsHeld}
 
 -- the holds of each of so many connections, added up
@@ -17,13 +14,6 @@ abbrev pub FoundStray : ℕ → List Hold → Option ℕ → Type 0
 FoundStray count holds None = (conn : ℕ) → count ≤ conn → held_of conn holds ≡ 0
 FoundStray count holds (Some stray) =
     (count ≤ stray) × (held_of stray holds ≢ 0) × ((conn : ℕ) → count ≤ conn → conn < stray → held_of conn holds ≡ 0)
-
--- so many commands of each connection were followed
-pub record AreCounted (g : Given) (holds : List Hold) (followed : List Followed) : Type 0 where
-  pub holds_are : g.holds ≡ holds
-  pub count : length followed ≡ length g.streams
-  pub each : (conn : ℕ) (f : Followed) → slice_get followed conn ≡ Some f
-      → f.pace.commands ≡ length (commands_held g.streams conn)
 
 -- the holds of each connection add up to the number of its commands, or this is the first whose do not
 abbrev pub FoundUnheld : Given → Option ℕ → Type 0

@@ -1,10 +1,11 @@
 pub mod Given
 pub mod Cause
 pub mod OfRun
-pub mod Own
 pub mod Cursor
-pub mod Follow
+pub mod Answering
+pub mod Comparing
+pub mod Output
+pub mod Track
 pub mod Walk
 pub mod Missing
-pub mod Output
 pub mod Held

@@ -1,28 +1,25 @@
 -- Walking through the entries. No public clause cites this module.
-use Rattle.std.specs.Prelude.{◌≡◌, ℕ, ◌<◌, ◌≤◌, get_or, List, length, Option, None, Some}
+use Rattle.std.specs.Prelude.{◌≡◌, ℕ, ◌+◌, ◌<◌, ◌≤◌, List, length, take, Option, None, Some}
 use Rattle.std.specs.List.{slice_get}
 use Rattle.zy_base.specs.declared.entry.Entry.{Entry}
 use Rattle.zy_base.specs.Order.{of_connection, at_shard}
 use Rattle.zy_base.specs.Shard.{empty_state}
 use Rattle.zy_base.specs.History.{replayed}
-use Rattle.mc_parse.specs.Calls.{dues_of}
+use Rattle.mc_parse.specs.Calls.{due_at, due_of, dues_of}
 use Rattle.mc_shard.specs.Replay.{Replayed, replaying}
-use Rattle.zy_run.specs.Commands.{commands_held}
-use Rattle.zy_check.specs.declared.pace.Followed.{Followed}
+use Rattle.zy_check.specs.declared.track.Track.{Track}
 use Rattle.zy_check.specs.declared.verdict.Cause.{Cause}
 use Rattle.zy_check.specs.declared.verdict.Verdict.TheVariants.{No}
-use Rattle.zy_check.specs.Given.{Given, AreRight}
-use Rattle.zy_check.specs.Follow.{IsFollowed}
+use Rattle.zy_check.specs.Given.{Given, AreRight, AreRightBelow}
+use Rattle.zy_check.specs.Answering.{Answering, asked_in}
+use Rattle.zy_check.specs.Track.{HasMade}
 use Rattle.zy_check.specs.Cause.{HasVerdict}
 
--- the entries are those that are given, and those of each connection were followed
-pub record AreFollowed (g : Given) (shards : ℕ) (entries : List Entry) (followed : List Followed) : Type 0 where
-  pub shards_are : g.shards ≡ shards
-  pub some : 1 ≤ shards
-  pub entries_are : g.entries ≡ entries
-  pub count : length followed ≡ length g.streams
-  pub each : (conn : ℕ) (f : Followed) → slice_get followed conn ≡ Some f
-      → IsFollowed (dues_of (of_connection conn g.entries)) g.shards conn (commands_held g.streams conn) f.pace f.whole
+-- each connection stands where the calls of its entries before a place were made
+pub record AreTracked (g : Given) (at : ℕ) (tracks : List Track) : Type 0 where
+  pub count : length tracks ≡ length g.streams
+  pub each : (conn : ℕ) (t : Track) → slice_get tracks conn ≡ Some t
+      → HasMade g conn t (dues_of (of_connection conn (take at g.entries)))
 
 -- so many shards after the calls of entries
 pub record AreReplayed (shards : ℕ) (es : List Entry) (states : List Replayed) : Type 0 where
@@ -30,12 +27,30 @@ pub record AreReplayed (shards : ℕ) (es : List Entry) (states : List Replayed)
   pub each : (s : ℕ) → s < shards → slice_get states s
       ≡ Some (replaying s shards (replayed shards s empty_state (at_shard s es)))
 
--- how many of the entries are of each of so many connections
-pub record AreSeen (count : ℕ) (es : List Entry) (seen : List ℕ) : Type 0 where
-  pub count_is : length seen ≡ count
-  pub each : (conn : ℕ) → conn < count → get_or seen conn 0 ≡ length (of_connection conn es)
+-- connections and shards stand before the entry at a place, and every entry before it is right
+pub record AreAt (g : Given) (at : ℕ) (tracks : List Track) (states : List Replayed) : Type 0 where
+  pub some : 1 ≤ g.shards
+  pub tracked : AreTracked g at tracks
+  pub replays : AreReplayed g.shards (take at g.entries) states
+  pub right : AreRightBelow g at
 
--- every entry is right, or this is the first cause
-abbrev pub FoundWrong : Given → Option Cause → Type 0
-FoundWrong g None = AreRight g
-FoundWrong g (Some cause) = HasVerdict g (No cause)
+-- an entry is the next call of the command that is begun, which is the one with this index
+abbrev pub IsDueIn : Option Answering → ℕ → Entry → Type 0
+IsDueIn None index e = ⊥
+IsDueIn (Some b) index e = (length b.replies < length (asked_in b))
+    × (slice_get (due_at b.shards e.tag.conn index b.command) (length b.replies) ≡ Some (due_of e))
+
+-- an entry is the next call of its connection
+pub record IsNextIn (tracks : List Track) (e : Entry) : Type 0 where
+  pub within : e.tag.conn < length tracks
+  pub due : (t : Track) → slice_get tracks e.tag.conn ≡ Some t → IsDueIn t.begun t.commands e
+
+-- the entry at a place is right, and connections and shards stand behind it, or this is the first cause
+abbrev pub FoundAt : Given → ℕ → List Track → List Replayed → Option Cause → Type 0
+FoundAt g at tracks states None = AreAt g (at + 1) tracks states
+FoundAt g at tracks states (Some cause) = HasVerdict g (No cause)
+
+-- every entry is right, and each connection stands behind its last, or this is the first cause
+abbrev pub FoundWrong : Given → List Track → Option Cause → Type 0
+FoundWrong g tracks None = AreRight g × AreTracked g (length g.entries) tracks
+FoundWrong g tracks (Some cause) = HasVerdict g (No cause)

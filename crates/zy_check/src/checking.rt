@@ -3,18 +3,17 @@ ghost use Rattle.std.specs.Prelude.{◌≡◌, ◌≤◌, length, IfOk};
 ghost use Rattle.zy_check.specs.Given.{Given, given};
 ghost use Rattle.zy_check.specs.Cause.{HasVerdict};
 ghost use Rattle.zy_check.specs.Missing.{FoundMissing};
-ghost use Rattle.zy_check.specs.Walk.{AreFollowed};
+ghost use Rattle.zy_check.specs.Walk.{AreTracked};
 
-use crate::following::follow_all;
+use crate::files::Files;
 use crate::holds::first_unheld;
 use crate::missing::first_missing;
 use crate::outputs::first_output;
-use crate::pace::Followed;
-use crate::places::places;
+use crate::track::Track;
 use crate::verdict::{Cause, Verdict};
 use crate::walk::first_wrong;
 use std::alloc::Global;
-use zy_base::{Entry, NoMemory};
+use zy_base::NoMemory;
 use zy_capture::{Outputs, Streams};
 use zy_journal::Journal;
 
@@ -33,37 +32,46 @@ pub fn check(
     ensures verdict { IfOk result
         (HasVerdict (given shards streams.now journal.now outputs.now)) }
 {
-    let entries = journal.entries.items();
-    let count = streams.count();
-    let lists = places(alloc, entries, count)?;
-    let followed = follow_all(alloc, streams, shards, entries, &lists)?;
-    if let Some(cause) = first_of_calls(alloc, entries, shards, &followed, count)? {
+    let files = Files::new(streams, journal, outputs, shards);
+    let mut tracks = at_start(alloc, files.count())?;
+    if let Some(cause) = first_of_calls(alloc, &files, tracks.as_mut_slice())? {
         return Ok(Verdict::No(cause));
     }
-    if let Some(cause) = first_output(alloc, streams, journal, outputs, shards, &lists)? {
+    if let Some(cause) = first_output(&files, &tracks) {
         return Ok(Verdict::No(cause));
     }
-    match first_unheld(alloc, journal.holds.items(), &followed, count)? {
+    match first_unheld(alloc, &files, &tracks)? {
         None => Ok(Verdict::Yes),
         Some(conn) => Ok(Verdict::No(Cause::WrongHolds { conn })),
     }
 }
 
-// The first cause among the entries and the calls that have none, where there is one.
+// So many connections at the start of their first sessions.
+fn at_start(alloc: Global, count: u32) -> Result<Vec<Track>, NoMemory>
+    ensures none { IfOk result (λ tracks. (g : Given) → length g.streams ≡ count
+        → AreTracked g 0 tracks.items) }
+{
+    let Ok(mut tracks) = Vec::with_capacity(alloc, count as usize) else {
+        return Err(NoMemory);
+    };
+    for _ in 0..count {
+        tracks.push_reserved(Track::new(alloc));
+    }
+    Ok(tracks)
+}
+
+// The first cause among the entries and the calls that have none, where there is one. Where there is
+// none, each connection stands at its end.
 fn first_of_calls(
     alloc: Global,
-    entries: &[Entry],
-    shards: u32,
-    followed: &[Followed],
-    count: u32,
+    files: &Files,
+    tracks: &mut [Track],
 ) -> Result<Option<Cause>, NoMemory>
-    requires limit { shards ≤ 256 }
-    requires same { length followed.now ≡ count }
-    ensures found { IfOk result (λ found. (g : Given)
-        → AreFollowed g shards entries.now followed.now → FoundMissing g found) }
+    requires start { AreTracked files.now 0 tracks.old }
+    ensures found { IfOk result (FoundMissing files.now tracks.new) }
 {
-    if let Some(cause) = first_wrong(alloc, entries, shards, followed)? {
+    if let Some(cause) = first_wrong(alloc, files, tracks)? {
         return Ok(Some(cause));
     }
-    Ok(first_missing(followed, count))
+    first_missing(files, tracks)
 }

@@ -9,8 +9,9 @@ use std::marker::Model;
 use zy_base::NoMemory;
 use zy_frame::{Framer, Frames, meaning};
 
-// How many bytes are cut at a time.
-const PIECE: usize = 65_536;
+// How many bytes are cut at a time. The commands that begin and end in a piece wait with its cursor,
+// and each connection has one.
+const PIECE: usize = 512;
 
 /// A place in a stream. Contracts see what its framer is in the middle of, the frames that wait,
 /// and how many bytes it has read.

@@ -2,32 +2,28 @@
 ghost use Rattle.std.specs.Prelude.{◌≡◌, ◌↔◌, ◌≢◌, ◌+◌, ◌<◌, ◌≤◌, ℕ, List, ◌++◌, ◌∷◌, [], length, get_or, IfOk, OnOk};
 ghost use Rattle.std.specs.List.{slice_set};
 ghost use Rattle.zy_base.specs.declared.hold.Hold.{Hold};
-ghost use Rattle.zy_check.specs.Given.{Given};
-ghost use Rattle.zy_check.specs.Held.{AreSums, AreCounted, FoundStray, FoundUnheld};
+ghost use Rattle.zy_check.specs.Held.{AreSums, FoundStray, FoundUnheld};
+ghost use Rattle.zy_check.specs.Missing.{AreEnded};
 
-use crate::pace::Followed;
+use crate::files::Files;
+use crate::track::Track;
 use std::alloc::Global;
 use zy_base::{Hold, NoMemory};
 
 /// The first connection whose holds do not add up to the number of its commands, where there is
 /// one.
-pub fn first_unheld(
-    alloc: Global,
-    holds: &[Hold],
-    followed: &[Followed],
-    count: u32,
-) -> Result<Option<u32>, NoMemory>
-    requires same { length followed.now ≡ count }
-    ensures found { IfOk result (λ found. (g : Given) → AreCounted g holds.now followed.now
-        → FoundUnheld g found) }
+pub fn first_unheld(alloc: Global, files: &Files, tracks: &[Track]) -> Result<Option<u32>, NoMemory>
+    requires ended { AreEnded files.now tracks.now }
+    ensures found { IfOk result (FoundUnheld files.now) }
 {
-    let sums = sums(alloc, holds, count)?;
+    let count = files.count();
+    let sums = sums(alloc, files.holds(), count)?;
     for conn in 0..count {
-        if sums[conn as usize] != followed[conn as usize].pace.commands {
+        if sums[conn as usize] != tracks[conn as usize].commands() {
             return Ok(Some(conn));
         }
     }
-    Ok(first_stray(holds, count))
+    Ok(first_stray(files.holds(), count))
 }
 
 // The holds of each of so many connections, added up.

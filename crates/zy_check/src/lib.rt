@@ -2,22 +2,19 @@
 //! not.
 #![tactic(auto)]
 
-mod answer;
+mod begun;
 mod bytes;
 mod checking;
+mod compared;
 mod cursor;
-mod follow;
-mod following;
+mod files;
 mod holds;
 mod laws;
 mod missing;
 mod outputs;
-mod own;
-mod pace;
-mod places;
-mod session;
 #[cfg(test)]
 mod tests;
+mod track;
 mod verdict;
 mod walk;
 

@@ -1,27 +1,27 @@
 //! The first call that has no entry.
-ghost use Rattle.std.specs.Prelude.{◌≡◌, ℕ, List, length};
-ghost use Rattle.zy_base.specs.declared.entry.Entry.{Entry};
-ghost use Rattle.zy_check.specs.Given.{Given, AreRight};
+ghost use Rattle.std.specs.Prelude.{length, IfOk};
+ghost use Rattle.zy_check.specs.Given.{AreRight};
 ghost use Rattle.zy_check.specs.Missing.{FoundMissing};
-ghost use Rattle.zy_check.specs.Walk.{AreFollowed};
+ghost use Rattle.zy_check.specs.Walk.{AreTracked};
 
-use crate::pace::Followed;
+use crate::files::Files;
+use crate::track::Track;
 use crate::verdict::Cause;
+use zy_base::NoMemory;
 
-/// The cause at the first connection with a call that has no entry, where there is one.
-pub fn first_missing(followed: &[Followed], count: u32) -> Option<Cause>
-    requires same { length followed.now ≡ count }
-    ensures found { (g : Given) (shards : ℕ) (entries : List Entry)
-        → AreFollowed g shards entries followed.now → AreRight g → FoundMissing g result }
+/// The cause at the first connection with a call that has no entry, where there is one. Where there
+/// is none, each connection stands at its end.
+pub fn first_missing(files: &Files, tracks: &mut [Track]) -> Result<Option<Cause>, NoMemory>
+    requires right { AreRight files.now }
+    requires tracked { AreTracked files.now (length files.now.entries) tracks.old }
+    ensures found { IfOk result (FoundMissing files.now tracks.new) }
 {
-    for conn in 0..count {
-        let found = &followed[conn as usize];
-        if !found.whole {
-            return Some(Cause::Missing {
-                conn,
-                index: found.pace.commands,
-            });
+    for conn in 0..files.count() {
+        let track = &mut tracks[conn as usize];
+        if track.go_on(files, conn)? {
+            let index = track.commands();
+            return Ok(Some(Cause::Missing { conn, index }));
         }
     }
-    None
+    Ok(None)
 }

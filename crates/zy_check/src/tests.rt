@@ -1,9 +1,8 @@
-//! The worked run as data, and what is answered where a part of it is another.
+//! That each answer is given where there is memory: to the worked run, and where a part of it is another.
 use crate::{Cause, Verdict, check};
 use std::alloc::Global;
-use std::process::Abort;
 use std::test::Fail;
-use zy_base::{Blob, Call, CallReply, Entries, Entry, Hold, Holds, NoMemory, Tag, shard_of};
+use zy_base::{Blob, Call, CallReply, Entries, Entry, Hold, Holds, NoMemory, Tag};
 use zy_capture::{Outputs, Segment, Streams};
 use zy_journal::Journal;
 
@@ -177,20 +176,17 @@ fn outputs_of(alloc: Global, sessions: &[(u32, &[u8])]) -> Result<Outputs, NoMem
     Ok(outputs)
 }
 
-// What is answered to these parts, on so many shards.
+// What is answered to these parts.
 fn answer(
-    rt: &impl Abort,
     alloc: Global,
     rows: &[Row],
     holds: &[Hold],
     sessions: &[(u32, &[u8])],
-    shards: u32,
 ) -> Result<Verdict, NoMemory> {
     let streams = worked_streams(alloc)?;
     let journal = journal_of(alloc, rows, holds)?;
     let outputs = outputs_of(alloc, sessions)?;
-    assert!(rt; 1 <= shards && shards <= 256);
-    check(alloc, &streams, &journal, &outputs, shards)
+    check(alloc, &streams, &journal, &outputs, 16)
 }
 
 // The worked run's parts.
@@ -200,287 +196,60 @@ const HOLDS: [Hold; 3] = [FIRST, SECOND, OTHER];
 
 const OUTPUTS: [(u32, &[u8]); 3] = [(0, SET), (0, GETS), (1, GET)];
 
-// ---- one part is another
+// ---- the answers
 
 #[test]
-fn the_worked_run_is_one_on_its_number_of_shards(rt: HostRuntime) -> Result<(), Fail> {
-    let cases = [
-        (16, Verdict::Yes),
-        (1, not_next(0)),
-        (8, not_next(0)),
-        (256, not_next(0)),
-    ];
-    for (shards, wanted) in cases {
-        let found = answer(&rt, rt.alloc(), &ROWS, &HOLDS, &OUTPUTS, shards)?;
-        assert_eq!(rt; found, wanted);
-    }
+fn the_worked_run_is_one(rt: HostRuntime) -> Result<(), Fail> {
+    let found = answer(rt.alloc(), &ROWS, &HOLDS, &OUTPUTS)?;
+    assert_eq!(rt; found, Verdict::Yes);
     Ok(())
-}
-
-// The answer to an entry that is not next.
-fn not_next(entry: u64) -> Verdict {
-    Verdict::No(Cause::NotNext { entry })
-}
-
-// The answer to an entry with another reply.
-fn wrong_reply(entry: u64) -> Verdict {
-    Verdict::No(Cause::WrongReply { entry })
-}
-
-// The answer to a call without an entry.
-fn missing(conn: u32, index: u64) -> Verdict {
-    Verdict::No(Cause::Missing { conn, index })
-}
-
-// The answer to another output.
-fn wrong_output(conn: u32, session: u32, at: u64) -> Verdict {
-    Verdict::No(Cause::WrongOutput { conn, session, at })
-}
-
-// The answer to holds that do not add up.
-fn wrong_holds(conn: u32) -> Verdict {
-    Verdict::No(Cause::WrongHolds { conn })
 }
 
 #[test]
 fn the_first_entry_that_is_wrong_is_told(rt: HostRuntime) -> Result<(), Fail> {
-    let hit = Row {
-        told: Told::Hit,
-        ..MISSED
-    };
-    let miss = Row {
-        told: Told::Miss,
-        ..FOUND
-    };
-    let asks = Row {
-        asked: Asked::Get,
-        ..STORED
-    };
-    let nobody = Row { conn: 2, ..MISSED };
-    let cases: [(&[Row], Verdict); 11] = [
-        (&[MISSED, FOUND, STORED], not_next(1)),
-        (&[STORED, MISSED, FOUND], wrong_reply(1)),
-        (&[MISSED, MISSED, STORED, FOUND], not_next(1)),
-        (&[MISSED, STORED, FOUND, FOUND], not_next(3)),
-        (&[hit, STORED, FOUND], wrong_reply(0)),
-        (&[MISSED, STORED, miss], wrong_reply(2)),
-        (&[MISSED, miss, STORED], not_next(1)),
-        (&[MISSED, asks, FOUND], not_next(1)),
-        (&[nobody, hit], not_next(0)),
-        (&[hit, nobody], wrong_reply(0)),
-        (&[MISSED, STORED, nobody], not_next(2)),
+    let cases: [(&[Row], Cause); 2] = [
+        (&[MISSED, FOUND, STORED], Cause::NotNext { entry: 1 }),
+        (&[STORED, MISSED, FOUND], Cause::WrongReply { entry: 1 }),
     ];
     for (rows, wanted) in cases {
-        let found = answer(&rt, rt.alloc(), rows, &HOLDS, &OUTPUTS, 16)?;
-        assert_eq!(rt; found, wanted);
+        let found = answer(rt.alloc(), rows, &HOLDS, &OUTPUTS)?;
+        assert_eq!(rt; found, Verdict::No(wanted));
     }
-    Ok(())
-}
-
-#[test]
-fn another_run_has_another_output(rt: HostRuntime) -> Result<(), Fail> {
-    let hit = Row {
-        told: Told::Hit,
-        ..MISSED
-    };
-    let rows = [STORED, FOUND, hit];
-    let text: &[u8] = b"VALUE a 0 1\r\nx\r\nEND\r\n";
-    let outputs: [(u32, &[u8]); 3] = [(0, SET), (0, GETS), (1, text)];
-    let found = answer(&rt, rt.alloc(), &rows, &HOLDS, &outputs, 16)?;
-    assert_eq!(rt; found, Verdict::Yes);
-    let found = answer(&rt, rt.alloc(), &rows, &HOLDS, &OUTPUTS, 16)?;
-    assert_eq!(rt; found, wrong_output(1, 0, 0));
     Ok(())
 }
 
 #[test]
 fn the_first_call_without_an_entry_is_told(rt: HostRuntime) -> Result<(), Fail> {
-    let cases: [(&[Row], Verdict); 5] = [
-        (&[], missing(0, 0)),
-        (&[MISSED], missing(0, 0)),
-        (&[STORED], missing(0, 1)),
-        (&[MISSED, STORED], missing(0, 1)),
-        (&[STORED, FOUND], missing(1, 0)),
-    ];
-    for (rows, wanted) in cases {
-        let found = answer(&rt, rt.alloc(), rows, &[], &[], 16)?;
-        assert_eq!(rt; found, wanted);
-    }
+    let found = answer(rt.alloc(), &[MISSED, STORED], &HOLDS, &OUTPUTS)?;
+    assert_eq!(rt; found, Verdict::No(Cause::Missing { conn: 0, index: 1 }));
     Ok(())
 }
 
 #[test]
 fn the_first_output_that_is_another_is_told(rt: HostRuntime) -> Result<(), Fail> {
-    let cases: [(&[(u32, &[u8])], Verdict); 9] = [
-        (&[], wrong_output(0, 0, 0)),
-        (&[(0, SET), (0, GETS)], wrong_output(1, 0, 0)),
-        (&[(0, SET), (1, GET)], wrong_output(0, 1, 0)),
-        (&[(0, GETS), (0, SET), (1, GET)], wrong_output(0, 0, 0)),
-        (
-            &[(0, SET), (0, GETS), (0, b""), (1, GET)],
-            wrong_output(0, 2, 0),
-        ),
-        (
-            &[(0, SET), (0, GETS), (1, GET), (1, b"")],
-            wrong_output(1, 1, 0),
-        ),
-        (
-            &[(0, SET), (0, GETS), (1, GET), (2, b"")],
-            wrong_output(2, 0, 0),
-        ),
-        (
-            &[(0, SET), (0, GETS), (1, b"END\r\nVERSION")],
-            wrong_output(1, 0, 5),
-        ),
-        (&[(0, b"STORED\r\nEND"), (1, b"")], wrong_output(0, 0, 8)),
+    let cases: [(&[(u32, &[u8])], u32, u32, u64); 4] = [
+        (&[(0, SET), (0, &GETS[..9]), (1, GET)], 0, 1, 9),
+        (&[(0, SET), (1, GET)], 0, 1, 0),
+        (&[(0, SET), (0, GETS), (1, GET), (1, b"")], 1, 1, 0),
+        (&[(0, SET), (0, GETS), (1, GET), (2, b"")], 2, 0, 0),
     ];
-    for (sessions, wanted) in cases {
-        let found = answer(&rt, rt.alloc(), &ROWS, &[], sessions, 16)?;
-        assert_eq!(rt; found, wanted);
-    }
-    Ok(())
-}
-
-#[test]
-fn the_bytes_that_agree_are_counted(rt: HostRuntime) -> Result<(), Fail> {
-    for at in 0..GETS.len() {
-        let sessions: [(u32, &[u8]); 3] = [(0, SET), (0, &GETS[..at]), (1, GET)];
-        let found = answer(&rt, rt.alloc(), &ROWS, &HOLDS, &sessions, 16)?;
-        assert_eq!(rt; found, wrong_output(0, 1, at as u64));
-        let mut bytes = Vec::from_slice(rt.alloc(), GETS)?;
-        if let Some(place) = bytes.get_mut(at) {
-            *place = GETS[at].wrapping_add(1);
-        }
-        let sessions: [(u32, &[u8]); 3] = [(0, SET), (0, bytes.as_slice()), (1, GET)];
-        let found = answer(&rt, rt.alloc(), &ROWS, &HOLDS, &sessions, 16)?;
-        assert_eq!(rt; found, wrong_output(0, 1, at as u64));
+    for (sessions, conn, session, at) in cases {
+        let found = answer(rt.alloc(), &ROWS, &HOLDS, sessions)?;
+        assert_eq!(rt;
+            found,
+            Verdict::No(Cause::WrongOutput { conn, session, at })
+        );
     }
     Ok(())
 }
 
 #[test]
 fn the_first_holds_that_do_not_add_up_are_told(rt: HostRuntime) -> Result<(), Fail> {
-    let both = Hold { count: 2, ..FIRST };
     let ninth = Hold { conn: 9, ..OTHER };
-    let fifth = Hold { conn: 5, ..OTHER };
-    let none = Hold { count: 0, ..fifth };
-    let cases: [(&[Hold], Verdict); 11] = [
-        (&[OTHER, SECOND, FIRST], Verdict::Yes),
-        (&[both, OTHER], Verdict::Yes),
-        (&[FIRST, SECOND, OTHER, none], Verdict::Yes),
-        (&[], wrong_holds(0)),
-        (&[FIRST, OTHER], wrong_holds(0)),
-        (&[FIRST, FIRST, SECOND, OTHER], wrong_holds(0)),
-        (&[FIRST, SECOND], wrong_holds(1)),
-        (&[FIRST, SECOND, OTHER, OTHER], wrong_holds(1)),
-        (&[FIRST, SECOND, OTHER, ninth, fifth], wrong_holds(5)),
-        (&[FIRST, SECOND, OTHER, none, ninth], wrong_holds(9)),
-        (&[FIRST, SECOND, fifth], wrong_holds(1)),
-    ];
-    for (holds, wanted) in cases {
-        let found = answer(&rt, rt.alloc(), &ROWS, holds, &OUTPUTS, 16)?;
-        assert_eq!(rt; found, wanted);
-    }
-    Ok(())
-}
-
-// ---- commands of several calls
-
-// Appends an entry of connection 0.
-fn add_entry(
-    entries: &mut Entries,
-    index: u64,
-    part: u32,
-    shard: u32,
-    call: Call,
-    reply: CallReply,
-) -> Result<(), NoMemory> {
-    let tag = Tag {
-        conn: 0,
-        index,
-        part,
-    };
-    let entry = Entry {
-        tag,
-        shard,
-        call,
-        reply,
-        stamp: 1,
-    };
-    entries.push(entry).map_err(|e| e.1)
-}
-
-// A get of a key.
-fn get(alloc: Global, key: &[u8]) -> Result<Call, NoMemory> {
-    let key = Blob::copy_of(alloc, key)?;
-    Ok(Call::Get { key })
-}
-
-// The entries of a run on two shards, one of which has each key.
-fn several(alloc: Global) -> Result<Entries, NoMemory> {
-    let here = shard_of(b"a", 2);
-    let there = shard_of(b"b", 2);
-    let mut entries = Entries::new(alloc);
-    let set = call_of(alloc, Asked::Set)?;
-    add_entry(&mut entries, 0, 0, here, set, CallReply::Stored)?;
-    let hit = CallReply::Hit {
-        flags: 0,
-        unique: if here == 0 { 2 } else { 3 },
-        value: Blob::copy_of(alloc, b"x")?,
-    };
-    add_entry(&mut entries, 1, 0, here, get(alloc, b"a")?, hit)?;
-    add_entry(
-        &mut entries,
-        1,
-        1,
-        there,
-        get(alloc, b"b")?,
-        CallReply::Miss,
-    )?;
-    add_entry(&mut entries, 3, 0, 0, Call::Flush, CallReply::Flushed)?;
-    add_entry(&mut entries, 3, 1, 1, Call::Flush, CallReply::Flushed)?;
-    let key = Blob::copy_of(alloc, b"a")?;
-    let delete = Call::Delete { key };
-    add_entry(&mut entries, 4, 0, here, delete, CallReply::NotFound)?;
-    add_entry(&mut entries, 5, 0, here, get(alloc, b"a")?, CallReply::Miss)?;
-    Ok(entries)
-}
-
-// What is answered where one of these entries is left out, and none where there is none.
-fn answer_without(alloc: Global, left_out: usize) -> Result<Verdict, NoMemory> {
-    let mut streams = Streams::new(alloc, 1)?;
-    let bytes =
-        b"set a 0 0 1\r\nx\r\nget a b\r\nversion\r\nflush_all\r\ndelete a noreply\r\nget a\r\n";
-    add_segment(alloc, &mut streams, 0, bytes)?;
-    let all = several(alloc)?;
-    let mut entries = Entries::new(alloc);
-    for (at, entry) in all.items().iter().enumerate() {
-        if at != left_out {
-            entries.push(entry.copy()?).map_err(|e| e.1)?;
-        }
-    }
-    let mut holds = Holds::new(alloc);
-    let hold = Hold { count: 6, ..FIRST };
-    holds.push(hold).map_err(|e| e.1)?;
-    let text = b"STORED\r\nVALUE a 0 1\r\nx\r\nEND\r\nVERSION zygos-1.0\r\nOK\r\nEND\r\n";
-    let outputs = outputs_of(alloc, &[(0, text)])?;
-    check(alloc, &streams, &Journal { entries, holds }, &outputs, 2)
-}
-
-#[test]
-fn each_call_of_a_command_has_its_entry(rt: HostRuntime) -> Result<(), Fail> {
-    let cases = [
-        (7, Verdict::Yes),
-        (6, missing(0, 5)),
-        (5, not_next(5)),
-        (4, not_next(4)),
-        (3, not_next(3)),
-        (2, not_next(2)),
-        (1, not_next(1)),
-        (0, not_next(0)),
-    ];
-    for (left_out, wanted) in cases {
-        assert_eq!(rt; answer_without(rt.alloc(), left_out)?, wanted);
+    let cases: [(&[Hold], u32); 2] = [(&[FIRST, OTHER], 0), (&[FIRST, SECOND, OTHER, ninth], 9)];
+    for (holds, conn) in cases {
+        let found = answer(rt.alloc(), &ROWS, holds, &OUTPUTS)?;
+        assert_eq!(rt; found, Verdict::No(Cause::WrongHolds { conn }));
     }
     Ok(())
 }

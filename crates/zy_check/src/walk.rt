@@ -1,56 +1,76 @@
 //! Walking through the entries of a journal.
-ghost use Rattle.std.specs.Prelude.{◌≡◌, ◌↔◌, ◌+◌, ◌^◌, ◌<◌, ◌≤◌, get_or, true, [], length, Some, IfOk, OnOk};
-ghost use Rattle.std.specs.List.{slice_get, slice_set};
+ghost use Rattle.std.specs.Prelude.{◌≡◌, ◌↔◌, ◌<◌, ◌≤◌, ℕ, true, [], length, take, IfOk, OnOk};
 ghost use Rattle.zy_base.specs.Shard.{reply_to};
-ghost use Rattle.mc_shard.specs.Replay.{Replayed, state_replayed};
-ghost use Rattle.zy_check.specs.declared.pace.Followed.{Followed};
-ghost use Rattle.zy_check.specs.Given.{Given};
-ghost use Rattle.zy_check.specs.Walk.{AreFollowed, AreReplayed, AreSeen, FoundWrong};
+ghost use Rattle.mc_shard.specs.Replay.{state_replayed};
+ghost use Rattle.zy_check.specs.Given.{IsNext};
+ghost use Rattle.zy_check.specs.Walk.{AreAt, AreReplayed, AreTracked, FoundAt, FoundWrong, IsNextIn};
 
-use crate::pace::Followed;
+use crate::files::Files;
+use crate::track::Track;
 use crate::verdict::Cause;
 use mc_shard::Replay;
 use std::alloc::Global;
 use zy_base::{Entry, NoMemory};
 
-/// The cause at the first entry that is not right, where there is one.
+/// The cause at the first entry that is not right, where there is one. Where there is none, each
+/// connection stands behind its last entry.
 pub fn first_wrong(
     alloc: Global,
-    entries: &[Entry],
-    shards: u32,
-    followed: &[Followed],
+    files: &Files,
+    tracks: &mut [Track],
 ) -> Result<Option<Cause>, NoMemory>
-    requires limit { shards ≤ 256 }
-    ensures found { IfOk result (λ found. (g : Given)
-        → AreFollowed g shards entries.now followed.now → FoundWrong g found) }
+    requires start { AreTracked files.now 0 tracks.old }
+    ensures found { IfOk result (FoundWrong files.now tracks.new) }
 {
-    let mut states = empty_shards(alloc, shards)?;
-    let mut seen = zeros(alloc, followed.len())?;
-    for at in 0..entries.len() {
-        let entry = &entries[at];
-        if !is_next(entry, shards, &seen, followed) {
-            return Ok(Some(Cause::NotNext { entry: at as u64 }));
+    let mut states = empty_shards(alloc, files.shards())?;
+    for at in 0..files.entries().len() {
+        if let Some(cause) = wrong_at(files, at, tracks, &mut states)? {
+            return Ok(Some(cause));
         }
-        if !answers(&mut states[entry.shard as usize], entry)? {
-            return Ok(Some(Cause::WrongReply { entry: at as u64 }));
-        }
-        count_one(&mut seen, entry.tag.conn);
     }
     Ok(None)
 }
 
-// Whether an entry is on one of the shards, and one of the calls due that were found.
-fn is_next(entry: &Entry, shards: u32, seen: &[u64], followed: &[Followed]) -> bool
-    requires same { length seen.now ≡ length followed.now }
-    ensures shard { result ≡ true → entry.now.shard < shards }
-    ensures connection { result ≡ true → entry.now.tag.conn < length followed.now }
-    ensures room { result ≡ true → get_or seen.now entry.now.tag.conn 0 + 1 < 2 ^ 64 }
-    ensures exact { (f : Followed) → slice_get followed.now entry.now.tag.conn ≡ Some f
-        → entry.now.shard < shards
-        → result ≡ true ↔ get_or seen.now entry.now.tag.conn 0 < f.pace.matched }
+// The cause at an entry, where there is one.
+fn wrong_at(
+    files: &Files,
+    at: usize,
+    tracks: &mut [Track],
+    states: &mut Vec<Replay>,
+) -> Result<Option<Cause>, NoMemory>
+    requires within { at < length files.now.entries }
+    requires here { AreAt files.now at tracks.old states.old.items }
+    ensures found { IfOk result (FoundAt files.now at tracks.new states.new.items) }
 {
-    let conn = entry.tag.conn as usize;
-    entry.shard < shards && conn < followed.len() && seen[conn] < followed[conn].pace.matched
+    let entry = &files.entries()[at];
+    if !is_next(files, tracks, entry)? {
+        return Ok(Some(Cause::NotNext { entry: at as u64 }));
+    }
+    if !answers(&mut states[entry.shard as usize], entry)? {
+        return Ok(Some(Cause::WrongReply { entry: at as u64 }));
+    }
+    tracks[entry.tag.conn as usize].answer(entry.reply.copy()?)?;
+    Ok(None)
+}
+
+// Whether an entry is the next call of its connection, which goes on to that call.
+fn is_next(files: &Files, tracks: &mut [Track], entry: &Entry) -> Result<bool, NoMemory>
+    requires same { length tracks.old ≡ length files.now.streams }
+    ensures kept { OnOk result ((at : ℕ) → AreTracked files.now at tracks.old
+        → AreTracked files.now at tracks.new) }
+    ensures exact { IfOk result (λ next. (at : ℕ) → AreTracked files.now at tracks.old
+        → next ≡ true ↔ IsNext files.now (take at files.now.entries) entry.now) }
+    ensures there { IfOk result (λ next. next ≡ true → IsNextIn tracks.new entry.now) }
+{
+    let conn = entry.tag.conn;
+    if tracks.len() <= conn as usize {
+        return Ok(false);
+    }
+    let track = &mut tracks[conn as usize];
+    if !track.go_on(files, conn)? {
+        return Ok(false);
+    }
+    Ok(track.is_due(entry, conn))
 }
 
 // Makes the call of an entry, and answers whether its reply is the entry's.
@@ -61,15 +81,6 @@ fn answers(state: &mut Replay, entry: &Entry) -> Result<bool, NoMemory>
 {
     let reply = state.answer(&entry.call)?;
     Ok(entry.reply == reply)
-}
-
-// One entry more of a connection was seen.
-fn count_one(seen: &mut Vec<u64>, conn: u32)
-    requires within { conn < length seen.old.items }
-    requires room { get_or seen.old.items conn 0 + 1 < 2 ^ 64 }
-    ensures value { seen.new.items ≡ slice_set seen.old.items conn (get_or seen.old.items conn 0 + 1) }
-{
-    seen[conn as usize] += 1;
 }
 
 // So many shards on which no call was made.
@@ -84,14 +95,4 @@ fn empty_shards(alloc: Global, shards: u32) -> Result<Vec<Replay>, NoMemory>
         states.push_reserved(Replay::new(alloc, number, shards));
     }
     Ok(states)
-}
-
-// So many zeros.
-fn zeros(alloc: Global, count: usize) -> Result<Vec<u64>, NoMemory>
-    ensures none { IfOk result (λ seen. AreSeen count [] seen.items) }
-{
-    match vec![in alloc; 0; count] {
-        Ok(seen) => Ok(seen),
-        Err(_) => Err(NoMemory),
-    }
 }

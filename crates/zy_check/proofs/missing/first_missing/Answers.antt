@@ -1,27 +1,48 @@
-use Rattle.std.proofs.Common.{arith}
-use Rattle.std.proofs.lemmas.Option.{slice_get-get_or}
-use Rattle.zy_check.proofs.RightLemmas.{followed_stopped, followed_whole, whole_all}
+use Rattle.std.proofs.Common.{length, get_or, sym, subst, arith}
+use Rattle.std.proofs.lemmas.Option.{slice_get-get_or, slice_get_within}
+use Rattle.zy_check.specs.Track.{HasMade}
+use Rattle.zy_check.specs.Cause.{IsMissing}
+use Rattle.zy_check.proofs.StepLemmas.{made_before, tracked_set, all_before, call_missing, ends_more, ends_whole, all_ended}
 use Rattle.zy_check.proofs.missing.first_missing.Goals as goal
 
-pub returns-then-not-found : goal.returns-then-not-found
-returns-then-not-found c =
+pub returns-then-branch : goal.returns-then-branch
+returns-then-branch c =
+    let g = c.args.files.now in
+    let conn = c.loop-conn.conn in
+    let tracks = c.loop-conn.tracks in
+    let tracked = c.loop-conn.invariant.tracked in
+    let size = tracked.count in
+    let count = c.count-conn-end.ensures.value in
     let near = c.loop-conn-test.true in
-    let size = c.requires.same in record {
-      found = λ g shards entries are right.
-          followed_stopped g shards entries c.args.followed.now c.loop-conn.conn _ are right (c.loop-conn.invariant g shards entries are right)
-          (slice_get-get_or c.args.followed.now c.loop-conn.conn _ (omega arith)) c.if-not-found.true;
-    }
+    let t = get_or tracks conn c.index-tracks-conn.result in
+    let is = slice_get-get_or tracks conn c.index-tracks-conn.result (omega arith) in
+    let has = c.in_ok-go_on.ensures.kept (made_before g (length g.entries) conn) (tracked.each conn t is) in
+    let missing = call_missing g conn c.go_on.new.self c.requires.right (ends_whole g tracks conn (omega arith) tracked c.loop-conn.invariant.ends)
+    (subst (HasMade g conn c.go_on.new.self) (all_before g conn) has) (c.in_ok-go_on.ensures.next c.if-branch.true) in
+    record { found = subst (IsMissing g conn) (sym c.commands-index.ensures.value) missing }
 
 pub loop-conn-preserved : goal.loop-conn-preserved
-loop-conn-preserved c g shards entries are right k below =
+loop-conn-preserved c =
+    let g = c.args.files.now in
+    let conn = c.loop-conn.conn in
+    let tracks = c.loop-conn.tracks in
+    let tracked = c.loop-conn.invariant.tracked in
+    let size = tracked.count in
+    let count = c.count-conn-end.ensures.value in
     let near = c.loop-conn-test.true in
-    let size = c.requires.same in
-    followed_whole g shards entries c.args.followed.now c.loop-conn.conn _ are (c.loop-conn.invariant g shards entries are right)
-    (slice_get-get_or c.args.followed.now c.loop-conn.conn _ (omega arith)) c.if-not-found.false k (omega arith)
+    let t = get_or tracks conn c.index-tracks-conn.result in
+    let is = slice_get-get_or tracks conn c.index-tracks-conn.result (omega arith) in record {
+      tracked = tracked_set g (length g.entries) tracks tracked conn t c.go_on.new.self is c.in_ok-go_on.ensures.kept;
+      ends = ends_more g tracks conn c.go_on.new.self (omega arith) c.loop-conn.invariant.ends (c.in_ok-go_on.ensures.end c.if-branch.false);
+    }
 
 pub returns : goal.returns
 returns c =
-    let end = c.loop-conn-test.false in
-    let size = c.requires.same in record {
-      found = λ g shards entries are right. whole_all g shards entries c.args.followed.now are right (λ k below. c.loop-conn.invariant g shards entries are right k (omega arith));
+    let g = c.args.files.now in
+    let tracks = c.loop-conn.tracks in
+    let tracked = c.loop-conn.invariant.tracked in
+    let size = tracked.count in
+    let count = c.count-conn-end.ensures.value in
+    let end = c.loop-conn-test.false in record {
+      found = all_ended g tracks c.requires.right tracked (λ k t is. let within = slice_get_within tracks k t is in c.loop-conn.invariant.ends k t (omega arith) is);
     }

@@ -1,0 +1,19 @@
+use Rattle.std.proofs.Common.{Option, None, ◌∙◌, subst, arith}
+use Rattle.zy_check.specs.Answering.{Answering}
+use Rattle.zy_check.specs.Track.{Stands}
+use Rattle.zy_check.proofs.TrackLemmas.{session_ended}
+use Rattle.zy_check.proofs.track.Track.begin.Goals as goal
+
+pub returns-in-None-clause-kept : goal.returns-in-None-clause-kept
+returns-in-None-clause-kept c made has =
+    let g = c.args.files.now in
+    let t = c.args.self.now in
+    let next = c.end_session.new.self in
+    let ends = c.end_session.ensures in
+    let h : Stands g c.args.conn t.session t.cursor None t.commands t.compared made = subst (λ (o : Option Answering). Stands g c.args.conn t.session t.cursor o t.commands t.compared made) c.requires.none has in
+    let size = c.sessions.ensures.value in
+    let more = c.if-sessions-self.false in
+    let gave = rw c.in-None.is at c.in_ok-command.ensures.gave in
+    let all = rw c.stream.ensures.value at gave in
+    rw (ends.session, ends.same.0 ∙ c.requires.none, ends.same.1)
+    (session_ended g c.args.conn t.session t.cursor t.commands t.compared made h (omega arith) all next.cursor next.compared ends.cursor ends.compared)

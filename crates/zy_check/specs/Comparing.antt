@@ -1,0 +1,37 @@
+-- Comparing an output, text by text. No public clause cites this module.
+use Rattle.std.specs.Prelude.{◌≡◌, ◌≢◌, ℕ, ◌≤◌, List, [], ◌++◌, length, take, Option, None, Some}
+use Rattle.zy_check.specs.declared.compared.Compared.{Compared}
+use Rattle.zy_check.specs.declared.compared.Differing.{Differing}
+use Rattle.zy_check.specs.Cause.{agreeing_in}
+
+-- what was made of an output so far is so many first bytes of what was found
+abbrev pub HasFirst : Option (List ℕ) → List ℕ → ℕ → Type 0
+HasFirst None made at = (made ≡ []) × (at ≡ 0)
+HasFirst (Some found) made at = (at ≤ length found) × (take at found ≡ made)
+
+-- what was found is another output than the one that is due, and so many first bytes agree
+abbrev pub IsOther : Option (List ℕ) → List ℕ → ℕ → Type 0
+IsOther found due at = (found ≢ Some due) × (agreeing_in found (Some due) ≡ at)
+
+-- this was made so far and is found, or the output is another, whatever is made behind it
+abbrev pub AddedTo : Option (List ℕ) → ℕ → List ℕ → ℕ → Option Differing → Type 0
+AddedTo found session made at None = HasFirst found made at
+AddedTo found session made at (Some d) =
+    (d.session ≡ session) × ((behind : List ℕ) → IsOther found (made ++ behind) d.at)
+
+-- a text more of an output is compared
+pub record Adds (found : Option (List ℕ)) (session : ℕ) (text : List ℕ) (before after : Compared) : Type 0 where
+  pub kept : (d : Differing) → before.differing ≡ Some d → after ≡ before
+  pub added : before.differing ≡ None → (made : List ℕ) → HasFirst found made before.at
+      → AddedTo found session (made ++ text) after.at after.differing
+
+-- this was made and is what was found, or the output is another
+abbrev pub EndedWith : Option (List ℕ) → ℕ → List ℕ → ℕ → Option Differing → Type 0
+EndedWith found session made at None = (found ≡ Some made) × (at ≡ 0)
+EndedWith found session made at (Some d) = (d.session ≡ session) × IsOther found made d.at
+
+-- an output is compared to its end
+pub record Ends (found : Option (List ℕ)) (session : ℕ) (before after : Compared) : Type 0 where
+  pub kept : (d : Differing) → before.differing ≡ Some d → after ≡ before
+  pub ended : before.differing ≡ None → (made : List ℕ) → HasFirst found made before.at
+      → EndedWith found session made after.at after.differing

@@ -1,0 +1,112 @@
+-- Where a connection stands: which of its calls were made, and its outputs as far as they were compared. No public
+-- clause cites this module.
+use Rattle.std.specs.Prelude.{◌≡◌, ℕ, ◌<◌, ◌≤◌, List, [], ◌∷◌, ◌++◌, length, take, drop, map, Option, None, Some, ⊤}
+use Rattle.std.specs.List.{concat, slice_index_or}
+use Rattle.zy_base.specs.declared.call_reply.CallReply.{CallReply}
+use Rattle.zy_base.specs.declared.entry.Entry.{Entry}
+use Rattle.zy_base.specs.Order.{of_connection}
+use Rattle.zy_capture.specs.Streams.{sessions_of}
+use Rattle.mc_parse.specs.declared.command.Command.{Command}
+use Rattle.mc_parse.specs.Calls.{Due, due, due_at}
+use Rattle.mc_reply.specs.Texts.{texts_from}
+use Rattle.zy_run.specs.Commands.{commands_over}
+use Rattle.zy_check.specs.declared.compared.Compared.{Compared}
+use Rattle.zy_check.specs.declared.compared.Differing.{Differing}
+use Rattle.zy_check.specs.declared.track.Track.{Track}
+use Rattle.zy_check.specs.Given.{Given, found_output, IsOutput}
+use Rattle.zy_check.specs.Cause.{IsComplete}
+use Rattle.zy_check.specs.Answering.{Answering, asked_in}
+use Rattle.zy_check.specs.Comparing.{HasFirst}
+use Rattle.zy_check.specs.Cursor.{Reading, HasGiven}
+use Rattle.zy_check.specs.Output.{IsDiffering}
+
+-- ---- the command that is begun
+
+-- it, where there is one
+abbrev pub begun_in : Option Answering → List Command
+begun_in None = []
+begun_in (Some b) = b.command ∷ []
+
+-- its calls that are answered, as the command with this index
+abbrev pub answered_in : ℕ → ℕ → ℕ → Option Answering → List Due
+answered_in shards conn index None = []
+answered_in shards conn index (Some b) = take (length b.replies) (due_at shards conn index b.command)
+
+-- it is on so many shards
+abbrev pub IsOn : ℕ → Option Answering → Type 0
+IsOn shards None = ⊤
+IsOn shards (Some b) = b.shards ≡ shards
+
+-- its replies are those of a connection's entries from a place on
+abbrev pub HasReplies : List Entry → ℕ → Option Answering → Type 0
+HasReplies own from None = ⊤
+HasReplies own from (Some b) = b.replies ≡ map (λ (e : Entry). e.reply) (take (length b.replies) (drop from own))
+
+-- one of its calls is next
+abbrev pub IsAtCall : Option Answering → Type 0
+IsAtCall None = ⊥
+IsAtCall (Some b) = length b.replies < length (asked_in b)
+
+-- none of its calls is left
+abbrev pub IsDone : Option Answering → Type 0
+IsDone None = ⊤
+IsDone (Some b) = length (asked_in b) ≡ length b.replies
+
+-- with one reply more
+abbrev pub with_reply : Option Answering → CallReply → Option Answering
+with_reply None reply = None
+with_reply (Some b) reply = Some (record b { replies = b.replies ++ reply ∷ [] })
+
+-- ---- the connection
+
+-- the stream of a session, and the commands of the sessions before it
+abbrev pub stream_of : Given → ℕ → ℕ → List ℕ
+stream_of g conn session = slice_index_or (sessions_of g.streams conn) session []
+
+abbrev pub commands_past : Given → ℕ → ℕ → List Command
+commands_past g conn session = commands_over (take session (sessions_of g.streams conn))
+
+-- the texts of commands, joined, where the first has this index
+abbrev pub made_of : ℕ → List Command → List Entry → List ℕ
+made_of index commands own = concat (texts_from index commands own)
+
+-- the texts of these first commands of a session, joined
+abbrev pub made_in : Given → ℕ → ℕ → List Command → List ℕ
+made_in g conn session done =
+    made_of (length (commands_past g conn session)) done (of_connection conn g.entries)
+
+-- the outputs of the sessions before this one are those that are due, and the texts of these commands of it are the
+-- first bytes of its output; or a session's output is another, and it is the first
+abbrev pub AreCompared : Given → ℕ → ℕ → List Command → ℕ → Option Differing → Type 0
+AreCompared g conn session done at None =
+    ((s : ℕ) → s < session → IsOutput g conn s) × HasFirst (found_output g conn session) (made_in g conn session done) at
+AreCompared g conn session done at (Some d) = IsDiffering g conn d.session d.at
+
+-- where the entries are complete: the replies are those of the entries, and the outputs were compared so far
+pub record AreWritten (g : Given) (conn session : ℕ) (done : List Command) (begun : Option Answering)
+    (compared : Compared) : Type 0 where
+  pub replies : HasReplies (of_connection conn g.entries)
+      (length (due g.shards conn (commands_past g conn session ++ done))) begun
+  pub outputs : AreCompared g conn session done compared.at compared.differing
+
+-- a connection at a place of a session, with this command begun, so many commands done, and its outputs compared so
+-- far, where these calls were made
+pub record Stands (g : Given) (conn session : ℕ) (cursor : Reading) (begun : Option Answering) (commands : ℕ)
+    (compared : Compared) (made : List Due) : Type 0 where
+  -- the commands of the session that are done
+  pub done : List Command
+  pub within : session ≤ length (sessions_of g.streams conn)
+  pub given : HasGiven cursor (stream_of g conn session) (done ++ begun_in begun)
+  pub count : commands ≡ length (commands_past g conn session ++ done)
+  pub shards : IsOn g.shards begun
+  pub calls : made
+      ≡ due g.shards conn (commands_past g conn session ++ done) ++ answered_in g.shards conn commands begun
+  pub written : IsComplete g → AreWritten g conn session done begun compared
+
+-- a connection of what is given stands where these calls were made
+abbrev pub HasMade : Given → ℕ → Track → List Due → Type 0
+HasMade g conn t made = Stands g conn t.session t.cursor t.begun t.commands t.compared made
+
+-- it has no session more to read
+abbrev pub IsAtEnd : Given → ℕ → Track → Type 0
+IsAtEnd g conn t = (t.begun ≡ None) × (length (sessions_of g.streams conn) ≤ t.session)

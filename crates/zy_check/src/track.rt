@@ -1,0 +1,179 @@
+//! Where a connection stands.
+ghost use Rattle.std.specs.Prelude.{◌≡◌, ◌↔◌, ◌+◌, ◌^◌, ◌<◌, ◌≤◌, ℕ, true, false};
+ghost use Rattle.std.specs.Prelude.{List, [], length, None, Some, IfOk, OnOk};
+ghost use Rattle.std.specs.List.{slice_get};
+ghost use Rattle.zy_base.specs.Kind.{MayAnswer};
+ghost use Rattle.zy_capture.specs.Streams.{sessions_of};
+ghost use Rattle.mc_parse.specs.declared.shard_call.ShardCall.{ShardCall};
+ghost use Rattle.mc_parse.specs.Calls.{Due, due_at, due_of};
+ghost use Rattle.zy_check.specs.Given.{Given, found_output};
+ghost use Rattle.zy_check.specs.Cursor.{HasGiven};
+ghost use Rattle.zy_check.specs.Comparing.{Ends};
+ghost use Rattle.zy_check.specs.Answering.{Answering, asked_in};
+ghost use Rattle.zy_check.specs.Track.{HasMade, IsAtCall, IsAtEnd, IsDone, with_reply};
+
+use crate::begun::Begun;
+use crate::compared::{Compared, Differing};
+use crate::cursor::Cursor;
+use crate::files::Files;
+use std::alloc::Global;
+use zy_base::{CallReply, Entry, NoMemory};
+
+/// A connection's place in its streams: the session that is read and the place in it, the command
+/// that is begun, how many stand before it, and its outputs as far as they were compared.
+#[derive(Drop)]
+pub struct Track {
+    alloc: Global,
+    session: u32,
+    cursor: Cursor,
+    begun: Option<Begun>,
+    commands: u64,
+    compared: Compared,
+}
+
+impl Track {
+    /// At the start of a connection's first session. Takes no memory.
+    pub fn new(alloc: Global) -> Track
+        ensures none { (g : Given) (conn : ℕ) → HasMade g conn result [] }
+    {
+        Track {
+            alloc,
+            session: 0,
+            cursor: Cursor::new(alloc),
+            begun: None,
+            commands: 0,
+            compared: Compared {
+                at: 0,
+                differing: None,
+            },
+        }
+    }
+
+    /// How many commands have all their calls.
+    pub fn commands(&self) -> u64
+        ensures value { result ≡ self.now.commands }
+    {
+        self.commands
+    }
+
+    /// The first session whose output is another, among those that were read.
+    pub fn differing(&self) -> Option<Differing>
+        ensures value { result ≡ self.now.compared.differing }
+    {
+        self.compared.differing
+    }
+
+    /// Goes on to the next call that has no entry, and tells whether there is one. The texts of the
+    /// commands before it are compared.
+    pub fn go_on(&mut self, files: &Files, conn: u32) -> Result<bool, NoMemory>
+        requires within { conn < length files.now.streams }
+        ensures kept { OnOk result ((made : List Due) → HasMade files.now conn self.old made
+            → HasMade files.now conn self.new made) }
+        ensures next { IfOk result (λ there. there ≡ true → IsAtCall self.new.begun) }
+        ensures end { IfOk result (λ there. there ≡ false → IsAtEnd files.now conn self.new) }
+    {
+        for _ in 0..u64::MAX {
+            if self.is_at_call() {
+                return Ok(true);
+            }
+            self.finish(files, conn)?;
+            if !self.begin(files, conn)? {
+                return Ok(false);
+            }
+        }
+        Err(NoMemory)
+    }
+
+    /// Whether an entry is the call that is next.
+    pub fn is_due(&self, entry: &Entry, conn: u32) -> bool
+        ensures exact { (b : Answering) → self.now.begun ≡ Some b → (result ≡ true
+            ↔ slice_get (due_at b.shards conn self.now.commands b.command) (length b.replies)
+            ≡ Some (due_of entry.now)) }
+    {
+        match &self.begun {
+            Some(begun) => begun.is_due(entry, conn, self.commands),
+            None => false,
+        }
+    }
+
+    /// Takes the reply to the call that is next.
+    pub fn answer(&mut self, reply: CallReply) -> Result<(), NoMemory>
+        requires next { IsAtCall self.old.begun }
+        requires kind { (b : Answering) (call : ShardCall) → self.old.begun ≡ Some b
+            → slice_get (asked_in b) (length b.replies) ≡ Some call → MayAnswer call.call reply }
+        ensures ok { OnOk result (self.new ≡ record self.old { begun = with_reply self.old.begun reply }) }
+    {
+        match &mut self.begun {
+            Some(begun) => begun.answer(reply),
+            None => Ok(()),
+        }
+    }
+}
+
+impl Track {
+    // Whether a call is next of the command that is begun.
+    fn is_at_call(&self) -> bool
+        ensures call { result ≡ true → IsAtCall self.now.begun }
+        ensures done { result ≡ false → IsDone self.now.begun }
+    {
+        match &self.begun {
+            Some(begun) => !begun.is_done(),
+            None => false,
+        }
+    }
+
+    // Compares the text of the command that is begun, where there is one. Its calls are answered.
+    fn finish(&mut self, files: &Files, conn: u32) -> Result<(), NoMemory>
+        requires done { IsDone self.old.begun }
+        ensures kept { OnOk result ((made : List Due) → HasMade files.now conn self.old made
+            → HasMade files.now conn self.new made) }
+        ensures none { OnOk result (self.new.begun ≡ None) }
+    {
+        let Some(begun) = &self.begun else {
+            return Ok(());
+        };
+        let text = begun.text(self.alloc)?;
+        let Some(commands) = self.commands.checked_add(1) else {
+            return Err(NoMemory);
+        };
+        self.compared.add(files.output(conn, self.session), self.session, text.bytes());
+        self.commands = commands;
+        self.begun = None;
+        Ok(())
+    }
+
+    // Begins the next command or, where the session has none, the next session. Tells whether there
+    // is one.
+    fn begin(&mut self, files: &Files, conn: u32) -> Result<bool, NoMemory>
+        requires within { conn < length files.now.streams }
+        requires none { self.old.begun ≡ None }
+        ensures kept { OnOk result ((made : List Due) → HasMade files.now conn self.old made
+            → HasMade files.now conn self.new made) }
+        ensures end { IfOk result (λ there. there ≡ false → IsAtEnd files.now conn self.new) }
+    {
+        if files.sessions(conn) <= self.session {
+            return Ok(false);
+        }
+        match self.cursor.next(files.stream(conn, self.session))? {
+            Some(command) => self.begun = Some(Begun::new(self.alloc, command, files.shards())?),
+            None => self.end_session(files, conn),
+        }
+        Ok(true)
+    }
+
+    // Ends the session, and goes to the next.
+    fn end_session(&mut self, files: &Files, conn: u32)
+        requires within { self.old.session < length (sessions_of files.now.streams conn) }
+        requires limit { length (sessions_of files.now.streams conn) ≤ 2 ^ 31 }
+        ensures session { self.new.session ≡ self.old.session + 1 }
+        ensures cursor { (stream : List ℕ) → HasGiven self.new.cursor stream [] }
+        ensures same { (self.new.begun ≡ self.old.begun) × (self.new.commands ≡ self.old.commands) }
+        ensures compared { Ends (found_output files.now conn self.old.session) self.old.session
+            self.old.compared self.new.compared }
+    {
+        self.compared
+            .end(files.output(conn, self.session), self.session);
+        self.session += 1;
+        self.cursor = Cursor::new(self.alloc);
+    }
+}
