@@ -1,8 +1,8 @@
 -- Walking through the entries: the connections.
 use Rattle.std.specs.List.{slice_get, slice_set}
-use Rattle.std.proofs.Common.{◌≡◌, ◌↔◌, ℕ, ◌+◌, ◌<◌, ◌≤◌, Bool, true, List, [], ◌∷◌, ◌++◌, length, take, Option, None, Some, refl, sym, ap, ◌∙◌, subst, arith}
+use Rattle.std.proofs.Common.{◌≡◌, ◌↔◌, ℕ, ◌+◌, ◌<◌, ◌≤◌, Bool, true, List, [], ◌∷◌, ◌++◌, length, get_or, take, Option, None, Some, refl, sym, ap, ◌∙◌, subst, arith}
 use Rattle.std.proofs.lemmas.List.{length-set, length-map, take_all}
-use Rattle.std.proofs.lemmas.Option.{slice_get_within, slice_get_past}
+use Rattle.std.proofs.lemmas.Option.{slice_get_within, slice_get_past, slice_get-get_or}
 use mathlib.Core.Logic.{dite}
 use native.Mathlib.Decide.{ℕ_discrete}
 use Rattle.zy_base.specs.declared.call_reply.CallReply.{CallReply}
@@ -108,7 +108,7 @@ end_not_next g at e t has end next =
 
 module _ (g : Given) (at : ℕ) (tracks : List Track) (tracked : AreTracked g at tracks) where
   -- a connection goes on where the same calls were made
-  pub tracked_set : (conn : ℕ) (old new : Track) → slice_get tracks conn ≡ Some old → ((made : List Due) → HasMade g conn old made → HasMade g conn new made) → AreTracked g at (slice_set tracks conn new)
+  tracked_set : (conn : ℕ) (old new : Track) → slice_get tracks conn ≡ Some old → ((made : List Due) → HasMade g conn old made → HasMade g conn new made) → AreTracked g at (slice_set tracks conn new)
   tracked_set conn old new found kept =
       let within = slice_get_within tracks conn old found in record {
         count = length-set tracks conn new ∙ tracked.count;
@@ -119,6 +119,14 @@ module _ (g : Given) (at : ℕ) (tracks : List Track) (tracked : AreTracked g at
             subst (λ (x : Track). HasMade g c x (made_before g at c)) t_is (subst (λ (n : ℕ). HasMade g n new (made_before g at n)) (sym same) (kept (made_before g at conn) (tracked.each conn old found))))
             (λ other. tracked.each c t (sym (slice_get-set_other tracks conn c new other) ∙ is));
       }
+
+  -- the same of the connection at a place
+  pub tracked_at : (conn : ℕ) (read new : Track) → conn < length tracks → ((made : List Due) → HasMade g conn (get_or tracks conn read) made → HasMade g conn new made) → AreTracked g at (slice_set tracks conn new)
+  tracked_at conn read new within kept = tracked_set conn (get_or tracks conn read) new (slice_get-get_or tracks conn read within) kept
+
+  -- and it stands where these calls were made
+  pub has_made : (conn : ℕ) (read new : Track) → conn < length tracks → ((made : List Due) → HasMade g conn (get_or tracks conn read) made → HasMade g conn new made) → HasMade g conn new (made_before g at conn)
+  has_made conn read new within kept = kept (made_before g at conn) (tracked.each conn (get_or tracks conn read) (slice_get-get_or tracks conn read within))
 
   -- one entry more was made
   pub tracked_on : (e : Entry) (new : Track) → slice_get g.entries at ≡ Some e → e.tag.conn < length tracks → HasMade g e.tag.conn new (made_before g at e.tag.conn ++ due_of e ∷ []) → AreTracked g (at + 1) (slice_set tracks e.tag.conn new)

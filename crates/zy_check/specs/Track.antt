@@ -59,10 +59,11 @@ with_reply (Some b) reply = Some (record b { replies = b.replies ++ reply ∷ []
 
 -- ---- the connection
 
--- the stream of a session, and the commands of the sessions before it
+-- the stream of a session
 abbrev pub stream_of : Given → ℕ → ℕ → List ℕ
 stream_of g conn session = slice_index_or (sessions_of g.streams conn) session []
 
+-- the commands of the sessions before it
 abbrev pub commands_past : Given → ℕ → ℕ → List Command
 commands_past g conn session = commands_over (take session (sessions_of g.streams conn))
 

@@ -1,6 +1,6 @@
 //! Where a connection stands.
 ghost use Rattle.std.specs.Prelude.{◌≡◌, ◌↔◌, ◌+◌, ◌^◌, ◌<◌, ◌≤◌, ℕ, true, false};
-ghost use Rattle.std.specs.Prelude.{List, [], length, None, Some, IfOk, OnOk};
+ghost use Rattle.std.specs.Prelude.{List, [], length, None, Some, IfOk, OnOk, OnErr};
 ghost use Rattle.std.specs.List.{slice_get};
 ghost use Rattle.zy_base.specs.Kind.{MayAnswer};
 ghost use Rattle.zy_capture.specs.Streams.{sessions_of};
@@ -102,10 +102,11 @@ impl Track {
         requires kind { (b : Answering) (call : ShardCall) → self.old.begun ≡ Some b
             → slice_get (asked_in b) (length b.replies) ≡ Some call → MayAnswer call.call reply }
         ensures ok { OnOk result (self.new ≡ record self.old { begun = with_reply self.old.begun reply }) }
+        ensures err { OnErr result (self.new ≡ self.old) }
     {
         match &mut self.begun {
             Some(begun) => begun.answer(reply),
-            None => Ok(()),
+            None => unreachable!(),
         }
     }
 }

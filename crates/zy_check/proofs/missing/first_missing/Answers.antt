@@ -1,8 +1,8 @@
-use Rattle.std.proofs.Common.{length, get_or, sym, subst, arith}
-use Rattle.std.proofs.lemmas.Option.{slice_get-get_or, slice_get_within}
+use Rattle.std.proofs.Common.{length, sym, subst, arith}
+use Rattle.std.proofs.lemmas.Option.{slice_get_within}
 use Rattle.zy_check.specs.Track.{HasMade}
 use Rattle.zy_check.specs.Cause.{IsMissing}
-use Rattle.zy_check.proofs.StepLemmas.{made_before, tracked_set, all_before, call_missing, ends_more, ends_whole, all_ended}
+use Rattle.zy_check.proofs.StepLemmas.{tracked_at, has_made, all_before, call_missing, ends_more, ends_whole, all_ended}
 use Rattle.zy_check.proofs.missing.first_missing.Goals as goal
 
 pub returns-then-branch : goal.returns-then-branch
@@ -14,9 +14,7 @@ returns-then-branch c =
     let size = tracked.count in
     let count = c.count-conn-end.ensures.value in
     let near = c.loop-conn-test.true in
-    let t = get_or tracks conn c.index-tracks-conn.result in
-    let is = slice_get-get_or tracks conn c.index-tracks-conn.result (omega arith) in
-    let has = c.in_ok-go_on.ensures.kept (made_before g (length g.entries) conn) (tracked.each conn t is) in
+    let has = has_made g (length g.entries) tracks tracked conn c.index-tracks-conn.result c.go_on.new.self (omega arith) c.in_ok-go_on.ensures.kept in
     let missing = call_missing g conn c.go_on.new.self c.requires.right (ends_whole g tracks conn (omega arith) tracked c.loop-conn.invariant.ends)
     (subst (HasMade g conn c.go_on.new.self) (all_before g conn) has) (c.in_ok-go_on.ensures.next c.if-branch.true) in
     record { found = subst (IsMissing g conn) (sym c.commands-index.ensures.value) missing }
@@ -24,16 +22,12 @@ returns-then-branch c =
 pub loop-conn-preserved : goal.loop-conn-preserved
 loop-conn-preserved c =
     let g = c.args.files.now in
-    let conn = c.loop-conn.conn in
-    let tracks = c.loop-conn.tracks in
     let tracked = c.loop-conn.invariant.tracked in
     let size = tracked.count in
     let count = c.count-conn-end.ensures.value in
-    let near = c.loop-conn-test.true in
-    let t = get_or tracks conn c.index-tracks-conn.result in
-    let is = slice_get-get_or tracks conn c.index-tracks-conn.result (omega arith) in record {
-      tracked = tracked_set g (length g.entries) tracks tracked conn t c.go_on.new.self is c.in_ok-go_on.ensures.kept;
-      ends = ends_more g tracks conn c.go_on.new.self (omega arith) c.loop-conn.invariant.ends (c.in_ok-go_on.ensures.end c.if-branch.false);
+    let near = c.loop-conn-test.true in record {
+      tracked = tracked_at g (length g.entries) c.loop-conn.tracks tracked c.loop-conn.conn c.index-tracks-conn.result c.go_on.new.self (omega arith) c.in_ok-go_on.ensures.kept;
+      ends = ends_more g c.loop-conn.tracks c.loop-conn.conn c.go_on.new.self (omega arith) c.loop-conn.invariant.ends (c.in_ok-go_on.ensures.end c.if-branch.false);
     }
 
 pub returns : goal.returns

@@ -1,42 +1,29 @@
-use Rattle.std.proofs.Common.{get_or, arith}
-use Rattle.std.proofs.lemmas.Option.{slice_get-get_or}
-use Rattle.zy_check.proofs.StepLemmas.{made_before, tracked_set, end_not_next, next_exact, next_in}
+use Rattle.std.proofs.Common.{arith}
+use Rattle.zy_check.proofs.StepLemmas.{tracked_at, has_made, end_not_next, next_exact, next_in}
 use Rattle.zy_check.proofs.walk.is_next.Goals as goal
 
 pub returns-then-not-branch-clause-kept : goal.returns-then-not-branch-clause-kept
 returns-then-not-branch-clause-kept c at tracked =
-    let tracks = c.args.tracks.now in
-    let conn = c.args.entry.now.tag.conn in
-    let t = get_or tracks conn c.index-tracks-conn.result in
-    let is = slice_get-get_or tracks conn c.index-tracks-conn.result c.if-tracks-conn.false in
-    tracked_set c.args.files.now at tracks tracked conn t c.go_on.new.self is c.in_ok-go_on.ensures.kept
+    tracked_at c.args.files.now at c.args.tracks.now tracked c.args.entry.now.tag.conn c.index-tracks-conn.result c.go_on.new.self c.if-tracks-conn.false c.in_ok-go_on.ensures.kept
 
 pub returns-then-not-branch-clause-exact : goal.returns-then-not-branch-clause-exact
 returns-then-not-branch-clause-exact c at tracked =
     let g = c.args.files.now in
     let e = c.args.entry.now in
-    let t = get_or c.args.tracks.now e.tag.conn c.index-tracks-conn.result in
-    let is = slice_get-get_or c.args.tracks.now e.tag.conn c.index-tracks-conn.result c.if-tracks-conn.false in
-    let has = c.in_ok-go_on.ensures.kept (made_before g at e.tag.conn) (tracked.each e.tag.conn t is) in (
+    let has = has_made g at c.args.tracks.now tracked e.tag.conn c.index-tracks-conn.result c.go_on.new.self c.if-tracks-conn.false c.in_ok-go_on.ensures.kept in (
       (λ no. absurd (cc)),
       (λ next. absurd (end_not_next g at e c.go_on.new.self has (c.in_ok-go_on.ensures.end c.if-not-branch.true) next)),
     )
 
 pub returns-clause-kept : goal.returns-clause-kept
 returns-clause-kept c at tracked =
-    let tracks = c.args.tracks.now in
-    let conn = c.args.entry.now.tag.conn in
-    let t = get_or tracks conn c.index-tracks-conn.result in
-    let is = slice_get-get_or tracks conn c.index-tracks-conn.result c.if-tracks-conn.false in
-    tracked_set c.args.files.now at tracks tracked conn t c.go_on.new.self is c.in_ok-go_on.ensures.kept
+    tracked_at c.args.files.now at c.args.tracks.now tracked c.args.entry.now.tag.conn c.index-tracks-conn.result c.go_on.new.self c.if-tracks-conn.false c.in_ok-go_on.ensures.kept
 
 pub returns-clause-exact : goal.returns-clause-exact
 returns-clause-exact c at tracked =
     let g = c.args.files.now in
     let e = c.args.entry.now in
-    let t = get_or c.args.tracks.now e.tag.conn c.index-tracks-conn.result in
-    let is = slice_get-get_or c.args.tracks.now e.tag.conn c.index-tracks-conn.result c.if-tracks-conn.false in
-    let has = c.in_ok-go_on.ensures.kept (made_before g at e.tag.conn) (tracked.each e.tag.conn t is) in
+    let has = has_made g at c.args.tracks.now tracked e.tag.conn c.index-tracks-conn.result c.go_on.new.self c.if-tracks-conn.false c.in_ok-go_on.ensures.kept in
     let size = c.requires.same in
     let within = c.if-tracks-conn.false in
     next_exact g at e c.go_on.new.self c.is_due.result (omega arith) has (c.in_ok-go_on.ensures.next c.if-not-branch.false) c.is_due.ensures.exact
