@@ -107,7 +107,10 @@ fn one_call(alloc: Global, key: &Blob, call: Call, shards: u32) -> Result<Calls,
     let shard = shard_of(key.bytes(), shards);
     match calls.push(ShardCall { shard, call }) {
         Ok(()) => Ok(calls),
-        Err((_, e)) => Err(e),
+        Err((call, e)) => {
+            drop(call);
+            Err(e)
+        }
     }
 }
 
@@ -120,7 +123,8 @@ fn get_calls(alloc: Global, keys: &[Blob], shards: u32) -> Result<Calls, NoMemor
     for key in keys {
         let shard = shard_of(key.bytes(), shards);
         let call = Call::Get { key: key.copy()? };
-        if let Err((_, e)) = calls.push(ShardCall { shard, call }) {
+        if let Err((call, e)) = calls.push(ShardCall { shard, call }) {
+            drop(call);
             return Err(e);
         }
     }
@@ -134,7 +138,8 @@ fn flush_calls(alloc: Global, shards: u32) -> Result<Calls, NoMemory>
     let mut calls = Calls::new(alloc);
     for shard in 0..shards {
         let call = Call::Flush;
-        if let Err((_, e)) = calls.push(ShardCall { shard, call }) {
+        if let Err((call, e)) = calls.push(ShardCall { shard, call }) {
+            drop(call);
             return Err(e);
         }
     }

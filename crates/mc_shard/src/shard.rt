@@ -4,6 +4,7 @@ ghost use Rattle.zy_base.specs.Call.{key_of};
 ghost use Rattle.zy_base.specs.History.{IsHistory};
 ghost use Rattle.mc_shard.specs.Shard.{kept, state_of, last_of, reply_of, with_entry, state_past};
 
+use crate::change::Step;
 use crate::contents::Contents;
 use crate::hashed::Hashed;
 use crate::step::step_of;
@@ -125,23 +126,52 @@ impl Shard {
     {
         let stamp = self.last.max(seen) + 1;
         let found = self.contents.found(&key);
-        let step = step_of(*self.history.allocator(), &call, found)?;
+        let Step { reply, change } = match step_of(*self.history.allocator(), &call, found) {
+            Ok(step) => step,
+            Err(refused) => {
+                drop(call);
+                drop(key);
+                return Err(refused);
+            }
+        };
         let entry = Entry {
             tag,
             shard: self.number,
             call,
-            reply: step.reply,
+            reply,
             stamp,
         };
-        let copy = entry.copy()?;
+        let copy = match entry.copy() {
+            Ok(copy) => copy,
+            Err(refused) => {
+                drop(entry);
+                drop(key);
+                drop(change);
+                return Err(refused);
+            }
+        };
         if self.history.reserve(1).is_err() {
+            drop(entry);
+            drop(copy);
+            drop(key);
+            drop(change);
             return Err(NoMemory);
         }
-        self.contents
-            .carry_out(self.number, self.shards, key, step.change)?;
-        self.history.push_reserved(entry);
-        self.last = stamp;
-        Ok(copy)
+        match self
+            .contents
+            .carry_out(self.number, self.shards, key, change)
+        {
+            Ok(()) => {
+                self.history.push_reserved(entry);
+                self.last = stamp;
+                Ok(copy)
+            }
+            Err(refused) => {
+                drop(entry);
+                drop(copy);
+                Err(refused)
+            }
+        }
     }
 }
 
@@ -150,7 +180,15 @@ fn shared(mut call: Call) -> Result<(Call, Option<Hashed>), NoMemory>
     ensures call { IfOk result (λ shared. shared.0 ≡ call) }
     ensures key { IfOk result (λ shared. shared.1 ≡ key_of call) }
 {
-    call.share()?;
-    let key = Hashed::of_call(&call)?;
-    Ok((call, key))
+    if let Err(refused) = call.share() {
+        drop(call);
+        return Err(refused);
+    }
+    match Hashed::of_call(&call) {
+        Ok(key) => Ok((call, key)),
+        Err(refused) => {
+            drop(call);
+            Err(refused)
+        }
+    }
 }

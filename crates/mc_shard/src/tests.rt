@@ -32,6 +32,7 @@ fn make(rt: &impl Abort, shard: &mut Shard, call: Call, reply: &CallReply) -> Re
             assert!(rt; entry.reply == *reply);
             assert!(rt; entry.stamp == last + 1);
             assert!(rt; shard.history().len() == entries + 1);
+            drop(entry);
             Ok(())
         }
         Err(refused) => {
@@ -41,18 +42,38 @@ fn make(rt: &impl Abort, shard: &mut Shard, call: Call, reply: &CallReply) -> Re
     }
 }
 
+// Stores an item, and finds it.
+fn find(rt: &impl Abort, alloc: Global, shard: &mut Shard) -> Result<(), NoMemory> {
+    make(rt, shard, set(alloc)?, &CallReply::Stored)?;
+    let value = Blob::copy_of(alloc, b"more than sixteen bytes")?;
+    let hit = CallReply::Hit {
+        flags: 5,
+        unique: 19,
+        value,
+    };
+    let made = match Blob::copy_of(alloc, b"k") {
+        Ok(key) => make(rt, shard, Call::Get { key }, &hit),
+        Err(refused) => Err(refused),
+    };
+    drop(hit);
+    made
+}
+
+// Stores an item, removes it, and empties the shard.
+fn empty(rt: &impl Abort, alloc: Global, shard: &mut Shard) -> Result<(), NoMemory> {
+    make(rt, shard, set(alloc)?, &CallReply::Stored)?;
+    let key = Blob::copy_of(alloc, b"k")?;
+    make(rt, shard, Call::Delete { key }, &CallReply::Deleted)?;
+    make(rt, shard, Call::Flush, &CallReply::Flushed)
+}
+
 #[test]
 fn what_is_stored_is_found(rt: HostRuntime) -> Result<(), Fail> {
     let alloc = rt.alloc();
     let mut shard = Shard::new(alloc, 3, 16);
-    make(&rt, &mut shard, set(alloc)?, &CallReply::Stored)?;
-    let key = Blob::copy_of(alloc, b"k")?;
-    let hit = CallReply::Hit {
-        flags: 5,
-        unique: 19,
-        value: Blob::copy_of(alloc, b"more than sixteen bytes")?,
-    };
-    make(&rt, &mut shard, Call::Get { key }, &hit)?;
+    let found = find(&rt, alloc, &mut shard);
+    drop(shard);
+    found?;
     Ok(())
 }
 
@@ -60,10 +81,9 @@ fn what_is_stored_is_found(rt: HostRuntime) -> Result<(), Fail> {
 fn what_is_deleted_is_missed(rt: HostRuntime) -> Result<(), Fail> {
     let alloc = rt.alloc();
     let mut shard = Shard::new(alloc, 3, 16);
-    make(&rt, &mut shard, set(alloc)?, &CallReply::Stored)?;
-    let key = Blob::copy_of(alloc, b"k")?;
-    make(&rt, &mut shard, Call::Delete { key }, &CallReply::Deleted)?;
-    make(&rt, &mut shard, Call::Flush, &CallReply::Flushed)?;
+    let emptied = empty(&rt, alloc, &mut shard);
+    drop(shard);
+    emptied?;
     Ok(())
 }
 

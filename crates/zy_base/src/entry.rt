@@ -32,14 +32,19 @@ impl Entry {
         ensures value { IfOk result (λ copy. copy ≡ self.now) }
     {
         let call = self.call.copy()?;
-        let reply = self.reply.copy()?;
-        Ok(Entry {
-            tag: self.tag,
-            shard: self.shard,
-            call,
-            reply,
-            stamp: self.stamp,
-        })
+        match self.reply.copy() {
+            Ok(reply) => Ok(Entry {
+                tag: self.tag,
+                shard: self.shard,
+                call,
+                reply,
+                stamp: self.stamp,
+            }),
+            Err(refused) => {
+                drop(call);
+                Err(refused)
+            }
+        }
     }
 }
 

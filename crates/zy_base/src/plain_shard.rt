@@ -66,7 +66,18 @@ impl PlainShard {
         ensures step { TakesStep self.old self.new call.now result }
     {
         let found = self.find(call)?;
-        match (call, &found) {
+        let answer = self.step_at(call, &found);
+        drop(found);
+        answer
+    }
+
+    // The same where this is the item of the call's key.
+    fn step_at(&mut self, call: &Call, found: &Option<Item>) -> Result<CallReply, NoMemory>
+        requires room { self.old.count < 2 ^ 52 }
+        requires found { found.now ≡ item_at (state_of self.old).items (key_of call.now) }
+        ensures step { TakesStep self.old self.new call.now result }
+    {
+        match (call, found) {
             (Call::Get { .. }, None) => Ok(CallReply::Miss),
             (Call::Get { .. }, Some(item)) => hit(item),
             (Call::Set { key, flags, value }, _) => self.store(key, *flags, value),

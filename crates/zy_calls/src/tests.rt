@@ -10,7 +10,10 @@ use zy_base::{Blob, NoMemory};
 fn batch_of(alloc: Global, texts: &[&[u8]], finished: u64) -> Result<Batch, NoMemory> {
     let mut batch = Batch::new(alloc, 0);
     for text in texts {
-        batch.send_copy(text)?;
+        if let Err(refused) = batch.send_copy(text) {
+            drop(batch);
+            return Err(refused);
+        }
     }
     batch.set_finished(finished);
     Ok(batch)
@@ -27,7 +30,10 @@ fn carry_out(rt: &impl Abort, output: &mut Output, batch: Batch) -> Result<(), N
             assert!(rt; output.bytes().len() == length && batch.count() == count);
             match output.carry_out(batch) {
                 Ok(()) => Ok(()),
-                Err((_, refused)) => Err(refused),
+                Err((batch, refused)) => {
+                    drop(batch);
+                    Err(refused)
+                }
             }
         }
     }

@@ -79,5 +79,13 @@ pub(crate) fn next_call(
 fn reply_of(entry: Entry) -> CallReply
     ensures value { result ≡ entry.reply }
 {
-    entry.reply
+    let Entry {
+        tag: _,
+        shard: _,
+        call,
+        reply,
+        stamp: _,
+    } = entry;
+    drop(call);
+    reply
 }

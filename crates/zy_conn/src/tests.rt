@@ -39,6 +39,7 @@ fn served(alloc: Global, setup: &mut Setup, requests: &[u8]) -> Result<Output, N
 {
     let mut output = Output::new(alloc, setup.block.conn());
     if let Err(e) = offer_text(alloc, &mut setup.inlet, requests) {
+        drop(output);
         return Err(e);
     }
     for _ in 0..100 {
@@ -48,7 +49,11 @@ fn served(alloc: Global, setup: &mut Setup, requests: &[u8]) -> Result<Output, N
     }
     match output.carry_out(setup.block.take_batch()) {
         Ok(()) => Ok(output),
-        Err(_) => Err(NoMemory),
+        Err((batch, e)) => {
+            drop(batch);
+            drop(output);
+            Err(e)
+        }
     }
 }
 
@@ -59,8 +64,12 @@ fn wrong_rows(alloc: Global, setup: &mut Setup) -> Result<u32, NoMemory>
     let mut wrong = 0u32;
     for (requests, count, sent) in ROWS {
         match served(alloc, setup, requests) {
-            Ok(output) if output.count() == count && output.bytes() == sent => {}
-            Ok(_) => wrong = wrong.saturating_add(1),
+            Ok(output) => {
+                if output.count() != count || output.bytes() != sent {
+                    wrong = wrong.saturating_add(1);
+                }
+                drop(output);
+            }
             Err(e) => return Err(e),
         }
     }
@@ -70,8 +79,10 @@ fn wrong_rows(alloc: Global, setup: &mut Setup) -> Result<u32, NoMemory>
 #[test]
 fn a_hold_sends_one_text_a_command(rt: HostRuntime) -> Result<(), Fail> {
     let mut setup = set_up(rt.alloc(), 4, 3)?;
-    let wrong = wrong_rows(rt.alloc(), &mut setup)?;
-    assert!(rt; wrong == 0 && setup.block.finished() == 10);
+    let wrong = wrong_rows(rt.alloc(), &mut setup);
+    let finished = setup.block.finished();
+    drop(setup);
+    assert!(rt; wrong? == 0 && finished == 10);
     Ok(())
 }
 
@@ -98,11 +109,15 @@ fn is_limited(alloc: Global, setup: Setup) -> Result<bool, NoMemory>
 {
     let Setup {
         store,
-        root: _,
+        root,
         mut block,
         mut inlet,
     } = setup;
     if let Err(e) = offer_text(alloc, &mut inlet, b"version\r\n") {
+        drop(inlet);
+        drop(block);
+        drop(root);
+        drop(store);
         return Err(e);
     }
     let gate = Supply {
@@ -112,7 +127,12 @@ fn is_limited(alloc: Global, setup: Setup) -> Result<bool, NoMemory>
     let first = matches!(block.hold(&store, &gate, 9), Ok(HoldEnd::Limit));
     let finished = block.finished();
     let second = matches!(block.hold(&store, &gate, 9), Ok(HoldEnd::Drained));
-    Ok(first && second && finished == 64 && block.finished() == 65)
+    let all = block.finished();
+    drop(gate);
+    drop(block);
+    drop(root);
+    drop(store);
+    Ok(first && second && finished == 64 && all == 65)
 }
 
 #[test]

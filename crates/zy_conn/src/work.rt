@@ -143,6 +143,21 @@ impl Work {
         ensures pass { result ≡ passed self.table self.conn self.calls self.trace }
         ensures kept { Kept self }
     {
-        self.pass
+        let Work {
+            alloc: _,
+            pass,
+            frames,
+            begun,
+            replies,
+            shown: _,
+            batch,
+            text,
+        } = self;
+        drop(frames);
+        drop(begun);
+        drop(replies);
+        drop(batch);
+        drop(text);
+        pass
     }
 }

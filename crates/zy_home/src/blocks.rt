@@ -58,6 +58,7 @@ impl Blocks {
             if slot.is_some() {
                 return slot;
             }
+            drop(slot);
         }
         None
     }

@@ -50,7 +50,7 @@ pub(crate) fn place_of(links: &[Link], conn: u32) -> Option<usize>
 pub(crate) fn put(slot: &mut Option<Block>, block: Option<Block>)
     ensures value { slot.new ≡ block }
 {
-    *slot = block;
+    drop(mem::replace(slot, block));
 }
 
 // Settles a block: it is published where it then has an event, and else lies in its slot.

@@ -55,7 +55,10 @@ fn item_of(alloc: Global, item: Item) -> Result<Rx, NoMemory> {
         Item::Text(conn, times, text) => {
             let mut bytes = Blob::new(alloc);
             for _ in 0..times {
-                bytes.append(text)?;
+                if let Err(e) = bytes.append(text) {
+                    drop(bytes);
+                    return Err(e);
+                }
             }
             Ok(Rx::Segment { conn, bytes })
         }
@@ -150,14 +153,39 @@ fn is_served(output: &Output, ends: &[u64]) -> bool {
 fn what_comes_is_served_while_a_block_is_away(rt: HostRuntime) -> Result<(), Fail> {
     let alloc = rt.alloc();
     let mut setup = set_up(alloc)?;
-    receive(alloc, &setup.ring, &mut setup.home, &BEFORE)?;
-    steal_while(alloc, &mut setup, &AWAY)?;
-    settle(&mut setup)?;
+    if let Err(e) = receive(alloc, &setup.ring, &mut setup.home, &BEFORE) {
+        drop(setup);
+        return Err(e.into());
+    }
+    if let Err(e) = steal_while(alloc, &mut setup, &AWAY) {
+        drop(setup);
+        return Err(e.into());
+    }
+    if let Err(e) = settle(&mut setup) {
+        drop(setup);
+        return Err(e.into());
+    }
     assert!(rt; setup.home.is_settled() && !setup.home.is_refused());
-    let (_, _, mut ends) = setup.home.into_outputs();
+    let Setup {
+        store,
+        ring,
+        home,
+        thief,
+    } = setup;
+    let (pass, blocks, mut ends) = home.into_outputs();
     match ends.next() {
-        Some((output, cuts)) => assert!(rt; is_served(&output, &cuts)),
+        Some((output, cuts)) => {
+            assert!(rt; is_served(&output, &cuts));
+            drop(output);
+            drop(cuts);
+        }
         None => assert!(rt; false),
     }
+    drop(ends);
+    drop(blocks);
+    drop(pass);
+    drop(thief);
+    drop(ring);
+    drop(store);
     Ok(())
 }

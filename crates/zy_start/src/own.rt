@@ -32,10 +32,13 @@ impl Own {
         requires few { self.old.places < 4096 }
         ensures ok { OnOk result (HasOneMore block inlet self.old self.new) }
     {
-        if let Err((_, e)) = self.blocks.push(block) {
+        if let Err((block, e)) = self.blocks.push(block) {
+            drop(block);
+            drop(inlet);
             return Err(e);
         }
-        if let Err((_, e)) = self.inlets.push(inlet) {
+        if let Err((inlet, e)) = self.inlets.push(inlet) {
+            drop(inlet);
             return Err(e);
         }
         self.places += 1;

@@ -58,6 +58,7 @@ impl StoreTable {
         let call = call.copy()?;
         let found = words.compare_exchange::<Tries>(seat, word, loaded, loaded + 1);
         if found != loaded {
+            drop(call);
             return Ok(Got::Busy {
                 shard,
                 loaded,

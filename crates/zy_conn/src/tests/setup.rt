@@ -27,7 +27,14 @@ pub(crate) fn set_up(alloc: Global, shards: u32, conn: u32) -> Result<Setup, NoM
     ensures ring { IfOk result (λ s. s.inlet.ring ≡ s.block.work.ring) }
 {
     let (store, mut root) = StoreTable::new(alloc, shards)?;
-    let pass = store.split(&mut root, conn)?;
+    let pass = match store.split(&mut root, conn) {
+        Ok(pass) => pass,
+        Err(e) => {
+            drop(root);
+            drop(store);
+            return Err(e);
+        }
+    };
     match Block::new(alloc, conn, pass) {
         Ok((block, inlet)) => Ok(Setup {
             store,
@@ -35,7 +42,12 @@ pub(crate) fn set_up(alloc: Global, shards: u32, conn: u32) -> Result<Setup, NoM
             block,
             inlet,
         }),
-        Err((_, e)) => Err(e),
+        Err((pass, e)) => {
+            drop(pass);
+            drop(root);
+            drop(store);
+            Err(e)
+        }
     }
 }
 
@@ -45,13 +57,21 @@ pub(crate) fn offer_text(alloc: Global, inlet: &mut EventInlet, text: &[u8]) -> 
 {
     let mut framer = Framer::new(alloc);
     let mut frames = Frames::new(alloc);
-    if let Err(e) = framer.feed(text, &mut frames) {
+    let fed = framer.feed(text, &mut frames);
+    drop(framer);
+    if let Err(e) = fed {
+        drop(frames);
         return Err(e);
     }
     while let Some(frame) = frames.pop() {
-        if inlet.offer(frame).is_some() {
+        let refused = inlet.offer(frame);
+        let is_refused = refused.is_some();
+        drop(refused);
+        if is_refused {
+            drop(frames);
             return Err(NoMemory);
         }
     }
+    drop(frames);
     Ok(())
 }

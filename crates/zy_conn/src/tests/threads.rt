@@ -35,8 +35,14 @@ fn get_once(alloc: Global, store: &StoreTable, pass: &mut Pass) -> Result<(), No
     };
     let key = Blob::copy_of(alloc, b"b")?;
     let shard = shard_of(b"b", store.shards());
-    match store.try_call(pass, tag, shard, &Call::Get { key }) {
-        Ok(_) => Ok(()),
+    let call = Call::Get { key };
+    let called = store.try_call(pass, tag, shard, &call);
+    drop(call);
+    match called {
+        Ok(got) => {
+            drop(got);
+            Ok(())
+        }
         Err(e) => Err(e),
     }
 }
@@ -60,6 +66,7 @@ fn offer_until<R: Wait>(
         let _ = offer_text(alloc, &mut inlet, b"get a b c\r\n");
         let _ = get_once(alloc, store, &mut pass);
     }
+    drop(pass);
     inlet
 }
 
@@ -79,7 +86,10 @@ fn hold_until<R: Wait>(
         if let Ok(HoldEnd::Busy { .. }) = block.hold(store, &Ungated, 1) {
             busy = true;
         }
-        if output.carry_out(block.take_batch()).is_err() || (busy && block.finished() >= 1_000) {
+        let carried = output.carry_out(block.take_batch());
+        let is_refused = carried.is_err();
+        drop(carried);
+        if is_refused || (busy && block.finished() >= 1_000) {
             break;
         }
     }
@@ -133,16 +143,31 @@ fn hold_beside<R: Threads + Wait + Sync>(
 fn frames_are_offered_while_a_block_is_held(rt: HostRuntime) -> Result<(), Fail> {
     let alloc = rt.alloc();
     let mut setup = set_up(alloc, 16, 0)?;
-    let other = setup.store.split(&mut setup.root, 1)?;
-    offer_text(alloc, &mut setup.inlet, STORED)?;
+    let other = match setup.store.split(&mut setup.root, 1) {
+        Ok(other) => other,
+        Err(e) => {
+            drop(setup);
+            return Err(e.into());
+        }
+    };
+    if let Err(e) = offer_text(alloc, &mut setup.inlet, STORED) {
+        drop(other);
+        drop(setup);
+        return Err(e.into());
+    }
     let Setup {
         store,
-        root: _,
+        root,
         block,
         inlet,
     } = setup;
     let (mut inlet, mut block, output) = hold_beside(&rt, alloc, &store, other, block, inlet);
     block.meet(&mut inlet);
     assert!(rt; output.count() >= 1_000 && wrong_texts(&output) == 0);
+    drop(output);
+    drop(inlet);
+    drop(block);
+    drop(root);
+    drop(store);
     Ok(())
 }

@@ -63,7 +63,10 @@ fn block_of(
     match store.split(root, conn) {
         Ok(pass) => match Block::new(alloc, conn, pass) {
             Ok(made) => Ok(made),
-            Err((_, e)) => Err(e),
+            Err((pass, e)) => {
+                drop(pass);
+                Err(e)
+            }
         },
         Err(e) => Err(e),
     }
@@ -75,12 +78,17 @@ fn push_both(parts: &mut HomeParts, block: Block, inlet: EventInlet) -> Result<(
     ensures blocks { OnOk result (parts.new.blocks ≡ parts.old.blocks ++ block ∷ []) }
     ensures inlets { OnOk result (parts.new.inlets ≡ parts.old.inlets ++ inlet ∷ []) }
 {
-    if let Err((_, e)) = parts.blocks.push(block) {
+    if let Err((block, e)) = parts.blocks.push(block) {
+        drop(block);
+        drop(inlet);
         return Err(e);
     }
     match parts.inlets.push(inlet) {
         Ok(()) => Ok(()),
-        Err((_, e)) => Err(e),
+        Err((inlet, e)) => {
+            drop(inlet);
+            Err(e)
+        }
     }
 }
 
@@ -97,15 +105,37 @@ fn parts_of(
     ensures parts { IfOk result (AreParts 0 1 2) }
     ensures pass { IfOk result (λ parts. parts.pass ≡ pass) }
 {
-    let (first, inlet) = block_of(alloc, store, root, 0)?;
-    let (second, other) = block_of(alloc, store, root, 1)?;
+    let (first, inlet) = match block_of(alloc, store, root, 0) {
+        Ok(made) => made,
+        Err(e) => {
+            drop(pass);
+            return Err(e);
+        }
+    };
+    let (second, other) = match block_of(alloc, store, root, 1) {
+        Ok(made) => made,
+        Err(e) => {
+            drop(inlet);
+            drop(first);
+            drop(pass);
+            return Err(e);
+        }
+    };
     let mut parts = HomeParts {
         pass,
         blocks: Blocks::new(alloc),
         inlets: Inlets::new(alloc),
     };
-    push_both(&mut parts, first, inlet)?;
-    push_both(&mut parts, second, other)?;
+    if let Err(e) = push_both(&mut parts, first, inlet) {
+        drop(second);
+        drop(other);
+        drop(parts);
+        return Err(e);
+    }
+    if let Err(e) = push_both(&mut parts, second, other) {
+        drop(parts);
+        return Err(e);
+    }
     Ok(parts)
 }
 
@@ -118,9 +148,35 @@ pub(crate) fn set_up(alloc: Global) -> Result<Setup, NoMemory>
     ensures thief { IfOk result (λ s. (s.thief.table ≡ s.ring.id) × (s.thief.label ≡ name_of s.store.id)) }
 {
     let (store, mut root) = StoreTable::new(alloc, 16)?;
-    let (ring, mut pass) = ring_of::<Brand>(alloc, &store)?;
-    let thief = ring.split(&mut pass)?;
-    let parts = parts_of(alloc, &store, &mut root, pass)?;
+    let (ring, mut pass) = match ring_of::<Brand>(alloc, &store) {
+        Ok(made) => made,
+        Err(e) => {
+            drop(root);
+            drop(store);
+            return Err(e);
+        }
+    };
+    let thief = match ring.split(&mut pass) {
+        Ok(thief) => thief,
+        Err(e) => {
+            drop(pass);
+            drop(ring);
+            drop(root);
+            drop(store);
+            return Err(e);
+        }
+    };
+    let parts = parts_of(alloc, &store, &mut root, pass);
+    drop(root);
+    let parts = match parts {
+        Ok(parts) => parts,
+        Err(e) => {
+            drop(thief);
+            drop(ring);
+            drop(store);
+            return Err(e);
+        }
+    };
     match Home::new(alloc, 0, 1, 2, parts) {
         Ok(home) => Ok(Setup {
             store,
@@ -128,6 +184,12 @@ pub(crate) fn set_up(alloc: Global) -> Result<Setup, NoMemory>
             home,
             thief,
         }),
-        Err((_, e)) => Err(e),
+        Err((parts, e)) => {
+            drop(parts);
+            drop(thief);
+            drop(ring);
+            drop(store);
+            Err(e)
+        }
     }
 }

@@ -32,6 +32,7 @@ fn receive_all(alloc: Global, ring: &Ring<Block>, mut home: Home) -> Result<Home
 {
     for _time in 0..TIMES {
         if let Err(e) = receive(alloc, ring, &mut home, &COMMAND) {
+            drop(home);
             return Err(e);
         }
     }
@@ -113,6 +114,10 @@ fn steal_beside<R: Threads + Sync>(rt: &R, alloc: Global, setup: Setup) -> Resul
         mut thief,
     } = setup;
     let Claim::Took { place, block } = ring.claim(&mut thief) else {
+        drop(thief);
+        drop(home);
+        drop(ring);
+        drop(store);
         return Err(NoMemory);
     };
     let (home, block) = receive_beside(rt, alloc, &ring, &store, home, block);
@@ -124,7 +129,12 @@ fn steal_beside<R: Threads + Sync>(rt: &R, alloc: Global, setup: Setup) -> Resul
             home,
             thief,
         }),
-        Err(e) => Err(e),
+        Err(e) => {
+            drop(thief);
+            drop(ring);
+            drop(store);
+            Err(e)
+        }
     }
 }
 
@@ -132,17 +142,40 @@ fn steal_beside<R: Threads + Sync>(rt: &R, alloc: Global, setup: Setup) -> Resul
 fn frames_reach_a_block_while_it_is_held(rt: HostRuntime) -> Result<(), Fail> {
     let alloc = rt.alloc();
     let mut setup = set_up(alloc)?;
-    receive(alloc, &setup.ring, &mut setup.home, &COMMAND)?;
+    if let Err(e) = receive(alloc, &setup.ring, &mut setup.home, &COMMAND) {
+        drop(setup);
+        return Err(e.into());
+    }
     let mut setup = steal_beside(&rt, alloc, setup)?;
-    receive(alloc, &setup.ring, &mut setup.home, &[Item::End])?;
-    settle(&mut setup)?;
+    if let Err(e) = receive(alloc, &setup.ring, &mut setup.home, &[Item::End]) {
+        drop(setup);
+        return Err(e.into());
+    }
+    if let Err(e) = settle(&mut setup) {
+        drop(setup);
+        return Err(e.into());
+    }
     assert!(rt; setup.home.is_settled());
-    let (_, _, mut ends) = setup.home.into_outputs();
+    let Setup {
+        store,
+        ring,
+        home,
+        thief,
+    } = setup;
+    let (pass, blocks, mut ends) = home.into_outputs();
     match ends.next() {
         Some((output, cuts)) => {
             assert!(rt; output.finished() == 1 + TIMES as u64 && cuts.is_empty());
+            drop(output);
+            drop(cuts);
         }
         None => assert!(rt; false),
     }
+    drop(ends);
+    drop(blocks);
+    drop(pass);
+    drop(thief);
+    drop(ring);
+    drop(store);
     Ok(())
 }

@@ -4,12 +4,12 @@ use Rattle.mc_shard.specs.Step.{outcome_in}
 use Rattle.mc_shard.proofs.SoundLemmas.{IsSound-applied}
 use Rattle.mc_shard.proofs.shard.Shard.apply_shared.Goals as goal
 
-pub invariant_of-self-2 : goal.invariant_of-self-2
-invariant_of-self-2 c =
-    IsSound-applied _ _ _ _ c.self.inside.contents _ _ _ _ c.args.key (outcome_in c.args.key c.in_ok-step.step) c.self.invariant c.requires.key
-    (ap (λ key. outcome_in key c.in_ok-step.step) c.requires.key ∙ c.in_ok-step.ensures.value ∙ ap (outcome_of c.args.call) c.found-found.ensures.value)
-    c.in_ok-carry_out.ensures.ok
+pub invariant_of-self-in-Ok-carry_out : goal.invariant_of-self-in-Ok-carry_out
+invariant_of-self-in-Ok-carry_out c =
+    IsSound-applied _ _ _ _ c.self.inside.contents _ _ _ _ c.args.key (outcome_in c.args.key c.in-Ok.step) c.self.invariant c.requires.key
+    (ap (λ key. outcome_in key c.in-Ok.step) c.requires.key ∙ c.in-Ok.ensures.value ∙ ap (outcome_of c.args.call) c.found-found.ensures.value)
+    c.in-Ok-carry_out.ensures.ok
     (rw c.reserve.ensures.items at c.push_reserved.ensures.items) refl refl (omega arith) refl
 
-pub returns-clause-sound : goal.returns-clause-sound
-returns-clause-sound c = (invariant_of-self-2 c).history_is
+pub returns-in-Ok-carry_out-clause-sound : goal.returns-in-Ok-carry_out-clause-sound
+returns-in-Ok-carry_out-clause-sound c = (invariant_of-self-in-Ok-carry_out c).history_is
