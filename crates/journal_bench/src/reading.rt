@@ -1,9 +1,9 @@
 //! Reading a journal.
 use crate::Done;
-use journal_reader::JournalReader;
 use std::alloc::Global;
 use std::io::Read;
 use zy_base::NoMemory;
+use zy_journal_reader::JournalReader;
 use zy_read::Fed;
 
 // Feeds the input to a reader, to its end, and gives how many entries were read.

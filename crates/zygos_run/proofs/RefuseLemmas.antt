@@ -7,13 +7,13 @@ use Rattle.zy_capture.specs.Outputs.{AllOutputs}
 use Rattle.zy_capture.specs.Verdict.{verdict}
 use Rattle.zy_capture.specs.Verdict.Verdict.{Good, Bad}
 use Rattle.zy_journal.specs.declared.journal.Journal.{Journal}
-use Rattle.zy_parts.specs.declared.stop.Refusal.{Refusal}
-use Rattle.zy_parts.specs.declared.stop.Refusal.TheVariants as Refusals
-use Rattle.zy_parts.specs.Parts.{AreParts, HasPartFault}
-use Rattle.zy_parts.proofs.PartLemmas.{told_all}
-use Rattle.zy_words.specs.declared.request.Out.{Out}
-use Rattle.zy_words.specs.declared.request.Request.{Request}
-use Rattle.zy_words.specs.declared.request.Request.TheVariants as Requests
+use Rattle.zy_check_input.specs.declared.stop.Refusal.{Refusal}
+use Rattle.zy_check_input.specs.declared.stop.Refusal.TheVariants as Refusals
+use Rattle.zy_check_input.specs.Parts.{AreParts, HasPartFault}
+use Rattle.zy_check_input.proofs.PartLemmas.{told_all}
+use Rattle.zy_command_line.specs.declared.request.Out.{Out}
+use Rattle.zy_command_line.specs.declared.request.Request.{Request}
+use Rattle.zy_command_line.specs.declared.request.Request.TheVariants as Requests
 use Rattle.zygos_run.specs.declared.answer.Answer.{Answer}
 use Rattle.zygos_run.specs.declared.answer.Answer.TheVariants.{Served, Checked, Made, Tested, Usage, Refused, ReadFault, WriteFault, OutOfMemory}
 use Rattle.zygos_run.specs.Headline.{IsWritten}

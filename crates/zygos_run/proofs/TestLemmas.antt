@@ -12,7 +12,7 @@ use Rattle.zy_run.specs.Spans.{Spans}
 use Rattle.zy_same.specs.declared.summary.Summary.{Summary}
 use Rattle.zy_same.specs.Summary.{summary, summary_of_run}
 use Rattle.zy_gen.specs.Traffic.{records_of}
-use Rattle.zy_words.specs.declared.request.Traffic.{Traffic}
+use Rattle.zy_command_line.specs.declared.request.Traffic.{Traffic}
 use Rattle.zygos_run.specs.Headline.{IsServed, outputs_of}
 use Rattle.zygos_run.specs.Ends.{IsTested, traffic_bytes}
 

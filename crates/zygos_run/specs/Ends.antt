@@ -9,20 +9,20 @@ use Rattle.zy_journal.specs.declared.journal.Journal.{Journal}
 use Rattle.zy_journal.specs.Journal.{IsJournal}
 use Rattle.zy_run.specs.Commands.{streams_in}
 use Rattle.zy_same.specs.Summary.{summary}
-use Rattle.zy_parts.specs.declared.stop.Refusal.TheVariants.{Capture}
-use Rattle.zy_parts.specs.declared.stop.Stop.{Stop as PartStop}
-use Rattle.zy_parts.specs.declared.stop.Stop.TheVariants as PartStops
-use Rattle.zy_parts.specs.Parts.{AreParts, HasPartFault, ReadsAll}
+use Rattle.zy_check_input.specs.declared.stop.Refusal.TheVariants.{Capture}
+use Rattle.zy_check_input.specs.declared.stop.Stop.{Stop as PartStop}
+use Rattle.zy_check_input.specs.declared.stop.Stop.TheVariants as PartStops
+use Rattle.zy_check_input.specs.Parts.{AreParts, HasPartFault, ReadsAll}
 use Rattle.zy_check.specs.declared.verdict.Verdict.{Verdict as Certified}
 use Rattle.zy_check.specs.Given.{given}
 use Rattle.zy_check.specs.Cause.{HasVerdict}
 use Rattle.zy_gen.specs.Traffic.{gen_bytes, records_of}
-use Rattle.zy_words.specs.declared.request.Request.{Request}
-use Rattle.zy_words.specs.declared.request.Request.TheVariants as Requests
-use Rattle.zy_words.specs.declared.request.Run.{Run}
-use Rattle.zy_words.specs.declared.request.Out.{Out}
-use Rattle.zy_words.specs.declared.request.Traffic.{Traffic}
-use Rattle.zy_words.specs.Request.{request_of}
+use Rattle.zy_command_line.specs.declared.request.Request.{Request}
+use Rattle.zy_command_line.specs.declared.request.Request.TheVariants as Requests
+use Rattle.zy_command_line.specs.declared.request.Run.{Run}
+use Rattle.zy_command_line.specs.declared.request.Out.{Out}
+use Rattle.zy_command_line.specs.declared.request.Traffic.{Traffic}
+use Rattle.zy_command_line.specs.Request.{request_of}
 use Rattle.zy_feed.specs.declared.stop.Stop.{Stop}
 use Rattle.zy_feed.specs.declared.stop.Stop.TheVariants as Stops
 use Rattle.zy_finish.specs.declared.finishing.Finished.{Finished}

@@ -14,8 +14,8 @@ use Rattle.zy_run.specs.Commands.{streams_in, commands_in}
 use Rattle.zy_run.specs.Run.{IsRun}
 use Rattle.zy_run.specs.Output.{all_outputs}
 use Rattle.zy_run.specs.Spans.{Spans}
-use Rattle.zy_words.specs.declared.request.Out.{Out}
-use Rattle.zy_words.specs.declared.request.Out.TheVariants.{Replies, Both}
+use Rattle.zy_command_line.specs.declared.request.Out.{Out}
+use Rattle.zy_command_line.specs.declared.request.Out.TheVariants.{Replies, Both}
 
 -- the outputs of all connections of these records, by the replies that the entries tell
 abbrev pub outputs_of : ℕ → ℕ → List Record → List Entry → AllOutputs

@@ -4,8 +4,8 @@ use Rattle.zy_base.specs.declared.file_fault.FileFault.{FileFault}
 use Rattle.zy_base.specs.declared.file_fault.FileFault.TheVariants as Files
 use Rattle.zy_capture.specs.declared.capture_fault.CaptureFault.{CaptureFault}
 use Rattle.zy_capture.specs.declared.capture_fault.CaptureFault.TheVariants.{BadMagic, ConnCount, BadTag, ConnRange, SegmentLength, Truncated, Trailing, TooLong}
-use Rattle.zy_parts.specs.declared.stop.Refusal.{Refusal}
-use Rattle.zy_parts.specs.declared.stop.Refusal.TheVariants.{Capture, Journal, Replies}
+use Rattle.zy_check_input.specs.declared.stop.Refusal.{Refusal}
+use Rattle.zy_check_input.specs.declared.stop.Refusal.TheVariants.{Capture, Journal, Replies}
 use Rattle.zy_check.specs.declared.verdict.Cause.{Cause}
 use Rattle.zy_check.specs.declared.verdict.Cause.TheVariants.{NotNext, WrongReply, Missing, WrongOutput, WrongHolds}
 use Rattle.zy_check.specs.declared.verdict.Verdict.{Verdict}

@@ -7,12 +7,12 @@ use Rattle.zy_capture.specs.Verdict.{verdict}
 use Rattle.zy_capture.specs.Verdict.Verdict.{Bad}
 use Rattle.zy_journal.specs.declared.journal.Journal.{Journal}
 use Rattle.zy_base.specs.Outside.{Rose, Grew, GrewByPrefix}
-use Rattle.zy_parts.specs.declared.stop.Refusal.{Refusal}
-use Rattle.zy_parts.specs.declared.stop.Refusal.TheVariants.{Capture}
-use Rattle.zy_parts.specs.Parts.{AreParts, HasPartFault, ReadsAll}
+use Rattle.zy_check_input.specs.declared.stop.Refusal.{Refusal}
+use Rattle.zy_check_input.specs.declared.stop.Refusal.TheVariants.{Capture}
+use Rattle.zy_check_input.specs.Parts.{AreParts, HasPartFault, ReadsAll}
 use Rattle.zy_check.specs.declared.verdict.Verdict.{Verdict as Certified}
-use Rattle.zy_words.specs.declared.request.Request.{Request}
-use Rattle.zy_words.specs.declared.request.Request.TheVariants as Requests
+use Rattle.zy_command_line.specs.declared.request.Request.{Request}
+use Rattle.zy_command_line.specs.declared.request.Request.TheVariants as Requests
 use Rattle.zy_same.specs.declared.summary.Summary.{Summary}
 use Rattle.zygos_run.specs.declared.answer.Answer.{Answer}
 use Rattle.zygos_run.specs.declared.answer.Answer.TheVariants.{Served, Checked, Made, Tested, Usage, Refused, OutOfMemory}

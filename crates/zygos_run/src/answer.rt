@@ -3,8 +3,8 @@ ghost use Rattle.std.specs.Prelude.{◌≡◌};
 ghost use Rattle.zygos_run.specs.Answers.{status_of};
 
 use zy_check::Verdict;
+use zy_check_input::Refusal;
 use zy_journal::Journal;
-use zy_parts::Refusal;
 use zy_same::Summary;
 
 /// How the top call ended.

@@ -1,7 +1,7 @@
 //! Checking a journal and a replies file against a capture.
 ghost use Rattle.std.specs.Prelude.{◌≡◌, ◌≤◌, IfOk};
 ghost use Rattle.zy_base.specs.Outside.{Writes};
-ghost use Rattle.zy_words.specs.Range.{AreShards};
+ghost use Rattle.zy_command_line.specs.Range.{AreShards};
 ghost use Rattle.zygos_run.specs.Ends.{CheckEnds, ChecksTo};
 ghost use Rattle.zygos_run.specs.Lines.{verdict_line};
 
@@ -10,7 +10,7 @@ use crate::lines::write_verdict;
 use std::alloc::Global;
 use zy_base::{Failed, Sink, Source};
 use zy_check::{Verdict, check};
-use zy_parts::{Parts, Stop, read_parts};
+use zy_check_input::{Parts, Stop, read_parts};
 
 /// Reads a capture, a journal and a replies file, and writes the line of the verdict on them.
 pub(crate) fn check_input<S: Source, K: Sink>(

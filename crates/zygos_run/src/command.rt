@@ -1,6 +1,6 @@
 //! The command that the words ask for.
 ghost use Rattle.std.specs.Prelude.{◌≡◌, ◌≤◌};
-ghost use Rattle.zy_words.specs.Request.{request_of};
+ghost use Rattle.zy_command_line.specs.Request.{request_of};
 ghost use Rattle.zygos_run.specs.Ends.{HasCause, ReadsNothing};
 
 use crate::answer::Answer;
@@ -12,8 +12,8 @@ use std::alloc::Global;
 use std::sync::Wait;
 use std::thread::Threads;
 use zy_base::{Blob, Gate, Sink, Source};
-use zy_words::laws::requests_are_in_their_ranges;
-use zy_words::{Request, request_of};
+use zy_command_line::laws::requests_are_in_their_ranges;
+use zy_command_line::{Request, request_of};
 
 /// Carries out the command that the words ask for.
 pub(crate) fn carry_out<R: Threads + Wait + Sync, S: Source, K: Sink, G: Gate + Sync>(

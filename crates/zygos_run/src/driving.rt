@@ -5,20 +5,20 @@ ghost use Rattle.zy_feed.specs.declared.intake.Header.{Header};
 ghost use Rattle.zy_feed.specs.Reads.{HasBegun, StopsBy};
 ghost use Rattle.zy_feed.specs.Feeding.{AreUnsent, HasFedAll};
 ghost use Rattle.zy_feeder.specs.Feed.{rings_of, sent_by};
-ghost use Rattle.zy_words.specs.Range.{IsRunnable};
+ghost use Rattle.zy_command_line.specs.Range.{IsRunnable};
 ghost use Rattle.zy_core.specs.Drive.{AreCores, AreInlets, EachSettled, IsSettled, IsBroken, identities, cores_of};
 
 use std::alloc::Global;
 use std::sync::Wait;
 use std::thread::Threads;
 use zy_base::{Gate, Source};
+use zy_command_line::Run;
 use zy_core::{Cores, Driven, Shared, drive, drive_ordered};
 use zy_feed::{
     CaptureFeeder, Inlets, Intake, Stop, a_broken_feeder_has_its_cause,
     a_feeder_that_ended_has_offered_the_capture,
 };
 use zy_feeder::Feeder;
-use zy_words::Run;
 
 /// The cores of a run that are settled, and the inlets of their rings.
 #[derive(Drop)]

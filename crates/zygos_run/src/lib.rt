@@ -19,7 +19,7 @@ pub use answer::{Answer, status};
 pub use serving::serve;
 pub use standard::{StdSink, StdSource};
 pub use zy_check::{Cause, Verdict};
-pub use zy_parts::Refusal;
+pub use zy_check_input::Refusal;
 pub use zy_same::Summary;
 
 #[cfg(test)]

@@ -2,14 +2,14 @@
 ghost use Rattle.std.specs.Prelude.{◌≡◌, ◌≤◌, IfOk};
 ghost use Rattle.zy_base.specs.Outside.{Writes};
 ghost use Rattle.zy_gen.specs.Traffic.{IsTraffic};
-ghost use Rattle.zy_words.specs.Range.{IsMakeable};
+ghost use Rattle.zy_command_line.specs.Range.{IsMakeable};
 ghost use Rattle.zygos_run.specs.Ends.{GenEnds, traffic_bytes};
 
 use crate::answer::Answer;
 use std::alloc::Global;
 use zy_base::{Blob, Failed, NoMemory, Sink, write_whole};
+use zy_command_line::Traffic;
 use zy_gen::generate;
-use zy_words::Traffic;
 
 /// Makes the capture of some traffic, and writes it.
 pub(crate) fn make_traffic<K: Sink>(alloc: Global, traffic: Traffic, sink: &mut K) -> Answer

@@ -1,7 +1,7 @@
 //! A run of a capture.
 ghost use Rattle.std.specs.Prelude.{◌≤◌, IfOk};
 ghost use Rattle.zy_core.specs.Drive.{identities};
-ghost use Rattle.zy_words.specs.Range.{IsRunnable};
+ghost use Rattle.zy_command_line.specs.Range.{IsRunnable};
 ghost use Rattle.zygos_run.specs.Ends.{RunsTo};
 ghost use Rattle.zygos_run.specs.Prepared.{IsPrepared};
 
@@ -11,12 +11,12 @@ use std::alloc::Global;
 use std::sync::Wait;
 use std::thread::Threads;
 use zy_base::{Gate, NoMemory, Source};
+use zy_command_line::Run;
 use zy_core::{Cores, Shared};
 use zy_feed::{Inlets, Intake, Stop};
 use zy_finish::{Finished, finish};
 use zy_make::{Made, Taken, make, take};
 use zy_start::{Started, start};
-use zy_words::Run;
 
 // The most connections of a capture.
 const MOST_CONNECTIONS: u32 = 4096;

@@ -8,7 +8,7 @@ use crate::answer::Answer;
 use crate::lines::{write_number, write_two};
 use zy_base::{Failed, FileFault, Sink, write_whole};
 use zy_capture::CaptureFault;
-use zy_parts::Refusal;
+use zy_check_input::Refusal;
 
 /// Says the line of the answer. That it fails changes nothing.
 pub(crate) fn say<E: Sink>(says: &mut E, answer: &Answer)

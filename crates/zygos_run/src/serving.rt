@@ -1,7 +1,7 @@
 //! The top call.
 ghost use Rattle.std.specs.Prelude.{◌≡◌, ◌≤◌, None};
 ghost use Rattle.zy_base.specs.Outside.{Rose};
-ghost use Rattle.zy_words.specs.Request.{request_of};
+ghost use Rattle.zy_command_line.specs.Request.{request_of};
 ghost use Rattle.zygos_run.specs.Lines.{line_of};
 ghost use Rattle.zygos_run.specs.Ends.{LeavesSink, ReadsNothing, asked_of};
 ghost use Rattle.zygos_run.specs.Served.{HasServed, HeadlineHolds, HasChecked, CheckHolds, HasMade, HasTested};
@@ -16,7 +16,7 @@ use std::alloc::Global;
 use std::sync::Wait;
 use std::thread::Threads;
 use zy_base::{Blob, Gate, Sink, Source};
-use zy_parts::{parts_have_no_fault, there_is_one_part_fault};
+use zy_check_input::{parts_have_no_fault, there_is_one_part_fault};
 
 /// Carries out the command that the words ask for.
 ///

@@ -4,7 +4,7 @@ ghost use Rattle.zy_base.specs.Outside.{Writes};
 ghost use Rattle.zy_capture.specs.Outputs.{AreOutputs};
 ghost use Rattle.zy_capture.specs.Replies.{replies_bytes};
 ghost use Rattle.zy_journal.specs.Journal.{IsJournal};
-ghost use Rattle.zy_words.specs.Range.{IsRunnable};
+ghost use Rattle.zy_command_line.specs.Range.{IsRunnable};
 ghost use Rattle.zygos_run.specs.Ends.{RunEnds};
 ghost use Rattle.zygos_run.specs.Headline.{front, written};
 
@@ -15,11 +15,11 @@ use std::sync::Wait;
 use std::thread::Threads;
 use zy_base::{Failed, Gate, Sink, Source};
 use zy_capture::{Outputs, write_replies};
+use zy_check_input::Refusal;
+use zy_command_line::{Out, Run};
 use zy_feed::Stop;
 use zy_finish::Finished;
 use zy_journal::{Journal, write_journal};
-use zy_parts::Refusal;
-use zy_words::{Out, Run};
 
 /// Serves a capture, and writes the replies, and the journal where it is asked for.
 pub(crate) fn serve_capture<R: Threads + Wait + Sync, S: Source, K: Sink, G: Gate + Sync>(

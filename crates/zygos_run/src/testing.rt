@@ -5,7 +5,7 @@ ghost use Rattle.zy_capture.specs.declared.record.Record.{Record};
 ghost use Rattle.zy_capture.specs.Streams.{no_bytes, with_records};
 ghost use Rattle.zy_capture.specs.Verdict.{verdict};
 ghost use Rattle.zy_capture.specs.Verdict.Verdict.{Good};
-ghost use Rattle.zy_words.specs.Range.{IsMakeable, IsRunnable, AreShards};
+ghost use Rattle.zy_command_line.specs.Range.{IsMakeable, IsRunnable, AreShards};
 ghost use Rattle.zygos_run.specs.Ends.{SelfEnds, IsTested, traffic_bytes};
 ghost use Rattle.zygos_run.specs.Headline.{IsServed};
 ghost use Rattle.zygos_run.specs.Lines.{summary_line};
@@ -21,14 +21,14 @@ use std::thread::Threads;
 use zy_base::{Blob, Failed, Gate, NoMemory, Sink, SureSource};
 use zy_capture::Streams;
 use zy_check::{Verdict, check, served_runs_check};
+use zy_check_input::read_streams;
+use zy_command_line::{Run, Traffic};
 use zy_feed::Stop;
 use zy_finish::Finished;
 use zy_gen::generated_traffic_is_a_good_capture;
 use zy_journal::Journal;
-use zy_parts::read_streams;
 use zy_same::Summary;
 use zy_traffic::each_run_of_generated_traffic_has_the_summary;
-use zy_words::{Run, Traffic};
 
 /// Serves generated traffic, checks what came, and writes the line of its numbers.
 pub(crate) fn test_traffic<R: Threads + Wait + Sync, K: Sink, G: Gate + Sync>(

@@ -1,6 +1,6 @@
 //! A feeder that breaks ends the driving, and the cores come back.
 ghost use Rattle.std.specs.Prelude.{◌≡◌, ◌⊎◌, ◌≤◌, true};
-ghost use Rattle.zy_words.specs.Range.{IsRunnable};
+ghost use Rattle.zy_command_line.specs.Range.{IsRunnable};
 
 use super::{TWO, source};
 use crate::driving::drive_cores;
@@ -10,11 +10,11 @@ use std::sync::Wait;
 use std::test::Fail;
 use std::thread::Threads;
 use zy_base::{NoMemory, Ungated};
+use zy_command_line::Run;
 use zy_core::{Cores, Driven};
 use zy_feed::{CaptureFeeder, Intake};
 use zy_feeder::{Fed, Feeder};
 use zy_rx::Outlet;
-use zy_words::Run;
 
 // A feeder that breaks when it has taken so many steps.
 #[derive(Drop)]

@@ -1,6 +1,6 @@
 use Rattle.std.proofs.Common.{◌≡◌, sym, ◌∙◌, ap, Some}
-use Rattle.zy_words.specs.declared.request.Request.TheVariants as Requests
-use Rattle.zy_words.specs.Request.{request_of}
+use Rattle.zy_command_line.specs.declared.request.Request.TheVariants as Requests
+use Rattle.zy_command_line.specs.Request.{request_of}
 use Rattle.zygos_run.proofs.command.carry_out.Goals as goal
 
 pub serve_capture-requires-clause-runnable : goal.serve_capture-requires-clause-runnable

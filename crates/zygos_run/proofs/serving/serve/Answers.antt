@@ -1,5 +1,5 @@
 use Rattle.std.proofs.Common.{refl}
-use Rattle.zy_words.specs.Request.{request_of}
+use Rattle.zy_command_line.specs.Request.{request_of}
 use Rattle.zygos_run.proofs.RefuseLemmas.{refuses}
 use Rattle.zygos_run.proofs.serving.serve.Goals as goal
 

@@ -1,7 +1,0 @@
-use Rattle.zy_read.proofs.Feeding.{fault_stays, fault_lasts}
-use Rattle.journal_reader.specs.Verdict.{journals}
-use Rattle.journal_reader.proofs.Feeding.{lasting}
-use Rattle.journal_reader.proofs.laws.the_first_fault_of_a_journal_counts.Goals as goal
-
-pub returns : goal.returns
-returns c = record { stays = fault_stays journals lasting; lasts = fault_lasts journals lasting }

@@ -1,0 +1,170 @@
+-- Formats in which a byte behind a whole text is a fault: of the first parts of a text at most one is whole.
+use Rattle.std.proofs.Common.{◌≡◌, ◌⊎◌, inl, inr, ⊎_elim, ℕ, Bool, true, false, List, [], ◌∷◌, ◌++◌, refl, sym, ◌∙◌, ap, subst, append_assoc}
+use Rattle.std.specs.Prelude.{Option, None, Some, option_to_list}
+use Rattle.std.proofs.lemmas.List.{append-nil, append_cancel_left}
+use Rattle.zy_read.specs.Format.{Format, IsLasting, Reading, read_on, reading_of, fault_met, verdict_on}
+use Rattle.zy_read.specs.Standing.{StandsAs, Feeds, MeetsFault}
+use Rattle.zy_read.proofs.Feeding.{read_more, fed_step, verdict_here, fault_here, fault_stays, fault_lasts}
+use Rattle.zy_check_input.specs.Reading.{GoesOn, IsWhole, HasNoWhole}
+
+-- the first fault counts, a byte behind a whole text is a fault, and a text with a fault is not whole
+pub record EndsOnce {P G F V : Type 0} (format : Format P G F V) (good : V → Bool) : Type 0 where
+  pub lasting : IsLasting format
+  pub closes : (p : P) (given : List G) (byte : ℕ) → good (format.ended p given) ≡ true → (fault : F) × (format.fault_in (format.step p byte).next ≡ Some fault)
+  pub bad : (fault : F) → good (format.bad fault) ≡ false
+
+-- ---- one text
+
+-- a text with a fault is not whole
+pub bad_not_whole : {P G F V : Type 0} (format : Format P G F V) (good : V → Bool) (once : EndsOnce format good) (text : List ℕ) (fault : F) → verdict_on format text ≡ format.bad fault → IsWhole format good text → ⊥
+bad_not_whole format good once text fault is whole = let no : good (format.bad fault) ≡ true = ap good (sym is) ∙ whole in let not : good (format.bad fault) ≡ false = once.bad fault in cc
+
+-- a text in which a fault was met is not whole, nor is a longer one
+pub met_not_whole : {P G F V : Type 0} (format : Format P G F V) (good : V → Bool) (once : EndsOnce format good) (text more : List ℕ) (fault : F) → fault_met format text ≡ Some fault → IsWhole format good (text ++ more) → ⊥
+met_not_whole format good once text more fault met whole = bad_not_whole format good once (text ++ more) fault (fault_lasts format once.lasting text more fault met) whole
+
+-- behind a whole text a fault is met
+pub whole_closes : {P G F V : Type 0} (format : Format P G F V) (good : V → Bool) (once : EndsOnce format good) (text more : List ℕ) (byte : ℕ) → IsWhole format good text → (fault : F) × (fault_met format (text ++ byte ∷ more) ≡ Some fault)
+unfolding StandsAs verdict_on
+whole_closes {P} {G} {F} format good once text more byte whole =
+    let r : Reading P G = reading_of format text in
+    let closed : (fault : F) × (format.fault_in (format.step r.last byte).next ≡ Some fault) = once.closes r.last r.given byte whole in
+    let stands : StandsAs format (format.step r.last byte).next (r.given ++ option_to_list (format.step r.last byte).gave) (text ++ byte ∷ []) = fed_step format r.last byte r.given text refl in
+    let met : fault_met format (text ++ byte ∷ []) ≡ Some closed.0 = fault_here format (format.step r.last byte).next (r.given ++ option_to_list (format.step r.last byte).gave) (text ++ byte ∷ []) stands ∙ closed.1 in
+    (closed.0, ap (λ (l : List ℕ). fault_met format l) (sym (append_assoc text (byte ∷ []) more)) ∙ fault_stays format once.lasting (text ++ byte ∷ []) more closed.0 met)
+
+-- a whole text has no longer one that is whole
+pub no_longer : {P G F V : Type 0} (format : Format P G F V) (good : V → Bool) (once : EndsOnce format good) (text more : List ℕ) (byte : ℕ) → IsWhole format good text → IsWhole format good (text ++ byte ∷ more) → ⊥
+no_longer format good once text more byte whole longer =
+    let closed = whole_closes format good once text more byte whole in
+    met_not_whole format good once (text ++ byte ∷ more) [] closed.0 closed.1 (subst (λ (l : List ℕ). IsWhole format good l) (sym (append-nil (text ++ byte ∷ more))) longer)
+
+-- ---- first parts of one text
+
+-- of two first parts of a text one is a first part of the other
+pub two_firsts : (a x c y : List ℕ) → a ++ x ≡ c ++ y → ((d : List ℕ) × (c ≡ a ++ d)) ⊎ ((d : List ℕ) × (a ≡ c ++ d))
+two_firsts [] x c y is = inl (c, refl)
+two_firsts (n ∷ a) x [] y is = inr (n ∷ a, refl)
+two_firsts (n ∷ a) x (m ∷ c) y is =
+    let head : n ≡ m = cc in
+    let tail : a ++ x ≡ c ++ y = cc in
+    go head (two_firsts a x c y tail)
+  where
+    go : n ≡ m → ((d : List ℕ) × (c ≡ a ++ d)) ⊎ ((d : List ℕ) × (a ≡ c ++ d)) → ((d : List ℕ) × (m ∷ c ≡ n ∷ (a ++ d))) ⊎ ((d : List ℕ) × (n ∷ a ≡ m ∷ (c ++ d)))
+    go same (inl longer) = let is : c ≡ a ++ longer.0 = longer.1 in inl (longer.0, cc)
+    go same (inr longer) = let is : a ≡ c ++ longer.0 = longer.1 in inr (longer.0, cc)
+
+-- a first part that is whole is the only one
+same_first : {P G F V : Type 0} (format : Format P G F V) (good : V → Bool) (once : EndsOnce format good) (a d c : List ℕ) → c ≡ a ++ d → IsWhole format good a → IsWhole format good c → a ≡ c
+same_first format good once a [] c is first second = sym (is ∙ append-nil a)
+same_first format good once a (byte ∷ more) c is first second = absurd (no_longer format good once a more byte first (subst (λ (l : List ℕ). IsWhole format good l) is second))
+
+pub one_first : {P G F V : Type 0} (format : Format P G F V) (good : V → Bool) (once : EndsOnce format good) (a x c y : List ℕ) → a ++ x ≡ c ++ y → IsWhole format good a → IsWhole format good c → a ≡ c
+one_first format good once a x c y is first second = go (two_firsts a x c y is)
+  where
+    go : ((d : List ℕ) × (c ≡ a ++ d)) ⊎ ((d : List ℕ) × (a ≡ c ++ d)) → a ≡ c
+    go (inl longer) = same_first format good once a longer.0 c longer.1 first second
+    go (inr longer) = sym (same_first format good once c longer.0 a longer.1 second first)
+
+-- and what follows it is one
+pub one_rest : {P G F V : Type 0} (format : Format P G F V) (good : V → Bool) (once : EndsOnce format good) (a x c y : List ℕ) → a ++ x ≡ c ++ y → IsWhole format good a → IsWhole format good c → x ≡ y
+one_rest format good once a x c y is first second =
+    append_cancel_left a x y (is ∙ ap (λ (l : List ℕ). l ++ y) (sym (one_first format good once a x c y is first second)))
+
+-- ---- a text that goes on
+
+-- a text without a fault, which is not whole, has no first part that is
+pub none_yet : {P G F V : Type 0} (format : Format P G F V) (good : V → Bool) (once : EndsOnce format good) (text : List ℕ) → GoesOn format good text → HasNoWhole format good text
+none_yet format good once text goes_on front [] is whole = let not : good (verdict_on format text) ≡ false = goes_on.1 in let yes : good (verdict_on format text) ≡ true = subst (λ (l : List ℕ). IsWhole format good l) (sym (is ∙ append-nil front)) whole in cc
+none_yet format good once text goes_on front (byte ∷ more) is whole =
+    let closed = whole_closes format good once front more byte whole in
+    let met : fault_met format text ≡ Some closed.0 = ap (λ (l : List ℕ). fault_met format l) is ∙ closed.1 in
+    let none : fault_met format text ≡ None = goes_on.0 in cc
+
+-- ---- a text with a fault
+
+-- nor has a longer text with a fault, whatever follows, where none of the first parts between the two is whole
+none_later : {P G F V : Type 0} (format : Format P G F V) (good : V → Bool) (once : EndsOnce format good) (text taken more : List ℕ) (fault : F) → GoesOn format good text → fault_met format (text ++ taken) ≡ Some fault
+    → ((d e : List ℕ) → taken ≡ d ++ e → IsWhole format good (text ++ d) → ⊥) → HasNoWhole format good ((text ++ taken) ++ more)
+none_later format good once text taken more fault goes_on met between front back is whole = go (two_firsts text (taken ++ more) front back whole_is)
+  where
+    whole_is : text ++ (taken ++ more) ≡ front ++ back
+    whole_is = sym (append_assoc text taken more) ∙ is
+
+    longer : (d : List ℕ) → front ≡ text ++ d → ((e : List ℕ) × (d ≡ taken ++ e)) ⊎ ((e : List ℕ) × (taken ≡ d ++ e)) → ⊥
+    longer d front_is (inl e) =
+        met_not_whole format good once (text ++ taken) e.0 fault met
+        (subst (λ (l : List ℕ). IsWhole format good l) (front_is ∙ ap (λ (l : List ℕ). text ++ l) e.1 ∙ sym (append_assoc text taken e.0)) whole)
+    longer d front_is (inr e) = between d e.0 e.1 (subst (λ (l : List ℕ). IsWhole format good l) front_is whole)
+
+    go : ((d : List ℕ) × (front ≡ text ++ d)) ⊎ ((d : List ℕ) × (text ≡ front ++ d)) → ⊥
+    go (inl d) =
+        longer d.0 d.1
+        (two_firsts taken more d.0 back (append_cancel_left text (taken ++ more) (d.0 ++ back) (whole_is ∙ ap (λ (l : List ℕ). l ++ back) d.1 ∙ append_assoc text d.0 back)))
+    go (inr d) = none_yet format good once text goes_on front d.0 d.1 whole
+
+-- ---- a byte that is fed
+
+-- between a text and one byte more there is none
+no_whole_byte : {P G F V : Type 0} (format : Format P G F V) (good : V → Bool) (once : EndsOnce format good) (text d e : List ℕ) (byte : ℕ) (fault : F) → GoesOn format good text → fault_met format (text ++ byte ∷ []) ≡ Some fault
+    → byte ∷ [] ≡ d ++ e → IsWhole format good (text ++ d) → ⊥
+no_whole_byte format good once text [] e byte fault goes_on met is whole = none_yet format good once text goes_on (text ++ []) [] (sym (append-nil (text ++ []) ∙ append-nil text)) whole
+no_whole_byte format good once text (first ∷ d) e byte fault goes_on met is whole =
+    let same : first ≡ byte = cc in
+    met_not_whole format good once (text ++ byte ∷ []) d fault met
+    (subst (λ (l : List ℕ). IsWhole format good l) (ap (λ (n : ℕ). text ++ n ∷ d) same ∙ sym (append_assoc text (byte ∷ []) d)) whole)
+
+-- a text that goes on has a fault at its next byte, whatever follows
+pub byte_fault : {P G F V : Type 0} (format : Format P G F V) (good : V → Bool) (once : EndsOnce format good) (p : P) (given : List G) (text more : List ℕ) (byte : ℕ) (fault : F) → StandsAs format p given text → GoesOn format good text → MeetsFault format p (byte ∷ []) (Some fault)
+    → HasNoWhole format good ((text ++ byte ∷ []) ++ more) × (verdict_on format ((text ++ byte ∷ []) ++ more) ≡ format.bad fault)
+byte_fault format good once p given text more byte fault stands goes_on met =
+    let here = met given text stands in (
+      none_later format good once text (byte ∷ []) more fault goes_on here (λ d e is whole. no_whole_byte format good once text d e byte fault goes_on here is whole),
+      fault_lasts format once.lasting (text ++ byte ∷ []) more fault here,
+    )
+
+-- ---- a piece that is fed
+
+-- places where no text is whole that ends there, and from which a byte that ends no record leads to such a place again, or to a fault
+pub record StaysOpen {P G F V : Type 0} (format : Format P G F V) (good : V → Bool) (IsOpen : P → Type 0) : Type 0 where
+  pub never : (p : P) (given : List G) → IsOpen p → good (format.ended p given) ≡ true → ⊥
+  pub goes : (p : P) (byte : ℕ) → IsOpen p → (format.step p byte).gave ≡ None → IsOpen (format.step p byte).next ⊎ ((fault : F) × (format.fault_in (format.step p byte).next ≡ Some fault))
+
+-- nothing is given twice where nothing is given in all
+none_first : {G : Type 0} (gave : Option G) (others : List G) → option_to_list gave ++ others ≡ [] → (gave ≡ None) × (others ≡ [])
+none_first None others is = (refl, is)
+none_first (Some g) others is = cc
+
+-- from such a place on no text is whole that ends within bytes that end no record
+none_within : {P G F V : Type 0} (format : Format P G F V) (good : V → Bool) (once : EndsOnce format good) (IsOpen : P → Type 0) (stays : StaysOpen format good IsOpen) (p : P) (given : List G) (text d e : List ℕ) → StandsAs format p given text → IsOpen p
+    → (read_on format.step p (d ++ e)).given ≡ [] → IsWhole format good (text ++ d) → ⊥
+unfolding read_on
+none_within format good once IsOpen stays p given text [] e stands here none whole =
+    stays.never p given here (ap good (sym (verdict_here format p given text stands)) ∙ subst (λ (l : List ℕ). IsWhole format good l) (append-nil text) whole)
+none_within {P} {G} format good once IsOpen stays p given text (byte ∷ d) e stands here none whole =
+    let q : P = (format.step p byte).next in
+    let gave : List G = option_to_list (format.step p byte).gave in
+    let parts = none_first (format.step p byte).gave (read_on format.step q (d ++ e)).given none in
+    let on : StandsAs format q (given ++ gave) (text ++ byte ∷ []) = fed_step format p byte given text stands in
+    let rest : IsWhole format good ((text ++ byte ∷ []) ++ d) = subst (λ (l : List ℕ). IsWhole format good l) (sym (append_assoc text (byte ∷ []) d)) whole in
+    ⊎_elim (λ still. none_within format good once IsOpen stays q (given ++ gave) (text ++ byte ∷ []) d e on still parts.1 rest)
+    (λ broken. met_not_whole format good once (text ++ byte ∷ []) d broken.0 (fault_here format q (given ++ gave) (text ++ byte ∷ []) on ∙ broken.1) rest)
+    (stays.goes p byte here parts.0)
+
+-- bytes for which nothing was given end no record
+gave_none : {P G F V : Type 0} (format : Format P G F V) (p q : P) (given : List G) (text taken : List ℕ) → StandsAs format p given text → Feeds format p q taken [] → (read_on format.step p taken).given ≡ []
+unfolding StandsAs
+gave_none {P} {G} format p q given text taken stands feeds =
+    append_cancel_left given (read_on format.step p taken).given []
+    (ap (λ (r : Reading P G). r.given) (sym (read_more format p given text taken stands) ∙ feeds given text stands))
+
+-- a text that goes on has a fault within a piece that ends no record, whatever follows
+pub piece_fault : {P G F V : Type 0} (format : Format P G F V) (good : V → Bool) (once : EndsOnce format good) (IsOpen : P → Type 0) (stays : StaysOpen format good IsOpen) (p q : P) (given : List G) (text taken more : List ℕ) (fault : F) → StandsAs format p given text → IsOpen p → GoesOn format good text
+    → Feeds format p q taken [] → MeetsFault format p taken (Some fault) → HasNoWhole format good ((text ++ taken) ++ more) × (verdict_on format ((text ++ taken) ++ more) ≡ format.bad fault)
+piece_fault {P} {G} format good once IsOpen stays p q given text taken more fault stands here_open goes_on feeds met =
+    let here = met given text stands in
+    let none = gave_none format p q given text taken stands feeds in (
+      none_later format good once text taken more fault goes_on here
+          (λ d e is whole. none_within format good once IsOpen stays p given text d e stands here_open (ap (λ (l : List ℕ). (read_on format.step p l).given) (sym is) ∙ none) whole),
+      fault_lasts format once.lasting (text ++ taken) more fault here,
+    )

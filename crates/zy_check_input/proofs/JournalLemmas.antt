@@ -1,0 +1,158 @@
+-- A byte behind a journal is a fault, and its end is told by the byte that ends it.
+use Rattle.std.proofs.Common.{◌≡◌, inl, ℕ, ◌+◌, ◌-◌, ◌==◌, Bool, true, false, true≢false, List, [], ◌∷◌, ◌++◌, length, refl, sym, ◌∙◌, ap, subst}
+use Rattle.std.specs.Prelude.{nat_lt, if◌then◌else◌, Option, Some, None, Result, Ok, Err, ⊤}
+use Rattle.std.specs.Int.{from_be_bytes, w32, w64}
+use Rattle.zy_base.specs.declared.call_reply.CallReply.TheVariants as Replies
+use Rattle.zy_base.specs.declared.file_fault.FileFault.{FileFault}
+use Rattle.zy_base.specs.declared.file_fault.FileFault.TheVariants.{Form, TooLong}
+use Rattle.zy_read.specs.declared.not_taken.NotTaken.{NotTaken}
+use Rattle.zy_read.specs.declared.not_taken.NotTaken.TheVariants.{Fault}
+use Rattle.zy_read.specs.Standing.{given_in, Feeds, MeetsFault, TellsFault}
+use Rattle.zy_read.proofs.Feeding.{verdict_here}
+use Rattle.zy_journal_reader.specs.declared.call_kind.CallKind.{CallKind}
+use Rattle.zy_journal_reader.specs.declared.call_kind.CallKind.TheVariants.{Set, Cas, Flush}
+use Rattle.zy_journal_reader.specs.declared.due.Due.{Due}
+use Rattle.zy_journal_reader.specs.declared.due.Due.TheVariants.{Byte, Number, Long, Bytes, Nothing, Broken}
+use Rattle.zy_journal_reader.specs.declared.due.ByteField.{ByteField}
+use Rattle.zy_journal_reader.specs.declared.due.ByteField.TheVariants.{Magic, Tag, CallCode, KeyLength, ReplyCode}
+use Rattle.zy_journal_reader.specs.declared.due.NumberField.{NumberField}
+use Rattle.zy_journal_reader.specs.declared.due.NumberField.TheVariants.{Shard, Connection, Part, Flags, ValueLength, FoundFlags, FoundLength, HoldConnection, HoldCore, HoldCount}
+use Rattle.zy_journal_reader.specs.declared.due.LongField.{LongField}
+use Rattle.zy_journal_reader.specs.declared.due.LongField.TheVariants.{Stamp, Index, CallNumber, FoundUnique, ReplyNumber}
+use Rattle.zy_journal_reader.specs.declared.due.BytesField.{BytesField}
+use Rattle.zy_journal_reader.specs.declared.due.BytesField.TheVariants.{Key, Value, FoundValue}
+use Rattle.zy_journal_reader.specs.Fields.{fault_in, kind_of, after_code, after_key, after_flags, after_number, plain_reply}
+use Rattle.zy_journal_reader.specs.Steps.{Progress, Step, goes, knows, begins, ends_entry, ends, refuses, keeps, grows, lawful_byte, after_byte, lawful_number, after_four, lawful_long, after_eight, after_bytes, taken, is_full, step}
+use Rattle.zy_journal_reader.specs.Standing.{StandsForJournal}
+use Rattle.zy_journal_reader.specs.Verdict.{journals, ended, is_good, verdict, fault_of}
+use Rattle.zy_journal_reader.specs.Verdict.Verdict.{Bad}
+use Rattle.zy_journal_reader.proofs.Feeding.{lasting}
+use Rattle.zy_journal_reader.proofs.CallLemmas.{either}
+use Rattle.zy_check_input.specs.declared.journal_part.JournalPart.{JournalPart}
+use Rattle.zy_check_input.specs.Reading.{Takes, GoesOn}
+use Rattle.zy_check_input.specs.Parts.{HasNoJournal}
+use Rattle.zy_check_input.specs.Kinds.{StandsForJournalPart, journal_kind}
+use Rattle.zy_check_input.proofs.FormatLemmas.{EndsOnce, StaysOpen, piece_fault}
+
+-- the end was read where a journal is whole
+end_read : (due : Due) (p : Progress) → is_good (ended due p) ≡ true → due ≡ Nothing
+end_read Nothing p good = refl
+end_read (Broken fault) p good = cc
+end_read due p good = cc
+
+closes : (p : Progress) (given : List ⊤) (byte : ℕ) → is_good (ended p.due p) ≡ true → (fault : FileFault) × (fault_in (step p byte).next.due ≡ Some fault)
+closes p given byte good = let is : p.due ≡ Nothing = end_read p.due p good in (Form p.at, rw is refl)
+
+-- a byte behind a journal is a fault
+pub once : EndsOnce journals is_good
+once = record { lasting = lasting; closes = closes; bad = λ fault. refl }
+
+-- ---- pieces
+
+-- a byte that ends no journal doesn't lead to its end
+abbrev EndsNothing : Step → Type 0
+EndsNothing s = s.gave ≡ None → s.next.due ≡ Nothing → ⊥
+
+after_code_goes : (kind : CallKind) → after_code kind ≡ Nothing → ⊥
+after_code_goes Flush is = cc
+after_code_goes kind is = cc
+
+after_key_goes : (kind : CallKind) → after_key kind ≡ Nothing → ⊥
+after_key_goes Set is = cc
+after_key_goes kind is = cc
+
+after_flags_goes : (kind : CallKind) → after_flags kind ≡ Nothing → ⊥
+after_flags_goes Cas is = cc
+after_flags_goes kind is = cc
+
+after_number_goes : (kind : CallKind) → after_number kind ≡ Nothing → ⊥
+after_number_goes Cas is = cc
+after_number_goes kind is = cc
+
+byte_ends : (field : ByteField) (p : Progress) (byte : ℕ) → EndsNothing (after_byte field p byte)
+byte_ends Magic p byte = either EndsNothing (p.at == 7) (goes p (Byte Tag)) (goes p (Byte Magic)) (λ none is. cc) (λ none is. cc)
+byte_ends Tag p byte =
+    either EndsNothing (byte == 69) (ends p) (if byte == 72 then goes p (Number HoldConnection) else goes p (Long Stamp)) (λ none is. cc)
+    (either EndsNothing (byte == 72) (goes p (Number HoldConnection)) (goes p (Long Stamp)) (λ none is. cc) (λ none is. cc))
+byte_ends CallCode p byte = λ none is. after_code_goes (kind_of byte) is
+byte_ends KeyLength p byte = λ none is. cc
+byte_ends ReplyCode p byte =
+    either EndsNothing (byte == 2) (goes p (Number FoundFlags)) (if byte == 8 then goes p (Long ReplyNumber) else ends_entry p (plain_reply byte)) (λ none is. cc)
+    (either EndsNothing (byte == 8) (goes p (Long ReplyNumber)) (ends_entry p (plain_reply byte)) (λ none is. cc) (λ none is. cc))
+
+four_ends : (field : NumberField) (p : Progress) (n : ℕ) → EndsNothing (after_four field p n)
+four_ends Flags p n = λ none is. after_flags_goes p.draft.kind is
+four_ends ValueLength p n =
+    either EndsNothing (n == 0) (knows p (record p.draft { value = [] }) (Byte ReplyCode)) (begins p Value n) (λ none is. cc) (λ none is. cc)
+four_ends FoundLength p n =
+    either EndsNothing (n == 0) (ends_entry p (Replies.Hit p.draft.found_flags p.draft.found_unique [])) (begins p FoundValue n) (λ none is. cc) (λ none is. cc)
+four_ends Shard p n = λ none is. cc
+four_ends Connection p n = λ none is. cc
+four_ends Part p n = λ none is. cc
+four_ends FoundFlags p n = λ none is. cc
+four_ends HoldConnection p n = λ none is. cc
+four_ends HoldCore p n = λ none is. cc
+four_ends HoldCount p n = λ none is. cc
+
+eight_ends : (field : LongField) (p : Progress) (n : ℕ) → EndsNothing (after_eight field p n)
+eight_ends Stamp p n none is = cc
+eight_ends Index p n none is = cc
+eight_ends CallNumber p n none is = after_number_goes p.draft.kind is
+eight_ends FoundUnique p n none is = cc
+eight_ends ReplyNumber p n none is = cc
+
+bytes_end : (field : BytesField) (p : Progress) (bytes : List ℕ) → EndsNothing (after_bytes field p bytes)
+bytes_end Key p bytes none is = after_key_goes p.draft.kind is
+bytes_end Value p bytes none is = cc
+bytes_end FoundValue p bytes none is = cc
+
+taken_ends : (due : Due) (p : Progress) (byte : ℕ) → p.due ≡ due → EndsNothing (taken due p byte)
+taken_ends (Byte field) p byte here =
+    either EndsNothing (lawful_byte field p byte) (after_byte field p byte) (refuses p (Form p.at)) (byte_ends field p byte) (λ none is. cc)
+taken_ends (Number field) p byte here =
+    let n : ℕ = from_be_bytes w32 (p.field ++ byte ∷ []) in
+    either EndsNothing (nat_lt (length p.field) 3) (keeps p (Number field) byte) (if lawful_number field p n then after_four field p n else refuses p (Form (p.at - 3))) (λ none is. cc)
+    (either EndsNothing (lawful_number field p n) (after_four field p n) (refuses p (Form (p.at - 3))) (four_ends field p n) (λ none is. cc))
+taken_ends (Long field) p byte here =
+    let n : ℕ = from_be_bytes w64 (p.field ++ byte ∷ []) in
+    either EndsNothing (nat_lt (length p.field) 7) (keeps p (Long field) byte) (if lawful_long field p n then after_eight field p n else refuses p (Form (p.at - 7))) (λ none is. cc)
+    (either EndsNothing (lawful_long field p n) (after_eight field p n) (refuses p (Form (p.at - 7))) (eight_ends field p n) (λ none is. cc))
+taken_ends (Bytes field) p byte here =
+    either EndsNothing (nat_lt (length p.payload + 1) p.draft.size) (grows p (Bytes field) byte) (after_bytes field p (p.payload ++ byte ∷ [])) (λ none is. cc)
+    (bytes_end field p (p.payload ++ byte ∷ []))
+taken_ends Nothing p byte here = λ none is. cc
+taken_ends (Broken fault) p byte here = λ none is. cc
+
+step_ends : (p : Progress) (byte : ℕ) → EndsNothing (step p byte)
+step_ends p byte = either EndsNothing (is_full p) (refuses p TooLong) (taken p.due p byte) (λ none is. cc) (taken_ends p.due p byte refl)
+
+-- a journal's end is told by the byte that leads to it
+abbrev pub IsOpen : Progress → Type 0
+IsOpen p = p.due ≡ Nothing → ⊥
+
+pub stays : StaysOpen journals is_good IsOpen
+stays = record {
+  never = λ p given unread good. unread (end_read p.due p good);
+  goes = λ p byte unread none. inl (step_ends p byte none);
+}
+
+-- where a journal goes on its end was not read
+pub open_here : (p : Progress) (given : List ⊤) (text : List ℕ) → StandsForJournal p given text → GoesOn journals is_good text → IsOpen p
+open_here p given text stands goes_on is =
+    let here : verdict text ≡ ended p.due p = verdict_here journals p given text stands in
+    let good : is_good (ended p.due p) ≡ true = rw is refl in
+    let not : is_good (verdict text) ≡ false = goes_on.1 in
+    true≢false (sym good ∙ ap is_good (sym here) ∙ not)
+
+-- a fault in a piece, whatever follows
+pub fault_in_piece : (part : JournalPart) (q : Progress) (bytes piece more : List ℕ) (answer : Result (Option ⊤) (NotTaken FileFault)) (fault : FileFault) → answer ≡ Err (Fault fault) → StandsForJournalPart part bytes → GoesOn journals is_good bytes
+    → Feeds journals part.reader q piece (given_in answer) → TellsFault journals part.reader piece answer → HasNoJournal ((bytes ++ piece) ++ more) × (verdict ((bytes ++ piece) ++ more) ≡ Bad fault)
+fault_in_piece part q bytes piece more answer fault is stands goes_on feeds tells =
+    let fed : Feeds journals part.reader q piece [] = subst (λ (a : Result (Option ⊤) (NotTaken FileFault)). Feeds journals part.reader q piece (given_in a)) is feeds in
+    let met : MeetsFault journals part.reader piece (Some fault) = subst (λ (a : Result (Option ⊤) (NotTaken FileFault)). TellsFault journals part.reader piece a) is tells in
+    piece_fault journals is_good once IsOpen stays part.reader q stands.given bytes piece more fault stands.reader (open_here part.reader stands.given bytes stands.reader goes_on) goes_on fed met
+
+-- whether the journal goes on
+pub goes_on_or_done : (part : JournalPart) (given : List ⊤) (bytes : List ℕ) (done : Bool) → StandsForJournal part.reader given bytes → fault_of bytes ≡ None → done ≡ is_good (verdict bytes) → Takes journal_kind part bytes (Ok done)
+goes_on_or_done part given bytes false reader clean is = (record { given = given; reader = reader }, (clean, sym is))
+goes_on_or_done part given bytes true reader clean is = (record { given = given; reader = reader }, sym is)

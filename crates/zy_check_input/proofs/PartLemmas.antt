@@ -1,0 +1,95 @@
+-- What is read of a part, piece after piece, for all kinds of parts.
+use Rattle.std.proofs.Common.{◌≡◌, ◌⊎◌, inl, inr, ℕ, ◌+◌, ◌-◌, ◌<◌, ◌≤◌, Bool, true, false, List, [], ◌++◌, length, take, drop, refl, sym, ◌∙◌, ap, subst, arith, append_assoc, length-drop}
+use Rattle.std.specs.Prelude.{Option, None, Some, IfSome, Result, Ok, Err}
+use Rattle.std.specs.Io.KnownBytes.{Consumes, IsAtEnd}
+use Rattle.std.proofs.lemmas.List.{append-nil, take-append-drop, drop-take, drop-drop, length-take-le}
+use Rattle.zy_check_input.specs.declared.stop.Stop.{Stop}
+use Rattle.zy_check_input.specs.declared.stop.Stop.TheVariants.{Refused, ReadFault, NoMemory}
+use Rattle.zy_check_input.specs.Reading.{Kind, HasGiven, IsOver, HasStopped, HasFaultBehind, Takes, EndsWhole, EndsCut, Advances, Reads}
+
+-- ---- what the source told
+
+-- what is true of all longer texts is true of what the source told
+pub told_first : (before after : Option (List ℕ)) (bytes : List ℕ) (P : List ℕ → Type 0) → Consumes before after bytes → ((more : List ℕ) → P (bytes ++ more)) → IfSome before P
+told_first None after bytes P consumed all = tt
+told_first (Some u) None bytes P consumed all = absurd consumed
+told_first (Some u) (Some v) bytes P consumed all = subst P (sym consumed) (all v)
+
+-- at its end it told these bytes
+pub told_all : (before after : Option (List ℕ)) (bytes : List ℕ) (P : List ℕ → Type 0) → Consumes before after bytes → IsAtEnd after → P bytes → IfSome before P
+told_all None after bytes P consumed end holds = tt
+told_all (Some u) None bytes P consumed end holds = absurd consumed
+told_all (Some u) (Some v) bytes P consumed end holds = subst P (sym (consumed ∙ ap (λ (l : List ℕ). bytes ++ l) end ∙ append-nil bytes)) holds
+
+-- ---- some bytes more
+
+-- what is left of a piece after its first bytes
+pub piece_on : (piece left : List ℕ) (at end count : ℕ) → left ≡ take (end - at) (drop at piece) → count ≤ length left → at ≤ end → end ≤ length piece → take (end - (at + count)) (drop (at + count) piece) ≡ drop count left
+piece_on piece left at end count is few rising within =
+    let size : length left ≡ end - at = ap length is ∙ length-take-le (end - at) (drop at piece) (let dropped = length-drop at piece in omega arith) in
+    let all : end - at ≡ count + (end - (at + count)) = omega arith in
+    sym (ap (λ (l : List ℕ). drop count l) is ∙ ap (λ (n : ℕ). drop count (take n (drop at piece))) all ∙ drop-take count (end - (at + count)) (drop at piece) ∙ ap (λ (l : List ℕ). take (end - (at + count)) l) (drop-drop count at piece))
+
+-- the bytes of the part and then the others, behind what came before
+regrouped : (before bytes left more : List ℕ) → ((before ++ bytes) ++ left) ++ more ≡ before ++ (bytes ++ (left ++ more))
+regrouped before bytes left more = append_assoc (before ++ bytes) left more ∙ append_assoc before bytes (left ++ more)
+
+-- first bytes of what is left of the piece are the next of the part
+taken_from : (before bytes left : List ℕ) (count : ℕ) → (before ++ bytes) ++ left ≡ (before ++ (bytes ++ take count left)) ++ drop count left
+taken_from before bytes left count =
+    ap (λ (l : List ℕ). (before ++ bytes) ++ l) (sym (take-append-drop count left))
+    ∙ sym (append_assoc (before ++ bytes) (take count left) (drop count left))
+    ∙ ap (λ (l : List ℕ). l ++ drop count left) (append_assoc before bytes (take count left))
+
+-- some bytes more of a part
+given_on : {S : Type 0} (rest : S → Option (List ℕ)) (faults : S → ℕ) (first now : S) (left before bytes : List ℕ) (count : ℕ) → HasGiven rest faults first now left (before ++ bytes)
+    → HasGiven rest faults first now (drop count left) (before ++ (bytes ++ take count left))
+given_on rest faults first now left before bytes count given = record {
+  source = subst (λ (l : List ℕ). Consumes (rest first) (rest now) l) (taken_from before bytes left count) given.source;
+  count = given.count;
+}
+
+-- where the bytes that were taken lead
+pub took : {P T S : Type 0} (kind : Kind P T) (rest : S → Option (List ℕ)) (faults : S → ℕ) (first now : S) (left before bytes : List ℕ) (count : ℕ) (reader : P) (answer : Result Bool Stop) → HasGiven rest faults first now left (before ++ bytes) → count ≤ length left → ((whole : Bool) → answer ≡ Ok whole → 0 < count)
+    → Takes kind reader (bytes ++ take count left) answer → Advances kind rest faults first now (drop count left) before bytes reader answer
+took kind rest faults first now left before bytes count reader (Ok false) given within some takes =
+    (take count left, (let size = length-take-le count left within in let more = some false refl in omega arith), record { given = given_on rest faults first now left before bytes count given; stands = takes.0; goes_on = takes.1 })
+took kind rest faults first now left before bytes count reader (Ok true) given within some takes = record {
+  bytes = bytes ++ take count left;
+  given = given_on rest faults first now left before bytes count given;
+  stands = takes.0;
+  end = inl takes.1;
+}
+took kind rest faults first now left before bytes count reader (Err (Refused refusal)) given within some takes =
+    let taken : List ℕ = bytes ++ take count left in
+    let others : List ℕ = drop count left in (
+      (taken ++ [], takes []),
+      told_first (rest first) (rest now) ((before ++ taken) ++ others) (λ (text : List ℕ). HasFaultBehind kind before text refusal) (given_on rest faults first now left before bytes count given).source
+          (λ more. record { rest = taken ++ (others ++ more); whole = regrouped before taken others more; faulty = takes (others ++ more) }),
+    )
+took kind rest faults first now left before bytes count reader (Err ReadFault) given within some takes = absurd takes
+took kind rest faults first now left before bytes count reader (Err NoMemory) given within some takes = tt
+
+-- ---- the end
+
+-- what a part gives that was fed whole, or up to the end of the source
+pub ended : {P T S : Type 0} (kind : Kind P T) (rest : S → Option (List ℕ)) (faults : S → ℕ) (first now : S) (left before : List ℕ) (reader : P) (answer : Result T Stop) → HasStopped kind rest faults first now left before reader
+    → ((bytes : List ℕ) → kind.stands reader bytes → kind.whole bytes → EndsWhole kind bytes answer) → ((bytes : List ℕ) → kind.stands reader bytes → kind.goes_on bytes → EndsCut kind bytes answer)
+    → Reads kind rest faults first now left before answer
+ended {P} {T} {S} kind rest faults first now left before reader answer stopped whole cut = go answer whole cut stopped.end
+  where
+    go : (answer : Result T Stop) → ((bytes : List ℕ) → kind.stands reader bytes → kind.whole bytes → EndsWhole kind bytes answer) → ((bytes : List ℕ) → kind.stands reader bytes → kind.goes_on bytes → EndsCut kind bytes answer)
+        → kind.whole stopped.bytes ⊎ (kind.goes_on stopped.bytes × IsOver (rest now) left) → Reads kind rest faults first now left before answer
+    go (Ok gave) whole cut (inl is) = record { bytes = stopped.bytes; given = stopped.given; gives = whole stopped.bytes stopped.stands is; end = inl is }
+    go (Ok gave) whole cut (inr over) = record { bytes = stopped.bytes; given = stopped.given; gives = cut stopped.bytes stopped.stands over.0; end = inr over.1 }
+    go (Err (Refused refusal)) whole cut (inl is) = absurd (whole stopped.bytes stopped.stands is)
+    go (Err (Refused refusal)) whole cut (inr over) =
+        let faulty : kind.faulty stopped.bytes refusal = cut stopped.bytes stopped.stands over.0 in (
+          (stopped.bytes, faulty),
+          told_all (rest first) (rest now) (before ++ stopped.bytes) (λ (text : List ℕ). HasFaultBehind kind before text refusal)
+              (subst (λ (l : List ℕ). Consumes (rest first) (rest now) l) (ap (λ (l : List ℕ). (before ++ stopped.bytes) ++ l) over.1.0 ∙ append-nil (before ++ stopped.bytes)) stopped.given.source) over.1.1
+              (record { rest = stopped.bytes; whole = refl; faulty = faulty }),
+        )
+    go (Err ReadFault) whole cut (inl is) = absurd (whole stopped.bytes stopped.stands is)
+    go (Err ReadFault) whole cut (inr over) = absurd (cut stopped.bytes stopped.stands over.0)
+    go (Err NoMemory) whole cut end = tt

@@ -1,0 +1,112 @@
+-- The three kinds of parts: which bytes brought their readers to where they are, and what a text of each kind gives. No
+-- public clause cites this module.
+use Rattle.std.specs.Prelude.{◌≡◌, ◌⊎◌, ℕ, ◌+◌, Bool, false, List, [], length, Option, None, Some, ⊤}
+use Rattle.zy_capture.specs.declared.record.Record.{Record}
+use Rattle.zy_capture.specs.declared.session_bytes.SessionBytes.{SessionBytes}
+use Rattle.zy_capture.specs.Streams.{sessions_of, no_bytes, with_records}
+use Rattle.zy_capture.specs.Outputs.{AllOutputs, AreOutputs}
+use Rattle.zy_capture.specs.Replies.{items_of}
+use Rattle.zy_capture.specs.Standing.{StandsFor}
+use Rattle.zy_capture.specs.RepliesStanding.{StandsForReplies}
+use Rattle.zy_capture.specs.Verdict as Captures
+use Rattle.zy_capture.specs.RepliesVerdict as Replies
+use Rattle.zy_journal.specs.declared.journal.Journal.{Journal}
+use Rattle.zy_journal_reader.specs.Standing.{StandsForJournal}
+use Rattle.zy_journal_reader.specs.Verdict as Journals
+use Rattle.zy_check_input.specs.declared.capture_part.CapturePart.{CapturePart}
+use Rattle.zy_check_input.specs.declared.journal_part.JournalPart.{JournalPart}
+use Rattle.zy_check_input.specs.declared.replies_part.RepliesPart.{RepliesPart}
+use Rattle.zy_check_input.specs.declared.stop.Refusal.{Refusal}
+use Rattle.zy_check_input.specs.declared.stop.Refusal.TheVariants.{Capture, Journal as OfJournal, Replies as OfReplies}
+use Rattle.zy_check_input.specs.Parts.{IsCapture, IsJournal, HasStreams, HasNoJournal, HasCaptureFault}
+use Rattle.zy_check_input.specs.Reading.{Kind, GoesOn}
+
+-- ---- captures
+
+-- the streams are those of the records; before the count was read there is none
+abbrev pub KeepsStreams : Option (List (List (List ℕ))) → List Record → Type 0
+KeepsStreams None given = given ≡ []
+KeepsStreams (Some streams) given = (count : ℕ) × (streams ≡ with_records (no_bytes count) given)
+
+-- these bytes of a capture were fed, and their records are kept
+pub record StandsForCapture (part : CapturePart) (bytes : List ℕ) : Type 0 where
+  pub given : List Record
+  pub reader : StandsFor part.reader given bytes
+  pub kept : KeepsStreams part.streams given
+
+-- the text has this fault as a capture
+abbrev pub IsFaultyCapture : List ℕ → Refusal → Type 0
+IsFaultyCapture text (Capture fault) = HasCaptureFault text fault
+IsFaultyCapture text refusal = ⊥
+
+abbrev pub capture_kind : Kind CapturePart (List (List (List ℕ)))
+capture_kind = record {
+  stands = StandsForCapture;
+  goes_on = GoesOn Captures.captures Captures.is_good;
+  whole = IsCapture;
+  gives = λ streams text. HasStreams text streams;
+  faulty = IsFaultyCapture;
+}
+
+-- ---- journals
+
+-- these bytes of a journal were fed
+pub record StandsForJournalPart (part : JournalPart) (bytes : List ℕ) : Type 0 where
+  pub given : List ⊤
+  pub reader : StandsForJournal part.reader given bytes
+
+-- the text has this fault as a journal
+abbrev pub IsFaultyJournal : List ℕ → Refusal → Type 0
+IsFaultyJournal text (OfJournal fault) = HasNoJournal text × (Journals.verdict text ≡ Journals.Verdict.Bad fault)
+IsFaultyJournal text refusal = ⊥
+
+abbrev pub journal_kind : Kind JournalPart Journal
+journal_kind = record {
+  stands = StandsForJournalPart;
+  goes_on = GoesOn Journals.journals Journals.is_good;
+  whole = IsJournal;
+  gives = λ journal text. Journals.verdict text ≡ Journals.Verdict.Good journal;
+  faulty = IsFaultyJournal;
+}
+
+-- ---- replies files, which end with the source
+
+-- the outputs are those that were given; before the version was read there is none
+abbrev pub KeepsOutputs : Option AllOutputs → List SessionBytes → Type 0
+KeepsOutputs None given = given ≡ []
+KeepsOutputs (Some outputs) given = items_of outputs ≡ given
+
+-- the output of this session comes next: it is the first one of the next connection, or one more of the last one
+abbrev pub ComesNext : List (List (List ℕ)) → ℕ → ℕ → Type 0
+ComesNext sessions conn session =
+    ((conn ≡ length sessions) × (session ≡ 0))
+    ⊎ ((conn + 1 ≡ length sessions) × (session ≡ length (sessions_of sessions conn)))
+
+-- these bytes of a replies file were fed, and their outputs are kept
+pub record StandsForRepliesPart (part : RepliesPart) (bytes : List ℕ) : Type 0 where
+  pub given : List SessionBytes
+  pub reader : StandsForReplies part.reader given bytes
+  pub kept : KeepsOutputs part.outputs given
+
+-- no text is whole before the source is at its end
+abbrev pub never : Replies.Verdict → Bool
+never verdict = false
+
+-- the text is a replies file with these outputs
+abbrev pub HasOutputs : AllOutputs → List ℕ → Type 0
+HasOutputs outputs text =
+    (Replies.verdict text ≡ Replies.Verdict.Good outputs.version (items_of outputs)) × AreOutputs outputs
+
+-- the text has this fault as a replies file
+abbrev pub IsFaultyReplies : List ℕ → Refusal → Type 0
+IsFaultyReplies text (OfReplies fault) = Replies.verdict text ≡ Replies.Verdict.Bad fault
+IsFaultyReplies text refusal = ⊥
+
+abbrev pub replies_kind : Kind RepliesPart AllOutputs
+replies_kind = record {
+  stands = StandsForRepliesPart;
+  goes_on = GoesOn Replies.replies never;
+  whole = λ text. ⊥;
+  gives = HasOutputs;
+  faulty = IsFaultyReplies;
+}

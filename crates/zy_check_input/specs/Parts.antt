@@ -1,0 +1,125 @@
+-- The input of the command check: a capture, a journal and a replies file, one behind the other. Each part ends where
+-- it ends by itself, and the first fault of the input counts.
+use Rattle.std.specs.Prelude.{◌≡◌, ℕ, true, List, ◌++◌, Option, Result, Ok, Err, IfSome, ⊤}
+use Rattle.std.specs.Io.KnownBytes.{Consumes, IsAtEnd}
+use Rattle.zy_base.specs.declared.file_fault.FileFault.{FileFault}
+use Rattle.zy_base.specs.Outside.{Rose}
+use Rattle.zy_capture.specs.declared.record.Record.{Record}
+use Rattle.zy_capture.specs.declared.capture_fault.CaptureFault.{CaptureFault}
+use Rattle.zy_capture.specs.Streams.{no_bytes, with_records}
+use Rattle.zy_capture.specs.Outputs.{AllOutputs, AreOutputs}
+use Rattle.zy_capture.specs.Replies.{items_of}
+use Rattle.zy_capture.specs.Verdict as Captures
+use Rattle.zy_capture.specs.RepliesVerdict as Replies
+use Rattle.zy_journal.specs.declared.journal.Journal.{Journal}
+use Rattle.zy_journal_reader.specs.Verdict as Journals
+use Rattle.zy_check_input.specs.declared.parts.Parts.{Parts}
+use Rattle.zy_check_input.specs.declared.stop.Refusal.{Refusal}
+use Rattle.zy_check_input.specs.declared.stop.Refusal.TheVariants.{Capture, Journal as OfJournal, Replies as OfReplies}
+use Rattle.zy_check_input.specs.declared.stop.Stop.{Stop}
+use Rattle.zy_check_input.specs.declared.stop.Stop.TheVariants.{Refused, ReadFault, NoMemory}
+
+-- ---- parts
+
+-- the text is a capture
+abbrev pub IsCapture : List ℕ → Type 0
+IsCapture text = Captures.is_good (Captures.verdict text) ≡ true
+
+-- the text is a journal
+abbrev pub IsJournal : List ℕ → Type 0
+IsJournal text = Journals.is_good (Journals.verdict text) ≡ true
+
+-- the text is a capture with these streams
+pub record HasStreams (text : List ℕ) (streams : List (List (List ℕ))) : Type 0 where
+  pub version : ℕ
+  pub count : ℕ
+  pub records : List Record
+  pub good : Captures.verdict text ≡ Captures.Verdict.Good version count records
+  pub joined : streams ≡ with_records (no_bytes count) records
+
+-- the text is a capture with these streams, then this journal, and then a replies file with these outputs
+pub record AreParts (text : List ℕ) (streams : List (List (List ℕ))) (journal : Journal)
+    (outputs : AllOutputs) : Type 0 where
+  pub capture_text : List ℕ
+  pub journal_text : List ℕ
+  pub replies_text : List ℕ
+  pub whole : text ≡ capture_text ++ (journal_text ++ replies_text)
+  pub of_capture : HasStreams capture_text streams
+  pub of_journal : Journals.verdict journal_text ≡ Journals.Verdict.Good journal
+  pub of_replies : Replies.verdict replies_text ≡ Replies.Verdict.Good outputs.version (items_of outputs)
+
+-- ---- faults
+
+-- no first part of the text is a capture
+abbrev pub HasNoCapture : List ℕ → Type 0
+HasNoCapture text = (front back : List ℕ) → text ≡ front ++ back → ¬ IsCapture front
+
+-- no first part of the text is a journal
+abbrev pub HasNoJournal : List ℕ → Type 0
+HasNoJournal text = (front back : List ℕ) → text ≡ front ++ back → ¬ IsJournal front
+
+-- the text begins with no capture, and has this fault as one
+pub record HasCaptureFault (text : List ℕ) (fault : CaptureFault) : Type 0 where
+  pub none : HasNoCapture text
+  pub bad : Captures.verdict text ≡ Captures.Verdict.Bad fault
+
+-- the text is a capture, and then a text that begins with no journal, and has this fault as one
+pub record HasJournalFault (text : List ℕ) (fault : FileFault) : Type 0 where
+  pub capture_text : List ℕ
+  pub rest : List ℕ
+  pub whole : text ≡ capture_text ++ rest
+  pub of_capture : IsCapture capture_text
+  pub none : HasNoJournal rest
+  pub bad : Journals.verdict rest ≡ Journals.Verdict.Bad fault
+
+-- the text is a capture, then a journal, and then a text that has this fault as a replies file
+pub record HasRepliesFault (text : List ℕ) (fault : FileFault) : Type 0 where
+  pub capture_text : List ℕ
+  pub journal_text : List ℕ
+  pub rest : List ℕ
+  pub whole : text ≡ capture_text ++ (journal_text ++ rest)
+  pub of_capture : IsCapture capture_text
+  pub of_journal : IsJournal journal_text
+  pub bad : Replies.verdict rest ≡ Replies.Verdict.Bad fault
+
+-- the first fault of the text; its place counts from the start of its part
+abbrev pub HasPartFault : List ℕ → Refusal → Type 0
+HasPartFault text (Capture fault) = HasCaptureFault text fault
+HasPartFault text (OfJournal fault) = HasJournalFault text fault
+HasPartFault text (OfReplies fault) = HasRepliesFault text fault
+
+-- ---- reading
+
+-- the source gave these bytes, where it tells them, and is at its end
+abbrev pub ReadsAll : Option (List ℕ) → Option (List ℕ) → List ℕ → Type 0
+ReadsAll before after bytes = Consumes before after bytes × IsAtEnd after
+
+-- the parts are those of all that the source gave; or its text has this fault, or its count of faults rose, or stands
+-- at its last value; want of memory is free
+abbrev pub HasReadParts : {S : Type 0} → (S → Option (List ℕ)) → (S → ℕ) → S → S → Result Parts Stop → Type 0
+HasReadParts rest faults first now (Ok parts) =
+    (text : List ℕ) × ReadsAll (rest first) (rest now) text × AreParts text parts.streams parts.journal parts.outputs
+    × AreOutputs parts.outputs
+HasReadParts rest faults first now (Err (Refused refusal)) = IfSome (rest first) (λ text. HasPartFault text refusal)
+HasReadParts rest faults first now (Err ReadFault) = Rose (faults first) (faults now)
+HasReadParts rest faults first now (Err NoMemory) = ⊤
+
+-- the source gave a capture with these streams, and may have given some bytes behind it; where all that it told is a
+-- capture, it is this one
+pub record HasGivenStreams (before after : Option (List ℕ)) (streams : List (List (List ℕ))) : Type 0 where
+  pub text : List ℕ
+  pub behind : List ℕ
+  pub given : Consumes before after (text ++ behind)
+  pub are : HasStreams text streams
+  pub all : IfSome before (λ told. IsCapture told → told ≡ text)
+
+-- the streams are those of the capture that the source gave; or it has this fault, or the source's count of faults
+-- rose, or stands at its last value; want of memory is free
+abbrev pub HasReadStreams : {S : Type 0} → (S → Option (List ℕ)) → (S → ℕ) → S → S
+    → Result (List (List (List ℕ))) Stop → Type 0
+HasReadStreams rest faults first now (Ok streams) = HasGivenStreams (rest first) (rest now) streams
+HasReadStreams rest faults first now (Err (Refused (Capture fault))) =
+    IfSome (rest first) (λ text. HasCaptureFault text fault)
+HasReadStreams rest faults first now (Err (Refused other)) = ⊥
+HasReadStreams rest faults first now (Err ReadFault) = Rose (faults first) (faults now)
+HasReadStreams rest faults first now (Err NoMemory) = ⊤

@@ -1,0 +1,140 @@
+-- What was read of a source, piece after piece, and what a part makes of its bytes. No public clause cites this module.
+use Rattle.std.specs.Prelude.{◌≡◌, ◌⊎◌, ℕ, ◌<◌, ◌≤◌, Bool, true, false, List, [], ◌++◌, length, Option, None, Result, Ok, Err, IfSome, ⊤}
+use Rattle.std.specs.Io.KnownBytes.{Consumes, IsAtEnd}
+use Rattle.zy_base.specs.Outside.{Rose}
+use Rattle.zy_base.specs.declared.outside.Failed.{Failed}
+use Rattle.zy_read.specs.Format.{Format, fault_met, verdict_on}
+use Rattle.zy_check_input.specs.declared.stop.Refusal.{Refusal}
+use Rattle.zy_check_input.specs.declared.stop.Stop.{Stop}
+use Rattle.zy_check_input.specs.declared.stop.Stop.TheVariants.{Refused, ReadFault, NoMemory}
+
+-- ---- a source in pieces
+
+-- since a source was the first one it gave these bytes, and then what is left of the piece
+pub record HasGiven {S : Type 0} (rest : S → Option (List ℕ)) (faults : S → ℕ) (first now : S)
+    (left taken : List ℕ) : Type 0 where
+  pub source : Consumes (rest first) (rest now) (taken ++ left)
+  pub count : faults first ≤ faults now
+
+-- nothing is left of the piece, and the source is at its end
+abbrev pub IsOver : Option (List ℕ) → List ℕ → Type 0
+IsOver rest left = (left ≡ []) × IsAtEnd rest
+
+-- there are bytes, or none are left, or the count of faults rose, or stands at its last value
+abbrev pub Refills : {S : Type 0} → (S → Option (List ℕ)) → (S → ℕ) → S → S → List ℕ → List ℕ → Result Bool Failed
+    → Type 0
+Refills rest faults first now left taken (Ok true) = HasGiven rest faults first now left taken
+Refills rest faults first now left taken (Ok false) = HasGiven rest faults first now left taken × IsOver (rest now) left
+Refills rest faults first now left taken (Err failed) = Rose (faults first) (faults now)
+
+-- ---- a part
+
+-- a kind of part, which a reader reads and which gives something
+pub record Kind (P T : Type 0) : Type 1 where
+  -- these bytes brought the reader to where it is
+  pub stands : P → List ℕ → Type 0
+  -- the bytes have no fault so far, and the part goes on
+  pub goes_on : List ℕ → Type 0
+  -- the bytes are the whole part, whatever follows
+  pub whole : List ℕ → Type 0
+  -- the text is a part that gives this
+  pub gives : T → List ℕ → Type 0
+  -- the text has this fault, and doesn't begin with a whole part
+  pub faulty : List ℕ → Refusal → Type 0
+
+-- where bytes that are taken lead: the part goes on or is whole, or has a fault whatever follows; want of memory is
+-- free
+abbrev pub Takes : {P T : Type 0} → Kind P T → P → List ℕ → Result Bool Stop → Type 0
+Takes kind now bytes (Ok false) = kind.stands now bytes × kind.goes_on bytes
+Takes kind now bytes (Ok true) = kind.stands now bytes × kind.whole bytes
+Takes kind now bytes (Err (Refused refusal)) = (more : List ℕ) → kind.faulty (bytes ++ more) refusal
+Takes kind now bytes (Err ReadFault) = ⊥
+Takes kind now bytes (Err NoMemory) = ⊤
+
+-- what a whole part gives; want of memory is free
+abbrev pub EndsWhole : {P T : Type 0} → Kind P T → List ℕ → Result T Stop → Type 0
+EndsWhole kind bytes (Ok gave) = kind.gives gave bytes
+EndsWhole kind bytes (Err (Refused refusal)) = ⊥
+EndsWhole kind bytes (Err ReadFault) = ⊥
+EndsWhole kind bytes (Err NoMemory) = ⊤
+
+-- what a part gives where the input ends; want of memory is free
+abbrev pub EndsCut : {P T : Type 0} → Kind P T → List ℕ → Result T Stop → Type 0
+EndsCut kind bytes (Ok gave) = kind.gives gave bytes
+EndsCut kind bytes (Err (Refused refusal)) = kind.faulty bytes refusal
+EndsCut kind bytes (Err ReadFault) = ⊥
+EndsCut kind bytes (Err NoMemory) = ⊤
+
+-- ---- a part of a source
+
+-- the text is what came before the part, and then a text with this fault
+pub record HasFaultBehind {P T : Type 0} (kind : Kind P T) (before text : List ℕ) (refusal : Refusal) : Type 0 where
+  pub rest : List ℕ
+  pub whole : text ≡ before ++ rest
+  pub faulty : kind.faulty rest refusal
+
+-- the cause of each stop in a part: the fault is one that a part of this kind may have, and that of what the source
+-- told
+abbrev pub StopsBy : {P T S : Type 0} → Kind P T → (S → Option (List ℕ)) → (S → ℕ) → S → S → List ℕ → Stop → Type 0
+StopsBy kind rest faults first now before (Refused refusal) =
+    ((text : List ℕ) × kind.faulty text refusal) × IfSome (rest first) (λ text. HasFaultBehind kind before text refusal)
+StopsBy kind rest faults first now before ReadFault = Rose (faults first) (faults now)
+StopsBy kind rest faults first now before NoMemory = ⊤
+
+-- the reader stands for these bytes of the part, which goes on
+pub record IsReading {P T S : Type 0} (kind : Kind P T) (rest : S → Option (List ℕ)) (faults : S → ℕ) (first now : S)
+    (left before bytes : List ℕ) (reader : P) : Type 0 where
+  pub given : HasGiven rest faults first now left (before ++ bytes)
+  pub stands : kind.stands reader bytes
+  pub goes_on : kind.goes_on bytes
+
+-- the reader stands for all bytes of the part, or of the source
+pub record HasStopped {P T S : Type 0} (kind : Kind P T) (rest : S → Option (List ℕ)) (faults : S → ℕ) (first now : S)
+    (left before : List ℕ) (reader : P) : Type 0 where
+  pub bytes : List ℕ
+  pub given : HasGiven rest faults first now left (before ++ bytes)
+  pub stands : kind.stands reader bytes
+  pub end : kind.whole bytes ⊎ (kind.goes_on bytes × IsOver (rest now) left)
+
+-- the part goes on after some bytes more, or is read no further
+abbrev pub Advances : {P T S : Type 0} → Kind P T → (S → Option (List ℕ)) → (S → ℕ) → S → S → List ℕ → List ℕ → List ℕ
+    → P → Result Bool Stop → Type 0
+Advances kind rest faults first now left before bytes reader (Ok false) =
+    (more : List ℕ) × (0 < length more) × IsReading kind rest faults first now left before (bytes ++ more) reader
+Advances kind rest faults first now left before bytes reader (Ok true) =
+    HasStopped kind rest faults first now left before reader
+Advances kind rest faults first now left before bytes reader (Err stop) = StopsBy kind rest faults first now before stop
+
+-- the reader was fed the whole part, or all that is left of the source
+abbrev pub Feeds : {P T S : Type 0} → Kind P T → (S → Option (List ℕ)) → (S → ℕ) → S → S → List ℕ → List ℕ → P
+    → Result ⊤ Stop → Type 0
+Feeds kind rest faults first now left before reader (Ok done) = HasStopped kind rest faults first now left before reader
+Feeds kind rest faults first now left before reader (Err stop) = StopsBy kind rest faults first now before stop
+
+-- the source gave a part behind what it gave before: one that is whole, or all that is left of it
+pub record HasRead {P T S : Type 0} (kind : Kind P T) (rest : S → Option (List ℕ)) (faults : S → ℕ) (first now : S)
+    (left before : List ℕ) (gave : T) : Type 0 where
+  pub bytes : List ℕ
+  pub given : HasGiven rest faults first now left (before ++ bytes)
+  pub gives : kind.gives gave bytes
+  pub end : kind.whole bytes ⊎ IsOver (rest now) left
+
+-- a part was read, or it is read no further
+abbrev pub Reads : {P T S : Type 0} → Kind P T → (S → Option (List ℕ)) → (S → ℕ) → S → S → List ℕ → List ℕ
+    → Result T Stop → Type 0
+Reads kind rest faults first now left before (Ok gave) = HasRead kind rest faults first now left before gave
+Reads kind rest faults first now left before (Err stop) = StopsBy kind rest faults first now before stop
+
+-- ---- texts of a format
+
+-- the text is whole
+abbrev pub IsWhole : {P G F V : Type 0} → Format P G F V → (V → Bool) → List ℕ → Type 0
+IsWhole format good text = good (verdict_on format text) ≡ true
+
+-- no fault was met in the text, and it is not whole
+abbrev pub GoesOn : {P G F V : Type 0} → Format P G F V → (V → Bool) → List ℕ → Type 0
+GoesOn format good text = (fault_met format text ≡ None) × (good (verdict_on format text) ≡ false)
+
+-- no first part of the text is whole
+abbrev pub HasNoWhole : {P G F V : Type 0} → Format P G F V → (V → Bool) → List ℕ → Type 0
+HasNoWhole format good text = (front back : List ℕ) → text ≡ front ++ back → ¬ IsWhole format good front

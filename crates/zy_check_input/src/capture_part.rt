@@ -1,0 +1,199 @@
+//! Reading the capture, whose records go into streams.
+ghost use Rattle.std.specs.Prelude.{◌≡◌, ◌<◌, ◌≤◌, ◌^◌, ◌++◌, ◌∷◌, [], ℕ, List, length, take, true, None, Some, Ok, IfOk, IfErr, OnOk, option_to_list};
+ghost use Rattle.zy_capture.specs.declared.record.Record.{Record};
+ghost use Rattle.zy_capture.specs.Standing.{StandsFor};
+ghost use Rattle.zy_capture.specs.Streams.{sessions_of, with_record};
+ghost use Rattle.zy_check_input.specs.declared.stop.Stop.TheVariants as Stops;
+ghost use Rattle.zy_capture.specs.Verdict.{fault_of, is_within_record};
+ghost use Rattle.zy_check_input.specs.Reading.{Takes};
+ghost use Rattle.zy_check_input.specs.Kinds.{KeepsStreams, capture_kind};
+
+use crate::part::{Part, Taken};
+use crate::stop::{Refusal, Stop};
+use std::alloc::Global;
+use zy_base::NoMemory;
+use zy_capture::{FeedFault, Reader, Record, Streams};
+use zy_read::Fed;
+
+/// The reader of the capture, and the streams of the records that it gave.
+#[derive(Drop)]
+pub(crate) struct CapturePart {
+    alloc: Global,
+    reader: Reader,
+    streams: Option<Streams>,
+}
+
+impl CapturePart {
+    // No byte was taken yet.
+    pub(crate) fn new(alloc: Global) -> CapturePart
+        ensures reader { StandsFor result.reader [] [] }
+        ensures none { result.streams ≡ None }
+    {
+        CapturePart {
+            alloc,
+            reader: Reader::new(alloc),
+            streams: None,
+        }
+    }
+
+    // Makes the streams where the count is known and they were not made.
+    fn begin(&mut self) -> Result<(), NoMemory>
+        ensures reader { self.new.reader ≡ self.old.reader }
+        ensures value { (given : List Record) → KeepsStreams self.old.streams given
+            → OnOk result (KeepsStreams self.new.streams given) }
+    {
+        if self.streams.is_some() {
+            return Ok(());
+        }
+        match self.reader.count() {
+            Some(count) if count <= 4096 => match Streams::new(self.alloc, count) {
+                Ok(streams) => {
+                    self.streams = Some(streams);
+                    Ok(())
+                }
+                Err(NoMemory) => Err(NoMemory),
+            },
+            _ => Ok(()),
+        }
+    }
+
+    // Adds a record to the streams.
+    fn add(&mut self, item: &Record) -> Result<(), NoMemory>
+        ensures reader { self.new.reader ≡ self.old.reader }
+        ensures value { (given : List Record) → KeepsStreams self.old.streams given
+            → OnOk result (KeepsStreams self.new.streams (given ++ item.now ∷ [])) }
+    {
+        match &mut self.streams {
+            Some(streams) => add_record(streams, item),
+            // A reader gives no record before the count.
+            None => Err(NoMemory),
+        }
+    }
+
+    // Keeps what the reader gave.
+    fn keep(&mut self, gave: Option<Record>) -> Result<(), NoMemory>
+        ensures reader { self.new.reader ≡ self.old.reader }
+        ensures value { (given : List Record) → KeepsStreams self.old.streams given
+            → OnOk result (KeepsStreams self.new.streams (given ++ option_to_list gave)) }
+    {
+        match gave {
+            Some(item) => self.add(&item),
+            None => self.begin(),
+        }
+    }
+
+    // Keeps what the reader gave for some bytes. Gives whether the capture is whole.
+    fn go_on(&mut self, gave: Option<Record>) -> Result<bool, Stop>
+        ensures value { (given : List Record) (bytes : List ℕ)
+            → StandsFor self.old.reader (given ++ option_to_list gave) bytes
+            → fault_of bytes ≡ None → KeepsStreams self.old.streams given
+            → Takes capture_kind self.new bytes result }
+    {
+        match self.keep(gave) {
+            Ok(()) => Ok(self.reader.is_done()),
+            Err(NoMemory) => Err(Stop::NoMemory),
+        }
+    }
+
+    // Takes one byte. Gives whether the capture is whole.
+    fn take_byte(&mut self, byte: u8) -> Result<bool, Stop>
+        ensures value { (bytes : List ℕ) → capture_kind.stands self.old bytes
+            → capture_kind.goes_on bytes → Takes capture_kind self.new (bytes ++ byte ∷ []) result }
+    {
+        match self.reader.feed(byte) {
+            Ok(gave) => self.go_on(gave),
+            Err(FeedFault::Fault(fault)) => Err(Stop::Refused(Refusal::Capture(fault))),
+            Err(FeedFault::NoMemory) => Err(Stop::NoMemory),
+        }
+    }
+
+    // Takes bytes of a record, up to its end at most.
+    fn take_piece(&mut self, next: &[u8]) -> Taken
+        requires some { 0 < length next.now }
+        ensures within { result.count ≤ length next.now }
+        ensures taken { (whole : _) → result.answer ≡ Ok whole → 0 < result.count }
+        ensures value { (bytes : List ℕ) → capture_kind.stands self.old bytes
+            → capture_kind.goes_on bytes → is_within_record bytes ≡ true
+            → Takes capture_kind self.new (bytes ++ take result.count next.now) result.answer }
+    {
+        let Fed { taken, answer } = self.reader.feed_piece(next);
+        match answer {
+            Ok(gave) => Taken {
+                count: taken,
+                answer: self.go_on(gave),
+            },
+            Err(FeedFault::Fault(fault)) => Taken {
+                count: taken,
+                answer: Err(Stop::Refused(Refusal::Capture(fault))),
+            },
+            Err(FeedFault::NoMemory) => Taken {
+                count: taken,
+                answer: Err(Stop::NoMemory),
+            },
+        }
+    }
+}
+
+impl Part for CapturePart {
+    type Gives = Streams;
+
+    ghost kind = { capture_kind };
+
+    // Within a record the end of the capture doesn't come; elsewhere it may be the next byte.
+    fn take(&mut self, next: &[u8]) -> Taken {
+        if self.reader.is_within_record() {
+            return self.take_piece(next);
+        }
+        Taken {
+            count: 1,
+            answer: self.take_byte(next[0]),
+        }
+    }
+
+    fn end(self) -> Result<Streams, Stop> {
+        let CapturePart {
+            reader,
+            streams,
+            ..
+        } = self;
+        if let Err(fault) = reader.end() {
+            return Err(Stop::Refused(Refusal::Capture(fault)));
+        }
+        match streams {
+            Some(streams) => checked(streams, reader.count()),
+            // A capture that is whole has told its count.
+            None => Err(Stop::NoMemory),
+        }
+    }
+}
+
+// The streams, where they are as many as the count. Those of a whole capture are.
+fn checked(streams: Streams, count: Option<u32>) -> Result<Streams, Stop>
+    ensures value { IfOk result (λ same. (same ≡ streams) × (count ≡ Some (length streams))) }
+    ensures memory { IfErr result (λ stop. stop ≡ Stops.NoMemory) }
+{
+    match count {
+        Some(count) if count == streams.count() => Ok(streams),
+        _ => Err(Stop::NoMemory),
+    }
+}
+
+// Adds a record to streams. A record of another connection, or a close of one that has no room for a
+// further session, is refused; a reader gives none.
+fn add_record(streams: &mut Streams, item: &Record) -> Result<(), NoMemory>
+    ensures ok { OnOk result (streams.new ≡ with_record streams.old item.now) }
+{
+    match item {
+        Record::Segment(segment) if segment.conn < streams.count() => streams.add(segment),
+        Record::Close { conn } if has_room(streams, *conn) => streams.close(*conn),
+        _ => Err(NoMemory),
+    }
+}
+
+// There is such a connection, and it has room for a further session.
+fn has_room(streams: &Streams, conn: u32) -> bool
+    ensures value { result ≡ true → (conn < length streams.now)
+        × (length (sessions_of streams.now conn) < 2 ^ 31) }
+{
+    conn < streams.count() && streams.sessions(conn) < 2_147_483_648
+}

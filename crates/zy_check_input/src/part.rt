@@ -1,0 +1,101 @@
+//! Reading one part of an input.
+ghost use Rattle.std.specs.Prelude.{◌≡◌, ◌<◌, ◌≤◌, ℕ, List, [], ◌++◌, length, take, Ok};
+ghost use Rattle.zy_check_input.specs.Reading.{Kind, HasGiven, IsReading, Takes, EndsWhole, EndsCut, Advances, Feeds, Reads};
+
+use crate::pieces::Pieces;
+use crate::stop::Stop;
+use zy_base::{Failed, Source};
+
+/// How many bytes a part took, and whether it is whole with them.
+#[derive(Clone, Copy, Debug, PartialEq, Eq)]
+pub(crate) struct Taken {
+    pub(crate) count: usize,
+    pub(crate) answer: Result<bool, Stop>,
+}
+
+/// The reader of a part.
+pub(crate) trait Part: Drop {
+    /// What the part gives.
+    type Gives;
+
+    // What its bytes mean.
+    ghost kind: { Kind Self Self.Gives };
+
+    // Takes some first bytes of those that come next, none of them behind the end of the part.
+    fn take(&mut self, next: &[u8]) -> Taken
+        requires some { 0 < length next.now }
+        ensures within { result.count ≤ length next.now }
+        ensures taken { (whole : _) → result.answer ≡ Ok whole → 0 < result.count }
+        ensures value { (bytes : List ℕ) → kind.stands self.old bytes → kind.goes_on bytes
+            → Takes kind self.new (bytes ++ take result.count next.now) result.answer };
+
+    // What the bytes give that were taken, or what they lack.
+    fn end(self) -> Result<Self::Gives, Stop>
+        ensures whole { (bytes : List ℕ) → kind.stands self bytes → kind.whole bytes
+            → EndsWhole kind bytes result }
+        ensures cut { (bytes : List ℕ) → kind.stands self bytes → kind.goes_on bytes
+            → EndsCut kind bytes result };
+}
+
+// Reads a part to its end, or to that of the source.
+pub(crate) fn read_part<P: Part, S: Source>(
+    part: P,
+    pieces: &mut Pieces,
+    source: &mut S,
+) -> Result<P::Gives, Stop>
+    ensures value { (first : S) (before : List ℕ)
+        → IsReading P.kind S.rest S.faults first source.old pieces.old before [] part
+        → Reads P.kind S.rest S.faults first source.new pieces.new before result }
+    ensures count { S.faults source.old ≤ S.faults source.new }
+{
+    let mut part = part;
+    match feed_all(&mut part, pieces, source) {
+        Ok(()) => part.end(),
+        Err(stop) => Err(stop),
+    }
+}
+
+// Feeds the reader up to the end of the part, or of the source.
+fn feed_all<P: Part, S: Source>(
+    part: &mut P,
+    pieces: &mut Pieces,
+    source: &mut S,
+) -> Result<(), Stop>
+    ensures value { (first : S) (before : List ℕ)
+        → IsReading P.kind S.rest S.faults first source.old pieces.old before [] part.old
+        → Feeds P.kind S.rest S.faults first source.new pieces.new before part.new result }
+    ensures count { S.faults source.old ≤ S.faults source.new }
+{
+    for _ in 0..u64::MAX {
+        match advance(part, pieces, source) {
+            Ok(false) => {}
+            Ok(true) => return Ok(()),
+            Err(stop) => return Err(stop),
+        }
+    }
+    // No part has so many bytes.
+    Err(Stop::NoMemory)
+}
+
+// Feeds the reader some bytes. Gives whether there is nothing more to feed.
+fn advance<P: Part, S: Source>(
+    part: &mut P,
+    pieces: &mut Pieces,
+    source: &mut S,
+) -> Result<bool, Stop>
+    ensures value { (first : S) (before bytes : List ℕ)
+        → IsReading P.kind S.rest S.faults first source.old pieces.old before bytes part.old
+        → Advances P.kind S.rest S.faults first source.new pieces.new before bytes part.new
+        result }
+    ensures count { S.faults source.old ≤ S.faults source.new }
+{
+    match pieces.refill(source) {
+        Ok(true) => {
+            let Taken { count, answer } = part.take(pieces.left());
+            pieces.pass(count);
+            answer
+        }
+        Ok(false) => Ok(true),
+        Err(Failed) => Err(Stop::ReadFault),
+    }
+}

@@ -1,0 +1,45 @@
+//! Worked examples of the definitions: the function does nothing, and its contract is what they compute.
+ghost use Rattle.std.specs.Prelude.{◌≡◌, ℕ, List, [], ◌∷◌, codes, Some, None};
+ghost use Rattle.zy_command_line.specs.Grammar.{Word};
+ghost use Rattle.zy_command_line.specs.Range.{IsRunnable, AreShards, IsMakeable};
+ghost use Rattle.zy_command_line.specs.declared.request.Run.{Run};
+ghost use Rattle.zy_command_line.specs.declared.request.Traffic.{Traffic};
+ghost use Rattle.zy_command_line.specs.declared.request.Out.{Out};
+ghost use Rattle.zy_command_line.specs.Request.{request_of};
+ghost use Rattle.zy_command_line.specs.declared.request.Request.TheVariants as Requests;
+ghost use Rattle.zy_command_line.specs.declared.request.Out.TheVariants as Outs;
+
+/// Worked words, and what they ask for.
+#[tactic(auto, unfolding(crate::specs::Grammar::options_from))]
+pub fn worked_requests()
+    ensures empty { request_of [] ≡ None }
+    ensures defaults { request_of (codes "run" ∷ [])
+        ≡ Some (Requests.Run (record { cores = 4; threads = 4; order = None; shards = 16 }) Outs.Replies) }
+    ensures both_forms { request_of (codes "run" ∷ codes "--out=both" ∷ codes "--cores" ∷ codes "2" ∷ [])
+        ≡ Some (Requests.Run (record { cores = 2; threads = 2; order = None; shards = 16 }) Outs.Both) }
+    ensures order { request_of (codes "run" ∷ codes "--threads" ∷ codes "1" ∷ codes "--order" ∷ codes "7" ∷ [])
+        ≡ Some (Requests.Run (record { cores = 4; threads = 1; order = Some 7; shards = 16 }) Outs.Replies) }
+    ensures threaded_order { request_of (codes "run" ∷ codes "--cores" ∷ codes "2" ∷ codes "--order" ∷ codes "1" ∷ [])
+        ≡ None }
+    ensures no_core { request_of (codes "run" ∷ codes "--cores" ∷ codes "0" ∷ []) ≡ None }
+    ensures twice { request_of (codes "run" ∷ codes "--cores" ∷ codes "2" ∷ codes "--cores" ∷ codes "2" ∷ []) ≡ None }
+    ensures dashes { request_of (codes "run" ∷ codes "--" ∷ []) ≡ None }
+    ensures other_out { request_of (codes "run" ∷ codes "--out=x" ∷ []) ≡ None }
+    ensures other_command { request_of (codes "check" ∷ codes "--cores=1" ∷ []) ≡ None }
+    ensures too_much { request_of (codes "gen" ∷ codes "--conns=1001" ∷ codes "--commands=1000" ∷ []) ≡ None }
+{}
+
+/// A lawful run has 1 to 64 cores, 1 to as many threads, and 1 to 256 shards; a check has 1 to 256
+/// shards; made traffic has 1 to 4,096 connections and at most 1,000,000 commands.
+pub fn requests_are_in_their_ranges()
+    ensures run { (words : List Word) (run : Run) (out : Out)
+        → request_of words ≡ Some (Requests.Run run out) → IsRunnable run }
+    ensures check { (words : List Word) (shards : ℕ)
+        → request_of words ≡ Some (Requests.Check shards) → AreShards shards }
+    ensures traffic { (words : List Word) (traffic : Traffic)
+        → request_of words ≡ Some (Requests.Gen traffic) → IsMakeable traffic }
+    ensures self_traffic { (words : List Word) (traffic : Traffic) (run : Run)
+        → request_of words ≡ Some (Requests.SelfTest traffic run) → IsMakeable traffic }
+    ensures self_run { (words : List Word) (traffic : Traffic) (run : Run)
+        → request_of words ≡ Some (Requests.SelfTest traffic run) → IsRunnable run }
+{}

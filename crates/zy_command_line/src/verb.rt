@@ -1,0 +1,39 @@
+//! The commands of the program, and the options that each takes.
+ghost use Rattle.std.specs.Prelude.{◌≡◌, map};
+ghost use Rattle.zy_command_line.specs.Request.{verb_named, names_of};
+
+/// A command of the program.
+#[derive(Clone, Copy)]
+pub(crate) enum Verb {
+    Run,
+    Check,
+    Gen,
+    SelfTest,
+}
+
+/// The command that a word names.
+pub(crate) fn verb_named(word: &[u8]) -> Option<Verb>
+    ensures value { result ≡ verb_named word.now }
+{
+    match word {
+        b"run" => Some(Verb::Run),
+        b"check" => Some(Verb::Check),
+        b"gen" => Some(Verb::Gen),
+        b"self" => Some(Verb::SelfTest),
+        _ => None,
+    }
+}
+
+/// The names of the options that a command takes.
+pub(crate) fn names_of(verb: Verb) -> &'static [&'static str]
+    ensures value { map (λ name. name.now) result.now ≡ names_of verb }
+{
+    match verb {
+        Verb::Run => &["cores", "threads", "order", "out", "shards"],
+        Verb::Check => &["shards"],
+        Verb::Gen => &["number", "conns", "commands"],
+        Verb::SelfTest => &[
+            "number", "conns", "commands", "cores", "threads", "order", "shards",
+        ],
+    }
+}

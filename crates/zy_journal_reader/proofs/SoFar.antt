@@ -1,0 +1,159 @@
+-- What was read of a journal text so far, and what is known of it.
+use Rattle.std.proofs.Common.{◌≡◌, ◌⊎◌, ℕ, ◌<◌, ◌≤◌, ◌^◌, List, [], ◌∷◌, ◌++◌, length, take}
+use Rattle.std.specs.Prelude.{None, flat_map, ⊤}
+use Rattle.std.specs.List.{AllByRecursion}
+use Rattle.std.specs.Int.{to_be_bytes, w32, w64}
+use Rattle.zy_base.specs.declared.call.Call.{Call}
+use Rattle.zy_base.specs.declared.entry.Entry.{Entry}
+use Rattle.zy_base.specs.declared.hold.Hold.{Hold}
+use Rattle.zy_base.specs.Order.{IsOrdered}
+use Rattle.zy_base.specs.Shard.{value_limit}
+use Rattle.zy_journal.specs.Journal.{magic, key_text, call_text, entry_text, hold_text, IsKey, IsCall, IsEntry, IsHold, AreByConnection}
+use Rattle.zy_journal_reader.specs.declared.draft.Draft.{Draft}
+use Rattle.zy_journal_reader.specs.declared.past.Past.{Past}
+use Rattle.zy_journal_reader.specs.declared.due.Due.{Due}
+use Rattle.zy_journal_reader.specs.declared.due.Due.TheVariants.{Byte, Number, Long, Bytes, Nothing, Broken}
+use Rattle.zy_journal_reader.specs.declared.due.ByteField.TheVariants.{Magic, CallCode, KeyLength, ReplyCode}
+use Rattle.zy_journal_reader.specs.declared.due.NumberField.TheVariants.{Shard, Connection, Part, Flags, ValueLength, FoundFlags, FoundLength, HoldConnection, HoldCore, HoldCount}
+use Rattle.zy_journal_reader.specs.declared.due.LongField.TheVariants.{Stamp, Index, CallNumber, FoundUnique, ReplyNumber}
+use Rattle.zy_journal_reader.specs.declared.due.BytesField.TheVariants.{Key, Value, FoundValue}
+use Rattle.zy_journal_reader.specs.Fields.{call_of}
+use Rattle.zy_journal_reader.specs.Steps.{Progress, journal_limit}
+use Rattle.zy_journal_reader.specs.Verdict.{FitsCall, FitsEntry, AreBytes}
+use Rattle.zy_journal_reader.proofs.CallLemmas.{code_of, HasKey, HasFlags, NumberKnown, ValueKnown, before_number, before_value}
+
+-- the bytes before the record that is read
+abbrev pub front : List Entry → List Hold → List ℕ
+front es hs = magic ++ (flat_map entry_text es ++ flat_map hold_text hs)
+
+-- the bytes of a record up to its call
+abbrev pub head : Draft → List ℕ
+head d = 74 ∷ (to_be_bytes w64 d.stamp ++ (to_be_bytes w32 d.shard ++ (to_be_bytes w32 d.conn ++ (to_be_bytes w64 d.index ++ to_be_bytes w32 d.part))))
+
+-- the call that was read
+abbrev pub call_in : Draft → Call
+call_in d = call_of d.kind d.key d.flags d.number d.value
+
+-- the bytes of the record that stand before what is due
+abbrev pub before : Due → Draft → List ℕ
+before (Byte CallCode) d = head d
+before (Byte KeyLength) d = head d ++ code_of d.kind ∷ []
+before (Byte ReplyCode) d = head d ++ call_text (call_in d)
+before (Number Shard) d = 74 ∷ to_be_bytes w64 d.stamp
+before (Number Connection) d = 74 ∷ (to_be_bytes w64 d.stamp ++ to_be_bytes w32 d.shard)
+before (Number Part) d = 74 ∷ (to_be_bytes w64 d.stamp ++ (to_be_bytes w32 d.shard ++ (to_be_bytes w32 d.conn ++ to_be_bytes w64 d.index)))
+before (Number Flags) d = head d ++ (code_of d.kind ∷ key_text d.key)
+before (Number ValueLength) d = head d ++ (code_of d.kind ∷ (key_text d.key ++ before_value d.kind d.flags d.number))
+before (Number FoundFlags) d = head d ++ (call_text (call_in d) ++ 2 ∷ [])
+before (Number FoundLength) d = head d ++ (call_text (call_in d) ++ 2 ∷ (to_be_bytes w32 d.found_flags ++ to_be_bytes w64 d.found_unique))
+before (Number HoldConnection) d = 72 ∷ []
+before (Number HoldCore) d = 72 ∷ to_be_bytes w32 d.conn
+before (Number HoldCount) d = 72 ∷ (to_be_bytes w32 d.conn ++ to_be_bytes w32 d.core)
+before (Long Stamp) d = 74 ∷ []
+before (Long Index) d = 74 ∷ (to_be_bytes w64 d.stamp ++ (to_be_bytes w32 d.shard ++ to_be_bytes w32 d.conn))
+before (Long CallNumber) d = head d ++ (code_of d.kind ∷ (key_text d.key ++ before_number d.kind d.flags))
+before (Long FoundUnique) d = head d ++ (call_text (call_in d) ++ 2 ∷ to_be_bytes w32 d.found_flags)
+before (Long ReplyNumber) d = head d ++ (call_text (call_in d) ++ 8 ∷ [])
+before (Bytes Key) d = head d ++ (code_of d.kind ∷ d.size ∷ [])
+before (Bytes Value) d = head d ++ (code_of d.kind ∷ (key_text d.key ++ (before_value d.kind d.flags d.number ++ to_be_bytes w32 d.size)))
+before (Bytes FoundValue) d = head d ++ (call_text (call_in d) ++ 2 ∷ (to_be_bytes w32 d.found_flags ++ (to_be_bytes w64 d.found_unique ++ to_be_bytes w32 d.size)))
+before due d = []
+
+-- the bytes of what is due that were read
+abbrev pub pending : Due → Progress → List ℕ
+pending (Bytes field) p = p.payload
+pending due p = p.field
+
+-- the bytes that lead to where this is due
+abbrev pub bytes_of : Due → Progress → List ℕ
+bytes_of (Byte Magic) p = take p.at magic
+bytes_of Nothing p = front p.entries p.holds ++ 69 ∷ []
+bytes_of due p = front p.entries p.holds ++ (before due p.draft ++ pending due p)
+
+-- an entry comes after the last one
+abbrev pub ComesAfter : Past → Entry → Type 0
+ComesAfter past e = (past.stamp < e.stamp) ⊎ ((past.stamp ≡ e.stamp) × (past.shard < e.shard))
+
+-- the entries and the holds so far are those of a journal
+pub record Kept (es : List Entry) (hs : List Hold) (past : Past) : Type 0 where
+  pub ordered : IsOrdered None es
+  pub entries : AllByRecursion IsEntry es
+  pub fits : AllByRecursion FitsEntry es
+  pub rising : AreByConnection 0 hs
+  pub holds : AllByRecursion IsHold hs
+  pub next : (e : Entry) → ComesAfter past e → IsOrdered None (es ++ e ∷ [])
+  pub next_hold : (h : Hold) → past.conn ≤ h.conn → AreByConnection 0 (hs ++ h ∷ [])
+
+-- what is known of an entry after its stamp, its shard, and so on
+abbrev pub StampKnown : Past → Draft → List Hold → Type 0
+StampKnown past d hs = (hs ≡ []) × (0 < d.stamp) × (d.stamp < 2 ^ 60) × (past.stamp ≤ d.stamp)
+
+abbrev pub ShardKnown : Past → Draft → List Hold → Type 0
+ShardKnown past d hs = StampKnown past d hs × (d.shard < 256) × ((past.stamp < d.stamp) ⊎ ((past.stamp ≡ d.stamp) × (past.shard < d.shard)))
+
+abbrev pub ConnectionKnown : Past → Draft → List Hold → Type 0
+ConnectionKnown past d hs = ShardKnown past d hs × (d.conn < 4096)
+
+abbrev pub IndexKnown : Past → Draft → List Hold → Type 0
+IndexKnown past d hs = ConnectionKnown past d hs × (d.index < 2 ^ 40)
+
+abbrev pub HeadKnown : Past → Draft → List Hold → Type 0
+HeadKnown past d hs = IndexKnown past d hs × (d.part < 2 ^ 32)
+
+abbrev pub CallKnown : Past → Draft → List Hold → Type 0
+CallKnown past d hs = HeadKnown past d hs × IsCall (call_in d) × FitsCall (call_in d)
+
+abbrev pub FoundKnown : Past → Draft → List Hold → Type 0
+FoundKnown past d hs = CallKnown past d hs × (d.found_flags < 2 ^ 32) × (d.found_unique < 2 ^ 64)
+
+-- what is known where this is due
+abbrev pub Known : Due → Past → Draft → List Hold → Type 0
+Known (Byte CallCode) past d hs = HeadKnown past d hs
+Known (Byte KeyLength) past d hs = HeadKnown past d hs × HasKey d.kind
+Known (Byte ReplyCode) past d hs = CallKnown past d hs
+Known (Number Shard) past d hs = StampKnown past d hs
+Known (Number Connection) past d hs = ShardKnown past d hs
+Known (Number Part) past d hs = IndexKnown past d hs
+Known (Number Flags) past d hs = HeadKnown past d hs × IsKey d.key × HasFlags d.kind
+Known (Number ValueLength) past d hs = HeadKnown past d hs × IsKey d.key × ValueKnown d.kind d.flags d.number
+Known (Number FoundFlags) past d hs = CallKnown past d hs
+Known (Number FoundLength) past d hs = FoundKnown past d hs
+Known (Number HoldConnection) past d hs = ⊤
+Known (Number HoldCore) past d hs = (past.conn ≤ d.conn) × (d.conn < 4096)
+Known (Number HoldCount) past d hs = (past.conn ≤ d.conn) × (d.conn < 4096) × (d.core < 64)
+Known (Long Stamp) past d hs = hs ≡ []
+Known (Long Index) past d hs = ConnectionKnown past d hs
+Known (Long CallNumber) past d hs = HeadKnown past d hs × IsKey d.key × NumberKnown d.kind d.flags
+Known (Long FoundUnique) past d hs = CallKnown past d hs × (d.found_flags < 2 ^ 32)
+Known (Long ReplyNumber) past d hs = CallKnown past d hs
+Known (Bytes Key) past d hs = HeadKnown past d hs × HasKey d.kind × (d.size ≤ 250)
+Known (Bytes Value) past d hs = HeadKnown past d hs × IsKey d.key × ValueKnown d.kind d.flags d.number × (d.size ≤ value_limit)
+Known (Bytes FoundValue) past d hs = FoundKnown past d hs × (d.size ≤ value_limit)
+Known due past d hs = ⊤
+
+-- some bytes of a number
+abbrev pub IsField : ℕ → List ℕ → Type 0
+IsField most field = (length field ≤ most) × AreBytes field
+
+-- what is known of the bytes of what is due
+abbrev pub FieldKnown : Due → Progress → Type 0
+FieldKnown (Byte Magic) p = (p.at < 8) × (p.entries ≡ []) × (p.holds ≡ [])
+FieldKnown (Byte field) p = p.field ≡ []
+FieldKnown (Number field) p = IsField 3 p.field
+FieldKnown (Long field) p = IsField 7 p.field
+FieldKnown (Bytes field) p = length p.payload < p.draft.size
+FieldKnown due p = ⊤
+
+-- a text, read up to there without a fault
+pub record Parts (due : Due) (p : Progress) (text : List ℕ) : Type 0 where
+  pub bytes : text ≡ bytes_of due p
+  pub count : p.at ≡ length text
+  pub short : p.at ≤ journal_limit
+  pub kept : Kept p.entries p.holds p.past
+  pub field : FieldKnown due p
+  pub known : Known due p.past p.draft p.holds
+
+-- a text, read up to there
+abbrev pub IsReadTo : Due → Progress → List ℕ → Type 0
+IsReadTo (Broken fault) p text = ⊤
+IsReadTo due p text = Parts due p text

@@ -1,0 +1,188 @@
+-- A spelling of a journal that is not too long is read as that journal.
+use Rattle.std.proofs.Common.{◌≡◌, ◌⊎◌, inl, inr, ℕ, ◌+◌, ◌<◌, ◌≤◌, ◌^◌, List, [], ◌∷◌, ◌++◌, length, refl, sym, ◌∙◌, ap, subst, arith, append_assoc, length-append}
+use Rattle.std.specs.Prelude.{◌==◌, Option, None, Some, flat_map, ⊤}
+use Rattle.std.specs.List.{AllByRecursion}
+use Rattle.std.specs.Int.{to_be_bytes, w32, w64}
+use Rattle.std.proofs.lemmas.List.{append-nil}
+use Rattle.zy_base.specs.declared.call.Call.{Call}
+use Rattle.zy_base.specs.declared.call.Call.TheVariants as Calls
+use Rattle.zy_base.specs.declared.call_reply.CallReply.{CallReply}
+use Rattle.zy_base.specs.declared.entry.Entry.{Entry}
+use Rattle.zy_base.specs.declared.hold.Hold.{Hold}
+use Rattle.zy_base.specs.Order.{IsOrdered, IsBehind}
+use Rattle.zy_read.specs.Format.{Reading, read_on, reading_of, verdict_on}
+use Rattle.zy_journal.specs.declared.journal.Journal.{Journal}
+use Rattle.zy_journal.specs.Journal.{magic, call_text, reply_text, entry_head, entry_text, hold_text, journal_bytes, IsEntry, IsHold, AreByConnection}
+use Rattle.zy_journal_reader.specs.declared.draft.Draft.{Draft}
+use Rattle.zy_journal_reader.specs.declared.past.Past.{Past}
+use Rattle.zy_journal_reader.specs.declared.due.Due.TheVariants.{Byte, Number, Long, Nothing}
+use Rattle.zy_journal_reader.specs.declared.due.ByteField.TheVariants.{Tag, CallCode, ReplyCode}
+use Rattle.zy_journal_reader.specs.declared.due.NumberField.TheVariants.{Shard, Connection, Part, HoldConnection, HoldCore, HoldCount}
+use Rattle.zy_journal_reader.specs.declared.due.LongField.TheVariants.{Stamp, Index}
+use Rattle.zy_journal_reader.specs.Fields.{fresh}
+use Rattle.zy_journal_reader.specs.Steps.{Progress, start, after_byte, journal_limit}
+use Rattle.zy_journal_reader.specs.Verdict.{read_from, ended, verdict, FitsEntry, SpellsJournal}
+use Rattle.zy_journal_reader.specs.Verdict.Verdict.{Good}
+use Rattle.zy_journal_reader.proofs.PlaceLemmas.{place, Goes, both, goes_on, read_byte, one_byte, four_bytes, eight_bytes}
+use Rattle.zy_journal_reader.proofs.GoesLemmas.{between, below_is, stamp_is, shard_is, conn_is, known, call_goes, after, reply_goes}
+
+-- ---- entries
+
+-- an entry comes after the last one
+abbrev pub ComesAfter : Past → Entry → Type 0
+ComesAfter past e = (past.stamp < e.stamp) ⊎ ((past.stamp ≡ e.stamp) × (past.shard < e.shard))
+
+pub not_below : (past : Past) (e : Entry) → ComesAfter past e → past.stamp ≤ e.stamp
+not_below past e (inl higher) = omega arith
+not_below past e (inr same) = omega (arith, same.0)
+
+-- what is known before the call of an entry
+abbrev pub head_of : Entry → Draft
+head_of e = record fresh { stamp = e.stamp; shard = e.shard; conn = e.tag.conn; index = e.tag.index; part = e.tag.part }
+
+pub head_goes : (p : Progress) (e : Entry) → p.holds ≡ [] → IsEntry e → FitsEntry e → ComesAfter p.past e → Goes p fresh (Byte Tag) (entry_head e) p (head_of e) (Byte CallCode)
+unfolding entry_head
+head_goes p e none is fits comes =
+    let d1 : Draft = record fresh { stamp = e.stamp } in
+    let d2 : Draft = record d1 { shard = e.shard } in
+    let d3 : Draft = record d2 { conn = e.tag.conn } in
+    let d4 : Draft = record d3 { index = e.tag.index } in
+    let part : List ℕ = to_be_bytes w32 e.tag.part in
+    let index : List ℕ = to_be_bytes w64 e.tag.index in
+    let conn : List ℕ = to_be_bytes w32 e.tag.conn in
+    let shard : List ℕ = to_be_bytes w32 e.shard in
+    let stamp : List ℕ = to_be_bytes w64 e.stamp in
+    both (74 ∷ []) (stamp ++ (shard ++ (conn ++ (index ++ part)))) (one_byte p p fresh fresh Tag (Long Stamp) 74 (λ at. ap (λ (l : List Hold). length l == 0) none) (λ at. refl))
+    (both stamp (shard ++ (conn ++ (index ++ part))) (eight_bytes p p fresh d1 Stamp (Number Shard) e.stamp (omega (arith, is.few_stamps)) (λ at f. stamp_is e.stamp p.past.stamp is.some_stamp is.few_stamps (not_below p.past e comes)) (λ at f. refl))
+    (both shard (conn ++ (index ++ part)) (four_bytes p p d1 d2 Shard (Number Connection) e.shard (omega (arith, is.few_shards)) (λ at f. shard_is e.shard p.past.shard e.stamp p.past.stamp is.few_shards comes) (λ at f. refl))
+    (both conn (index ++ part) (four_bytes p p d2 d3 Connection (Long Index) e.tag.conn (omega (arith, is.few_connections)) (λ at f. below_is e.tag.conn 4096 is.few_connections) (λ at f. refl))
+    (both index part (eight_bytes p p d3 d4 Index (Number Part) e.tag.index (omega (arith, is.few_commands)) (λ at f. below_is e.tag.index (2 ^ 40) is.few_commands) (λ at f. refl))
+    (four_bytes p p d4 (head_of e) Part (Byte CallCode) e.tag.part fits.part (λ at f. refl) (λ at f. refl))))))
+
+-- the lists with an entry more
+abbrev pub with_entry : Progress → Entry → Progress
+with_entry p e = record p { entries = p.entries ++ e ∷ []; past = record p.past { stamp = e.stamp; shard = e.shard } }
+
+-- what was read of an entry is the entry
+pub is_whole : (p : Progress) (d : Draft) (call : Call) (reply : CallReply) → after p (known call d) reply
+    ≡ with_entry p (record { tag = record { conn = d.conn; index = d.index; part = d.part }; shard = d.shard; call = call; reply = reply; stamp = d.stamp })
+is_whole p d (Calls.Get key) reply = refl
+is_whole p d (Calls.Set key flags value) reply = refl
+is_whole p d (Calls.Add key flags value) reply = refl
+is_whole p d (Calls.Replace key flags value) reply = refl
+is_whole p d (Calls.Append key value) reply = refl
+is_whole p d (Calls.Prepend key value) reply = refl
+is_whole p d (Calls.Cas key flags unique value) reply = refl
+is_whole p d (Calls.Incr key amount) reply = refl
+is_whole p d (Calls.Decr key amount) reply = refl
+is_whole p d (Calls.Delete key) reply = refl
+is_whole p d Calls.Flush reply = refl
+
+pub entry_goes : (p : Progress) (e : Entry) → p.holds ≡ [] → IsEntry e → FitsEntry e → ComesAfter p.past e → Goes p fresh (Byte Tag) (entry_text e) (with_entry p e) fresh (Byte Tag)
+unfolding entry_text
+entry_goes p e none is fits comes =
+    both (entry_head e) (call_text e.call ++ reply_text e.reply) (head_goes p e none is fits comes)
+    (both (call_text e.call) (reply_text e.reply) (call_goes p (head_of e) e.call is.call fits.call)
+    (subst (λ (q : Progress). Goes p (known e.call (head_of e)) (Byte ReplyCode) (reply_text e.reply) q fresh (Byte Tag)) (is_whole p (head_of e) e.call e.reply)
+    (reply_goes p (known e.call (head_of e)) e.reply is.reply fits.reply)))
+
+-- the lists with some entries more
+abbrev pub with_entries : Progress → List Entry → Progress
+with_entries p [] = p
+with_entries p (e ∷ es) = with_entries (with_entry p e) es
+
+-- no text
+pub none_goes : (p : Progress) → Goes p fresh (Byte Tag) [] p fresh (Byte Tag)
+none_goes p = record { reads = λ at more room. ap (λ (k : ℕ). read_from (place p fresh (Byte Tag) k) more) (omega arith) }
+
+pub entries_go : (es : List Entry) (p : Progress) (before : Option Entry) → p.holds ≡ [] → AllByRecursion IsEntry es → AllByRecursion FitsEntry es → IsOrdered before es
+    → ((e : Entry) → 0 < e.stamp → IsBehind before e → ComesAfter p.past e) → Goes p fresh (Byte Tag) (flat_map entry_text es) (with_entries p es) fresh (Byte Tag)
+entries_go [] p before none all fits ordered comes = none_goes p
+entries_go (e ∷ es) p before none all fits ordered comes =
+    both (entry_text e) (flat_map entry_text es) (entry_goes p e none all.0 fits.0 (comes e all.0.some_stamp ordered.0))
+    (entries_go es (with_entry p e) (Some e) none all.1 fits.1 ordered.1 (λ x some behind. behind))
+
+-- ---- holds
+
+-- the lists with a hold more
+abbrev pub with_hold : Progress → Hold → Progress
+with_hold p h = record p { holds = p.holds ++ h ∷ []; past = record p.past { conn = h.conn } }
+
+pub hold_goes : (p : Progress) (h : Hold) → IsHold h → p.past.conn ≤ h.conn → Goes p fresh (Byte Tag) (hold_text h) (with_hold p h) fresh (Byte Tag)
+unfolding hold_text
+hold_goes p h is after_last =
+    let d1 : Draft = record fresh { conn = h.conn } in
+    let d2 : Draft = record d1 { core = h.core } in
+    let conn : List ℕ = to_be_bytes w32 h.conn in
+    let core : List ℕ = to_be_bytes w32 h.core in
+    let count : List ℕ = to_be_bytes w32 h.count in
+    both (72 ∷ []) (conn ++ (core ++ count)) (one_byte p p fresh fresh Tag (Number HoldConnection) 72 (λ at. refl) (λ at. refl))
+    (both conn (core ++ count) (four_bytes p p fresh d1 HoldConnection (Number HoldCore) h.conn (omega (arith, is.few_connections)) (λ at f. conn_is h.conn p.past.conn after_last is.few_connections) (λ at f. refl))
+    (both core count (four_bytes p p d1 d2 HoldCore (Number HoldCount) h.core (omega (arith, is.few_cores)) (λ at f. below_is h.core 64 is.few_cores) (λ at f. refl))
+    (four_bytes p (with_hold p h) d2 fresh HoldCount (Byte Tag) h.count (omega (arith, is.few_commands)) (λ at f. between h.count 1 64 is.some_commands is.few_commands) (λ at f. refl))))
+
+-- the lists with some holds more
+abbrev pub with_holds : Progress → List Hold → Progress
+with_holds p [] = p
+with_holds p (h ∷ hs) = with_holds (with_hold p h) hs
+
+pub holds_go : (hs : List Hold) (p : Progress) → AllByRecursion IsHold hs → AreByConnection p.past.conn hs → Goes p fresh (Byte Tag) (flat_map hold_text hs) (with_holds p hs) fresh (Byte Tag)
+holds_go [] p all rising = none_goes p
+holds_go (h ∷ hs) p all rising =
+    both (hold_text h) (flat_map hold_text hs) (hold_goes p h all.0 rising.0) (holds_go hs (with_hold p h) all.1 rising.1)
+
+-- ---- the whole
+
+pub entries_read : (es : List Entry) (p : Progress) → (with_entries p es).entries ≡ p.entries ++ es
+entries_read [] p = sym (append-nil p.entries)
+entries_read (e ∷ es) p = entries_read es (with_entry p e) ∙ append_assoc p.entries (e ∷ []) es
+
+pub entries_keep : (es : List Entry) (p : Progress) → (with_entries p es).holds ≡ p.holds
+entries_keep [] p = refl
+entries_keep (e ∷ es) p = entries_keep es (with_entry p e)
+
+pub entries_past : (es : List Entry) (p : Progress) → (with_entries p es).past.conn ≡ p.past.conn
+entries_past [] p = refl
+entries_past (e ∷ es) p = entries_past es (with_entry p e)
+
+pub holds_read : (hs : List Hold) (p : Progress) → (with_holds p hs).holds ≡ p.holds ++ hs
+holds_read [] p = sym (append-nil p.holds)
+holds_read (h ∷ hs) p = holds_read hs (with_hold p h) ∙ append_assoc p.holds (h ∷ []) hs
+
+pub holds_keep : (hs : List Hold) (p : Progress) → (with_holds p hs).entries ≡ p.entries
+holds_keep [] p = refl
+holds_keep (h ∷ hs) p = holds_keep hs (with_hold p h)
+
+pub read_magic : (more : List ℕ) → read_from start (magic ++ more) ≡ read_from (place start fresh (Byte Tag) 8) more
+unfolding read_on
+read_magic more = refl
+
+pub read_end : (p : Progress) (at : ℕ) → goes_on (after_byte Tag (place p fresh (Byte Tag) at) 69) [] ≡ record { given = tt ∷ []; last = place p fresh Nothing (at + 1) }
+unfolding read_on
+read_end p at = refl
+
+-- a spelling is good
+pub spells_good : (text : List ℕ) (journal : Journal) → SpellsJournal text journal → verdict text ≡ Good journal
+unfolding verdict_on reading_of journal_bytes
+spells_good text journal spells =
+    let entries : List ℕ = flat_map entry_text journal.entries in
+    let holds : List ℕ = flat_map hold_text journal.holds in
+    let p : Progress = with_entries start journal.entries in
+    let q : Progress = with_holds p journal.holds in
+    let whole : length (magic ++ (entries ++ (holds ++ 69 ∷ []))) ≤ journal_limit = subst (λ (l : List ℕ). length l ≤ journal_limit) spells.spelled spells.short in
+    let sizes : length (entries ++ (holds ++ 69 ∷ [])) ≡ length entries + (length holds + 1) = length-append entries (holds ++ 69 ∷ []) ∙ ap (λ (n : ℕ). length entries + n) (length-append holds (69 ∷ [])) in
+    let room : 8 + length entries + length holds + 1 ≤ journal_limit = omega (arith, whole, sizes) in
+    let first = entries_go journal.entries start None refl spells.readable.valid.entries spells.readable.fits spells.readable.valid.ordered (λ e some behind. inl some) in
+    let second = holds_go journal.holds p spells.readable.valid.holds (subst (λ (n : ℕ). AreByConnection n journal.holds) (sym (entries_past journal.entries start)) spells.readable.valid.rising) in
+    let stop : ℕ = 8 + length entries + length holds in
+    let read = read_magic (entries ++ (holds ++ 69 ∷ []))
+    ∙ first.reads 8 (holds ++ 69 ∷ []) (omega (arith, room))
+    ∙ second.reads (8 + length entries) (69 ∷ []) (omega (arith, room))
+    ∙ read_byte (place q fresh (Byte Tag) stop) 69 [] (omega (arith, room))
+    ∙ read_end q stop in
+    let entries_are : q.entries ≡ journal.entries = holds_keep journal.holds p ∙ entries_read journal.entries start in
+    let holds_are : q.holds ≡ journal.holds = holds_read journal.holds p ∙ ap (λ (l : List Hold). l ++ journal.holds) (entries_keep journal.entries start) in
+    ap (λ (l : List ℕ). ended (read_from start l).last.due (read_from start l).last) spells.spelled
+    ∙ ap (λ (r : Reading Progress ⊤). ended r.last.due r.last) read
+    ∙ ap (λ (l : List Entry). Good (record { entries = l; holds = q.holds })) entries_are
+    ∙ ap (λ (l : List Hold). Good (record { entries = journal.entries; holds = l })) holds_are

@@ -1,0 +1,47 @@
+-- Which bytes brought a reader of journals to where it is, and what its answers mean.
+use Rattle.std.specs.Prelude.{◌≡◌, ℕ, Bool, true, false, List, Option, Result, Ok, Err, ⊤}
+use Rattle.zy_base.specs.declared.file_fault.FileFault.{FileFault}
+use Rattle.zy_read.specs.declared.not_taken.NotTaken.{NotTaken}
+use Rattle.zy_read.specs.Standing.{StandsAs, Follows}
+use Rattle.zy_journal.specs.declared.journal.Journal.{Journal}
+use Rattle.zy_journal_reader.specs.declared.due.Due.{Due}
+use Rattle.zy_journal_reader.specs.declared.due.Due.TheVariants.{Byte, Number, Long, Bytes}
+use Rattle.zy_journal_reader.specs.declared.due.ByteField.TheVariants.{ReplyCode}
+use Rattle.zy_journal_reader.specs.declared.due.NumberField.TheVariants.{FoundLength, HoldCount}
+use Rattle.zy_journal_reader.specs.declared.due.LongField.TheVariants.{ReplyNumber}
+use Rattle.zy_journal_reader.specs.Steps.{Progress, Step}
+use Rattle.zy_journal_reader.specs.Verdict.{Verdict, journals, verdict}
+use Rattle.zy_journal_reader.specs.Verdict.Verdict.{Good, Bad}
+
+-- these bytes were fed, one after another
+abbrev pub StandsForJournal : Progress → List ⊤ → List ℕ → Type 0
+StandsForJournal p given fed = StandsAs journals p given fed
+
+-- an answer at the end of the bytes is their verdict
+abbrev pub EndsAs : Result Journal FileFault → Verdict → Type 0
+EndsAs (Ok journal) found = found ≡ Good journal
+EndsAs (Err fault) found = found ≡ Bad fault
+
+-- the bytes fed are the spelling of this journal, or have this fault as they end
+abbrev pub EndsBy : Progress → Result Journal FileFault → Type 0
+EndsBy p answer = (given : List ⊤) (b : List ℕ) → StandsForJournal p given b → EndsAs answer (verdict b)
+
+-- where this is due memory may be wanted: at a byte of a key or a value, and where an entry or a hold may end
+abbrev pub takes_memory : Due → Bool
+takes_memory (Bytes field) = true
+takes_memory (Byte ReplyCode) = true
+takes_memory (Number FoundLength) = true
+takes_memory (Number HoldCount) = true
+takes_memory (Long ReplyNumber) = true
+takes_memory due = false
+
+-- memory may be wanted for the byte
+abbrev pub MayWant : Progress → ℕ → Type 0
+MayWant p byte = takes_memory p.due ≡ true
+
+-- ---- for the reader alone
+
+-- an answer and a new state are those of a step; want of memory changes nothing, and comes only where memory may be
+-- wanted
+abbrev pub Takes : Step → Progress → Progress → Result (Option ⊤) (NotTaken FileFault) → Type 0
+Takes step old new result = Follows journals MayWant step old new 0 result

@@ -1,0 +1,103 @@
+-- What a whole text is as a journal: the journal that it spells, or its first fault. A text is read from its first
+-- byte to its last. That it is good exactly where it is a spelling is a law in src/laws.rt.
+use Rattle.std.specs.Prelude.{◌≡◌, ℕ, ◌^◌, ◌<◌, ◌≤◌, Bool, true, false, List, length, Option, ⊤}
+use Rattle.std.specs.List.{AllByRecursion}
+use Rattle.zy_base.specs.declared.call.Call.{Call}
+use Rattle.zy_base.specs.declared.call.Call.TheVariants.{Set, Add, Replace, Cas, Incr, Decr}
+use Rattle.zy_base.specs.declared.call_reply.CallReply.{CallReply}
+use Rattle.zy_base.specs.declared.call_reply.CallReply.TheVariants.{Hit, Number}
+use Rattle.zy_base.specs.declared.entry.Entry.{Entry}
+use Rattle.zy_base.specs.declared.file_fault.FileFault.{FileFault}
+use Rattle.zy_base.specs.declared.file_fault.FileFault.TheVariants.{Truncated}
+use Rattle.zy_read.specs.Format.{Format, Reading, read_on, fault_met, verdict_on}
+use Rattle.zy_journal.specs.declared.journal.Journal.{Journal}
+use Rattle.zy_journal.specs.Journal.{IsJournal, journal_bytes}
+use Rattle.zy_journal_reader.specs.declared.due.Due.{Due}
+use Rattle.zy_journal_reader.specs.declared.due.Due.TheVariants.{Nothing, Broken}
+use Rattle.zy_journal_reader.specs.Fields.{fault_in}
+use Rattle.zy_journal_reader.specs.Steps.{Progress, start, step, journal_limit}
+
+-- ---- a whole text
+
+-- what a whole text is: the journal that it spells, or its first fault
+pub data Verdict : Type 0 where
+  Good : Journal → Verdict
+  Bad : FileFault → Verdict
+
+-- the journal that was read
+abbrev pub journal_in : Progress → Journal
+journal_in p = record { entries = p.entries; holds = p.holds }
+
+-- the verdict on a text that ends where it was read up to
+abbrev pub ended : Due → Progress → Verdict
+ended Nothing p = Good (journal_in p)
+ended (Broken fault) p = Bad fault
+ended due p = Bad (Truncated p.at)
+
+-- the format of journals; what a text gives is that the journal ended
+abbrev pub journals : Format Progress ⊤ FileFault Verdict
+journals = record {
+  start = start;
+  step = step;
+  fault_in = λ p. fault_in p.due;
+  ended = λ p given. ended p.due p;
+  bad = Bad;
+}
+
+-- the verdict on a whole text
+abbrev pub verdict : List ℕ → Verdict
+verdict text = verdict_on journals text
+
+-- the text is a journal
+abbrev pub is_good : Verdict → Bool
+is_good (Good journal) = true
+is_good (Bad fault) = false
+
+-- the fault that was met in a text
+abbrev pub fault_of : List ℕ → Option FileFault
+fault_of text = fault_met journals text
+
+-- ---- spellings
+
+-- the flags of a call have four bytes, and its unique or its amount has eight
+abbrev pub FitsCall : Call → Type 0
+FitsCall (Set key flags value) = flags < 2 ^ 32
+FitsCall (Add key flags value) = flags < 2 ^ 32
+FitsCall (Replace key flags value) = flags < 2 ^ 32
+FitsCall (Cas key flags unique value) = (flags < 2 ^ 32) × (unique < 2 ^ 64)
+FitsCall (Incr key amount) = amount < 2 ^ 64
+FitsCall (Decr key amount) = amount < 2 ^ 64
+FitsCall call = ⊤
+
+-- so do those of a reply
+abbrev pub FitsReply : CallReply → Type 0
+FitsReply (Hit flags unique value) = (flags < 2 ^ 32) × (unique < 2 ^ 64)
+FitsReply (Number number) = number < 2 ^ 64
+FitsReply reply = ⊤
+
+-- an entry's numbers without a bound of their own fit their bytes
+pub record FitsEntry (e : Entry) : Type 0 where
+  pub part : e.tag.part < 2 ^ 32
+  pub call : FitsCall e.call
+  pub reply : FitsReply e.reply
+
+-- a journal that can be read: one with a spelling, whose numbers fit their bytes
+pub record IsReadable (journal : Journal) : Type 0 where
+  pub valid : IsJournal journal
+  pub fits : AllByRecursion FitsEntry journal.entries
+
+-- the text is the spelling of this journal, and not too long
+pub record SpellsJournal (text : List ℕ) (journal : Journal) : Type 0 where
+  pub readable : IsReadable journal
+  pub spelled : text ≡ journal_bytes journal
+  pub short : length text ≤ journal_limit
+
+-- each is a byte
+abbrev pub AreBytes : List ℕ → Type 0
+AreBytes text = AllByRecursion (λ byte. byte < 256) text
+
+-- ---- for proofs
+
+-- what is read of the rest of a text
+abbrev pub read_from : Progress → List ℕ → Reading Progress ⊤
+read_from p text = read_on step p text

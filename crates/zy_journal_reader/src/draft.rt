@@ -1,0 +1,101 @@
+//! The record that is being read.
+ghost use Rattle.std.specs.Prelude.{◌≡◌};
+ghost use Rattle.zy_journal_reader.specs.Fields.{fresh, call_of, entry_of};
+
+use crate::call_kind::CallKind;
+use std::alloc::Global;
+use zy_base::{Blob, Call, CallReply, Entry, Tag};
+
+/// What was read of a record so far; 0 and empty where a field was not read.
+#[derive(Debug, Drop)]
+pub(crate) struct Draft {
+    pub(crate) stamp: u64,
+    pub(crate) shard: u32,
+    pub(crate) conn: u32,
+    pub(crate) index: u64,
+    pub(crate) part: u32,
+    pub(crate) kind: CallKind,
+    pub(crate) key: Blob,
+    pub(crate) flags: u32,
+    /// The unique of a cas, or the amount of an incr or a decr.
+    pub(crate) number: u64,
+    pub(crate) value: Blob,
+    /// The flags and the unique that a get found.
+    pub(crate) found_flags: u32,
+    pub(crate) found_unique: u64,
+    /// The core of a hold.
+    pub(crate) core: u32,
+    /// The length of the bytes that are due.
+    pub(crate) size: u32,
+}
+
+impl Draft {
+    // Nothing was read.
+    pub(crate) fn new(alloc: Global) -> Draft
+        ensures value { result ≡ fresh }
+    {
+        Draft {
+            stamp: 0,
+            shard: 0,
+            conn: 0,
+            index: 0,
+            part: 0,
+            kind: CallKind::Flush,
+            key: Blob::new(alloc),
+            flags: 0,
+            number: 0,
+            value: Blob::new(alloc),
+            found_flags: 0,
+            found_unique: 0,
+            core: 0,
+            size: 0,
+        }
+    }
+
+    // The entry that was read, with this reply.
+    pub(crate) fn into_entry(self, reply: CallReply) -> Entry
+        ensures value { result ≡ entry_of self reply }
+    {
+        Entry {
+            tag: Tag {
+                conn: self.conn,
+                index: self.index,
+                part: self.part,
+            },
+            shard: self.shard,
+            stamp: self.stamp,
+            call: into_call(self.kind, self.key, self.flags, self.number, self.value),
+            reply,
+        }
+    }
+}
+
+// The call of a kind.
+fn into_call(kind: CallKind, key: Blob, flags: u32, number: u64, value: Blob) -> Call
+    ensures value { result ≡ call_of kind key flags number value }
+{
+    match kind {
+        CallKind::Get => Call::Get { key },
+        CallKind::Set => Call::Set { key, flags, value },
+        CallKind::Add => Call::Add { key, flags, value },
+        CallKind::Replace => Call::Replace { key, flags, value },
+        CallKind::Append => Call::Append { key, value },
+        CallKind::Prepend => Call::Prepend { key, value },
+        CallKind::Cas => Call::Cas {
+            key,
+            flags,
+            unique: number,
+            value,
+        },
+        CallKind::Incr => Call::Incr {
+            key,
+            amount: number,
+        },
+        CallKind::Decr => Call::Decr {
+            key,
+            amount: number,
+        },
+        CallKind::Delete => Call::Delete { key },
+        CallKind::Flush => Call::Flush,
+    }
+}

@@ -1,0 +1,56 @@
+//! Laws over the definitions of this crate.
+ghost use Rattle.std.specs.Prelude.{◌≡◌, ◌≤◌, ◌↔◌, ◌++◌, ℕ, List, length, Some, ⊤};
+ghost use Rattle.std.specs.List.{concat};
+ghost use Rattle.zy_base.specs.declared.file_fault.FileFault.{FileFault};
+ghost use Rattle.zy_read.specs.Standing.{Feeds, FeedsPieces};
+ghost use Rattle.zy_journal.specs.declared.journal.Journal.{Journal};
+ghost use Rattle.zy_journal.specs.Journal.{journal_bytes};
+ghost use Rattle.zy_journal_reader.specs.Steps.{Progress, journal_limit};
+ghost use Rattle.zy_journal_reader.specs.Verdict.{journals, verdict, fault_of, IsReadable, SpellsJournal, AreBytes};
+ghost use Rattle.zy_journal_reader.specs.Verdict.Verdict.{Good, Bad};
+ghost use Rattle.zy_journal_reader.specs.Standing.{StandsForJournal};
+
+/// A text is a good journal exactly where it is the journal's spelling, the journal is within the
+/// format's bounds, and the text has at most 2^63 - 1 bytes.
+pub fn a_journal_is_good_exactly_where_it_is_a_spelling()
+    ensures exactly { (text : List ℕ) (journal : Journal) → AreBytes text
+        → verdict text ≡ Good journal ↔ SpellsJournal text journal }
+{}
+
+/// What is written of a journal is good, and gives the journal again, where it is not too long.
+pub fn written_journals_are_read_again()
+    ensures again { (journal : Journal) → IsReadable journal
+        → length (journal_bytes journal) ≤ journal_limit
+        → verdict (journal_bytes journal) ≡ Good journal }
+{}
+
+/// Different journals that are not too long have different texts.
+pub fn two_journals_have_two_texts()
+    ensures same { (first second : Journal) → IsReadable first → IsReadable second
+        → length (journal_bytes first) ≤ journal_limit
+        → journal_bytes first ≡ journal_bytes second → first ≡ second }
+{}
+
+/// A fault that was met in a journal is met in every longer text, and is the verdict on it: the
+/// first fault counts.
+pub fn the_first_fault_of_a_journal_counts()
+    ensures stays { (text more : List ℕ) (fault : FileFault)
+        → fault_of text ≡ Some fault → fault_of (text ++ more) ≡ Some fault }
+    ensures lasts { (text more : List ℕ) (fault : FileFault)
+        → fault_of text ≡ Some fault → verdict (text ++ more) ≡ Bad fault }
+{}
+
+/// Two readers of journals to which the same bytes were fed told the same, and are in the same
+/// state. So it does not matter when memory was refused.
+pub fn what_is_read_depends_on_the_bytes_alone()
+    ensures given { (p q : Progress) (given others : List ⊤) (b : List ℕ)
+        → StandsForJournal p given b → StandsForJournal q others b → given ≡ others }
+    ensures state { (p q : Progress) (given others : List ⊤) (b : List ℕ)
+        → StandsForJournal p given b → StandsForJournal q others b → p ≡ q }
+{}
+
+/// A reader to which the pieces of a journal were fed told what it tells for the text.
+pub fn how_a_journal_is_cut_does_not_matter()
+    ensures whole { (old new : Progress) (pieces : List (List ℕ)) (gave : List ⊤)
+        → FeedsPieces journals old new pieces gave → Feeds journals old new (concat pieces) gave }
+{}

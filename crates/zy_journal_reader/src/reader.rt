@@ -1,0 +1,165 @@
+//! The reader of journals.
+ghost use Rattle.std.specs.Prelude.{◌≡◌, ◌+◌, ◌<◌, ◌≤◌, [], ◌∷◌, length, take, drop, get_or, Err, Ok, None, Some, true, false};
+ghost use Rattle.zy_read.specs.Standing.{given_in, Feeds, FeedsAs, TellsFault, TellsLasting, AnswersBy};
+ghost use Rattle.zy_read.specs.declared.not_taken.NotTaken.TheVariants.{NoMemory};
+ghost use Rattle.zy_journal_reader.specs.declared.due.Due.TheVariants as Dues;
+ghost use Rattle.zy_journal_reader.specs.Steps.{grown_by, journal_limit};
+ghost use Rattle.zy_journal_reader.specs.Verdict.{journals, verdict, is_good};
+ghost use Rattle.zy_journal_reader.specs.Standing.{StandsForJournal, EndsBy, MayWant};
+
+mod codes;
+mod contents;
+mod ends;
+mod long_numbers;
+mod numbers;
+mod runs;
+mod steps;
+
+use crate::draft::Draft;
+use crate::due::{ByteField, BytesField, Due};
+use crate::past::Past;
+use std::alloc::Global;
+use std::marker::Model;
+use zy_base::{Entries, Entry, FileFault, Hold, Holds};
+use zy_journal::Journal;
+use zy_read::{Fed, Field, FileFeed, goes_on};
+
+const JOURNAL_LIMIT: u64 = 9_223_372_036_854_775_807;
+
+/// Reads a journal, byte by byte or in pieces, and keeps it.
+#[derive(Drop)]
+pub struct JournalReader {
+    alloc: Global,
+    due: Due,
+    field: Field,
+    payload: Vec<u8>,
+    draft: Draft,
+    entries: Vec<Entry>,
+    holds: Vec<Hold>,
+    past: Past,
+    at: u64,
+}
+
+impl Model for JournalReader {
+    ghost use Rattle.std.specs.Prelude.{◌≤◌, length};
+    ghost use Rattle.zy_journal_reader.specs.Fields.{IsWithin};
+    ghost use Rattle.zy_journal_reader.specs.Steps.{Progress};
+
+    ghost Value = { Progress };
+
+    ghost view = { λ r. record {
+      due = r.due;
+      field = r.field;
+      payload = r.payload.items;
+      draft = r.draft;
+      entries = r.entries.items;
+      holds = r.holds.items;
+      past = r.past;
+      at = r.at;
+    } };
+
+    ghost invariant = { λ r. (length r.field ≤ r.at)
+        × IsWithin r.due r.at (length r.field) r.payload.items r.draft.size };
+}
+
+impl JournalReader {
+    /// A reader to which no byte was fed. Takes no memory.
+    pub fn new(alloc: Global) -> JournalReader
+        ensures value { StandsForJournal result [] [] }
+    {
+        JournalReader {
+            alloc,
+            due: Due::Byte(ByteField::Magic),
+            field: Field::new(),
+            payload: Vec::new(alloc),
+            draft: Draft::new(alloc),
+            entries: Vec::new(alloc),
+            holds: Vec::new(alloc),
+            past: Past {
+                stamp: 0,
+                shard: 0,
+                conn: 0,
+            },
+            at: 0,
+        }
+    }
+
+    /// Takes the next byte. `Some` comes at the byte that ends the journal.
+    ///
+    /// After a fault each call answers that same fault, and a byte after the end is one. Want of
+    /// memory is free, at the bytes of keys and values and where an entry or a hold may end.
+    pub fn feed(&mut self, byte: u8) -> Result<Option<()>, FileFeed>
+        ensures fed { FeedsAs journals self.old self.new (byte ∷ []) result }
+        ensures exact { TellsFault journals self.old (byte ∷ []) result }
+        ensures lasts { TellsLasting journals self.old (byte ∷ []) result }
+
+        // Want of memory.
+        ensures kept { result ≡ Err NoMemory → self.new ≡ self.old }
+        ensures memory { result ≡ Err NoMemory → MayWant self.old byte }
+    {
+        self.step(byte)
+    }
+
+    /// Takes bytes up to the end of the journal or the first fault, and all of them where there is
+    /// neither. That one comes at the last byte taken, as `feed` would give it; what follows the
+    /// end is not looked at.
+    ///
+    /// Where memory is wanted, the bytes before the one that wants it are taken; `feed` says when.
+    pub fn feed_piece(&mut self, bytes: &[u8]) -> Fed<(), FileFault>
+        requires some { 0 < length bytes.now }
+        ensures within { result.taken ≤ length bytes.now }
+        ensures none { result.answer ≡ Ok None → result.taken ≡ length bytes.now }
+        ensures taken { (gave : _) → result.answer ≡ Ok gave → 0 < result.taken }
+        ensures fed { Feeds journals self.old self.new (take result.taken bytes.now)
+            (given_in result.answer) }
+        ensures exact { TellsFault journals self.old (take result.taken bytes.now) result.answer }
+        ensures lasts { TellsLasting journals self.old (take result.taken bytes.now) result.answer }
+        ensures memory { result.answer ≡ Err NoMemory
+            → MayWant self.new (get_or bytes.now result.taken 0) }
+    {
+        let mut at = 0;
+        while at < bytes.len() {
+            at += self.feed_run(bytes, at);
+            if let Err(answer) = goes_on(self.step(bytes[at])) {
+                return Fed::at(at, answer);
+            }
+            at += 1;
+        }
+        Fed {
+            taken: at,
+            answer: Ok(None),
+        }
+    }
+
+    #[tactic(auto, using(zy_read::proofs::Feeding::verdict_here))]
+    /// True exactly where the end was read and no fault was met.
+    pub fn is_done(&self) -> bool
+        ensures value { AnswersBy journals self.now (λ b. is_good (verdict b)) result }
+    {
+        matches!(self.due, Due::Nothing)
+    }
+
+    #[tactic(auto, using(zy_read::proofs::Feeding::verdict_here))]
+    /// The journal whose bytes were fed, or their fault.
+    pub fn end(self) -> Result<Journal, FileFault>
+        ensures value { EndsBy self result }
+    {
+        match self.due {
+            Due::Nothing => Ok(Journal {
+                entries: Entries::from_vec(self.entries),
+                holds: Holds::from_vec(self.holds),
+            }),
+            Due::Broken(fault) => Err(fault),
+            _ => Err(FileFault::Truncated { at: self.at }),
+        }
+    }
+
+    // The place is further on, as though more bytes had been read before.
+    #[cfg(test)]
+    pub(crate) fn at_place(mut self, at: u64) -> JournalReader {
+        if self.at <= at && !matches!(self.due, Due::Byte(ByteField::Magic)) {
+            self.at = at;
+        }
+        self
+    }
+}

@@ -1,0 +1,74 @@
+//! Numbers of eight bytes.
+ghost use Rattle.std.specs.Prelude.{◌≡◌, ◌<◌};
+ghost use Rattle.zy_journal_reader.specs.declared.due.Due.TheVariants as Dues;
+ghost use Rattle.zy_journal_reader.specs.Steps.{taken, lawful_long, after_eight, journal_limit};
+ghost use Rattle.zy_journal_reader.specs.Standing.{Takes};
+
+use super::JournalReader;
+use crate::due::{Due, LongField, NumberField};
+use zy_base::{CallReply, FileFault};
+use zy_read::FileFeed;
+
+const STAMP_LIMIT: u64 = 1_152_921_504_606_846_976;
+
+const INDEX_LIMIT: u64 = 1_099_511_627_776;
+
+impl JournalReader {
+    // A byte of a number of eight bytes.
+    pub(super) fn feed_long(&mut self, field: LongField, byte: u8) -> Result<Option<()>, FileFeed>
+        requires due { self.old.due ≡ Dues.Long field }
+        requires room { self.old.at < journal_limit }
+        ensures value { Takes (taken (Dues.Long field) self.old byte) self.old self.new result }
+    {
+        if self.field.len() < 7 {
+            self.keep(byte);
+            return Ok(None);
+        }
+        let number = self.field.long_number(byte);
+        if !self.is_lawful_long(field, number) {
+            return self.refuse(FileFault::Form { at: self.at - 7 });
+        }
+        self.take_long(field, number)
+    }
+
+    // Whether the number may stand there.
+    fn is_lawful_long(&self, field: LongField, number: u64) -> bool
+        ensures value { result ≡ lawful_long field self.now number }
+    {
+        match field {
+            LongField::Stamp => 1 <= number && number < STAMP_LIMIT && self.past.stamp <= number,
+            LongField::Index => number < INDEX_LIMIT,
+            LongField::CallNumber => true,
+            LongField::FoundUnique => true,
+            LongField::ReplyNumber => true,
+        }
+    }
+
+    // A lawful number.
+    fn take_long(&mut self, field: LongField, number: u64) -> Result<Option<()>, FileFeed>
+        requires due { self.old.due ≡ Dues.Long field }
+        requires room { self.old.at < journal_limit }
+        ensures value { Takes (after_eight field self.old number) self.old self.new result }
+    {
+        match field {
+            LongField::Stamp => {
+                self.draft.stamp = number;
+                self.go_on(Due::Number(NumberField::Shard));
+            }
+            LongField::Index => {
+                self.draft.index = number;
+                self.go_on(Due::Number(NumberField::Part));
+            }
+            LongField::CallNumber => {
+                self.draft.number = number;
+                self.go_on(self.draft.kind.after_number());
+            }
+            LongField::FoundUnique => {
+                self.draft.found_unique = number;
+                self.go_on(Due::Number(NumberField::FoundLength));
+            }
+            LongField::ReplyNumber => return self.end_entry(CallReply::Number { number }),
+        }
+        Ok(None)
+    }
+}

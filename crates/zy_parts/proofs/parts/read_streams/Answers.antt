@@ -1,8 +1,0 @@
-use Rattle.std.proofs.Common.{[]}
-use Rattle.zy_parts.proofs.WholeLemmas.{capture_begun, streams_read}
-use Rattle.zy_parts.proofs.parts.read_streams.Goals as goal
-
-pub returns-clause-streams : goal.returns-clause-streams
-returns-clause-streams g c =
-    let begun = capture_begun g.S.Source.rest g.S.Source.faults c.args.source.now c.in-Ok.pieces c.new-2.result c.in-Ok.ensures.ok c.new-2.ensures.reader c.new-2.ensures.none in
-    streams_read g.S.Source.rest g.S.Source.faults c.args.source.now c.read_part.new.source c.read_part.new.pieces c.read_part.result (c.read_part.ensures.value c.args.source.now [] begun)

@@ -1,6 +1,0 @@
-use Rattle.std.proofs.Common.{◌≡◌, drop}
-use Rattle.zy_words.specs.Grammar.{is_ascii}
-use Rattle.zy_words.proofs.plain.is_ascii.Given as goal
-
-abbrev pub invariant-loop-byte : goal.invariant-loop-byte
-invariant-loop-byte l = is_ascii (drop l.byte-index l.fn.word) ≡ is_ascii l.fn.word
