@@ -7,7 +7,7 @@ use zy_capture::{FeedFault, Reader, Record};
 use zy_read::Fed;
 
 // How many records of each kind were read, and how many bytes of segments.
-#[derive(Clone, Copy, Debug)]
+#[derive(Clone, Copy)]
 struct Tally {
     segments: u64,
     closes: u64,

@@ -4,7 +4,7 @@ ghost use Rattle.std.specs.Prelude.{None};
 use zy_base::{Failed, Sink};
 
 /// Takes all bytes and keeps none.
-#[derive(Debug, Drop)]
+#[derive(Drop)]
 pub(crate) struct Counting {
     pub(crate) bytes: u64,
 }

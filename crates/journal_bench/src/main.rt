@@ -34,7 +34,7 @@ fn main(rt: HostRuntime) -> ExitCode {
 }
 
 // How many entries or bytes took how long.
-#[derive(Clone, Copy, Debug)]
+#[derive(Clone, Copy)]
 struct Done {
     count: u64,
     nanos: u64,

@@ -1,7 +1,7 @@
 //! The error lines that a command is answered with.
 
 /// The error line that a faulty line or block is answered with.
-#[derive(Clone, Copy, Debug, PartialEq, Eq)]
+#[derive(Clone, Copy, PartialEq, Eq)]
 pub enum ErrorLine {
     /// No word, an unknown first word, or a wrong count of words.
     Unknown,

@@ -5,7 +5,7 @@ ghost use Rattle.mc_parse.specs.Name.{name_of};
 use crate::verb::Verb;
 
 /// The name that a line begins with.
-#[derive(Clone, Copy, Debug, PartialEq, Eq)]
+#[derive(Clone, Copy, PartialEq, Eq)]
 pub(crate) enum Name {
     /// `set`, `add`, `replace`, `append` or `prepend`.
     Store { verb: Verb },

@@ -12,7 +12,7 @@ use crate::reading::read_line;
 pub const LINE_LIMIT: usize = 65_536;
 
 /// What must come with a line before it is a request.
-#[derive(Clone, Copy, Debug, PartialEq, Eq)]
+#[derive(Clone, Copy, PartialEq, Eq)]
 pub enum Need {
     /// Nothing: the line is a request.
     Nothing,

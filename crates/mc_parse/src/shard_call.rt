@@ -2,7 +2,7 @@
 use zy_base::{Call, Items};
 
 /// A call on a shard.
-#[derive(Debug, PartialEq, Eq, Drop)]
+#[derive(PartialEq, Eq, Drop)]
 pub struct ShardCall {
     pub shard: u32,
     pub call: Call,

@@ -1,7 +1,7 @@
 //! The verbs of storage commands.
 
 /// How a storage command stores.
-#[derive(Clone, Copy, Debug, PartialEq, Eq)]
+#[derive(Clone, Copy, PartialEq, Eq)]
 pub enum Verb {
     /// Stores an item.
     Set,

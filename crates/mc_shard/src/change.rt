@@ -2,7 +2,7 @@
 use zy_base::{Blob, CallReply};
 
 /// What a call changes of the items, at its key.
-#[derive(Debug, Drop)]
+#[derive(Drop)]
 pub enum Change {
     /// Nothing.
     Nothing,
@@ -15,7 +15,7 @@ pub enum Change {
 }
 
 /// What a call answers and changes.
-#[derive(Debug, Drop)]
+#[derive(Drop)]
 pub struct Step {
     pub reply: CallReply,
     pub change: Change,

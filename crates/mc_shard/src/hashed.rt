@@ -10,7 +10,7 @@ use std::marker::Model;
 use zy_base::{Blob, Call, NoMemory, hash_of};
 
 /// A key with its hash. Contracts see it as the key.
-#[derive(Debug, Drop)]
+#[derive(Drop)]
 pub struct Hashed {
     hash: u32,
     key: Blob,

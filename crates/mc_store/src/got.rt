@@ -2,7 +2,7 @@
 use zy_base::Entry;
 
 /// What one try of a call gave.
-#[derive(Debug, Drop)]
+#[derive(Drop)]
 pub enum Got {
     /// The call was made. This is its entry, which the pass and the shard's history have too.
     Reply(Entry),

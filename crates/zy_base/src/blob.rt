@@ -17,7 +17,7 @@ use std::mem;
 /// A byte string. Contracts see it as the list of its bytes.
 ///
 /// Up to 16 bytes are kept in place; more in a vector, which copies share once `share` was called.
-#[derive(Debug, Drop)]
+#[derive(Drop)]
 pub struct Blob {
     alloc: Global,
     storage: Storage,

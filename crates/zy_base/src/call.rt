@@ -6,7 +6,7 @@ use crate::blob::Blob;
 use crate::outside::NoMemory;
 
 /// A call on one shard of the store. A key has 1 to 250 bytes, and a value at most 1,048,576.
-#[derive(Debug, PartialEq, Eq, Drop)]
+#[derive(PartialEq, Eq, Drop)]
 pub enum Call {
     /// The item of the key.
     Get {

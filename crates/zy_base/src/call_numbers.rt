@@ -8,7 +8,7 @@ use std::alloc::Global;
 use std::marker::Model;
 
 /// Numbers of calls, from 0, in rising order. Contracts see it as the list of the numbers.
-#[derive(Debug, Drop)]
+#[derive(Drop)]
 pub struct CallNumbers {
     items: Vec<u64>,
 }

@@ -6,7 +6,7 @@ use crate::items::Items;
 use crate::outside::NoMemory;
 
 /// What a shard answers to a call.
-#[derive(Debug, PartialEq, Eq, Drop)]
+#[derive(PartialEq, Eq, Drop)]
 pub enum CallReply {
     /// A get found no item.
     Miss,

@@ -8,7 +8,7 @@ use crate::outside::NoMemory;
 
 /// Whose call it is: the connection, the number of its command, and the call's number within the
 /// command, all from 0.
-#[derive(Clone, Copy, Debug, PartialEq, Eq)]
+#[derive(Clone, Copy, PartialEq, Eq)]
 pub struct Tag {
     pub conn: u32,
     pub index: u64,
@@ -17,7 +17,7 @@ pub struct Tag {
 
 /// One call on a shard, with what the shard answered. Along a shard, and along the calls of a
 /// connection, stamps rise.
-#[derive(Debug, PartialEq, Eq, Drop)]
+#[derive(PartialEq, Eq, Drop)]
 pub struct Entry {
     pub tag: Tag,
     pub shard: u32,

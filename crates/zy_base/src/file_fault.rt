@@ -1,7 +1,7 @@
 //! Faults of journal and replies files.
 
 /// What is wrong with a journal or a replies file. Places count from 0 in the file.
-#[derive(Clone, Copy, Debug, PartialEq, Eq)]
+#[derive(Clone, Copy, PartialEq, Eq)]
 pub enum FileFault {
     /// A field, code, length or tag that is wrong; the place is that of its first byte.
     Form { at: u64 },

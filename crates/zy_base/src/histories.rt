@@ -9,7 +9,7 @@ use std::marker::Model;
 
 /// A list of entries for each shard, at most 256. Contracts see it as the list of these lists.
 /// Every entry of a list is at the shard whose number is the list's place.
-#[derive(Debug, Drop)]
+#[derive(Drop)]
 pub struct Histories {
     lists: Vec<Entries>,
 }

@@ -2,7 +2,7 @@
 use crate::items::Items;
 
 /// A core had a connection in its hand, and finished this many of its commands, 1 to 64.
-#[derive(Clone, Copy, Debug, PartialEq, Eq)]
+#[derive(Clone, Copy, PartialEq, Eq)]
 pub struct Hold {
     pub core: u32,
     pub conn: u32,

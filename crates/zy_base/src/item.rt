@@ -6,7 +6,7 @@ use crate::outside::NoMemory;
 
 /// What the store has at a key: the client's flags, the value, and the unique that the item got
 /// when it was stored.
-#[derive(Debug, PartialEq, Eq, Drop)]
+#[derive(PartialEq, Eq, Drop)]
 pub struct Item {
     pub flags: u32,
     pub value: Blob,

@@ -10,7 +10,7 @@ use std::alloc::Global;
 use std::marker::Model;
 
 /// A sink in memory, which takes a bounded number of bytes a call and fails at the calls that are named.
-#[derive(Debug, Drop)]
+#[derive(Drop)]
 pub struct MemSink {
     kept: SureSink,
     most: usize,

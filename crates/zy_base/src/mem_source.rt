@@ -10,7 +10,7 @@ use crate::outside::{Failed, Source};
 use std::marker::Model;
 
 /// A source in memory, which gives a bounded number of bytes a call and fails at the calls that are named.
-#[derive(Debug, Drop)]
+#[derive(Drop)]
 pub struct MemSource {
     bytes: Blob,
     at: usize,

@@ -4,11 +4,11 @@ ghost use Rattle.std.specs.Io.KnownBytes.{ReadConsumes};
 ghost use Rattle.zy_base.specs.Outside.{Rose, Grew, WriteGrew, TakesSome};
 
 /// Memory was wanted and not found.
-#[derive(Clone, Copy, Debug, PartialEq, Eq)]
+#[derive(Clone, Copy, PartialEq, Eq)]
 pub struct NoMemory;
 
 /// A read, a write or a finish failed.
-#[derive(Clone, Copy, Debug, PartialEq, Eq)]
+#[derive(Clone, Copy, PartialEq, Eq)]
 pub struct Failed;
 
 /// Gives bytes.
@@ -61,7 +61,7 @@ pub trait Gate {
 }
 
 /// The gate that is always open.
-#[derive(Clone, Copy, Debug)]
+#[derive(Clone, Copy)]
 pub struct Ungated;
 
 impl Gate for Ungated {

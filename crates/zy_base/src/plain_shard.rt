@@ -19,7 +19,7 @@ use std::alloc::Global;
 use std::marker::Model;
 
 /// A shard as a list of keys and items. Contracts see it as the list, with its numbers.
-#[derive(Debug, Drop)]
+#[derive(Drop)]
 pub struct PlainShard {
     number: u32,
     shards: u32,

@@ -7,7 +7,7 @@ use std::collections::VecDeque;
 use std::marker::Model;
 
 /// A queue. Contracts see it as the list of its items, the first one to come first.
-#[derive(Debug, Drop)]
+#[derive(Drop)]
 pub struct Queue<T> {
     items: VecDeque<T>,
 }

@@ -7,7 +7,7 @@ use std::marker::Model;
 
 /// A byte string with room for more bytes, which are then appended without a refusal. Contracts see it
 /// as its bytes, and for how many more there is room.
-#[derive(Debug, Drop)]
+#[derive(Drop)]
 pub struct Reserved {
     pub(crate) bytes: Vec<u8>,
 }

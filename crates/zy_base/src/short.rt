@@ -7,7 +7,7 @@ use std::marker::Model;
 pub(crate) const ROOM: usize = 16;
 
 // A byte string of at most 16 bytes. Contracts see it as the list of its bytes.
-#[derive(Debug, Drop)]
+#[derive(Drop)]
 pub(crate) struct Short {
     // A word, so that all forms of a byte string begin at a word and are moved by words.
     len: usize,

@@ -8,7 +8,7 @@ use std::alloc::Global;
 use std::sync::Arc;
 
 // Where the bytes of a byte string are.
-#[derive(Debug, Drop)]
+#[derive(Drop)]
 pub(crate) enum Storage {
     // In place.
     Short(Short),

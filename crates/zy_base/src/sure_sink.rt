@@ -9,7 +9,7 @@ use std::marker::Model;
 
 /// A sink in memory, which never fails. A piece that doesn't fit into what is left of its room is taken
 /// and not kept, and from then on the sink doesn't tell its bytes.
-#[derive(Debug, Drop)]
+#[derive(Drop)]
 pub struct SureSink {
     bytes: Vec<u8>,
     room: usize,

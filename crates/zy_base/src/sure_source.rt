@@ -8,7 +8,7 @@ use crate::outside::{Failed, Source};
 use std::marker::Model;
 
 /// A source in memory, which never fails. Contracts see it as the bytes that are still to come.
-#[derive(Debug, Drop)]
+#[derive(Drop)]
 pub struct SureSource {
     bytes: Blob,
     at: usize,

@@ -9,7 +9,7 @@ use zy_base::{Blob, NoMemory};
 
 /// The texts that a hold sends, and how many commands of the connection are finished after it.
 /// Contracts see it as the list of its texts and that number.
-#[derive(Debug, Drop)]
+#[derive(Drop)]
 pub struct Batch {
     pub(crate) texts: Texts,
     pub(crate) finished: u64,

@@ -11,7 +11,7 @@ use zy_base::{Blob, NoMemory};
 
 /// What a connection was sent, and how many of its commands are finished. Contracts see it as its
 /// connection, the list of its texts, and that number.
-#[derive(Debug, Drop)]
+#[derive(Drop)]
 pub struct Output {
     conn: u32,
     texts: Texts,

@@ -9,7 +9,7 @@ use std::marker::Model;
 use zy_base::{Blob, NoMemory};
 
 /// A list of texts, which is their bytes and where each ends. Contracts see it as the list.
-#[derive(Debug, Drop)]
+#[derive(Drop)]
 pub(crate) struct Texts {
     bytes: Blob,
     ends: Vec<usize>,

@@ -3,7 +3,7 @@
 use zy_read::NotTaken;
 
 /// What is wrong with a capture. Places count from 0 in the file.
-#[derive(Clone, Copy, Debug, PartialEq, Eq)]
+#[derive(Clone, Copy, PartialEq, Eq)]
 pub enum CaptureFault {
     /// The byte at this place is that of no magic.
     BadMagic { at: u64 },

@@ -3,7 +3,7 @@
 use crate::capture_fault::CaptureFault;
 
 /// What is due next.
-#[derive(Clone, Copy, Debug, PartialEq, Eq)]
+#[derive(Clone, Copy, PartialEq, Eq)]
 pub(crate) enum Due {
     /// A letter of the magic.
     Letters,

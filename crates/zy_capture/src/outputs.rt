@@ -12,7 +12,7 @@ use zy_base::{Blob, NoMemory};
 
 /// The output of each session of each connection. Contracts see it as the version, and the list of
 /// the connections' lists of outputs.
-#[derive(Debug, Drop)]
+#[derive(Drop)]
 pub struct Outputs {
     alloc: Global,
     version: u32,

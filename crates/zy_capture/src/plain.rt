@@ -5,7 +5,7 @@ use std::alloc::Global;
 use zy_base::FileFault;
 
 /// A record, by the place of its bytes in the text.
-#[derive(Clone, Copy, Debug, PartialEq, Eq)]
+#[derive(Clone, Copy, PartialEq, Eq)]
 pub(crate) enum Piece {
     Segment {
         conn: u32,
@@ -24,7 +24,7 @@ pub(crate) enum Piece {
 }
 
 /// What a plain reader found in a text.
-#[derive(Debug, Drop)]
+#[derive(Drop)]
 pub(crate) struct Found<F> {
     pub version: Option<u32>,
     pub count: Option<u32>,

@@ -3,7 +3,7 @@
 use zy_base::Blob;
 
 /// Bytes that came on a connection.
-#[derive(Debug, PartialEq, Eq, Drop)]
+#[derive(PartialEq, Eq, Drop)]
 pub struct Segment {
     /// The connection's number, below the capture's count.
     pub conn: u32,
@@ -12,7 +12,7 @@ pub struct Segment {
 }
 
 /// A record of a capture.
-#[derive(Debug, PartialEq, Eq, Drop)]
+#[derive(PartialEq, Eq, Drop)]
 pub enum Record {
     /// Bytes came on a connection.
     Segment(Segment),

@@ -3,7 +3,7 @@
 use zy_base::Blob;
 
 /// The output of a session of a connection.
-#[derive(Debug, PartialEq, Eq, Drop)]
+#[derive(PartialEq, Eq, Drop)]
 pub struct SessionBytes {
     /// The connection's number, below 4,096.
     pub conn: u32,

@@ -10,7 +10,7 @@ use zy_base::{Blob, NoMemory};
 
 /// The bytes of a connection's sessions, of which the last one may grow. Contracts see it as their
 /// list.
-#[derive(Debug, Drop)]
+#[derive(Drop)]
 pub(crate) struct Sessions {
     before: Vec<Blob>,
     last: Blob,

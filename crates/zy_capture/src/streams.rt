@@ -12,7 +12,7 @@ use zy_base::{Blob, NoMemory};
 
 /// The bytes of each session of each connection. Contracts see it as the list of the connections'
 /// lists of sessions.
-#[derive(Debug, Drop)]
+#[derive(Drop)]
 pub struct Streams {
     alloc: Global,
     connections: Vec<Sessions>,

@@ -1,7 +1,7 @@
 //! Verdicts on a journal and outputs.
 
 /// Whether a journal and outputs are those of a run.
-#[derive(Clone, Copy, Debug, PartialEq, Eq)]
+#[derive(Clone, Copy, PartialEq, Eq)]
 pub enum Verdict {
     /// They are.
     Yes,
@@ -11,7 +11,7 @@ pub enum Verdict {
 
 /// Why a journal and outputs are not those of a run. Of several causes the first of these counts;
 /// but of the first two the one with the smaller entry.
-#[derive(Clone, Copy, Debug, PartialEq, Eq)]
+#[derive(Clone, Copy, PartialEq, Eq)]
 pub enum Cause {
     /// This entry is not the next call of its connection.
     NotNext { entry: u64 },

@@ -14,7 +14,7 @@ use zy_capture::{Outputs, Streams};
 use zy_journal::Journal;
 
 /// What the input of a check gives.
-#[derive(Debug, Drop)]
+#[derive(Drop)]
 pub struct Parts {
     /// The streams of the capture.
     pub streams: Streams,

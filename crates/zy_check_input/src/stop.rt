@@ -5,7 +5,7 @@ use zy_capture::CaptureFault;
 
 /// Why an input is refused: the first fault, of the part that has it. Places count from the start of
 /// that part.
-#[derive(Clone, Copy, Debug, PartialEq, Eq)]
+#[derive(Clone, Copy, PartialEq, Eq)]
 pub enum Refusal {
     /// The capture has this fault. It is not `Trailing`: what follows the capture is the journal.
     Capture(CaptureFault),
@@ -16,7 +16,7 @@ pub enum Refusal {
 }
 
 /// Why an input is read no further.
-#[derive(Clone, Copy, Debug, PartialEq, Eq)]
+#[derive(Clone, Copy, PartialEq, Eq)]
 pub enum Stop {
     /// The input has this fault.
     Refused(Refusal),

@@ -1,7 +1,7 @@
 //! What lawful words ask for.
 
 /// What the words ask for: a command with its options.
-#[derive(Clone, Copy, Debug, PartialEq, Eq)]
+#[derive(Clone, Copy, PartialEq, Eq)]
 pub enum Request {
     /// Serve a capture.
     Run { run: Run, out: Out },
@@ -14,7 +14,7 @@ pub enum Request {
 }
 
 /// How a capture is served.
-#[derive(Clone, Copy, Debug, PartialEq, Eq)]
+#[derive(Clone, Copy, PartialEq, Eq)]
 pub struct Run {
     /// The number of cores, 1 to 64.
     pub cores: u32,
@@ -27,7 +27,7 @@ pub struct Run {
 }
 
 /// Traffic that is made from a number.
-#[derive(Clone, Copy, Debug, PartialEq, Eq)]
+#[derive(Clone, Copy, PartialEq, Eq)]
 pub struct Traffic {
     /// The number that it is made from.
     pub number: u32,
@@ -38,7 +38,7 @@ pub struct Traffic {
 }
 
 /// What a run writes.
-#[derive(Clone, Copy, Debug, PartialEq, Eq)]
+#[derive(Clone, Copy, PartialEq, Eq)]
 pub enum Out {
     /// The replies.
     Replies,

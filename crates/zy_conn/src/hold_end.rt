@@ -1,7 +1,7 @@
 //! Why a hold ends.
 
 /// Why a hold ended.
-#[derive(Debug, Drop)]
+#[derive(Drop)]
 pub enum HoldEnd {
     /// No command is begun, and no frame is known.
     Drained,

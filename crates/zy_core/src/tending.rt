@@ -14,7 +14,7 @@ use zy_control::ControlPass;
 use zy_feeder::Feeder;
 
 // How the caller's own loop ended.
-#[derive(Clone, Copy, Debug, Drop, PartialEq, Eq)]
+#[derive(Clone, Copy, Drop, PartialEq, Eq)]
 pub(crate) enum How {
     // The feeder ended, and the cores that are with the caller found that all are done.
     Ended,

@@ -19,7 +19,7 @@ use zy_read::Fed;
 const PIECE: usize = 65_536;
 
 /// What a capture begins with.
-#[derive(Clone, Copy, Debug, PartialEq, Eq)]
+#[derive(Clone, Copy, PartialEq, Eq)]
 pub struct Header {
     /// 1 or 2.
     pub version: u32,

@@ -3,7 +3,7 @@
 use zy_capture::CaptureFault;
 
 /// Why a capture is read no further.
-#[derive(Clone, Copy, Debug, PartialEq, Eq)]
+#[derive(Clone, Copy, PartialEq, Eq)]
 pub enum Stop {
     /// The capture has this fault.
     Refused(CaptureFault),

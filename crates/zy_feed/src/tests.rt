@@ -15,7 +15,7 @@ use zy_feeder::{Fed, Feeder};
 use zy_rx::{Inlet, Outlet, ring};
 
 // How many items were offered, and how many handed back, until the feeder ended or broke.
-#[derive(Clone, Copy, Debug, PartialEq, Eq)]
+#[derive(Clone, Copy, PartialEq, Eq)]
 struct Tally {
     offered: u32,
     full: u32,

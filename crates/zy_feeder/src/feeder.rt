@@ -6,7 +6,7 @@ ghost use Rattle.zy_feeder.specs.Feed.{rings_of, sent_by, HasOffered, HasNoRoom,
 use zy_rx::Outlet;
 
 /// What a step of a feeder came to.
-#[derive(Clone, Copy, Debug, Drop, PartialEq, Eq)]
+#[derive(Clone, Copy, Drop, PartialEq, Eq)]
 pub enum Fed {
     /// One item was offered to one core.
     Offered,

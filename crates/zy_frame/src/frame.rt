@@ -7,7 +7,7 @@ use std::marker::Model;
 use zy_base::{Blob, NoMemory};
 
 /// A frame of a stream. Contracts see it as its kind, which is that of some frame text.
-#[derive(Debug, Drop)]
+#[derive(Drop)]
 pub struct Frame {
     pub kind: FrameKind,
 }

@@ -16,7 +16,7 @@ use zy_base::{Blob, NoMemory};
 
 /// Cuts a stream into frames as its pieces come. Contracts see what it is in the middle of, and
 /// which streams may have brought it there (`StandsFor`).
-#[derive(Debug, Drop)]
+#[derive(Drop)]
 pub struct Framer {
     alloc: Global,
     state: State,

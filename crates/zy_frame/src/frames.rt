@@ -7,7 +7,7 @@ use std::marker::Model;
 use zy_base::{NoMemory, Queue};
 
 /// A queue of frames. Contracts see it as the list of its frames, the first one to come first.
-#[derive(Debug, Drop)]
+#[derive(Drop)]
 pub struct Frames {
     items: Queue<Frame>,
 }

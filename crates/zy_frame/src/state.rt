@@ -4,7 +4,7 @@ use zy_base::Blob;
 
 // What a framer is in the middle of. Lines are kept with the carriage return at their end, if they
 // have one.
-#[derive(Debug, Drop)]
+#[derive(Drop)]
 pub(crate) enum State {
     // A line: its bytes so far.
     Line { kept: Blob },

@@ -1,7 +1,7 @@
 //! What a generated command asks for.
 
 /// What a command asks for, beside its key.
-#[derive(Clone, Copy, Debug, PartialEq, Eq)]
+#[derive(Clone, Copy, PartialEq, Eq)]
 pub enum Request {
     /// `get` of the key.
     Get,
@@ -20,7 +20,7 @@ pub enum Request {
 }
 
 /// A command: the number of its key among those of its connection, and what it asks for.
-#[derive(Clone, Copy, Debug)]
+#[derive(Clone, Copy)]
 pub struct Command {
     pub item: u32,
     pub request: Request,

@@ -2,7 +2,7 @@
 use zy_conn::HoldEnd;
 
 /// What a claim from the home's own queue came to.
-#[derive(Debug, Drop)]
+#[derive(Drop)]
 pub enum Own {
     /// A block was taken, held to this end, and settled.
     Took { held: HoldEnd },

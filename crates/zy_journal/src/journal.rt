@@ -3,7 +3,7 @@
 use zy_base::{Entries, Holds};
 
 /// The calls of all connections in the order in which they count, and the holds.
-#[derive(Debug, PartialEq, Eq, Drop)]
+#[derive(PartialEq, Eq, Drop)]
 pub struct Journal {
     /// By stamp and then by shard.
     pub entries: Entries,

@@ -6,7 +6,7 @@ use std::marker::Model;
 use zy_base::{Entries, Entry};
 
 /// The entries of a history that were not taken yet. Contracts see it as their list.
-#[derive(Debug, Drop)]
+#[derive(Drop)]
 pub(crate) struct Rest {
     entries: VecDeque<Entry>,
 }

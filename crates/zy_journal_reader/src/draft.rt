@@ -7,7 +7,7 @@ use std::alloc::Global;
 use zy_base::{Blob, Call, CallReply, Entry, Tag};
 
 /// What was read of a record so far; 0 and empty where a field was not read.
-#[derive(Debug, Drop)]
+#[derive(Drop)]
 pub(crate) struct Draft {
     pub(crate) stamp: u64,
     pub(crate) shard: u32,

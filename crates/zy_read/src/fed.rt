@@ -6,7 +6,7 @@ use crate::not_taken::NotTaken;
 
 /// How many bytes were taken of some, and what came of the last one. Take it apart by
 /// `let Fed { taken, answer } = ..`.
-#[derive(Debug, Drop)]
+#[derive(Drop)]
 pub struct Fed<G, F> {
     /// The bytes before the one that wants memory, where memory is wanted.
     pub taken: usize,

@@ -6,7 +6,7 @@ use std::marker::Model;
 
 /// The bytes that were read of a number of at most eight bytes. Contracts see it as their list,
 /// which has at most seven.
-#[derive(Debug, Drop)]
+#[derive(Drop)]
 pub struct Field {
     seen: usize,
     bytes: [u8; 8],

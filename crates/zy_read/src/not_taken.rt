@@ -3,7 +3,7 @@
 use zy_base::FileFault;
 
 /// Why a reader didn't take a byte, where texts have faults of this type.
-#[derive(Clone, Copy, Debug, PartialEq, Eq)]
+#[derive(Clone, Copy, PartialEq, Eq)]
 pub enum NotTaken<F> {
     /// The text has this fault.
     Fault(F),

@@ -1,7 +1,7 @@
 //! What a run comes to.
 
 /// The numbers of a run: what all runs of commands that do not meet have in common.
-#[derive(Clone, Copy, Debug, PartialEq, Eq)]
+#[derive(Clone, Copy, PartialEq, Eq)]
 pub struct Summary {
     /// The number of commands.
     pub commands: u64,
