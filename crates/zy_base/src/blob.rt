@@ -4,6 +4,7 @@ ghost use Rattle.std.specs.Ordering.{nat_cmp};
 ghost use Rattle.std.specs.Prelude.{nat_eq};
 ghost use Rattle.std.specs.Cmp.{partial_equiv_from_equiv};
 ghost use Rattle.std.specs.Cmp.Lexicographic.{pointwise, slice_cmp, nat_list_eq_equiv, nat_list_cmp_total, texts_ties, texts_po};
+ghost use Rattle.zy_base.specs.Blob.{bytes_of, IsWithin};
 
 use crate::outside::NoMemory;
 use crate::reserved::Reserved;
@@ -85,16 +86,16 @@ impl Blob {
         match mem::replace(&mut self.storage, Storage::Short(Short::new())) {
             Storage::Own(bytes) => match shared(self.alloc, bytes) {
                 Ok(storage) => {
-                    self.storage = storage;
+                    self.put(storage);
                     Ok(())
                 }
                 Err(storage) => {
-                    self.storage = storage;
+                    self.put(storage);
                     Err(NoMemory)
                 }
             },
             storage => {
-                self.storage = storage;
+                self.put(storage);
                 Ok(())
             }
         }
@@ -125,7 +126,7 @@ impl Blob {
     {
         match joined(self.alloc, self.storage.bytes(), bytes) {
             Ok(storage) => {
-                self.storage = storage;
+                self.put(storage);
                 Ok(())
             }
             Err(refused) => Err(refused),
@@ -150,18 +151,29 @@ impl Blob {
             Storage::Own(mut bytes) => match bytes.reserve(more) {
                 Ok(()) => Ok(Reserved { bytes }),
                 Err(_) => {
-                    self.storage = Storage::Own(bytes);
+                    self.put(Storage::Own(bytes));
                     Err(NoMemory)
                 }
             },
             storage => match with_room(self.alloc, storage.bytes(), more) {
-                Ok(bytes) => Ok(Reserved { bytes }),
+                Ok(bytes) => {
+                    drop(storage);
+                    Ok(Reserved { bytes })
+                }
                 Err(refused) => {
-                    self.storage = storage;
+                    self.put(storage);
                     Err(refused)
                 }
             },
         }
+    }
+
+    // Replaces the bytes, and lets the former ones go.
+    fn put(&mut self, storage: Storage)
+        requires within { IsWithin storage }
+        ensures value { self.new ≡ bytes_of storage }
+    {
+        drop(mem::replace(&mut self.storage, storage));
     }
 
     /// The bytes.

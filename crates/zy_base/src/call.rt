@@ -1,6 +1,7 @@
 //! Calls on a shard of the store.
 ghost use Rattle.std.specs.Prelude.{◌≡◌, IfOk, option_copied};
 ghost use Rattle.zy_base.specs.Call.{key_of};
+ghost use Rattle.zy_base.specs.declared.call.Call.TheVariants.{Cas};
 
 use crate::blob::Blob;
 use crate::outside::NoMemory;
@@ -91,40 +92,35 @@ impl Call {
     {
         match self {
             Call::Get { key } => Ok(Call::Get { key: key.copy()? }),
-            Call::Set { key, flags, value } => Ok(Call::Set {
-                key: key.copy()?,
-                flags: *flags,
-                value: value.copy()?,
-            }),
-            Call::Add { key, flags, value } => Ok(Call::Add {
-                key: key.copy()?,
-                flags: *flags,
-                value: value.copy()?,
-            }),
-            Call::Replace { key, flags, value } => Ok(Call::Replace {
-                key: key.copy()?,
-                flags: *flags,
-                value: value.copy()?,
-            }),
-            Call::Append { key, value } => Ok(Call::Append {
-                key: key.copy()?,
-                value: value.copy()?,
-            }),
-            Call::Prepend { key, value } => Ok(Call::Prepend {
-                key: key.copy()?,
-                value: value.copy()?,
-            }),
+            Call::Set { key, flags, value } => {
+                let (key, value) = copy_both(key, value)?;
+                let flags = *flags;
+                Ok(Call::Set { key, flags, value })
+            }
+            Call::Add { key, flags, value } => {
+                let (key, value) = copy_both(key, value)?;
+                let flags = *flags;
+                Ok(Call::Add { key, flags, value })
+            }
+            Call::Replace { key, flags, value } => {
+                let (key, value) = copy_both(key, value)?;
+                let flags = *flags;
+                Ok(Call::Replace { key, flags, value })
+            }
+            Call::Append { key, value } => {
+                let (key, value) = copy_both(key, value)?;
+                Ok(Call::Append { key, value })
+            }
+            Call::Prepend { key, value } => {
+                let (key, value) = copy_both(key, value)?;
+                Ok(Call::Prepend { key, value })
+            }
             Call::Cas {
                 key,
                 flags,
                 unique,
                 value,
-            } => Ok(Call::Cas {
-                key: key.copy()?,
-                flags: *flags,
-                unique: *unique,
-                value: value.copy()?,
-            }),
+            } => copy_cas(key, *flags, *unique, value),
             Call::Incr { key, amount } => Ok(Call::Incr {
                 key: key.copy()?,
                 amount: *amount,
@@ -166,4 +162,32 @@ fn share_both(key: &mut Blob, value: &mut Blob) -> Result<(), NoMemory>
         Ok(()) => value.share(),
         Err(refused) => Err(refused),
     }
+}
+
+// A copy of a key and of a value.
+fn copy_both(key: &Blob, value: &Blob) -> Result<(Blob, Blob), NoMemory>
+    ensures key { IfOk result (λ both. both.0 ≡ key.now) }
+    ensures value { IfOk result (λ both. both.1 ≡ value.now) }
+{
+    let key = key.copy()?;
+    match value.copy() {
+        Ok(value) => Ok((key, value)),
+        Err(refused) => {
+            drop(key);
+            Err(refused)
+        }
+    }
+}
+
+// A `cas` of copies of a key and of a value.
+fn copy_cas(key: &Blob, flags: u32, unique: u64, value: &Blob) -> Result<Call, NoMemory>
+    ensures value { IfOk result (λ copy. copy ≡ Cas key.now flags unique value.now) }
+{
+    let (key, value) = copy_both(key, value)?;
+    Ok(Call::Cas {
+        key,
+        flags,
+        unique,
+        value,
+    })
 }
