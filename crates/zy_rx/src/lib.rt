@@ -6,8 +6,6 @@ mod flow_table;
 mod inlet;
 mod outlet;
 mod rx;
-#[cfg(test)]
-mod tests;
 
 pub use flow_table::FlowTable;
 pub use inlet::Inlet;
