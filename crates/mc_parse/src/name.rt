@@ -1,11 +1,12 @@
 //! The names of commands.
 ghost use Rattle.std.specs.Prelude.{◌≡◌};
+ghost use Rattle.std.specs.Str.{bytes_eq};
 ghost use Rattle.mc_parse.specs.Name.{name_of};
 
 use crate::verb::Verb;
 
 /// The name that a line begins with.
-#[derive(Clone, Copy, PartialEq, Eq)]
+#[derive(Clone, Copy)]
 pub(crate) enum Name {
     /// `set`, `add`, `replace`, `append` or `prepend`.
     Store { verb: Verb },
@@ -31,41 +32,48 @@ pub(crate) enum Name {
 pub(crate) fn name_of(word: &[u8]) -> Option<Name>
     ensures value { result ≡ name_of word.now }
 {
-    if word == b"set".as_slice() {
+    if is(word, b"set") {
         Some(Name::Store { verb: Verb::Set })
-    } else if word == b"add".as_slice() {
+    } else if is(word, b"add") {
         Some(Name::Store { verb: Verb::Add })
-    } else if word == b"replace".as_slice() {
+    } else if is(word, b"replace") {
         Some(Name::Store {
             verb: Verb::Replace,
         })
-    } else if word == b"append".as_slice() {
+    } else if is(word, b"append") {
         Some(Name::Store { verb: Verb::Append })
-    } else if word == b"prepend".as_slice() {
+    } else if is(word, b"prepend") {
         Some(Name::Store {
             verb: Verb::Prepend,
         })
-    } else if word == b"cas".as_slice() {
+    } else if is(word, b"cas") {
         Some(Name::Cas)
-    } else if word == b"get".as_slice() {
+    } else if is(word, b"get") {
         Some(Name::Get { unique: false })
-    } else if word == b"gets".as_slice() {
+    } else if is(word, b"gets") {
         Some(Name::Get { unique: true })
-    } else if word == b"delete".as_slice() {
+    } else if is(word, b"delete") {
         Some(Name::Delete)
-    } else if word == b"incr".as_slice() {
+    } else if is(word, b"incr") {
         Some(Name::Count { up: true })
-    } else if word == b"decr".as_slice() {
+    } else if is(word, b"decr") {
         Some(Name::Count { up: false })
-    } else if word == b"version".as_slice() {
+    } else if is(word, b"version") {
         Some(Name::Version)
-    } else if word == b"verbosity".as_slice() {
+    } else if is(word, b"verbosity") {
         Some(Name::Verbosity)
-    } else if word == b"flush_all".as_slice() {
+    } else if is(word, b"flush_all") {
         Some(Name::Flush)
-    } else if word == b"quit".as_slice() {
+    } else if is(word, b"quit") {
         Some(Name::Quit)
     } else {
         None
     }
+}
+
+// Whether a word is this text.
+fn is(word: &[u8], text: &[u8]) -> bool
+    ensures value { result ≡ bytes_eq word.now text.now }
+{
+    word == text
 }

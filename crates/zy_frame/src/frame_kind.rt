@@ -5,7 +5,7 @@ use zy_base::{Blob, NoMemory};
 
 /// What a frame is. A line stands without its line feed and without one carriage return before
 /// that.
-#[derive(PartialEq, Eq, Drop)]
+#[derive(Drop)]
 pub enum FrameKind {
     /// A line that takes no block.
     Line { line: Blob },
