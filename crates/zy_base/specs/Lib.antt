@@ -9,5 +9,5 @@ pub mod Kind
 pub mod Order
 pub mod Replies
 pub mod History
-pub mod PlainShard
 pub mod Reserved
+pub mod Worked

@@ -5,8 +5,6 @@ mod drawing;
 mod laws;
 mod making;
 mod request;
-#[cfg(test)]
-mod tests;
 mod writing;
 
 pub use laws::{generated_traffic_is_a_good_capture, the_worked_capture_has_its_bytes};
