@@ -1,7 +1,7 @@
 //! A feeder of small captures, whose one ring has two slots.
 ghost use Rattle.std.specs.Prelude.{◌≡◌, List, [], ◌∷◌, length, true, Some, slice_get, IfOk, IfErr};
 ghost use Rattle.zy_rx.specs.Ring.{Offering};
-ghost use Rattle.zy_feeder.specs.Feed.{rings_of, sent_by};
+ghost use Rattle.zy_rx.specs.Feed.{rings_of, sent_by};
 ghost use Rattle.zy_feed.specs.declared.intake.Header.{Header};
 ghost use Rattle.zy_feed.specs.Reads.{StopsBy};
 ghost use Rattle.zy_feed.specs.Feeding.{AreUnsent, HasFedAll};
@@ -11,8 +11,7 @@ use std::alloc::Global;
 use std::test::*;
 use zy_base::{Blob, CallNumbers, MemSource, NoMemory, Source};
 use zy_capture::CaptureFault;
-use zy_feeder::{Fed, Feeder};
-use zy_rx::{Inlet, Outlet, ring};
+use zy_rx::{Fed, Feeder, Inlet, Outlet, ring};
 
 // How many items were offered, and how many handed back, until the feeder ended or broke.
 #[derive(Clone, Copy, PartialEq, Eq)]

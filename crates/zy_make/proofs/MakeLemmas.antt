@@ -11,7 +11,7 @@ use Rattle.zy_steal.specs.Steal.{PassList, Thief, seat_of}
 use Rattle.zy_core.specs.Share.{Sharing}
 use Rattle.zy_core.specs.Core.{Cored, Identity, Fits, cored, identity_of}
 use Rattle.zy_core.specs.Drive.{identities}
-use Rattle.zy_feeder.specs.Feed.{rings_of}
+use Rattle.zy_rx.specs.Feed.{rings_of}
 use Rattle.zy_make.specs.declared.making.Making.{Making}
 use Rattle.zy_make.specs.Ready.{AreReady, IsNewHome, AreNewPasses, IsFresh}
 use Rattle.zy_make.specs.Station.{stations_of, stations_in, station_of, station_in, rings_in}

@@ -9,7 +9,7 @@ use Rattle.zy_served.proofs.TakenLemmas.{all_taken}
 use Rattle.zy_core.specs.Share.{Sharing}
 use Rattle.zy_core.specs.Core.{Cored, Identity, identity_of}
 use Rattle.zy_core.specs.Drive.{identities, AreCores, EachSettled}
-use Rattle.zy_feeder.specs.Feed.{rings_of, sent_by}
+use Rattle.zy_rx.specs.Feed.{rings_of, sent_by}
 use Rattle.zy_make.specs.Received.{homes_of, AreSettled, AllSent, HaveReceived}
 use Rattle.zy_make.specs.Station.{station_of, stations_of, stations_in, rings_in}
 use Rattle.zy_make.specs.Progress.{HasShown, HaveShown}

@@ -3,7 +3,7 @@ ghost use Rattle.std.specs.Prelude.{◌≡◌, ◌<◌, ◌≤◌, [], ◌∷◌
 ghost use Rattle.zy_table.specs.Name.{name_of};
 ghost use Rattle.zy_control.specs.Pass.{rooted};
 ghost use Rattle.zy_core.specs.Drive.{identities, AreCores, AreInlets};
-ghost use Rattle.zy_feeder.specs.Feed.{rings_of, sent_by};
+ghost use Rattle.zy_rx.specs.Feed.{rings_of, sent_by};
 ghost use Rattle.zy_feed.specs.Feeding.{AreUnsent};
 ghost use Rattle.zy_make.specs.Ready.{AreReady, IsNewHome, AreNewPasses, AreFresh};
 ghost use Rattle.zy_make.specs.Station.{stations_of, stations_in, rings_in};

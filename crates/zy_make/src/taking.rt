@@ -2,7 +2,7 @@
 ghost use Rattle.std.specs.Prelude.{◌≡◌, List, IfOk};
 ghost use Rattle.zy_capture.specs.declared.record.Record.{Record};
 ghost use Rattle.zy_core.specs.Drive.{identities, AreCores, EachSettled};
-ghost use Rattle.zy_feeder.specs.Feed.{rings_of, sent_by};
+ghost use Rattle.zy_rx.specs.Feed.{rings_of, sent_by};
 ghost use Rattle.zy_make.specs.Received.{homes_of, AreSettled, AllSent, HaveReceived};
 ghost use Rattle.zy_make.specs.Station.{stations_of, stations_in, rings_in};
 ghost use Rattle.zy_make.specs.Progress.{HasShown, HaveShown};

@@ -1,3 +1,4 @@
+pub mod Feed
 pub mod Flow
 pub mod Ring
 pub mod Session

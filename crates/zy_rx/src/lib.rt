@@ -1,7 +1,8 @@
-//! What the network delivers to a core: which core is the home of a connection, and the receive
-//! ring of each core.
+//! What the network delivers to a core: which core is the home of a connection, the receive ring of
+//! each core, and who offers items to these rings.
 #![tactic(auto)]
 
+mod feeder;
 mod flow_table;
 mod inlet;
 mod outlet;
@@ -9,6 +10,7 @@ mod rx;
 #[cfg(test)]
 mod tests;
 
+pub use feeder::{Fed, Feeder};
 pub use flow_table::FlowTable;
 pub use inlet::Inlet;
 pub use outlet::{Outlet, both_ends, ring};

@@ -12,7 +12,7 @@ use Rattle.zy_shuffle.specs.Pass.{Ringed}
 use Rattle.zy_steal.specs.Steal.{PassList}
 use Rattle.zy_conn.specs.Block.{Blocked}
 use Rattle.zy_home.specs.Home.{Homed}
-use Rattle.zy_feeder.specs.Feed.{rings_of, sent_by}
+use Rattle.zy_rx.specs.Feed.{rings_of, sent_by}
 use Rattle.zy_feed.specs.Feeding.{AreUnsent}
 use Rattle.zy_core.specs.Share.{Sharing}
 use Rattle.zy_core.specs.Core.{Identity}

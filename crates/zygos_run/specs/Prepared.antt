@@ -4,7 +4,7 @@ use Rattle.atomic_table.specs.Seated.{TableId}
 use Rattle.zy_table.specs.Name.{name_of}
 use Rattle.mc_store.specs.Pass.{Rooted}
 use Rattle.zy_rx.specs.Ring.{Offering}
-use Rattle.zy_feeder.specs.Feed.{rings_of, sent_by}
+use Rattle.zy_rx.specs.Feed.{rings_of, sent_by}
 use Rattle.zy_feed.specs.Feeding.{AreUnsent}
 use Rattle.zy_core.specs.Share.{Sharing}
 use Rattle.zy_core.specs.Core.{Identity}

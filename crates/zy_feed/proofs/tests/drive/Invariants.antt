@@ -1,5 +1,5 @@
 use Rattle.std.proofs.Common.{◌≡◌, false, Some, slice_get}
-use Rattle.zy_feeder.specs.Feed.{rings_of}
+use Rattle.zy_rx.specs.Feed.{rings_of}
 use Rattle.zy_feed.proofs.tests.drive.Given as goal
 
 -- the feeder neither ended nor broke yet, and the outlet is that of its first inlet

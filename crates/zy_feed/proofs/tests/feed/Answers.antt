@@ -1,6 +1,6 @@
 use Rattle.std.proofs.Common.{rules, ◌≡◌, sym, subst, Some, List}
 use Rattle.zy_rx.specs.Ring.{Offering}
-use Rattle.zy_feeder.specs.Feed.{sent_by}
+use Rattle.zy_rx.specs.Feed.{sent_by}
 use Rattle.zy_feed.specs.Reads.{HasBegun, StopsBy}
 use Rattle.zy_feed.specs.Feeding.{feeding, stop_in, AreUnsent, HasStopped, HasFedAll}
 use Rattle.zy_feed.proofs.WholeLemmas.{has_cause, fed_all}

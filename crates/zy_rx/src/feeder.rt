@@ -1,9 +1,9 @@
 //! Who offers items to the cores.
 ghost use Rattle.std.specs.Prelude.{◌≡◌, ◌≢◌, ◌↔◌, ◌++◌, List, Some, slice_get};
 ghost use Rattle.zy_rx.specs.Ring.{Offering};
-ghost use Rattle.zy_feeder.specs.Feed.{rings_of, sent_by, HasOffered, HasNoRoom, HasMet};
+ghost use Rattle.zy_rx.specs.Feed.{rings_of, sent_by, HasOffered, HasNoRoom, HasMet};
 
-use zy_rx::Outlet;
+use crate::outlet::Outlet;
 
 /// What a step of a feeder came to.
 #[derive(Clone, Copy, Drop, PartialEq, Eq)]
