@@ -15,8 +15,8 @@ use std::marker::Model;
 use zy_base::{Gate, NoMemory};
 use zy_conn::Block;
 use zy_control::ControlPass;
-use zy_rx::{Feeder, Outlet};
 use zy_home::Home;
+use zy_rx::{Feeder, Outlet};
 use zy_steal::{Passes, Victims};
 
 /// A core: its home, its passes on the other cores' rings, the end of its receive ring, and its pass

@@ -24,10 +24,10 @@ use Rattle.zy_rx.specs.Session.{Sessions, sessions_of}
 use Rattle.zy_conn.specs.Work.{Start, Mark, commands_of_frames}
 use Rattle.zy_conn.specs.Kept.{command_begun}
 use Rattle.zy_conn.specs.Block.{Blocked}
-use Rattle.zy_link.specs.Link.{Linked, conn_of}
-use Rattle.zy_link.specs.Finish.{ConnEnd}
-use Rattle.zy_link.specs.Link as links
-use Rattle.zy_link.proofs.FinishLemmas.{conn_end}
+use Rattle.zy_home.specs.Link.{Linked, conn_of}
+use Rattle.zy_home.specs.Finish.{ConnEnd}
+use Rattle.zy_home.specs.Link as links
+use Rattle.zy_home.proofs.FinishLemmas.{conn_end}
 use Rattle.zy_journal.specs.Journal.{IsEntry, IsHold}
 use Rattle.zy_run.specs.Commands.{streams_in, commands_in, commands_over}
 use Rattle.zy_run.specs.Run.{IsRun}

@@ -7,7 +7,7 @@ use native.Mathlib.Decide.{dec_lt}
 use Rattle.std.proofs.lemmas.List.Elements.{filter-append}
 use Rattle.std.proofs.lemmas.Option.{slice_get-map}
 use Rattle.zy_rx.specs.Flow.{home_of}
-use Rattle.zy_link.specs.Link.{Linked, conn_of}
+use Rattle.zy_home.specs.Link.{Linked, conn_of}
 use Rattle.zy_home.specs.Own.{own_conns, IsOwn, IsRising}
 use Rattle.zy_home.specs.Home.{conns_in}
 

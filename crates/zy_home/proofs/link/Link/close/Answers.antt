@@ -1,7 +1,7 @@
 use Rattle.std.proofs.Common.{refl, sym, subst}
-use Rattle.zy_link.specs.Link.{Linked, LinkStands}
-use Rattle.zy_link.proofs.LinkLemmas.{stands_close}
-use Rattle.zy_link.proofs.link.Link.close.Goals as goal
+use Rattle.zy_home.specs.Link.{Linked, LinkStands}
+use Rattle.zy_home.proofs.LinkLemmas.{stands_close}
+use Rattle.zy_home.proofs.link.Link.close.Goals as goal
 
 pub returns-clause-stands : goal.returns-clause-stands
 returns-clause-stands c s h =

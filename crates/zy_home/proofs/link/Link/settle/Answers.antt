@@ -3,10 +3,10 @@ use Rattle.zy_frame.specs.declared.frame_kind.FrameKind.{FrameKind}
 use Rattle.zy_calls.specs.Output.{Sent}
 use Rattle.zy_conn.specs.Ring.{Sending}
 use Rattle.zy_conn.specs.Block.{Blocked}
-use Rattle.zy_link.specs.Link.{Linked}
-use Rattle.zy_link.specs.Offer.{IsFilled}
-use Rattle.zy_link.proofs.IdleLemmas.{settled_idle}
-use Rattle.zy_link.proofs.link.Link.settle.Goals as goal
+use Rattle.zy_home.specs.Link.{Linked}
+use Rattle.zy_home.specs.Offer.{IsFilled}
+use Rattle.zy_home.proofs.IdleLemmas.{settled_idle}
+use Rattle.zy_home.proofs.link.Link.settle.Goals as goal
 
 pub returns-clause-idle : goal.returns-clause-idle
 returns-clause-idle c none =

@@ -1,6 +1,6 @@
 use Rattle.std.proofs.Common.{◌≡◌, ◌+◌, ◌≤◌, ◌++◌, length, option_to_list}
-use Rattle.zy_link.specs.Offer.{Offers}
-use Rattle.zy_link.proofs.link.offer_all.Given as goal
+use Rattle.zy_home.specs.Offer.{Offers}
+use Rattle.zy_home.proofs.link.offer_all.Given as goal
 
 abbrev pub invariant-loop-frame : goal.invariant-loop-frame
 invariant-loop-frame l = record {

@@ -2,9 +2,9 @@
 ghost use Rattle.std.specs.Prelude.{◌≡◌, ◌≢◌, ◌++◌, [], false, None, IfOk, OnOk, IfNone, option_to_list};
 ghost use Rattle.zy_conn.specs.Work.{has_event};
 ghost use Rattle.zy_rx.specs.Session.{Sessions, with_bytes, with_close};
-ghost use Rattle.zy_link.specs.Link.{IsFor, IsFresh, LinkStands, SameLink, StandsOn, TakesIn, conn_of};
-ghost use Rattle.zy_link.specs.Offer.{Offers, IsFilled, WaitsBehind, WaitsFull};
-ghost use Rattle.zy_link.specs.Idle.{IsIdle, due_mark, mark_in};
+ghost use Rattle.zy_home.specs.Link.{IsFor, IsFresh, LinkStands, SameLink, StandsOn, TakesIn, conn_of};
+ghost use Rattle.zy_home.specs.Offer.{Offers, IsFilled, WaitsBehind, WaitsFull};
+ghost use Rattle.zy_home.specs.Idle.{IsIdle, due_mark, mark_in};
 
 use std::alloc::Global;
 use std::marker::Model;
@@ -32,7 +32,7 @@ pub struct Link {
 
 impl Model for Link {
     ghost use Rattle.std.specs.Prelude.{◌++◌, option_to_list};
-    ghost use Rattle.zy_link.specs.Link.{Linked};
+    ghost use Rattle.zy_home.specs.Link.{Linked};
 
     ghost Value = { Linked };
 

@@ -11,7 +11,7 @@ use Rattle.zy_rx.specs.declared.rx.Rx.{Rx}
 use Rattle.zy_rx.specs.declared.rx.Rx.TheVariants.{Segment, Close}
 use Rattle.zy_rx.specs.Session.{Sessions, no_sessions, with_bytes, with_close, takes_in}
 use Rattle.zy_conn.specs.Ring.{Sending}
-use Rattle.zy_link.specs.Link.{Linked, LinkStands, IsFresh, conn_of, frames_in, streams_in, ends_from}
+use Rattle.zy_home.specs.Link.{Linked, LinkStands, IsFresh, conn_of, frames_in, streams_in, ends_from}
 
 -- ---- frames of sessions
 

@@ -7,7 +7,7 @@ use Rattle.mc_reply.specs.Texts.{texts_from, texts_of}
 use Rattle.zy_frame.specs.Cut.{commands_of}
 use Rattle.zy_calls.specs.Output.{Sent}
 use Rattle.zy_rx.specs.Session.{Sessions}
-use Rattle.zy_link.specs.Link.{ends_from, streams_in}
+use Rattle.zy_home.specs.Link.{ends_from, streams_in}
 
 -- the commands of a connection's sessions, one session after another
 abbrev pub commands_in : Sessions → List Command

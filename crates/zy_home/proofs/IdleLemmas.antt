@@ -5,9 +5,9 @@ use Rattle.std.proofs.lemmas.Bool.Decides.{nat_tests}
 use Rattle.zy_frame.specs.declared.frame_kind.FrameKind.{FrameKind}
 use Rattle.zy_conn.specs.Ring.{Sending}
 use Rattle.zy_conn.specs.Work.{Start, idle, raw, read, going, Worked, is_begun, has_event}
-use Rattle.zy_link.specs.Link.{Linked}
-use Rattle.zy_link.specs.Offer.{IsFilled}
-use Rattle.zy_link.specs.Idle.{IsIdle}
+use Rattle.zy_home.specs.Link.{Linked}
+use Rattle.zy_home.specs.Offer.{IsFilled}
+use Rattle.zy_home.specs.Idle.{IsIdle}
 
 none_known : (frames : List FrameKind) → nat_lt 0 (length frames) ≡ false → frames ≡ []
 none_known [] e = refl

@@ -3,7 +3,7 @@ use Rattle.std.specs.Prelude.{◌≡◌, ◌≢◌, ℕ, ◌+◌, ◌≤◌, Lis
 use Rattle.zy_frame.specs.declared.frame_kind.FrameKind.{FrameKind}
 use Rattle.zy_conn.specs.Ring.{Sending}
 use Rattle.zy_conn.specs.Block.{Blocked}
-use Rattle.zy_link.specs.Link.{Linked}
+use Rattle.zy_home.specs.Link.{Linked}
 
 -- the first frames that waited were offered, and the others still wait
 abbrev pub Offers : Sending → List FrameKind → Sending → List FrameKind → Type 0

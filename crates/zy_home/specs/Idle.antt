@@ -2,7 +2,7 @@
 use Rattle.std.specs.Prelude.{◌≡◌, []}
 use Rattle.zy_conn.specs.Work.{Mark, Worked, idle, mark_of}
 use Rattle.zy_conn.specs.Block.{Blocked}
-use Rattle.zy_link.specs.Link.{Linked, conn_of}
+use Rattle.zy_home.specs.Link.{Linked, conn_of}
 
 -- the mark of a block
 abbrev pub mark_in : Blocked → Mark

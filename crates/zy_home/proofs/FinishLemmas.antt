@@ -15,9 +15,9 @@ use Rattle.zy_rx.specs.Session.{Sessions}
 use Rattle.zy_conn.specs.Work.{Start, Mark, commands_of_frames, texts_all, texts_taken}
 use Rattle.zy_conn.specs.Kept.{Kept, command_begun, dues_begun}
 use Rattle.zy_conn.specs.Block.{Blocked}
-use Rattle.zy_link.specs.Link.{Linked, LinkStands, ends_from, frames_in, streams_in}
-use Rattle.zy_link.specs.Idle.{IsIdle, due_mark, mark_in}
-use Rattle.zy_link.specs.Finish.{ConnEnd, commands_in, cut_at, outputs_from}
+use Rattle.zy_home.specs.Link.{Linked, LinkStands, ends_from, frames_in, streams_in}
+use Rattle.zy_home.specs.Idle.{IsIdle, due_mark, mark_in}
+use Rattle.zy_home.specs.Finish.{ConnEnd, commands_in, cut_at, outputs_from}
 
 -- the commands of all frames
 commands-frames : (streams : List (List ℕ)) → map command_of (flat_map frames_of streams) ≡ flat_map commands_of streams
