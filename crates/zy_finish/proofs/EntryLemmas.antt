@@ -10,7 +10,7 @@ use Rattle.zy_capture.specs.Capture.{connection_limit}
 use Rattle.zy_journal.specs.Journal.{IsReply, IsEntry, IsHold}
 use Rattle.zy_conn.specs.Hold.{EachIsHold, commands_in}
 use Rattle.zy_run.specs.Run.{AreOfConnections}
-use Rattle.zy_served.specs.Left.{AreOf, held_in}
+use Rattle.zy_finish.specs.Left.{AreOf, held_in}
 use Rattle.zy_finish.specs.Bounds.{IsCallWithin}
 use Rattle.zy_finish.proofs.CommandLemmas.{all_append}
 

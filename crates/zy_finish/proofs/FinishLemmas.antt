@@ -33,12 +33,13 @@ use Rattle.zy_run.specs.Commands.{streams_in, commands_in, commands_over}
 use Rattle.zy_run.specs.Run.{IsRun}
 use Rattle.zy_run.specs.Spans.{Spans}
 use Rattle.zy_run.proofs.StreamLemmas.{length-streams_in, closes-version_1}
-use Rattle.zy_served.specs.Routing.{offered_to, streams_of}
-use Rattle.zy_served.specs.Left.{IsServed, AreOf, held_in, ends_of}
-use Rattle.zy_served.specs.Served.{AreServed, all_holds, all_sent}
-use Rattle.zy_served.proofs.ReceivedLemmas.{offered_streams}
-use Rattle.zy_served.proofs.CuttingLemmas.{ends_counted}
-use Rattle.zy_served.proofs.ServedLemmas.{own_calls, is_run, holds_span, sent_is_outputs}
+use Rattle.zy_rx.specs.Routing.{offered_to}
+use Rattle.zy_rx.specs.Session.{streams_of}
+use Rattle.zy_finish.specs.Left.{IsCarriedOut, AreOf, held_in, ends_of}
+use Rattle.zy_finish.specs.Served.{AreServed, all_holds, all_sent}
+use Rattle.zy_finish.proofs.ReceivedLemmas.{offered_streams}
+use Rattle.zy_finish.proofs.CuttingLemmas.{ends_counted}
+use Rattle.zy_finish.proofs.ServedLemmas.{own_calls, is_run, holds_span, sent_is_outputs}
 use Rattle.zy_home.specs.End.{ended_of}
 use Rattle.zy_home.specs.Home.{Homed, Keeps}
 use Rattle.zy_finish.specs.declared.rest.Rest.{Rest}
@@ -47,7 +48,7 @@ use Rattle.zy_finish.specs.Over.{AreOver}
 use Rattle.zy_finish.specs.Finish.{HaveReceived, IsFinished}
 use Rattle.zy_finish.specs.Bounds.{IsCallWithin}
 use Rattle.zy_finish.specs.Part.{session_ends}
-use Rattle.zy_finish.specs.Left.{rest_of, place_of, rest_at, blocks_left, ends_left, block_of, end_of, calls_in, holds_in, texts_in, ends_in, left_of, joined_to, IsKept, AreMerged}
+use Rattle.zy_finish.specs.Rest.{rest_of, place_of, rest_at, blocks_left, ends_left, block_of, end_of, calls_in, holds_in, texts_in, ends_in, left_of, joined_to, IsKept, AreMerged}
 use Rattle.zy_finish.proofs.HomeLemmas.{IsHeld, is_held}
 use Rattle.zy_finish.proofs.CommandLemmas.{entries_within}
 use Rattle.zy_finish.proofs.ReplyLemmas.{replies_within}
@@ -143,7 +144,7 @@ module _ (store : TableId) (version count : ℕ) (homes : List Homed) (over : Ar
         (λ one. let none = closes-version_1 count conn records (subst (λ v. AllByRecursion (IsRecordOf v count) records) one capture.lawful) in let long = length-streams_in records conn in omega arith)
 
     -- it was served
-    pub is_served : IsServed store.slots conn (streams_in records conn) (calls_in (block_of rests conn)) (left_of version rests conn)
+    pub is_served : IsCarriedOut store.slots conn (streams_in records conn) (calls_in (block_of rests conn)) (left_of version rests conn)
     is_served = record {
       calls_are = ap dues_of calls_same ∙ end.dues ∙ (λ i. due (h.table_is i).slots (h.conn_is i) (commands_over (streams i)));
       texts_are = ap texts_in end_is ∙ end.texts ∙ (λ i. texts_of (commands_over (streams i)) (sym calls_same i));
@@ -181,8 +182,8 @@ module _ (store : TableId) (shards version count : ℕ) (homes : List Homed) (ov
   are_served : AreServed shards count records (left_of version rests) (joined_to rests count) f.journal.entries
   are_served = record {
     histories = merged.histories;
-    each = λ conn within. subst (λ n. IsServed n conn (streams_in records conn) (calls_of conn (joined_to rests count)) (left_of version rests conn)) (sym slots)
-        (subst (λ calls. IsServed store.slots conn (streams_in records conn) calls (left_of version rests conn)) (sym (calls_below rests count conn within))
+    each = λ conn within. subst (λ n. IsCarriedOut n conn (streams_in records conn) (calls_of conn (joined_to rests count)) (left_of version rests conn)) (sym slots)
+        (subst (λ calls. IsCarriedOut store.slots conn (streams_in records conn) calls (left_of version rests conn)) (sym (calls_below rests count conn within))
         (is_served store version count homes over keeps rests are kept records capture received conn within));
     others = calls_past rests count;
     closed = merged.closed;

@@ -18,7 +18,7 @@ use Rattle.zy_home.proofs.JoinLemmas.{some_there}
 use Rattle.zy_home.proofs.MakeLemmas.{all_at}
 use Rattle.zy_finish.specs.declared.rest.Rest.{Rest}
 use Rattle.zy_finish.specs.Over.{IsOver, AreOver}
-use Rattle.zy_finish.specs.Left.{rest_of, place_of, IsThere}
+use Rattle.zy_finish.specs.Rest.{rest_of, place_of, IsThere}
 use Rattle.zy_finish.proofs.PlaceLemmas.{own_at}
 
 -- ---- a settled home

@@ -8,7 +8,7 @@ use native.Mathlib.Decide.{ℕ_discrete}
 use Rattle.std.proofs.lemmas.List.Elements.{filter-append}
 use Rattle.zy_rx.specs.Flow.{home_of}
 use Rattle.zy_home.specs.Own.{own_conns}
-use Rattle.zy_finish.specs.Left.{count_below, place_of}
+use Rattle.zy_finish.specs.Rest.{count_below, place_of}
 
 -- ---- places of a list
 

@@ -4,7 +4,11 @@
 mod cutting;
 mod finishing;
 mod gathered;
+mod laws;
 mod rest;
 mod sessions;
 
 pub use finishing::{Finished, finish};
+pub use laws::{
+    a_connection_receives_its_streams, outputs_are_cut_at_the_ends, what_is_served_is_a_run,
+};

@@ -11,11 +11,11 @@ use Rattle.mc_reply.proofs.TextLemmas.{texts_from-append, length-texts_from}
 use Rattle.zy_frame.specs.declared.frame_kind.FrameKind.{FrameKind}
 use Rattle.zy_frame.specs.Frame.{command_of}
 use Rattle.zy_frame.specs.Cut.{commands_of, frames_of}
-use Rattle.zy_rx.specs.Session.{Sessions}
+use Rattle.zy_rx.specs.Session.{Sessions, streams_of}
 use Rattle.zy_conn.specs.Work.{Start, Mark, commands_of_frames, texts_all, texts_taken}
 use Rattle.zy_conn.specs.Kept.{Kept, command_begun, dues_begun}
 use Rattle.zy_conn.specs.Block.{Blocked}
-use Rattle.zy_home.specs.Link.{Linked, LinkStands, ends_from, frames_in, streams_in}
+use Rattle.zy_home.specs.Link.{Linked, LinkStands, ends_from, frames_in}
 use Rattle.zy_home.specs.Idle.{IsIdle, due_mark, mark_in}
 use Rattle.zy_home.specs.Finish.{ConnEnd, commands_in, cut_at, outputs_from}
 
@@ -28,7 +28,7 @@ pub conn_end : (b : Blocked) (l : Linked) (s : Sessions) → Kept b.work → IsI
     → ConnEnd b.work.table.slots b.work.calls s l.output l.ends
 conn_end b l s k i mark stands =
     let taken : b.work.taken ≡ frames_in s = i.taken ∙ sym (append-nil l.inlet.sent) ∙ ap (λ x. l.inlet.sent ++ x) (sym i.waiting) ∙ stands.frames in
-    let all : commands_of_frames b.work.taken ≡ commands_in s = ap commands_of_frames taken ∙ commands-frames (streams_in s) in
+    let all : commands_of_frames b.work.taken ≡ commands_in s = ap commands_of_frames taken ∙ commands-frames (streams_of s) in
     let done : commands_of_frames b.work.taken ≡ k.done = k.frames ∙ ap (λ (x : Start). k.done ++ command_begun x) i.begun ∙ append-nil k.done in
     let conn : b.work.conn ≡ l.output.conn = ap (λ (m : Mark). m.0) mark in
     let count = k.count in

@@ -9,9 +9,9 @@ use Rattle.zy_frame.specs.Feed.{Appends}
 use Rattle.zy_frame.proofs.CutLaws.{frames_of_nil}
 use Rattle.zy_rx.specs.declared.rx.Rx.{Rx}
 use Rattle.zy_rx.specs.declared.rx.Rx.TheVariants.{Segment, Close}
-use Rattle.zy_rx.specs.Session.{Sessions, no_sessions, with_bytes, with_close, takes_in}
+use Rattle.zy_rx.specs.Session.{Sessions, no_sessions, with_bytes, with_close, takes_in, streams_of}
 use Rattle.zy_conn.specs.Ring.{Sending}
-use Rattle.zy_home.specs.Link.{Linked, LinkStands, IsFresh, conn_of, frames_in, streams_in, ends_from}
+use Rattle.zy_home.specs.Link.{Linked, LinkStands, IsFresh, conn_of, frames_in, ends_from}
 
 -- ---- frames of sessions
 
@@ -27,7 +27,7 @@ frames_in-bytes s bytes given due =
 
 frames_in-close : (s : Sessions) → frames_in (with_close s) ≡ frames_in s
 frames_in-close s =
-    frames_in-split (with_close s) ∙ ap (λ l. flat_map frames_of (streams_in s) ++ l) frames_of_nil
+    frames_in-split (with_close s) ∙ ap (λ l. flat_map frames_of (streams_of s) ++ l) frames_of_nil
     ∙ append-nil (frames_in s)
 
 pub frames_in-none : frames_in no_sessions ≡ []

@@ -6,12 +6,12 @@ use Rattle.mc_parse.specs.Calls.{due, dues_of}
 use Rattle.mc_reply.specs.Texts.{texts_from, texts_of}
 use Rattle.zy_frame.specs.Cut.{commands_of}
 use Rattle.zy_calls.specs.Output.{Sent}
-use Rattle.zy_rx.specs.Session.{Sessions}
-use Rattle.zy_home.specs.Link.{ends_from, streams_in}
+use Rattle.zy_rx.specs.Session.{Sessions, streams_of}
+use Rattle.zy_home.specs.Link.{ends_from}
 
 -- the commands of a connection's sessions, one session after another
 abbrev pub commands_in : Sessions → List Command
-commands_in s = flat_map commands_of (streams_in s)
+commands_in s = flat_map commands_of (streams_of s)
 
 -- the end of a connection that received these sessions, with its calls on so many shards, its output, and the ends of
 -- its sessions: each call due was made, in order; the output has the texts of all commands, each with the replies of

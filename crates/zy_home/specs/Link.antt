@@ -6,7 +6,7 @@ use Rattle.zy_frame.specs.Progress.{Progress, StandsFor}
 use Rattle.zy_calls.specs.Output.{Sent, nothing_sent}
 use Rattle.zy_rx.specs.declared.rx.Rx.{Rx}
 use Rattle.zy_rx.specs.declared.rx.Rx.TheVariants.{Segment, Close, End}
-use Rattle.zy_rx.specs.Session.{Sessions, takes_in}
+use Rattle.zy_rx.specs.Session.{Sessions, takes_in, streams_of}
 use Rattle.zy_conn.specs.Ring.{Sending}
 
 -- ---- values
@@ -27,13 +27,9 @@ conn_of l = l.output.conn
 
 -- ---- what a connection received
 
--- the streams of its sessions, the open one last
-abbrev pub streams_in : Sessions → List (List ℕ)
-streams_in s = s.closed ++ s.current ∷ []
-
 -- the frames of its sessions, one session after another
 abbrev pub frames_in : Sessions → List FrameKind
-frames_in s = flat_map frames_of (streams_in s)
+frames_in s = flat_map frames_of (streams_of s)
 
 -- the number of frames up to the end of each of these streams, where so many came before
 abbrev pub ends_from : ℕ → List (List ℕ) → List ℕ

@@ -5,10 +5,10 @@ ghost use Rattle.zy_base.specs.declared.entry.Entry.{Entry};
 ghost use Rattle.mc_reply.specs.Texts.{texts_of};
 ghost use Rattle.zy_rx.specs.declared.rx.Rx.{Rx};
 ghost use Rattle.zy_rx.specs.Flow.{home_of};
-ghost use Rattle.zy_rx.specs.Session.{Sessions, sessions_of};
+ghost use Rattle.zy_rx.specs.Session.{Sessions, sessions_of, streams_of};
 ghost use Rattle.zy_conn.specs.Kept.{Kept};
 ghost use Rattle.zy_conn.specs.Block.{Blocked};
-ghost use Rattle.zy_home.specs.Link.{Linked, LinkStands, ends_from, streams_in};
+ghost use Rattle.zy_home.specs.Link.{Linked, LinkStands, ends_from};
 ghost use Rattle.zy_home.specs.Idle.{IsIdle, due_mark, mark_in};
 ghost use Rattle.zy_home.specs.Finish.{ConnEnd, commands_in, cut_at, outputs_from};
 ghost use Rattle.zy_home.specs.Own.{own_conns};
@@ -29,7 +29,7 @@ pub fn an_idle_connection_is_finished()
 pub fn texts_are_cut_at_the_ends_of_sessions()
     ensures value { (s : Sessions) (entries : List Entry)
         → cut_at 0 (ends_from 0 s.closed) (texts_of (commands_in s) entries)
-        ≡ outputs_from 0 (streams_in s) entries }
+        ≡ outputs_from 0 (streams_of s) entries }
 {}
 
 /// The connections of a core, by one connection more.

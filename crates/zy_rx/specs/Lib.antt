@@ -2,3 +2,4 @@ pub mod Feed
 pub mod Flow
 pub mod Ring
 pub mod Session
+pub mod Routing

@@ -1,5 +1,5 @@
-use Rattle.zy_served.proofs.ServedLemmas.{own_calls, is_run, holds_span, sent_is_outputs}
-use Rattle.zy_served.proofs.laws.what_is_served_is_a_run.Goals as goal
+use Rattle.zy_finish.proofs.ServedLemmas.{own_calls, is_run, holds_span, sent_is_outputs}
+use Rattle.zy_finish.proofs.laws.what_is_served_is_a_run.Goals as goal
 
 pub returns : goal.returns
 returns c = record {

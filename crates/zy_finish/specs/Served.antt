@@ -8,7 +8,7 @@ use Rattle.zy_capture.specs.declared.record.Record.{Record}
 use Rattle.mc_store.specs.Joined.{Joined, calls_of}
 use Rattle.mc_store.specs.Closing.{AreClosed}
 use Rattle.zy_run.specs.Commands.{streams_in}
-use Rattle.zy_served.specs.Left.{Left, IsServed, cut_at}
+use Rattle.zy_finish.specs.Left.{Left, IsCarriedOut, cut_at}
 
 -- the holds of so many connections, those of each behind those before it
 abbrev pub all_holds : ℕ → (ℕ → Left) → List Hold
@@ -23,7 +23,7 @@ pub record AreServed (shards count : ℕ) (records : List Record) (left : ℕ �
     (es : List Entry) : Type 0 where
   pub histories : List (List Entry)
   -- each connection is served, by the calls of its pass
-  pub each : (conn : ℕ) → conn < count → IsServed shards conn (streams_in records conn) (calls_of conn joined)
+  pub each : (conn : ℕ) → conn < count → IsCarriedOut shards conn (streams_in records conn) (calls_of conn joined)
       (left conn)
   -- no other connection made a call
   pub others : (conn : ℕ) → count ≤ conn → calls_of conn joined ≡ []

@@ -15,10 +15,10 @@ use Rattle.zy_run.proofs.StreamLemmas.{length-streams_in}
 use Rattle.zy_run.specs.Run.{AreOfConnections, IsRun}
 use Rattle.zy_run.specs.Output.{outputs_of, all_outputs}
 use Rattle.zy_run.specs.Spans.{Spans}
-use Rattle.zy_served.specs.Left.{Left, cut_at}
-use Rattle.zy_served.specs.Served.{AreServed, all_holds, all_sent}
-use Rattle.zy_served.proofs.CuttingLemmas.{cut_is_outputs}
-use Rattle.zy_served.proofs.HoldLemmas.{spans}
+use Rattle.zy_finish.specs.Left.{Left, cut_at}
+use Rattle.zy_finish.specs.Served.{AreServed, all_holds, all_sent}
+use Rattle.zy_finish.proofs.CuttingLemmas.{cut_is_outputs}
+use Rattle.zy_finish.proofs.HoldLemmas.{spans}
 
 -- a list without entries of connections from one on has entries of those below alone
 below_of_own : (count : ℕ) (es : List Entry) → ((conn : ℕ) → count ≤ conn → of_connection conn es ≡ []) → AreOfConnections count es

@@ -12,7 +12,7 @@ use Rattle.zy_frame.specs.Frame.{command_of}
 use Rattle.zy_frame.specs.Cut.{frames_of, commands_of}
 use Rattle.zy_run.specs.Commands.{commands_over}
 use Rattle.zy_run.specs.Output.{commands_before, output, outputs_of}
-use Rattle.zy_served.specs.Left.{ends_from, ends_of, bytes_between, cut_from, cut_at}
+use Rattle.zy_finish.specs.Left.{ends_from, ends_of, bytes_between, cut_from, cut_at}
 
 -- there are as many commands as frames
 counted : (stream : List ℕ) → length (frames_of stream) ≡ length (commands_of stream)

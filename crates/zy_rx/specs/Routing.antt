@@ -1,11 +1,10 @@
--- Which items of a capture each core is offered, and what a connection has received.
+-- Which items of a capture each core is offered.
 use Rattle.std.specs.Prelude.{ℕ, ◌==◌, Bool, true, List, [], ◌∷◌, ◌++◌, map, filter}
 use Rattle.zy_capture.specs.declared.record.Record.{Record}
 use Rattle.zy_capture.specs.declared.record.Record.TheVariants as Kinds
 use Rattle.zy_rx.specs.declared.rx.Rx.{Rx}
 use Rattle.zy_rx.specs.declared.rx.Rx.TheVariants.{Segment, Close, End}
 use Rattle.zy_rx.specs.Flow.{home_of}
-use Rattle.zy_rx.specs.Session.{Sessions}
 
 -- the item as which a record is offered
 abbrev pub item_of : Record → Rx
@@ -25,7 +24,3 @@ items_for cores core records = filter (is_for cores core) (map item_of records)
 -- all that a core is offered: the items of records that are for it, and then the end
 abbrev pub offered_to : ℕ → ℕ → List Record → List Rx
 offered_to cores core records = items_for cores core records ++ End ∷ []
-
--- the streams of what a connection received: those of its closed sessions, and then that of the open one
-abbrev pub streams_of : Sessions → List (List ℕ)
-streams_of received = received.closed ++ received.current ∷ []

@@ -1,44 +1,20 @@
-//! Laws of the definitions: each is the contract of a function without a body.
-ghost use Rattle.std.specs.Prelude.{◌≡◌, ℕ, ◌<◌, ◌≤◌, true, false, List, [], ◌∷◌, ◌++◌, length, take, drop, None};
+//! Laws of what is left when all is served: each is the contract of a function without a body.
+ghost use Rattle.std.specs.Prelude.{◌≡◌, ℕ, ◌<◌, ◌≤◌, true, List, ◌++◌, length, take, drop, None};
 ghost use Rattle.std.specs.List.{concat};
 ghost use Rattle.zy_base.specs.declared.entry.Entry.{Entry};
 ghost use Rattle.zy_base.specs.Order.{of_connection, IsOrdered};
 ghost use Rattle.zy_capture.specs.declared.record.Record.{Record};
-ghost use Rattle.zy_rx.specs.declared.rx.Rx.{Rx};
 ghost use Rattle.zy_rx.specs.Flow.{home_of};
-ghost use Rattle.zy_rx.specs.Session.{sessions_of};
+ghost use Rattle.zy_rx.specs.Session.{sessions_of, streams_of};
+ghost use Rattle.zy_rx.specs.Routing.{offered_to};
 ghost use Rattle.mc_store.specs.Joined.{Joined, calls_of};
 ghost use Rattle.mc_reply.specs.Texts.{texts_of};
 ghost use Rattle.zy_run.specs.Commands.{streams_in, commands_in, commands_over};
 ghost use Rattle.zy_run.specs.Run.{IsRun};
 ghost use Rattle.zy_run.specs.Output.{outputs_of, all_outputs};
 ghost use Rattle.zy_run.specs.Spans.{Spans};
-ghost use Rattle.zy_served.specs.Routing.{item_of, is_for, items_for, offered_to, streams_of};
-ghost use Rattle.zy_served.specs.Left.{Left, cut_at, bytes_between, ends_of};
-ghost use Rattle.zy_served.specs.Served.{AreServed, all_holds, all_sent};
-
-// ---- items
-
-/// The item of a further record is offered last, to the home of its connection alone.
-pub fn items_are_offered_one_by_one()
-    ensures none { (cores core : ℕ) → items_for cores core [] ≡ [] }
-    ensures here { (cores core : ℕ) (records : List Record) (last : Record)
-        → is_for cores core (item_of last) ≡ true
-        → items_for cores core (records ++ last ∷ []) ≡ items_for cores core records ++ item_of last ∷ [] }
-    ensures other { (cores core : ℕ) (records : List Record) (last : Record)
-        → is_for cores core (item_of last) ≡ false
-        → items_for cores core (records ++ last ∷ []) ≡ items_for cores core records }
-{}
-
-/// Where the end was offered last, and a connection has seen the end, all was taken.
-pub fn all_that_was_offered_is_taken()
-    ensures none { (cores core conn : ℕ) (records : List Record) (taken known : List Rx)
-        → taken ++ known ≡ offered_to cores core records → (sessions_of conn taken).ended ≡ true
-        → known ≡ [] }
-    ensures all { (cores core conn : ℕ) (records : List Record) (taken known : List Rx)
-        → taken ++ known ≡ offered_to cores core records → (sessions_of conn taken).ended ≡ true
-        → taken ≡ offered_to cores core records }
-{}
+ghost use Rattle.zy_finish.specs.Left.{Left, cut_at, bytes_between, ends_of};
+ghost use Rattle.zy_finish.specs.Served.{AreServed, all_holds, all_sent};
 
 /// A connection whose home is given all that it is offered receives the streams of its sessions
 /// among the records, and then the end.

@@ -8,7 +8,7 @@ use Rattle.zy_capture.specs.declared.record.Record.TheVariants as Kinds
 use Rattle.zy_rx.specs.declared.rx.Rx.{Rx}
 use Rattle.zy_rx.specs.declared.rx.Rx.TheVariants.{Segment, Close, End}
 use Rattle.zy_rx.specs.Session.{Sessions, no_sessions, with_bytes, with_close, takes_in, sessions_from, sessions_of}
-use Rattle.zy_served.specs.Routing.{item_of, is_for, items_for, offered_to}
+use Rattle.zy_rx.specs.Routing.{item_of, is_for, items_for, offered_to}
 
 -- ---- one item more is offered
 

@@ -15,7 +15,8 @@ use Rattle.zy_rx.specs.Session.{Sessions, no_sessions, with_bytes, with_close, t
 use Rattle.zy_rx.proofs.SessionLemmas.{sessions-push}
 use Rattle.zy_run.specs.Commands.{streams_in}
 use Rattle.zy_run.proofs.StreamLemmas.{streams_held}
-use Rattle.zy_served.specs.Routing.{item_of, is_for, items_for, offered_to, streams_of}
+use Rattle.zy_rx.specs.Routing.{item_of, is_for, items_for, offered_to}
+use Rattle.zy_rx.specs.Session.{streams_of}
 
 -- ---- the items of one record
 
