@@ -12,7 +12,7 @@ use Rattle.zy_conn.specs.Hold.{EachIsHold, commands_in}
 use Rattle.zy_run.specs.Run.{AreOfConnections}
 use Rattle.zy_finish.specs.Left.{AreOf, held_in}
 use Rattle.zy_finish.specs.Bounds.{IsCallWithin}
-use Rattle.zy_finish.proofs.CommandLemmas.{all_append}
+use Rattle.zy_setup.proofs.ListLemmas.{all_append}
 
 -- ---- parts
 

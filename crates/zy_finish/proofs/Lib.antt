@@ -1,3 +1,4 @@
+pub mod TakeLemmas
 pub mod ReceivedLemmas
 pub mod CuttingLemmas
 pub mod HoldLemmas

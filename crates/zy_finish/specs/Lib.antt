@@ -1,5 +1,7 @@
 pub mod Over
 pub mod Finish
+pub mod Received
+pub mod Shown
 pub mod Part
 pub mod Left
 pub mod Served
