@@ -19,6 +19,7 @@ use Rattle.mc_parse.specs.Calls.{due, dues_of}
 use Rattle.mc_reply.specs.Texts.{texts_of}
 use Rattle.mc_store.specs.Joined.{is_joined, calls_of}
 use Rattle.zy_frame.specs.Frame.{command_of}
+use Rattle.zy_base.specs.Held.{held_in}
 use Rattle.zy_rx.specs.Flow.{home_of}
 use Rattle.zy_rx.specs.Session.{Sessions, sessions_of}
 use Rattle.zy_conn.specs.Work.{Start, Mark, commands_of_frames}
@@ -35,7 +36,7 @@ use Rattle.zy_run.specs.Spans.{Spans}
 use Rattle.zy_run.proofs.StreamLemmas.{length-streams_in, closes-version_1}
 use Rattle.zy_rx.specs.Routing.{offered_to}
 use Rattle.zy_rx.specs.Session.{streams_of}
-use Rattle.zy_finish.specs.Left.{IsCarriedOut, AreOf, held_in, ends_of}
+use Rattle.zy_finish.specs.Left.{IsCarriedOut, AreOf, ends_of}
 use Rattle.zy_finish.specs.Served.{AreServed, all_holds, all_sent}
 use Rattle.zy_finish.proofs.ReceivedLemmas.{offered_streams}
 use Rattle.zy_finish.proofs.CuttingLemmas.{ends_counted}
@@ -52,7 +53,7 @@ use Rattle.zy_finish.specs.Rest.{rest_of, place_of, rest_at, blocks_left, ends_l
 use Rattle.zy_finish.proofs.HomeLemmas.{IsHeld, is_held}
 use Rattle.zy_finish.proofs.CommandLemmas.{entries_within}
 use Rattle.zy_finish.proofs.ReplyLemmas.{replies_within}
-use Rattle.zy_finish.proofs.EntryLemmas.{merged_entries, holds_of, holds_held, holds_within, all_holds_within}
+use Rattle.zy_finish.proofs.EntryLemmas.{merged_entries, holds_of, holds_within, all_holds_within}
 
 -- ---- the passes that were joined
 
@@ -150,7 +151,7 @@ module _ (store : TableId) (version count : ℕ) (homes : List Homed) (over : Ar
       texts_are = ap texts_in end_is ∙ end.texts ∙ (λ i. texts_of (commands_over (streams i)) (sym calls_same i));
       ends_are = ends_are;
       holds_are = subst (AreOf conn) (sym holds_same) (holds_of conn h.block.work.conn h.block.holds k.holds.each conn_same);
-      held = ap held_in holds_same ∙ holds_held h.block.holds ∙ k.holds.all ∙ finished;
+      held = ap held_in holds_same ∙ k.holds.all ∙ finished;
     }
 
     -- its holds are within their bounds

@@ -9,7 +9,8 @@ use Rattle.zy_base.specs.declared.hold.Hold.{Hold}
 use Rattle.mc_parse.specs.declared.command.Command.{Command}
 use Rattle.zy_journal.specs.Journal.{AreByConnection}
 use Rattle.zy_run.specs.Spans.{held_of, AreHoldsOf, Spans}
-use Rattle.zy_finish.specs.Left.{AreOf, held_in}
+use Rattle.zy_base.specs.Held.{held_in}
+use Rattle.zy_finish.specs.Left.{AreOf}
 
 -- ---- two lists of holds
 

@@ -3,6 +3,7 @@ use Rattle.std.specs.Prelude.{◌≡◌, ℕ, ◌+◌, ◌-◌, List, [], ◌∷
 use Rattle.std.specs.List.{concat}
 use Rattle.zy_base.specs.declared.entry.Entry.{Entry}
 use Rattle.zy_base.specs.declared.hold.Hold.{Hold}
+use Rattle.zy_base.specs.Held.{held_in}
 use Rattle.mc_parse.specs.Calls.{due, dues_of}
 use Rattle.mc_reply.specs.Texts.{texts_of}
 use Rattle.zy_frame.specs.Cut.{commands_of}
@@ -41,11 +42,6 @@ cut_at stops texts = cut_from 0 stops texts
 abbrev pub AreOf : ℕ → List Hold → Type 0
 AreOf conn [] = Unit {0}
 AreOf conn (h ∷ hs) = (h.conn ≡ conn) × AreOf conn hs
-
--- the counts of holds, added up
-abbrev pub held_in : List Hold → ℕ
-held_in [] = 0
-held_in (h ∷ hs) = h.count + held_in hs
 
 -- ---- a connection
 

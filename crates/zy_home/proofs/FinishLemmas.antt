@@ -17,7 +17,7 @@ use Rattle.zy_conn.specs.Kept.{Kept, command_begun, dues_begun}
 use Rattle.zy_conn.specs.Block.{Blocked}
 use Rattle.zy_home.specs.Link.{Linked, LinkStands, ends_from, frames_in}
 use Rattle.zy_home.specs.Idle.{IsIdle, due_mark, mark_in}
-use Rattle.zy_home.specs.Finish.{ConnEnd, commands_in, cut_at, outputs_from}
+use Rattle.zy_home.specs.Finish.{ConnEnd, commands_received, cut_at, outputs_from}
 
 -- the commands of all frames
 commands-frames : (streams : List (List ℕ)) → map command_of (flat_map frames_of streams) ≡ flat_map commands_of streams
@@ -28,7 +28,7 @@ pub conn_end : (b : Blocked) (l : Linked) (s : Sessions) → Kept b.work → IsI
     → ConnEnd b.work.table.slots b.work.calls s l.output l.ends
 conn_end b l s k i mark stands =
     let taken : b.work.taken ≡ frames_in s = i.taken ∙ sym (append-nil l.inlet.sent) ∙ ap (λ x. l.inlet.sent ++ x) (sym i.waiting) ∙ stands.frames in
-    let all : commands_of_frames b.work.taken ≡ commands_in s = ap commands_of_frames taken ∙ commands-frames (streams_of s) in
+    let all : commands_of_frames b.work.taken ≡ commands_received s = ap commands_of_frames taken ∙ commands-frames (streams_of s) in
     let done : commands_of_frames b.work.taken ≡ k.done = k.frames ∙ ap (λ (x : Start). k.done ++ command_begun x) i.begun ∙ append-nil k.done in
     let conn : b.work.conn ≡ l.output.conn = ap (λ (m : Mark). m.0) mark in
     let count = k.count in

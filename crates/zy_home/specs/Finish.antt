@@ -10,16 +10,16 @@ use Rattle.zy_rx.specs.Session.{Sessions, streams_of}
 use Rattle.zy_home.specs.Link.{ends_from}
 
 -- the commands of a connection's sessions, one session after another
-abbrev pub commands_in : Sessions → List Command
-commands_in s = flat_map commands_of (streams_of s)
+abbrev pub commands_received : Sessions → List Command
+commands_received s = flat_map commands_of (streams_of s)
 
 -- the end of a connection that received these sessions, with its calls on so many shards, its output, and the ends of
 -- its sessions: each call due was made, in order; the output has the texts of all commands, each with the replies of
 -- its own calls; all commands are finished; and each closed session ends behind its commands
 pub record ConnEnd (shards : ℕ) (calls : List Entry) (s : Sessions) (output : Sent) (ends : List ℕ) : Type 0 where
-  pub dues : dues_of calls ≡ due shards output.conn (commands_in s)
-  pub texts : output.texts ≡ texts_of (commands_in s) calls
-  pub finished : output.finished ≡ length (commands_in s)
+  pub dues : dues_of calls ≡ due shards output.conn (commands_received s)
+  pub texts : output.texts ≡ texts_of (commands_received s) calls
+  pub finished : output.finished ≡ length (commands_received s)
   pub ends_are : ends ≡ ends_from 0 s.closed
 
 -- ---- the outputs of sessions

@@ -10,7 +10,7 @@ ghost use Rattle.zy_conn.specs.Kept.{Kept};
 ghost use Rattle.zy_conn.specs.Block.{Blocked};
 ghost use Rattle.zy_home.specs.Link.{Linked, LinkStands, ends_from};
 ghost use Rattle.zy_home.specs.Idle.{IsIdle, due_mark, mark_in};
-ghost use Rattle.zy_home.specs.Finish.{ConnEnd, commands_in, cut_at, outputs_from};
+ghost use Rattle.zy_home.specs.Finish.{ConnEnd, commands_received, cut_at, outputs_from};
 ghost use Rattle.zy_home.specs.Own.{own_conns};
 ghost use Rattle.zy_home.specs.End.{Ended, blocks_in, ended_of};
 ghost use Rattle.zy_home.specs.Home.{Homed, HomeStands, Keeps, is_settled};
@@ -28,7 +28,7 @@ pub fn an_idle_connection_is_finished()
 /// session.
 pub fn texts_are_cut_at_the_ends_of_sessions()
     ensures value { (s : Sessions) (entries : List Entry)
-        → cut_at 0 (ends_from 0 s.closed) (texts_of (commands_in s) entries)
+        → cut_at 0 (ends_from 0 s.closed) (texts_of (commands_received s) entries)
         ≡ outputs_from 0 (streams_of s) entries }
 {}
 
