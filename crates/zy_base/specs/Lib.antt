@@ -11,3 +11,4 @@ pub mod Replies
 pub mod History
 pub mod Reserved
 pub mod Worked
+pub mod Held

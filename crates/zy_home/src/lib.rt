@@ -6,6 +6,7 @@ mod ends;
 mod home;
 mod inlets;
 pub mod laws;
+mod link;
 mod own;
 mod parts;
 mod place;

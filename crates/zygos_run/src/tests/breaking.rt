@@ -13,8 +13,7 @@ use zy_base::{NoMemory, Ungated};
 use zy_command_line::Run;
 use zy_core::{Cores, Driven};
 use zy_feed::{CaptureFeeder, Intake};
-use zy_feeder::{Fed, Feeder};
-use zy_rx::Outlet;
+use zy_rx::{Fed, Feeder, Outlet};
 
 // A feeder that breaks when it has taken so many steps.
 #[derive(Drop)]
