@@ -1,4 +1,3 @@
 pub mod OwnLemmas
 pub mod PassLemmas
 pub mod MadeLemmas
-pub mod TestLemmas

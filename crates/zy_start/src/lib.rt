@@ -6,7 +6,5 @@ mod made;
 mod own;
 mod ringing;
 mod starting;
-#[cfg(test)]
-mod tests;
 
 pub use starting::{Started, start};
