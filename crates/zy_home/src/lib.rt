@@ -9,8 +9,6 @@ pub mod laws;
 mod own;
 mod parts;
 mod place;
-#[cfg(test)]
-mod tests;
 
 pub use blocks::Blocks;
 pub use ends::Ends;
