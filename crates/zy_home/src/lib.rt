@@ -10,8 +10,6 @@ mod link;
 mod own;
 mod parts;
 mod place;
-#[cfg(test)]
-mod tests;
 
 pub use blocks::Blocks;
 pub use ends::Ends;

@@ -21,6 +21,3 @@ pub use standard::{StdSink, StdSource};
 pub use zy_check::{Cause, Verdict};
 pub use zy_check_input::Refusal;
 pub use zy_run::Summary;
-
-#[cfg(test)]
-mod tests;
