@@ -166,7 +166,7 @@ impl StoreTable {
         let seen = pass.last;
         let mut seat = mem::replace(&mut pass.badge, Badge::blank()).into_seat();
         let got = self.try_on(&mut seat, tag, shard, call, seen);
-        drop(mem::replace(&mut pass.badge, seat.into_badge()));
+        pass.badge = seat.into_badge();
         match got {
             Ok(Got::Reply(entry)) => {
                 pass.count += 1;

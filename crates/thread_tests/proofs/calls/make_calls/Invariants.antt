@@ -4,6 +4,6 @@ use Rattle.thread_tests.proofs.calls.make_calls.Given as goal
 -- the pass is still that of the connection, on this store
 abbrev pub invariant-loop : goal.invariant-loop
 invariant-loop g l = record {
-  table : l.pass.table ≡ l.initial.pass.table;
-  conn : l.pass.conn ≡ l.initial.pass.conn;
+  table : l.pass.table ≡ l.fn.pass.table;
+  conn : l.pass.conn ≡ l.fn.pass.conn;
 }
