@@ -1,6 +1,6 @@
 """The files of zygos, captures, journals and replies files, read and written as docs/FORMATS.md says.
 
-`read_capture`, `capture_records` and the like give the values that bytes stand for, or raise their first fault;
+`read_capture`, `capture_records` and the like give the values that bytes spell, or raise their first fault;
 `capture`, `segment` and the like give the bytes of values.
 """
 from collections import namedtuple
