@@ -4,8 +4,8 @@ use Rattle.std.specs.Prelude.{Some}
 use Rattle.std.proofs.lemmas.Option.{slice_get_read}
 use Rattle.zy_shuffle.specs.Pass.{Ringed}
 use Rattle.zy_home.specs.Home.{Homed}
-use Rattle.zy_start.specs.declared.starting.Started.{Started}
-use Rattle.zy_start.specs.Start.{IsStart, IsNewHome}
+use Rattle.zy_setup.specs.declared.starting.Started.{Started}
+use Rattle.zy_setup.specs.Start.{IsStart, IsNewHome}
 
 -- the first home is new, on the first ring
 pub first_new : (count shards : ℕ) (start : Started) (h : Homed) (ring : Ringed) → IsStart count 1 shards start → h ≡ slice_index_or start.homes.items 0 h → slice_get start.rings 0 ≡ Some ring

@@ -1,12 +1,12 @@
 //! Making the home.
 ghost use Rattle.std.specs.Prelude.{◌≤◌, ◌^◌};
-ghost use Rattle.zy_start.specs.Start.{IsStart};
+ghost use Rattle.zy_setup.specs.Start.{IsStart};
 
 use crate::homing::{CONNECTIONS, serve_all};
 use std::alloc::Global;
 use std::time::CpuClock;
 use zy_base::NoMemory;
-use zy_start::{Started, start};
+use zy_setup::{Started, start};
 
 /// The nanoseconds of so many rounds, in each of which each connection gets a segment, on a store of 16
 /// shards.

@@ -9,3 +9,4 @@ pub mod Need
 pub mod Meaning
 pub mod Calls
 pub mod Noreply
+pub mod Worked

@@ -7,7 +7,7 @@ use crate::name::Name;
 use crate::word::is_noreply;
 
 /// How many words may follow a name, and whether the last of the most is noreply.
-#[derive(Clone, Copy, PartialEq, Eq)]
+#[derive(Clone, Copy)]
 pub(crate) struct Arity {
     pub(crate) least: usize,
     /// `None`: any number may follow.

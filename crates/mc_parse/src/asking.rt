@@ -1,6 +1,6 @@
 //! What a name asks for with the words after it.
 ghost use Rattle.std.specs.Prelude.{◌≡◌, option_map};
-ghost use Rattle.mc_parse.specs.Form.{number_fault, sizes_of, store_words, cas_words, with_zero, delete_words, count_words, verbosity_words, ask_of};
+ghost use Rattle.mc_parse.specs.Form.{number_fault, sizes_of, store_words, cas_ask, cas_words, with_zero, delete_words, count_words, verbosity_words, ask_of};
 ghost use Rattle.mc_parse.specs.Line.{texts, ask_seen, HasFew};
 
 use crate::ask::Ask;
@@ -45,15 +45,15 @@ fn read_store<'a>(verb: Verb, words: &[&'a [u8]]) -> Option<Ask<'a>>
     ensures value { option_map ask_seen result ≡ store_words verb (texts words.now) }
 {
     match words {
-        [key, flags, exptime, bytes] => {
-            let Sizes { flags, bytes } = read_sizes(flags, exptime, bytes)?;
-            Some(Ask::Store {
+        [key, flags, exptime, bytes] => match read_sizes(flags, exptime, bytes) {
+            Some(Sizes { flags, bytes }) => Some(Ask::Store {
                 verb,
                 key,
                 flags,
                 bytes,
-            })
-        }
+            }),
+            None => None,
+        },
         _ => None,
     }
 }
@@ -64,15 +64,23 @@ fn read_cas<'a>(words: &[&'a [u8]]) -> Option<Ask<'a>>
 {
     match words {
         [key, flags, exptime, bytes, unique] => {
-            let Sizes { flags, bytes } = read_sizes(flags, exptime, bytes)?;
-            let unique = read_number(unique)?;
-            Some(Ask::Cas {
-                key,
-                flags,
-                bytes,
-                unique,
-            })
+            cas_ask(key, read_sizes(flags, exptime, bytes), read_number(unique))
         }
+        _ => None,
+    }
+}
+
+// The same over an item, with its unique.
+fn cas_ask(key: &[u8], sizes: Option<Sizes>, unique: Option<u64>) -> Option<Ask<'_>>
+    ensures value { option_map ask_seen result ≡ cas_ask key.now sizes unique }
+{
+    match (sizes, unique) {
+        (Some(Sizes { flags, bytes }), Some(unique)) => Some(Ask::Cas {
+            key,
+            flags,
+            bytes,
+            unique,
+        }),
         _ => None,
     }
 }
@@ -81,12 +89,13 @@ fn read_cas<'a>(words: &[&'a [u8]]) -> Option<Ask<'a>>
 fn read_sizes(flags: &[u8], exptime: &[u8], bytes: &[u8]) -> Option<Sizes>
     ensures value { result ≡ sizes_of flags.now exptime.now bytes.now }
 {
-    let flags = read_small_number(flags)?;
     if !is_exptime(exptime) {
         return None;
     }
-    let bytes = read_small_number(bytes)?;
-    Some(Sizes { flags, bytes })
+    match (read_small_number(flags), read_small_number(bytes)) {
+        (Some(flags), Some(bytes)) => Some(Sizes { flags, bytes }),
+        _ => None,
+    }
 }
 
 // Key, and a zero that may stand.
@@ -115,10 +124,10 @@ fn read_count<'a>(up: bool, words: &[&'a [u8]]) -> Option<Ask<'a>>
     ensures value { option_map ask_seen result ≡ count_words up (texts words.now) }
 {
     match words {
-        [key, amount] => {
-            let amount = read_number(amount)?;
-            Some(Ask::Count { key, up, amount })
-        }
+        [key, amount] => match read_number(amount) {
+            Some(amount) => Some(Ask::Count { key, up, amount }),
+            None => None,
+        },
         _ => None,
     }
 }
@@ -128,10 +137,7 @@ fn read_verbosity<'a>(words: &[&'a [u8]]) -> Option<Ask<'a>>
     ensures value { option_map ask_seen result ≡ verbosity_words (texts words.now) }
 {
     match words {
-        [number] => {
-            let _ = read_small_number(number)?;
-            Some(Ask::Verbosity)
-        }
+        [number] if read_small_number(number).is_some() => Some(Ask::Verbosity),
         _ => None,
     }
 }

@@ -8,7 +8,7 @@ use zy_base::{Blob, Items};
 pub type Keys = Items<Blob>;
 
 /// What a request asks for. A quiet command is not answered.
-#[derive(PartialEq, Eq, Drop)]
+#[derive(Drop)]
 pub enum Command {
     /// Stores the value, as the verb says.
     Store {

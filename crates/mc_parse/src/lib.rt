@@ -18,8 +18,6 @@ mod parse;
 mod reading;
 mod shard_call;
 mod sizes;
-#[cfg(test)]
-mod tests;
 mod verb;
 mod word;
 
@@ -29,7 +27,10 @@ pub use laws::{
     a_block_is_its_value_and_two_bytes, a_fault_has_no_calls, a_faulty_line_is_answered,
     a_get_calls_for_each_key, calls_are_at_their_keys, commands_are_due_in_order,
     entries_tell_what_was_due, lines_are_checked_in_order, noreply_is_a_last_word,
-    noreply_only_silences, spaces_part_words,
+    noreply_only_silences, spaces_part_words, worked_blocks, worked_calls, worked_commands,
+    worked_counts, worked_deletions, worked_keys, worked_large_values, worked_lines_of_no_command,
+    worked_lines_with_a_bad_number, worked_lines_without_a_key, worked_needs, worked_retrievals,
+    worked_shards, worked_storage_lines, worked_verbs,
 };
 pub use listing::calls;
 pub use need::{LINE_LIMIT, Need, need_of};

@@ -1,7 +1,7 @@
 //! The calls of a command.
-ghost use Rattle.std.specs.Prelude.{◌≡◌, ◌≤◌, [], ◌∷◌, ◌++◌, IfOk};
+ghost use Rattle.std.specs.Prelude.{◌≡◌, ◌≤◌, [], ◌∷◌, ◌++◌, Err, IfOk, IfErr, OnOk};
 ghost use Rattle.zy_base.specs.declared.call.Call.{Call};
-ghost use Rattle.mc_parse.specs.Calls.{calls_of, at_key, get_calls, flush_calls, stored_by, counted_by};
+ghost use Rattle.mc_parse.specs.Calls.{calls_of, on_shard, at_key, get_calls, flush_calls, stored_by, counted_by};
 
 use crate::command::Command;
 use crate::shard_call::{Calls, ShardCall};
@@ -22,34 +22,22 @@ pub fn calls(alloc: Global, command: &Command, shards: u32) -> Result<Calls, NoM
             flags,
             value,
             ..
-        } => match stored_by(*verb, key, *flags, value) {
-            Ok(call) => one_call(alloc, key, call, shards),
-            Err(e) => Err(e),
-        },
+        } => one_call(alloc, key, stored_by(*verb, key, *flags, value), shards),
         Command::Cas {
             key,
             flags,
             unique,
             value,
             ..
-        } => match exchanged(key, *flags, *unique, value) {
-            Ok(call) => one_call(alloc, key, call, shards),
-            Err(e) => Err(e),
-        },
+        } => one_call(alloc, key, exchanged(key, *flags, *unique, value), shards),
         Command::Get { keys, .. } => get_calls(alloc, keys.items(), shards),
-        Command::Delete { key, .. } => match key.copy() {
-            Ok(copy) => one_call(alloc, key, Call::Delete { key: copy }, shards),
-            Err(e) => Err(e),
-        },
+        Command::Delete { key, .. } => one_call(alloc, key, deleted(key), shards),
         Command::Count {
             key,
             up,
             amount,
             ..
-        } => match counted_by(*up, key, *amount) {
-            Ok(call) => one_call(alloc, key, call, shards),
-            Err(e) => Err(e),
-        },
+        } => one_call(alloc, key, counted_by(*up, key, *amount), shards),
         Command::Flush { .. } => flush_calls(alloc, shards),
         Command::Version | Command::Verbosity { .. } | Command::Fault { .. } => {
             Ok(Calls::new(alloc))
@@ -62,14 +50,26 @@ fn stored_by(verb: Verb, key: &Blob, flags: u32, value: &Blob) -> Result<Call, N
     ensures value { IfOk result (λ call. call ≡ stored_by verb key.now flags value.now) }
 {
     let key = key.copy()?;
-    let value = value.copy()?;
-    Ok(match verb {
+    match value.copy() {
+        Ok(value) => Ok(storing(verb, key, flags, value)),
+        Err(e) => {
+            drop(key);
+            Err(e)
+        }
+    }
+}
+
+// The call that stores this value as a verb says.
+fn storing(verb: Verb, key: Blob, flags: u32, value: Blob) -> Call
+    ensures value { result ≡ stored_by verb key flags value }
+{
+    match verb {
         Verb::Set => Call::Set { key, flags, value },
         Verb::Add => Call::Add { key, flags, value },
         Verb::Replace => Call::Replace { key, flags, value },
         Verb::Append => Call::Append { key, value },
         Verb::Prepend => Call::Prepend { key, value },
-    })
+    }
 }
 
 // The call that stores where the item there has this unique.
@@ -77,13 +77,26 @@ fn exchanged(key: &Blob, flags: u32, unique: u64, value: &Blob) -> Result<Call, 
     ensures value { IfOk result (λ call. call ≡ Call.Cas key.now flags unique value.now) }
 {
     let key = key.copy()?;
-    let value = value.copy()?;
-    Ok(Call::Cas {
-        key,
-        flags,
-        unique,
-        value,
-    })
+    match value.copy() {
+        Ok(value) => Ok(Call::Cas {
+            key,
+            flags,
+            unique,
+            value,
+        }),
+        Err(e) => {
+            drop(key);
+            Err(e)
+        }
+    }
+}
+
+// The call that removes the item.
+fn deleted(key: &Blob) -> Result<Call, NoMemory>
+    ensures value { IfOk result (λ call. call ≡ Call.Delete key.now) }
+{
+    let key = key.copy()?;
+    Ok(Call::Delete { key })
 }
 
 // The call that counts up or down.
@@ -98,17 +111,25 @@ fn counted_by(up: bool, key: &Blob, amount: u64) -> Result<Call, NoMemory>
     }
 }
 
-// One call, on the shard of its key.
-fn one_call(alloc: Global, key: &Blob, call: Call, shards: u32) -> Result<Calls, NoMemory>
+// The one call that was made, on the shard of its key.
+fn one_call(
+    alloc: Global,
+    key: &Blob,
+    made: Result<Call, NoMemory>,
+    shards: u32,
+) -> Result<Calls, NoMemory>
     requires some { 1 ≤ shards }
-    ensures value { IfOk result (λ calls. calls ≡ at_key shards key.now call ∷ []) }
+    ensures value { IfOk made (λ call. IfOk result (λ calls. calls
+        ≡ at_key shards key.now call ∷ [])) }
+    ensures refused { IfErr made (λ e. result ≡ Err e) }
 {
-    let mut calls = Calls::new(alloc);
+    let call = made?;
     let shard = shard_of(key.bytes(), shards);
-    match calls.push(ShardCall { shard, call }) {
+    let mut calls = Calls::new(alloc);
+    match push(&mut calls, ShardCall { shard, call }) {
         Ok(()) => Ok(calls),
-        Err((call, e)) => {
-            drop(call);
+        Err(e) => {
+            drop(calls);
             Err(e)
         }
     }
@@ -122,13 +143,34 @@ fn get_calls(alloc: Global, keys: &[Blob], shards: u32) -> Result<Calls, NoMemor
     let mut calls = Calls::new(alloc);
     for key in keys {
         let shard = shard_of(key.bytes(), shards);
-        let call = Call::Get { key: key.copy()? };
-        if let Err((call, e)) = calls.push(ShardCall { shard, call }) {
-            drop(call);
+        if let Err(e) = push_get(&mut calls, key, shard) {
+            drop(calls);
             return Err(e);
         }
     }
     Ok(calls)
+}
+
+// Appends the call that gets the item of a key.
+fn push_get(calls: &mut Calls, key: &Blob, shard: u32) -> Result<(), NoMemory>
+    ensures ok { OnOk result (calls.new ≡ calls.old ++ on_shard (Call.Get key.now) shard ∷ []) }
+{
+    let key = key.copy()?;
+    let call = Call::Get { key };
+    push(calls, ShardCall { shard, call })
+}
+
+// Appends a call.
+fn push(calls: &mut Calls, call: ShardCall) -> Result<(), NoMemory>
+    ensures ok { OnOk result (calls.new ≡ calls.old ++ call ∷ []) }
+{
+    match calls.push(call) {
+        Ok(()) => Ok(()),
+        Err((call, e)) => {
+            drop(call);
+            Err(e)
+        }
+    }
 }
 
 // A flush of each shard.
@@ -138,8 +180,8 @@ fn flush_calls(alloc: Global, shards: u32) -> Result<Calls, NoMemory>
     let mut calls = Calls::new(alloc);
     for shard in 0..shards {
         let call = Call::Flush;
-        if let Err((call, e)) = calls.push(ShardCall { shard, call }) {
-            drop(call);
+        if let Err(e) = push(&mut calls, ShardCall { shard, call }) {
+            drop(calls);
             return Err(e);
         }
     }

@@ -1,5 +1,5 @@
 //! The command of a line, and of a line with its block.
-ghost use Rattle.std.specs.Prelude.{◌≡◌, ◌≤◌, length, IfOk, IfErr};
+ghost use Rattle.std.specs.Prelude.{◌≡◌, ◌≤◌, [], ◌∷◌, ◌++◌, length, IfOk, IfErr, OnOk};
 ghost use Rattle.mc_parse.specs.declared.need.Need.{Need};
 ghost use Rattle.mc_parse.specs.declared.command.Command.{Command};
 ghost use Rattle.mc_parse.specs.Words.{words, line_limit};
@@ -64,25 +64,49 @@ fn command_for(alloc: Global, line: Line<'_>) -> Result<Command, NoMemory>
 fn alone_command(alloc: Global, ask: Ask<'_>, quiet: bool) -> Result<Command, NoMemory>
     ensures value { IfOk result (λ command. command ≡ alone_command (ask_seen ask.entry) quiet) }
 {
-    Ok(match ask {
-        Ask::Get { keys, unique } => Command::Get {
-            keys: copy_words(alloc, keys)?,
-            unique,
-        },
-        Ask::Delete { key } => Command::Delete {
-            key: Blob::copy_of(alloc, key)?,
-            quiet,
-        },
-        Ask::Count { key, up, amount } => Command::Count {
-            key: Blob::copy_of(alloc, key)?,
-            up,
-            amount,
-            quiet,
-        },
-        Ask::Version => Command::Version,
-        Ask::Verbosity => Command::Verbosity { quiet },
-        Ask::Flush => Command::Flush { quiet },
-        Ask::Store { .. } | Ask::Cas { .. } | Ask::Quit => fault(ErrorLine::Unknown),
+    match ask {
+        Ask::Get { keys, unique } => get_command(alloc, keys, unique),
+        Ask::Delete { key } => delete_command(alloc, key, quiet),
+        Ask::Count { key, up, amount } => count_command(alloc, key, up, amount, quiet),
+        Ask::Version => Ok(Command::Version),
+        Ask::Verbosity => Ok(Command::Verbosity { quiet }),
+        Ask::Flush => Ok(Command::Flush { quiet }),
+        Ask::Store { .. } | Ask::Cas { .. } | Ask::Quit => Ok(fault(ErrorLine::Unknown)),
+    }
+}
+
+// A retrieval of the words of a text.
+fn get_command(alloc: Global, text: &[u8], unique: bool) -> Result<Command, NoMemory>
+    ensures value { IfOk result (λ command. command ≡ Command.Get (words text.now) unique) }
+{
+    let keys = copy_words(alloc, text)?;
+    Ok(Command::Get { keys, unique })
+}
+
+// A deletion.
+fn delete_command(alloc: Global, key: &[u8], quiet: bool) -> Result<Command, NoMemory>
+    ensures value { IfOk result (λ command. command ≡ Command.Delete key.now quiet) }
+{
+    let key = Blob::copy_of(alloc, key)?;
+    Ok(Command::Delete { key, quiet })
+}
+
+// A count by an amount.
+fn count_command(
+    alloc: Global,
+    key: &[u8],
+    up: bool,
+    amount: u64,
+    quiet: bool,
+) -> Result<Command, NoMemory>
+    ensures value { IfOk result (λ command. command ≡ Command.Count key.now up amount quiet) }
+{
+    let key = Blob::copy_of(alloc, key)?;
+    Ok(Command::Count {
+        key,
+        up,
+        amount,
+        quiet,
     })
 }
 
@@ -97,9 +121,13 @@ fn block_command_for(
     ensures returned { IfErr result (λ e. e.0 ≡ block) }
 {
     match line {
-        Line::Fault(line) => Ok(fault(line)),
+        Line::Fault(line) => {
+            drop(block);
+            Ok(fault(line))
+        }
         Line::Asks { ask, quiet } => {
             if !is_ended(&block) {
+                drop(block);
                 return Ok(block_fault(ErrorLine::BadChunk, quiet));
             }
             if let Err(e) = block.share() {
@@ -152,7 +180,10 @@ fn value_command(
             }),
             Err(e) => Err((block, e)),
         },
-        _ => Ok(fault(ErrorLine::Unknown)),
+        _ => {
+            drop(block);
+            Ok(fault(ErrorLine::Unknown))
+        }
     }
 }
 
@@ -204,11 +235,25 @@ fn copy_words(alloc: Global, text: &[u8]) -> Result<Keys, NoMemory>
     let mut keys = Keys::new(alloc);
     let mut rest = text;
     while let Some(split) = next_word(rest) {
-        let key = Blob::copy_of(alloc, split.word)?;
-        if let Err((_, e)) = keys.push(key) {
+        if let Err(e) = push_copy(alloc, &mut keys, split.word) {
+            drop(keys);
             return Err(e);
         }
         rest = split.rest;
     }
     Ok(keys)
+}
+
+// Appends a copy of a word.
+fn push_copy(alloc: Global, keys: &mut Keys, word: &[u8]) -> Result<(), NoMemory>
+    ensures ok { OnOk result (keys.new ≡ keys.old ++ word.now ∷ []) }
+{
+    let key = Blob::copy_of(alloc, word)?;
+    match keys.push(key) {
+        Ok(()) => Ok(()),
+        Err((key, e)) => {
+            drop(key);
+            Err(e)
+        }
+    }
 }

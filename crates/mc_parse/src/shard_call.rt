@@ -2,7 +2,7 @@
 use zy_base::{Call, Items};
 
 /// A call on a shard.
-#[derive(PartialEq, Eq, Drop)]
+#[derive(Drop)]
 pub struct ShardCall {
     pub shard: u32,
     pub call: Call,

@@ -7,9 +7,9 @@ mod item;
 mod laws;
 mod length;
 mod lines;
-#[cfg(test)]
-mod tests;
 mod writing;
 
-pub use laws::{each_command_has_one_text, worked_answers};
+pub use laws::{
+    each_command_has_one_text, worked_answers, worked_faults, worked_limits, worked_lines,
+};
 pub use writing::reply_text;

@@ -1,11 +1,11 @@
 -- What a shard has, and how that and its history belong together. No public clause cites this module.
-use Rattle.std.specs.Prelude.{◌≡◌, ℕ, ◌<◌, ◌≤◌, List, refl}
+use Rattle.std.specs.Prelude.{◌≡◌, ℕ, ◌<◌, ◌≤◌, ◌+◌, List, Option, None, Some, refl}
 use Rattle.std.specs.Coded.{Coded, code_by, coded×, coded_ℕ, coded_list}
 use Rattle.std.specs.declared.cmp.Ordering.{Ordering}
 use Rattle.std.specs.Ordering.{nat_cmp, ordering_then}
 use Rattle.std.specs.Cmp.{IsTotalOrder, then_total, on_total, nat_cmp_total}
 use Rattle.std.specs.Cmp.Lexicographic.{slice_cmp, nat_list_cmp_total}
-use Rattle.std.specs.FinMap.{from_entries, code}
+use Rattle.std.specs.FinMap.{from_entries, code, insert}
 use Rattle.zy_base.specs.declared.item.Item.{Item}
 use Rattle.zy_base.specs.declared.entry.Entry.{Entry}
 use Rattle.zy_base.specs.Key.{hash_of}
@@ -23,6 +23,11 @@ hashed_total = then_total (on_total hash_of nat_cmp_total) nat_list_cmp_total
 -- the items that the entries make
 abbrev pub items_in : List (List ℕ × Item) → Items
 items_in entries = from_entries entries
+
+-- a shard with this item at the key of a call, and counted; a call without a key puts none
+abbrev pub with_item : State → Option (List ℕ) → Item → State
+with_item state None item = state
+with_item state (Some key) item = record { items = insert state.items key item; count = state.count + 1 }
 
 -- what every shard keeps: its items and its counter are what its history leaves, and the last stamp is the history's
 pub record IsSound (number shards last : ℕ) (contents : State) (history : List Entry) : Type 0 where

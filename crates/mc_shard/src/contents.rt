@@ -2,6 +2,7 @@
 ghost use Rattle.std.specs.Prelude.{◌≡◌, ◌+◌, ◌^◌, ◌<◌, ◌≤◌, OnOk, OnErr, option_copied};
 ghost use Rattle.std.specs.FinMap.{insert, remove, empty};
 ghost use Rattle.zy_base.specs.Shard.{item_at, empty_state, unique_of, state_with};
+ghost use Rattle.mc_shard.specs.Contents.{with_item};
 ghost use Rattle.mc_shard.specs.Step.{effect_in};
 
 use crate::change::Change;
@@ -72,10 +73,10 @@ impl Contents {
         ensures ok { OnOk result (self.new ≡ state_with shards number self.old (effect_in key change)) }
         ensures err { OnErr result (self.new ≡ self.old) }
     {
-        match (key, change) {
-            (Some(key), Change::Put { flags, value }) => {
+        match change {
+            Change::Put { flags, value } => {
                 let unique = unique(number, shards, self.count);
-                self.put(
+                self.put_at(
                     key,
                     Item {
                         flags,
@@ -84,15 +85,40 @@ impl Contents {
                     },
                 )
             }
-            (Some(key), Change::Remove) => {
-                self.remove(&key);
+            Change::Remove => {
+                if let Some(key) = &key {
+                    self.remove(key);
+                }
+                drop(key);
+                drop(change);
                 Ok(())
             }
-            (_, Change::Clear) => {
+            Change::Clear => {
                 self.clear();
+                drop(key);
+                drop(change);
                 Ok(())
             }
-            _ => Ok(()),
+            Change::Nothing => {
+                drop(key);
+                drop(change);
+                Ok(())
+            }
+        }
+    }
+
+    // Puts the item at the key of a call, and counts it; a flush has no key.
+    fn put_at(&mut self, key: Option<Hashed>, item: Item) -> Result<(), NoMemory>
+        requires room { self.old.count < 2 ^ 52 }
+        ensures ok { OnOk result (self.new ≡ with_item self.old key item) }
+        ensures err { OnErr result (self.new ≡ self.old) }
+    {
+        match key {
+            Some(key) => self.put(key, item),
+            None => {
+                drop(item);
+                Ok(())
+            }
         }
     }
 
@@ -106,11 +132,15 @@ impl Contents {
         ensures err { OnErr result (self.new ≡ self.old) }
     {
         match self.items.insert(key, item) {
-            Ok(_) => {
+            Ok(before) => {
+                drop(before);
                 self.count += 1;
                 Ok(())
             }
-            Err(_) => Err(NoMemory),
+            Err(back) => {
+                drop(back);
+                Err(NoMemory)
+            }
         }
     }
 
@@ -118,7 +148,7 @@ impl Contents {
     fn remove(&mut self, key: &Hashed)
         ensures value { self.new ≡ record { items = remove self.old.items key.now; count = self.old.count } }
     {
-        self.items.remove(key);
+        drop(self.items.remove(key));
     }
 
     // Removes all items.

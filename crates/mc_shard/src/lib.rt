@@ -8,8 +8,6 @@ mod laws;
 mod replay;
 mod shard;
 mod step;
-#[cfg(test)]
-mod tests;
 
 pub use laws::{
     a_flush_empties_and_keeps_the_counter, a_key_depends_on_its_own_calls,

@@ -66,24 +66,38 @@ impl Replay {
         }
         let key = Hashed::of_call(call)?;
         let found = self.contents.found(&key);
-        let step = shared(step_of(self.alloc, call, found)?)?;
-        self.contents
-            .carry_out(self.number, self.shards, key, step.change)?;
-        Ok(step.reply)
+        let mut step = match step_of(self.alloc, call, found) {
+            Ok(step) => step,
+            Err(refused) => {
+                drop(key);
+                return Err(refused);
+            }
+        };
+        if let Err(refused) = share(&mut step) {
+            drop(key);
+            drop(step);
+            return Err(refused);
+        }
+        let Step { reply, change } = step;
+        match self
+            .contents
+            .carry_out(self.number, self.shards, key, change)
+        {
+            Ok(()) => Ok(reply),
+            Err(refused) => {
+                drop(reply);
+                Err(refused)
+            }
+        }
     }
 }
 
-// The same step, whose value is put where its copies share its bytes.
-fn shared(step: Step) -> Result<Step, NoMemory>
-    ensures value { IfOk result (λ shared. shared ≡ step) }
+// Puts the value of a step where its copies share its bytes.
+fn share(step: &mut Step) -> Result<(), NoMemory>
+    ensures value { step.new ≡ step.old }
 {
-    let Step { reply, change } = step;
-    let change = match change {
-        Change::Put { flags, mut value } => {
-            value.share()?;
-            Change::Put { flags, value }
-        }
-        other => other,
-    };
-    Ok(Step { reply, change })
+    match &mut step.change {
+        Change::Put { flags: _, value } => value.share(),
+        _ => Ok(()),
+    }
 }

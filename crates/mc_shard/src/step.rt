@@ -1,5 +1,5 @@
 //! What each call answers and changes, where its key has no item and where it has one.
-ghost use Rattle.std.specs.Prelude.{◌≡◌, ℕ, List, ◌++◌, None, Some, option_copied};
+ghost use Rattle.std.specs.Prelude.{◌≡◌, ℕ, List, ◌++◌, None, Some, option_copied, decimal, OnOk};
 ghost use Rattle.zy_base.specs.declared.call_reply.CallReply.TheVariants.{Hit};
 ghost use Rattle.zy_base.specs.Call.{key_of};
 ghost use Rattle.zy_base.specs.Number.{number_of};
@@ -81,10 +81,11 @@ fn hit(item: &Item) -> Result<Step, NoMemory>
     ensures value { (key : List ℕ) → Gives (Some key) result
         (table.answers (Hit item.now.flags item.now.unique item.now.value)) }
 {
+    let value = item.value.copy()?;
     Ok(reply_alone(CallReply::Hit {
         flags: item.flags,
         unique: item.unique,
-        value: item.value.copy()?,
+        value,
     }))
 }
 
@@ -92,12 +93,10 @@ fn hit(item: &Item) -> Result<Step, NoMemory>
 fn put(flags: u32, value: &Blob) -> Result<Step, NoMemory>
     ensures value { (key : List ℕ) → Gives (Some key) result (table.stored key flags value.now) }
 {
+    let value = value.copy()?;
     Ok(Step {
         reply: CallReply::Stored,
-        change: Change::Put {
-            flags,
-            value: value.copy()?,
-        },
+        change: Change::Put { flags, value },
     })
 }
 
@@ -109,8 +108,10 @@ fn join(item: &Item, front: &Blob, back: &Blob) -> Result<Step, NoMemory>
         return Ok(reply_alone(CallReply::TooLarge));
     }
     let mut value = front.copy()?;
-    value.append(back.bytes())?;
-    value.share()?;
+    if let Err(refused) = lengthen(&mut value, back) {
+        drop(value);
+        return Err(refused);
+    }
     Ok(Step {
         reply: CallReply::Stored,
         change: Change::Put {
@@ -118,6 +119,14 @@ fn join(item: &Item, front: &Blob, back: &Blob) -> Result<Step, NoMemory>
             value,
         },
     })
+}
+
+// Appends a value to another, whose copies then share its bytes.
+fn lengthen(value: &mut Blob, back: &Blob) -> Result<(), NoMemory>
+    ensures ok { OnOk result (value.new ≡ value.old ++ back.now) }
+{
+    value.append(back.bytes())?;
+    value.share()
 }
 
 // The item is exchanged where it has the unique that the caller saw.
@@ -158,8 +167,10 @@ fn put_number(alloc: Global, item: &Item, number: u64) -> Result<Step, NoMemory>
     ensures value { (key : List ℕ) → Gives (Some key) result (table.counted key item.now number) }
 {
     let mut value = Blob::new(alloc);
-    number_text(&mut value, number)?;
-    value.share()?;
+    if let Err(refused) = write_digits(&mut value, number) {
+        drop(value);
+        return Err(refused);
+    }
     Ok(Step {
         reply: CallReply::Number { number },
         change: Change::Put {
@@ -167,6 +178,14 @@ fn put_number(alloc: Global, item: &Item, number: u64) -> Result<Step, NoMemory>
             value,
         },
     })
+}
+
+// Appends the digits of a number to a value, whose copies then share its bytes.
+fn write_digits(value: &mut Blob, number: u64) -> Result<(), NoMemory>
+    ensures ok { OnOk result (value.new ≡ value.old ++ decimal number) }
+{
+    number_text(value, number)?;
+    value.share()
 }
 
 // The item of the key is removed.

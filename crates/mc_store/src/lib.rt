@@ -5,8 +5,6 @@ mod got;
 mod pass;
 mod root;
 mod store;
-#[cfg(test)]
-mod tests;
 
 pub use got::Got;
 pub use pass::Pass;

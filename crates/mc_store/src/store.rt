@@ -59,24 +59,34 @@ impl StoreTable {
         ensures shards { IfOk result (λ made. made.0.shards ≡ shards) }
         ensures root { IfOk result (λ made. made.1 ≡ rooted made.0.id [] []) }
     {
-        let empty = empty_shards(alloc, shards)?;
         let Ok(words) = Vec::from_elem(alloc, 0u64, shards as usize) else {
             return Err(NoMemory);
         };
-        let Ok((table, seat)) = Table::new(alloc, words.as_slice(), empty, &()) else {
-            return Err(NoMemory);
+        let empty = match empty_shards(alloc, shards) {
+            Ok(empty) => empty,
+            Err(refused) => {
+                drop(words);
+                return Err(refused);
+            }
         };
-        let root = Root {
-            badge: seat.into_badge(),
-        };
-        Ok((
-            StoreTable {
-                table,
-                shards,
-                alloc,
-            },
-            root,
-        ))
+        let made = Table::new(alloc, words.as_slice(), empty, &());
+        drop(words);
+        match made {
+            Ok((table, seat)) => Ok((
+                StoreTable {
+                    table,
+                    shards,
+                    alloc,
+                },
+                Root {
+                    badge: seat.into_badge(),
+                },
+            )),
+            Err(back) => {
+                drop(back);
+                Err(NoMemory)
+            }
+        }
     }
 
     /// The number of shards, which is the number of the table's slots.
@@ -157,21 +167,13 @@ impl StoreTable {
         let mut seat = mem::replace(&mut pass.badge, Badge::blank()).into_seat();
         let got = self.try_on(&mut seat, tag, shard, call, seen);
         pass.badge = seat.into_badge();
-        match got? {
-            Got::Reply(entry) => {
+        match got {
+            Ok(Got::Reply(entry)) => {
                 pass.count += 1;
                 pass.last = entry.stamp;
                 Ok(Got::Reply(entry))
             }
-            Got::Busy {
-                shard,
-                loaded,
-                found,
-            } => Ok(Got::Busy {
-                shard,
-                loaded,
-                found,
-            }),
+            other => other,
         }
     }
 
@@ -230,7 +232,9 @@ fn empty_shards(alloc: Global, shards: u32) -> Result<Vec<Shard>, NoMemory>
 {
     let mut made = Vec::new(alloc);
     for number in 0..shards {
-        if made.push(Shard::new(alloc, number, shards)).is_err() {
+        if let Err(back) = made.push(Shard::new(alloc, number, shards)) {
+            drop(back);
+            drop(made);
             return Err(NoMemory);
         }
     }

@@ -7,5 +7,5 @@ pub mod MergeLemmas
 pub mod MergingLemmas
 pub mod NumberLemmas
 pub mod RisingLemmas
-pub mod PlainLemmas
 pub mod WritingLemmas
+pub mod WorkedLemmas

@@ -9,5 +9,6 @@ pub mod Kind
 pub mod Order
 pub mod Replies
 pub mod History
-pub mod PlainShard
 pub mod Reserved
+pub mod Worked
+pub mod Held

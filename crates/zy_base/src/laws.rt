@@ -1,13 +1,53 @@
 //! Laws of the definitions: each is the contract of a function without a body.
-ghost use Rattle.std.specs.Prelude.{◌≡◌, ◌≢◌, ℕ, ◌<◌, ◌^◌, List, [], ◌∷◌, ◌++◌, decimal, Some};
+ghost use Rattle.std.specs.Prelude.{◌≡◌, ◌≢◌, ℕ, ◌<◌, ◌^◌, List, [], ◌∷◌, ◌++◌, length, codes, decimal, None, Some};
 ghost use Rattle.zy_base.specs.declared.call.Call.{Call};
 ghost use Rattle.zy_base.specs.declared.entry.Entry.{Entry};
+ghost use Rattle.zy_base.specs.declared.call.Call.TheVariants as Calls;
+ghost use Rattle.zy_base.specs.declared.call_reply.CallReply.TheVariants as Answers;
+ghost use Rattle.zy_base.specs.declared.item.Item.{Item};
 ghost use Rattle.zy_base.specs.Number.{number_of};
-ghost use Rattle.zy_base.specs.Shard.{State, empty_state, reply_to};
+ghost use Rattle.zy_base.specs.Key.{hash_of, shard_of};
+ghost use Rattle.zy_base.specs.Shard.{State, empty_state, reply_to, outcome_of, value_limit};
+ghost use Rattle.zy_base.specs.Worked as Worked;
 ghost use Rattle.zy_base.specs.Kind.{MayAnswer, AreAnswers};
 ghost use Rattle.zy_base.specs.Replies.{replies_at};
 ghost use Rattle.zy_base.specs.History.{IsReplay, IsLegal, replayed, AreHistories};
 ghost use Rattle.zy_base.specs.Order.{of_connection, at_shard, AreBelow, AreByShard, StampsRise, AreStampsBelow, history_of, IsMergeOf, AreCallsOf};
+
+// ---- worked examples
+
+/// Worked keys: the published hashes of FNV-1a, and the shards that they give.
+pub fn worked_shards()
+    ensures nothing { hash_of [] ≡ 2166136261 }
+    ensures letter { hash_of (codes "a") ≡ 3826002220 }
+    ensures word { hash_of (codes "foobar") ≡ 3214735720 }
+    ensures one { shard_of (codes "a") 1 ≡ 0 }
+    ensures few { shard_of (codes "a") 16 ≡ 12 }
+    ensures other { shard_of (codes "b") 16 ≡ 5 }
+    ensures third { shard_of (codes "c") 16 ≡ 2 }
+    ensures most { shard_of (codes "a") 256 ≡ 44 }
+{}
+
+/// Worked numbers: 1 to 20 digits, and a number below 2^64.
+pub fn worked_numbers()
+    ensures none { number_of [] ≡ None }
+    ensures zero { number_of (codes "0") ≡ Some 0 }
+    ensures padded { number_of (codes "007") ≡ Some 7 }
+    ensures greatest { number_of (codes "18446744073709551615") ≡ Some 18446744073709551615 }
+    ensures greater { number_of (codes "18446744073709551616") ≡ None }
+    ensures digits { number_of (codes "00000000000000000001") ≡ Some 1 }
+    ensures long { number_of (codes "000000000000000000001") ≡ None }
+    ensures sign { number_of (codes "+1") ≡ None }
+    ensures space { number_of (codes "1 ") ≡ None }
+{}
+
+/// Worked calls, one after the other, on shard 12 of 16: what the table of calls answers.
+pub fn worked_calls()
+    ensures exchanges { Worked.answers Worked.exchanges ≡ Worked.exchanged }
+    ensures joins { Worked.answers Worked.joins ≡ Worked.joined }
+    ensures counts { Worked.answers Worked.counts ≡ Worked.counted }
+    ensures removals { Worked.answers Worked.removals ≡ Worked.removed }
+{}
 
 // ---- parts of a list
 

@@ -17,15 +17,12 @@ mod mem_sink;
 mod mem_source;
 mod number;
 mod outside;
-mod plain_shard;
 mod queue;
 mod reserved;
 mod short;
 mod storage;
 mod sure_sink;
 mod sure_source;
-#[cfg(test)]
-mod tests;
 mod writing;
 
 pub use blob::Blob;
@@ -43,7 +40,6 @@ pub use mem_sink::MemSink;
 pub use mem_source::MemSource;
 pub use number::{digits_of, number_text, read_number};
 pub use outside::{Failed, Gate, NoMemory, Sink, Source, Ungated};
-pub use plain_shard::PlainShard;
 pub use queue::Queue;
 pub use reserved::Reserved;
 pub use sure_sink::SureSink;

@@ -1,3 +1,4 @@
 pub mod Texts
 pub mod Batch
 pub mod Output
+pub mod Worked

@@ -1,8 +1,9 @@
 //! Laws of outputs: the functions do nothing, and their contracts are the laws.
-ghost use Rattle.std.specs.Prelude.{◌≡◌, ◌≤◌, ◌++◌, ℕ, List, length, take};
+ghost use Rattle.std.specs.Prelude.{◌≡◌, ◌≤◌, ◌++◌, ℕ, List, [], length, take, codes};
 ghost use Rattle.std.specs.List.{concat};
 ghost use Rattle.zy_calls.specs.Batch.{Sends};
 ghost use Rattle.zy_calls.specs.Output.{Sent, nothing_sent, with_batch, with_batches, texts_sent, bytes_upto};
+ghost use Rattle.zy_calls.specs.Worked.{worked};
 
 /// The texts of an output are those of all batches that were carried out, in order, and so are its
 /// bytes.
@@ -17,4 +18,17 @@ pub fn texts_are_sent_in_order()
 pub fn first_texts_stay()
     ensures stays { (output : Sent) (batch : Sends) (count : ℕ) → count ≤ length output.texts
         → bytes_upto (with_batch output batch) count ≡ bytes_upto output count }
+{}
+
+/// A worked output: what the definitions compute of the texts of three holds.
+pub fn the_worked_output_has_its_bytes()
+    ensures conn { worked.conn ≡ 7 }
+    ensures finished { worked.finished ≡ 5 }
+    ensures count { length worked.texts ≡ 5 }
+    ensures none { bytes_upto worked 0 ≡ [] }
+    ensures first { bytes_upto worked 1 ≡ codes "STORED\r\n" }
+    ensures empty { bytes_upto worked 2 ≡ codes "STORED\r\n" }
+    ensures more { bytes_upto worked 3 ≡ codes "STORED\r\nEND\r\n" }
+    ensures all { bytes_upto worked 5 ≡ codes "STORED\r\nEND\r\nOK\r\n" }
+    ensures joined { concat worked.texts ≡ codes "STORED\r\nEND\r\nOK\r\n" }
 {}

@@ -4,10 +4,8 @@
 mod batch;
 mod laws;
 mod output;
-#[cfg(test)]
-mod tests;
 mod texts;
 
 pub use batch::Batch;
-pub use laws::{first_texts_stay, texts_are_sent_in_order};
+pub use laws::{first_texts_stay, texts_are_sent_in_order, the_worked_output_has_its_bytes};
 pub use output::Output;

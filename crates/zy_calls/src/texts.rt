@@ -6,6 +6,7 @@ ghost use Rattle.zy_calls.specs.Texts.{further, AreWithin};
 
 use std::alloc::Global;
 use std::marker::Model;
+use std::mem;
 use zy_base::{Blob, NoMemory};
 
 /// A list of texts, which is their bytes and where each ends. Contracts see it as the list.
@@ -66,7 +67,7 @@ impl Texts {
         ensures returned { IfErr result (λ e. e.0 ≡ other) }
     {
         if self.ends.is_empty() {
-            *self = other;
+            drop(mem::replace(self, other));
             return Ok(());
         }
         if self.ends.reserve(other.ends.len()).is_err() {
@@ -80,6 +81,7 @@ impl Texts {
             return Err((other, e));
         }
         append_further(&mut self.ends, start, other.ends.as_slice());
+        drop(other);
         Ok(())
     }
 

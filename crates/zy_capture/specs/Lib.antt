@@ -10,3 +10,4 @@ pub mod RepliesSteps
 pub mod RepliesVerdict
 pub mod RepliesStanding
 pub mod Faults
+pub mod Worked

@@ -6,10 +6,6 @@ mod due;
 mod laws;
 mod limits;
 mod outputs;
-#[cfg(test)]
-mod plain;
-#[cfg(test)]
-mod plain_tests;
 mod reader;
 mod record;
 mod replies_due;
@@ -17,8 +13,6 @@ mod replies_reader;
 mod session_bytes;
 mod sessions;
 mod streams;
-#[cfg(test)]
-mod tests;
 mod writing;
 
 pub use capture_fault::{CaptureFault, FeedFault};
@@ -32,6 +26,7 @@ pub use laws::{
     the_first_fault_of_a_replies_file_counts, the_outputs_of_a_replies_file_so_far_are_lawful,
     the_records_of_a_capture_so_far_are_lawful, the_version_and_the_count_are_told,
     what_is_given_depends_on_the_bytes_alone, what_is_given_of_replies_depends_on_the_bytes_alone,
+    worked_captures, worked_heads, worked_records, worked_replies, worked_reply_faults,
     written_replies_are_read_again,
 };
 pub use outputs::Outputs;

@@ -203,13 +203,4 @@ impl Reader {
             _ => Err(CaptureFault::Truncated { at: self.at }),
         }
     }
-
-    // The place is further on, as though more bytes had been read before.
-    #[cfg(test)]
-    pub(crate) fn at_place(mut self, at: u64) -> Reader {
-        if self.at <= at && !matches!(self.due, Due::Letters) {
-            self.at = at;
-        }
-        self
-    }
 }

@@ -190,13 +190,4 @@ impl RepliesReader {
             _ => Err(FileFault::Truncated { at: self.at }),
         }
     }
-
-    // The place is further on, as though more bytes had been read before.
-    #[cfg(test)]
-    pub(crate) fn at_place(mut self, at: u64) -> RepliesReader {
-        if self.at <= at && !matches!(self.due, RepliesDue::Letters) {
-            self.at = at;
-        }
-        self
-    }
 }

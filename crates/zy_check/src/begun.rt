@@ -40,13 +40,18 @@ impl Begun {
         ensures value { IfOk result (λ begun. begun
             ≡ record { command = command; shards = shards; replies = [] }) }
     {
-        let calls = calls(alloc, &command, shards)?;
-        Ok(Begun {
-            command,
-            shards,
-            calls,
-            replies: Replies::new(alloc),
-        })
+        match calls(alloc, &command, shards) {
+            Ok(calls) => Ok(Begun {
+                command,
+                shards,
+                calls,
+                replies: Replies::new(alloc),
+            }),
+            Err(refused) => {
+                drop(command);
+                Err(refused)
+            }
+        }
     }
 
     /// Whether each of its calls is answered.
@@ -82,7 +87,10 @@ impl Begun {
     {
         match self.replies.push(reply) {
             Ok(()) => Ok(()),
-            Err((_, e)) => Err(e),
+            Err((reply, refused)) => {
+                drop(reply);
+                Err(refused)
+            }
         }
     }
 
@@ -92,8 +100,13 @@ impl Begun {
         ensures value { IfOk result (λ made. made ≡ text self.now.command self.now.replies) }
     {
         let mut made = Blob::new(alloc);
-        reply_text(&mut made, &self.command, &self.replies)?;
-        Ok(made)
+        match reply_text(&mut made, &self.command, &self.replies) {
+            Ok(()) => Ok(made),
+            Err(refused) => {
+                drop(made);
+                Err(refused)
+            }
+        }
     }
 }
 

@@ -55,7 +55,10 @@ impl Cursor {
             None => Ok(None),
             Some(frame) => match meaning(self.alloc, frame) {
                 Ok(command) => Ok(Some(command)),
-                Err((_, e)) => Err(e),
+                Err((frame, refused)) => {
+                    drop(frame);
+                    Err(refused)
+                }
             },
         }
     }

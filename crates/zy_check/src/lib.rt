@@ -12,8 +12,6 @@ mod holds;
 mod laws;
 mod missing;
 mod outputs;
-#[cfg(test)]
-mod tests;
 mod track;
 mod verdict;
 mod walk;

@@ -17,6 +17,7 @@ use crate::compared::{Compared, Differing};
 use crate::cursor::Cursor;
 use crate::files::Files;
 use std::alloc::Global;
+use std::mem;
 use zy_base::{CallReply, Entry, NoMemory};
 
 /// A connection's place in its streams: the session that is read and the place in it, the command
@@ -133,13 +134,14 @@ impl Track {
         let Some(begun) = &self.begun else {
             return Ok(());
         };
-        let text = begun.text(self.alloc)?;
         let Some(commands) = self.commands.checked_add(1) else {
             return Err(NoMemory);
         };
+        let text = begun.text(self.alloc)?;
         self.compared.add(files.output(conn, self.session), self.session, text.bytes());
+        drop(text);
         self.commands = commands;
-        self.begun = None;
+        drop(mem::replace(&mut self.begun, None));
         Ok(())
     }
 
@@ -156,7 +158,10 @@ impl Track {
             return Ok(false);
         }
         match self.cursor.next(files.stream(conn, self.session))? {
-            Some(command) => self.begun = Some(Begun::new(self.alloc, command, files.shards())?),
+            Some(command) => {
+                let begun = Begun::new(self.alloc, command, files.shards())?;
+                drop(mem::replace(&mut self.begun, Some(begun)));
+            }
             None => self.end_session(files, conn),
         }
         Ok(true)
@@ -175,6 +180,6 @@ impl Track {
         self.compared
             .end(files.output(conn, self.session), self.session);
         self.session += 1;
-        self.cursor = Cursor::new(self.alloc);
+        drop(mem::replace(&mut self.cursor, Cursor::new(self.alloc)));
     }
 }

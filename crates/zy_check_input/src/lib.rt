@@ -9,8 +9,6 @@ mod parts;
 mod pieces;
 mod replies_part;
 mod stop;
-#[cfg(test)]
-mod tests;
 
 pub use laws::{an_input_has_one_set_of_parts, parts_have_no_fault, there_is_one_part_fault};
 pub use parts::{Parts, read_parts, read_streams};

@@ -8,8 +8,6 @@ mod number;
 mod plain;
 mod request;
 mod splitting;
-#[cfg(test)]
-mod tests;
 mod verb;
 
 pub use asking::request_of;

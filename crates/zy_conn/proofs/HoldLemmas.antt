@@ -1,11 +1,12 @@
 -- One hold more.
 use Rattle.std.proofs.Common.{◌≡◌, ℕ, ◌+◌, List, [], ◌∷◌, ◌++◌, sym, ap, ◌∙◌, subst, arith}
 use Rattle.zy_base.specs.declared.hold.Hold.{Hold}
-use Rattle.zy_conn.specs.Hold.{IsHold, EachIsHold, commands_in, AreHolds}
+use Rattle.zy_base.specs.Held.{held_in}
+use Rattle.zy_conn.specs.Hold.{IsHold, EachIsHold, AreHolds}
 
-commands_in-push : (holds : List Hold) (hold : Hold) → commands_in (holds ++ hold ∷ []) ≡ commands_in holds + hold.count
-commands_in-push [] hold = omega arith
-commands_in-push (x ∷ xs) hold = omega (arith, commands_in-push xs hold)
+held_in-push : (holds : List Hold) (hold : Hold) → held_in (holds ++ hold ∷ []) ≡ held_in holds + hold.count
+held_in-push [] hold = omega arith
+held_in-push (x ∷ xs) hold = omega (arith, held_in-push xs hold)
 
 each-push : (connection : ℕ) (holds : List Hold) (hold : Hold) → EachIsHold connection holds → IsHold connection hold → EachIsHold connection (holds ++ hold ∷ [])
 each-push connection [] hold each is = (is, tt)
@@ -17,5 +18,5 @@ pub holds_more : (conn conn' n n' : ℕ) (holds holds' : List Hold) (hold : Hold
 holds_more conn conn' n n' holds holds' hold k same is more one =
     subst (λ l. AreHolds conn' n' l) (sym is) (record {
       each = each-push conn' holds hold (subst (λ c. EachIsHold c holds) (sym same) k.each) one;
-      all = commands_in-push holds hold ∙ ap (λ t. t + hold.count) k.all ∙ sym more;
+      all = held_in-push holds hold ∙ ap (λ t. t + hold.count) k.all ∙ sym more;
     })

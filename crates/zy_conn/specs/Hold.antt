@@ -1,6 +1,7 @@
 -- Holds: which of them a connection can have, what a hold records, and why it ends.
 use Rattle.std.specs.Prelude.{◌≡◌, ◌≢◌, ◌⊎◌, ℕ, ◌+◌, ◌-◌, ◌<◌, ◌≤◌, ◌^◌, List, [], ◌∷◌, ◌++◌, length, Option, None, Some, IsSome, slice_get}
 use Rattle.zy_base.specs.declared.hold.Hold.{Hold}
+use Rattle.zy_base.specs.Held.{held_in}
 use Rattle.mc_parse.specs.declared.shard_call.ShardCall.{ShardCall}
 use Rattle.mc_store.specs.declared.store.view.Trace.{Trace}
 use Rattle.mc_store.specs.Call.{WasBusy}
@@ -23,15 +24,10 @@ abbrev pub EachIsHold : ℕ → List Hold → Type 0
 EachIsHold connection [] = Unit {0}
 EachIsHold connection (hold ∷ holds) = IsHold connection hold × EachIsHold connection holds
 
--- how many commands were finished in holds
-abbrev pub commands_in : List Hold → ℕ
-commands_in [] = 0
-commands_in (hold ∷ holds) = hold.count + commands_in holds
-
 -- the holds of a connection with so many finished commands
 pub record AreHolds (connection finished : ℕ) (holds : List Hold) : Type 0 where
   pub each : EachIsHold connection holds
-  pub all : commands_in holds ≡ finished
+  pub all : held_in holds ≡ finished
 
 -- ---- what a hold records
 

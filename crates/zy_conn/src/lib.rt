@@ -8,8 +8,6 @@ mod hold_end;
 mod holding;
 mod inlet;
 mod laws;
-#[cfg(test)]
-mod tests;
 mod work;
 
 pub use block::Block;

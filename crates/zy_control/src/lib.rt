@@ -5,8 +5,6 @@ mod control;
 pub mod laws;
 mod pass;
 mod plays;
-#[cfg(test)]
-mod tests;
 mod view;
 
 pub use control::Control;

@@ -1,6 +1,6 @@
 -- What a core's one steal in a turn comes to.
 use Rattle.std.specs.Prelude.{ℕ, List, Option, Some, None}
-use Rattle.zy_link.specs.Idle.{mark_in}
+use Rattle.zy_home.specs.Idle.{mark_in}
 use Rattle.zy_home.specs.Place.{label_in}
 use Rattle.zy_conn.specs.Block.{Blocked}
 use Rattle.zy_steal.specs.declared.looks.Look.{Look}

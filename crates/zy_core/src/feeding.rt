@@ -1,9 +1,9 @@
 //! Steps of a feeder before a round.
 ghost use Rattle.std.specs.Prelude.{◌≡◌, true, false, IfSome, IfNone};
-ghost use Rattle.zy_feeder.specs.Feed.{rings_of};
+ghost use Rattle.zy_rx.specs.Feed.{rings_of};
 
 use std::sync::Wait;
-use zy_feeder::{Fed, Feeder};
+use zy_rx::{Fed, Feeder};
 
 // Steps of a feeder that has not ended, until an item is handed back. Says whether it has ended, and
 // nothing where it is broken.

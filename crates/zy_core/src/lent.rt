@@ -2,8 +2,7 @@
 ghost use Rattle.std.specs.Prelude.{◌≡◌};
 ghost use Rattle.std.proofs.Common.{refl, ◌∙◌};
 
-use zy_feeder::{Fed, Feeder};
-use zy_rx::Outlet;
+use zy_rx::{Fed, Feeder, Outlet};
 
 // A feeder that is lent to a scope, since a scope says nothing of a `&mut` that its closure holds.
 #[derive(Drop)]

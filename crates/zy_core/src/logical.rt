@@ -5,7 +5,7 @@ ghost use Rattle.zy_steal.specs.Steal.{AreIdle, seats_of};
 ghost use Rattle.zy_control.specs.declared.view.Role.TheVariants as roles;
 ghost use Rattle.zy_core.specs.Core.{AreOfOne, CoreKeeps, Fits, cored, identity_of};
 ghost use Rattle.zy_core.specs.Turn.{TurnTo};
-ghost use Rattle.zy_feeder.specs.Feed.{rings_of};
+ghost use Rattle.zy_rx.specs.Feed.{rings_of};
 
 use crate::shared::Shared;
 use crate::stealing::steal_once;
@@ -15,9 +15,8 @@ use std::marker::Model;
 use zy_base::{Gate, NoMemory};
 use zy_conn::Block;
 use zy_control::ControlPass;
-use zy_feeder::Feeder;
 use zy_home::Home;
-use zy_rx::Outlet;
+use zy_rx::{Feeder, Outlet};
 use zy_steal::{Passes, Victims};
 
 /// A core: its home, its passes on the other cores' rings, the end of its receive ring, and its pass

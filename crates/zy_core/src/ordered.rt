@@ -3,7 +3,7 @@ ghost use Rattle.std.specs.Prelude.{◌≡◌, ◌↔◌, ◌<◌, ◌≤◌, So
 ghost use Rattle.zy_core.specs.Core.{Fits, identity_of};
 ghost use Rattle.zy_core.specs.Drive.{identities, AreCores, AreInlets, EachFits, EachSettled};
 ghost use Rattle.zy_core.specs.Drive.{cores_of, IsSettled, IsBroken};
-ghost use Rattle.zy_feeder.specs.Feed.{rings_of};
+ghost use Rattle.zy_rx.specs.Feed.{rings_of};
 
 use crate::cores::Cores;
 use crate::draws::{Draws, turn_of};
@@ -14,7 +14,7 @@ use crate::rounds::{are_settled, turn_one};
 use crate::shared::Shared;
 use std::sync::Wait;
 use zy_base::{Gate, NoMemory};
-use zy_feeder::Feeder;
+use zy_rx::Feeder;
 
 /// Drives the cores on the caller's thread: the feeder offers items until one is handed back or all
 /// are offered, then each core takes a turn, and so on until all is settled. A round begins with core

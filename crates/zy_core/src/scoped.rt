@@ -1,7 +1,7 @@
 //! The scope in which threads drive the cores.
 ghost use Rattle.std.specs.Prelude.{◌≡◌, ◌≤◌, true, vec_len, vec_capacity};
 ghost use Rattle.zy_core.specs.Seat.{all_of_groups, AllFit, AllSettled};
-ghost use Rattle.zy_feeder.specs.Feed.{rings_of};
+ghost use Rattle.zy_rx.specs.Feed.{rings_of};
 
 use crate::logical::Core;
 use crate::seat::Seat;
@@ -13,7 +13,7 @@ use std::sync::atomic::AtomicU64;
 use std::thread;
 use std::thread::{Scope, Threads};
 use zy_base::Gate;
-use zy_feeder::Feeder;
+use zy_rx::Feeder;
 
 // The groups of cores as they came back, whether all of them found that all cores are done, and how
 // the caller's own loop ended.

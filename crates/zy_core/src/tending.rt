@@ -1,7 +1,7 @@
 //! What the caller does while threads drive the cores.
 ghost use Rattle.std.specs.Prelude.{◌≡◌, vec_len};
 ghost use Rattle.zy_core.specs.Seat.{all_of_seats, AllFit};
-ghost use Rattle.zy_feeder.specs.Feed.{rings_of};
+ghost use Rattle.zy_rx.specs.Feed.{rings_of};
 
 use crate::feeding::feed;
 use crate::seat::Seat;
@@ -11,7 +11,7 @@ use std::sync::Wait;
 use std::thread;
 use zy_base::{Gate, NoMemory};
 use zy_control::ControlPass;
-use zy_feeder::Feeder;
+use zy_rx::Feeder;
 
 // How the caller's own loop ended.
 #[derive(Clone, Copy, Drop, PartialEq, Eq)]

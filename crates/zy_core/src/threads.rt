@@ -2,7 +2,7 @@
 ghost use Rattle.std.specs.Prelude.{◌≡◌, ◌≤◌, true, vec_len, vec_capacity};
 ghost use Rattle.zy_core.specs.Deal.{gathered, lists_of};
 ghost use Rattle.zy_core.specs.Drive.{identities, AreCores, EachSettled, cores_of, IsSettled, IsBroken};
-ghost use Rattle.zy_feeder.specs.Feed.{rings_of};
+ghost use Rattle.zy_rx.specs.Feed.{rings_of};
 
 use crate::cores::Cores;
 use crate::dealing::{collect, deal};
@@ -18,7 +18,7 @@ use std::sync::Wait;
 use std::sync::atomic::AtomicU64;
 use std::thread::Threads;
 use zy_base::Gate;
-use zy_feeder::Feeder;
+use zy_rx::Feeder;
 
 /// Drives the cores on threads while the caller feeds them: thread `t` of so many has the cores `i`
 /// with `i` modulo that number `t`. The cores whose thread is refused are driven by the caller. The

@@ -12,9 +12,9 @@ use Rattle.zy_rx.specs.declared.rx.Rx.{Rx}
 use Rattle.zy_rx.specs.declared.rx.Rx.TheVariants.{End}
 use Rattle.zy_rx.specs.Flow.{home_of}
 use Rattle.zy_rx.specs.Ring.{Offering}
-use Rattle.zy_served.specs.Routing.{item_of, items_for}
-use Rattle.zy_served.proofs.TakenLemmas.{items_for-push, items_for-push_other}
-use Rattle.zy_feeder.specs.Feed.{sent_by}
+use Rattle.zy_rx.specs.Routing.{item_of, items_for}
+use Rattle.zy_rx.proofs.TakenLemmas.{items_for-push, items_for-push_other}
+use Rattle.zy_rx.specs.Feed.{sent_by}
 use Rattle.zy_feed.specs.declared.stop.Stop.{Stop}
 use Rattle.zy_feed.specs.declared.stage.Stage.TheVariants.{Cutting, Waiting, Ending, Ended, Broken}
 use Rattle.zy_feed.specs.Reads.{InPieces, HasRead, Cuts}

@@ -6,7 +6,7 @@ use Rattle.std.proofs.lemmas.Option.{slice_get_read, slice_get_within}
 use Rattle.zy_base.proofs.SetLemmas.{slice_get-set, set-same}
 use Rattle.zy_rx.specs.declared.rx.Rx.{Rx}
 use Rattle.zy_rx.specs.Ring.{RingName, Offering}
-use Rattle.zy_feeder.specs.Feed.{rings_of, sent_by, HasNoRoom}
+use Rattle.zy_rx.specs.Feed.{rings_of, sent_by, HasNoRoom}
 use Rattle.zy_feed.specs.Feeding.{OffersTo}
 
 pub map_none : {X A B : Type 0} (r : Option X) → (A → B) → IfNone r A → IfNone r B

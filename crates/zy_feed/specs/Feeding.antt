@@ -10,10 +10,10 @@ use Rattle.zy_rx.specs.declared.rx.Rx.{Rx}
 use Rattle.zy_rx.specs.declared.rx.Rx.TheVariants.{Segment, Close, End}
 use Rattle.zy_rx.specs.Flow.{home_of}
 use Rattle.zy_rx.specs.Ring.{Offering}
-use Rattle.zy_served.specs.Routing.{items_for, offered_to}
-use Rattle.zy_feeder.specs.declared.feeder.Fed.{Fed}
-use Rattle.zy_feeder.specs.declared.feeder.Fed.TheVariants as Answers
-use Rattle.zy_feeder.specs.Feed.{rings_of, sent_by, HasOffered, HasNoRoom}
+use Rattle.zy_rx.specs.Routing.{items_for, offered_to}
+use Rattle.zy_rx.specs.declared.feeder.Fed.{Fed}
+use Rattle.zy_rx.specs.declared.feeder.Fed.TheVariants as Answers
+use Rattle.zy_rx.specs.Feed.{rings_of, sent_by, HasOffered, HasNoRoom}
 use Rattle.zy_feed.specs.declared.stop.Stop.{Stop}
 use Rattle.zy_feed.specs.declared.intake.Header.{Header}
 use Rattle.zy_feed.specs.declared.stage.Stage.{Stage}

@@ -1,8 +1,8 @@
 //! The feeder of a run.
 ghost use Rattle.std.specs.Prelude.{◌≡◌, ◌≢◌, ◌↔◌, Some, slice_get, refl};
 ghost use Rattle.std.proofs.Common.{◌∙◌};
-ghost use Rattle.zy_served.specs.Routing as Routing;
-ghost use Rattle.zy_feeder.specs.Feed.{rings_of, sent_by, HasOffered, HasNoRoom, HasMet};
+ghost use Rattle.zy_rx.specs.Routing as Routing;
+ghost use Rattle.zy_rx.specs.Feed.{rings_of, sent_by, HasOffered, HasNoRoom, HasMet};
 ghost use Rattle.zy_feed.specs.declared.stage.Stage.TheVariants as Stages;
 ghost use Rattle.zy_feed.specs.Feeding.{state_of, in_stage, stop_in, IsBroken, Leads, StepsTo};
 ghost use Rattle.zy_feed.specs.Leads.{leads_same, leads_on};
@@ -14,8 +14,7 @@ use crate::stop::Stop;
 use std::mem;
 use zy_base::Source;
 use zy_capture::{Record, Segment};
-use zy_feeder::{Fed, Feeder};
-use zy_rx::{Outlet, Rx};
+use zy_rx::{Fed, Feeder, Outlet, Rx};
 
 /// Offers the records of a capture to the home cores of their connections, and then the end to each
 /// core.

@@ -2,7 +2,7 @@
 ghost use Rattle.std.specs.Prelude.{◌≡◌, ◌<◌, ◌≤◌, length, true, false, Some, slice_get};
 ghost use Rattle.std.specs.Prelude.{IfSome, IfNone};
 ghost use Rattle.zy_rx.specs.declared.rx.Rx.TheVariants.{End};
-ghost use Rattle.zy_feeder.specs.Feed.{rings_of, sent_by, HasNoRoom, HasMet};
+ghost use Rattle.zy_rx.specs.Feed.{rings_of, sent_by, HasNoRoom, HasMet};
 ghost use Rattle.zy_feed.specs.Feeding.{home_in, OffersTo};
 
 use std::marker::Model;

@@ -8,8 +8,6 @@ mod intake;
 mod laws;
 mod stage;
 mod stop;
-#[cfg(test)]
-mod tests;
 
 pub use feeder::CaptureFeeder;
 pub use inlets::Inlets;

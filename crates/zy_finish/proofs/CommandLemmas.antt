@@ -34,6 +34,7 @@ use Rattle.zy_frame.proofs.CutLemmas.{splits_cut}
 use Rattle.zy_base.specs.declared.entry.Entry.{Entry}
 use Rattle.zy_journal.specs.Journal.{IsKey, IsValue, IsCall}
 use Rattle.zy_run.specs.Commands.{commands_over}
+use Rattle.zy_setup.proofs.ListLemmas.{all_append}
 use Rattle.zy_finish.specs.Bounds.{IsCommand, IsDueWithin, IsCallWithin}
 
 -- ---- lists
@@ -41,10 +42,6 @@ use Rattle.zy_finish.specs.Bounds.{IsCommand, IsDueWithin, IsCallWithin}
 both : (a b : Bool) → a && b ≡ true → (a ≡ true) × (b ≡ true)
 both true b is = (refl, is)
 both false b is = absurd (cc)
-
-pub all_append : {X : Type 0} (P : X → Type 0) (xs ys : List X) → AllByRecursion P xs → AllByRecursion P ys → AllByRecursion P (xs ++ ys)
-all_append P [] ys front back = back
-all_append P (x ∷ xs) ys front back = (front.0, all_append P xs ys front.1 back)
 
 -- ---- words
 

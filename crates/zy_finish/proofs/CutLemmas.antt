@@ -2,8 +2,8 @@
 use Rattle.std.specs.List.{concat}
 use Rattle.std.proofs.Common.{◌≡◌, ℕ, ◌-◌, ◌≤◌, List, ◌++◌, length, take, drop, refl, sym, ap, ◌∙◌, arith, length-append}
 use Rattle.std.proofs.lemmas.List.{take_all, drop_at}
-use Rattle.zy_served.specs.Left.{bytes_between}
-use Rattle.zy_served.proofs.CuttingLemmas.{bytes_up_to, bytes_behind}
+use Rattle.zy_finish.specs.Left.{bytes_between}
+use Rattle.zy_finish.proofs.CuttingLemmas.{bytes_up_to, bytes_behind}
 
 -- the bytes before some others are no more than all
 pub behind_within : (front back all : List ℕ) → all ≡ front ++ back → length front ≤ length all

@@ -8,11 +8,11 @@ use Rattle.zy_base.specs.Order.{of_connection, history_of, AreBelow, StampsRise,
 use Rattle.zy_base.specs.History.{AreHistories}
 use Rattle.zy_capture.specs.Capture.{connection_limit}
 use Rattle.zy_journal.specs.Journal.{IsReply, IsEntry, IsHold}
-use Rattle.zy_conn.specs.Hold.{EachIsHold, commands_in}
+use Rattle.zy_conn.specs.Hold.{EachIsHold}
 use Rattle.zy_run.specs.Run.{AreOfConnections}
-use Rattle.zy_served.specs.Left.{AreOf, held_in}
+use Rattle.zy_finish.specs.Left.{AreOf}
 use Rattle.zy_finish.specs.Bounds.{IsCallWithin}
-use Rattle.zy_finish.proofs.CommandLemmas.{all_append}
+use Rattle.zy_setup.proofs.ListLemmas.{all_append}
 
 -- ---- parts
 
@@ -75,11 +75,6 @@ merged_entries shards count histories es few_shards few all merge below stamps c
 pub holds_of : (conn other : ℕ) (hs : List Hold) → EachIsHold other hs → other ≡ conn → AreOf conn hs
 holds_of conn other [] each same = tt
 holds_of conn other (h ∷ hs) each same = (each.0.conn_is ∙ same, holds_of conn other hs each.1 same)
-
--- and their counts add up
-pub holds_held : (hs : List Hold) → held_in hs ≡ commands_in hs
-holds_held [] = refl
-holds_held (h ∷ hs) = ap (λ n. h.count + n) (holds_held hs)
 
 -- they are within the bounds of the journal
 pub holds_within : (conn other : ℕ) (hs : List Hold) → EachIsHold other hs → other ≡ conn → conn < connection_limit → AllByRecursion IsHold hs

@@ -19,26 +19,27 @@ use Rattle.mc_parse.specs.Calls.{due, dues_of}
 use Rattle.mc_reply.specs.Texts.{texts_of}
 use Rattle.mc_store.specs.Joined.{is_joined, calls_of}
 use Rattle.zy_frame.specs.Frame.{command_of}
+use Rattle.zy_base.specs.Held.{held_in}
 use Rattle.zy_rx.specs.Flow.{home_of}
-use Rattle.zy_rx.specs.Session.{Sessions, sessions_of}
+use Rattle.zy_rx.specs.Session.{Sessions, sessions_of, streams_of}
 use Rattle.zy_conn.specs.Work.{Start, Mark, commands_of_frames}
 use Rattle.zy_conn.specs.Kept.{command_begun}
 use Rattle.zy_conn.specs.Block.{Blocked}
-use Rattle.zy_link.specs.Link.{Linked, conn_of}
-use Rattle.zy_link.specs.Finish.{ConnEnd}
-use Rattle.zy_link.specs.Link as links
-use Rattle.zy_link.proofs.FinishLemmas.{conn_end}
+use Rattle.zy_home.specs.Link.{Linked, conn_of}
+use Rattle.zy_home.specs.Finish.{ConnEnd}
+use Rattle.zy_home.specs.Link as links
+use Rattle.zy_home.proofs.FinishLemmas.{conn_end}
 use Rattle.zy_journal.specs.Journal.{IsEntry, IsHold}
 use Rattle.zy_run.specs.Commands.{streams_in, commands_in, commands_over}
 use Rattle.zy_run.specs.Run.{IsRun}
 use Rattle.zy_run.specs.Spans.{Spans}
 use Rattle.zy_run.proofs.StreamLemmas.{length-streams_in, closes-version_1}
-use Rattle.zy_served.specs.Routing.{offered_to, streams_of}
-use Rattle.zy_served.specs.Left.{IsServed, AreOf, held_in, ends_of}
-use Rattle.zy_served.specs.Served.{AreServed, all_holds, all_sent}
-use Rattle.zy_served.proofs.ReceivedLemmas.{offered_streams}
-use Rattle.zy_served.proofs.CuttingLemmas.{ends_counted}
-use Rattle.zy_served.proofs.ServedLemmas.{own_calls, is_run, holds_span, sent_is_outputs}
+use Rattle.zy_rx.specs.Routing.{offered_to}
+use Rattle.zy_finish.specs.Left.{IsCarriedOut, AreOf, ends_of}
+use Rattle.zy_finish.specs.Served.{AreServed, all_holds, all_sent}
+use Rattle.zy_finish.proofs.ReceivedLemmas.{offered_streams}
+use Rattle.zy_finish.proofs.CuttingLemmas.{ends_counted}
+use Rattle.zy_finish.proofs.ServedLemmas.{own_calls, is_run, holds_span, sent_is_outputs}
 use Rattle.zy_home.specs.End.{ended_of}
 use Rattle.zy_home.specs.Home.{Homed, Keeps}
 use Rattle.zy_finish.specs.declared.rest.Rest.{Rest}
@@ -47,11 +48,11 @@ use Rattle.zy_finish.specs.Over.{AreOver}
 use Rattle.zy_finish.specs.Finish.{HaveReceived, IsFinished}
 use Rattle.zy_finish.specs.Bounds.{IsCallWithin}
 use Rattle.zy_finish.specs.Part.{session_ends}
-use Rattle.zy_finish.specs.Left.{rest_of, place_of, rest_at, blocks_left, ends_left, block_of, end_of, calls_in, holds_in, texts_in, ends_in, left_of, joined_to, IsKept, AreMerged}
+use Rattle.zy_finish.specs.Rest.{rest_of, place_of, rest_at, blocks_left, ends_left, block_of, end_of, calls_in, holds_in, texts_in, ends_in, left_of, joined_to, IsKept, AreMerged}
 use Rattle.zy_finish.proofs.HomeLemmas.{IsHeld, is_held}
 use Rattle.zy_finish.proofs.CommandLemmas.{entries_within}
 use Rattle.zy_finish.proofs.ReplyLemmas.{replies_within}
-use Rattle.zy_finish.proofs.EntryLemmas.{merged_entries, holds_of, holds_held, holds_within, all_holds_within}
+use Rattle.zy_finish.proofs.EntryLemmas.{merged_entries, holds_of, holds_within, all_holds_within}
 
 -- ---- the passes that were joined
 
@@ -143,13 +144,13 @@ module _ (store : TableId) (version count : ℕ) (homes : List Homed) (over : Ar
         (λ one. let none = closes-version_1 count conn records (subst (λ v. AllByRecursion (IsRecordOf v count) records) one capture.lawful) in let long = length-streams_in records conn in omega arith)
 
     -- it was served
-    pub is_served : IsServed store.slots conn (streams_in records conn) (calls_in (block_of rests conn)) (left_of version rests conn)
+    pub is_served : IsCarriedOut store.slots conn (streams_in records conn) (calls_in (block_of rests conn)) (left_of version rests conn)
     is_served = record {
       calls_are = ap dues_of calls_same ∙ end.dues ∙ (λ i. due (h.table_is i).slots (h.conn_is i) (commands_over (streams i)));
       texts_are = ap texts_in end_is ∙ end.texts ∙ (λ i. texts_of (commands_over (streams i)) (sym calls_same i));
       ends_are = ends_are;
       holds_are = subst (AreOf conn) (sym holds_same) (holds_of conn h.block.work.conn h.block.holds k.holds.each conn_same);
-      held = ap held_in holds_same ∙ holds_held h.block.holds ∙ k.holds.all ∙ finished;
+      held = ap held_in holds_same ∙ k.holds.all ∙ finished;
     }
 
     -- its holds are within their bounds
@@ -181,8 +182,8 @@ module _ (store : TableId) (shards version count : ℕ) (homes : List Homed) (ov
   are_served : AreServed shards count records (left_of version rests) (joined_to rests count) f.journal.entries
   are_served = record {
     histories = merged.histories;
-    each = λ conn within. subst (λ n. IsServed n conn (streams_in records conn) (calls_of conn (joined_to rests count)) (left_of version rests conn)) (sym slots)
-        (subst (λ calls. IsServed store.slots conn (streams_in records conn) calls (left_of version rests conn)) (sym (calls_below rests count conn within))
+    each = λ conn within. subst (λ n. IsCarriedOut n conn (streams_in records conn) (calls_of conn (joined_to rests count)) (left_of version rests conn)) (sym slots)
+        (subst (λ calls. IsCarriedOut store.slots conn (streams_in records conn) calls (left_of version rests conn)) (sym (calls_below rests count conn within))
         (is_served store version count homes over keeps rests are kept records capture received conn within));
     others = calls_past rests count;
     closed = merged.closed;

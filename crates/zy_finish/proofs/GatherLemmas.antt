@@ -14,14 +14,14 @@ use Rattle.zy_base.proofs.SetLemmas.{slice_get-set, slice_get-set_other}
 use Rattle.zy_rx.specs.Flow.{home_of}
 use Rattle.atomic_table.specs.Seated.{TableId}
 use Rattle.zy_conn.specs.Block.{Blocked}
-use Rattle.zy_served.specs.Left.{Left, cut_at}
-use Rattle.zy_served.specs.Served.{all_holds, all_sent}
+use Rattle.zy_finish.specs.Left.{Left, cut_at}
+use Rattle.zy_finish.specs.Served.{all_holds, all_sent}
 use Rattle.zy_home.specs.End.{ended}
 use Rattle.zy_finish.specs.declared.rest.Rest.{Rest}
 use Rattle.zy_finish.specs.declared.rest.Last.{Last}
 use Rattle.zy_finish.specs.declared.gathered.Gathered.{Gathered}
 use Rattle.zy_finish.specs.Part.{session_ends}
-use Rattle.zy_finish.specs.Left.{place_of, rest_past, AreTaken, blocks_left, ends_left, block_of, end_of, calls_in, holds_in, texts_in, ends_in, left_of, joined_to, IsThere, IsKept, TakesIn, HasGathered}
+use Rattle.zy_finish.specs.Rest.{place_of, rest_past, AreTaken, blocks_left, ends_left, block_of, end_of, calls_in, holds_in, texts_in, ends_in, left_of, joined_to, IsThere, IsKept, TakesIn, HasGathered}
 use Rattle.zy_finish.proofs.PlaceLemmas.{drop_at_get, range_next, below_here, below_other}
 
 -- ---- one connection more

@@ -9,8 +9,8 @@ use Rattle.zy_table.proofs.NameLemmas.{same_id}
 use Rattle.zy_rx.specs.Flow.{home_of}
 use Rattle.zy_conn.specs.Work.{Mark}
 use Rattle.zy_conn.specs.Block.{Blocked}
-use Rattle.zy_link.specs.Link.{Linked, conn_of}
-use Rattle.zy_link.specs.Idle.{IsIdle, due_mark, mark_in}
+use Rattle.zy_home.specs.Link.{Linked, conn_of}
+use Rattle.zy_home.specs.Idle.{IsIdle, due_mark, mark_in}
 use Rattle.zy_home.specs.Own.{own_conns}
 use Rattle.zy_home.specs.End.{ended_of, blocks_in}
 use Rattle.zy_home.specs.Home.{Homed, Keeps, all_here, is_settled, conns_in}
@@ -18,7 +18,7 @@ use Rattle.zy_home.proofs.JoinLemmas.{some_there}
 use Rattle.zy_home.proofs.MakeLemmas.{all_at}
 use Rattle.zy_finish.specs.declared.rest.Rest.{Rest}
 use Rattle.zy_finish.specs.Over.{IsOver, AreOver}
-use Rattle.zy_finish.specs.Left.{rest_of, place_of, IsThere}
+use Rattle.zy_finish.specs.Rest.{rest_of, place_of, IsThere}
 use Rattle.zy_finish.proofs.PlaceLemmas.{own_at}
 
 -- ---- a settled home

@@ -1,3 +1,8 @@
+pub mod TakeLemmas
+pub mod ReceivedLemmas
+pub mod CuttingLemmas
+pub mod HoldLemmas
+pub mod ServedLemmas
 pub mod CommandLemmas
 pub mod ReplyLemmas
 pub mod CutLemmas

@@ -7,7 +7,7 @@ use Rattle.std.proofs.Math.Seq.{get_or-append_seam, set-append_seam}
 use Rattle.zy_capture.specs.Capture.{connection_limit}
 use Rattle.zy_capture.specs.Streams.{sessions_of}
 use Rattle.zy_capture.specs.Outputs.{AllOutputs, MayAdd, with_output, with_session}
-use Rattle.zy_served.specs.Left.{bytes_between, cut_from, cut_at}
+use Rattle.zy_finish.specs.Left.{bytes_between, cut_from, cut_at}
 use Rattle.zy_finish.specs.Part.{added, HasAdded}
 
 chosen : {A : Type 0} (b : Bool) (x y : A) → b ≡ true → (if b then x else y) ≡ x

@@ -1,14 +1,13 @@
 -- The places of connections at their homes, and what stands at a place of a list.
-use Rattle.std.specs.Prelude.{◌==◌, cond}
-use Rattle.std.specs.List.{range_with_len, filter}
-use Rattle.std.proofs.Common.{◌≡◌, ◌≢◌, ℕ, zero, suc, ◌+◌, ◌<◌, ◌≤◌, List, [], ◌∷◌, ◌++◌, length, drop, Some, slice_get, refl, sym, ap, ◌∙◌, subst, arith, eq-eqb, ne_eqb, length-append, append-nil}
-use Rattle.std.proofs.Math.Numerals.{add-one}
+use Rattle.std.specs.List.{range_with_len}
+use Rattle.std.proofs.Common.{◌≡◌, ◌≢◌, ℕ, zero, suc, ◌+◌, ◌<◌, List, [], ◌∷◌, ◌++◌, length, drop, Some, slice_get, refl, sym, ap, ◌∙◌, subst, arith, length-append}
 use mathlib.Core.Logic.{dite}
 use native.Mathlib.Decide.{ℕ_discrete}
-use Rattle.std.proofs.lemmas.List.Elements.{filter-append}
 use Rattle.zy_rx.specs.Flow.{home_of}
 use Rattle.zy_home.specs.Own.{own_conns}
-use Rattle.zy_finish.specs.Left.{count_below, place_of}
+use Rattle.zy_home.proofs.OwnLemmas.{own-more, own-here, own-else}
+use Rattle.zy_setup.proofs.ListLemmas.{get_seam}
+use Rattle.zy_finish.specs.Rest.{count_below, place_of}
 
 -- ---- places of a list
 
@@ -16,10 +15,6 @@ pub get_front : {A : Type 0} (xs ys : List A) (i : ℕ) (x : A) → slice_get xs
 get_front [] ys i x e = absurd (cc)
 get_front (y ∷ xs) ys zero x e = e
 get_front (y ∷ xs) ys (suc i) x e = get_front xs ys i x e
-
-pub get_seam : {A : Type 0} (xs ys : List A) (x : A) → slice_get (xs ++ x ∷ ys) (length xs) ≡ Some x
-get_seam [] ys x = refl
-get_seam (y ∷ xs) ys x = get_seam xs ys x
 
 -- what is behind a place
 pub drop_at_get : {A : Type 0} (p : ℕ) (xs : List A) (x : A) → slice_get xs p ≡ Some x → drop p xs ≡ x ∷ drop (p + 1) xs
@@ -32,7 +27,7 @@ drop_at_get (suc p) (y ∷ xs) x e =
 -- ---- numbers from one on
 
 -- one number more
-pub range_more : (a n : ℕ) → range_with_len a (suc n) ≡ range_with_len a n ++ (a + n) ∷ []
+range_more : (a n : ℕ) → range_with_len a (suc n) ≡ range_with_len a n ++ (a + n) ∷ []
 range_more a zero = let same : a ≡ a + 0 = omega arith in ap (λ (k : ℕ). k ∷ []) same
 range_more a (suc n) =
     let same : a + 1 + n ≡ a + suc n = omega arith in
@@ -48,30 +43,19 @@ range_next n =
 -- ---- connections
 
 module _ (core cores n : ℕ) where
-  own_next : own_conns core cores (n + 1) ≡ own_conns core cores n ++ cond (home_of cores n == core) (n ∷ []) []
-  own_next = ap (filter (λ conn. home_of cores conn == core)) (range_next n) ∙ filter-append (λ conn. home_of cores conn == core) (range_with_len 0 n) (n ∷ [])
-
-  -- a connection is the last one of its home up to it
-  pub own_here : home_of cores n ≡ core → own_conns core cores (n + 1) ≡ own_conns core cores n ++ n ∷ []
-  own_here is = own_next ∙ ap (λ b. own_conns core cores n ++ cond b (n ∷ []) []) (eq-eqb (home_of cores n) core is)
-
-  -- and none of another home
-  pub own_other : home_of cores n ≢ core → own_conns core cores (n + 1) ≡ own_conns core cores n
-  own_other other = own_next ∙ ap (λ b. own_conns core cores n ++ cond b (n ∷ []) []) (ne_eqb (home_of cores n) core other) ∙ append-nil (own_conns core cores n)
-
   -- one connection more is one place more at its home
   pub below_here : home_of cores n ≡ core → count_below cores core (n + 1) ≡ count_below cores core n + 1
-  below_here is = let size = length-append (own_conns core cores n) (n ∷ []) in ap (λ (l : List ℕ). length l) (own_here is) ∙ size
+  below_here is = let size = length-append (own_conns core cores n) (n ∷ []) in ap (λ (l : List ℕ). length l) (own-here core cores n is) ∙ size
 
   -- and at no other
   pub below_other : home_of cores n ≢ core → count_below cores core (n + 1) ≡ count_below cores core n
-  below_other other = ap (λ (l : List ℕ). length l) (own_other other)
+  below_other other = ap (λ (l : List ℕ). length l) (own-else core cores n other)
 
   own_stays : (p conn : ℕ) → slice_get (own_conns core cores n) p ≡ Some conn → slice_get (own_conns core cores (n + 1)) p ≡ Some conn
-  own_stays p conn e = subst (λ (l : List ℕ). slice_get l p ≡ Some conn) (sym own_next) (get_front (own_conns core cores n) _ p conn e)
+  own_stays p conn e = subst (λ (l : List ℕ). slice_get l p ≡ Some conn) (sym (own-more core cores n)) (get_front (own_conns core cores n) _ p conn e)
 
 own_last : (cores n : ℕ) → slice_get (own_conns (home_of cores n) cores (n + 1)) (place_of cores n) ≡ Some n
-own_last cores n = subst (λ (l : List ℕ). slice_get l (place_of cores n) ≡ Some n) (sym (own_here (home_of cores n) cores n refl)) (get_seam (own_conns (home_of cores n) cores n) [] n)
+own_last cores n = subst (λ (l : List ℕ). slice_get l (place_of cores n) ≡ Some n) (sym (own-here (home_of cores n) cores n refl)) (get_seam (own_conns (home_of cores n) cores n) [] n)
 
 -- a connection is at its place
 pub own_at : (cores count conn : ℕ) → conn < count → slice_get (own_conns (home_of cores conn) cores count) (place_of cores conn) ≡ Some conn
@@ -82,10 +66,3 @@ own_at cores (suc n) conn within =
     (dite (ℕ_discrete conn n)
     (λ same. subst (λ (k : ℕ). slice_get (own_conns (home_of cores k) cores (n + 1)) (place_of cores k) ≡ Some k) (sym same) (own_last cores n))
     (λ other. own_stays (home_of cores conn) cores n (place_of cores conn) conn (own_at cores n conn (omega arith))))
-
--- a core has no more connections than there are
-pub own_few : (core cores n : ℕ) → length (own_conns core cores n) ≤ n
-own_few core cores zero = omega arith
-own_few core cores (suc n) = dite (ℕ_discrete (home_of cores n) core)
-    (λ is. let more = below_here core cores n is in let rest = own_few core cores n in let on = ap (count_below cores core) (add-one n) in omega arith)
-    (λ other. let same = below_other core cores n other in let rest = own_few core cores n in let on = ap (count_below cores core) (add-one n) in omega arith)

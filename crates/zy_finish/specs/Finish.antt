@@ -8,7 +8,7 @@ use Rattle.zy_run.specs.Commands.{streams_in, commands_in}
 use Rattle.zy_run.specs.Run.{IsRun}
 use Rattle.zy_run.specs.Output.{all_outputs}
 use Rattle.zy_run.specs.Spans.{Spans}
-use Rattle.zy_served.specs.Routing.{offered_to}
+use Rattle.zy_rx.specs.Routing.{offered_to}
 use Rattle.zy_home.specs.Home.{Homed, HomeStands}
 use Rattle.zy_finish.specs.declared.finishing.Finished.{Finished}
 

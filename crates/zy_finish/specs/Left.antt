@@ -1,150 +1,66 @@
--- What is left of each home while connections are taken from it, one after another. No public clause cites this module.
-use Rattle.std.specs.Prelude.{◌≡◌, ℕ, zero, suc, ◌<◌, List, [], ◌∷◌, ◌++◌, length, map, drop, Option, None, Some, slice_get, option_map}
-use Rattle.atomic_table.specs.Seated.{TableId}
+-- What is left of a connection when all of it is served.
+use Rattle.std.specs.Prelude.{◌≡◌, ℕ, ◌+◌, ◌-◌, List, [], ◌∷◌, length, take, drop}
+use Rattle.std.specs.List.{concat}
 use Rattle.zy_base.specs.declared.entry.Entry.{Entry}
 use Rattle.zy_base.specs.declared.hold.Hold.{Hold}
-use Rattle.zy_base.specs.Order.{IsMergeOf}
-use Rattle.zy_rx.specs.Flow.{home_of}
-use Rattle.mc_store.specs.Joined.{Joined}
-use Rattle.mc_store.specs.Closing.{AreClosed}
-use Rattle.zy_conn.specs.Kept.{Kept}
-use Rattle.zy_conn.specs.Hold.{AreHolds}
-use Rattle.zy_conn.specs.Block.{Blocked}
-use Rattle.zy_served.specs.Left.{Left, cut_at}
-use Rattle.zy_served.specs.Served.{all_holds, all_sent}
-use Rattle.zy_home.specs.Own.{own_conns}
-use Rattle.zy_home.specs.End.{Ended, ended_of, blocks_in}
-use Rattle.zy_home.specs.Home.{Homed}
-use Rattle.zy_finish.specs.declared.rest.Rest.{Rest}
-use Rattle.zy_finish.specs.declared.rest.Last.{Last}
-use Rattle.zy_finish.specs.declared.gathered.Gathered.{Gathered}
-use Rattle.zy_finish.specs.Part.{session_ends}
+use Rattle.zy_base.specs.Held.{held_in}
+use Rattle.mc_parse.specs.Calls.{due, dues_of}
+use Rattle.mc_reply.specs.Texts.{texts_of}
+use Rattle.zy_frame.specs.Cut.{commands_of}
+use Rattle.zy_run.specs.Commands.{commands_over}
 
--- ---- homes
+-- ---- the ends of sessions
 
--- what is left of a home that nothing was taken from
-abbrev pub rest_of : Homed → Rest
-rest_of h = record { blocks = blocks_in h.blocks; ends = map ended_of h.links }
+-- how many commands a connection with these streams has at the end of each of its sessions but the last, which is open,
+-- where so many come before them
+abbrev pub ends_from : ℕ → List (List ℕ) → List ℕ
+ends_from before [] = []
+ends_from before (stream ∷ []) = []
+ends_from before (stream ∷ next ∷ streams) =
+    let after = before + length (commands_of stream) in after ∷ ends_from after (next ∷ streams)
 
--- how many connections below this one are a core's, of so many
-abbrev pub count_below : ℕ → ℕ → ℕ → ℕ
-count_below cores core conn = length (own_conns core cores conn)
+-- how many commands a connection with these streams has at the end of each of its sessions but the last
+abbrev pub ends_of : List (List ℕ) → List ℕ
+ends_of streams = ends_from 0 streams
 
--- the place of a connection at its home
-abbrev pub place_of : ℕ → ℕ → ℕ
-place_of cores conn = count_below cores (home_of cores conn) conn
+-- the bytes of the texts from one number up to another
+abbrev pub bytes_between : ℕ → ℕ → List (List ℕ) → List ℕ
+bytes_between start stop texts = concat (take (stop - start) (drop start texts))
 
--- what is left of a home when its connections below this one were taken
-abbrev pub rest_past : ℕ → ℕ → ℕ → Rest → Rest
-rest_past cores conn core rest = record {
-  blocks = drop (count_below cores core conn) rest.blocks;
-  ends = drop (count_below cores core conn) rest.ends;
-}
+-- texts cut at these numbers, from one on: the bytes of each part, and last those of all that is left
+abbrev pub cut_from : ℕ → List ℕ → List (List ℕ) → List (List ℕ)
+cut_from start [] texts = concat (drop start texts) ∷ []
+cut_from start (stop ∷ stops) texts = bytes_between start stop texts ∷ cut_from stop stops texts
 
--- the connections below this one were taken from the homes
-abbrev pub AreTaken : List Rest → ℕ → List Rest → Type 0
-AreTaken rests conn now =
-    (core : ℕ) → slice_get now core ≡ option_map (rest_past (length rests) conn core) (slice_get rests core)
+-- texts cut at these numbers: the bytes of each part
+abbrev pub cut_at : List ℕ → List (List ℕ) → List (List ℕ)
+cut_at stops texts = cut_from 0 stops texts
 
--- ---- connections
+-- ---- holds
 
--- the blocks that are left of a home, and none where there is no such home
-abbrev pub blocks_left : Option Rest → List Blocked
-blocks_left None = []
-blocks_left (Some rest) = rest.blocks
+-- every hold is of this connection
+abbrev pub AreOf : ℕ → List Hold → Type 0
+AreOf conn [] = Unit {0}
+AreOf conn (h ∷ hs) = (h.conn ≡ conn) × AreOf conn hs
 
--- the outputs that are left of a home
-abbrev pub ends_left : Option Rest → List Ended
-ends_left None = []
-ends_left (Some rest) = rest.ends
+-- ---- a connection
 
--- what is left of the home of a connection
-abbrev pub rest_at : List Rest → ℕ → Option Rest
-rest_at rests conn = slice_get rests (home_of (length rests) conn)
-
--- the block of a connection
-abbrev pub block_of : List Rest → ℕ → Option Blocked
-block_of rests conn = slice_get (blocks_left (rest_at rests conn)) (place_of (length rests) conn)
-
--- the output of a connection, with its ends
-abbrev pub end_of : List Rest → ℕ → Option Ended
-end_of rests conn = slice_get (ends_left (rest_at rests conn)) (place_of (length rests) conn)
-
--- the calls of a block
-abbrev pub calls_in : Option Blocked → List Entry
-calls_in None = []
-calls_in (Some block) = block.work.calls
-
+-- what is left of a connection: the texts that it was sent, the number of them at the end of each closed session, and
 -- its holds
-abbrev pub holds_in : Option Blocked → List Hold
-holds_in None = []
-holds_in (Some block) = block.holds
+pub record Left : Type 0 where
+  pub texts : List (List ℕ)
+  pub ends : List ℕ
+  pub holds : List Hold
 
--- the texts of an output
-abbrev pub texts_in : Option Ended → List (List ℕ)
-texts_in None = []
-texts_in (Some end) = end.output.texts
-
--- its ends
-abbrev pub ends_in : Option Ended → List ℕ
-ends_in None = []
-ends_in (Some end) = end.ends
-
--- what is left of a connection
-abbrev pub left_of : ℕ → List Rest → ℕ → Left
-left_of version rests conn = record {
-  texts = texts_in (end_of rests conn);
-  ends = session_ends version (ends_in (end_of rests conn));
-  holds = holds_in (block_of rests conn);
-}
-
--- what is left of a connection is at its place
-pub record IsThere (store : TableId) (rests : List Rest) (conn : ℕ) : Type 0 where
-  pub rest : Rest
-  pub home : rest_at rests conn ≡ Some rest
-  pub block : Blocked
-  pub end : Ended
-  pub block_there : slice_get rest.blocks (place_of (length rests) conn) ≡ Some block
-  pub end_there : slice_get rest.ends (place_of (length rests) conn) ≡ Some end
-  pub conn_is : block.work.conn ≡ conn
-  pub table_is : block.work.table ≡ store
-
--- ---- what is gathered
-
--- what is so of a block that was taken apart
-pub record IsKept (block : Blocked) : Type 0 where
-  pub work : Kept block.work
-  pub holds : AreHolds block.work.conn block.work.finished block.holds
-
--- the calls of the connections below this one, the last one first
-abbrev pub joined_to : List Rest → ℕ → Joined
-joined_to rests zero = []
-joined_to rests (suc conn) = (conn, calls_in (block_of rests conn)) ∷ joined_to rests conn
-
--- the outputs of a connection's sessions
-abbrev pub sent_of : ℕ → Last → List (List ℕ)
-sent_of version last = cut_at (session_ends version last.ends.items) last.output.texts
-
--- what is left of a connection was taken in
-pub record TakesIn (last : Last) (g g' : Gathered) : Type 0 where
-  pub table : g'.root.table ≡ g.root.table
-  pub given : g'.root.given ≡ g.root.given
-  pub joined : g'.root.joined ≡ (last.block.work.conn, last.block.work.calls) ∷ g.root.joined
-  pub holds : g'.holds.items ≡ g.holds.items ++ last.block.holds
-  pub version : g'.outputs.version ≡ g.outputs.version
-  pub sessions : g'.outputs.sessions ≡ g.outputs.sessions ++ sent_of g.outputs.version last ∷ []
-  pub kept : IsKept last.block
-
--- what is left of the connections below this one was taken in
-pub record HasGathered (version : ℕ) (rests : List Rest) (conn : ℕ) (g : Gathered) : Type 0 where
-  pub joined : g.root.joined ≡ joined_to rests conn
-  pub holds : g.holds.items ≡ all_holds conn (left_of version rests)
-  pub version_is : g.outputs.version ≡ version
-  pub sessions : g.outputs.sessions ≡ all_sent conn (left_of version rests)
-  pub kept : (c : ℕ) → c < conn → (b : Blocked) → block_of rests c ≡ Some b → IsKept b
-
--- the entries are those of the store when these passes were joined, in order
-pub record AreMerged (shards : ℕ) (joined : Joined) (es : List Entry) : Type 0 where
-  pub histories : List (List Entry)
-  pub closed : AreClosed shards joined histories
-  pub merged : IsMergeOf histories es
+-- all of a connection with these streams was served, by these calls
+pub record IsCarriedOut (shards conn : ℕ) (streams : List (List ℕ)) (calls : List Entry) (left : Left) : Type 0 where
+  -- the calls are its calls due, each once and in order
+  pub calls_are : dues_of calls ≡ due shards conn (commands_over streams)
+  -- it was sent the texts of its commands, each with the replies of its own calls
+  pub texts_are : left.texts ≡ texts_of (commands_over streams) calls
+  -- its sessions ended where their streams do
+  pub ends_are : left.ends ≡ ends_of streams
+  -- its holds are of no other connection
+  pub holds_are : AreOf conn left.holds
+  -- and their counts add up to the number of its commands
+  pub held : held_in left.holds ≡ length (commands_over streams)

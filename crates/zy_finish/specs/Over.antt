@@ -1,10 +1,8 @@
--- What is so of the homes of all cores when all is served, and of the root of their store.
-use Rattle.std.specs.Prelude.{◌≡◌, ◌↔◌, ℕ, ◌<◌, ◌≤◌, List, [], length, true, Some, slice_get}
+-- What is so of the homes of all cores when all is served.
+use Rattle.std.specs.Prelude.{◌≡◌, ℕ, ◌≤◌, List, length, true, Some, slice_get}
 use Rattle.atomic_table.specs.Seated.{TableId}
 use Rattle.zy_table.specs.Name.{name_of}
-use Rattle.zy_table.specs.Member.{is_in}
 use Rattle.zy_capture.specs.Capture.{connection_limit}
-use Rattle.mc_store.specs.Pass.{Rooted}
 use Rattle.zy_home.specs.Home.{Homed, is_settled}
 
 -- the home of this core, of so many, with this count of connections is settled, and its ring has the store as its label
@@ -21,9 +19,3 @@ pub record AreOver (store : TableId) (count : ℕ) (homes : List Homed) : Type 0
   pub few : length homes ≤ 64
   pub connections : count ≤ connection_limit
   pub each : (core : ℕ) (h : Homed) → slice_get homes core ≡ Some h → IsOver store (length homes) count core h
-
--- the root of the store gave the passes of the connections below the count and no others, and joined none
-pub record IsRootOf (store : TableId) (count : ℕ) (root : Rooted) : Type 0 where
-  pub table_is : root.table ≡ store
-  pub given : (conn : ℕ) → (is_in conn root.given ≡ true) ↔ (conn < count)
-  pub none : root.joined ≡ []

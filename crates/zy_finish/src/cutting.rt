@@ -1,7 +1,7 @@
 //! The bytes of parts of an output.
 ghost use Rattle.std.specs.Prelude.{◌≡◌, take, drop};
 ghost use Rattle.std.specs.List.{concat};
-ghost use Rattle.zy_served.specs.Left.{bytes_between};
+ghost use Rattle.zy_finish.specs.Left.{bytes_between};
 
 use zy_calls::Output;
 

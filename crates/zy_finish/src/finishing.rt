@@ -4,9 +4,10 @@ ghost use Rattle.zy_table.specs.Member.{is_in};
 ghost use Rattle.zy_capture.specs.declared.record.Record.{Record};
 ghost use Rattle.zy_capture.specs.Capture.{IsCapture};
 ghost use Rattle.mc_store.specs.Joined.{is_joined};
-ghost use Rattle.zy_finish.specs.Over.{AreOver, IsRootOf};
+ghost use Rattle.mc_store.specs.Root.{IsRootOf};
+ghost use Rattle.zy_finish.specs.Over.{AreOver};
 ghost use Rattle.zy_finish.specs.Finish.{HaveReceived, IsFinished};
-ghost use Rattle.zy_finish.specs.Left.{AreMerged};
+ghost use Rattle.zy_finish.specs.Rest.{AreMerged};
 
 use crate::gathered::Gathered;
 use crate::rest::rests_of;

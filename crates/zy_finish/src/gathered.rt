@@ -1,7 +1,7 @@
 //! What is gathered from connections.
 ghost use Rattle.std.specs.Prelude.{◌≡◌, ◌<◌, ◌≤◌, length, OnOk};
 ghost use Rattle.zy_capture.specs.Capture.{connection_limit};
-ghost use Rattle.zy_finish.specs.Left.{IsThere, TakesIn, HasGathered};
+ghost use Rattle.zy_finish.specs.Rest.{IsThere, TakesIn, HasGathered};
 
 use crate::rest::{Last, Rest};
 use crate::sessions::add_sessions;

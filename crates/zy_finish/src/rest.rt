@@ -3,7 +3,7 @@ ghost use Rattle.std.specs.Prelude.{◌≡◌, ◌≢◌, [], ◌∷◌, map, If
 ghost use Rattle.std.specs.List.{AllByRecursion};
 ghost use Rattle.zy_home.specs.End.{ended};
 ghost use Rattle.zy_home.specs.Home.{Keeps};
-ghost use Rattle.zy_finish.specs.Left.{rest_of};
+ghost use Rattle.zy_finish.specs.Rest.{rest_of};
 
 use std::alloc::Global;
 use zy_base::NoMemory;

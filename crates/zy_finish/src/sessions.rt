@@ -2,7 +2,7 @@
 ghost use Rattle.std.specs.Prelude.{◌≡◌, ◌<◌, ◌^◌, [], ◌∷◌, ◌++◌, length, OnOk};
 ghost use Rattle.zy_capture.specs.Capture.{connection_limit};
 ghost use Rattle.zy_capture.specs.Outputs.{MayAdd, with_output};
-ghost use Rattle.zy_served.specs.Left.{cut_at};
+ghost use Rattle.zy_finish.specs.Left.{cut_at};
 ghost use Rattle.zy_finish.specs.Part.{session_ends};
 
 use crate::cutting::{behind, between};

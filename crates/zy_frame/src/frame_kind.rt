@@ -5,7 +5,7 @@ use zy_base::{Blob, NoMemory};
 
 /// What a frame is. A line stands without its line feed and without one carriage return before
 /// that.
-#[derive(PartialEq, Eq, Drop)]
+#[derive(Drop)]
 pub enum FrameKind {
     /// A line that takes no block.
     Line { line: Blob },
@@ -29,8 +29,13 @@ impl FrameKind {
             }
             FrameKind::Block { line, block } => {
                 let line = line.copy()?;
-                let block = block.copy()?;
-                Ok(FrameKind::Block { line, block })
+                match block.copy() {
+                    Ok(block) => Ok(FrameKind::Block { line, block }),
+                    Err(e) => {
+                        drop(line);
+                        Err(e)
+                    }
+                }
             }
             FrameKind::Large { line } => {
                 let line = line.copy()?;

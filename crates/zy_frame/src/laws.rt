@@ -1,8 +1,10 @@
 //! Laws of cutting.
-ghost use Rattle.std.specs.Prelude.{◌≡◌, ◌<◌, ◌≤◌, ◌+◌, ◌↔◌, ◌⊎◌, ℕ, true, false, List, [], ◌∷◌, ◌++◌, length, map, None};
+ghost use Rattle.std.specs.Prelude.{◌≡◌, ◌<◌, ◌≤◌, ◌+◌, ◌↔◌, ◌⊎◌, ℕ, true, false, List, [], ◌∷◌, ◌++◌, length, map, None, codes};
 ghost use Rattle.std.specs.List.{AllByRecursion};
 ghost use Rattle.zy_base.specs.Shard.{value_limit};
 ghost use Rattle.mc_parse.specs.declared.command.Command.{Command};
+ghost use Rattle.mc_parse.specs.declared.verb.Verb.TheVariants as Verbs;
+ghost use Rattle.mc_parse.specs.declared.error_line.ErrorLine.TheVariants as Errors;
 ghost use Rattle.zy_frame.specs.declared.frame_kind.FrameKind.{FrameKind};
 ghost use Rattle.zy_frame.specs.declared.frame_kind.FrameKind.TheVariants as Kinds;
 ghost use Rattle.zy_frame.specs.Line.{chomped, line_feed};
@@ -113,4 +115,45 @@ pub fn each_kind_of_frame_text_has_its_frame()
         → frame_of text ≡ Kinds.Block (chomped t.line) t.block }
     ensures large { (text : List ℕ) (t : IsBlockText text) → value_limit < t.size
         → frame_of text ≡ Kinds.Large (chomped t.line) }
+{}
+
+/// Worked streams, and their frames: blocks with line ends and commands in them, faulty lines, and
+/// streams that end within a frame.
+#[tactic(auto, unfolding(crate::specs::Cut::cut_of, crate::specs::Cut::frames_of, mc_parse::specs::Words::words, mc_parse::specs::Need::need))]
+pub fn worked_frames()
+    ensures lines { frames_of (codes "get a\r\nset k 0 0 5\r\na\nb\r\n\r\nget b\n\r\n\n")
+        ≡ Kinds.Line (codes "get a") ∷ Kinds.Block (codes "set k 0 0 5") (codes "a\nb\r\n\r\n")
+        ∷ Kinds.Line (codes "get b") ∷ Kinds.Line [] ∷ Kinds.Line [] ∷ [] }
+    ensures blocks { frames_of (codes "set k 0 0 0\r\n\r\nset k 0 0 7 noreply\r\nquit\r\nx\r\nincr k 1\r")
+        ≡ Kinds.Block (codes "set k 0 0 0") (codes "\r\n")
+        ∷ Kinds.Block (codes "set k 0 0 7 noreply") (codes "quit\r\nx\r\n") ∷ [] }
+    ensures faulty { frames_of (codes "set k 0 0 x\r\nset k 0 0 2\r\nabXXcas k 0 0 1 9\r\na\r\nno\r\r\n")
+        ≡ Kinds.Line (codes "set k 0 0 x") ∷ Kinds.Block (codes "set k 0 0 2") (codes "abXX")
+        ∷ Kinds.Block (codes "cas k 0 0 1 9") (codes "a\r\n") ∷ Kinds.Line (codes "no\r") ∷ [] }
+    ensures quit { frames_of (codes "version\r\nquit\r\nget a\r\nset k 0 0 1\r\na\r\n")
+        ≡ Kinds.Line (codes "version") ∷ [] }
+    ensures unended { frames_of (codes "get aaaaaaaaaa\r") ≡ [] }
+    ensures awaited { frames_of (codes "set k 0 0 40\r\nget a\r\nget b\r\n") ≡ [] }
+    ensures vast { frames_of (codes "set k 0 0 4294967295\r\nget a\r\n") ≡ [] }
+{}
+
+/// Worked quit lines.
+#[tactic(auto, unfolding(crate::specs::Cut::cut_of, crate::specs::Cut::meets_quit, mc_parse::specs::Words::words, mc_parse::specs::Need::need))]
+pub fn worked_quit_lines()
+    ensures met { meets_quit (codes "get a\r\n quit \r\nget b\r\n") ≡ true }
+    ensures unended { meets_quit (codes "get a\r\nquit") ≡ false }
+    ensures value { meets_quit (codes "set k 0 0 4\r\nquit\r\nget a\r\n") ≡ false }
+    ensures words { meets_quit (codes "quit now\r\n") ≡ false }
+{}
+
+/// Worked commands: those of a stream, and of frames that are too large and too long.
+#[tactic(auto, unfolding(crate::specs::Cut::cut_of, crate::specs::Cut::frames_of, mc_parse::specs::Words::words, mc_parse::specs::Need::need, mc_parse::specs::Meaning::line_command, mc_parse::specs::Meaning::block_command, mc_parse::specs::Meaning::large_command))]
+pub fn worked_commands()
+    ensures stream { commands_of
+        (codes "version\r\nset k 0 0 1\r\nabcdelete k\r\nset k 7 0 1 noreply\r\nv\r\n")
+        ≡ Command.Version ∷ Command.Fault Errors.BadChunk false ∷ Command.Delete (codes "k") false
+        ∷ Command.Store Verbs.Set (codes "k") 7 (codes "v") true ∷ [] }
+    ensures large { command_of (Kinds.Large (codes "set k 0 0 1048577 noreply"))
+        ≡ Command.Fault Errors.TooLarge true }
+    ensures long { command_of Kinds.Long ≡ Command.Fault Errors.LongLine false }
 {}

@@ -13,8 +13,6 @@ mod line_end;
 mod state;
 mod step;
 mod stepping;
-#[cfg(test)]
-mod tests;
 mod wanted;
 
 pub use frame::Frame;
@@ -28,5 +26,5 @@ pub use laws::{
     frames_are_those_of_the_cut, frames_of_a_prefix_come_first, no_frame_comes_after_quit,
     no_frame_text_is_a_proper_prefix, no_stream_has_two_cuts, pieces_give_the_frames_of_the_stream,
     pieces_of_a_prefix_come_first, quit_is_met_where_the_rest_begins_with_it,
-    the_empty_stream_has_no_frame,
+    the_empty_stream_has_no_frame, worked_commands, worked_frames, worked_quit_lines,
 };

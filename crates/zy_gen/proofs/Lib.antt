@@ -2,3 +2,9 @@ pub mod StepLemmas
 pub mod LengthLemmas
 pub mod TrafficLemmas
 pub mod WorkedLemmas
+pub mod SolidLemmas
+pub mod SaidLemmas
+pub mod RequestLemmas
+pub mod KeyLemmas
+pub mod StreamLemmas
+pub mod ApartLemmas

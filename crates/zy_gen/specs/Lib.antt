@@ -1,3 +1,4 @@
 pub mod Draw
 pub mod Traffic
 pub mod Worked
+pub mod Said

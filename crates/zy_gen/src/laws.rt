@@ -1,8 +1,14 @@
 //! Laws over the definitions of this crate.
-ghost use Rattle.std.specs.Prelude.{◌≡◌, ℕ};
+ghost use Rattle.std.specs.Prelude.{◌≡◌, ℕ, ◌*◌, ◌<◌, ◌≤◌, List, length};
+ghost use Rattle.zy_base.specs.declared.entry.Entry.{Entry};
 ghost use Rattle.zy_capture.specs.Capture.{Spells};
 ghost use Rattle.zy_capture.specs.Verdict.{verdict};
 ghost use Rattle.zy_capture.specs.Verdict.Verdict.{Good};
+ghost use Rattle.zy_run.specs.Commands.{streams_in, commands_in};
+ghost use Rattle.zy_run.specs.Run.{IsRun};
+ghost use Rattle.zy_run.specs.Output.{all_outputs};
+ghost use Rattle.zy_run.specs.Apart.{AreApart};
+ghost use Rattle.zy_run.specs.Summary.{count_of_commands, summary, summary_of_run};
 ghost use Rattle.zy_gen.specs.Traffic.{gen_bytes, records_of, IsTraffic};
 ghost use Rattle.zy_gen.specs.Worked.{worked_bytes};
 
@@ -20,4 +26,42 @@ pub fn generated_traffic_is_a_good_capture()
 /// The worked capture has its 41 bytes.
 pub fn the_worked_capture_has_its_bytes()
     ensures value { gen_bytes 42 1 1 ≡ worked_bytes }
+{}
+
+/// Each connection of generated traffic has as many commands as were asked for, and all together
+/// have so many times as many.
+pub fn generated_traffic_has_its_commands()
+    ensures each { (number connections commands conn : ℕ) → IsTraffic number connections commands
+        → conn < connections
+        → length (commands_in (records_of number connections commands) conn) ≡ commands }
+    ensures all { (number connections commands : ℕ) → IsTraffic number connections commands
+        → count_of_commands connections (commands_in (records_of number connections commands))
+        ≡ connections * commands }
+{}
+
+/// The commands of generated traffic do not meet: no key is called by two connections, and none is
+/// `gets`, `cas` or `flush_all`.
+pub fn generated_traffic_is_apart()
+    ensures value { (number connections commands : ℕ) → IsTraffic number connections commands
+        → AreApart connections (commands_in (records_of number connections commands)) }
+{}
+
+/// Two runs of generated traffic have the same outputs, whatever the numbers of their shards.
+pub fn runs_of_generated_traffic_have_the_same_outputs()
+    ensures same { (number connections commands shards others : ℕ) (es fs : List Entry)
+        → IsTraffic number connections commands
+        → IsRun shards es connections (commands_in (records_of number connections commands))
+        → IsRun others fs connections (commands_in (records_of number connections commands))
+        → all_outputs connections (streams_in (records_of number connections commands)) es
+        ≡ all_outputs connections (streams_in (records_of number connections commands)) fs }
+{}
+
+/// Each run of generated traffic has the summary of its serial run, whatever the numbers of their
+/// shards.
+pub fn each_run_of_generated_traffic_has_the_summary()
+    ensures value { (number connections commands shards others : ℕ) (es : List Entry) → 1 ≤ others
+        → IsTraffic number connections commands
+        → IsRun shards es connections (commands_in (records_of number connections commands))
+        → summary_of_run connections (streams_in (records_of number connections commands)) es
+        ≡ summary others connections (streams_in (records_of number connections commands)) }
 {}

@@ -1,14 +1,17 @@
-//! Generated traffic: a capture of any size, made from a number.
+//! Generated traffic: a capture of any size, made from a number, all runs of which have the same
+//! outputs.
 #![tactic(auto)]
 
 mod drawing;
 mod laws;
 mod making;
 mod request;
-#[cfg(test)]
-mod tests;
 mod writing;
 
-pub use laws::{generated_traffic_is_a_good_capture, the_worked_capture_has_its_bytes};
+pub use laws::{
+    each_run_of_generated_traffic_has_the_summary, generated_traffic_has_its_commands,
+    generated_traffic_is_a_good_capture, generated_traffic_is_apart,
+    runs_of_generated_traffic_have_the_same_outputs, the_worked_capture_has_its_bytes,
+};
 pub use making::generate;
 pub use request::{Command, Request};

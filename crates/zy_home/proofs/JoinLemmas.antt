@@ -12,8 +12,8 @@ use Rattle.zy_shuffle.specs.Hand.{marked}
 use Rattle.zy_shuffle.specs.Pass.{Held, Joined}
 use Rattle.zy_shuffle.proofs.HandLemmas.{marked_else}
 use Rattle.zy_conn.specs.Block.{Blocked}
-use Rattle.zy_link.specs.Link.{Linked}
-use Rattle.zy_link.specs.Idle.{due_mark, mark_in}
+use Rattle.zy_home.specs.Link.{Linked}
+use Rattle.zy_home.specs.Idle.{due_mark, mark_in}
 use Rattle.zy_home.specs.Home.{Homed, Keeps, SameHome, IsAt, all_here}
 use Rattle.zy_home.specs.Place.{IsOut, label_in, with_pass}
 use Rattle.zy_home.specs.Turn.{Turns}

@@ -9,10 +9,10 @@ use Rattle.zy_shuffle.specs.Pass.{Held}
 use Rattle.zy_conn.specs.Work.{Mark}
 use Rattle.zy_conn.specs.Kept.{Kept}
 use Rattle.zy_conn.specs.Block.{Blocked}
-use Rattle.zy_link.specs.Link.{Linked, LinkStands, conn_of}
-use Rattle.zy_link.specs.Idle.{due_mark, mark_in}
-use Rattle.zy_link.specs.Finish.{ConnEnd}
-use Rattle.zy_link.proofs.FinishLemmas.{conn_end}
+use Rattle.zy_home.specs.Link.{Linked, LinkStands, conn_of}
+use Rattle.zy_home.specs.Idle.{due_mark, mark_in}
+use Rattle.zy_home.specs.Finish.{ConnEnd}
+use Rattle.zy_home.proofs.FinishLemmas.{conn_end}
 use Rattle.zy_home.specs.Own.{own_conns}
 use Rattle.zy_home.specs.End.{Ended, blocks_in, ended_of}
 use Rattle.zy_home.specs.Home.{Homed, HomeStands, Keeps, IsAt, IsHere, all_here, conns_in, is_settled}

@@ -1,3 +1,6 @@
+pub mod LinkLemmas
+pub mod IdleLemmas
+pub mod FinishLemmas
 pub mod OwnLemmas
 pub mod BlockLemmas
 pub mod TurnLemmas
@@ -6,4 +9,3 @@ pub mod JoinLemmas
 pub mod ReceiveLemmas
 pub mod MakeLemmas
 pub mod LawLemmas
-pub mod CaptureLemmas

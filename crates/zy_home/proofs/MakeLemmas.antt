@@ -15,8 +15,8 @@ use Rattle.zy_calls.specs.Output.{Sent}
 use Rattle.zy_table.specs.Name.{name_of}
 use Rattle.zy_home.proofs.JoinLemmas.{some_there}
 use Rattle.zy_conn.specs.Block.{Blocked}
-use Rattle.zy_link.specs.Link.{Linked, IsFresh, conn_of}
-use Rattle.zy_link.proofs.LinkLemmas.{stands_fresh}
+use Rattle.zy_home.specs.Link.{Linked, IsFresh, conn_of}
+use Rattle.zy_home.proofs.LinkLemmas.{stands_fresh}
 use Rattle.zy_home.specs.Own.{own_conns}
 use Rattle.zy_home.specs.End.{blocks_in}
 use Rattle.zy_home.specs.Parts.{AreParts, AreFresh, IsNew, IsUnused, conns_of_blocks, rings_of_blocks, rings_of_inlets}

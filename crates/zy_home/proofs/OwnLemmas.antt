@@ -7,7 +7,7 @@ use native.Mathlib.Decide.{dec_lt}
 use Rattle.std.proofs.lemmas.List.Elements.{filter-append}
 use Rattle.std.proofs.lemmas.Option.{slice_get-map}
 use Rattle.zy_rx.specs.Flow.{home_of}
-use Rattle.zy_link.specs.Link.{Linked, conn_of}
+use Rattle.zy_home.specs.Link.{Linked, conn_of}
 use Rattle.zy_home.specs.Own.{own_conns, IsOwn, IsRising}
 use Rattle.zy_home.specs.Home.{conns_in}
 
@@ -93,7 +93,7 @@ range-last a n = let more : n + 1 ≡ suc n = omega arith in ap (range_with_len 
     go a zero = ap (λ k. k ∷ []) (omega arith)
     go a (suc n) = ap (λ l. a ∷ l) (go (a + 1) n ∙ ap (λ k. range_with_len (a + 1) n ++ k ∷ []) (omega arith))
 
-own-more : (core cores count : ℕ) → own_conns core cores (count + 1) ≡ own_conns core cores count ++ filter (λ conn. home_of cores conn == core) (count ∷ [])
+pub own-more : (core cores count : ℕ) → own_conns core cores (count + 1) ≡ own_conns core cores count ++ filter (λ conn. home_of cores conn == core) (count ∷ [])
 own-more core cores count =
     let last : 0 + count ≡ count = omega arith in
     ap (filter (λ conn. home_of cores conn == core)) (range-last 0 count ∙ ap (λ k. range_with_len 0 count ++ k ∷ []) last)

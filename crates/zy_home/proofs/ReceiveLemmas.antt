@@ -8,8 +8,8 @@ use Rattle.zy_rx.specs.Session.{Sessions, no_sessions, with_bytes, with_close, t
 use Rattle.zy_rx.proofs.SessionLemmas.{sessions-push}
 use Rattle.zy_shuffle.specs.Pass.{Held}
 use Rattle.zy_conn.specs.Block.{Blocked}
-use Rattle.zy_link.specs.Link.{Linked, LinkStands, IsFor, TakesIn, conn_of}
-use Rattle.zy_link.specs.Offer.{WaitsFull}
+use Rattle.zy_home.specs.Link.{Linked, LinkStands, IsFor, TakesIn, conn_of}
+use Rattle.zy_home.specs.Offer.{WaitsFull}
 use Rattle.zy_home.specs.Own.{IsOwn, IsOfOthers, IsRising, item_conn, is_end}
 use Rattle.zy_home.specs.Home.{Homed, Keeps, HomeStands, SameHome, StandsMore, conns_in}
 use Rattle.zy_home.specs.Place.{ComesTo, Forwards, SameHand, Settles}

@@ -10,9 +10,9 @@ use Rattle.zy_shuffle.proofs.HandLemmas.{marked_here, marked_else}
 use Rattle.zy_conn.specs.Ring.{Sending}
 use Rattle.zy_conn.specs.Work.{has_event}
 use Rattle.zy_conn.specs.Block.{Blocked}
-use Rattle.zy_link.specs.Link.{Linked, StandsOn, conn_of}
-use Rattle.zy_link.specs.Offer.{WaitsBehind, WaitsFull}
-use Rattle.zy_link.specs.Idle.{IsIdle, due_mark, mark_in}
+use Rattle.zy_home.specs.Link.{Linked, StandsOn, conn_of}
+use Rattle.zy_home.specs.Offer.{WaitsBehind, WaitsFull}
+use Rattle.zy_home.specs.Idle.{IsIdle, due_mark, mark_in}
 use Rattle.zy_home.specs.Home.{Homed, Keeps, SameHome, StandsHome, IsAt, IsHere}
 use Rattle.zy_home.specs.Place.{IsOut, Settles, PutsBack, SameHand, label_in}
 use Rattle.zy_home.specs.Turn.{IsDue, IsSettled, IsPutBack, IsPlace, IsFed, IsUnfed, PassTurns, Turns, turned}

@@ -10,8 +10,8 @@ use Rattle.zy_rx.specs.Session.{Sessions, sessions_of, takes_in, no_sessions}
 use Rattle.zy_shuffle.specs.Hand.{marked}
 use Rattle.zy_shuffle.specs.Pass.{Held}
 use Rattle.zy_conn.specs.Block.{Blocked}
-use Rattle.zy_link.specs.Link.{Linked, LinkStands, StandsOn, conn_of}
-use Rattle.zy_link.specs.Idle.{due_mark, mark_in}
+use Rattle.zy_home.specs.Link.{Linked, LinkStands, StandsOn, conn_of}
+use Rattle.zy_home.specs.Idle.{due_mark, mark_in}
 use Rattle.zy_home.specs.Home.{Homed, Keeps, HomeStands, SameHome, StandsHome, IsAt, IsHere, conns_in}
 use Rattle.zy_home.specs.Turn.{PassTurns, Turns, turned}
 

@@ -4,7 +4,7 @@ use Rattle.zy_calls.specs.Output.{Sent}
 use Rattle.zy_table.specs.declared.name.Name.{Name}
 use Rattle.zy_table.specs.Name.{name_of}
 use Rattle.zy_conn.specs.Block.{Blocked}
-use Rattle.zy_link.specs.Link.{Linked}
+use Rattle.zy_home.specs.Link.{Linked}
 
 -- the blocks that are in these slots
 abbrev pub blocks_in : List (Option Blocked) → List Blocked

@@ -7,8 +7,8 @@ use Rattle.zy_rx.specs.Session.{sessions_of}
 use Rattle.zy_shuffle.specs.Hand.{marked}
 use Rattle.zy_shuffle.specs.Pass.{Held}
 use Rattle.zy_conn.specs.Block.{Blocked}
-use Rattle.zy_link.specs.Link.{Linked, LinkStands, conn_of}
-use Rattle.zy_link.specs.Idle.{IsIdle, due_mark, mark_in}
+use Rattle.zy_home.specs.Link.{Linked, LinkStands, conn_of}
+use Rattle.zy_home.specs.Idle.{IsIdle, due_mark, mark_in}
 use Rattle.zy_home.specs.Own.{own_conns}
 
 -- ---- values

@@ -1,3 +1,7 @@
+pub mod Link
+pub mod Offer
+pub mod Idle
+pub mod Finish
 pub mod Own
 pub mod End
 pub mod Parts

@@ -7,7 +7,7 @@ use Rattle.zy_conn.specs.Ring.{Sending}
 use Rattle.zy_conn.specs.Work.{Worked, idle}
 use Rattle.zy_conn.specs.Block.{Blocked}
 use Rattle.zy_table.specs.declared.name.Name.{Name}
-use Rattle.zy_link.specs.Link.{Linked, IsFresh}
+use Rattle.zy_home.specs.Link.{Linked, IsFresh}
 use Rattle.zy_home.specs.declared.parts.HomeParts.{HomeParts}
 use Rattle.zy_home.specs.Own.{own_conns}
 use Rattle.zy_home.specs.End.{HasLabel}

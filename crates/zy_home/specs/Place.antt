@@ -10,9 +10,9 @@ use Rattle.zy_shuffle.specs.Pass.{Held, Joined, Claimed, Collected, after_publis
 use Rattle.zy_conn.specs.Work.{has_event}
 use Rattle.zy_conn.specs.Hold.{HeldTo}
 use Rattle.zy_conn.specs.Block.{Blocked}
-use Rattle.zy_link.specs.Link.{Linked, IsFor, conn_of}
-use Rattle.zy_link.specs.Offer.{WaitsBehind, WaitsFull}
-use Rattle.zy_link.specs.Idle.{IsIdle, due_mark, mark_in}
+use Rattle.zy_home.specs.Link.{Linked, IsFor, conn_of}
+use Rattle.zy_home.specs.Offer.{WaitsBehind, WaitsFull}
+use Rattle.zy_home.specs.Idle.{IsIdle, due_mark, mark_in}
 use Rattle.zy_home.specs.declared.own.Own.{Own}
 use Rattle.zy_home.specs.declared.own.Own.TheVariants.{Took, Empty, Raced}
 use Rattle.zy_home.specs.Home.{Homed, IsHere}

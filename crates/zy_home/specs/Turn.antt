@@ -6,9 +6,9 @@ use Rattle.zy_shuffle.specs.Hand.{marked}
 use Rattle.zy_shuffle.specs.Pass.{Held, after_publish}
 use Rattle.zy_conn.specs.Work.{has_event}
 use Rattle.zy_conn.specs.Block.{Blocked}
-use Rattle.zy_link.specs.Link.{Linked, conn_of}
-use Rattle.zy_link.specs.Offer.{WaitsBehind, WaitsFull}
-use Rattle.zy_link.specs.Idle.{IsIdle, due_mark, mark_in}
+use Rattle.zy_home.specs.Link.{Linked, conn_of}
+use Rattle.zy_home.specs.Offer.{WaitsBehind, WaitsFull}
+use Rattle.zy_home.specs.Idle.{IsIdle, due_mark, mark_in}
 use Rattle.zy_home.specs.Home.{Homed, IsAt, IsHere}
 use Rattle.zy_home.specs.Place.{label_in}
 

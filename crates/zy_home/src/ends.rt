@@ -2,10 +2,10 @@
 ghost use Rattle.std.specs.Prelude.{◌≡◌, [], ◌∷◌, map, IfSome, IfNone};
 ghost use Rattle.zy_home.specs.End.{ended_of, ended};
 
+use crate::link::Link;
 use std::collections::VecDeque;
 use std::marker::Model;
 use zy_calls::Output;
-use zy_link::Link;
 
 /// What is left of a home's connections. Contracts see the list of their outputs with the ends of
 /// their closed sessions, by rising connection.

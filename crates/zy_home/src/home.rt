@@ -10,9 +10,9 @@ mod settling;
 
 use crate::blocks::Blocks;
 use crate::ends::Ends;
+use crate::link::Link;
 use std::marker::Model;
 use zy_conn::Block;
-use zy_link::Link;
 use zy_shuffle::HomePass;
 
 /// The home of a core's connections: for each its inlet, framer, session ends, waiting frames and

@@ -1,13 +1,36 @@
-//! Laws of homes at the end: the functions do nothing, and their contracts are the laws.
+//! Laws of homes and their connections at the end: the functions do nothing, and their contracts are
+//! the laws.
 ghost use Rattle.std.specs.Prelude.{◌≡◌, ◌≢◌, ℕ, ◌+◌, List, [], ◌∷◌, ◌++◌, map, true};
-ghost use Rattle.zy_capture.specs.declared.record.Record.{Record};
+ghost use Rattle.zy_base.specs.declared.entry.Entry.{Entry};
+ghost use Rattle.mc_reply.specs.Texts.{texts_of};
 ghost use Rattle.zy_rx.specs.declared.rx.Rx.{Rx};
 ghost use Rattle.zy_rx.specs.Flow.{home_of};
-ghost use Rattle.zy_rx.specs.Session.{sessions_of};
+ghost use Rattle.zy_rx.specs.Session.{Sessions, sessions_of, streams_of};
+ghost use Rattle.zy_conn.specs.Kept.{Kept};
+ghost use Rattle.zy_conn.specs.Block.{Blocked};
+ghost use Rattle.zy_home.specs.Link.{Linked, LinkStands, ends_from};
+ghost use Rattle.zy_home.specs.Idle.{IsIdle, due_mark, mark_in};
+ghost use Rattle.zy_home.specs.Finish.{ConnEnd, commands_received, cut_at, outputs_from};
 ghost use Rattle.zy_home.specs.Own.{own_conns};
 ghost use Rattle.zy_home.specs.End.{Ended, blocks_in, ended_of};
 ghost use Rattle.zy_home.specs.Home.{Homed, HomeStands, Keeps, is_settled};
-ghost use Rattle.zy_home.specs.Settled.{AreFinished, captured, items_for};
+ghost use Rattle.zy_home.specs.Settled.{AreFinished};
+
+/// A connection whose block is idle has finished what it received: each call due was made in order,
+/// its output has the text of each command, and its sessions end behind their commands.
+pub fn an_idle_connection_is_finished()
+    ensures value { (block : Blocked) (l : Linked) (s : Sessions) → Kept block.work
+        → IsIdle block.work l → mark_in block ≡ due_mark l → LinkStands l s
+        → ConnEnd block.work.table.slots block.work.calls s l.output l.ends }
+{}
+
+/// The texts of a connection's commands, cut at the ends of its closed sessions, are those of each
+/// session.
+pub fn texts_are_cut_at_the_ends_of_sessions()
+    ensures value { (s : Sessions) (entries : List Entry)
+        → cut_at 0 (ends_from 0 s.closed) (texts_of (commands_received s) entries)
+        ≡ outputs_from 0 (streams_of s) entries }
+{}
 
 /// The connections of a core, by one connection more.
 pub fn own_connections_come_in_turn()
@@ -27,19 +50,4 @@ pub fn a_settled_home_is_finished()
     ensures finished { (h : Homed) (items : List Rx) → Keeps h → is_settled h ≡ true
         → HomeStands h items
         → AreFinished h.pass.label (λ conn. sessions_of conn items) (blocks_in h.blocks) (map ended_of h.links) }
-{}
-
-/// What a connection received, by the items that its home gets of a capture, are the capture's streams
-/// of its sessions.
-pub fn a_home_gets_the_streams_of_a_capture()
-    ensures value { (core cores conn : ℕ) (records : List Record) → home_of cores conn ≡ core
-        → sessions_of conn (items_for core cores records) ≡ captured records conn }
-{}
-
-/// A settled home that stands for the items that it gets of a capture has finished each of its
-/// connections' sessions.
-pub fn a_settled_home_has_finished_its_capture()
-    ensures value { (h : Homed) (records : List Record) → Keeps h → is_settled h ≡ true
-        → HomeStands h (items_for h.core h.cores records)
-        → AreFinished h.pass.label (captured records) (blocks_in h.blocks) (map ended_of h.links) }
 {}

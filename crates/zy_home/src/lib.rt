@@ -6,11 +6,10 @@ mod ends;
 mod home;
 mod inlets;
 pub mod laws;
+mod link;
 mod own;
 mod parts;
 mod place;
-#[cfg(test)]
-mod tests;
 
 pub use blocks::Blocks;
 pub use ends::Ends;

@@ -1,14 +1,14 @@
 //! The steps at one place of a home: what is done with a block, its link and the pass.
 ghost use Rattle.std.specs.Prelude.{◌≡◌, ◌≢◌, ◌<◌, ◌^◌, ℕ, OnOk, OnErr, IfSome, IfNone, Some, slice_get};
-ghost use Rattle.zy_link.specs.Link.{Linked, SameLink, StandsOn, TakesIn, IsFor, conn_of};
+ghost use Rattle.zy_home.specs.Link.{Linked, SameLink, StandsOn, TakesIn, IsFor, conn_of};
 ghost use Rattle.zy_home.specs.Own.{IsRising, item_conn};
 ghost use Rattle.zy_home.specs.Home.{conns_in};
 ghost use Rattle.zy_home.specs.Turn.{IsDue, IsSettled, IsPutBack, IsPlace, IsFed, IsUnfed};
 
+use crate::link::Link;
 use std::mem;
 use zy_base::NoMemory;
 use zy_conn::Block;
-use zy_link::Link;
 use zy_rx::Rx;
 use zy_shuffle::{HomePass, Ring};
 

@@ -5,8 +5,6 @@ mod journal;
 mod laws;
 mod merging;
 mod rest;
-#[cfg(test)]
-mod tests;
 mod turn;
 mod turns;
 mod writing;

@@ -2,3 +2,4 @@ pub mod Fields
 pub mod Steps
 pub mod Verdict
 pub mod Standing
+pub mod Worked

@@ -1,14 +1,17 @@
 //! Laws over the definitions of this crate.
-ghost use Rattle.std.specs.Prelude.{◌≡◌, ◌≤◌, ◌↔◌, ◌++◌, ℕ, List, length, Some, ⊤};
+ghost use Rattle.std.specs.Prelude.{◌≡◌, ◌≤◌, ◌↔◌, ◌++◌, ℕ, List, [], length, codes, Some, ⊤};
 ghost use Rattle.std.specs.List.{concat};
 ghost use Rattle.zy_base.specs.declared.file_fault.FileFault.{FileFault};
+ghost use Rattle.zy_base.specs.declared.file_fault.FileFault.TheVariants.{Form, Truncated, TooLong};
 ghost use Rattle.zy_read.specs.Standing.{Feeds, FeedsPieces};
 ghost use Rattle.zy_journal.specs.declared.journal.Journal.{Journal};
 ghost use Rattle.zy_journal.specs.Journal.{journal_bytes};
+ghost use Rattle.zy_journal.specs.Worked.{worked, worked_bytes};
 ghost use Rattle.zy_journal_reader.specs.Steps.{Progress, journal_limit};
 ghost use Rattle.zy_journal_reader.specs.Verdict.{journals, verdict, fault_of, IsReadable, SpellsJournal, AreBytes};
 ghost use Rattle.zy_journal_reader.specs.Verdict.Verdict.{Good, Bad};
 ghost use Rattle.zy_journal_reader.specs.Standing.{StandsForJournal};
+ghost use Rattle.zy_journal_reader.specs.Worked.{with_magic, with_call, behind_entry, behind_hold, met_behind};
 
 /// A text is a good journal exactly where it is the journal's spelling, the journal is within the
 /// format's bounds, and the text has at most 2^63 - 1 bytes.
@@ -53,4 +56,41 @@ pub fn what_is_read_depends_on_the_bytes_alone()
 pub fn how_a_journal_is_cut_does_not_matter()
     ensures whole { (old new : Progress) (pieces : List (List ℕ)) (gave : List ⊤)
         → FeedsPieces journals old new pieces gave → Feeds journals old new (concat pieces) gave }
+{}
+
+/// Worked journals: one that is good, and others with a fault in their magic, a hold or behind the
+/// end, and journals of too many bytes.
+#[tactic(auto, unfolding(zy_read::specs::Format::verdict_on, zy_read::specs::Format::reading_of, zy_read::specs::Format::read_on))]
+pub fn worked_journals()
+    ensures good { verdict worked_bytes ≡ Good worked }
+    ensures cut { verdict (codes "ZYGJRN1") ≡ Bad (Truncated 7) }
+    ensures letter { verdict (codes "ZYGX") ≡ Bad (Form 3) }
+    ensures tag { verdict (with_magic (codes "X")) ≡ Bad (Form 8) }
+    ensures trailing { verdict (with_magic (codes "EE")) ≡ Bad (Form 9) }
+    ensures hold { verdict (with_magic (codes "H\0\0\u{10}\0")) ≡ Bad (Form 9) }
+    ensures core { verdict (with_magic (codes "H\0\0\0\0\0\0\0@")) ≡ Bad (Form 13) }
+    ensures nothing { verdict (with_magic (codes "H\0\0\0\0\0\0\0\0\0\0\0\0")) ≡ Bad (Form 17) }
+    ensures most { verdict (with_magic (codes "H\0\0\0\0\0\0\0\0\0\0\0A")) ≡ Bad (Form 17) }
+    ensures falling { verdict (behind_hold (codes "H\0\0\0\0")) ≡ Bad (Form 22) }
+    ensures late { verdict (behind_hold (codes "J")) ≡ Bad (Form 21) }
+    ensures too_long { met_behind 9223372036854775806 (codes "JX") ≡ Some TooLong }
+    ensures last { met_behind 9223372036854775806 (codes "EX") ≡ Some (Form 9223372036854775807) }
+{}
+
+/// Worked journals with a fault in an entry.
+#[tactic(auto, unfolding(zy_read::specs::Format::verdict_on, zy_read::specs::Format::reading_of, zy_read::specs::Format::read_on))]
+pub fn worked_entries()
+    ensures no_stamp { verdict (with_magic (codes "J\0\0\0\0\0\0\0\0")) ≡ Bad (Form 9) }
+    ensures stamp { verdict (with_magic (codes "J\u{10}\0\0\0\0\0\0\0")) ≡ Bad (Form 9) }
+    ensures shard { verdict (with_magic (codes "J\0\0\0\0\0\0\0\u{1}\0\0\u{1}\0")) ≡ Bad (Form 17) }
+    ensures connection { verdict (with_magic (codes "J\0\0\0\0\0\0\0\u{1}\0\0\0\0\0\0\u{10}\0")) ≡ Bad (Form 21) }
+    ensures falling { verdict (behind_entry (codes "J\0\0\0\0\0\0\0\u{1}")) ≡ Bad (Form 40) }
+    ensures same { verdict (behind_entry (codes "J\0\0\0\0\0\0\0\u{2}\0\0\0\u{3}")) ≡ Bad (Form 48) }
+    ensures call { verdict (with_call (codes "\u{c}")) ≡ Bad (Form 37) }
+    ensures no_key { verdict (with_call (codes "\u{1}\0")) ≡ Bad (Form 38) }
+    ensures key { verdict (with_call (codes "\u{1}û")) ≡ Bad (Form 38) }
+    ensures value { verdict (with_call (codes "\u{2}\u{1}a\0\0\0\0\0\u{10}\0\u{1}")) ≡ Bad (Form 44) }
+    ensures reply { verdict (with_call (codes "\u{1}\u{1}a\u{c}")) ≡ Bad (Form 40) }
+    ensures found { verdict (with_call (codes "\u{1}\u{1}a\u{2}\0\0\0\0\0\0\0\0\0\0\0\0\0\u{10}\0\u{1}")) ≡ Bad (Form 53) }
+    ensures cut { verdict (with_call (codes "\u{1}úa")) ≡ Bad (Truncated 40) }
 {}

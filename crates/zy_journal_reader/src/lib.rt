@@ -6,15 +6,12 @@ mod draft;
 mod due;
 mod laws;
 mod past;
-#[cfg(test)]
-mod plain;
 mod reader;
-#[cfg(test)]
-mod tests;
 
 pub use laws::{
     a_journal_is_good_exactly_where_it_is_a_spelling, how_a_journal_is_cut_does_not_matter,
     the_first_fault_of_a_journal_counts, two_journals_have_two_texts,
-    what_is_read_depends_on_the_bytes_alone, written_journals_are_read_again,
+    what_is_read_depends_on_the_bytes_alone, worked_entries, worked_journals,
+    written_journals_are_read_again,
 };
 pub use reader::JournalReader;

@@ -153,13 +153,4 @@ impl JournalReader {
             _ => Err(FileFault::Truncated { at: self.at }),
         }
     }
-
-    // The place is further on, as though more bytes had been read before.
-    #[cfg(test)]
-    pub(crate) fn at_place(mut self, at: u64) -> JournalReader {
-        if self.at <= at && !matches!(self.due, Due::Byte(ByteField::Magic)) {
-            self.at = at;
-        }
-        self
-    }
 }

@@ -3,3 +3,9 @@ pub mod Run
 pub mod Output
 pub mod Spans
 pub mod Worked
+pub mod Apart
+pub mod Serial
+pub mod Summary
+pub mod ApartWorked
+pub mod Told
+pub mod Keyed

@@ -1,3 +1,5 @@
+pub mod Feed
 pub mod Flow
 pub mod Ring
 pub mod Session
+pub mod Routing

@@ -9,6 +9,10 @@ pub record Sessions : Type 0 where
   pub current : List ℕ
   pub ended : Bool
 
+-- the streams of all of these sessions, the open one last
+abbrev pub streams_of : Sessions → List (List ℕ)
+streams_of s = s.closed ++ s.current ∷ []
+
 -- nothing was received yet
 abbrev pub no_sessions : Sessions
 no_sessions = record { closed = []; current = []; ended = false }

@@ -1,15 +1,17 @@
-//! What the network delivers to a core: which core is the home of a connection, and the receive
-//! ring of each core.
+//! What the network delivers to a core: which core is the home of a connection, the receive ring of
+//! each core, who offers items to these rings, and which items of a capture.
 #![tactic(auto)]
 
+mod feeder;
 mod flow_table;
 mod inlet;
+mod laws;
 mod outlet;
 mod rx;
-#[cfg(test)]
-mod tests;
 
+pub use feeder::{Fed, Feeder};
 pub use flow_table::FlowTable;
 pub use inlet::Inlet;
+pub use laws::{all_that_was_offered_is_taken, items_are_offered_one_by_one};
 pub use outlet::{Outlet, both_ends, ring};
 pub use rx::Rx;

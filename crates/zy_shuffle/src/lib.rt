@@ -7,8 +7,6 @@ pub mod laws;
 mod left;
 mod marked;
 mod ring;
-#[cfg(test)]
-mod tests;
 
 pub use claim::Claim;
 pub use left::Left;

@@ -1,6 +1,7 @@
-//! Laws of a steal and of the giving back that follows it, as contracts of functions without a body.
-ghost use Rattle.std.specs.Prelude.{◌≡◌, ℕ};
+//! Laws of the order of victims, of a steal and of the giving back that follows it, as contracts of functions without a body.
+ghost use Rattle.std.specs.Prelude.{◌≡◌, ℕ, [], ◌∷◌};
 ghost use Rattle.zy_table.specs.declared.name.Name.{Name};
+ghost use Rattle.zy_steal.specs.Order.{order_of};
 ghost use Rattle.zy_steal.specs.Steal.{PassList, AreIdle, TakesFrom, GivesTo, seats_of};
 
 use zy_shuffle::Marked;
@@ -16,4 +17,16 @@ pub fn a_block_given_back_leaves_the_hands<T: Marked>()
     ensures value { (label : Name) (p q r : PassList T) (core place : ℕ) (block : T) → q.core ≡ p.core
         → AreIdle label (seats_of p.items) → TakesFrom T.mark T.label p q core place block → GivesTo q r core place
         → seats_of r.items ≡ seats_of p.items }
+{}
+
+/// Worked orders: whom a core looks at in a steal call, by how many cores there are, its own number, and how often it
+/// has tried.
+pub fn worked_orders()
+    ensures alone { order_of 1 0 7 ≡ [] }
+    ensures other { order_of 2 1 9 ≡ 0 ∷ [] }
+    ensures first { order_of 5 2 0 ≡ 3 ∷ 4 ∷ 0 ∷ 1 ∷ [] }
+    ensures second { order_of 5 2 1 ≡ 4 ∷ 0 ∷ 1 ∷ 3 ∷ [] }
+    ensures fourth { order_of 5 2 3 ≡ 1 ∷ 3 ∷ 4 ∷ 0 ∷ [] }
+    ensures round { order_of 5 2 4 ≡ 3 ∷ 4 ∷ 0 ∷ 1 ∷ [] }
+    ensures last { order_of 5 4 0 ≡ 0 ∷ 1 ∷ 2 ∷ 3 ∷ [] }
 {}

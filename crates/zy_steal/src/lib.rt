@@ -6,8 +6,6 @@ mod looks;
 mod order;
 mod passes;
 mod rings;
-#[cfg(test)]
-mod tests;
 mod victims;
 
 pub use looks::{Look, Looks};

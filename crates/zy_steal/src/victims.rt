@@ -26,7 +26,7 @@ pub enum Stolen<T> {
 pub struct Victims {
     core: u32,
     cores: u32,
-    pub(crate) calls: u64,
+    calls: u64,
 }
 
 impl Model for Victims {

@@ -2,7 +2,7 @@
 use Rattle.std.proofs.Common.{◌≡◌, ℕ, ◌≤◌, List, sym, subst}
 use Rattle.std.specs.Prelude.{Option, Some}
 use Rattle.zy_rx.specs.Ring.{Offering}
-use Rattle.zy_feeder.specs.Feed.{sent_by}
+use Rattle.zy_rx.specs.Feed.{sent_by}
 use Rattle.zy_feed.specs.declared.stop.Stop.{Stop}
 use Rattle.zy_feed.specs.declared.stage.Stage.{Stage}
 use Rattle.zy_feed.specs.declared.stage.Stage.TheVariants.{Cutting, Ended}

@@ -12,8 +12,8 @@ use Rattle.zy_capture.specs.Outputs.{AllOutputs}
 use Rattle.zy_run.specs.Commands.{streams_in, commands_in}
 use Rattle.zy_run.specs.Output.{all_outputs}
 use Rattle.zy_run.specs.Spans.{held_of, AreHoldsOf, Spans}
-use Rattle.zy_same.specs.declared.summary.Summary.{Summary}
-use Rattle.zy_same.specs.Summary.{count_of_commands, bytes_in, summary_of_run}
+use Rattle.zy_run.specs.declared.summary.Summary.{Summary}
+use Rattle.zy_run.specs.Summary.{count_of_commands, bytes_in, summary_of_run}
 use Rattle.zygos_run.specs.Headline.{outputs_of}
 use Rattle.zygos_run.specs.Numbers.{all_held}
 

@@ -1,14 +1,14 @@
 -- The homes of cores that were prepared and driven until all are settled are over.
 use Rattle.std.proofs.Common.{◌≡◌, ℕ, ◌≤◌, List, length, refl, sym, ◌∙◌, ap, subst, arith, true}
 use Rattle.std.specs.Prelude.{Some, slice_get}
-use Rattle.zy_make.proofs.ListLemmas.{map_at, length_map}
+use Rattle.zy_setup.proofs.ListLemmas.{map_at, length_map}
 use Rattle.atomic_table.specs.Seated.{TableId}
 use Rattle.zy_capture.specs.Capture.{connection_limit}
 use Rattle.zy_home.specs.Home.{Homed, is_settled}
 use Rattle.zy_core.specs.Core.{Identity}
 use Rattle.zy_finish.specs.Over.{AreOver}
-use Rattle.zy_make.specs.Station.{Station, station_of, stations_of, stations_in, station_in}
-use Rattle.zy_make.specs.Received.{AreSettled}
+use Rattle.zy_setup.specs.Station.{Station, station_of, stations_of, stations_in, station_in}
+use Rattle.zy_finish.specs.Received.{AreSettled}
 use Rattle.zygos_run.specs.Prepared.{IsStation, AreStations}
 
 pub over_of : (store : TableId) (count : ℕ) (ids : List Identity) (homes : List Homed) → count ≤ connection_limit → 1 ≤ length ids → length ids ≤ 64

@@ -3,7 +3,7 @@ use Rattle.std.proofs.Common.{◌≡◌, ℕ, ◌<◌, ◌≤◌, List, length, 
 use Rattle.std.specs.Prelude.{Option, Some, None, slice_get, option_map}
 use Rattle.std.proofs.lemmas.Option.{slice_get_within}
 use Rattle.zy_home.proofs.JoinLemmas.{some_there}
-use Rattle.zy_make.proofs.ListLemmas.{of_map, length_map}
+use Rattle.zy_setup.proofs.ListLemmas.{of_map, length_map}
 use Rattle.zy_table.specs.Name.{name_of}
 use Rattle.atomic_table.specs.Seated.{TableId}
 use Rattle.mc_store.specs.Pass.{Rooted, Stored}
@@ -12,16 +12,16 @@ use Rattle.zy_shuffle.specs.Pass.{Ringed}
 use Rattle.zy_steal.specs.Steal.{PassList}
 use Rattle.zy_conn.specs.Block.{Blocked}
 use Rattle.zy_home.specs.Home.{Homed}
-use Rattle.zy_feeder.specs.Feed.{rings_of, sent_by}
+use Rattle.zy_rx.specs.Feed.{rings_of, sent_by}
 use Rattle.zy_feed.specs.Feeding.{AreUnsent}
 use Rattle.zy_core.specs.Share.{Sharing}
 use Rattle.zy_core.specs.Core.{Identity}
 use Rattle.zy_core.specs.Drive.{AreCores, AreInlets}
-use Rattle.zy_finish.specs.Over.{IsRootOf}
-use Rattle.zy_start.specs.declared.starting.Started.{Started}
-use Rattle.zy_start.specs.Start as starts
-use Rattle.zy_make.specs.Ready as ready
-use Rattle.zy_make.specs.Station.{Station, station_of, stations_of, stations_in, rings_in}
+use Rattle.mc_store.specs.Root.{IsRootOf}
+use Rattle.zy_setup.specs.declared.starting.Started.{Started}
+use Rattle.zy_setup.specs.Start as starts
+use Rattle.zy_setup.specs.Ready as ready
+use Rattle.zy_setup.specs.Station.{Station, station_of, stations_of, stations_in, rings_in}
 use Rattle.zygos_run.specs.Prepared.{IsStation, AreStations, IsPrepared}
 
 -- an element that there is

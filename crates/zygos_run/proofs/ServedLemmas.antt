@@ -12,8 +12,8 @@ use Rattle.zy_rx.specs.declared.rx.Rx.{Rx}
 use Rattle.zy_home.specs.Home.{Homed}
 use Rattle.zy_feed.specs.declared.intake.Header.{Header}
 use Rattle.zy_feed.specs.Feeding.{HasFedAll}
-use Rattle.zy_make.specs.Received.{AllSent, HaveReceived}
-use Rattle.zy_finish.specs.Finish.{IsFinished}
+use Rattle.zy_finish.specs.Received.{AllSent}
+use Rattle.zy_finish.specs.Finish.{HaveReceived, IsFinished}
 use Rattle.zygos_run.specs.Headline.{IsServed, outputs_of}
 use Rattle.zygos_run.specs.Ends.{RunsTo}
 

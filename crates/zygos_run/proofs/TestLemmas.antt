@@ -9,8 +9,8 @@ use Rattle.zy_journal.specs.declared.journal.Journal.{Journal}
 use Rattle.zy_run.specs.Commands.{streams_in, commands_in}
 use Rattle.zy_run.specs.Run.{IsRun}
 use Rattle.zy_run.specs.Spans.{Spans}
-use Rattle.zy_same.specs.declared.summary.Summary.{Summary}
-use Rattle.zy_same.specs.Summary.{summary, summary_of_run}
+use Rattle.zy_run.specs.declared.summary.Summary.{Summary}
+use Rattle.zy_run.specs.Summary.{summary, summary_of_run}
 use Rattle.zy_gen.specs.Traffic.{records_of}
 use Rattle.zy_command_line.specs.declared.request.Traffic.{Traffic}
 use Rattle.zygos_run.specs.Headline.{IsServed, outputs_of}

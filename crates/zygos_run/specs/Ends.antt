@@ -8,7 +8,7 @@ use Rattle.zy_capture.specs.Verdict.Verdict.{Good, Bad}
 use Rattle.zy_journal.specs.declared.journal.Journal.{Journal}
 use Rattle.zy_journal.specs.Journal.{IsJournal}
 use Rattle.zy_run.specs.Commands.{streams_in}
-use Rattle.zy_same.specs.Summary.{summary}
+use Rattle.zy_run.specs.Summary.{summary}
 use Rattle.zy_check_input.specs.declared.stop.Refusal.TheVariants.{Capture}
 use Rattle.zy_check_input.specs.declared.stop.Stop.{Stop as PartStop}
 use Rattle.zy_check_input.specs.declared.stop.Stop.TheVariants as PartStops
@@ -26,7 +26,7 @@ use Rattle.zy_command_line.specs.Request.{request_of}
 use Rattle.zy_feed.specs.declared.stop.Stop.{Stop}
 use Rattle.zy_feed.specs.declared.stop.Stop.TheVariants as Stops
 use Rattle.zy_finish.specs.declared.finishing.Finished.{Finished}
-use Rattle.zy_same.specs.declared.summary.Summary.{Summary}
+use Rattle.zy_run.specs.declared.summary.Summary.{Summary}
 use Rattle.zygos_run.specs.declared.answer.Answer.{Answer}
 use Rattle.zygos_run.specs.declared.answer.Answer.TheVariants.{Served, Checked, Made, Tested, Usage, Refused, ReadFault, WriteFault, OutOfMemory}
 use Rattle.zygos_run.specs.Headline.{IsServed, IsWritten, IsPartWritten, written}

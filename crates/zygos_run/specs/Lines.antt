@@ -10,7 +10,7 @@ use Rattle.zy_check.specs.declared.verdict.Cause.{Cause}
 use Rattle.zy_check.specs.declared.verdict.Cause.TheVariants.{NotNext, WrongReply, Missing, WrongOutput, WrongHolds}
 use Rattle.zy_check.specs.declared.verdict.Verdict.{Verdict}
 use Rattle.zy_check.specs.declared.verdict.Verdict.TheVariants.{Yes, No}
-use Rattle.zy_same.specs.declared.summary.Summary.{Summary}
+use Rattle.zy_run.specs.declared.summary.Summary.{Summary}
 use Rattle.zygos_run.specs.declared.answer.Answer.{Answer}
 use Rattle.zygos_run.specs.declared.answer.Answer.TheVariants.{Served, Checked, Made, Tested, Usage, Refused, ReadFault, WriteFault, OutOfMemory}
 

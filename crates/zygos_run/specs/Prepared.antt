@@ -4,13 +4,13 @@ use Rattle.atomic_table.specs.Seated.{TableId}
 use Rattle.zy_table.specs.Name.{name_of}
 use Rattle.mc_store.specs.Pass.{Rooted}
 use Rattle.zy_rx.specs.Ring.{Offering}
-use Rattle.zy_feeder.specs.Feed.{rings_of, sent_by}
+use Rattle.zy_rx.specs.Feed.{rings_of, sent_by}
 use Rattle.zy_feed.specs.Feeding.{AreUnsent}
 use Rattle.zy_core.specs.Share.{Sharing}
 use Rattle.zy_core.specs.Core.{Identity}
 use Rattle.zy_core.specs.Drive.{AreCores, AreInlets}
-use Rattle.zy_finish.specs.Over.{IsRootOf}
-use Rattle.zy_make.specs.Station.{Station, stations_in, rings_in}
+use Rattle.mc_store.specs.Root.{IsRootOf}
+use Rattle.zy_setup.specs.Station.{Station, stations_in, rings_in}
 
 -- the home of this core, of so many, has its core's number, the count of connections and the store's label
 pub record IsStation (store : TableId) (cores count core : ℕ) (s : Station) : Type 0 where

@@ -13,7 +13,7 @@ use Rattle.zy_check_input.specs.Parts.{AreParts, HasPartFault, ReadsAll}
 use Rattle.zy_check.specs.declared.verdict.Verdict.{Verdict as Certified}
 use Rattle.zy_command_line.specs.declared.request.Request.{Request}
 use Rattle.zy_command_line.specs.declared.request.Request.TheVariants as Requests
-use Rattle.zy_same.specs.declared.summary.Summary.{Summary}
+use Rattle.zy_run.specs.declared.summary.Summary.{Summary}
 use Rattle.zygos_run.specs.declared.answer.Answer.{Answer}
 use Rattle.zygos_run.specs.declared.answer.Answer.TheVariants.{Served, Checked, Made, Tested, Usage, Refused, OutOfMemory}
 use Rattle.zygos_run.specs.Headline.{IsWritten, IsPartWritten}

@@ -5,7 +5,7 @@ ghost use Rattle.zygos_run.specs.Answers.{status_of};
 use zy_check::Verdict;
 use zy_check_input::Refusal;
 use zy_journal::Journal;
-use zy_same::Summary;
+use zy_run::Summary;
 
 /// How the top call ended.
 #[derive(Drop)]

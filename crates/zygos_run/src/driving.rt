@@ -4,7 +4,7 @@ ghost use Rattle.zy_capture.specs.declared.record.Record.{Record};
 ghost use Rattle.zy_feed.specs.declared.intake.Header.{Header};
 ghost use Rattle.zy_feed.specs.Reads.{HasBegun, StopsBy};
 ghost use Rattle.zy_feed.specs.Feeding.{AreUnsent, HasFedAll};
-ghost use Rattle.zy_feeder.specs.Feed.{rings_of, sent_by};
+ghost use Rattle.zy_rx.specs.Feed.{rings_of, sent_by};
 ghost use Rattle.zy_command_line.specs.Range.{IsRunnable};
 ghost use Rattle.zy_core.specs.Drive.{AreCores, AreInlets, EachSettled, IsSettled, IsBroken, identities, cores_of};
 
@@ -18,7 +18,7 @@ use zy_feed::{
     CaptureFeeder, Inlets, Intake, Stop, a_broken_feeder_has_its_cause,
     a_feeder_that_ended_has_offered_the_capture,
 };
-use zy_feeder::Feeder;
+use zy_rx::Feeder;
 
 /// The cores of a run that are settled, and the inlets of their rings.
 #[derive(Drop)]

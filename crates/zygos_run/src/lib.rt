@@ -20,7 +20,4 @@ pub use serving::serve;
 pub use standard::{StdSink, StdSource};
 pub use zy_check::{Cause, Verdict};
 pub use zy_check_input::Refusal;
-pub use zy_same::Summary;
-
-#[cfg(test)]
-mod tests;
+pub use zy_run::Summary;

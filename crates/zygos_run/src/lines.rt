@@ -6,7 +6,7 @@ ghost use Rattle.zygos_run.specs.Lines.{line_with, line_with_two, line_with_thre
 use itoa::Buffer;
 use zy_base::{Failed, Sink, write_pieces, write_whole};
 use zy_check::{Cause, Verdict};
-use zy_same::Summary;
+use zy_run::Summary;
 
 /// Writes a line with a number at its end.
 pub(crate) fn write_number<K: Sink>(sink: &mut K, text: &[u8], number: u64) -> Result<(), Failed>

@@ -5,14 +5,14 @@ ghost use Rattle.zy_capture.specs.declared.record.Record.{Record};
 ghost use Rattle.zy_capture.specs.Streams.{sessions_of};
 ghost use Rattle.zy_run.specs.Commands.{streams_in, commands_in};
 ghost use Rattle.zy_run.specs.Spans.{Spans};
-ghost use Rattle.zy_same.specs.Summary.{bytes_in, summary_of_run};
+ghost use Rattle.zy_run.specs.Summary.{bytes_in, summary_of_run};
 ghost use Rattle.zygos_run.specs.Headline.{outputs_of};
 ghost use Rattle.zygos_run.specs.Numbers.{all_held};
 
 use zy_base::{Hold, NoMemory};
 use zy_capture::Outputs;
 use zy_finish::Finished;
-use zy_same::Summary;
+use zy_run::Summary;
 
 /// The numbers of a served run.
 pub(crate) fn summary_of(done: &Finished) -> Result<Summary, NoMemory>

@@ -14,9 +14,8 @@ use zy_base::{Gate, NoMemory, Source};
 use zy_command_line::Run;
 use zy_core::{Cores, Shared};
 use zy_feed::{Inlets, Intake, Stop};
-use zy_finish::{Finished, finish};
-use zy_make::{Made, Taken, make, take};
-use zy_start::{Started, start};
+use zy_finish::{Finished, Taken, finish, take};
+use zy_setup::{Made, Started, make, start};
 
 // The most connections of a capture.
 const MOST_CONNECTIONS: u32 = 4096;

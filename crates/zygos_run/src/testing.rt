@@ -25,10 +25,9 @@ use zy_check_input::read_streams;
 use zy_command_line::{Run, Traffic};
 use zy_feed::Stop;
 use zy_finish::Finished;
-use zy_gen::generated_traffic_is_a_good_capture;
+use zy_gen::{each_run_of_generated_traffic_has_the_summary, generated_traffic_is_a_good_capture};
 use zy_journal::Journal;
-use zy_same::Summary;
-use zy_traffic::each_run_of_generated_traffic_has_the_summary;
+use zy_run::Summary;
 
 /// Serves generated traffic, checks what came, and writes the line of its numbers.
 pub(crate) fn test_traffic<R: Threads + Wait + Sync, K: Sink, G: Gate + Sync>(

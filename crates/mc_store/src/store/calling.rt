@@ -55,7 +55,10 @@ impl StoreTable {
                 found: loaded,
             });
         }
-        let call = call.copy()?;
+        let call = match call.copy() {
+            Ok(call) => call,
+            Err(refused) => return Err(refused),
+        };
         let found = words.compare_exchange::<Tries>(seat, word, loaded, loaded + 1);
         if found != loaded {
             drop(call);
@@ -65,8 +68,10 @@ impl StoreTable {
                 found,
             });
         }
-        let entry = self.call_on(seat, tag, shard, loaded, call, seen)?;
-        Ok(Got::Reply(entry))
+        match self.call_on(seat, tag, shard, loaded, call, seen) {
+            Ok(entry) => Ok(Got::Reply(entry)),
+            Err(refused) => Err(refused),
+        }
     }
 
     // Makes the call on the shard that the seat has taken, in its slot, and gives the shard back.

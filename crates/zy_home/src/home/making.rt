@@ -6,11 +6,11 @@ ghost use Rattle.zy_home.specs.Home.{HomeStands, IsMade};
 use super::Home;
 use crate::blocks::Blocks;
 use crate::inlets::Inlets;
+use crate::link::Link;
 use crate::parts::HomeParts;
 use std::alloc::Global;
 use zy_base::NoMemory;
 use zy_conn::Block;
-use zy_link::Link;
 
 impl Home {
     /// The home of a core, of so many, with those of the connections below the count that are its

@@ -2,7 +2,7 @@
 ghost use Rattle.std.specs.Prelude.{◌≡◌, ◌<◌, ◌^◌, ◌||◌, List, [], ◌∷◌, ◌++◌, true, false, Ok, OnOk, OnErr, is_err, Some, slice_get, length};
 ghost use Rattle.zy_rx.specs.declared.rx.Rx.{Rx};
 ghost use Rattle.zy_rx.specs.Session.{sessions_of};
-ghost use Rattle.zy_link.specs.Link.{Linked, IsFor, conn_of};
+ghost use Rattle.zy_home.specs.Link.{Linked, IsFor, conn_of};
 ghost use Rattle.zy_home.specs.Own.{IsOfOthers, is_end};
 ghost use Rattle.zy_home.specs.Home.{HomeStands, SameHome, StandsMore};
 ghost use Rattle.zy_home.specs.Place.{Forwards, SameHand, ComesTo};

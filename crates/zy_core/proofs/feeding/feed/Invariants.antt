@@ -1,5 +1,5 @@
 use Rattle.std.proofs.Common.{◌≡◌}
-use Rattle.zy_feeder.specs.Feed.{rings_of}
+use Rattle.zy_rx.specs.Feed.{rings_of}
 use Rattle.zy_core.proofs.feeding.feed.Given as goal
 
 abbrev pub invariant-loop : goal.invariant-loop

@@ -1,6 +1,6 @@
 use Rattle.std.proofs.Common.{◌≡◌, true, false}
 use Rattle.zy_core.specs.Drive.{identities}
-use Rattle.zy_feeder.specs.Feed.{rings_of}
+use Rattle.zy_rx.specs.Feed.{rings_of}
 use Rattle.zy_core.proofs.ordered.drive_ordered.Given as goal
 
 abbrev pub invariant-loop : goal.invariant-loop

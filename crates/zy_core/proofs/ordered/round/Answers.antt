@@ -1,6 +1,6 @@
 use Rattle.std.proofs.Common.{arith, rules, ap, ◌∙◌}
 use Rattle.std.specs.Prelude.{slice_get}
-use Rattle.zy_feeder.specs.Feed.{rings_of}
+use Rattle.zy_rx.specs.Feed.{rings_of}
 use Rattle.zy_core.proofs.CoreLemmas.{fits_there, inlet_there, same_there}
 use Rattle.zy_core.proofs.ordered.round.Goals as goal
 

@@ -1,7 +1,7 @@
 use Rattle.std.proofs.Common.{◌≡◌, vec_len}
 use Rattle.std.specs.Prelude.{◌↔◌}
 use Rattle.zy_core.specs.Drive.{identities}
-use Rattle.zy_feeder.specs.Feed.{rings_of}
+use Rattle.zy_rx.specs.Feed.{rings_of}
 use Rattle.zy_core.proofs.ordered.round.Given as goal
 
 abbrev pub invariant-loop-turn : goal.invariant-loop-turn

@@ -2,7 +2,7 @@ use Rattle.std.proofs.Common.{◌∙◌}
 use Rattle.zy_table.specs.Name.{name_of}
 use Rattle.zy_table.proofs.NameLemmas.{same_id}
 use Rattle.zy_steal.proofs.IdleLemmas.{takes_label, given_back}
-use Rattle.zy_link.specs.Idle.{mark_in}
+use Rattle.zy_home.specs.Idle.{mark_in}
 use Rattle.zy_home.specs.Place.{label_in}
 use Rattle.zy_core.proofs.stealing.steal_once.Goals as goal
 

@@ -1,6 +1,6 @@
 use Rattle.std.proofs.Common.{◌≡◌, true, false, vec_len}
 use Rattle.zy_core.specs.Seat.{all_of_seats}
-use Rattle.zy_feeder.specs.Feed.{rings_of}
+use Rattle.zy_rx.specs.Feed.{rings_of}
 use Rattle.zy_core.proofs.tending.tend.Given as goal
 
 abbrev pub invariant-loop : goal.invariant-loop

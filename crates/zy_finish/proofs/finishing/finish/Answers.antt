@@ -1,7 +1,7 @@
 use Rattle.std.proofs.Common.{◌≤◌, sym, ap, ◌∙◌, subst, arith}
 use Rattle.mc_store.specs.Joined.{Joined, is_joined}
 use Rattle.zy_table.specs.Member.{is_in}
-use Rattle.zy_finish.specs.Left.{HasGathered, AreMerged}
+use Rattle.zy_finish.specs.Rest.{HasGathered, AreMerged}
 use Rattle.zy_finish.proofs.FinishLemmas.{is_finished, joined_all}
 use Rattle.zy_finish.proofs.HomeLemmas.{is_there}
 use Rattle.zy_finish.proofs.finishing.finish.Goals as goal

@@ -3,7 +3,7 @@ use Rattle.std.specs.Prelude.{vec_capacity}
 use Rattle.std.specs.List.{AllByRecursion}
 use Rattle.std.specs.Vec.Iter.{into_iter_items}
 use Rattle.zy_home.specs.Home.{Keeps}
-use Rattle.zy_finish.specs.Left.{rest_of}
+use Rattle.zy_finish.specs.Rest.{rest_of}
 use Rattle.zy_finish.proofs.rest.rests_of.Given as goal
 
 -- what is left of the homes before this one, and the homes to come

@@ -1,5 +1,5 @@
 use Rattle.std.proofs.Common.{◌≡◌, drop}
-use Rattle.zy_served.specs.Left.{cut_from, cut_at}
+use Rattle.zy_finish.specs.Left.{cut_from, cut_at}
 use Rattle.zy_finish.specs.Part.{HasAdded}
 use Rattle.zy_finish.proofs.sessions.add_parts.Given as goal
 

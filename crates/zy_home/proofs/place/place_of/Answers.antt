@@ -1,6 +1,6 @@
 use Rattle.std.proofs.Common.{◌≡◌, ◌≢◌, ◌+◌, ◌-◌, ◌/◌, ◌<◌, ◌≤◌, Some, slice_get, sym, ap, ◌∙◌, subst, arith, ℕ}
 use Rattle.zy_table.proofs.SliceLemmas.{get_at}
-use Rattle.zy_link.specs.Link.{conn_of}
+use Rattle.zy_home.specs.Link.{conn_of}
 use Rattle.zy_home.proofs.OwnLemmas.{below_middle, above_middle}
 use Rattle.zy_home.proofs.place.place_of.Goals as goal
 

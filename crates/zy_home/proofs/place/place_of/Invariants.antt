@@ -1,5 +1,5 @@
 use Rattle.std.proofs.Common.{◌≡◌, ◌-◌, ℕ, ◌<◌, ◌≤◌, length, Some, slice_get}
-use Rattle.zy_link.specs.Link.{Linked, conn_of}
+use Rattle.zy_home.specs.Link.{Linked, conn_of}
 use Rattle.zy_home.proofs.place.place_of.Given as goal
 
 abbrev pub invariant-loop-low : goal.invariant-loop-low

@@ -1,5 +1,5 @@
 use Rattle.std.proofs.Common.{rules, ◌≡◌, ◌≤◌, sym, subst, Some}
-use Rattle.zy_feeder.specs.Feed.{sent_by}
+use Rattle.zy_rx.specs.Feed.{sent_by}
 use Rattle.zy_feed.specs.Reads.{StopsBy}
 use Rattle.zy_feed.specs.Feeding.{stop_in, HasFedAll}
 use Rattle.zy_core.specs.declared.driven.Driven.{Driven}

@@ -1,5 +1,5 @@
 use Rattle.std.proofs.Common.{◌≡◌, take}
-use Rattle.zy_same.specs.Summary.{bytes_in}
+use Rattle.zy_run.specs.Summary.{bytes_in}
 use Rattle.zygos_run.proofs.numbers.all_bytes.Given as goal
 
 abbrev pub invariant-loop-conn : goal.invariant-loop-conn

@@ -2,10 +2,10 @@ use Rattle.std.proofs.Common.{◌≡◌, ◌∙◌, ℕ, ◌≤◌, List, sym, a
 use Rattle.mc_store.specs.Pass.{Stored}
 use Rattle.zy_capture.specs.declared.record.Record.{Record}
 use Rattle.zy_capture.specs.Capture.{IsCapture}
-use Rattle.zy_feeder.specs.Feed.{sent_by}
+use Rattle.zy_rx.specs.Feed.{sent_by}
 use Rattle.zy_core.specs.Drive.{identities}
 use Rattle.zy_core.specs.Core.{Identity}
-use Rattle.zy_make.specs.Station.{stations_in}
+use Rattle.zy_setup.specs.Station.{stations_in}
 use Rattle.zy_finish.specs.Finish.{IsFinished}
 use Rattle.zy_finish.specs.Over.{AreOver}
 use Rattle.zygos_run.specs.Prepared.{IsPrepared}

@@ -1,6 +1,6 @@
 use Rattle.std.proofs.Common.{◌≡◌, ◌<◌, ℕ, length, ap, ◌∙◌, subst, arith, length-set}
 use Rattle.zy_rx.specs.Flow.{home_of}
-use Rattle.zy_finish.specs.Left.{HasGathered}
+use Rattle.zy_finish.specs.Rest.{HasGathered}
 use Rattle.zy_finish.proofs.GatherLemmas.{sent_count, has_block, has_end, table_of, next_taken, next_gathered}
 use Rattle.zy_finish.proofs.gathered.Gathered.take_all.Goals as goal
 

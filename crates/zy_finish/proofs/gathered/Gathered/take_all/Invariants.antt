@@ -1,5 +1,5 @@
 use Rattle.std.proofs.Common.{◌≡◌, length}
-use Rattle.zy_finish.specs.Left.{AreTaken, HasGathered}
+use Rattle.zy_finish.specs.Rest.{AreTaken, HasGathered}
 use Rattle.zy_finish.proofs.gathered.Gathered.take_all.Given as goal
 
 -- the connections below this one were taken from their homes

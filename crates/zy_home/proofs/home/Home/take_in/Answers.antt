@@ -1,5 +1,5 @@
 use Rattle.std.proofs.Common.{Some, slice_get, sym, ap, ◌∙◌, subst, List}
-use Rattle.zy_link.specs.Link.{Linked, conn_of}
+use Rattle.zy_home.specs.Link.{Linked, conn_of}
 use Rattle.zy_home.specs.Own.{IsOfOthers, IsOwn, IsRising}
 use Rattle.zy_home.specs.Home.{Homed, HomeStands, conns_in}
 use Rattle.zy_home.proofs.ReceiveLemmas.{is_the_end, link_own, links_rise, more_behind, more_end, more_none, not_others}

@@ -2,7 +2,7 @@ use Rattle.std.proofs.Common.{[], ◌∷◌, ◌++◌, ◌≡◌, List, Some, ma
 use Rattle.std.proofs.lemmas.List.{map-append}
 use Rattle.zy_conn.specs.Ring.{Sending}
 use Rattle.zy_conn.specs.Block.{Blocked}
-use Rattle.zy_link.specs.Link.{IsFresh}
+use Rattle.zy_home.specs.Link.{IsFresh}
 use Rattle.zy_home.specs.Parts.{AreFresh, rings_of_blocks, rings_of_inlets}
 use Rattle.zy_home.proofs.MakeLemmas.{fresh_push}
 use Rattle.zy_home.proofs.home.making.fill.Goals as goal

@@ -1,0 +1,60 @@
+//! The input of a check, from sources of which a read fails.
+use crate::failing::source_of;
+use std::alloc::Global;
+use zy_base::{MemSource, NoMemory};
+use zy_check_input::{Stop, read_parts, read_streams};
+
+// A capture of one segment, a journal without records, and a replies file: 42 bytes.
+const INPUT: &[u8] = b"ZYGCAP1\n\0\0\0\x01S\0\0\0\0\0\0\0\x02geEZYGJRN1\nEZYGREP1\nE";
+
+// Why the parts are read no further.
+fn parts_stop(alloc: Global, source: &mut MemSource) -> Option<Stop> {
+    match read_parts(alloc, source) {
+        Ok(parts) => {
+            drop(parts);
+            None
+        }
+        Err(stop) => Some(stop),
+    }
+}
+
+// Ten bytes a read, of which the read of this number fails.
+fn check_stop(alloc: Global, number: u64) -> Result<Option<Stop>, NoMemory> {
+    let mut source = source_of(alloc, INPUT, 10, number)?;
+    let stop = parts_stop(alloc, &mut source);
+    drop(source);
+    Ok(stop)
+}
+
+#[test]
+fn a_check_stops_at_the_read_that_fails(rt: HostRuntime) {
+    for number in 0..6 {
+        assert!(rt; check_stop(rt.alloc(), number) == Ok(Some(Stop::ReadFault)));
+    }
+    assert!(rt; check_stop(rt.alloc(), 6) == Ok(None));
+}
+
+// Why the streams are read no further.
+fn streams_stop(alloc: Global, source: &mut MemSource) -> Option<Stop> {
+    match read_streams(alloc, source) {
+        Ok(streams) => {
+            drop(streams);
+            None
+        }
+        Err(stop) => Some(stop),
+    }
+}
+
+// The same, where only the streams are read.
+fn capture_stop(alloc: Global, number: u64) -> Result<Option<Stop>, NoMemory> {
+    let mut source = source_of(alloc, INPUT, 10, number)?;
+    let stop = streams_stop(alloc, &mut source);
+    drop(source);
+    Ok(stop)
+}
+
+#[test]
+fn no_read_is_made_behind_the_end_of_a_capture(rt: HostRuntime) {
+    assert!(rt; capture_stop(rt.alloc(), 2) == Ok(Some(Stop::ReadFault)));
+    assert!(rt; capture_stop(rt.alloc(), 3) == Ok(None));
+}

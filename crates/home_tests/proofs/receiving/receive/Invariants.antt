@@ -1,0 +1,10 @@
+use Rattle.std.proofs.Common.{◌≡◌, ◌+◌, ◌≤◌, false}
+use Rattle.home_tests.proofs.receiving.receive.Given as goal
+
+abbrev pub invariant-loop-item : goal.invariant-loop-item
+invariant-loop-item g l = record {
+  table : l.home.pass.table ≡ l.fn.home.pass.table;
+  label : l.home.pass.label ≡ l.fn.home.pass.label;
+  live : l.home.refused ≡ false;
+  count : l.home.pass.count ≤ l.fn.home.pass.count + l.item-index;
+}

@@ -1,0 +1,144 @@
+//! A home of two connections over a store, with a pass of another core on its ring.
+ghost use Rattle.std.specs.Prelude.{◌≡◌, ◌<◌, [], ◌∷◌, ◌++◌, false};
+ghost use Rattle.zy_table.specs.Name.{name_of};
+ghost use Rattle.zy_table.specs.Member.{is_in};
+ghost use Rattle.mc_store.specs.Pass.{passed};
+ghost use Rattle.mc_store.specs.View.{untraced};
+ghost use Rattle.zy_shuffle.specs.Pass.{HasAll, newly_held};
+ghost use Rattle.zy_conn.specs.Work.{worked, idle};
+ghost use Rattle.zy_conn.specs.Block.{blocked};
+ghost use Rattle.zy_home.specs.Parts.{AreParts};
+
+use crate::sure::sure;
+use mc_store::{Root, StoreTable};
+use std::alloc::Global;
+use std::marker::Brand;
+use std::process::Abort;
+use zy_calls::Output;
+use zy_conn::{Block, EventInlet};
+use zy_home::{Blocks, Home, HomeParts, Inlets};
+use zy_shuffle::{CorePass, HomePass, Label, Ring};
+
+/// The home, the pass of the other core, and what both work on.
+#[derive(Drop)]
+pub(crate) struct Setup {
+    pub(crate) store: StoreTable,
+    pub(crate) ring: Ring<Block>,
+    pub(crate) home: Home,
+    pub(crate) thief: CorePass<Block>,
+}
+
+// A ring of two places with the store's label.
+fn ring_of<L: Label>(
+    rt: &impl Abort,
+    alloc: Global,
+    store: &StoreTable,
+) -> (Ring<Block>, HomePass<Block>)
+    requires label { L.label ≡ name_of store.now.id }
+    ensures pass { result.1 ≡ newly_held result.0.id (name_of store.now.id) 2 }
+    ensures count { result.0.id.slots ≡ 2 }
+    ensures hand { HasAll 2 result.1.hand }
+{
+    let (ring, pass) = sure(rt, Ring::<Block>::new::<L>(alloc, 2));
+    let _places = ring.places();
+    (ring, pass)
+}
+
+// The block of a connection, with its inlet.
+fn block_of(
+    rt: &impl Abort,
+    alloc: Global,
+    store: &StoreTable,
+    root: &mut Root,
+    conn: u32,
+) -> (Block, EventInlet)
+    requires table { root.old.table ≡ store.now.id }
+    requires within { conn < 4096 }
+    requires fresh { is_in conn root.old.given ≡ false }
+    ensures block { result.0 ≡ blocked
+        (worked (passed store.now.id conn [] untraced) result.1.ring [] [] idle 0 0 []) [] }
+    ensures inlet { result.1.sent ≡ [] }
+    ensures root { (root.new.table ≡ store.now.id) × (root.new.given ≡ conn ∷ root.old.given) }
+{
+    let pass = sure(rt, store.split(root, conn));
+    sure(rt, Block::new(alloc, conn, pass))
+}
+
+// Appends a block and its inlet.
+fn push_both(rt: &impl Abort, parts: &mut HomeParts, block: Block, inlet: EventInlet)
+    ensures pass { parts.new.pass ≡ parts.old.pass }
+    ensures blocks { parts.new.blocks ≡ parts.old.blocks ++ block ∷ [] }
+    ensures inlets { parts.new.inlets ≡ parts.old.inlets ++ inlet ∷ [] }
+{
+    sure(rt, parts.blocks.push(block));
+    sure(rt, parts.inlets.push(inlet));
+}
+
+// The parts of a home of the connections 0 and 1.
+fn parts_of(
+    rt: &impl Abort,
+    alloc: Global,
+    store: &StoreTable,
+    root: &mut Root,
+    pass: HomePass<Block>,
+) -> HomeParts
+    requires table { (root.old.table ≡ store.now.id) × (root.old.given ≡ []) }
+    requires label { pass.label ≡ name_of store.now.id }
+    requires places { (pass.table.slots ≡ 2) × HasAll 2 pass.hand }
+    ensures parts { AreParts 0 1 2 result }
+    ensures pass { result.pass ≡ pass }
+{
+    let (first, inlet) = block_of(rt, alloc, store, root, 0);
+    let (second, other) = block_of(rt, alloc, store, root, 1);
+    let mut parts = HomeParts {
+        pass,
+        blocks: Blocks::new(alloc),
+        inlets: Inlets::new(alloc),
+    };
+    push_both(rt, &mut parts, first, inlet);
+    push_both(rt, &mut parts, second, other);
+    parts
+}
+
+/// A home of two connections on a store of 16 shards.
+pub(crate) fn set_up(rt: &impl Abort, alloc: Global) -> Setup
+    ensures home { result.home.pass.table ≡ result.ring.id }
+    ensures count { result.home.pass.count ≡ 0 }
+    ensures live { result.home.refused ≡ false }
+    ensures label { result.home.pass.label ≡ name_of result.store.id }
+    ensures thief { (result.thief.table ≡ result.ring.id) × (result.thief.label ≡ name_of result.store.id) }
+{
+    let (store, mut root) = sure(rt, StoreTable::new(alloc, 16));
+    let (ring, mut pass) = ring_of::<Brand>(rt, alloc, &store);
+    let thief = sure(rt, ring.split(&mut pass));
+    let parts = parts_of(rt, alloc, &store, &mut root, pass);
+    drop(root);
+    let home = sure(rt, Home::new(alloc, 0, 1, 2, parts));
+    Setup {
+        store,
+        ring,
+        home,
+        thief,
+    }
+}
+
+/// The output of the first connection, with the ends of its sessions.
+pub(crate) fn first_end(rt: &impl Abort, setup: Setup) -> (Output, Vec<u64>) {
+    let Setup {
+        store,
+        ring,
+        home,
+        thief,
+    } = setup;
+    let (pass, blocks, mut ends) = home.into_outputs();
+    let Some(end) = ends.next() else {
+        panic!(rt; "no connection");
+    };
+    drop(ends);
+    drop(blocks);
+    drop(pass);
+    drop(thief);
+    drop(ring);
+    drop(store);
+    end
+}

@@ -1,0 +1,21 @@
+//! What a test takes for granted: memory, and that what it saw is right.
+ghost use Rattle.std.specs.Prelude.{◌≡◌, Ok, true};
+
+use std::process::Abort;
+
+/// What a call gave; the test ends where it found no memory.
+pub(crate) fn sure<T, E>(rt: &impl Abort, made: Result<T, E>) -> T
+    ensures value { made ≡ Ok result }
+{
+    match made {
+        Ok(value) => value,
+        Err(_) => panic!(rt; "no memory"),
+    }
+}
+
+/// Ends the test where what it saw is not right.
+pub(crate) fn must(rt: &impl Abort, is_right: bool)
+    ensures value { is_right ≡ true }
+{
+    assert!(rt; is_right);
+}

@@ -1,9 +1,0 @@
-use Rattle.std.proofs.Common.{◌≡◌}
-use Rattle.mc_store.proofs.tests.make_calls.Given as goal
-
--- the pass is still that of the connection, on this store
-abbrev pub invariant-loop : goal.invariant-loop
-invariant-loop g l = record {
-  table : l.pass.table ≡ l.initial.pass.table;
-  conn : l.pass.conn ≡ l.initial.pass.conn;
-}

@@ -1,0 +1,108 @@
+//! Reads and writes that fail, each in turn, end a run.
+use crate::serving::{Failing, Given};
+use crate::sure::must;
+use std::alloc::Global;
+use std::process::Abort;
+use std::sync::Wait;
+use std::thread::Threads;
+
+const FIRST: &[u8] = b"ZYGCAP1\n\0\0\0\x01S\0\0\0\0\0\0\0\x17set a 0 0 1\r\nx\r\nget a\r\nE";
+
+const REPLIES: &[u8] =
+    b"ZYGREP1\nR\0\0\0\0\0\0\0\0\0\0\0\x1dSTORED\r\nVALUE a 0 1\r\nx\r\nEND\r\nE";
+
+// The reads of the first capture's bytes, and that of its end.
+const READS: u64 = 46;
+
+// The writes of its replies' bytes; then the sink is finished.
+const WRITES: u64 = 51;
+
+// Three records of two connections, and the read of the third record's first byte.
+const THREE: &[u8] =
+    b"ZYGCAP1\n\0\0\0\x02S\0\0\0\0\0\0\0\x0dquit\r\nget a\r\nS\0\0\0\x01\0\0\0\x05get bS\0\0\0\x01\0\0\0\x02\r\nE";
+
+const THIRD: u64 = 48;
+
+// The exit status of a run, and how many bytes were written, where they are the first of the replies
+// of the first capture.
+#[derive(Clone, Copy)]
+struct End {
+    status: u8,
+    written: Option<usize>,
+}
+
+impl End {
+    fn is(self, status: u8, count: u64) -> bool {
+        match self.written {
+            Some(written) => self.status == status && written as u64 == count,
+            None => false,
+        }
+    }
+}
+
+fn end_of<R: Threads + Wait + Abort + Sync>(
+    rt: &R,
+    alloc: Global,
+    words: &[&[u8]],
+    capture: &[u8],
+    failing: Failing,
+) -> End {
+    let mut given = Given::ungated(rt, alloc, words, capture, failing);
+    let status = given.status(rt, alloc);
+    let written = given.part_of(REPLIES);
+    drop(given);
+    End { status, written }
+}
+
+// Whether a run of the first capture ends as it should where this read fails.
+fn is_ended_by_read<R: Threads + Wait + Abort + Sync>(rt: &R, alloc: Global, call: u64) -> bool {
+    let end = end_of(rt, alloc, &[b"run"], FIRST, Failing::Read(call));
+    if call < READS {
+        end.is(4, 0)
+    } else {
+        end.is(0, WRITES)
+    }
+}
+
+#[test]
+fn a_read_that_fails_ends_the_run(rt: HostRuntime) {
+    for call in 0..READS + 1 {
+        must(&rt, is_ended_by_read(&rt, rt.alloc(), call));
+    }
+}
+
+// Whether a run of the first capture ends as it should where this write fails; the last is to finish.
+fn is_ended_by_write<R: Threads + Wait + Abort + Sync>(rt: &R, alloc: Global, call: u64) -> bool {
+    let end = end_of(rt, alloc, &[b"run"], FIRST, Failing::Write(call));
+    if call <= WRITES {
+        end.is(5, call)
+    } else {
+        end.is(0, WRITES)
+    }
+}
+
+#[test]
+fn a_write_that_fails_ends_the_run(rt: HostRuntime) {
+    for call in 0..WRITES + 2 {
+        must(&rt, is_ended_by_write(&rt, rt.alloc(), call));
+    }
+}
+
+// Words for three cores, on one thread and on several.
+const WORDS: [[&[u8]; 3]; 3] = [
+    [b"run", b"--cores=3", b"--threads=1"],
+    [b"run", b"--cores=3", b"--threads=2"],
+    [b"run", b"--cores=3", b"--threads=3"],
+];
+
+// Whether the feeder breaks at its third step, and the run ends.
+fn is_broken<R: Threads + Wait + Abort + Sync>(rt: &R, alloc: Global, words: &[&[u8]]) -> bool {
+    end_of(rt, alloc, words, THREE, Failing::Read(THIRD)).is(4, 0)
+}
+
+#[test]
+fn a_feeder_that_breaks_at_its_third_step_ends_the_run(rt: HostRuntime) {
+    for words in &WORDS {
+        must(&rt, is_broken(&rt, rt.alloc(), words));
+    }
+}

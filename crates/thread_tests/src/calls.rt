@@ -1,0 +1,151 @@
+//! Two threads that call one shard of a store, each with a pass of its own.
+ghost use Rattle.std.specs.Prelude.{◌≡◌, ◌<◌, [], ◌∷◌, ℕ, true, false};
+ghost use Rattle.zy_table.specs.Member.{is_in};
+ghost use Rattle.mc_store.specs.Joined.{is_joined};
+ghost use Rattle.mc_store.specs.Pass.{passed, rooted};
+ghost use Rattle.mc_store.specs.View.{untraced};
+
+use crate::judging::{judge, no_memory};
+use mc_store::{Pass, Root, StoreTable};
+use std::alloc::Global;
+use std::process::Abort;
+use std::sync::Wait;
+use std::thread;
+use std::thread::Threads;
+use zy_base::{Blob, Call, Entry, Tag};
+
+const CALLS: u64 = 1_000;
+
+// Makes so many calls on the one shard. Where the shard was busy, or memory wanting, the call is tried again.
+fn make_calls<R: Wait>(rt: &R, store: &StoreTable, pass: &mut Pass, call: &Call)
+    requires table { pass.old.table ≡ store.now.id }
+    requires one { store.now.shards ≡ 1 }
+    ensures table { pass.new.table ≡ store.now.id }
+    ensures conn { pass.new.conn ≡ pass.old.conn }
+{
+    let conn = pass.conn();
+    for _ in rt.forever() {
+        let index = pass.count();
+        if index >= CALLS {
+            break;
+        }
+        let tag = Tag {
+            conn,
+            index,
+            part: 0,
+        };
+        let got = store.try_call(pass, tag, 0, call);
+        drop(got);
+        if pass.count() == index {
+            thread::yield_now();
+        }
+    }
+}
+
+// The calls of one thread.
+fn call_on<R: Wait>(rt: &R, store: &StoreTable, mut pass: Pass, call: Call) -> Pass
+    requires table { pass.table ≡ store.now.id }
+    requires one { store.now.shards ≡ 1 }
+    ensures table { result.table ≡ store.now.id }
+    ensures conn { result.conn ≡ pass.conn }
+{
+    make_calls(rt, store, &mut pass, &call);
+    drop(call);
+    pass
+}
+
+// The calls of two passes, on two threads.
+fn call_on_two<R: Threads + Wait + Sync>(
+    rt: &R,
+    store: &StoreTable,
+    passes: (Pass, Pass),
+    calls: (Call, Call),
+) -> (Pass, Pass)
+    requires one { store.now.shards ≡ 1 }
+    requires table { (passes.0.table ≡ store.now.id) × (passes.1.table ≡ store.now.id) }
+    ensures one { (result.0.table ≡ store.now.id) × (result.0.conn ≡ passes.0.conn) }
+    ensures two { (result.1.table ≡ store.now.id) × (result.1.conn ≡ passes.1.conn) }
+{
+    let (one, two) = passes;
+    let (first, second) = calls;
+    thread::join(
+        rt,
+        move || -> Pass
+            requires { (one.table ≡ store.now.id) × (store.now.shards ≡ 1) }
+            ensures { (result.table ≡ store.entry.now.id) × (result.conn ≡ one.conn) }
+        { call_on(rt, store, one, first) },
+        move || -> Pass
+            requires { (two.table ≡ store.now.id) × (store.now.shards ≡ 1) }
+            ensures { (result.table ≡ store.entry.now.id) × (result.conn ≡ two.conn) }
+        { call_on(rt, store, two, second) },
+    )
+}
+
+// A get of a key.
+fn get_of<R: Abort>(rt: &R, alloc: Global, key: &[u8]) -> Call {
+    match Blob::copy_of(alloc, key) {
+        Ok(key) => Call::Get { key },
+        Err(_) => no_memory(rt),
+    }
+}
+
+// The pass of a connection.
+fn pass_of<R: Abort>(rt: &R, store: &StoreTable, root: &mut Root, conn: u32) -> Pass
+    requires table { root.old.table ≡ store.now.id }
+    requires within { conn < 4096 }
+    requires fresh { is_in conn root.old.given ≡ false }
+    ensures value { result ≡ passed root.old.table conn [] untraced }
+    ensures ok { root.new ≡ rooted root.old.table (conn ∷ root.old.given) root.old.joined }
+{
+    match store.split(root, conn) {
+        Ok(pass) => pass,
+        Err(_) => no_memory(rt),
+    }
+}
+
+// Serves two threads, and takes their passes in again.
+fn serve_two<R: Threads + Wait + Abort + Sync>(
+    rt: &R,
+    alloc: Global,
+    store: &StoreTable,
+    root: &mut Root,
+)
+    requires root { root.old ≡ rooted store.now.id [] [] }
+    requires one { store.now.shards ≡ 1 }
+    ensures table { root.new.table ≡ store.now.id }
+    ensures all { (conn : ℕ) → is_in conn root.new.given ≡ true → is_joined conn root.new.joined ≡ true }
+{
+    let calls = (get_of(rt, alloc, b"a"), get_of(rt, alloc, b"b"));
+    let one = pass_of(rt, store, root, 0);
+    let two = pass_of(rt, store, root, 1);
+    let (one, two) = call_on_two(rt, store, (one, two), calls);
+    store.join(root, one);
+    store.join(root, two);
+}
+
+// All calls of both connections are in the history, each connection's in its order.
+fn are_in_order(history: &[Entry]) -> bool {
+    let mut next = [0u64; 2];
+    for entry in history {
+        match next.get_mut(entry.tag.conn as usize) {
+            Some(index) if *index == entry.tag.index => *index = index.wrapping_add(1),
+            _ => return false,
+        }
+    }
+    next[0] == CALLS && next[1] == CALLS
+}
+
+#[test]
+fn two_threads_make_their_calls_on_one_shard(rt: HostRuntime) {
+    let alloc = rt.alloc();
+    let Ok((store, mut root)) = StoreTable::new(alloc, 1) else {
+        no_memory(&rt)
+    };
+    serve_two(&rt, alloc, &store, &mut root);
+    let Ok(histories) = store.close(root) else {
+        no_memory(&rt)
+    };
+    let is_all = histories.count() == 1 && are_in_order(histories.list(0));
+    drop(histories);
+    judge(&rt, is_all, "the history has other calls");
+}

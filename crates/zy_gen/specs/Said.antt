@@ -1,0 +1,96 @@
+-- What a line of generated traffic says. No public clause cites this module.
+use Rattle.std.specs.Prelude.{◌≡◌, ℕ, ◌≤◌, ◌<◌, false, Bool, List, [], ◌∷◌, ◌++◌, length, Some}
+use Rattle.std.specs.List.{AllByRecursion}
+use Rattle.mc_parse.specs.declared.command.Command.{Command}
+use Rattle.mc_parse.specs.Form.{Ask, stores, exchanges, gets, deletes, counts, tells_version, sets_verbosity, flushes, quits, asks, form_of}
+use Rattle.mc_parse.specs.Need.{ask_need}
+use Rattle.zy_frame.specs.Frame.{tail_by}
+use Rattle.zy_run.specs.Apart.{IsPlain, keys_of}
+use Rattle.zy_frame.specs.Cut.{joined}
+use Rattle.zy_capture.specs.declared.record.Record.{Record}
+use Rattle.zy_capture.specs.declared.record.Record.TheVariants as Kinds
+use Rattle.zy_capture.specs.Streams.{stream}
+use Rattle.zy_gen.specs.declared.request.Request.{Request}
+use Rattle.zy_gen.specs.Traffic.{key, request_text, IsSmall}
+
+-- ---- bytes
+
+-- no byte is a space or below one
+abbrev pub IsSolid : List ℕ → Type 0
+IsSolid text = AllByRecursion (λ byte. 33 ≤ byte) text
+
+-- no byte is a line feed or below one
+abbrev pub IsInLine : List ℕ → Type 0
+IsInLine text = AllByRecursion (λ byte. 11 ≤ byte) text
+
+-- a text of a byte at least, of which none is a space or below one
+pub record IsSolidWord (text : List ℕ) : Type 0 where
+  pub some : 0 < length text
+  pub solid : IsSolid text
+
+-- words with a space between each two
+abbrev pub spoken : List ℕ → List (List ℕ) → List ℕ
+spoken word [] = word
+spoken word (next ∷ words) = word ++ 32 ∷ spoken next words
+
+-- ---- keys
+
+-- the key is one of the connection's
+pub record IsKeyOf (conn : ℕ) (text : List ℕ) : Type 0 where
+  pub item : ℕ
+  pub is : text ≡ key conn item
+
+-- what is asked for is plain, and about keys of the connection
+abbrev pub IsOwnAsk : ℕ → Ask → Type 0
+IsOwnAsk conn (stores verb key flags bytes) = IsKeyOf conn key
+IsOwnAsk conn (exchanges key flags bytes unique) = ⊥
+IsOwnAsk conn (gets keys unique) = (unique ≡ false) × AllByRecursion (IsKeyOf conn) keys
+IsOwnAsk conn (deletes key) = IsKeyOf conn key
+IsOwnAsk conn (counts key up amount) = IsKeyOf conn key
+IsOwnAsk conn tells_version = ⊥
+IsOwnAsk conn sets_verbosity = ⊥
+IsOwnAsk conn flushes = ⊥
+IsOwnAsk conn quits = ⊥
+
+-- a command is plain, and calls keys of the connection alone
+pub record IsOwnCommand (conn : ℕ) (command : Command) : Type 0 where
+  pub plain : IsPlain command
+  pub keys : AllByRecursion (IsKeyOf conn) (keys_of command)
+
+-- ---- texts
+
+-- a text is a line of words that ask for something of the connection's own, and what belongs to it
+pub record Says (conn : ℕ) (text : List ℕ) : Type 0 where
+  pub name : List ℕ
+  pub words : List (List ℕ)
+  pub after : List ℕ
+  pub ask : Ask
+  pub quiet : Bool
+  pub text_is : text ≡ (spoken name words ++ 13 ∷ []) ++ 10 ∷ after
+  pub solid : AllByRecursion IsSolidWord (name ∷ words)
+  pub form : form_of (name ∷ words) ≡ asks ask quiet
+  pub tail : tail_by (ask_need ask) ≡ Some (length after)
+  pub own : IsOwnAsk conn ask
+
+-- a text is a request of the connection
+pub record IsOwnText (conn : ℕ) (text : List ℕ) : Type 0 where
+  pub item : ℕ
+  pub request : Request
+  pub small : IsSmall request
+  pub is : text ≡ request_text conn item request
+
+-- ---- segments
+
+-- every record is a segment
+abbrev pub AreSegments : List Record → Type 0
+AreSegments [] = Unit {0}
+AreSegments (Kinds.Segment s ∷ items) = AreSegments items
+AreSegments (Kinds.Close conn ∷ items) = ⊥
+
+-- records are segments, and those of a connection join to so many requests of its own
+pub record Gives (conn n : ℕ) (items : List Record) : Type 0 where
+  pub segments : AreSegments items
+  pub texts : List (List ℕ)
+  pub count : length texts ≡ n
+  pub whole : stream conn 0 items ≡ joined texts
+  pub each : AllByRecursion (IsOwnText conn) texts

@@ -1,9 +1,0 @@
-use Rattle.std.proofs.Common.{◌≡◌}
-use Rattle.zy_conn.specs.Work.{mark_of}
-use Rattle.zy_home.proofs.tests.threads.hold_often.Given as goal
-
-abbrev pub invariant-loop : goal.invariant-loop
-invariant-loop l = record {
-  table : l.block.work.table ≡ l.fn.block.work.table;
-  mark : mark_of l.block.work ≡ mark_of l.fn.block.work;
-}

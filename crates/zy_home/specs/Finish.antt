@@ -1,0 +1,37 @@
+-- What is so of a connection at the end, when all that it received was carried out.
+use Rattle.std.specs.Prelude.{◌≡◌, ℕ, ◌+◌, ◌-◌, List, [], ◌∷◌, length, take, drop, flat_map}
+use Rattle.zy_base.specs.declared.entry.Entry.{Entry}
+use Rattle.mc_parse.specs.declared.command.Command.{Command}
+use Rattle.mc_parse.specs.Calls.{due, dues_of}
+use Rattle.mc_reply.specs.Texts.{texts_from, texts_of}
+use Rattle.zy_frame.specs.Cut.{commands_of}
+use Rattle.zy_calls.specs.Output.{Sent}
+use Rattle.zy_rx.specs.Session.{Sessions, streams_of}
+use Rattle.zy_home.specs.Link.{ends_from}
+
+-- the commands of a connection's sessions, one session after another
+abbrev pub commands_received : Sessions → List Command
+commands_received s = flat_map commands_of (streams_of s)
+
+-- the end of a connection that received these sessions, with its calls on so many shards, its output, and the ends of
+-- its sessions: each call due was made, in order; the output has the texts of all commands, each with the replies of
+-- its own calls; all commands are finished; and each closed session ends behind its commands
+pub record ConnEnd (shards : ℕ) (calls : List Entry) (s : Sessions) (output : Sent) (ends : List ℕ) : Type 0 where
+  pub dues : dues_of calls ≡ due shards output.conn (commands_received s)
+  pub texts : output.texts ≡ texts_of (commands_received s) calls
+  pub finished : output.finished ≡ length (commands_received s)
+  pub ends_are : ends ≡ ends_from 0 s.closed
+
+-- ---- the outputs of sessions
+
+-- the texts of each of these sessions, of which the first command has this index, with the replies of these entries
+abbrev pub outputs_from : ℕ → List (List ℕ) → List Entry → List (List (List ℕ))
+outputs_from index [] entries = []
+outputs_from index (stream ∷ streams) entries =
+    texts_from index (commands_of stream) entries
+    ∷ outputs_from (index + length (commands_of stream)) streams entries
+
+-- texts cut at these places, which are counted as the first text has this one
+abbrev pub cut_at : ℕ → List ℕ → List (List ℕ) → List (List (List ℕ))
+cut_at first [] texts = texts ∷ []
+cut_at first (end ∷ ends) texts = take (end - first) texts ∷ cut_at end ends (drop (end - first) texts)

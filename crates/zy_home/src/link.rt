@@ -1,0 +1,199 @@
+//! A connection of a home without its block.
+ghost use Rattle.std.specs.Prelude.{◌≡◌, ◌≢◌, ◌++◌, [], false, None, IfOk, OnOk, IfNone, option_to_list};
+ghost use Rattle.zy_conn.specs.Work.{has_event};
+ghost use Rattle.zy_rx.specs.Session.{Sessions, with_bytes, with_close};
+ghost use Rattle.zy_home.specs.Link.{IsFor, IsFresh, LinkStands, SameLink, StandsOn, TakesIn, conn_of};
+ghost use Rattle.zy_home.specs.Offer.{Offers, IsFilled, WaitsBehind, WaitsFull};
+ghost use Rattle.zy_home.specs.Idle.{IsIdle, due_mark, mark_in};
+
+use std::alloc::Global;
+use std::marker::Model;
+use std::mem;
+use zy_base::NoMemory;
+use zy_calls::Output;
+use zy_conn::{Block, EventInlet};
+use zy_frame::{Frame, Framer, Frames};
+use zy_rx::Rx;
+
+/// What a home keeps of a connection beside its block: the end of its event ring that frames are
+/// offered to, its framer, the frames that wait, the ends of its closed sessions, and its output.
+#[derive(Drop)]
+pub struct Link {
+    alloc: Global,
+    inlet: EventInlet,
+    framer: Framer,
+    // The frame that was handed back, which is the first of those that wait.
+    front: Option<Frame>,
+    waiting: Frames,
+    ends: Vec<u64>,
+    cut: u64,
+    output: Output,
+}
+
+impl Model for Link {
+    ghost use Rattle.std.specs.Prelude.{◌++◌, option_to_list};
+    ghost use Rattle.zy_home.specs.Link.{Linked};
+
+    ghost Value = { Linked };
+
+    ghost view = { λ l. record {
+      inlet = l.inlet;
+      framer = l.framer;
+      waiting = option_to_list l.front ++ l.waiting;
+      ends = l.ends.items;
+      cut = l.cut;
+      output = l.output;
+    } };
+}
+
+impl Link {
+    /// The connection of this number, which has received nothing. Takes no memory.
+    pub fn new(alloc: Global, conn: u32, inlet: EventInlet) -> Link
+        ensures value { IsFresh conn inlet result }
+    {
+        Link {
+            alloc,
+            inlet,
+            framer: Framer::new(alloc),
+            front: None,
+            waiting: Frames::new(alloc),
+            ends: Vec::new(alloc),
+            cut: 0,
+            output: Output::new(alloc, conn),
+        }
+    }
+
+    /// The number of the connection.
+    pub fn conn(&self) -> u32
+        ensures value { result ≡ conn_of self.now }
+    {
+        self.output.conn()
+    }
+
+    /// Takes in an item of this connection: the bytes of a segment are cut, and the new frames
+    /// wait; a close ends the session, and a new one begins.
+    pub fn receive(&mut self, item: &Rx) -> Result<(), NoMemory>
+        requires own { IsFor (conn_of self.old) item.now }
+        ensures stands { OnOk result (TakesIn item.now self.old self.new) }
+        ensures kept { (self.new.inlet ≡ self.old.inlet) × (self.new.output ≡ self.old.output) }
+    {
+        match item {
+            Rx::Segment { conn: _, bytes } => self.segment(bytes.bytes()),
+            Rx::Close { conn: _ } => self.close(),
+            Rx::End => Ok(()),
+        }
+    }
+}
+
+impl Link {
+    // Cuts the next bytes of the session.
+    fn segment(&mut self, bytes: &[u8]) -> Result<(), NoMemory>
+        ensures stands { OnOk result ((s : Sessions) → LinkStands self.old s
+            → LinkStands self.new (with_bytes bytes.now s)) }
+        ensures kept { (self.new.inlet ≡ self.old.inlet) × (self.new.output ≡ self.old.output) }
+    {
+        let before = self.waiting.len();
+        if let Err(e) = self.framer.feed(bytes, &mut self.waiting) {
+            return Err(e);
+        }
+        let given = self.waiting.len().saturating_sub(before) as u64;
+        match self.cut.checked_add(given) {
+            Some(cut) => self.cut = cut,
+            None => return Err(NoMemory),
+        }
+        Ok(())
+    }
+
+    // Ends the session, and begins a new one.
+    fn close(&mut self) -> Result<(), NoMemory>
+        ensures stands { OnOk result ((s : Sessions) → LinkStands self.old s → LinkStands self.new (with_close s)) }
+        ensures kept { (self.new.inlet ≡ self.old.inlet) × (self.new.output ≡ self.old.output) }
+    {
+        match self.ends.push(self.cut) {
+            Ok(()) => {}
+            Err(_) => return Err(NoMemory),
+        }
+        self.framer = Framer::new(self.alloc);
+        Ok(())
+    }
+
+    /// Offers the frames that wait, the first one first, until one is handed back, which waits again.
+    /// Takes no memory.
+    pub fn offer_waiting(&mut self)
+        ensures same { SameLink self.old self.new × (self.new.output ≡ self.old.output) }
+        ensures stands { StandsOn self.old self.new }
+        ensures filled { IsFilled self.old.inlet self.new.inlet self.new.waiting }
+        ensures full { WaitsFull self.new }
+    {
+        offer_all(&mut self.inlet, &mut self.front, &mut self.waiting);
+    }
+
+    /// Settles the connection's block: carries its batch out, shows it and the inlet what the other
+    /// did, offers the frames that wait, and says whether the block then has an event. Where it has
+    /// none, it is idle.
+    pub fn settle(&mut self, block: &mut Block) -> Result<bool, NoMemory>
+        requires mark { mark_in block.old ≡ due_mark self.old }
+        ensures event { IfOk result (λ event. event ≡ has_event block.new.work) }
+        ensures mark { OnOk result (mark_in block.new ≡ due_mark self.new) }
+        ensures idle { IfOk result (λ event. event ≡ false → IsIdle block.new.work self.new) }
+        ensures behind { OnOk result (WaitsBehind self.new block.new) }
+        ensures stands { OnOk result (StandsOn self.old self.new) }
+        ensures same { SameLink self.old self.new }
+        ensures label { block.new.work.table ≡ block.old.work.table }
+    {
+        match self.output.carry_out(block.take_batch()) {
+            Ok(()) => {}
+            Err((_, e)) => return Err(e),
+        }
+        block.meet(&mut self.inlet);
+        self.offer_waiting();
+        block.meet(&mut self.inlet);
+        Ok(block.has_event())
+    }
+
+    /// The output of the connection, and the ends of its closed sessions. Takes no memory.
+    pub fn into_end(self) -> (Output, Vec<u64>)
+        ensures output { result.0 ≡ self.output }
+        ensures ends { result.1.items ≡ self.ends }
+    {
+        let Link {
+            alloc: _,
+            inlet: _,
+            framer: _,
+            front: _,
+            waiting: _,
+            ends,
+            cut: _,
+            output,
+        } = self;
+        (output, ends)
+    }
+}
+
+// The first of the frames that wait.
+fn next_waiting(front: &mut Option<Frame>, waiting: &mut Frames) -> Option<Frame>
+    ensures value { option_to_list front.old ++ waiting.old ≡ option_to_list result ++ waiting.new }
+    ensures front { front.new ≡ None }
+    ensures none { IfNone result (option_to_list front.old ++ waiting.old ≡ []) }
+{
+    match mem::replace(front, None) {
+        Some(frame) => Some(frame),
+        None => waiting.pop(),
+    }
+}
+
+// Offers frames until one is handed back or none is left.
+fn offer_all(inlet: &mut EventInlet, front: &mut Option<Frame>, waiting: &mut Frames)
+    ensures ring { inlet.new.ring ≡ inlet.old.ring }
+    ensures offers { Offers inlet.old (option_to_list front.old ++ waiting.old) inlet.new (option_to_list front.new
+        ++ waiting.new) }
+    ensures filled { IsFilled inlet.old inlet.new (option_to_list front.new ++ waiting.new) }
+    ensures full { option_to_list front.new ++ waiting.new ≢ [] → inlet.new.free ≡ 0 }
+{
+    while let Some(frame) = next_waiting(front, waiting) {
+        if let Some(frame) = inlet.offer(frame) {
+            *front = Some(frame);
+            return;
+        }
+    }
+}

@@ -1,4 +1,0 @@
-pub mod Link
-pub mod Offer
-pub mod Idle
-pub mod Finish

@@ -1,4 +1,0 @@
-pub mod ListLemmas
-pub mod FitLemmas
-pub mod MakeLemmas
-pub mod TakeLemmas

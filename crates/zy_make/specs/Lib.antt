@@ -1,4 +1,0 @@
-pub mod Station
-pub mod Ready
-pub mod Received
-pub mod Progress

@@ -1,0 +1,46 @@
+-- A worked capture of two connections whose commands do not meet.
+use Rattle.std.specs.Prelude.{List, [], ◌∷◌, codes}
+use Rattle.zy_base.specs.declared.call.Call.TheVariants as Calls
+use Rattle.zy_base.specs.declared.call_reply.CallReply.TheVariants as Replies
+use Rattle.zy_base.specs.declared.entry.Entry.{Entry}
+use Rattle.zy_capture.specs.declared.record.Record.{Record}
+use Rattle.zy_capture.specs.declared.record.Record.TheVariants as Kinds
+use Rattle.zy_run.specs.declared.summary.Summary.{Summary}
+
+-- connection 0 stores "a" and asks for it, and connection 1 asks for "b" in between
+abbrev pub apart_records : List Record
+apart_records =
+    Kinds.Segment (record { conn = 0; bytes = codes "set a 0 0 1\r\nx\r\n" })
+    ∷ Kinds.Segment (record { conn = 1; bytes = codes "get b\r\n" })
+    ∷ Kinds.Segment (record { conn = 0; bytes = codes "get a\r\n" })
+    ∷ []
+
+-- one of its legal runs on 16 shards: connection 1 is first
+abbrev pub apart_entries : List Entry
+apart_entries =
+    record {
+      tag = record { conn = 1; index = 0; part = 0 };
+      shard = 5;
+      call = Calls.Get (codes "b");
+      reply = Replies.Miss;
+      stamp = 1;
+    }
+    ∷ record {
+      tag = record { conn = 0; index = 0; part = 0 };
+      shard = 12;
+      call = Calls.Set (codes "a") 0 (codes "x");
+      reply = Replies.Stored;
+      stamp = 2;
+    }
+    ∷ record {
+      tag = record { conn = 0; index = 1; part = 0 };
+      shard = 12;
+      call = Calls.Get (codes "a");
+      reply = Replies.Hit 0 28 (codes "x");
+      stamp = 3;
+    }
+    ∷ []
+
+-- what all its runs have: 29 bytes for connection 0, and 5 for connection 1
+abbrev pub apart_summary : Summary
+apart_summary = record { commands = 3; calls = 3; reply_bytes = 34 }

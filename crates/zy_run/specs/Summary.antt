@@ -1,0 +1,29 @@
+-- What all runs of commands that do not meet have in common.
+use Rattle.std.specs.Prelude.{ℕ, List, length}
+use Rattle.std.specs.List.{range_with_len, sum_by}
+use Rattle.zy_base.specs.declared.entry.Entry.{Entry}
+use Rattle.mc_parse.specs.declared.command.Command.{Command}
+use Rattle.zy_run.specs.Output.{all_outputs}
+use Rattle.zy_run.specs.Apart.{commands_of_all}
+use Rattle.zy_run.specs.declared.summary.Summary.{Summary}
+use Rattle.zy_run.specs.Serial.{serial}
+
+-- how many commands so many connections have
+abbrev pub count_of_commands : ℕ → (ℕ → List Command) → ℕ
+count_of_commands count commands = sum_by (λ conn. length (commands conn)) (range_with_len 0 count)
+
+-- how many bytes are in the outputs of all sessions of all connections
+abbrev pub bytes_in : List (List (List ℕ)) → ℕ
+bytes_in outputs = sum_by (λ sessions. sum_by length sessions) outputs
+
+-- the summary of a run: its commands, its entries, and the bytes of its outputs
+abbrev pub summary_of_run : ℕ → (ℕ → List (List ℕ)) → List Entry → Summary
+summary_of_run count streams es = record {
+  commands = count_of_commands count (commands_of_all streams);
+  calls = length es;
+  reply_bytes = bytes_in (all_outputs count streams es);
+}
+
+-- the summary of the serial run on so many shards
+abbrev pub summary : ℕ → ℕ → (ℕ → List (List ℕ)) → Summary
+summary shards count streams = summary_of_run count streams (serial shards count (commands_of_all streams))

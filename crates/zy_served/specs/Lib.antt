@@ -1,3 +1,0 @@
-pub mod Routing
-pub mod Left
-pub mod Served

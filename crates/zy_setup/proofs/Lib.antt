@@ -1,0 +1,6 @@
+pub mod ListLemmas
+pub mod OwnLemmas
+pub mod PassLemmas
+pub mod MadeLemmas
+pub mod FitLemmas
+pub mod MakeLemmas

@@ -1,0 +1,5 @@
+pub mod Start
+pub mod Ready
+pub mod Station
+pub mod Make
+pub mod Progress

@@ -1,0 +1,92 @@
+-- How the parts of a run are made, connection by connection and core by core. No public clause cites this module.
+use Rattle.std.specs.Prelude.{◌≡◌, ℕ, zero, suc, ◌+◌, ◌-◌, ◌==◌, nat_lt, if◌then◌else◌, List, [], ◌∷◌, ◌++◌, length, Some, slice_get, option_map}
+use Rattle.std.specs.List.{AllByRecursion}
+use Rattle.atomic_table.specs.Seated.{TableId}
+use Rattle.zy_table.specs.declared.name.Name.{Name}
+use Rattle.zy_table.specs.Name.{name_of}
+use Rattle.zy_shuffle.specs.Pass.{Held, Ringed}
+use Rattle.zy_steal.specs.Order.{other_core}
+use Rattle.zy_steal.specs.Steal.{PassList, pass_list, AreIdle, seats_of}
+use Rattle.zy_conn.specs.Ring.{Sending}
+use Rattle.zy_conn.specs.Block.{Blocked}
+use Rattle.zy_home.specs.Own.{own_conns}
+use Rattle.zy_home.specs.Parts.{IsNew, IsUnused, conns_of_blocks, rings_of_blocks, rings_of_inlets}
+use Rattle.zy_home.specs.Home.{Homed}
+use Rattle.zy_setup.specs.declared.own.Own.{Own}
+use Rattle.zy_setup.specs.declared.made.Made.{Made}
+use Rattle.zy_setup.specs.Start.{IsNewHome}
+
+-- ---- connections
+
+-- a core has no connection yet
+pub record IsEmpty (own : Own) : Type 0 where
+  pub places_are : own.places ≡ 0
+  pub blocks_are : own.blocks ≡ []
+  pub inlets_are : own.inlets ≡ []
+
+-- a block with its inlet, of a new connection of this store
+pub record IsConnection (store : TableId) (conn : ℕ) (block : Blocked) (inlet : Sending) : Type 0 where
+  pub conn_is : block.work.conn ≡ conn
+  pub new : IsNew (name_of store) block
+  pub ring_is : inlet.ring ≡ block.work.ring
+  pub unused : IsUnused inlet
+
+-- one connection more
+pub record HasOneMore (block : Blocked) (inlet : Sending) (own own' : Own) : Type 0 where
+  pub places_are : own'.places ≡ own.places + 1
+  pub blocks_are : own'.blocks ≡ own.blocks ++ block ∷ []
+  pub inlets_are : own'.inlets ≡ own.inlets ++ inlet ∷ []
+
+-- the connections of a core, of so many, below this one
+pub record IsOwnOf (store : TableId) (core cores conn : ℕ) (own : Own) : Type 0 where
+  pub places_are : own.places ≡ length own.blocks
+  pub conns : conns_of_blocks own.blocks ≡ own_conns core cores conn
+  pub new : AllByRecursion (IsNew (name_of store)) own.blocks
+  pub rings : rings_of_inlets own.inlets ≡ rings_of_blocks own.blocks
+  pub unused : AllByRecursion IsUnused own.inlets
+
+-- those of each core
+pub record AreOwns (store : TableId) (cores conn : ℕ) (owns : List Own) : Type 0 where
+  pub count : length owns ≡ cores
+  pub each : (core : ℕ) (own : Own) → slice_get owns core ≡ Some own → IsOwnOf store core cores conn own
+
+-- ---- passes
+
+-- the passes of a core, with one more on the ring of another core
+abbrev pub with_pass : ℕ → Held Blocked → ℕ → PassList Blocked → PassList Blocked
+with_pass core pass other passes =
+    if other == core then passes else pass_list passes.core (passes.items ++ pass ∷ [])
+
+-- each other core got such a pass on the ring of this one
+abbrev pub Gives : ℕ → Held Blocked → List (PassList Blocked) → List (PassList Blocked) → Type 0
+Gives core pass before after =
+    (other : ℕ) → slice_get after other ≡ option_map (with_pass core pass other) (slice_get before other)
+
+-- no pass of each of so many cores
+abbrev pub no_passes : ℕ → List (PassList Blocked)
+no_passes zero = []
+no_passes (suc cores) = no_passes cores ++ pass_list cores [] ∷ []
+
+-- how many of the first so many cores are others than this one
+abbrev pub others_among : ℕ → ℕ → ℕ
+others_among core cores = if nat_lt core cores then cores - 1 else cores
+
+-- the passes of a core on the rings that there are
+pub record HasPasses (label : Name) (rings : List Ringed) (core : ℕ) (passes : PassList Blocked) : Type 0 where
+  pub core_is : passes.core ≡ core
+  pub count : length passes.items ≡ others_among core (length rings)
+  pub tables : (at : ℕ) (v : Held Blocked) (r : Ringed) → slice_get passes.items at ≡ Some v
+      → slice_get rings (other_core core at) ≡ Some r → v.table ≡ r.id
+  pub idle : AreIdle label (seats_of passes.items)
+
+-- ---- cores
+
+-- what is made of the first cores, of so many
+pub record AreMade (store : TableId) (cores count : ℕ) (made : Made) : Type 0 where
+  pub same : length made.rings ≡ length made.homes.items
+  pub all : length made.passes.items ≡ cores
+  pub homes : (core : ℕ) (h : Homed) (r : Ringed) → slice_get made.homes.items core ≡ Some h
+      → slice_get made.rings core ≡ Some r
+      → IsNewHome store cores count core r h
+  pub passes : (core : ℕ) (p : PassList Blocked) → slice_get made.passes.items core ≡ Some p
+      → HasPasses (name_of store) made.rings core p

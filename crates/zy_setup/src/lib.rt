@@ -1,0 +1,14 @@
+//! What a run begins with: the store, for each core its ring, its home and its passes on the other rings, and the
+//! cores that are made of these.
+#![tactic(auto)]
+
+mod connections;
+pub mod laws;
+mod made;
+mod making;
+mod own;
+mod ringing;
+mod starting;
+
+pub use making::{Made, make};
+pub use starting::{Started, start};

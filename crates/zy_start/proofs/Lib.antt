@@ -1,4 +1,0 @@
-pub mod OwnLemmas
-pub mod PassLemmas
-pub mod MadeLemmas
-pub mod TestLemmas
