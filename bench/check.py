@@ -5,7 +5,7 @@ Microseconds of processor time an entry of the journal, the best of three checks
 input, and how many times the input, the time and the memory are those of the least size. Ten times the connections are
 ten times the input. Values grow by `append`, so ten times the commands of each connection are more than that.
 
-usage: bench/check.sh     (the program is built first where it isn't)
+usage: bench/run check     (the program is built first where it isn't)
 """
 import os
 import shutil
@@ -25,7 +25,7 @@ def run(words, source, sink):
         process = subprocess.Popen([PROGRAM, *words], stdin=given, stdout=taken)
         _, status, used = os.wait4(process.pid, 0)
     if status:
-        sys.exit(f"bench/check.sh: {words[0]} ended with status {status >> 8}")
+        sys.exit(f"bench/run check: {words[0]} ended with status {status >> 8}")
     return used.ru_utime + used.ru_stime, used.ru_maxrss * 1024
 
 

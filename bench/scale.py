@@ -7,7 +7,7 @@ core 0, so that the other cores have only what they steal. The skewed one is als
 Printed are the median seconds and processor seconds of the runs, how they compare, and which share of the holds was by
 another core than the connection's home.
 
-usage: bench/scale.sh [--commands N] [--runs N] [--picture] [PROGRAM]
+usage: bench/run scale [--commands N] [--runs N] [--picture] [PROGRAM]
 
 --commands N  so many commands (1000000)
 --runs N      so many timed runs of each kind (3)
@@ -61,7 +61,7 @@ def run(program, words, path, sink):
         process = subprocess.Popen([program, "run", *words], stdin=source, stdout=sink)
         _, status, used = os.wait4(process.pid, 0)
     if status:
-        sys.exit(f"bench/scale.sh: the run ended with status {status >> 8}")
+        sys.exit(f"bench/run scale: the run ended with status {status >> 8}")
     return time.time() - begin, used.ru_utime + used.ru_stime
 
 

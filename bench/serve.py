@@ -4,7 +4,7 @@
 Microseconds of processor time a command, resident memory as a multiple of the capture, and the ratios between
 the two sizes, on one thread with 1, 4, 16 and 64 cores; then seconds on 1, 2 and 4 threads with as many cores.
 
-usage: bench/serve.sh     (the program is built first where it isn't)
+usage: bench/run serve     (the program is built first where it isn't)
 """
 import os
 import random
@@ -50,7 +50,7 @@ def run(words, path):
         process = subprocess.Popen([PROGRAM, "run", *words], stdin=source, stdout=sink)
         _, status, used = os.wait4(process.pid, 0)
     if status:
-        sys.exit(f"bench/serve.sh: the run ended with status {status >> 8}")
+        sys.exit(f"bench/run serve: the run ended with status {status >> 8}")
     return used.ru_utime + used.ru_stime, time.time() - begin, used.ru_maxrss * 1024
 
 

@@ -1,6 +1,0 @@
-use Rattle.std.proofs.Common.{◌≡◌}
-use Rattle.conn_bench.proofs.holding.hold_all.Given as goal
-
--- the block is still of this store
-abbrev pub invariant-loop-round : goal.invariant-loop-round
-invariant-loop-round g l = l.block.work.table ≡ l.fn.store.id

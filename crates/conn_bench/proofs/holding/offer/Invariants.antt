@@ -1,5 +1,0 @@
-use Rattle.std.proofs.Common.{length}
-use Rattle.conn_bench.proofs.holding.offer.Given as goal
-
-abbrev pub decreases-loop-frame : goal.decreases-loop-frame
-decreases-loop-frame l = length l.frames

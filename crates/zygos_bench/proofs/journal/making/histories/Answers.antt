@@ -1,0 +1,12 @@
+use Rattle.std.proofs.Common.{◌∷◌, [], arith, length-append}
+use Rattle.zygos_bench.proofs.JournalLemmas.{histories_on}
+use Rattle.zygos_bench.proofs.journal.making.histories.Goals as goal
+
+pub loop-shard-preserved : goal.loop-shard-preserved
+loop-shard-preserved c =
+    let hs = c.loop-shard.all in
+    let h = c.in-Ok.made in
+    rw (c.in_default.ensures.ok) (record {
+      count = omega (arith, length-append hs (h ∷ []), c.loop-shard.invariant.count);
+      ordered = histories_on hs h c.loop-shard.invariant.ordered c.in-Ok.ensures.ordered;
+    })

@@ -1,0 +1,10 @@
+use Rattle.std.proofs.Common.{◌≡◌, ℕ, length}
+use Rattle.std.specs.Prelude.{None}
+use Rattle.zy_base.specs.Order.{IsOrdered, history_of}
+use Rattle.zygos_bench.proofs.journal.making.histories.Given as goal
+
+abbrev pub invariant-loop-shard : goal.invariant-loop-shard
+invariant-loop-shard l = record {
+  count : length l.all ≡ l.shard;
+  ordered : (shard : ℕ) → IsOrdered None (history_of l.all shard);
+}

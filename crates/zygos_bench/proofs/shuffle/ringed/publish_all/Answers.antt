@@ -1,0 +1,14 @@
+use Rattle.std.proofs.Common.{◌∙◌, ap, arith}
+use Rattle.zy_table.specs.Member.{is_in}
+use Rattle.zy_table.proofs.MemberLemmas.{in_without}
+use Rattle.zygos_bench.proofs.shuffle.ringed.publish_all.Goals as goal
+
+pub loop-number-preserved : goal.loop-number-preserved
+loop-number-preserved c =
+    let i = c.loop-number.invariant in
+    let e = c.publish.ensures.value in record {
+      table = ap (λ v. v.table) e ∙ i.table;
+      label = ap (λ v. v.label) e ∙ i.label;
+      count = let a = ap (λ v. v.count) e in let b = i.count in omega arith;
+      hand = λ place le lt. ap (λ v. is_in place v.hand) e ∙ in_without _ place _ (λ f. omega arith) ∙ i.hand place (omega arith) lt;
+    }

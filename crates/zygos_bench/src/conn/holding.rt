@@ -1,0 +1,79 @@
+//! A block that is held again and again, each time with some frames in its ring.
+ghost use Rattle.std.specs.Prelude.{◌≡◌};
+
+use crate::clock::nanos;
+use crate::conn::load::text_of;
+use mc_store::StoreTable;
+use std::alloc::Global;
+use std::time::CpuClock;
+use zy_base::{NoMemory, Ungated};
+use zy_conn::{Block, EventInlet};
+use zy_frame::{Framer, Frames};
+
+/// The nanoseconds of so many holds, on a store of 16 shards.
+pub(crate) fn held<R: CpuClock>(
+    rt: &R,
+    alloc: Global,
+    rounds: u64,
+    size: u64,
+) -> Result<u64, NoMemory> {
+    let (store, mut root) = StoreTable::new(alloc, 16)?;
+    let pass = store.split(&mut root, 0)?;
+    match Block::new(alloc, 0, pass) {
+        Ok((mut block, mut inlet)) => {
+            let spent = hold_all(rt, alloc, &store, &mut block, &mut inlet, rounds, size);
+            let _ = block.into_parts();
+            spent
+        }
+        Err((_, e)) => Err(e),
+    }
+}
+
+// Offers frames, and holds the block, so many times.
+fn hold_all<R: CpuClock>(
+    rt: &R,
+    alloc: Global,
+    store: &StoreTable,
+    block: &mut Block,
+    inlet: &mut EventInlet,
+    rounds: u64,
+    size: u64,
+) -> Result<u64, NoMemory>
+    requires table { block.old.work.table ≡ store.now.id }
+{
+    let mut spent = 0u64;
+    for round in 0..rounds {
+        offer(alloc, inlet, round.wrapping_mul(size), size)?;
+        spent = spent.wrapping_add(hold_once(rt, store, block)?);
+    }
+    Ok(spent)
+}
+
+// Offers the frames of so many commands from this one on.
+fn offer(alloc: Global, inlet: &mut EventInlet, first: u64, size: u64) -> Result<(), NoMemory> {
+    let text = text_of(alloc, first, size)?;
+    let mut framer = Framer::new(alloc);
+    let mut frames = Frames::new(alloc);
+    framer.feed(text.bytes(), &mut frames)?;
+    while let Some(frame) = frames.pop() {
+        if inlet.offer(frame).is_some() {
+            return Err(NoMemory);
+        }
+    }
+    Ok(())
+}
+
+// The nanoseconds of one hold. What it sent is let go.
+fn hold_once<R: CpuClock>(rt: &R, store: &StoreTable, block: &mut Block) -> Result<u64, NoMemory>
+    requires table { block.old.work.table ≡ store.now.id }
+    ensures table { block.new.work.table ≡ block.old.work.table }
+{
+    let start = nanos(rt);
+    let held = block.hold(store, &Ungated, 0);
+    let end = nanos(rt);
+    drop(block.take_batch());
+    match held {
+        Ok(_) => Ok(end.saturating_sub(start)),
+        Err(e) => Err(e),
+    }
+}

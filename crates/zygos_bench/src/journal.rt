@@ -1,0 +1,67 @@
+//! The journal: merging, writing and reading it.
+ghost use Rattle.std.specs.Prelude.{◌<◌, ◌≤◌, ◌^◌};
+
+mod counting;
+mod making;
+mod reading;
+
+use crate::clock::nanos;
+use crate::done::Done;
+use counting::Counting;
+use making::{histories, history};
+use std::alloc::Global;
+use std::io::Read;
+use std::time::CpuClock;
+use zy_base::{Holds, NoMemory};
+use zy_journal::{Journal, merge, write_journal};
+
+/// 1 merges the histories of so many shards, with so many entries together; 2 writes a journal of so
+/// many entries; any other number reads a journal from the input.
+pub(crate) fn measured<R: CpuClock, I: Read>(
+    rt: &R,
+    alloc: Global,
+    input: &mut I,
+    which: u64,
+    entries: u64,
+    shards: u64,
+) -> Result<Done, NoMemory> {
+    let entries = entries.min(1 << 32);
+    let shards = shards.max(1).min(256) as u32;
+    match which {
+        1 => merging(rt, alloc, entries, shards),
+        2 => writing(rt, alloc, entries),
+        _ => reading::count(input, alloc),
+    }
+}
+
+// Merges histories of so many entries together.
+fn merging<R: CpuClock>(rt: &R, alloc: Global, entries: u64, shards: u32) -> Result<Done, NoMemory>
+    requires few { (entries ≤ 2 ^ 32) × (0 < shards) × (shards ≤ 256) }
+{
+    let made = histories(alloc, shards, entries / u64::from(shards))?;
+    let before = nanos(rt);
+    match merge(made, Holds::new(alloc)) {
+        Ok(journal) => Ok(Done {
+            count: journal.entries.items().len() as u64,
+            nanos: nanos(rt).saturating_sub(before),
+        }),
+        Err(_) => Err(NoMemory),
+    }
+}
+
+// Writes a journal of so many entries.
+fn writing<R: CpuClock>(rt: &R, alloc: Global, entries: u64) -> Result<Done, NoMemory>
+    requires few { entries ≤ 2 ^ 32 }
+{
+    let journal = Journal {
+        entries: history(alloc, 0, entries)?,
+        holds: Holds::new(alloc),
+    };
+    let before = nanos(rt);
+    let mut sink = Counting { bytes: 0 };
+    let _ = write_journal(&mut sink, &journal);
+    Ok(Done {
+        count: sink.bytes,
+        nanos: nanos(rt).saturating_sub(before),
+    })
+}

@@ -1,0 +1,61 @@
+//! Times one part of the program: the first word says which, and the numbers behind it how much of it.
+#![tactic(auto)]
+
+mod capture;
+mod clock;
+mod conn;
+mod done;
+mod frames;
+mod journal;
+mod shard;
+mod shuffle;
+mod store;
+mod words;
+
+use done::Done;
+use std::alloc::Global;
+use std::io::Read;
+use std::process::ExitCode;
+use std::sync::Wait;
+use std::thread::Threads;
+use std::time::{Clock, CpuClock};
+use words::{Asked, What, read_words};
+use zy_base::NoMemory;
+
+fn main(rt: HostRuntime) -> ExitCode {
+    match measured(&rt, rt.alloc(), &mut rt.stdin(), read_words(&rt)) {
+        Ok(done) => {
+            if done.count == 0 {
+                return ExitCode::from(0);
+            }
+            let _ = println!(rt; "{} in {} ns", done.count, done.nanos);
+            ExitCode::from(0)
+        }
+        Err(NoMemory) => ExitCode::from(6),
+    }
+}
+
+// Does what is asked for. Where nothing is, nothing is done.
+fn measured<R: Threads + Wait + Clock + CpuClock + Sync, I: Read>(
+    rt: &R,
+    alloc: Global,
+    input: &mut I,
+    asked: Asked,
+) -> Result<Done, NoMemory> {
+    let Asked {
+        what,
+        one,
+        two,
+        three,
+    } = asked;
+    match what {
+        Some(What::Shard) => shard::measured(rt, alloc, one, two),
+        Some(What::Frames) => frames::measured(rt, alloc, one, two),
+        Some(What::Capture) => capture::measured(rt, alloc, input),
+        Some(What::Journal) => journal::measured(rt, alloc, input, one, two, three),
+        Some(What::Store) => store::measured(rt, alloc, one, two),
+        Some(What::Shuffle) => shuffle::measured(rt, alloc, one, two, three),
+        Some(What::Conn) => conn::measured(rt, alloc, one, two, three),
+        None => Ok(Done { count: 0, nanos: 0 }),
+    }
+}
