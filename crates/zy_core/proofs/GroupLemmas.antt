@@ -4,7 +4,7 @@ use Rattle.std.specs.Prelude.{remove}
 use Rattle.std.specs.declared.alloc.Global.{Global}
 use Rattle.zy_table.proofs.SliceLemmas.{get_at}
 use Rattle.zy_home.specs.Home.{is_settled}
-use Rattle.zy_core.specs.declared.logical.Core.{Core}
+use Rattle.zy_core.specs.declared.logical_core.Core.{Core}
 use Rattle.zy_core.specs.Share.{Sharing}
 use Rattle.zy_core.specs.Core.{Cored, Identity, identity_of, Fits}
 use Rattle.zy_core.specs.Drive.{identities, EachFits, EachSettled}

@@ -1,9 +1,9 @@
 -- Where groups of cores are while threads drive them. No public clause cites this module.
 use Rattle.std.specs.Prelude.{List, [], ◌∷◌, map, Vec, ⊤}
 use Rattle.std.specs.declared.alloc.Global.{Global}
-use Rattle.zy_core.specs.declared.logical.Core.{Core}
-use Rattle.zy_core.specs.declared.seat.Seat.{Seat}
-use Rattle.zy_core.specs.declared.seat.Seat.TheVariants.{Away, Here}
+use Rattle.zy_core.specs.declared.logical_core.Core.{Core}
+use Rattle.zy_core.specs.declared.threads.seat.Seat.{Seat}
+use Rattle.zy_core.specs.declared.threads.seat.Seat.TheVariants.{Away, Here}
 use Rattle.zy_core.specs.Share.{Sharing}
 use Rattle.zy_core.specs.Core.{Identity}
 use Rattle.zy_core.specs.Drive.{identities, EachFits, EachSettled}

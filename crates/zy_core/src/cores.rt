@@ -1,7 +1,7 @@
 //! Cores in a list.
 ghost use Rattle.std.specs.Prelude.{◌≡◌, [], ◌∷◌, ◌++◌, OnOk, OnErr, IfErr, IfNone, option_to_list};
 
-use crate::logical::Core;
+use crate::logical_core::Core;
 use std::alloc::Global;
 use std::marker::Model;
 use zy_base::NoMemory;

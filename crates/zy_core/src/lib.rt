@@ -2,30 +2,23 @@
 #![tactic(auto)]
 
 mod cores;
-mod dealing;
-mod draws;
 mod driven;
 mod feeding;
-mod group;
+mod handed_back;
 pub mod laws;
-mod lent;
-mod logical;
+mod logical_core;
 mod ordered;
-mod room;
 mod rounds;
-mod scoped;
-mod seat;
-mod seats;
 mod shared;
 mod stealing;
 mod steps;
-mod tending;
 mod threads;
 mod turn;
 
 pub use cores::Cores;
 pub use driven::Driven;
-pub use logical::Core;
+pub use handed_back::take_back;
+pub use logical_core::Core;
 pub use ordered::drive_ordered;
 pub use shared::Shared;
 pub use threads::drive;

@@ -5,11 +5,13 @@ ghost use Rattle.zy_core.specs.Drive.{identities, AreCores, AreInlets, EachFits,
 ghost use Rattle.zy_core.specs.Drive.{cores_of, IsSettled, IsBroken};
 ghost use Rattle.zy_rx.specs.Feed.{rings_of};
 
+mod draws;
+
 use crate::cores::Cores;
-use crate::draws::{Draws, turn_of};
 use crate::driven::Driven;
 use crate::feeding::feed;
-use crate::logical::Core;
+use crate::logical_core::Core;
+use crate::ordered::draws::{Draws, turn_of};
 use crate::rounds::{are_settled, turn_one};
 use crate::shared::Shared;
 use std::sync::Wait;
@@ -79,9 +81,7 @@ fn round<F: Feeder, G: Gate>(
     for turn in 0..count {
         let at = turn_of(count, first, turn) as usize;
         let core = &mut cores[at];
-        if let Err(e) = meet_and_turn(core, shared, gate, feeder) {
-            return Err(e);
-        }
+        meet_and_turn(core, shared, gate, feeder)?;
     }
     Ok(())
 }
@@ -101,8 +101,6 @@ fn meet_and_turn<F: Feeder, G: Gate>(
     ensures rings { rings_of (F.inlets feeder.new) ≡ rings_of (F.inlets feeder.old) }
 {
     core.meet(feeder);
-    match turn_one(core, shared, gate) {
-        Ok(_) => Ok(()),
-        Err(e) => Err(e),
-    }
+    turn_one(core, shared, gate)?;
+    Ok(())
 }

@@ -3,7 +3,7 @@ ghost use Rattle.std.specs.Prelude.{◌≡◌, true};
 ghost use Rattle.zy_core.specs.Core.{Fits, identity_of};
 ghost use Rattle.zy_core.specs.Drive.{identities, EachFits, EachSettled};
 
-use crate::logical::Core;
+use crate::logical_core::Core;
 use crate::shared::Shared;
 use crate::turn::Turn;
 use zy_base::{Gate, NoMemory};
@@ -26,10 +26,9 @@ pub(crate) fn turn_one<G: Gate>(
     if core.turns() >= MOST {
         return Ok(false);
     }
-    match core.turn(shared, gate) {
-        Ok(Turn::Worked) => Ok(true),
-        Ok(_) => Ok(false),
-        Err(e) => Err(e),
+    match core.turn(shared, gate)? {
+        Turn::Worked => Ok(true),
+        _ => Ok(false),
     }
 }
 
@@ -45,10 +44,8 @@ pub(crate) fn turn_each<G: Gate>(
     let mut worked = false;
     for i in 0..cores.len() {
         let core = &mut cores[i];
-        match turn_one(core, shared, gate) {
-            Ok(some) => worked = worked || some,
-            Err(e) => return Err(e),
-        }
+        let some = turn_one(core, shared, gate)?;
+        worked = worked || some;
     }
     Ok(worked)
 }

@@ -35,10 +35,8 @@ pub(crate) fn steal_once<G: Gate>(
         } => {
             let end = block.hold(store, gate, core);
             passes.give_back(rings, victim, place, block);
-            match end {
-                Ok(_) => Ok(None),
-                Err(e) => Err(e),
-            }
+            end?;
+            Ok(None)
         }
         Stolen::Nothing { looks } => Ok(Some(looks)),
     }

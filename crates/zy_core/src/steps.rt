@@ -39,9 +39,7 @@ pub(crate) fn receive_all(
         let Some(item) = outlet.take() else {
             return Ok(taken > 0);
         };
-        if let Err(e) = home.receive(ring, item) {
-            return Err(e);
-        }
+        home.receive(ring, item)?;
     }
     Ok(true)
 }
@@ -60,15 +58,11 @@ pub(crate) fn collect_all(home: &mut Home, ring: &Ring<Block>) -> Result<bool, N
     ensures refused { home.new.refused ≡ is_err result }
 {
     let places = ring.places();
-    match home.collect(ring) {
-        Ok(true) => {}
-        Ok(false) => return Ok(false),
-        Err(e) => return Err(e),
+    if !home.collect(ring)? {
+        return Ok(false);
     }
-    match collect_more(home, ring, places) {
-        Ok(()) => Ok(true),
-        Err(e) => Err(e),
-    }
+    collect_more(home, ring, places)?;
+    Ok(true)
 }
 
 // Collects and settles further blocks, until none is there, or there were as many as these places.
@@ -84,10 +78,8 @@ fn collect_more(home: &mut Home, ring: &Ring<Block>, places: u32) -> Result<(), 
     ensures refused { home.new.refused ≡ is_err result }
 {
     for _ in 1..places {
-        match home.collect(ring) {
-            Ok(true) => {}
-            Ok(false) => return Ok(()),
-            Err(e) => return Err(e),
+        if !home.collect(ring)? {
+            return Ok(());
         }
     }
     Ok(())
@@ -112,11 +104,11 @@ pub(crate) fn claim_own<G: Gate>(
     ensures count { home.new.pass.count ≤ home.old.pass.count + 1 }
     ensures refused { home.new.refused ≡ is_err result }
 {
+    // The call tells the prover that the places are the slots of the ring's table, at most 4096.
     let _places = ring.places();
-    match home.own(ring, store, gate) {
-        Ok(Own::Took { held: _ }) => Ok(None),
-        Ok(Own::Empty { at }) => Ok(Some(Look::Empty { at })),
-        Ok(Own::Raced { saw, found }) => Ok(Some(Look::Raced { saw, found })),
-        Err(e) => Err(e),
+    match home.own(ring, store, gate)? {
+        Own::Took { held: _ } => Ok(None),
+        Own::Empty { at } => Ok(Some(Look::Empty { at })),
+        Own::Raced { saw, found } => Ok(Some(Look::Raced { saw, found })),
     }
 }

@@ -14,8 +14,8 @@ meet_and_turn-requires-clause-inlet g c =
     let near = c.turn_of-at.ensures.limit in let len = c.loop-turn.invariant.len in let whole = c.len-count.ensures in
     ap (λ rs. slice_get rs c.index_mut-core.result.now.home.core) c.loop-turn.invariant.rings ∙ inlet_there (rings_of (g.F.Feeder.inlets c.args.feeder.now)) c.args.cores.now.items c.loop-turn.cores.items c.turn_of-at.result c.index_mut-core.result.now (omega arith) c.index_mut-core.ensures.value c.loop-turn.invariant.same c.requires.inlets
 
-pub returns-in-Err-clause-same : goal.returns-in-Err-clause-same
-returns-in-Err-clause-same g c =
+pub returns-in_err-meet_and_turn-clause-same : goal.returns-in_err-meet_and_turn-clause-same
+returns-in_err-meet_and_turn-clause-same g c =
     let near = c.turn_of-at.ensures.limit in let len = c.loop-turn.invariant.len in let whole = c.len-count.ensures in
     same_there c.args.cores.now.items c.loop-turn.cores.items c.turn_of-at.result c.index_mut-core.result.now c.meet_and_turn.new.core (omega arith) c.index_mut-core.ensures.value c.meet_and_turn.ensures.same c.loop-turn.invariant.same
 

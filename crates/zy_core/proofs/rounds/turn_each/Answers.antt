@@ -7,8 +7,8 @@ turn_one-requires g c =
     let near = c.loop-i-test.true in let len = c.loop-i.invariant.len in let whole = c.len-i-end.ensures in
     record { fits = fits_there c.args.shared.now c.args.cores.now.items c.loop-i.cores.items c.loop-i.i c.index_mut-core.result.now (omega arith) c.index_mut-core.ensures.value c.loop-i.invariant.same c.requires.fits }
 
-pub returns-in-Err : goal.returns-in-Err
-returns-in-Err g c =
+pub returns-in_err-some : goal.returns-in_err-some
+returns-in_err-some g c =
     let near = c.loop-i-test.true in let len = c.loop-i.invariant.len in let whole = c.len-i-end.ensures in
     record { same = same_there c.args.cores.now.items c.loop-i.cores.items c.loop-i.i c.index_mut-core.result.now c.turn_one.new.core (omega arith) c.index_mut-core.ensures.value c.turn_one.ensures.same c.loop-i.invariant.same }
 

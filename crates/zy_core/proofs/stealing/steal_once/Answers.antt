@@ -10,10 +10,10 @@ pub hold-end-requires-clause-table : goal.hold-end-requires-clause-table
 hold-end-requires-clause-table g c =
     same_id _ _ (takes_label mark_in label_in (name_of c.args.store.now.id) c.args.passes.now c.steal.new.passes c.in-Took.victim c.in-Took.place c.in-Took.block c.requires.idle c.in-Took.ensures.taken)
 
-pub returns-in-Ok-clause-same : goal.returns-in-Ok-clause-same
-returns-in-Ok-clause-same g c =
+pub returns-in_ok-end-in-Took-clause-same : goal.returns-in_ok-end-in-Took-clause-same
+returns-in_ok-end-in-Took-clause-same g c =
     (c.give_back.ensures.kept ∙ c.steal.ensures.kept, given_back mark_in label_in (name_of c.args.store.now.id) c.args.passes.now c.steal.new.passes c.give_back.new.self c.in-Took.victim c.in-Took.place c.in-Took.block c.steal.ensures.kept c.requires.idle c.in-Took.ensures.taken c.give_back.ensures.value)
 
-pub returns-in-Err-clause-same : goal.returns-in-Err-clause-same
-returns-in-Err-clause-same g c =
+pub returns-in_err-end-in-Took-clause-same : goal.returns-in_err-end-in-Took-clause-same
+returns-in_err-end-in-Took-clause-same g c =
     (c.give_back.ensures.kept ∙ c.steal.ensures.kept, given_back mark_in label_in (name_of c.args.store.now.id) c.args.passes.now c.steal.new.passes c.give_back.new.self c.in-Took.victim c.in-Took.place c.in-Took.block c.steal.ensures.kept c.requires.idle c.in-Took.ensures.taken c.give_back.ensures.value)

@@ -1,0 +1,7 @@
+//! What a caller does with a reference that it lent.
+ghost use Rattle.std.specs.Prelude.{◌≡◌};
+
+/// Does nothing. The call tells the prover that the reference handed back is the one that was lent.
+pub fn take_back<T>(lent: &mut T)
+    ensures value { lent.new ≡ lent.old }
+{}

@@ -1,0 +1,111 @@
+//! Where a group of cores is.
+ghost use Rattle.std.specs.Prelude.{◌≡◌, true};
+ghost use Rattle.zy_core.specs.Drive.{identities, EachFits, EachSettled};
+ghost use Rattle.zy_core.specs.Seat.{seat_identities};
+
+use crate::logical_core::Core;
+use crate::shared::Shared;
+use crate::threads::group::Group;
+use std::snapshot::Snapshot;
+use std::sync::Wait;
+use std::sync::atomic::{AtomicU64, Ordering};
+use std::thread;
+use std::thread::{Promise, PromisedHandle, Scope, Threads};
+use zy_base::{Gate, NoMemory};
+
+// The cores come back as they went out.
+#[derive(Drop)]
+pub(crate) struct Keeps {
+    before: Snapshot<Group>,
+}
+
+impl Promise<Group> for Keeps {
+    ghost use Rattle.std.specs.Prelude.{◌≡◌};
+    ghost use Rattle.zy_core.specs.Drive.{identities};
+
+    ghost kept_by = { λ p r. identities r.cores ≡ identities p.before.value.cores };
+}
+
+// A group of cores is on a thread of its own, or with the caller where that thread was refused.
+#[derive(Drop)]
+pub(crate) enum Seat {
+    Away(PromisedHandle<Group, Keeps>),
+    Here(Group),
+}
+
+// Starts a thread for a group. Where it is refused, the bit says that the group leaves at once, and
+// it is with the caller.
+pub(crate) fn start_group<'s, E, R: Wait + Sync, G: Gate + Sync>(
+    scope: &Scope<'s, E>,
+    rt: &'s R,
+    group: Group,
+    shared: &'s Shared,
+    gate: &'s G,
+    leave: &'s AtomicU64,
+    bit: u64,
+) -> Seat
+    requires fits { EachFits shared.now (identities group.cores) }
+    ensures same { seat_identities result ≡ identities group.cores }
+{
+    let before = Snapshot::of(&group);
+    match scope.spawn_with(
+        Keeps { before },
+        move || -> Group
+            requires { EachFits shared.now (identities group.cores) }
+            ensures same { identities result.cores ≡ identities group.cores }
+        { drive_group(rt, group, shared, gate, leave, bit) },
+    ) {
+        Ok(handle) => Seat::Away(handle),
+        Err(refused) => {
+            leave.fetch_or(bit, Ordering::SeqCst);
+            Seat::Here((refused.value)())
+        }
+    }
+}
+
+// Drives the cores of a group until all cores are done, or all are to stop, or this group is to leave.
+fn drive_group<R: Wait, G: Gate>(
+    rt: &R,
+    group: Group,
+    shared: &Shared,
+    gate: &G,
+    leave: &AtomicU64,
+    bit: u64,
+) -> Group
+    requires fits { EachFits shared.now (identities group.cores) }
+    ensures same { identities result.cores ≡ identities group.cores }
+{
+    let mut group = group;
+    let (mut watch, mut is_stopped) = shared.control.watch();
+    for _ in rt.forever() {
+        if is_stopped || leave.load(Ordering::SeqCst) & bit != 0 {
+            return group;
+        }
+        match group.go_on(shared, gate) {
+            Ok(worked) => {
+                if group.is_done() {
+                    return group;
+                }
+                if !worked {
+                    thread::yield_now();
+                }
+            }
+            Err(NoMemory) => shared.control.stop(&mut watch),
+        }
+        is_stopped = shared.control.is_stopped(&mut watch);
+    }
+    unreachable!()
+}
+
+// The cores of a group, once its thread has ended, and whether they found that all are done.
+pub(crate) fn join_seat<R: Threads>(rt: &R, seat: Seat) -> (Vec<Core>, bool)
+    ensures same { identities result.0.items ≡ seat_identities seat }
+    ensures settled { result.1 ≡ true → EachSettled result.0.items }
+{
+    let group = match seat {
+        Seat::Away(handle) => handle.join(rt),
+        Seat::Here(group) => group,
+    };
+    let is_done = group.is_done();
+    (group.into_cores(), is_done)
+}
