@@ -19,7 +19,8 @@ use Rattle.zy_capture.specs.Steps.{Progress, Step, goes, gives, refuses, keeps, 
 use Rattle.zy_capture.specs.Standing.{StandsFor, EndsAs}
 use Rattle.zy_capture.specs.Verdict.{captures, ended, fault_in, is_good, verdict, fault_of, count_of, count_in, is_within, is_within_record}
 use Rattle.zy_capture.specs.Verdict.Verdict.{Good}
-use Rattle.zy_capture.proofs.Feeding.{lasting, count_here, within_here}
+use Rattle.zy_capture.specs.Lasting.{lasting}
+use Rattle.zy_capture.proofs.Feeding.{count_here, within_here}
 use Rattle.zy_capture.proofs.AddLemmas.{records_on, streams_size}
 use Rattle.zy_check_input.specs.declared.capture_part.CapturePart.{CapturePart}
 use Rattle.zy_check_input.specs.Parts.{HasStreams, HasCaptureFault}

@@ -13,7 +13,8 @@ use Rattle.zy_capture.specs.RepliesStanding.{StandsForReplies, EndsAs}
 use Rattle.zy_capture.specs.RepliesVerdict.{replies, ended, verdict, version_in, version_of}
 use Rattle.zy_capture.specs.RepliesVerdict.Verdict.{Good}
 use Rattle.zy_capture.proofs.AddLemmas.{added_last}
-use Rattle.zy_capture.proofs.RepliesFeeding.{lasting, version_here}
+use Rattle.zy_capture.specs.RepliesLasting.{lasting}
+use Rattle.zy_capture.proofs.RepliesFeeding.{version_here}
 use Rattle.zy_check_input.specs.declared.replies_part.RepliesPart.{RepliesPart}
 use Rattle.zy_check_input.specs.declared.stop.Stop.{Stop}
 use Rattle.zy_check_input.specs.declared.stop.Stop.TheVariants.{Refused, ReadFault, NoMemory}

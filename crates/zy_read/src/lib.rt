@@ -4,7 +4,9 @@
 mod fed;
 mod field;
 mod not_taken;
+mod reads;
 
 pub use fed::{Fed, goes_on};
 pub use field::Field;
 pub use not_taken::{FileFeed, NotTaken};
+pub use reads::{Reads, feed, feed_piece};

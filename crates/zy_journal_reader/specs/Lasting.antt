@@ -1,0 +1,36 @@
+-- The first fault of a journal counts.
+use Rattle.std.proofs.Common.{◌≡◌, ℕ, refl, ap, subst}
+use Rattle.std.specs.Prelude.{Option, Some, None, ⊤}
+use Rattle.zy_read.specs.Format.{IsLasting}
+use Rattle.zy_base.specs.declared.file_fault.FileFault.{FileFault}
+use Rattle.zy_journal_reader.specs.declared.due.Due.{Due}
+use Rattle.zy_journal_reader.specs.declared.due.Due.TheVariants.{Nothing, Broken}
+use Rattle.zy_journal_reader.specs.Fields.{fault_in}
+use Rattle.zy_journal_reader.specs.Steps.{Progress, step}
+use Rattle.zy_journal_reader.specs.Verdict.{journals, ended}
+
+-- what is due where this fault was met
+abbrev due_after : Option FileFault → Due
+due_after (Some fault) = Broken fault
+due_after None = Nothing
+
+abbrev IsNone : Option FileFault → Type 0
+IsNone None = ⊤
+IsNone (Some fault) = ⊥
+
+-- where a fault was met, it is what is due
+pub is_broken : (due : Due) (fault : FileFault) → fault_in due ≡ Some fault → due ≡ Broken fault
+is_broken (Broken found) fault is = ap (λ (o : Option FileFault). due_after o) is
+is_broken due fault is = absurd (subst IsNone is tt)
+
+-- and no byte does anything
+still : (p : Progress) (byte : ℕ) (fault : FileFault) → fault_in p.due ≡ Some fault
+    → step p byte ≡ record { next = p; gave = None }
+still p byte fault met = rw (is_broken p.due fault met) refl
+
+-- the first fault counts
+pub lasting : IsLasting journals
+lasting = record {
+  still = still;
+  counts = λ p given fault met. ap (λ (d : Due). ended d p) (is_broken p.due fault met);
+}
