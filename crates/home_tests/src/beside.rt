@@ -5,7 +5,7 @@ ghost use Rattle.zy_conn.specs.Work.{mark_of};
 
 use crate::home_parts::{Setup, first_end, set_up};
 use crate::receiving::{Item, receive, settle};
-use crate::sure::sure;
+use crate::sure::{must, sure};
 use mc_store::StoreTable;
 use std::alloc::Global;
 use std::process::Abort;
@@ -137,5 +137,5 @@ fn frames_reach_a_block_while_it_is_held(rt: HostRuntime) {
     let is_one = ends.is_empty();
     drop(output);
     drop(ends);
-    assert!(rt; is_one && finished == 1 + TIMES as u64);
+    must(&rt, is_one && finished == 1 + TIMES as u64);
 }

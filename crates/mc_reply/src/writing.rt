@@ -10,6 +10,7 @@ use crate::item::put_item;
 use crate::length::items_length;
 use crate::lines::{END, LINE_END};
 use mc_parse::Command;
+use std::mem;
 use zy_base::{Blob, CallReply, NoMemory, Replies, Reserved, number_text};
 
 /// Appends the text of a command with its replies: nothing, where it asks for no answer. Want of
@@ -80,7 +81,7 @@ fn append_items(
         Ok(mut reserved) => {
             put_items(&mut reserved, asked, keys, replies);
             reserved.append(END);
-            *out = reserved.into_blob();
+            drop(mem::replace(out, reserved.into_blob()));
             Ok(())
         }
         Err(e) => Err(e),

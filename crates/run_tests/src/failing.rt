@@ -1,91 +1,108 @@
 //! Reads and writes that fail, each in turn, end a run.
-use crate::serving::{Given, NEVER};
-use crate::sure::sure;
-use crate::watch::Watch;
+use crate::serving::{Failing, Given};
+use crate::sure::must;
 use std::alloc::Global;
 use std::process::Abort;
 use std::sync::Wait;
 use std::thread::Threads;
-use zy_base::Blob;
-use zygos_run::status;
 
 const FIRST: &[u8] = b"ZYGCAP1\n\0\0\0\x01S\0\0\0\0\0\0\0\x17set a 0 0 1\r\nx\r\nget a\r\nE";
 
 const REPLIES: &[u8] =
     b"ZYGREP1\nR\0\0\0\0\0\0\0\0\0\0\0\x1dSTORED\r\nVALUE a 0 1\r\nx\r\nEND\r\nE";
 
-// The reads of the first capture, each of one byte; one more finds its end.
-const READS: u64 = 45;
+// The reads of the first capture's bytes, and that of its end.
+const READS: u64 = 46;
 
-// The writes of its replies, each of one byte, and then the sink is finished.
+// The writes of its replies' bytes; then the sink is finished.
 const WRITES: u64 = 51;
 
-// Three records of two connections; the third begins behind 48 bytes.
+// Three records of two connections, and the read of the third record's first byte.
 const THREE: &[u8] =
     b"ZYGCAP1\n\0\0\0\x02S\0\0\0\0\0\0\0\x0dquit\r\nget a\r\nS\0\0\0\x01\0\0\0\x05get bS\0\0\0\x01\0\0\0\x02\r\nE";
 
 const THIRD: u64 = 48;
 
-// How a run ended: its exit status, how many bytes were written, and whether they are the first of
-// the replies of the first capture.
+// The exit status of a run, and how many bytes were written, where they are the first of the replies
+// of the first capture.
 #[derive(Clone, Copy)]
 struct End {
     status: u8,
-    written: usize,
-    is_part: bool,
+    written: Option<usize>,
 }
 
-// How a run of a capture ends whose read, or whose write, with this number fails.
+impl End {
+    fn is(self, status: u8, count: u64) -> bool {
+        match self.written {
+            Some(written) => self.status == status && written as u64 == count,
+            None => false,
+        }
+    }
+}
+
 fn end_of<R: Threads + Wait + Abort + Sync>(
     rt: &R,
     alloc: Global,
     words: &[&[u8]],
     capture: &[u8],
-    failing_read: u64,
-    failing_write: u64,
+    failing: Failing,
 ) -> End {
-    let capture = sure(rt, Blob::copy_of(alloc, capture));
-    let gate = Watch::new(rt, alloc, false);
-    let mut given = Given::new(rt, alloc, words, capture, failing_read, failing_write, gate);
-    let answer = given.serve(rt, alloc);
-    let status = status(&answer);
-    drop(answer);
-    let written = given.sink.bytes().unwrap_or(b"?");
-    let end = End {
-        status,
-        written: written.len(),
-        is_part: REPLIES.starts_with(written),
-    };
+    let mut given = Given::ungated(rt, alloc, words, capture, failing);
+    let status = given.status(rt, alloc);
+    let written = given.part_of(REPLIES);
     drop(given);
-    end
+    End { status, written }
+}
+
+// Whether a run of the first capture ends as it should where this read fails.
+fn is_ended_by_read<R: Threads + Wait + Abort + Sync>(rt: &R, alloc: Global, call: u64) -> bool {
+    let end = end_of(rt, alloc, &[b"run"], FIRST, Failing::Read(call));
+    if call < READS {
+        end.is(4, 0)
+    } else {
+        end.is(0, WRITES)
+    }
 }
 
 #[test]
 fn a_read_that_fails_ends_the_run(rt: HostRuntime) {
-    for call in 0..READS + 2 {
-        let end = end_of(&rt, rt.alloc(), &[b"run"], FIRST, call, NEVER);
-        let wanted = if call <= READS { 4 } else { 0 };
-        assert!(rt; end.status == wanted, "read {call}");
-        assert!(rt; call > READS || end.written == 0, "read {call}");
+    for call in 0..READS + 1 {
+        must(&rt, is_ended_by_read(&rt, rt.alloc(), call));
+    }
+}
+
+// Whether a run of the first capture ends as it should where this write fails; the last is to finish.
+fn is_ended_by_write<R: Threads + Wait + Abort + Sync>(rt: &R, alloc: Global, call: u64) -> bool {
+    let end = end_of(rt, alloc, &[b"run"], FIRST, Failing::Write(call));
+    if call <= WRITES {
+        end.is(5, call)
+    } else {
+        end.is(0, WRITES)
     }
 }
 
 #[test]
 fn a_write_that_fails_ends_the_run(rt: HostRuntime) {
     for call in 0..WRITES + 2 {
-        let end = end_of(&rt, rt.alloc(), &[b"run"], FIRST, NEVER, call);
-        let wanted = if call <= WRITES { 5 } else { 0 };
-        assert!(rt; end.status == wanted && end.is_part, "write {call}");
-        assert!(rt; end.written as u64 == call.min(WRITES), "write {call}");
+        must(&rt, is_ended_by_write(&rt, rt.alloc(), call));
     }
 }
 
+// Words for three cores, on one thread and on several.
+const WORDS: [[&[u8]; 3]; 3] = [
+    [b"run", b"--cores=3", b"--threads=1"],
+    [b"run", b"--cores=3", b"--threads=2"],
+    [b"run", b"--cores=3", b"--threads=3"],
+];
+
+// Whether the feeder breaks at its third step, and the run ends.
+fn is_broken<R: Threads + Wait + Abort + Sync>(rt: &R, alloc: Global, words: &[&[u8]]) -> bool {
+    end_of(rt, alloc, words, THREE, Failing::Read(THIRD)).is(4, 0)
+}
+
 #[test]
-fn a_feeder_that_breaks_at_its_third_step_ends_the_driving(rt: HostRuntime) {
-    let threads: [&[u8]; 3] = [b"--threads=1", b"--threads=2", b"--threads=3"];
-    for word in threads {
-        let words = [b"run".as_slice(), b"--cores=3", word];
-        let end = end_of(&rt, rt.alloc(), words.as_slice(), THREE, THIRD, NEVER);
-        assert!(rt; end.status == 4 && end.written == 0);
+fn a_feeder_that_breaks_at_its_third_step_ends_the_run(rt: HostRuntime) {
+    for words in &WORDS {
+        must(&rt, is_broken(&rt, rt.alloc(), words));
     }
 }

@@ -1,13 +1,11 @@
 //! Runs with gates: the holds of the journal are what happened, and two threads hold commands at once.
-use crate::serving::{Given, NEVER};
-use crate::sure::sure;
-use crate::watch::Watch;
+use crate::serving::{Failing, Given};
+use crate::sure::{must, sure};
 use std::alloc::Global;
 use std::process::Abort;
 use std::sync::Wait;
 use std::thread::Threads;
 use zy_base::Blob;
-use zygos_run::Answer;
 
 const TWO_OF_THREE: &[u8] =
     b"ZYGCAP1\n\0\0\0\x03S\0\0\0\0\0\0\0\x09version\r\nS\0\0\0\x02\0\0\0\x09version\r\nE";
@@ -31,68 +29,50 @@ const CASES: [Case; 6] = [
     Case(&[b"self", b"--conns=7", b"--cores=2", b"--threads=1"], b""),
 ];
 
-// What was seen of a run: whether its gate was passed as often as the holds of its journal say, for
-// each core and connection, and whether commands of two connections were held at once.
-#[derive(Clone, Copy)]
-struct Seen {
-    is_told: bool,
-    has_met: bool,
-}
-
-fn see<R: Threads + Wait + Abort + Sync>(
-    rt: &R,
-    alloc: Global,
-    words: &[&[u8]],
-    capture: Blob,
-    holds: bool,
-) -> Seen {
-    let gate = Watch::new(rt, alloc, holds);
-    let mut given = Given::new(rt, alloc, words, capture, NEVER, NEVER, gate);
-    let answer = given.serve(rt, alloc);
-    let is_told = match &answer {
-        Answer::Served(journal) => given.gate.is_told_by(journal.holds.items()),
-        Answer::Tested(journal, _) => given.gate.is_told_by(journal.holds.items()),
-        _ => false,
-    };
-    let has_met = given.gate.has_met();
-    drop(answer);
+fn is_told<R: Threads + Wait + Abort + Sync>(rt: &R, alloc: Global, case: &Case) -> bool {
+    let mut given = Given::ungated(rt, alloc, case.0, case.1, Failing::None);
+    let is_told = given.is_told(rt, alloc);
     drop(given);
-    Seen { is_told, has_met }
+    is_told
 }
 
 #[test]
 fn each_core_passes_the_gate_as_often_as_its_holds_say(rt: HostRuntime) {
     for case in &CASES {
-        let capture = sure(&rt, Blob::copy_of(rt.alloc(), case.1));
-        let seen = see(&rt, rt.alloc(), case.0, capture, false);
-        assert!(rt; seen.is_told);
+        must(&rt, is_told(&rt, rt.alloc(), case));
     }
 }
 
 // A capture in which connections 0 and 2 send 640 commands each.
 fn many_commands(rt: &impl Abort, alloc: Global) -> Blob {
     let mut bytes = Blob::new(alloc);
-    sure(
-        rt,
-        bytes.append(b"ZYGCAP1\n\0\0\0\x03S\0\0\0\0\0\0\x16\x80"),
-    );
-    append_commands(rt, &mut bytes);
-    sure(rt, bytes.append(b"S\0\0\0\x02\0\0\x16\x80"));
-    append_commands(rt, &mut bytes);
+    append(rt, &mut bytes, b"ZYGCAP1\n\0\0\0\x03S\0\0\0\0\0\0\x16\x80");
+    append(rt, &mut bytes, b"S\0\0\0\x02\0\0\x16\x80");
     sure(rt, bytes.append(b"E"));
     bytes
 }
 
-fn append_commands(rt: &impl Abort, bytes: &mut Blob) {
+// Appends this head, and 640 commands.
+fn append(rt: &impl Abort, bytes: &mut Blob, head: &[u8]) {
+    sure(rt, bytes.append(head));
     for _ in 0..640 {
         sure(rt, bytes.append(b"version\r\n"));
     }
 }
 
+const WORDS: [&[u8]; 3] = [b"run", b"--cores=2", b"--threads=2"];
+
+// Whether two threads hold commands of both at once, and the gate was passed as the holds say.
+fn has_met<R: Threads + Wait + Abort + Sync>(rt: &R, alloc: Global) -> bool {
+    let capture = many_commands(rt, alloc);
+    let mut given = Given::new(rt, alloc, &WORDS, capture, Failing::None, true);
+    let is_told = given.is_told(rt, alloc);
+    let has_met = given.has_met();
+    drop(given);
+    is_told && has_met
+}
+
 #[test]
 fn two_threads_hold_commands_at_once(rt: HostRuntime) {
-    let capture = many_commands(&rt, rt.alloc());
-    let words = [b"run".as_slice(), b"--cores=2", b"--threads=2"];
-    let seen = see(&rt, rt.alloc(), words.as_slice(), capture, true);
-    assert!(rt; seen.is_told && seen.has_met);
+    must(&rt, has_met(&rt, rt.alloc()));
 }

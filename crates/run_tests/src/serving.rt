@@ -1,6 +1,4 @@
 //! A call of `serve` over memory: its words, its source and sinks, and its gate.
-ghost use Rattle.std.specs.Prelude.{◌≤◌};
-
 use crate::sure::sure;
 use crate::watch::Watch;
 use std::alloc::Global;
@@ -8,66 +6,109 @@ use std::process::Abort;
 use std::sync::Wait;
 use std::thread::Threads;
 use zy_base::{Blob, CallNumbers, MemSink, MemSource};
-use zygos_run::{Answer, serve};
+use zygos_run::{Answer, serve, status};
 
-/// The number of a call that no run makes.
-pub(crate) const NEVER: u64 = 1_000_000;
+// The number of a call that no run makes.
+const NEVER: u64 = 1_000_000;
 
 // The most bytes that are kept of what is written.
 const ROOM: usize = 65_536;
+
+/// Which call fails.
+#[derive(Clone, Copy)]
+pub(crate) enum Failing {
+    None,
+    Read(u64),
+    Write(u64),
+}
+
+impl Failing {
+    fn read(self) -> u64 {
+        match self {
+            Failing::Read(call) => call,
+            _ => NEVER,
+        }
+    }
+
+    fn write(self) -> u64 {
+        match self {
+            Failing::Write(call) => call,
+            _ => NEVER,
+        }
+    }
+}
 
 /// What a call of `serve` gets.
 #[derive(Drop)]
 pub(crate) struct Given {
     words: Vec<Blob>,
     source: MemSource,
-    pub(crate) sink: MemSink,
+    sink: MemSink,
     says: MemSink,
-    pub(crate) gate: Watch,
+    gate: Watch,
 }
 
 // The words as byte strings.
 fn blobs(rt: &impl Abort, alloc: Global, words: &[&[u8]]) -> Vec<Blob> {
     let mut blobs = Vec::new(alloc);
     for word in words {
-        let blob = sure(rt, Blob::copy_of(alloc, word));
-        sure(rt, blobs.push(blob));
+        push_word(rt, alloc, &mut blobs, word);
     }
     blobs
 }
 
-fn numbers(rt: &impl Abort, alloc: Global, number: u64) -> CallNumbers {
+fn push_word(rt: &impl Abort, alloc: Global, blobs: &mut Vec<Blob>, word: &[u8]) {
+    let blob = sure(rt, Blob::copy_of(alloc, word));
+    sure(rt, blobs.push(blob));
+}
+
+// The list of this number.
+fn only(rt: &impl Abort, alloc: Global, number: u64) -> CallNumbers {
     let mut numbers = CallNumbers::new(alloc);
     sure(rt, numbers.push(number));
     numbers
 }
 
+// A sink that takes so many bytes a call, and fails at this one.
+fn sink(rt: &impl Abort, alloc: Global, most: usize, call: u64) -> MemSink {
+    assert!(rt; most >= 1);
+    let failing = only(rt, alloc, call);
+    sure(rt, MemSink::new(alloc, ROOM, most, failing))
+}
+
 impl Given {
-    /// These words, a source that gives the capture byte by byte, and a sink that takes one byte a
-    /// call; the source fails at the call with one number, the sink at that with the other.
+    /// These words, a source that gives the capture byte by byte, a sink that takes one byte a call,
+    /// and a gate that holds commands or doesn't.
     pub(crate) fn new(
         rt: &impl Abort,
         alloc: Global,
         words: &[&[u8]],
         capture: Blob,
-        failing_read: u64,
-        failing_write: u64,
-        gate: Watch,
+        failing: Failing,
+        holds: bool,
     ) -> Given {
-        let reads = numbers(rt, alloc, failing_read);
-        let writes = numbers(rt, alloc, failing_write);
-        let none = numbers(rt, alloc, NEVER);
         Given {
             words: blobs(rt, alloc, words),
-            source: MemSource::new(capture, 1, reads),
-            sink: sure(rt, MemSink::new(alloc, ROOM, 1, writes)),
-            says: sure(rt, MemSink::new(alloc, 64, 64, none)),
-            gate,
+            source: MemSource::new(capture, 1, only(rt, alloc, failing.read())),
+            sink: sink(rt, alloc, 1, failing.write()),
+            says: sink(rt, alloc, 64, NEVER),
+            gate: Watch::new(rt, alloc, holds),
         }
     }
 
-    /// The answer.
-    pub(crate) fn serve<R: Threads + Wait + Sync>(&mut self, rt: &R, alloc: Global) -> Answer {
+    /// The same with these bytes, and a gate that holds no command.
+    pub(crate) fn ungated(
+        rt: &impl Abort,
+        alloc: Global,
+        words: &[&[u8]],
+        capture: &[u8],
+        failing: Failing,
+    ) -> Given {
+        let capture = sure(rt, Blob::copy_of(alloc, capture));
+        Given::new(rt, alloc, words, capture, failing, false)
+    }
+
+    fn serve<R: Threads + Wait + Sync>(&mut self, rt: &R, alloc: Global) -> Answer {
         serve(
             rt,
             alloc,
@@ -77,5 +118,43 @@ impl Given {
             &mut self.says,
             &self.gate,
         )
+    }
+
+    /// The exit status.
+    pub(crate) fn status<R: Threads + Wait + Sync>(&mut self, rt: &R, alloc: Global) -> u8 {
+        let answer = self.serve(rt, alloc);
+        let status = status(&answer);
+        drop(answer);
+        status
+    }
+
+    /// Whether a run was served, and its gate was passed as often as the holds of its journal say.
+    pub(crate) fn is_told<R: Threads + Wait + Sync>(&mut self, rt: &R, alloc: Global) -> bool {
+        let answer = self.serve(rt, alloc);
+        let is_told = is_told_by(&self.gate, &answer);
+        drop(answer);
+        is_told
+    }
+
+    /// Whether the gate held commands of two connections at once.
+    pub(crate) fn has_met(&self) -> bool {
+        self.gate.has_met()
+    }
+
+    /// How many bytes were written, where they are a first part of these.
+    pub(crate) fn part_of(&self, whole: &[u8]) -> Option<usize> {
+        match self.sink.bytes() {
+            Some(written) if whole.starts_with(written) => Some(written.len()),
+            _ => None,
+        }
+    }
+}
+
+// Whether this answer has a journal, and the gate was passed as often as its holds say.
+fn is_told_by(gate: &Watch, answer: &Answer) -> bool {
+    match answer {
+        Answer::Served(journal) => gate.is_told_by(journal.holds.items()),
+        Answer::Tested(journal, _) => gate.is_told_by(journal.holds.items()),
+        _ => false,
     }
 }

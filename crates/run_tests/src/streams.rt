@@ -1,23 +1,36 @@
 //! What the real streams do.
+use crate::sure::must;
 use std::io;
 use std::io::{Cursor, ErrorKind, Write};
-use zy_base::{Failed, Sink, Source};
+use zy_base::{Sink, Source};
 use zygos_run::{StdSink, StdSource};
 
-#[test]
-fn real_streams_pass_calls_on(rt: HostRuntime) {
+// Whether a reader's bytes are given, as many as there is room for.
+fn is_read() -> bool {
     let mut source = StdSource::new(Cursor::new(b"abc".as_slice()));
     let mut buffer = [0u8; 2];
-    assert!(rt; source.read(&mut buffer) == Ok(2));
-    assert!(rt; buffer.as_slice() == b"ab".as_slice());
-    let mut room = [0u8; 2];
-    let mut sink = StdSink::new(room.as_mut_slice());
-    assert!(rt; sink.write(b"abc") == Ok(2));
-    assert!(rt; sink.write(b"c") == Err(Failed));
-    assert!(rt; sink.finish() == Ok(()));
+    matches!(source.read(&mut buffer), Ok(2)) && buffer[0] == b'a' && buffer[1] == b'b'
 }
 
-// Takes every byte, and fails to flush them.
+#[test]
+fn a_read_is_passed_on(rt: HostRuntime) {
+    must(&rt, is_read());
+}
+
+// Whether a writer takes what it has room for, and then fails.
+fn is_written() -> bool {
+    let mut room = [0u8; 2];
+    let mut sink = StdSink::new(room.as_mut_slice());
+    let first = matches!(sink.write(b"abc"), Ok(2));
+    first && sink.write(b"c").is_err()
+}
+
+#[test]
+fn writes_are_passed_on(rt: HostRuntime) {
+    must(&rt, is_written());
+}
+
+// Takes every byte, and fails to flush.
 #[derive(Drop)]
 struct Stuck;
 
@@ -34,6 +47,5 @@ impl Write for Stuck {
 #[test]
 fn to_finish_is_to_flush(rt: HostRuntime) {
     let mut sink = StdSink::new(Stuck);
-    assert!(rt; sink.write(b"abc") == Ok(3));
-    assert!(rt; sink.finish() == Err(Failed));
+    must(&rt, sink.finish().is_err());
 }

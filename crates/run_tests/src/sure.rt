@@ -1,9 +1,9 @@
-//! What a call gives where memory is ample.
-ghost use Rattle.std.specs.Prelude.{◌≡◌, Ok};
+//! What a test takes for granted: memory, and that what it saw is right.
+ghost use Rattle.std.specs.Prelude.{◌≡◌, Ok, true};
 
 use std::process::Abort;
 
-/// What a call gave; a test ends where it found no memory.
+/// What a call gave; the test ends where it found no memory.
 pub(crate) fn sure<T, E>(rt: &impl Abort, made: Result<T, E>) -> T
     ensures value { made ≡ Ok result }
 {
@@ -11,4 +11,11 @@ pub(crate) fn sure<T, E>(rt: &impl Abort, made: Result<T, E>) -> T
         Ok(value) => value,
         Err(_) => panic!(rt; "no memory"),
     }
+}
+
+/// Ends the test where what it saw is not right.
+pub(crate) fn must(rt: &impl Abort, is_right: bool)
+    ensures value { is_right ≡ true }
+{
+    assert!(rt; is_right);
 }

@@ -75,6 +75,15 @@ impl Watch {
         self.met.load(Ordering::SeqCst)
     }
 
+    // Holds a command of this connection.
+    fn hold_of(&self, conn: u32) {
+        if conn == 0 {
+            self.hold(&self.first, &self.second);
+        } else {
+            self.hold(&self.second, &self.first);
+        }
+    }
+
     fn hold(&self, own: &AtomicBool, other: &AtomicBool) {
         own.store(true, Ordering::SeqCst);
         for _ in 0..TURNS {
@@ -106,11 +115,7 @@ impl Gate for Watch {
             count.fetch_add(1, Ordering::SeqCst);
         }
         if self.holds && index % 64 == 0 {
-            if conn == 0 {
-                self.hold(&self.first, &self.second);
-            } else {
-                self.hold(&self.second, &self.first);
-            }
+            self.hold_of(conn);
         }
     }
 }

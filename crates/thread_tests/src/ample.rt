@@ -1,4 +1,5 @@
 //! Calls that take memory and that no run of the program makes: each succeeds where memory is ample.
+use crate::judging::{judge, no_memory};
 use crate::places::{new_ring, publish_below};
 use mc_store::StoreTable;
 use zy_base::Blob;
@@ -8,23 +9,25 @@ use zy_calls::Batch;
 fn a_text_is_sent(rt: HostRuntime) {
     let alloc = rt.alloc();
     let Ok(text) = Blob::copy_of(alloc, b"NOT_FOUND\r\n") else {
-        panic!(rt; "no memory")
+        no_memory(&rt)
     };
     let mut batch = Batch::new(alloc, 3);
     let sent = batch.send(text);
-    assert!(rt; sent.is_ok() && batch.count() == 1);
+    let is_sent = sent.is_ok() && batch.count() == 1;
     drop(sent);
     drop(batch);
+    judge(&rt, is_sent, "the text is not sent");
 }
 
 #[test]
 fn a_store_without_passes_is_closed(rt: HostRuntime) {
     let Ok((store, root)) = StoreTable::new(rt.alloc(), 2) else {
-        panic!(rt; "no memory")
+        no_memory(&rt)
     };
     let closed = store.close(root);
-    assert!(rt; closed.is_ok());
+    let is_closed = closed.is_ok();
     drop(closed);
+    judge(&rt, is_closed, "it is not closed");
 }
 
 #[test]
@@ -32,6 +35,7 @@ fn a_ring_with_two_places_in_its_queue_is_closed(rt: HostRuntime) {
     let (ring, mut home) = new_ring(&rt, rt.alloc(), 3);
     publish_below(&ring, &mut home, 2);
     let closed = ring.close(home);
-    assert!(rt; closed.is_ok());
+    let is_closed = closed.is_ok();
     drop(closed);
+    judge(&rt, is_closed, "it is not closed");
 }

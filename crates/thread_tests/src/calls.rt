@@ -5,6 +5,7 @@ ghost use Rattle.mc_store.specs.Joined.{is_joined};
 ghost use Rattle.mc_store.specs.Pass.{passed, rooted};
 ghost use Rattle.mc_store.specs.View.{untraced};
 
+use crate::judging::{judge, no_memory};
 use mc_store::{Pass, Root, StoreTable};
 use std::alloc::Global;
 use std::process::Abort;
@@ -84,7 +85,7 @@ fn call_on_two<R: Threads + Wait + Sync>(
 fn get_of<R: Abort>(rt: &R, alloc: Global, key: &[u8]) -> Call {
     match Blob::copy_of(alloc, key) {
         Ok(key) => Call::Get { key },
-        Err(_) => panic!(rt; "no memory"),
+        Err(_) => no_memory(rt),
     }
 }
 
@@ -98,7 +99,7 @@ fn pass_of<R: Abort>(rt: &R, store: &StoreTable, root: &mut Root, conn: u32) -> 
 {
     match store.split(root, conn) {
         Ok(pass) => pass,
-        Err(_) => panic!(rt; "no memory"),
+        Err(_) => no_memory(rt),
     }
 }
 
@@ -123,28 +124,28 @@ fn serve_two<R: Threads + Wait + Abort + Sync>(
 }
 
 // All calls of both connections are in the history, each connection's in its order.
-fn assert_in_order<R: Abort>(rt: &R, history: &[Entry]) {
+fn are_in_order(history: &[Entry]) -> bool {
     let mut next = [0u64; 2];
     for entry in history {
-        let conn = entry.tag.conn as usize;
-        assert!(rt; conn < 2);
-        assert!(rt; entry.tag.index == next[conn]);
-        next[conn] = next[conn].wrapping_add(1);
+        match next.get_mut(entry.tag.conn as usize) {
+            Some(index) if *index == entry.tag.index => *index = index.wrapping_add(1),
+            _ => return false,
+        }
     }
-    assert!(rt; next[0] == CALLS && next[1] == CALLS);
+    next[0] == CALLS && next[1] == CALLS
 }
 
 #[test]
 fn two_threads_make_their_calls_on_one_shard(rt: HostRuntime) {
     let alloc = rt.alloc();
     let Ok((store, mut root)) = StoreTable::new(alloc, 1) else {
-        panic!(rt; "no memory")
+        no_memory(&rt)
     };
     serve_two(&rt, alloc, &store, &mut root);
     let Ok(histories) = store.close(root) else {
-        panic!(rt; "no memory")
+        no_memory(&rt)
     };
-    assert!(rt; histories.count() == 1);
-    assert_in_order(&rt, histories.list(0));
+    let is_all = histories.count() == 1 && are_in_order(histories.list(0));
     drop(histories);
+    judge(&rt, is_all, "the history has other calls");
 }

@@ -1,6 +1,7 @@
 //! Two threads that claim the places of one ring, and places that are given back.
-ghost use Rattle.std.specs.Prelude.{◌≡◌, ◌≤◌, []};
+ghost use Rattle.std.specs.Prelude.{◌≡◌, []};
 
+use crate::judging::judge;
 use crate::places::{Block, new_ring, publish_below};
 use std::sync::Wait;
 use std::thread;
@@ -95,6 +96,25 @@ fn count_wrong(ring: &Ring<Block>, home: &mut HomePass<Block>, places: u32) -> u
     wrong
 }
 
+// How often each place was claimed by one or the other.
+fn both(one: &Seen, two: &Seen) -> Seen {
+    let mut sum = [0u32; 128];
+    for place in 0..128usize {
+        sum[place] = one[place].wrapping_add(two[place]);
+    }
+    sum
+}
+
+// The places below this one were claimed once each, and no others.
+fn are_below(seen: &Seen, places: usize) -> bool {
+    for place in 0..128usize {
+        if seen[place] != (place < places) as u32 {
+            return false;
+        }
+    }
+    true
+}
+
 #[test]
 fn two_threads_claim_each_place_once(rt: HostRuntime) {
     let (ring, mut home) = new_ring(&rt, rt.alloc(), 100);
@@ -103,10 +123,9 @@ fn two_threads_claim_each_place_once(rt: HostRuntime) {
     let wrong = count_wrong(&ring, &mut home, 100);
     drop(home);
     drop(ring);
-    for (place, (a, b)) in one.iter().zip(two.iter()).enumerate() {
-        assert!(rt; a.wrapping_add(*b) == (place < 100) as u32, "{place}");
-    }
-    assert!(rt; wrong == 0);
+    let all = both(&one, &two);
+    judge(&rt, are_below(&all, 100), "a place is not claimed once");
+    judge(&rt, wrong == 0, "a place does not come back once");
 }
 
 #[test]
@@ -117,8 +136,6 @@ fn what_is_given_back_is_collected_once(rt: HostRuntime) {
     let wrong = count_wrong(&ring, &mut home, 70);
     drop(home);
     drop(ring);
-    for (place, count) in seen.iter().enumerate() {
-        assert!(rt; *count == (place < 70) as u32, "{place}");
-    }
-    assert!(rt; wrong == 0);
+    judge(&rt, are_below(&seen, 70), "a place is not claimed once");
+    judge(&rt, wrong == 0, "a place does not come back once");
 }

@@ -1,6 +1,7 @@
 //! A receive ring between two threads.
 ghost use Rattle.std.specs.Prelude.{◌≡◌};
 
+use crate::judging::{judge, no_memory};
 use std::sync::Wait;
 use std::thread;
 use zy_rx::{Inlet, Outlet, Rx, both_ends, ring};
@@ -64,7 +65,7 @@ fn number_of(item: &Option<Rx>) -> Option<u32> {
 #[test]
 fn items_cross_threads_in_order(rt: HostRuntime) {
     let Ok((inlet, outlet)) = ring(rt.alloc(), 256) else {
-        panic!(rt; "no memory")
+        no_memory(&rt)
     };
     let runtime = &rt;
     let (mut inlet, taken) = thread::join(
@@ -83,5 +84,5 @@ fn items_cross_threads_in_order(rt: HostRuntime) {
     drop(more);
     drop(inlet);
     drop(outlet);
-    assert!(rt; wrong == 0 && is_all);
+    judge(&rt, wrong == 0 && is_all, "an item is not the next one");
 }

@@ -10,6 +10,8 @@ mod claims;
 #[cfg(test)]
 mod items;
 #[cfg(test)]
+mod judging;
+#[cfg(test)]
 mod places;
 #[cfg(test)]
 mod thieves;

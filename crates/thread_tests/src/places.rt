@@ -3,6 +3,7 @@ ghost use Rattle.std.specs.Prelude.{◌≡◌, ◌+◌, ◌^◌, ◌<◌, ◌≤
 ghost use Rattle.zy_table.specs.Name.{no_name};
 ghost use Rattle.zy_shuffle.specs.Pass.{HasAll, newly_held};
 
+use crate::judging::no_memory;
 use std::alloc::Global;
 use std::marker::Brand;
 use std::process::Abort;
@@ -38,7 +39,7 @@ pub(crate) fn new_ring<R: Abort>(
 {
     match Ring::<Block>::new::<Brand>(alloc, places) {
         Ok(made) => made,
-        Err(_) => panic!(rt; "no memory"),
+        Err(_) => no_memory(rt),
     }
 }
 

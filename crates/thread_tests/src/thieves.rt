@@ -4,6 +4,7 @@ ghost use Rattle.zy_table.specs.Name.{no_name};
 ghost use Rattle.zy_shuffle.specs.Pass.{HasAll, Ringed};
 ghost use Rattle.zy_steal.specs.Steal.{ArePasses};
 
+use crate::judging::{judge, no_memory};
 use crate::places::{Block, new_ring, publish_below};
 use std::alloc::Global;
 use std::process::Abort;
@@ -26,7 +27,7 @@ fn push_ring<R: Abort>(rt: &R, rings: &mut Rings<Block>, ring: Ring<Block>)
     ensures value { rings.new ≡ rings.old ++ ring ∷ [] }
 {
     let Ok(()) = rings.push(ring) else {
-        panic!(rt; "no memory")
+        no_memory(rt)
     };
 }
 
@@ -64,7 +65,7 @@ fn pass_on<R: Abort>(
     };
     let mut passes = Passes::new(alloc, 1);
     let Ok(()) = passes.push(pass) else {
-        panic!(rt; "no memory")
+        no_memory(rt)
     };
     passes
 }
@@ -290,8 +291,10 @@ fn every_place_comes_back_from_four_thieves(rt: HostRuntime) {
     let seen = take_out_all(rings.ring(0), &mut home);
     drop(home);
     drop(rings);
-    assert!(rt; wrong == 0);
-    for count in seen {
-        assert!(rt; count == 1);
-    }
+    judge(&rt, wrong == 0, "a block is of another place");
+    judge(
+        &rt,
+        seen == [1; PLACES as usize],
+        "a place is not there once",
+    );
 }

@@ -2,6 +2,7 @@
 ghost use Rattle.std.specs.Prelude.{◌≡◌};
 ghost use Rattle.zy_control.specs.View.{IsUncounted};
 
+use crate::judging::no_memory;
 use std::sync::Wait;
 use std::thread;
 use std::thread::Threads;
@@ -71,7 +72,7 @@ fn wait_on_two<R: Threads + Wait + Sync>(
 #[test]
 fn two_threads_wait_for_one_another(rt: HostRuntime) {
     let Ok((control, mut root)) = Control::new(rt.alloc(), 2) else {
-        panic!(rt; "no memory")
+        no_memory(&rt)
     };
     let Ok(one) = control.seat(&mut root) else {
         unreachable!()

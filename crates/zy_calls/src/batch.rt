@@ -41,7 +41,10 @@ impl Batch {
         ensures returned { IfErr result (λ e. e.0 ≡ text) }
     {
         match self.send_copy(text.bytes()) {
-            Ok(()) => Ok(()),
+            Ok(()) => {
+                drop(text);
+                Ok(())
+            }
             Err(e) => Err((text, e)),
         }
     }

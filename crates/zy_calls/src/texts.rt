@@ -81,6 +81,7 @@ impl Texts {
             return Err((other, e));
         }
         append_further(&mut self.ends, start, other.ends.as_slice());
+        drop(other);
         Ok(())
     }
 

@@ -3,7 +3,7 @@
 use crate::capture_fault::CaptureFault;
 
 /// What is due next.
-#[derive(Clone, Copy, PartialEq, Eq)]
+#[derive(Clone, Copy)]
 pub(crate) enum Due {
     /// A letter of the magic.
     Letters,

@@ -192,7 +192,7 @@ pub fn written_replies_are_read_again()
         ≡ Replies.Verdict.Good outputs.version (items_of outputs) }
 {}
 
-// ---- worked files
+// ---- worked files, in which a character stands for the byte of its code
 
 /// Worked captures, and the streams of their connections.
 #[tactic(auto, unfolding(zy_read::specs::Format::verdict_on, zy_read::specs::Format::reading_of, zy_read::specs::Format::read_on))]

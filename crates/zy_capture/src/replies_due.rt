@@ -3,7 +3,7 @@
 use zy_base::FileFault;
 
 /// What is due next.
-#[derive(Clone, Copy, PartialEq, Eq)]
+#[derive(Clone, Copy)]
 pub(crate) enum RepliesDue {
     /// A letter of the magic.
     Letters,

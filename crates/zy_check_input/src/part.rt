@@ -7,7 +7,7 @@ use crate::stop::Stop;
 use zy_base::{Failed, Source};
 
 /// How many bytes a part took, and whether it is whole with them.
-#[derive(Clone, Copy, PartialEq, Eq)]
+#[derive(Clone, Copy)]
 pub(crate) struct Taken {
     pub(crate) count: usize,
     pub(crate) answer: Result<bool, Stop>,

@@ -16,7 +16,10 @@ pub fn meaning(alloc: Global, frame: Frame) -> Result<Command, (Frame, NoMemory)
 {
     match frame.kind {
         FrameKind::Line { line } => match parse_line(alloc, line.bytes()) {
-            Ok(command) => Ok(command),
+            Ok(command) => {
+                drop(line);
+                Ok(command)
+            }
             Err(e) => Err((
                 Frame {
                     kind: FrameKind::Line { line },
@@ -25,7 +28,10 @@ pub fn meaning(alloc: Global, frame: Frame) -> Result<Command, (Frame, NoMemory)
             )),
         },
         FrameKind::Block { line, block } => match parse_block(alloc, line.bytes(), block) {
-            Ok(command) => Ok(command),
+            Ok(command) => {
+                drop(line);
+                Ok(command)
+            }
             Err((block, e)) => Err((
                 Frame {
                     kind: FrameKind::Block { line, block },
@@ -33,7 +39,11 @@ pub fn meaning(alloc: Global, frame: Frame) -> Result<Command, (Frame, NoMemory)
                 e,
             )),
         },
-        FrameKind::Large { line } => Ok(parse_large(line.bytes())),
+        FrameKind::Large { line } => {
+            let command = parse_large(line.bytes());
+            drop(line);
+            Ok(command)
+        }
         FrameKind::Long => Ok(Command::Fault {
             line: ErrorLine::LongLine,
             quiet: false,

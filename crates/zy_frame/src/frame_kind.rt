@@ -29,8 +29,13 @@ impl FrameKind {
             }
             FrameKind::Block { line, block } => {
                 let line = line.copy()?;
-                let block = block.copy()?;
-                Ok(FrameKind::Block { line, block })
+                match block.copy() {
+                    Ok(block) => Ok(FrameKind::Block { line, block }),
+                    Err(e) => {
+                        drop(line);
+                        Err(e)
+                    }
+                }
             }
             FrameKind::Large { line } => {
                 let line = line.copy()?;

@@ -92,21 +92,22 @@ impl Framer {
         ensures value { Advances self.old self.new frames.old frames.new bytes.now result }
     {
         let state = mem::replace(&mut self.state, State::Refused);
-        let Step {
-            state,
-            taken,
-            frame,
-        } = match step(self.alloc, state, bytes) {
-            Ok(step) => step,
-            Err(e) => return Err(e),
-        };
-        if let Some(frame) = frame {
-            if let Err(e) = frames.push(frame) {
-                return Err(e);
+        match step(self.alloc, state, bytes) {
+            Ok(step) => {
+                let Step {
+                    state,
+                    taken,
+                    frame,
+                } = step;
+                if let Err(e) = frames.append(frame) {
+                    drop(state);
+                    return Err(e);
+                }
+                drop(mem::replace(&mut self.state, state));
+                Ok(taken)
             }
+            Err(e) => Err(e),
         }
-        self.state = state;
-        Ok(taken)
     }
 
     /// Whether a quit line was met: then no frame comes any more.

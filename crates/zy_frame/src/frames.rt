@@ -47,13 +47,28 @@ impl Frames {
     }
 
     // Puts a frame at the end; after a refusal nothing has changed.
-    pub(crate) fn push(&mut self, frame: Frame) -> Result<(), NoMemory>
+    fn push(&mut self, frame: Frame) -> Result<(), NoMemory>
         ensures ok { OnOk result (self.new ≡ self.old ++ frame ∷ []) }
         ensures err { OnErr result (self.new ≡ self.old) }
     {
         match self.items.push(frame) {
             Ok(()) => Ok(()),
-            Err((_, e)) => Err(e),
+            Err((frame, e)) => {
+                drop(frame);
+                Err(e)
+            }
+        }
+    }
+
+    // Puts the frame at the end that a step gave, if it gave one; after a refusal nothing has
+    // changed.
+    pub(crate) fn append(&mut self, frame: Option<Frame>) -> Result<(), NoMemory>
+        ensures ok { OnOk result (self.new ≡ self.old ++ option_to_list frame) }
+        ensures err { OnErr result (self.new ≡ self.old) }
+    {
+        match frame {
+            Some(frame) => self.push(frame),
+            None => Ok(()),
         }
     }
 }

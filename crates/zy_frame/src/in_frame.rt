@@ -49,6 +49,8 @@ pub(crate) fn step_in_block(
     let taken = bytes.len();
     if taken < wanted.left {
         if let Err(e) = block.append(bytes) {
+            drop(wanted);
+            drop(block);
             return Err(e);
         }
         wanted.left -= taken;
@@ -69,6 +71,8 @@ fn end_block(alloc: Global, wanted: Wanted, mut block: Blob, bytes: &[u8]) -> Re
 {
     let taken = wanted.left;
     if let Err(e) = block.append(&bytes[..taken]) {
+        drop(wanted);
+        drop(block);
         return Err(e);
     }
     Ok(Step {

@@ -47,6 +47,7 @@ fn grow_line(mut kept: Blob, bytes: &[u8]) -> Result<Step, NoMemory>
 {
     let taken = bytes.len();
     if kept.bytes().len() + taken > LINE_LIMIT {
+        drop(kept);
         return Ok(Step {
             state: State::Long,
             taken,
@@ -54,6 +55,7 @@ fn grow_line(mut kept: Blob, bytes: &[u8]) -> Result<Step, NoMemory>
         });
     }
     if let Err(e) = kept.append(bytes) {
+        drop(kept);
         return Err(e);
     }
     Ok(Step {
@@ -73,6 +75,7 @@ fn end_line(alloc: Global, mut kept: Blob, bytes: &[u8], at: usize) -> Result<St
 {
     let taken = at + 1;
     if kept.bytes().len() + at > LINE_LIMIT {
+        drop(kept);
         return Ok(Step {
             state: at_start(alloc),
             taken,
@@ -82,6 +85,7 @@ fn end_line(alloc: Global, mut kept: Blob, bytes: &[u8], at: usize) -> Result<St
         });
     }
     if let Err(e) = kept.append(&bytes[..at]) {
+        drop(kept);
         return Err(e);
     }
     Ok(close_line(alloc, kept, taken))
@@ -103,11 +107,14 @@ fn close_line(alloc: Global, line: Blob, taken: usize) -> Step
                 },
             }),
         },
-        Need::Quit => Step {
-            state: State::Quit,
-            taken,
-            frame: None,
-        },
+        Need::Quit => {
+            drop(line);
+            Step {
+                state: State::Quit,
+                taken,
+                frame: None,
+            }
+        }
         Need::Block { bytes } => Step {
             state: wait_for_block(alloc, line, bytes),
             taken,

@@ -5,7 +5,7 @@ ghost use Rattle.zy_journal.specs.Turn.{is_earlier, turn_of};
 use zy_base::Entry;
 
 /// The stamp of an entry and then its shard.
-#[derive(Clone, Copy, PartialEq, Eq)]
+#[derive(Clone, Copy)]
 pub(crate) struct Turn {
     pub(crate) stamp: u64,
     pub(crate) shard: u32,

@@ -5,7 +5,7 @@ ghost use Rattle.zy_journal_reader.specs.Fields.{kind_of, after_code, after_key,
 use crate::due::{ByteField, BytesField, Due, LongField, NumberField};
 
 /// The kind of a call.
-#[derive(Clone, Copy, PartialEq, Eq)]
+#[derive(Clone, Copy)]
 pub(crate) enum CallKind {
     Get,
     Set,

@@ -3,7 +3,7 @@
 use zy_base::FileFault;
 
 /// A part of one byte.
-#[derive(Clone, Copy, PartialEq, Eq)]
+#[derive(Clone, Copy)]
 pub(crate) enum ByteField {
     /// A byte of the magic.
     Magic,
@@ -18,7 +18,7 @@ pub(crate) enum ByteField {
 }
 
 /// A number of four bytes.
-#[derive(Clone, Copy, PartialEq, Eq)]
+#[derive(Clone, Copy)]
 pub(crate) enum NumberField {
     /// The shard of an entry.
     Shard,
@@ -43,7 +43,7 @@ pub(crate) enum NumberField {
 }
 
 /// A number of eight bytes.
-#[derive(Clone, Copy, PartialEq, Eq)]
+#[derive(Clone, Copy)]
 pub(crate) enum LongField {
     /// The stamp of an entry.
     Stamp,
@@ -58,7 +58,7 @@ pub(crate) enum LongField {
 }
 
 /// Bytes whose length was read before.
-#[derive(Clone, Copy, PartialEq, Eq)]
+#[derive(Clone, Copy)]
 pub(crate) enum BytesField {
     /// The key of a call.
     Key,
@@ -69,7 +69,7 @@ pub(crate) enum BytesField {
 }
 
 /// What is due next.
-#[derive(Clone, Copy, PartialEq, Eq)]
+#[derive(Clone, Copy)]
 pub(crate) enum Due {
     /// A part of one byte.
     Byte(ByteField),

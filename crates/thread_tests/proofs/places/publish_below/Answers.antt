@@ -1,7 +1,6 @@
-use Rattle.std.proofs.Common.{rules, ◌≡◌, ◌+◌, ◌∙◌, ap, arith}
+use Rattle.std.proofs.Common.{◌∙◌, ap, arith}
 use Rattle.zy_table.specs.Member.{is_in}
 use Rattle.zy_table.proofs.MemberLemmas.{in_without}
-use Rattle.zy_shuffle.specs.Pass.{Held}
 use Rattle.thread_tests.proofs.places.publish_below.Goals as goal
 
 pub loop-k-preserved : goal.loop-k-preserved

@@ -1,4 +1,4 @@
-use Rattle.std.proofs.Common.{◌≡◌, ℕ, ◌+◌, ◌<◌, ◌≤◌, true}
+use Rattle.std.proofs.Common.{◌≡◌, ℕ, ◌+◌, ◌<◌, true}
 use Rattle.zy_table.specs.Member.{is_in}
 use Rattle.thread_tests.proofs.places.publish_below.Given as goal
 

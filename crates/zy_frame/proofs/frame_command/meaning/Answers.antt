@@ -12,7 +12,7 @@ parse_block-requires-clause-within c =
     let f = subst Fits c.in-Block.is (fits c.frame.inside.kind c.frame.invariant) in
     omega (arith, f.0, ap length (c.bytes-in-Block.ensures.value ∙ c.in-Block.line-is))
 
-pub parse_large-requires-clause-within : goal.parse_large-requires-clause-within
-parse_large-requires-clause-within c =
+pub parse_large-command-requires-clause-within : goal.parse_large-command-requires-clause-within
+parse_large-command-requires-clause-within c =
     let f = subst Fits c.in-Large.is (fits c.frame.inside.kind c.frame.invariant) in
     omega (arith, f.0, ap length (c.bytes-in-Large.ensures.value ∙ c.in-Large.line-is))
