@@ -2,7 +2,7 @@ use Rattle.std.proofs.Common.{rules, ◌≡◌, ◌+◌, [], take, get_or, ℕ}
 use Rattle.std.specs.Prelude.{Ok, None}
 use Rattle.zy_read.specs.Standing.{Feeds}
 use Rattle.zy_read.proofs.Feeding.{met_by}
-use Rattle.zy_read.proofs.Pieces.{run_on, stop_fed, stop_told, stop_lasts, goes_fed, goes_still}
+use Rattle.zy_read.proofs.PieceLemmas.{run_on, stop_fed, stop_told, stop_lasts, goes_fed, goes_still}
 use Rattle.zy_read.proofs.reads.feed_piece.Goals as goal
 
 pub returns-in-Err-clause-fed : goal.returns-in-Err-clause-fed
