@@ -24,7 +24,7 @@ SEVERAL = capture(2, [
 
 
 def of_shards(shards):
-    """The words for so many shards; none for 16, which is the default."""
+    """The words for this number of shards; none for 16, which is the default."""
     return [] if shards == 16 else ["--shards", str(shards)]
 
 
@@ -95,7 +95,7 @@ def later_sessions():
 
 
 def changed(text, first=0):
-    """A text with one bit changed, for each of its bits; of its first bytes, so many, for one bit each."""
+    """A text with one bit changed, for each of its bits; of its first bytes, for one bit each."""
     for place, byte in enumerate(text):
         for bit in [place % 8] if place < first else range(8):
             yield f"bit {bit} of byte {place} changed", text[:place] + bytes([byte ^ 1 << bit]) + text[place + 1 :]
@@ -152,7 +152,7 @@ def other_shards():
 
 
 def edges():
-    """A run of all lines at the edges of the profile, each with a look at some keys behind it."""
+    """A run of all lines at the edges of the profile, each followed by a look at some keys."""
     text = b"".join(line + b"gets a b c\r\nincr c 1\r\n" for line in OTHERS)
     whole = capture(1, [segment(0, text)])
     says("lines at the edges of the profile", whole + run([*ONE, *BOTH], whole).stdout, "yes")

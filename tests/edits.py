@@ -20,7 +20,7 @@ def wrong_entries(made):
     for name, entries, line in (
         ("the first two entries swapped", [two, one, three, four, five], "not-next entry 0"),
         ("two entries of a command swapped", [one, three, two, four, five], "not-next entry 1"),
-        ("a get behind the set of another connection", [one, two, four, three, five], "wrong-reply entry 3"),
+        ("a get after the set of another connection", [one, two, four, three, five], "wrong-reply entry 3"),
         ("two entries of one connection swapped", [one, two, three, five, four], "not-next entry 3"),
         ("the first entry left out", [two, three, four, five], "not-next entry 0"),
         ("an entry in the middle of a command left out", [one, three, four, five], "not-next entry 1"),
@@ -66,7 +66,7 @@ def wrong_holds(made):
 
 
 def wrong_twice(made):
-    """Two things are wrong, and the one that comes first is told."""
+    """Two things are wrong, and the first one is reported."""
     one, two, three, four, five = made.entries
     other, bad = two._replace(reply=three.reply), five._replace(reply=three.reply)
     short = [output._replace(text=output.text[:-1]) for output in made.outputs]
@@ -106,11 +106,11 @@ def wrong_outputs(made):
 
 
 def list_edits(items):
-    """A list with an item left out, with one doubled, and with one behind the next, for each of its items."""
+    """A list with an item left out, with one doubled, and with one after the next, for each of its items."""
     for at in range(len(items)):
         yield f"{at} left out", items[:at] + items[at + 1 :]
         yield f"{at} doubled", items[: at + 1] + items[at:]
-        yield f"{at} behind the next", items[:at] + items[at + 1 : at + 2] + items[at : at + 1] + items[at + 2 :]
+        yield f"{at} after the next", items[:at] + items[at + 1 : at + 2] + items[at : at + 1] + items[at + 2 :]
 
 
 def other_replies(entries):

@@ -11,7 +11,7 @@ from formats import MOST_KEY, MOST_VALUE, Call, Reply
 MOST_LINE = 65536
 STORAGE = ["set", "add", "replace", "append", "prepend"]
 
-# the words behind a command's name; those in brackets may be left out, and of `get` and `gets` the key is repeated
+# the words after a command's name; those in brackets may be left out, and of `get` and `gets` the key is repeated
 FORMS = {
     **{verb: "key flags exptime bytes [noreply]" for verb in STORAGE},
     "cas": "key flags exptime bytes unique [noreply]",
@@ -46,14 +46,14 @@ def faulty(error, quiet=False):
 
 
 def number_of(name, word):
-    """The number that a word stands for; None where it is a bad one."""
+    """The number that a word spells; None where it is a bad one."""
     if name == "exptime":
         return int(word) if re.fullmatch(b"-?[0-9]{1,19}", word) else None
     return int(word) if re.fullmatch(b"[0-9]{1,20}", word) and int(word) < BOUNDS[name] else None
 
 
 def names_of(verb, count):
-    """The names of so many words behind a command's name, and of those that might follow."""
+    """The names of `count` words after a command's name, and of those that may follow."""
     return ["key"] * max(1, count) if verb in ("get", "gets") else FORMS[verb].split()
 
 
@@ -147,7 +147,7 @@ def call_of(command, key):
 
 
 def calls(shards, command):
-    """The calls of a command, each behind its shard."""
+    """The calls of a command, each after its shard."""
     if command.verb == "flush_all":
         return [(shard, Call("flush")) for shard in range(shards)]
     return [(shard_of(key, shards), call_of(command, key)) for key in command.keys]

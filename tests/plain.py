@@ -1,7 +1,7 @@
 #!/usr/bin/env python3
 """A slow plain checker of runs, written from the definitions alone: what `zygos check` has to answer.
 
-usage: tests/plain.py [--shards N] < FILES     (a capture, a journal and a replies file, one behind the other)
+usage: tests/plain.py [--shards N] < FILES     (a capture, a journal and a replies file, joined)
 
 Each cause is looked for as its definition reads, by going through everything again.
 """
@@ -20,7 +20,7 @@ from model import Shard, calls, commands_of, text_of
 Given = namedtuple("Given", "shards streams entries holds outputs")
 
 
-# ---- what is due
+# ---- what is expected
 
 
 def closes(records, connection):
@@ -28,7 +28,7 @@ def closes(records, connection):
 
 
 def stream(records, connection, session):
-    """The bytes of those segments of a connection that have so many close records of it before them."""
+    """The bytes of those segments of a connection that have this number of its close records before them."""
     return b"".join(record.text for at, record in enumerate(records)
                     if isinstance(record, Segment) and record.connection == connection
                     and closes(records[:at], connection) == session)
@@ -41,13 +41,13 @@ def streams_of(capture):
 
 
 def commands_in(given, connection):
-    """The commands of a connection, those of each session behind those before; where there is no connection, none."""
+    """The commands of a connection, session after session; where there is no such connection, none."""
     sessions = given.streams[connection] if connection < len(given.streams) else []
     return [command for text in sessions for command in commands_of(text)]
 
 
 def due_of(given, connection):
-    """The calls due of a connection: the number of each command, and of each of its calls, the shard and the call."""
+    """The expected calls of a connection: the number of each command, and of each of its calls, the shard and the call."""
     return [(index, part, *call) for index, command in enumerate(commands_in(given, connection))
             for part, call in enumerate(calls(given.shards, command))]
 
@@ -59,7 +59,7 @@ def replies_of(given, connection, index):
 
 
 def output_of(given, connection, session):
-    """The output that is due of a session: the texts of its commands, which are counted over all sessions."""
+    """The expected output of a session: the texts of its commands, which are counted over all sessions."""
     before = sum(len(commands_of(text)) for text in given.streams[connection][:session])
     found = enumerate(commands_of(given.streams[connection][session]), before)
     return b"".join(text_of(command, replies_of(given, connection, index)) for index, command in found)
@@ -69,7 +69,7 @@ def output_of(given, connection, session):
 
 
 def is_next(given, at):
-    """Whether an entry is of the first call due of its connection that no entry before it is of."""
+    """Whether an entry is of the first expected call of its connection that no entry before it is of."""
     entry = given.entries[at]
     before = [one for one in given.entries[:at] if one.connection == entry.connection]
     due = due_of(given, entry.connection)[len(before) :]
@@ -136,7 +136,7 @@ def verdict(given):
 
 
 def parts_of(text):
-    """What the three parts of an input stand for; each begins where the one before ends, and nothing is behind them."""
+    """What the three parts of an input stand for; each begins where the one before ends, and nothing follows them."""
     found = []
     for name, read in (("capture", read_capture), ("journal", read_journal), ("replies", read_replies)):
         part = Part(name, text)

@@ -1,6 +1,6 @@
 """The files of zygos, captures, journals and replies files, read and written as docs/FORMATS.md says.
 
-`read_capture`, `capture_records` and the like give the values that bytes stand for, or raise their first fault;
+`read_capture`, `capture_records` and the like give the values that bytes spell, or raise their first fault;
 `capture`, `segment` and the like give the bytes of values.
 """
 from collections import namedtuple
@@ -29,6 +29,10 @@ REPLIES = [("miss", ""), ("hit", "flags unique value"), ("stored", ""), ("not st
            ("flushed", "")]
 
 
+# how the files of each format begin
+FORMATS = {b"ZYGCAP": "capture", b"ZYGJRN": "journal", b"ZYGREP": "replies"}
+
+
 class Fault(Exception):
     """The first fault of a part, in the words of the program."""
 
@@ -44,7 +48,7 @@ class Part:
         return Fault(f"{self.name}: {words}")
 
     def take(self, count):
-        """So many bytes more."""
+        """The next `count` bytes."""
         end = self.at + count
         if end > self.most and len(self.text) > self.most:
             raise self.fault("too-long")
@@ -57,14 +61,14 @@ class Part:
         return int.from_bytes(self.take(size), "big")
 
     def within(self, size, least, most, fault="form at {at}"):
-        """A number of so many bytes from least to most; another one is this fault."""
+        """A number of `size` bytes, from least to most; any other is this fault."""
         at, number = self.at, self.number(size)
         if not least <= number <= most:
             raise self.fault(fault.format(at=at, number=number))
         return number
 
     def magic(self, magics, fault="form"):
-        """Which one of these magics the part begins with, from 1 on; a byte that is that of none is wrong."""
+        """Which of these magics the part begins with, counted from 1; a byte that is in none of them is wrong."""
         for at in range(len(magics[0])):
             if self.take(1) not in [magic[at : at + 1] for magic in magics]:
                 raise self.fault(f"{fault} at {at}")
@@ -81,7 +85,7 @@ def capture_head(part):
 
 
 def capture_records(part, version, count):
-    """The records of a capture behind its head."""
+    """The records of a capture after its head."""
     while (tag := part.take(1)) != b"E":
         if tag != b"S" and (tag != b"C" or version == 1):
             raise part.fault(f"bad-tag at {part.at - 1} byte {tag[0]}")
@@ -103,7 +107,7 @@ def segment(connection, text):
 
 
 def pieces(connection, text, size):
-    """Segments of so many bytes, of which the last may have less."""
+    """Segments of `size` bytes; the last may have fewer."""
     return [segment(connection, text[at : at + size]) for at in range(0, len(text), size)]
 
 
@@ -112,7 +116,7 @@ def close(connection):
 
 
 def capture(count, records, version=1):
-    """A capture of records that are bytes."""
+    """A capture of records that are given as bytes."""
     return b"ZYGCAP%d\n" % version + big(4, count) + b"".join(records) + b"E"
 
 
@@ -135,7 +139,7 @@ def journal_records(part):
 
 
 def read_entry(part, before):
-    """An entry behind another one, or behind none."""
+    """An entry after another one, or the first."""
     stamp = part.within(8, before.stamp if before else 1, (1 << 60) - 1)
     shard = part.within(4, before.shard + 1 if before and before.stamp == stamp else 0, MOST_SHARDS - 1)
     connection, index = part.within(4, 0, MOST_CONNECTIONS - 1), part.within(8, 0, (1 << 40) - 1)
@@ -144,7 +148,7 @@ def read_entry(part, before):
 
 
 def read_hold(part, before):
-    """A hold behind another one, or behind none."""
+    """A hold after another one, or the first."""
     connection = part.within(4, before.connection if before else 0, MOST_CONNECTIONS - 1)
     return Hold(connection, part.within(4, 0, MOST_CORES - 1), part.within(4, 1, MOST_HOLD))
 
@@ -198,7 +202,7 @@ def journal(entries, holds):
 
 
 def replies_records(part, version):
-    """The outputs of a replies file behind its magic."""
+    """The outputs of a replies file after its magic."""
     before = None
     while (tag := part.take(1)) != b"E":
         if tag != b"R":
@@ -209,7 +213,7 @@ def replies_records(part, version):
 
 
 def next_session(part, version, before):
-    """The connection and the session of an output behind another one, or behind none."""
+    """The connection and the session of an output after another one, or of the first."""
     last = before.connection if before else -1
     least = last if before and version == 2 else last + 1
     connection = part.within(4, least, min(last + 1, MOST_CONNECTIONS - 1))
@@ -257,12 +261,12 @@ def sessions(texts):
 
 
 def big(size, number):
-    """A number in so many bytes, the first of which counts most."""
+    """A number in `size` bytes, the most significant first."""
     return number.to_bytes(size, "big")
 
 
 def shown(text):
-    """Bytes as text; those that can't be printed as \\xNN."""
+    """Bytes as text; those that cannot be printed as \\xNN."""
     return "".join(chr(b) if 32 <= b < 127 and b != 92 else "\\\\" if b == 92 else f"\\x{b:02x}" for b in text)
 
 

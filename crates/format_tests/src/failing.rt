@@ -22,7 +22,9 @@ pub fn source_of(
     bytes: &[u8],
     most: usize,
     number: u64,
-) -> Result<MemSource, NoMemory> {
+) -> Result<MemSource, NoMemory>
+    requires some { 1 ≤ most }
+{
     let numbers = only(alloc, number)?;
     match Blob::copy_of(alloc, bytes) {
         Ok(bytes) => Ok(MemSource::new(bytes, most, numbers)),

@@ -29,9 +29,9 @@ fn check_stop(alloc: Global, number: u64) -> Result<Option<Stop>, NoMemory> {
 #[test]
 fn a_check_stops_at_the_read_that_fails(rt: HostRuntime) {
     for number in 0..6 {
-        assert!(rt; check_stop(rt.alloc(), number) == Ok(Some(Stop::ReadFault)));
+        assert!(rt; matches!(check_stop(rt.alloc(), number), Ok(Some(Stop::ReadFault))));
     }
-    assert!(rt; check_stop(rt.alloc(), 6) == Ok(None));
+    assert!(rt; matches!(check_stop(rt.alloc(), 6), Ok(None)));
 }
 
 // Why the streams are read no further.
@@ -55,6 +55,6 @@ fn capture_stop(alloc: Global, number: u64) -> Result<Option<Stop>, NoMemory> {
 
 #[test]
 fn no_read_is_made_behind_the_end_of_a_capture(rt: HostRuntime) {
-    assert!(rt; capture_stop(rt.alloc(), 2) == Ok(Some(Stop::ReadFault)));
-    assert!(rt; capture_stop(rt.alloc(), 3) == Ok(None));
+    assert!(rt; matches!(capture_stop(rt.alloc(), 2), Ok(Some(Stop::ReadFault))));
+    assert!(rt; matches!(capture_stop(rt.alloc(), 3), Ok(None)));
 }

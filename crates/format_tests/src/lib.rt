@@ -9,5 +9,3 @@ mod failing;
 mod inputs;
 #[cfg(test)]
 mod sinks;
-#[cfg(test)]
-mod sources;

@@ -1,5 +1,5 @@
 -- What the parts of a line that was read say. No public clause cites this module.
-use Rattle.std.specs.Prelude.{ℕ, List, map, take, ⊤}
+use Rattle.std.specs.Prelude.{ℕ, Bool, ◌==◌, List, map, filter, length, take, ⊤}
 use Rattle.std.specs.Borrow.{Bor}
 use Rattle.mc_parse.specs.declared.args.Args.{Args}
 use Rattle.mc_parse.specs.declared.ask.Ask.{Ask as SeenAsk}
@@ -9,6 +9,7 @@ use Rattle.mc_parse.specs.declared.name.Name.{Name}
 use Rattle.mc_parse.specs.declared.name.Name.TheVariants as Names
 use Rattle.mc_parse.specs.declared.line.Line.TheVariants.{Fault, Asks}
 use Rattle.mc_parse.specs.Words.{words}
+use Rattle.mc_parse.specs.Name.{names}
 use Rattle.mc_parse.specs.Form.{Ask, Form, stores, exchanges, gets, deletes, counts, tells_version, sets_verbosity, flushes, quits, faulty, asks}
 
 -- ---- words
@@ -25,6 +26,16 @@ words_in args = texts (take args.count args.words)
 abbrev pub HasFew : Name → Type 0
 HasFew (Names.Get unique) = ⊥
 HasFew name = ⊤
+
+-- ---- names
+
+-- a name is written with so many bytes
+abbrev pub has_length : ℕ → List ℕ × Name → Bool
+has_length count entry = length entry.0 == count
+
+-- the names that are written with so many bytes
+abbrev pub names_of_length : ℕ → List (List ℕ × Name)
+names_of_length count = filter (has_length count) names
 
 -- ---- lines
 

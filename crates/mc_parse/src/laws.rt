@@ -149,8 +149,10 @@ pub fn worked_lines_with_a_bad_number()
 pub fn worked_keys()
     ensures within { map line_form (lines_with_key (long_key 250)) ≡ forms_with_key (long_key 250) }
     ensures beyond { AllSay (faulty Errors.BadLine) (lines_with_key (long_key 251)) }
-    ensures amount { line_form (codes "incr " ++ long_key 251 ++ codes " x") ≡ faulty Errors.BadLine }
-    ensures count { line_form (codes "delete " ++ long_key 251 ++ codes " 5 x") ≡ faulty Errors.Unknown }
+    ensures amount { line_form (codes "incr " ++ long_key 251 ++ codes " x")
+        ≡ faulty Errors.BadLine }
+    ensures count { line_form (codes "delete " ++ long_key 251 ++ codes " 5 x")
+        ≡ faulty Errors.Unknown }
 {}
 
 /// Worked retrievals: a key is any word, and noreply is one.
@@ -294,8 +296,10 @@ pub fn worked_large_values()
 
 /// Worked calls: each verb has its own, on the shard of its key, and a flush is one on each shard.
 pub fn worked_calls()
-    ensures set { calls_of 16 (store_of Verbs.Set) ≡ on_shard (Calls.Set (codes "a") 3 (codes "v")) 12 ∷ [] }
-    ensures add { calls_of 16 (store_of Verbs.Add) ≡ on_shard (Calls.Add (codes "a") 3 (codes "v")) 12 ∷ [] }
+    ensures set { calls_of 16 (store_of Verbs.Set)
+        ≡ on_shard (Calls.Set (codes "a") 3 (codes "v")) 12 ∷ [] }
+    ensures add { calls_of 16 (store_of Verbs.Add)
+        ≡ on_shard (Calls.Add (codes "a") 3 (codes "v")) 12 ∷ [] }
     ensures replace { calls_of 16 (store_of Verbs.Replace)
         ≡ on_shard (Calls.Replace (codes "a") 3 (codes "v")) 12 ∷ [] }
     ensures append { calls_of 16 (store_of Verbs.Append)
@@ -305,7 +309,8 @@ pub fn worked_calls()
     ensures cas { calls_of 16 (Command.Cas (codes "a") 3 7 (codes "v") true)
         ≡ on_shard (Calls.Cas (codes "a") 3 7 (codes "v")) 12 ∷ [] }
     ensures counts { map (λ up. calls_of 16 (Command.Count (codes "a") up 5 false)) (true ∷ false ∷ [])
-        ≡ (on_shard (Calls.Incr (codes "a") 5) 12 ∷ []) ∷ (on_shard (Calls.Decr (codes "a") 5) 12 ∷ []) ∷ [] }
+        ≡ (on_shard (Calls.Incr (codes "a") 5) 12 ∷ [])
+        ∷ (on_shard (Calls.Decr (codes "a") 5) 12 ∷ []) ∷ [] }
     ensures delete { calls_of 16 (Command.Delete (codes "a") false)
         ≡ on_shard (Calls.Delete (codes "a")) 12 ∷ [] }
     ensures flush { calls_of 2 (Command.Flush false)

@@ -1,7 +1,8 @@
 //! The names of commands.
 ghost use Rattle.std.specs.Prelude.{◌≡◌};
 ghost use Rattle.std.specs.Str.{bytes_eq};
-ghost use Rattle.mc_parse.specs.Name.{name_of};
+ghost use Rattle.mc_parse.specs.Name.{name_among, name_of};
+ghost use Rattle.mc_parse.specs.Line.{names_of_length};
 
 use crate::verb::Verb;
 
@@ -32,40 +33,90 @@ pub(crate) enum Name {
 pub(crate) fn name_of(word: &[u8]) -> Option<Name>
     ensures value { result ≡ name_of word.now }
 {
+    match word.len() {
+        3 => name_of_three(word),
+        4 => name_of_four(word),
+        6 => name_of_six(word),
+        7 => name_of_seven(word),
+        9 => name_of_nine(word),
+        _ => None,
+    }
+}
+
+// The name that a word of three bytes is.
+fn name_of_three(word: &[u8]) -> Option<Name>
+    ensures value { result ≡ name_among word.now (names_of_length 3) }
+{
     if is(word, b"set") {
         Some(Name::Store { verb: Verb::Set })
     } else if is(word, b"add") {
         Some(Name::Store { verb: Verb::Add })
-    } else if is(word, b"replace") {
-        Some(Name::Store {
-            verb: Verb::Replace,
-        })
-    } else if is(word, b"append") {
-        Some(Name::Store { verb: Verb::Append })
-    } else if is(word, b"prepend") {
-        Some(Name::Store {
-            verb: Verb::Prepend,
-        })
     } else if is(word, b"cas") {
         Some(Name::Cas)
     } else if is(word, b"get") {
         Some(Name::Get { unique: false })
-    } else if is(word, b"gets") {
+    } else {
+        None
+    }
+}
+
+// The name that a word of four bytes is.
+fn name_of_four(word: &[u8]) -> Option<Name>
+    ensures value { result ≡ name_among word.now (names_of_length 4) }
+{
+    if is(word, b"gets") {
         Some(Name::Get { unique: true })
-    } else if is(word, b"delete") {
-        Some(Name::Delete)
     } else if is(word, b"incr") {
         Some(Name::Count { up: true })
     } else if is(word, b"decr") {
         Some(Name::Count { up: false })
+    } else if is(word, b"quit") {
+        Some(Name::Quit)
+    } else {
+        None
+    }
+}
+
+// The name that a word of six bytes is.
+fn name_of_six(word: &[u8]) -> Option<Name>
+    ensures value { result ≡ name_among word.now (names_of_length 6) }
+{
+    if is(word, b"append") {
+        Some(Name::Store { verb: Verb::Append })
+    } else if is(word, b"delete") {
+        Some(Name::Delete)
+    } else {
+        None
+    }
+}
+
+// The name that a word of seven bytes is.
+fn name_of_seven(word: &[u8]) -> Option<Name>
+    ensures value { result ≡ name_among word.now (names_of_length 7) }
+{
+    if is(word, b"replace") {
+        Some(Name::Store {
+            verb: Verb::Replace,
+        })
+    } else if is(word, b"prepend") {
+        Some(Name::Store {
+            verb: Verb::Prepend,
+        })
     } else if is(word, b"version") {
         Some(Name::Version)
-    } else if is(word, b"verbosity") {
+    } else {
+        None
+    }
+}
+
+// The name that a word of nine bytes is.
+fn name_of_nine(word: &[u8]) -> Option<Name>
+    ensures value { result ≡ name_among word.now (names_of_length 9) }
+{
+    if is(word, b"verbosity") {
         Some(Name::Verbosity)
     } else if is(word, b"flush_all") {
         Some(Name::Flush)
-    } else if is(word, b"quit") {
-        Some(Name::Quit)
     } else {
         None
     }

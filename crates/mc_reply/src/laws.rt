@@ -33,20 +33,24 @@ pub fn worked_answers()
 /// The line of each reply, worked: to the command that it answers.
 #[tactic(auto, unfolding(crate::specs::Text::text))]
 pub fn worked_lines()
-    ensures not_stored { text (Command.Store Verbs.Add (codes "a") 0 (codes "x") false) (Replies.NotStored ∷ [])
+    ensures not_stored { text (Command.Store Verbs.Add (codes "a") 0 (codes "x") false)
+        (Replies.NotStored ∷ [])
         ≡ codes "NOT_STORED\r\n" }
-    ensures large { text (Command.Store Verbs.Append (codes "a") 0 (codes "x") false) (Replies.TooLarge ∷ [])
+    ensures large { text (Command.Store Verbs.Append (codes "a") 0 (codes "x") false)
+        (Replies.TooLarge ∷ [])
         ≡ codes "SERVER_ERROR object too large for cache\r\n" }
     ensures exists { text (Command.Cas (codes "a") 0 7 (codes "x") false) (Replies.Exists ∷ [])
         ≡ codes "EXISTS\r\n" }
     ensures absent { text (Command.Cas (codes "a") 0 7 (codes "x") false) (Replies.NotFound ∷ [])
         ≡ codes "NOT_FOUND\r\n" }
-    ensures deleted { text (Command.Delete (codes "a") false) (Replies.Deleted ∷ []) ≡ codes "DELETED\r\n" }
+    ensures deleted { text (Command.Delete (codes "a") false) (Replies.Deleted ∷ [])
+        ≡ codes "DELETED\r\n" }
     ensures worded { text (Command.Count (codes "a") false 1 false) (Replies.NotNumber ∷ [])
         ≡ codes "CLIENT_ERROR cannot increment or decrement non-numeric value\r\n" }
     ensures silent { text (Command.Count (codes "a") true 1 true) (Replies.Number 100 ∷ []) ≡ [] }
     ensures verbosity { text (Command.Verbosity false) [] ≡ codes "OK\r\n" }
-    ensures flush { text (Command.Flush false) (Replies.Flushed ∷ Replies.Flushed ∷ []) ≡ codes "OK\r\n" }
+    ensures flush { text (Command.Flush false) (Replies.Flushed ∷ Replies.Flushed ∷ [])
+        ≡ codes "OK\r\n" }
 {}
 
 /// The line of each fault, worked.
@@ -57,8 +61,10 @@ pub fn worked_faults()
         ≡ codes "CLIENT_ERROR bad command line format\r\n" }
     ensures delta { text (Command.Fault Errors.BadDelta false) []
         ≡ codes "CLIENT_ERROR invalid numeric delta argument\r\n" }
-    ensures long { text (Command.Fault Errors.LongLine false) [] ≡ codes "CLIENT_ERROR line too long\r\n" }
-    ensures chunk { text (Command.Fault Errors.BadChunk false) [] ≡ codes "CLIENT_ERROR bad data chunk\r\n" }
+    ensures long { text (Command.Fault Errors.LongLine false) []
+        ≡ codes "CLIENT_ERROR line too long\r\n" }
+    ensures chunk { text (Command.Fault Errors.BadChunk false) []
+        ≡ codes "CLIENT_ERROR bad data chunk\r\n" }
     ensures silent { text (Command.Fault Errors.BadChunk true) [] ≡ [] }
 {}
 
@@ -66,11 +72,14 @@ pub fn worked_faults()
 #[tactic(auto, unfolding(crate::specs::Text::text))]
 pub fn worked_limits()
     ensures item { text (Command.Get (codes "key" ∷ codes "k" ∷ []) true)
-        (Replies.Miss ∷ Replies.Hit 4294967295 18446744073709551615 (codes "a\r\nb and more than sixteen bytes") ∷ [])
+        (Replies.Miss ∷ Replies.Hit 4294967295 18446744073709551615
+        (codes "a\r\nb and more than sixteen bytes") ∷ [])
         ≡ codes "VALUE k 4294967295 32 18446744073709551615\r\na\r\nb and more than sixteen bytes\r\nEND\r\n" }
-    ensures number { text (Command.Count (codes "a") true 1 false) (Replies.Number 18446744073709551615 ∷ [])
+    ensures number { text (Command.Count (codes "a") true 1 false)
+        (Replies.Number 18446744073709551615 ∷ [])
         ≡ codes "18446744073709551615\r\n" }
-    ensures zero { text (Command.Count (codes "a") false 1 false) (Replies.Number 0 ∷ []) ≡ codes "0\r\n" }
+    ensures zero { text (Command.Count (codes "a") false 1 false) (Replies.Number 0 ∷ [])
+        ≡ codes "0\r\n" }
 {}
 
 /// Each command has one text, the text of the replies that its own entries tell.

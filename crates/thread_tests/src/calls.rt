@@ -1,5 +1,5 @@
 //! Two threads that call one shard of a store, each with a pass of its own.
-ghost use Rattle.std.specs.Prelude.{◌≡◌, ◌<◌, [], ◌∷◌, ℕ, true, false};
+ghost use Rattle.std.specs.Prelude.{◌≡◌, ◌<◌, ◌≤◌, [], ◌∷◌, ℕ, true, false};
 ghost use Rattle.zy_table.specs.Member.{is_in};
 ghost use Rattle.mc_store.specs.Joined.{is_joined};
 ghost use Rattle.mc_store.specs.Pass.{passed, rooted};
@@ -12,7 +12,7 @@ use std::process::Abort;
 use std::sync::Wait;
 use std::thread;
 use std::thread::Threads;
-use zy_base::{Blob, Call, Entry, Tag};
+use zy_base::{Blob, Call, Entry, Histories, Tag};
 
 const CALLS: u64 = 1_000;
 
@@ -135,16 +135,36 @@ fn are_in_order(history: &[Entry]) -> bool {
     next[0] == CALLS && next[1] == CALLS
 }
 
+// A store with so many shards, and its root.
+fn new_store<R: Abort>(rt: &R, alloc: Global, shards: u32) -> (StoreTable, Root)
+    requires some { 1 ≤ shards }
+    requires few { shards ≤ 256 }
+    ensures shards { result.0.shards ≡ shards }
+    ensures root { result.1 ≡ rooted result.0.id [] [] }
+{
+    match StoreTable::new(alloc, shards) {
+        Ok(made) => made,
+        Err(_) => no_memory(rt),
+    }
+}
+
+// The histories of a store whose passes were joined.
+fn histories_of<R: Abort>(rt: &R, store: StoreTable, root: Root) -> Histories
+    requires table { root.table ≡ store.id }
+    requires all { (conn : ℕ) → is_in conn root.given ≡ true → is_joined conn root.joined ≡ true }
+{
+    match store.close(root) {
+        Ok(histories) => histories,
+        Err(_) => no_memory(rt),
+    }
+}
+
 #[test]
 fn two_threads_make_their_calls_on_one_shard(rt: HostRuntime) {
     let alloc = rt.alloc();
-    let Ok((store, mut root)) = StoreTable::new(alloc, 1) else {
-        no_memory(&rt)
-    };
+    let (store, mut root) = new_store(&rt, alloc, 1);
     serve_two(&rt, alloc, &store, &mut root);
-    let Ok(histories) = store.close(root) else {
-        no_memory(&rt)
-    };
+    let histories = histories_of(&rt, store, root);
     let is_all = histories.count() == 1 && are_in_order(histories.list(0));
     drop(histories);
     judge(&rt, is_all, "the history has other calls");

@@ -18,17 +18,30 @@ fn claim_all<R: Wait>(rt: &R, ring: &Ring<Block>, mut pass: CorePass<Block>) -> 
 {
     let mut seen = [0u32; 128];
     for _ in rt.forever() {
-        match ring.claim(&mut pass) {
-            Claim::Took { place, block } => {
-                note(&mut seen, place, &block);
-                ring.give_back(&mut pass, place, block);
-            }
-            Claim::Empty { at: _ } => break,
-            Claim::Raced { saw: _, found: _ } => thread::yield_now(),
+        if !claim_once(ring, &mut pass, &mut seen) {
+            break;
         }
     }
     drop(pass);
     seen
+}
+
+// Claims once, and answers whether more may come.
+fn claim_once(ring: &Ring<Block>, pass: &mut CorePass<Block>, seen: &mut Seen) -> bool
+    requires within { pass.old.table ≡ ring.now.id }
+    requires empty { pass.old.hand ≡ [] }
+    ensures within { pass.new.table ≡ ring.now.id }
+    ensures empty { pass.new.hand ≡ [] }
+{
+    match ring.claim(pass) {
+        Claim::Took { place, block } => {
+            note(seen, place, &block);
+            ring.give_back(pass, place, block);
+            true
+        }
+        Claim::Empty { at: _ } => false,
+        Claim::Raced { saw: _, found: _ } => true,
+    }
 }
 
 // Notes the place, where the block is its own.

@@ -21,7 +21,7 @@ use Rattle.mc_store.specs.Joined.{is_joined, calls_of}
 use Rattle.zy_frame.specs.Frame.{command_of}
 use Rattle.zy_base.specs.Held.{held_in}
 use Rattle.zy_rx.specs.Flow.{home_of}
-use Rattle.zy_rx.specs.Session.{Sessions, sessions_of}
+use Rattle.zy_rx.specs.Session.{Sessions, sessions_of, streams_of}
 use Rattle.zy_conn.specs.Work.{Start, Mark, commands_of_frames}
 use Rattle.zy_conn.specs.Kept.{command_begun}
 use Rattle.zy_conn.specs.Block.{Blocked}
@@ -35,7 +35,6 @@ use Rattle.zy_run.specs.Run.{IsRun}
 use Rattle.zy_run.specs.Spans.{Spans}
 use Rattle.zy_run.proofs.StreamLemmas.{length-streams_in, closes-version_1}
 use Rattle.zy_rx.specs.Routing.{offered_to}
-use Rattle.zy_rx.specs.Session.{streams_of}
 use Rattle.zy_finish.specs.Left.{IsCarriedOut, AreOf, ends_of}
 use Rattle.zy_finish.specs.Served.{AreServed, all_holds, all_sent}
 use Rattle.zy_finish.proofs.ReceivedLemmas.{offered_streams}

@@ -1,4 +1,5 @@
 -- The places of connections at their homes, and what stands at a place of a list.
+use Rattle.std.specs.List.{range_with_len}
 use Rattle.std.proofs.Common.{◌≡◌, ◌≢◌, ℕ, zero, suc, ◌+◌, ◌<◌, List, [], ◌∷◌, ◌++◌, length, drop, Some, slice_get, refl, sym, ap, ◌∙◌, subst, arith, length-append}
 use mathlib.Core.Logic.{dite}
 use native.Mathlib.Decide.{ℕ_discrete}
@@ -22,6 +23,22 @@ drop_at_get zero (y ∷ xs) x e = let is : y ≡ x = cc in ap (λ z. z ∷ xs) i
 drop_at_get (suc p) [] x e = absurd (cc)
 drop_at_get (suc p) (y ∷ xs) x e =
     let on : suc p + 1 ≡ suc (p + 1) = omega arith in drop_at_get p xs x e ∙ ap (λ (n : ℕ). x ∷ drop n (y ∷ xs)) (sym on)
+
+-- ---- numbers from one on
+
+-- one number more
+range_more : (a n : ℕ) → range_with_len a (suc n) ≡ range_with_len a n ++ (a + n) ∷ []
+range_more a zero = let same : a ≡ a + 0 = omega arith in ap (λ (k : ℕ). k ∷ []) same
+range_more a (suc n) =
+    let same : a + 1 + n ≡ a + suc n = omega arith in
+    ap (λ (l : List ℕ). a ∷ l) (range_more (a + 1) n ∙ ap (λ (k : ℕ). range_with_len (a + 1) n ++ k ∷ []) same)
+
+-- one number more, from the first one
+pub range_next : (n : ℕ) → range_with_len 0 (n + 1) ≡ range_with_len 0 n ++ n ∷ []
+range_next n =
+    let on : n + 1 ≡ suc n = omega arith in
+    let same : 0 + n ≡ n = omega arith in
+    ap (range_with_len 0) on ∙ range_more 0 n ∙ ap (λ (k : ℕ). range_with_len 0 n ++ k ∷ []) same
 
 -- ---- connections
 

@@ -11,12 +11,11 @@ use Rattle.zy_capture.proofs.StreamLemmas.{last_grown-append}
 use Rattle.zy_rx.specs.declared.rx.Rx.{Rx}
 use Rattle.zy_rx.specs.declared.rx.Rx.TheVariants.{Segment, Close, End}
 use Rattle.zy_rx.specs.Flow.{home_of}
-use Rattle.zy_rx.specs.Session.{Sessions, no_sessions, with_bytes, with_close, takes_in, sessions_from, sessions_of}
+use Rattle.zy_rx.specs.Session.{Sessions, no_sessions, with_bytes, with_close, takes_in, sessions_from, sessions_of, streams_of}
 use Rattle.zy_rx.proofs.SessionLemmas.{sessions-push}
 use Rattle.zy_run.specs.Commands.{streams_in}
 use Rattle.zy_run.proofs.StreamLemmas.{streams_held}
 use Rattle.zy_rx.specs.Routing.{item_of, is_for, items_for, offered_to}
-use Rattle.zy_rx.specs.Session.{streams_of}
 
 -- ---- the items of one record
 

@@ -3,24 +3,32 @@
 
 use std::alloc::Global;
 use std::env::{Env, FillError};
+use std::io::BufWriter;
 use std::mem;
 use std::process::ExitCode;
 use zy_base::{Blob, NoMemory, Ungated};
 use zygos_run::{StdSink, StdSource, serve, status};
 
-// The exit status where the words themselves find no memory.
+// The exit status where the words themselves, or the buffer, find no memory.
 const OUT_OF_MEMORY: u8 = 6;
+
+// The bytes that standard output is given at once; longer pieces are not held back.
+const BUFFER: usize = 65_536;
 
 fn main(rt: HostRuntime) -> ExitCode {
     let alloc = rt.alloc();
     match words(&rt, alloc) {
         Ok(words) => {
+            let Ok(output) = BufWriter::with_capacity(alloc, BUFFER, rt.stdout()) else {
+                drop(words);
+                return ExitCode::from(OUT_OF_MEMORY);
+            };
             let answer = serve(
                 &rt,
                 alloc,
                 words.as_slice(),
                 &mut StdSource::new(rt.stdin()),
-                &mut StdSink::new(rt.stdout()),
+                &mut StdSink::new(output),
                 &mut StdSink::new(rt.stderr()),
                 &Ungated,
             );

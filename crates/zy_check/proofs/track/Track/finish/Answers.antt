@@ -12,5 +12,6 @@ returns-clause-kept c made has =
     let h : Stands g c.args.conn t.session t.cursor (Some b) t.commands t.compared made = subst (λ (o : Option Answering). Stands g c.args.conn t.session t.cursor o t.commands t.compared made) c.in-Some.is has in
     let all = rw c.in-Some.is at c.requires.done in
     let adds = rw (c.output.ensures.value, c.bytes.ensures.value, c.in_ok-text.ensures.value) at c.add.ensures.added in
-    subst (λ (n : ℕ). Stands g c.args.conn t.session t.cursor None n c.add.new.self made) (sym c.in-Some-checked_add.ensures.1)
-    (finished g c.args.conn t.session t.cursor b t.commands t.compared made h all c.add.new.self adds)
+    rw c.replace.ensures.after
+    (subst (λ (n : ℕ). Stands g c.args.conn t.session t.cursor None n c.add.new.self made) (sym c.in-Some-checked_add.ensures.1)
+    (finished g c.args.conn t.session t.cursor b t.commands t.compared made h all c.add.new.self adds))
