@@ -21,7 +21,7 @@ use Rattle.zy_capture.specs.Faults.{BeginsMagic, IsConnectionOver}
 use Rattle.zy_capture.proofs.FaultWords.{IsCut, IsFault}
 use Rattle.zy_capture.proofs.ByteLemmas.{chosen, bytes_on, byte_at, assoc_twice}
 use Rattle.zy_read.proofs.Feeding.{fed_step, read_broken, verdict_here, starts}
-use Rattle.zy_capture.proofs.Feeding.{lasting, is_broken}
+use Rattle.zy_capture.specs.Lasting.{lasting, is_broken}
 use Rattle.zy_capture.proofs.WholeLemmas.{front, IsField, Parts, IsReadTo, number_is, from_step, read_whole}
 
 -- ---- beginnings of a magic

@@ -21,7 +21,7 @@ use Rattle.zy_capture.specs.Standing.{StandsFor}
 use Rattle.zy_capture.specs.Faults.{BeginsMagic, front_text, IsBadMagic, IsCountOver, IsBadTag, IsConnectionOver, IsLengthOver, IsTrailing}
 use Rattle.zy_capture.proofs.FaultWords.{IsCut, IsOverlong, IsFault}
 use Rattle.zy_read.proofs.Feeding.{fed_step, read_broken, lasts_by}
-use Rattle.zy_capture.proofs.Feeding.{lasting}
+use Rattle.zy_capture.specs.Lasting.{lasting}
 use Rattle.zy_capture.proofs.WholeLemmas.{letters_on, Parts, IsReadTo, read_whole}
 use Rattle.zy_capture.proofs.SpelledLemmas.{at_place, goes_on, halfway, with_records, read_byte, read_number, read_records, read_magic, connection_read, count_read, spells_good}
 use Rattle.zy_capture.proofs.FaultLemmas.{begins_letters, begins_digit, bad_has}

@@ -17,7 +17,7 @@ use Rattle.zy_capture.specs.Steps.{Progress, Step, start, goes, refuses, letter,
 use Rattle.zy_capture.specs.Verdict.{captures, read_from, version_in, version_of, count_in, count_of}
 use Rattle.zy_capture.specs.SoFar.{BeginsWithMagic, BeginsWithCount}
 use Rattle.zy_capture.proofs.ByteLemmas.{chosen}
-use Rattle.zy_capture.proofs.Feeding.{lasting}
+use Rattle.zy_capture.specs.Lasting.{lasting}
 use Rattle.zy_capture.proofs.WholeLemmas.{letters_on}
 use Rattle.zy_capture.proofs.SpelledLemmas.{at_place, goes_on, halfway, read_byte, read_number, read_magic, count_read}
 

@@ -11,3 +11,5 @@ pub mod RepliesVerdict
 pub mod RepliesStanding
 pub mod Faults
 pub mod Worked
+pub mod Lasting
+pub mod RepliesLasting

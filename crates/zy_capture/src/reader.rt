@@ -15,9 +15,7 @@ use crate::due::Due;
 use crate::record::Record;
 use std::alloc::Global;
 use std::marker::Model;
-use zy_read::{Fed, Field, goes_on};
-
-const CAPTURE_LIMIT: u64 = 4_294_967_295;
+use zy_read::{Fed, Field, feed, feed_piece};
 
 /// Reads a capture, byte by byte or in pieces.
 #[derive(Drop)]
@@ -81,7 +79,7 @@ impl Reader {
         ensures kept { result ≡ Err NoMemory → self.new ≡ self.old }
         ensures memory { result ≡ Err NoMemory → IsLengthEnd self.old byte }
     {
-        self.step(byte)
+        feed(self, byte)
     }
 
     /// Takes bytes up to the first record that they end or the first fault, and all of them where
@@ -100,49 +98,7 @@ impl Reader {
         ensures memory { result.answer ≡ Err NoMemory
             → IsLengthEnd self.new (get_or bytes.now result.taken 0) }
     {
-        let mut at = 0;
-        while at < bytes.len() {
-            at += self.feed_run(bytes, at);
-            if let Err(answer) = goes_on(self.step(bytes[at])) {
-                return Fed::at(at, answer);
-            }
-            at += 1;
-        }
-        Fed {
-            taken: at,
-            answer: Ok(None),
-        }
-    }
-
-    #[tactic(auto, using(crate::proofs::RunLemmas::run_fed, zy_read::proofs::Feeding::fed_none))]
-    // Takes bytes of a segment at once, from some place on, but neither its last one
-    // nor that of the piece. Gives how many.
-    fn feed_run(&mut self, bytes: &[u8], at: usize) -> usize
-        requires place { at < length bytes.now }
-        ensures within { at + result < length bytes.now }
-        ensures fed { Feeds captures self.old self.new (take result (drop at bytes.now)) [] }
-    {
-        match self.due {
-            Due::Payload { conn, length } if self.at < CAPTURE_LIMIT => {
-                let left = length as usize - self.payload.len() - 1;
-                let room = (CAPTURE_LIMIT - self.at) as usize;
-                let run = left.min(room).min(bytes.len() - at - 1);
-                self.append(conn, length, &bytes[at..at + run]);
-                run
-            }
-            _ => 0,
-        }
-    }
-
-    // Takes bytes of a segment, but not its last one.
-    fn append(&mut self, conn: u32, size: u32, bytes: &[u8])
-        requires due { self.old.due ≡ Dues.Payload conn size }
-        requires fits { length self.old.payload + length bytes.now < size }
-        requires room { self.old.at + length bytes.now ≤ capture_limit }
-        ensures value { self.new ≡ grown_by self.old bytes.now }
-    {
-        let _ = self.payload.extend_from_slice(bytes);
-        self.at += bytes.len() as u64;
+        feed_piece(self, bytes)
     }
 
     #[tactic(auto, using(crate::proofs::Feeding::version_here))]

@@ -15,9 +15,7 @@ use crate::session_bytes::SessionBytes;
 use std::alloc::Global;
 use std::marker::Model;
 use zy_base::FileFault;
-use zy_read::{Fed, Field, FileFeed, goes_on};
-
-const REPLIES_LIMIT: u64 = 9_223_372_036_854_775_807;
+use zy_read::{Fed, Field, FileFeed, feed, feed_piece};
 
 /// Reads a replies file, of either version, byte by byte or in pieces.
 #[derive(Drop)]
@@ -84,7 +82,7 @@ impl RepliesReader {
         ensures kept { result ≡ Err NoMemory → self.new ≡ self.old }
         ensures memory { result ≡ Err NoMemory → IsOfOutput self.old byte }
     {
-        self.step(byte)
+        feed(self, byte)
     }
 
     /// Takes bytes up to the first output that they end or the first fault, and all of them where
@@ -103,60 +101,7 @@ impl RepliesReader {
         ensures memory { result.answer ≡ Err NoMemory
             → IsOfOutput self.new (get_or bytes.now result.taken 0) }
     {
-        let mut at = 0;
-        while at < bytes.len() {
-            at += self.feed_run(bytes, at);
-            if let Err(answer) = goes_on(self.step(bytes[at])) {
-                return Fed::at(at, answer);
-            }
-            at += 1;
-        }
-        Fed {
-            taken: at,
-            answer: Ok(None),
-        }
-    }
-
-    #[tactic(auto, using(crate::proofs::RepliesRunLemmas::run_fed, zy_read::proofs::Feeding::fed_none))]
-    // Takes bytes of an output at once, from some place on, but neither its last one
-    // nor that of the piece. Gives how many; where memory is wanted for them, none.
-    fn feed_run(&mut self, bytes: &[u8], at: usize) -> usize
-        requires place { at < length bytes.now }
-        ensures within { at + result < length bytes.now }
-        ensures fed { Feeds replies self.old self.new (take result (drop at bytes.now)) [] }
-    {
-        match self.due {
-            RepliesDue::Output {
-                conn,
-                session,
-                length,
-            } if self.at < REPLIES_LIMIT => {
-                let left = length - self.payload.len() as u64 - 1;
-                let room = REPLIES_LIMIT - self.at;
-                let run = left.min(room).min((bytes.len() - at - 1) as u64) as usize;
-                if self.append(conn, session, length, &bytes[at..at + run]) {
-                    run
-                } else {
-                    0
-                }
-            }
-            _ => 0,
-        }
-    }
-
-    // Takes bytes of an output, but not its last one, where there is memory.
-    fn append(&mut self, conn: u32, session: u32, size: u64, bytes: &[u8]) -> bool
-        requires due { self.old.due ≡ Dues.Output conn session size }
-        requires fits { length self.old.payload + length bytes.now < size }
-        requires room { self.old.at + length bytes.now ≤ replies_limit }
-        ensures ok { result ≡ true → self.new ≡ grown_by self.old bytes.now }
-        ensures kept { result ≡ false → self.new ≡ self.old }
-    {
-        if self.payload.extend_from_slice(bytes).is_err() {
-            return false;
-        }
-        self.at += bytes.len() as u64;
-        true
+        feed_piece(self, bytes)
     }
 
     #[tactic(auto, using(crate::proofs::RepliesFeeding::version_here))]

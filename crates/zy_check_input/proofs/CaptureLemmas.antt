@@ -19,12 +19,14 @@ use Rattle.zy_capture.specs.Steps.{Progress, Step, goes, gives, refuses, keeps, 
 use Rattle.zy_capture.specs.Standing.{StandsFor, EndsAs}
 use Rattle.zy_capture.specs.Verdict.{captures, ended, fault_in, is_good, verdict, fault_of, count_of, count_in, is_within, is_within_record}
 use Rattle.zy_capture.specs.Verdict.Verdict.{Good}
-use Rattle.zy_capture.proofs.Feeding.{lasting, count_here, within_here}
+use Rattle.zy_capture.specs.Lasting.{lasting}
+use Rattle.zy_capture.proofs.Feeding.{count_here, within_here}
 use Rattle.zy_capture.proofs.AddLemmas.{records_on, streams_size}
 use Rattle.zy_check_input.specs.declared.capture_part.CapturePart.{CapturePart}
 use Rattle.zy_check_input.specs.Parts.{HasStreams, HasCaptureFault}
-use Rattle.zy_check_input.specs.declared.stop.Stop.{Stop}
-use Rattle.zy_check_input.specs.declared.stop.Stop.TheVariants.{Refused, ReadFault, NoMemory}
+use Rattle.zy_read.specs.declared.stop.Stop.{Stop}
+use Rattle.zy_check_input.specs.declared.stop.Refusal.{Refusal}
+use Rattle.zy_read.specs.declared.stop.Stop.TheVariants.{Refused, ReadFault, NoMemory}
 use Rattle.zy_check_input.specs.Reading.{Takes, EndsWhole, GoesOn}
 use Rattle.zy_check_input.specs.Kinds.{KeepsStreams, StandsForCapture, capture_kind}
 use Rattle.zy_journal_reader.proofs.CallLemmas.{either}
@@ -156,7 +158,7 @@ streams_of part streams bytes stands is ends counts =
     }
 
 -- what a capture gives whose reader was fed all of it
-pub checked_ends : (part : CapturePart) (streams : List (List (List ℕ))) (bytes : List ℕ) (count : Option ℕ) (answer : Result (List (List (List ℕ))) Stop) → StandsForCapture part bytes → part.streams ≡ Some streams → ((given : List Record) (b : List ℕ) → StandsFor part.reader given b → EndsAs given (Ok tt) (verdict b)) → ((given : List Record) (b : List ℕ) → StandsFor part.reader given b → count ≡ count_of b)
+pub checked_ends : (part : CapturePart) (streams : List (List (List ℕ))) (bytes : List ℕ) (count : Option ℕ) (answer : Result (List (List (List ℕ))) (Stop Refusal)) → StandsForCapture part bytes → part.streams ≡ Some streams → ((given : List Record) (b : List ℕ) → StandsFor part.reader given b → EndsAs given (Ok tt) (verdict b)) → ((given : List Record) (b : List ℕ) → StandsFor part.reader given b → count ≡ count_of b)
     → IfOk answer (λ same. (same ≡ streams) × (count ≡ Some (length streams))) → IfErr answer (λ stop. stop ≡ NoMemory) → EndsWhole capture_kind bytes answer
 checked_ends part streams bytes count (Ok same) stands is ends counts value memory =
     subst (λ (l : List (List (List ℕ))). HasStreams bytes l) (sym value.0)

@@ -26,7 +26,7 @@ use Rattle.zy_journal_reader.specs.Steps.{Progress, Step, goes, knows, begins, e
 use Rattle.zy_journal_reader.specs.Standing.{StandsForJournal}
 use Rattle.zy_journal_reader.specs.Verdict.{journals, ended, is_good, verdict, fault_of}
 use Rattle.zy_journal_reader.specs.Verdict.Verdict.{Bad}
-use Rattle.zy_journal_reader.proofs.Feeding.{lasting}
+use Rattle.zy_journal_reader.specs.Lasting.{lasting}
 use Rattle.zy_journal_reader.proofs.CallLemmas.{either}
 use Rattle.zy_check_input.specs.declared.journal_part.JournalPart.{JournalPart}
 use Rattle.zy_check_input.specs.Reading.{Takes, GoesOn}

@@ -1,34 +1,16 @@
 -- What is read of a part, piece after piece, for all kinds of parts.
 use Rattle.std.proofs.Common.{◌≡◌, ◌⊎◌, inl, inr, ℕ, ◌+◌, ◌-◌, ◌<◌, ◌≤◌, Bool, true, false, List, [], ◌++◌, length, take, drop, refl, sym, ◌∙◌, ap, subst, arith, append_assoc, length-drop}
 use Rattle.std.specs.Prelude.{Option, None, Some, IfSome, Result, Ok, Err}
-use Rattle.std.specs.Io.KnownBytes.{Consumes, IsAtEnd}
+use Rattle.std.specs.Io.KnownBytes.{Consumes}
 use Rattle.std.proofs.lemmas.List.{append-nil, take-append-drop, drop-take, drop-drop, length-take-le}
-use Rattle.zy_check_input.specs.declared.stop.Stop.{Stop}
-use Rattle.zy_check_input.specs.declared.stop.Stop.TheVariants.{Refused, ReadFault, NoMemory}
-use Rattle.zy_check_input.specs.Reading.{Kind, HasGiven, IsOver, HasStopped, HasFaultBehind, Takes, EndsWhole, EndsCut, Advances, Reads}
-
--- ---- what the source told
-
--- what is true of all longer texts is true of what the source told
-pub told_first : (before after : Option (List ℕ)) (bytes : List ℕ) (P : List ℕ → Type 0) → Consumes before after bytes → ((more : List ℕ) → P (bytes ++ more)) → IfSome before P
-told_first None after bytes P consumed all = tt
-told_first (Some u) None bytes P consumed all = absurd consumed
-told_first (Some u) (Some v) bytes P consumed all = subst P (sym consumed) (all v)
-
--- at its end it told these bytes
-pub told_all : (before after : Option (List ℕ)) (bytes : List ℕ) (P : List ℕ → Type 0) → Consumes before after bytes → IsAtEnd after → P bytes → IfSome before P
-told_all None after bytes P consumed end holds = tt
-told_all (Some u) None bytes P consumed end holds = absurd consumed
-told_all (Some u) (Some v) bytes P consumed end holds = subst P (sym (consumed ∙ ap (λ (l : List ℕ). bytes ++ l) end ∙ append-nil bytes)) holds
+use Rattle.zy_read.specs.declared.stop.Stop.{Stop}
+use Rattle.zy_check_input.specs.declared.stop.Refusal.{Refusal}
+use Rattle.zy_read.specs.declared.stop.Stop.TheVariants.{Refused, ReadFault, NoMemory}
+use Rattle.zy_read.specs.Piece.{HasGiven, IsOver}
+use Rattle.zy_read.proofs.SourceLemmas.{told_first, told_all}
+use Rattle.zy_check_input.specs.Reading.{Kind, HasStopped, HasFaultBehind, Takes, EndsWhole, EndsCut, Advances, Reads}
 
 -- ---- some bytes more
-
--- what is left of a piece after its first bytes
-pub piece_on : (piece left : List ℕ) (at end count : ℕ) → left ≡ take (end - at) (drop at piece) → count ≤ length left → at ≤ end → end ≤ length piece → take (end - (at + count)) (drop (at + count) piece) ≡ drop count left
-piece_on piece left at end count is few rising within =
-    let size : length left ≡ end - at = ap length is ∙ length-take-le (end - at) (drop at piece) (let dropped = length-drop at piece in omega arith) in
-    let all : end - at ≡ count + (end - (at + count)) = omega arith in
-    sym (ap (λ (l : List ℕ). drop count l) is ∙ ap (λ (n : ℕ). drop count (take n (drop at piece))) all ∙ drop-take count (end - (at + count)) (drop at piece) ∙ ap (λ (l : List ℕ). take (end - (at + count)) l) (drop-drop count at piece))
 
 -- the bytes of the part and then the others, behind what came before
 regrouped : (before bytes left more : List ℕ) → ((before ++ bytes) ++ left) ++ more ≡ before ++ (bytes ++ (left ++ more))
@@ -50,7 +32,7 @@ given_on rest faults first now left before bytes count given = record {
 }
 
 -- where the bytes that were taken lead
-pub took : {P T S : Type 0} (kind : Kind P T) (rest : S → Option (List ℕ)) (faults : S → ℕ) (first now : S) (left before bytes : List ℕ) (count : ℕ) (reader : P) (answer : Result Bool Stop) → HasGiven rest faults first now left (before ++ bytes) → count ≤ length left → ((whole : Bool) → answer ≡ Ok whole → 0 < count)
+pub took : {P T S : Type 0} (kind : Kind P T) (rest : S → Option (List ℕ)) (faults : S → ℕ) (first now : S) (left before bytes : List ℕ) (count : ℕ) (reader : P) (answer : Result Bool (Stop Refusal)) → HasGiven rest faults first now left (before ++ bytes) → count ≤ length left → ((whole : Bool) → answer ≡ Ok whole → 0 < count)
     → Takes kind reader (bytes ++ take count left) answer → Advances kind rest faults first now (drop count left) before bytes reader answer
 took kind rest faults first now left before bytes count reader (Ok false) given within some takes =
     (take count left, (let size = length-take-le count left within in let more = some false refl in omega arith), record { given = given_on rest faults first now left before bytes count given; stands = takes.0; goes_on = takes.1 })
@@ -73,12 +55,12 @@ took kind rest faults first now left before bytes count reader (Err NoMemory) gi
 -- ---- the end
 
 -- what a part gives that was fed whole, or up to the end of the source
-pub ended : {P T S : Type 0} (kind : Kind P T) (rest : S → Option (List ℕ)) (faults : S → ℕ) (first now : S) (left before : List ℕ) (reader : P) (answer : Result T Stop) → HasStopped kind rest faults first now left before reader
+pub ended : {P T S : Type 0} (kind : Kind P T) (rest : S → Option (List ℕ)) (faults : S → ℕ) (first now : S) (left before : List ℕ) (reader : P) (answer : Result T (Stop Refusal)) → HasStopped kind rest faults first now left before reader
     → ((bytes : List ℕ) → kind.stands reader bytes → kind.whole bytes → EndsWhole kind bytes answer) → ((bytes : List ℕ) → kind.stands reader bytes → kind.goes_on bytes → EndsCut kind bytes answer)
     → Reads kind rest faults first now left before answer
 ended {P} {T} {S} kind rest faults first now left before reader answer stopped whole cut = go answer whole cut stopped.end
   where
-    go : (answer : Result T Stop) → ((bytes : List ℕ) → kind.stands reader bytes → kind.whole bytes → EndsWhole kind bytes answer) → ((bytes : List ℕ) → kind.stands reader bytes → kind.goes_on bytes → EndsCut kind bytes answer)
+    go : (answer : Result T (Stop Refusal)) → ((bytes : List ℕ) → kind.stands reader bytes → kind.whole bytes → EndsWhole kind bytes answer) → ((bytes : List ℕ) → kind.stands reader bytes → kind.goes_on bytes → EndsCut kind bytes answer)
         → kind.whole stopped.bytes ⊎ (kind.goes_on stopped.bytes × IsOver (rest now) left) → Reads kind rest faults first now left before answer
     go (Ok gave) whole cut (inl is) = record { bytes = stopped.bytes; given = stopped.given; gives = whole stopped.bytes stopped.stands is; end = inl is }
     go (Ok gave) whole cut (inr over) = record { bytes = stopped.bytes; given = stopped.given; gives = cut stopped.bytes stopped.stands over.0; end = inr over.1 }

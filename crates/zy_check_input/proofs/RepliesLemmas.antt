@@ -13,10 +13,12 @@ use Rattle.zy_capture.specs.RepliesStanding.{StandsForReplies, EndsAs}
 use Rattle.zy_capture.specs.RepliesVerdict.{replies, ended, verdict, version_in, version_of}
 use Rattle.zy_capture.specs.RepliesVerdict.Verdict.{Good}
 use Rattle.zy_capture.proofs.AddLemmas.{added_last}
-use Rattle.zy_capture.proofs.RepliesFeeding.{lasting, version_here}
+use Rattle.zy_capture.specs.RepliesLasting.{lasting}
+use Rattle.zy_capture.proofs.RepliesFeeding.{version_here}
 use Rattle.zy_check_input.specs.declared.replies_part.RepliesPart.{RepliesPart}
-use Rattle.zy_check_input.specs.declared.stop.Stop.{Stop}
-use Rattle.zy_check_input.specs.declared.stop.Stop.TheVariants.{Refused, ReadFault, NoMemory}
+use Rattle.zy_read.specs.declared.stop.Stop.{Stop}
+use Rattle.zy_check_input.specs.declared.stop.Refusal.{Refusal}
+use Rattle.zy_read.specs.declared.stop.Stop.TheVariants.{Refused, ReadFault, NoMemory}
 use Rattle.zy_check_input.specs.Reading.{EndsCut}
 use Rattle.zy_check_input.specs.Kinds.{StandsForRepliesPart, KeepsOutputs, ComesNext, HasOutputs, never, replies_kind}
 use Rattle.zy_check_input.proofs.FormatLemmas.{EndsOnce}
@@ -61,7 +63,7 @@ outputs_of_file part outputs bytes stands is lawful ends versions =
     (good.1 ∙ ap (λ (v : ℕ). Good v stands.given) (sym here ∙ told) ∙ ap (λ (l : List SessionBytes). Good outputs.version l) (sym kept), lawful)
 
 -- what a replies file gives whose reader was fed all of it
-pub checked_ends : (part : RepliesPart) (outputs : AllOutputs) (bytes : List ℕ) (version : Option ℕ) (answer : Result AllOutputs Stop) → StandsForRepliesPart part bytes → part.outputs ≡ Some outputs → AreOutputs outputs → ((given : List SessionBytes) (b : List ℕ) → StandsForReplies part.reader given b → EndsAs given (Ok tt) (verdict b))
+pub checked_ends : (part : RepliesPart) (outputs : AllOutputs) (bytes : List ℕ) (version : Option ℕ) (answer : Result AllOutputs (Stop Refusal)) → StandsForRepliesPart part bytes → part.outputs ≡ Some outputs → AreOutputs outputs → ((given : List SessionBytes) (b : List ℕ) → StandsForReplies part.reader given b → EndsAs given (Ok tt) (verdict b))
     → ((given : List SessionBytes) (b : List ℕ) → StandsForReplies part.reader given b → version ≡ version_of b) → IfOk answer (λ same. (same ≡ outputs) × (version ≡ Some outputs.version)) → IfErr answer (λ stop. stop ≡ NoMemory) → EndsCut replies_kind bytes answer
 checked_ends part outputs bytes version (Ok same) stands is lawful ends versions value memory =
     subst (λ (o : AllOutputs). HasOutputs o bytes) (sym value.0)

@@ -17,20 +17,17 @@ use Rattle.zy_check_input.specs.declared.replies_part.RepliesPart.{RepliesPart}
 use Rattle.zy_check_input.specs.declared.parts.Parts.{Parts}
 use Rattle.zy_check_input.specs.declared.stop.Refusal.{Refusal}
 use Rattle.zy_check_input.specs.declared.stop.Refusal.TheVariants.{Capture, Journal as OfJournal, Replies as OfReplies}
-use Rattle.zy_check_input.specs.declared.stop.Stop.{Stop}
-use Rattle.zy_check_input.specs.declared.stop.Stop.TheVariants.{Refused, ReadFault, NoMemory}
+use Rattle.zy_read.specs.declared.stop.Stop.{Stop}
+use Rattle.zy_read.specs.declared.stop.Stop.TheVariants.{Refused, ReadFault, NoMemory}
 use Rattle.zy_check_input.specs.Parts.{IsCapture, IsJournal, HasStreams, HasPartFault, HasCaptureFault, HasReadParts, HasReadStreams}
-use Rattle.zy_check_input.specs.Reading.{HasGiven, IsOver, IsReading, HasFaultBehind, HasRead, StopsBy, Reads}
+use Rattle.zy_read.specs.Piece.{HasGiven, IsOver}
+use Rattle.zy_read.proofs.SourceLemmas.{told_first, consumed_none}
+use Rattle.zy_check_input.specs.Reading.{IsReading, HasFaultBehind, HasRead, StopsBy, Reads}
 use Rattle.zy_check_input.specs.Kinds.{KeepsStreams, KeepsOutputs, capture_kind, journal_kind, replies_kind}
-use Rattle.zy_check_input.proofs.PartLemmas.{told_first}
 use Rattle.zy_check_input.proofs.FormatLemmas.{one_first}
 use Rattle.zy_check_input.proofs.CaptureLemmas.{once}
 
 -- ---- where a part begins
-
-consumed_none : (a : Option (List ℕ)) → Consumes a a []
-consumed_none None = tt
-consumed_none (Some u) = refl
 
 -- before the first byte of the capture
 pub capture_begun : {S : Type 0} (rest : S → Option (List ℕ)) (faults : S → ℕ) (first : S) (left : List ℕ) (part : CapturePart) → left ≡ [] → StandsFor part.reader [] [] → part.streams ≡ None → IsReading capture_kind rest faults first first left [] [] part
@@ -109,17 +106,17 @@ replies_fault text bytes more (OfReplies fault) good journal behind = record {
   bad = behind.faulty;
 }
 
-pub stopped_in_capture : {S : Type 0} (rest : S → Option (List ℕ)) (faults : S → ℕ) (first now : S) (stop : Stop) → StopsBy capture_kind rest faults first now [] stop → HasReadParts rest faults first now (Err stop)
+pub stopped_in_capture : {S : Type 0} (rest : S → Option (List ℕ)) (faults : S → ℕ) (first now : S) (stop : Stop Refusal) → StopsBy capture_kind rest faults first now [] stop → HasReadParts rest faults first now (Err stop)
 stopped_in_capture rest faults first now (Refused refusal) stops = if_some (rest first) (λ text. HasFaultBehind capture_kind [] text refusal) (λ text. HasPartFault text refusal) (λ text. capture_fault text refusal) stops.1
 stopped_in_capture rest faults first now ReadFault stops = stops
 stopped_in_capture rest faults first now NoMemory stops = tt
 
-pub stopped_in_journal : {S : Type 0} (rest : S → Option (List ℕ)) (faults : S → ℕ) (first now : S) (bytes : List ℕ) (stop : Stop) → IsCapture bytes → StopsBy journal_kind rest faults first now bytes stop → HasReadParts rest faults first now (Err stop)
+pub stopped_in_journal : {S : Type 0} (rest : S → Option (List ℕ)) (faults : S → ℕ) (first now : S) (bytes : List ℕ) (stop : Stop Refusal) → IsCapture bytes → StopsBy journal_kind rest faults first now bytes stop → HasReadParts rest faults first now (Err stop)
 stopped_in_journal rest faults first now bytes (Refused refusal) good stops = if_some (rest first) (λ text. HasFaultBehind journal_kind bytes text refusal) (λ text. HasPartFault text refusal) (λ text. journal_fault text bytes refusal good) stops.1
 stopped_in_journal rest faults first now bytes ReadFault good stops = stops
 stopped_in_journal rest faults first now bytes NoMemory good stops = tt
 
-pub stopped_in_replies : {S : Type 0} (rest : S → Option (List ℕ)) (faults : S → ℕ) (first now : S) (bytes more : List ℕ) (stop : Stop) → IsCapture bytes → IsJournal more → StopsBy replies_kind rest faults first now (bytes ++ more) stop → HasReadParts rest faults first now (Err stop)
+pub stopped_in_replies : {S : Type 0} (rest : S → Option (List ℕ)) (faults : S → ℕ) (first now : S) (bytes more : List ℕ) (stop : Stop Refusal) → IsCapture bytes → IsJournal more → StopsBy replies_kind rest faults first now (bytes ++ more) stop → HasReadParts rest faults first now (Err stop)
 stopped_in_replies rest faults first now bytes more (Refused refusal) good journal stops = if_some (rest first) (λ text. HasFaultBehind replies_kind (bytes ++ more) text refusal) (λ text. HasPartFault text refusal) (λ text. replies_fault text bytes more refusal good journal) stops.1
 stopped_in_replies rest faults first now bytes more ReadFault good journal stops = stops
 stopped_in_replies rest faults first now bytes more NoMemory good journal stops = tt
@@ -159,7 +156,7 @@ all_parts rest faults first now left bytes more parts streams journal has =
 only_capture : (text behind told : List ℕ) → IsCapture text → told ≡ text ++ behind → IsCapture told → told ≡ text
 only_capture text behind told good is whole = one_first Captures.captures Captures.is_good once told [] text behind (append-nil told ∙ is) whole good
 
-pub streams_read : {S : Type 0} (rest : S → Option (List ℕ)) (faults : S → ℕ) (first now : S) (left : List ℕ) (answer : Result (List (List (List ℕ))) Stop) → Reads capture_kind rest faults first now left [] answer → HasReadStreams rest faults first now answer
+pub streams_read : {S : Type 0} (rest : S → Option (List ℕ)) (faults : S → ℕ) (first now : S) (left : List ℕ) (answer : Result (List (List (List ℕ))) (Stop Refusal)) → Reads capture_kind rest faults first now left [] answer → HasReadStreams rest faults first now answer
 streams_read rest faults first now left (Ok streams) has =
     let good : IsCapture has.bytes = is_capture has.bytes streams has.gives in
     record {

@@ -16,8 +16,8 @@ use Rattle.zy_journal_reader.specs.Verdict as Journals
 use Rattle.zy_check_input.specs.declared.parts.Parts.{Parts}
 use Rattle.zy_check_input.specs.declared.stop.Refusal.{Refusal}
 use Rattle.zy_check_input.specs.declared.stop.Refusal.TheVariants.{Capture, Journal as OfJournal, Replies as OfReplies}
-use Rattle.zy_check_input.specs.declared.stop.Stop.{Stop}
-use Rattle.zy_check_input.specs.declared.stop.Stop.TheVariants.{Refused, ReadFault, NoMemory}
+use Rattle.zy_read.specs.declared.stop.Stop.{Stop}
+use Rattle.zy_read.specs.declared.stop.Stop.TheVariants.{Refused, ReadFault, NoMemory}
 
 -- ---- parts
 
@@ -96,7 +96,7 @@ ReadsAll before after bytes = Consumes before after bytes × IsAtEnd after
 
 -- the parts are those of all that the source gave; or its text has this fault, or its count of faults rose, or stands
 -- at its last value; want of memory is free
-abbrev pub HasReadParts : {S : Type 0} → (S → Option (List ℕ)) → (S → ℕ) → S → S → Result Parts Stop → Type 0
+abbrev pub HasReadParts : {S : Type 0} → (S → Option (List ℕ)) → (S → ℕ) → S → S → Result Parts (Stop Refusal) → Type 0
 HasReadParts rest faults first now (Ok parts) =
     (text : List ℕ) × ReadsAll (rest first) (rest now) text × AreParts text parts.streams parts.journal parts.outputs
     × AreOutputs parts.outputs
@@ -116,7 +116,7 @@ pub record HasGivenStreams (before after : Option (List ℕ)) (streams : List (L
 -- the streams are those of the capture that the source gave; or it has this fault, or the source's count of faults
 -- rose, or stands at its last value; want of memory is free
 abbrev pub HasReadStreams : {S : Type 0} → (S → Option (List ℕ)) → (S → ℕ) → S → S
-    → Result (List (List (List ℕ))) Stop → Type 0
+    → Result (List (List (List ℕ))) (Stop Refusal) → Type 0
 HasReadStreams rest faults first now (Ok streams) = HasGivenStreams (rest first) (rest now) streams
 HasReadStreams rest faults first now (Err (Refused (Capture fault))) =
     IfSome (rest first) (λ text. HasCaptureFault text fault)

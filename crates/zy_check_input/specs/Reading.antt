@@ -1,31 +1,11 @@
--- What was read of a source, piece after piece, and what a part makes of its bytes. No public clause cites this module.
+-- What a part makes of the bytes that were read of a source. No public clause cites this module.
 use Rattle.std.specs.Prelude.{◌≡◌, ◌⊎◌, ℕ, ◌<◌, ◌≤◌, Bool, true, false, List, [], ◌++◌, length, Option, None, Result, Ok, Err, IfSome, ⊤}
-use Rattle.std.specs.Io.KnownBytes.{Consumes, IsAtEnd}
 use Rattle.zy_base.specs.Outside.{Rose}
-use Rattle.zy_base.specs.declared.outside.Failed.{Failed}
+use Rattle.zy_read.specs.declared.stop.Stop.{Stop}
+use Rattle.zy_read.specs.declared.stop.Stop.TheVariants.{Refused, ReadFault, NoMemory}
+use Rattle.zy_read.specs.Piece.{HasGiven, IsOver}
 use Rattle.zy_read.specs.Format.{Format, fault_met, verdict_on}
 use Rattle.zy_check_input.specs.declared.stop.Refusal.{Refusal}
-use Rattle.zy_check_input.specs.declared.stop.Stop.{Stop}
-use Rattle.zy_check_input.specs.declared.stop.Stop.TheVariants.{Refused, ReadFault, NoMemory}
-
--- ---- a source in pieces
-
--- since a source was the first one it gave these bytes, and then what is left of the piece
-pub record HasGiven {S : Type 0} (rest : S → Option (List ℕ)) (faults : S → ℕ) (first now : S)
-    (left taken : List ℕ) : Type 0 where
-  pub source : Consumes (rest first) (rest now) (taken ++ left)
-  pub count : faults first ≤ faults now
-
--- nothing is left of the piece, and the source is at its end
-abbrev pub IsOver : Option (List ℕ) → List ℕ → Type 0
-IsOver rest left = (left ≡ []) × IsAtEnd rest
-
--- there are bytes, or none are left, or the count of faults rose, or stands at its last value
-abbrev pub Refills : {S : Type 0} → (S → Option (List ℕ)) → (S → ℕ) → S → S → List ℕ → List ℕ → Result Bool Failed
-    → Type 0
-Refills rest faults first now left taken (Ok true) = HasGiven rest faults first now left taken
-Refills rest faults first now left taken (Ok false) = HasGiven rest faults first now left taken × IsOver (rest now) left
-Refills rest faults first now left taken (Err failed) = Rose (faults first) (faults now)
 
 -- ---- a part
 
@@ -44,7 +24,7 @@ pub record Kind (P T : Type 0) : Type 1 where
 
 -- where bytes that are taken lead: the part goes on or is whole, or has a fault whatever follows; want of memory is
 -- free
-abbrev pub Takes : {P T : Type 0} → Kind P T → P → List ℕ → Result Bool Stop → Type 0
+abbrev pub Takes : {P T : Type 0} → Kind P T → P → List ℕ → Result Bool (Stop Refusal) → Type 0
 Takes kind now bytes (Ok false) = kind.stands now bytes × kind.goes_on bytes
 Takes kind now bytes (Ok true) = kind.stands now bytes × kind.whole bytes
 Takes kind now bytes (Err (Refused refusal)) = (more : List ℕ) → kind.faulty (bytes ++ more) refusal
@@ -52,14 +32,14 @@ Takes kind now bytes (Err ReadFault) = ⊥
 Takes kind now bytes (Err NoMemory) = ⊤
 
 -- what a whole part gives; want of memory is free
-abbrev pub EndsWhole : {P T : Type 0} → Kind P T → List ℕ → Result T Stop → Type 0
+abbrev pub EndsWhole : {P T : Type 0} → Kind P T → List ℕ → Result T (Stop Refusal) → Type 0
 EndsWhole kind bytes (Ok gave) = kind.gives gave bytes
 EndsWhole kind bytes (Err (Refused refusal)) = ⊥
 EndsWhole kind bytes (Err ReadFault) = ⊥
 EndsWhole kind bytes (Err NoMemory) = ⊤
 
 -- what a part gives where the input ends; want of memory is free
-abbrev pub EndsCut : {P T : Type 0} → Kind P T → List ℕ → Result T Stop → Type 0
+abbrev pub EndsCut : {P T : Type 0} → Kind P T → List ℕ → Result T (Stop Refusal) → Type 0
 EndsCut kind bytes (Ok gave) = kind.gives gave bytes
 EndsCut kind bytes (Err (Refused refusal)) = kind.faulty bytes refusal
 EndsCut kind bytes (Err ReadFault) = ⊥
@@ -75,7 +55,7 @@ pub record HasFaultBehind {P T : Type 0} (kind : Kind P T) (before text : List �
 
 -- the cause of each stop in a part: the fault is one that a part of this kind may have, and that of what the source
 -- told
-abbrev pub StopsBy : {P T S : Type 0} → Kind P T → (S → Option (List ℕ)) → (S → ℕ) → S → S → List ℕ → Stop → Type 0
+abbrev pub StopsBy : {P T S : Type 0} → Kind P T → (S → Option (List ℕ)) → (S → ℕ) → S → S → List ℕ → Stop Refusal → Type 0
 StopsBy kind rest faults first now before (Refused refusal) =
     ((text : List ℕ) × kind.faulty text refusal) × IfSome (rest first) (λ text. HasFaultBehind kind before text refusal)
 StopsBy kind rest faults first now before ReadFault = Rose (faults first) (faults now)
@@ -98,7 +78,7 @@ pub record HasStopped {P T S : Type 0} (kind : Kind P T) (rest : S → Option (L
 
 -- the part goes on after some bytes more, or is read no further
 abbrev pub Advances : {P T S : Type 0} → Kind P T → (S → Option (List ℕ)) → (S → ℕ) → S → S → List ℕ → List ℕ → List ℕ
-    → P → Result Bool Stop → Type 0
+    → P → Result Bool (Stop Refusal) → Type 0
 Advances kind rest faults first now left before bytes reader (Ok false) =
     (more : List ℕ) × (0 < length more) × IsReading kind rest faults first now left before (bytes ++ more) reader
 Advances kind rest faults first now left before bytes reader (Ok true) =
@@ -107,7 +87,7 @@ Advances kind rest faults first now left before bytes reader (Err stop) = StopsB
 
 -- the reader was fed the whole part, or all that is left of the source
 abbrev pub Feeds : {P T S : Type 0} → Kind P T → (S → Option (List ℕ)) → (S → ℕ) → S → S → List ℕ → List ℕ → P
-    → Result ⊤ Stop → Type 0
+    → Result ⊤ (Stop Refusal) → Type 0
 Feeds kind rest faults first now left before reader (Ok done) = HasStopped kind rest faults first now left before reader
 Feeds kind rest faults first now left before reader (Err stop) = StopsBy kind rest faults first now before stop
 
@@ -121,7 +101,7 @@ pub record HasRead {P T S : Type 0} (kind : Kind P T) (rest : S → Option (List
 
 -- a part was read, or it is read no further
 abbrev pub Reads : {P T S : Type 0} → Kind P T → (S → Option (List ℕ)) → (S → ℕ) → S → S → List ℕ → List ℕ
-    → Result T Stop → Type 0
+    → Result T (Stop Refusal) → Type 0
 Reads kind rest faults first now left before (Ok gave) = HasRead kind rest faults first now left before gave
 Reads kind rest faults first now left before (Err stop) = StopsBy kind rest faults first now before stop
 

@@ -3,7 +3,7 @@ ghost use Rattle.std.specs.Prelude.{◌≡◌, ◌<◌, ◌≤◌, ◌^◌, ◌+
 ghost use Rattle.zy_capture.specs.declared.record.Record.{Record};
 ghost use Rattle.zy_capture.specs.Standing.{StandsFor};
 ghost use Rattle.zy_capture.specs.Streams.{sessions_of, with_record};
-ghost use Rattle.zy_check_input.specs.declared.stop.Stop.TheVariants as Stops;
+ghost use Rattle.zy_read.specs.declared.stop.Stop.TheVariants as Stops;
 ghost use Rattle.zy_capture.specs.Verdict.{fault_of, is_within_record};
 ghost use Rattle.zy_check_input.specs.Reading.{Takes};
 ghost use Rattle.zy_check_input.specs.Kinds.{KeepsStreams, capture_kind};

@@ -6,7 +6,6 @@ mod journal_part;
 mod laws;
 mod part;
 mod parts;
-mod pieces;
 mod replies_part;
 mod stop;
 

@@ -1,10 +1,10 @@
 //! Reading one part of an input.
 ghost use Rattle.std.specs.Prelude.{◌≡◌, ◌<◌, ◌≤◌, ℕ, List, [], ◌++◌, length, take, Ok};
-ghost use Rattle.zy_check_input.specs.Reading.{Kind, HasGiven, IsReading, Takes, EndsWhole, EndsCut, Advances, Feeds, Reads};
+ghost use Rattle.zy_check_input.specs.Reading.{Kind, IsReading, Takes, EndsWhole, EndsCut, Advances, Feeds, Reads};
 
-use crate::pieces::Pieces;
 use crate::stop::Stop;
 use zy_base::{Failed, Source};
+use zy_read::Pieces;
 
 /// How many bytes a part took, and whether it is whole with them.
 #[derive(Clone, Copy)]

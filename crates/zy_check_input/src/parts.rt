@@ -5,13 +5,13 @@ ghost use Rattle.zy_check_input.specs.Parts.{HasReadParts, HasReadStreams};
 use crate::capture_part::CapturePart;
 use crate::journal_part::JournalPart;
 use crate::part::read_part;
-use crate::pieces::Pieces;
 use crate::replies_part::RepliesPart;
 use crate::stop::Stop;
 use std::alloc::Global;
 use zy_base::{NoMemory, Source};
 use zy_capture::{Outputs, Streams};
 use zy_journal::Journal;
+use zy_read::Pieces;
 
 /// What the input of a check gives.
 #[derive(Drop)]

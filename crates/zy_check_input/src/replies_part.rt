@@ -4,7 +4,7 @@ ghost use Rattle.zy_capture.specs.declared.session_bytes.SessionBytes.{SessionBy
 ghost use Rattle.zy_capture.specs.Outputs.{AreOutputs, MayAdd, with_output};
 ghost use Rattle.zy_capture.specs.RepliesStanding.{StandsForReplies};
 ghost use Rattle.zy_capture.specs.RepliesVerdict.{fault_of};
-ghost use Rattle.zy_check_input.specs.declared.stop.Stop.TheVariants as Stops;
+ghost use Rattle.zy_read.specs.declared.stop.Stop.TheVariants as Stops;
 ghost use Rattle.zy_check_input.specs.Reading.{Takes};
 ghost use Rattle.zy_check_input.specs.Kinds.{KeepsOutputs, ComesNext, replies_kind};
 

@@ -16,12 +16,4 @@ pub enum Refusal {
 }
 
 /// Why an input is read no further.
-#[derive(Clone, Copy, PartialEq, Eq)]
-pub enum Stop {
-    /// The input has this fault.
-    Refused(Refusal),
-    /// A read failed.
-    ReadFault,
-    /// Memory was wanted and not found.
-    NoMemory,
-}
+pub type Stop = zy_read::Stop<Refusal>;

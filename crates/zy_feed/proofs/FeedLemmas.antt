@@ -15,7 +15,8 @@ use Rattle.zy_rx.specs.Ring.{Offering}
 use Rattle.zy_rx.specs.Routing.{item_of, items_for}
 use Rattle.zy_rx.proofs.TakenLemmas.{items_for-push, items_for-push_other}
 use Rattle.zy_rx.specs.Feed.{sent_by}
-use Rattle.zy_feed.specs.declared.stop.Stop.{Stop}
+use Rattle.zy_read.specs.declared.stop.Stop.{Stop}
+use Rattle.zy_capture.specs.declared.capture_fault.CaptureFault.{CaptureFault}
 use Rattle.zy_feed.specs.declared.stage.Stage.TheVariants.{Cutting, Waiting, Ending, Ended, Broken}
 use Rattle.zy_feed.specs.Reads.{InPieces, HasRead, Cuts}
 use Rattle.zy_feed.specs.Feeding.{home_in, kept_for, end_before, OffersTo, Feeding, feeding, AreSent, Stands, Leads}
@@ -70,7 +71,7 @@ cores_are inlets = length-map inlets (λ (i : Offering). i.sent)
 
 -- ---- a record is cut
 
-pub cut_leads : {S : Type 0} (rest : S → Option (List ℕ)) (faults : S → ℕ) (old now : S) (p q : InPieces) (inlets : List Offering) (result : Result (Option Record) Stop) (r : Record) (item : Rx) → result ≡ Ok (Some r) → item ≡ item_of r
+pub cut_leads : {S : Type 0} (rest : S → Option (List ℕ)) (faults : S → ℕ) (old now : S) (p q : InPieces) (inlets : List Offering) (result : Result (Option Record) (Stop CaptureFault)) (r : Record) (item : Rx) → result ≡ Ok (Some r) → item ≡ item_of r
     → ((first : S) (records : List Record) (bytes : List ℕ) → HasRead rest faults first old p records bytes → Cuts rest faults first now q records bytes result)
     → Leads rest faults (feeding old p inlets Cutting) (feeding now q inlets (Waiting item))
 cut_leads rest faults old now p q inlets result r item is item_is cuts first records bytes stands =
@@ -89,7 +90,7 @@ cut_leads rest faults old now p q inlets result r item is item_is cuts first rec
 no_end : (core : ℕ) → end_before core 0 ≡ []
 no_end core = let none : nat_lt core 0 ≡ false = grind (arith, nat_tests) in rw none refl
 
-pub cut_ends : {S : Type 0} (rest : S → Option (List ℕ)) (faults : S → ℕ) (old now : S) (p q : InPieces) (inlets : List Offering) (result : Result (Option Record) Stop) → result ≡ Ok None
+pub cut_ends : {S : Type 0} (rest : S → Option (List ℕ)) (faults : S → ℕ) (old now : S) (p q : InPieces) (inlets : List Offering) (result : Result (Option Record) (Stop CaptureFault)) → result ≡ Ok None
     → ((first : S) (records : List Record) (bytes : List ℕ) → HasRead rest faults first old p records bytes → Cuts rest faults first now q records bytes result)
     → Leads rest faults (feeding old p inlets Cutting) (feeding now q inlets (Ending 0))
 cut_ends rest faults old now p q inlets result is cuts first records bytes stands =
@@ -105,7 +106,7 @@ cut_ends rest faults old now p q inlets result is cuts first records bytes stand
       ),
     )
 
-pub cut_stops : {S : Type 0} (rest : S → Option (List ℕ)) (faults : S → ℕ) (old now : S) (p q : InPieces) (inlets : List Offering) (result : Result (Option Record) Stop) (stop : Stop) → result ≡ Err stop → faults old ≤ faults now
+pub cut_stops : {S : Type 0} (rest : S → Option (List ℕ)) (faults : S → ℕ) (old now : S) (p q : InPieces) (inlets : List Offering) (result : Result (Option Record) (Stop CaptureFault)) (stop : Stop CaptureFault) → result ≡ Err stop → faults old ≤ faults now
     → ((first : S) (records : List Record) (bytes : List ℕ) → HasRead rest faults first old p records bytes → Cuts rest faults first now q records bytes result)
     → Leads rest faults (feeding old p inlets Cutting) (feeding now q inlets (Broken stop))
 cut_stops rest faults old now p q inlets result stop is count cuts first records bytes stands =
@@ -114,7 +115,7 @@ cut_stops rest faults old now p q inlets result stop is count cuts first records
       (
         [],
         rw (append-nil records, append-nil bytes) (record {
-          read = record { cause = cut; count = omega (arith, count, stands.read.count) };
+          read = record { cause = cut; count = omega (arith, count, stands.read.given.count) };
           sent = stands.sent;
         }),
       ),

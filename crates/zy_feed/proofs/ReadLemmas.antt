@@ -8,7 +8,9 @@ use Rattle.zy_read.specs.declared.not_taken.NotTaken.TheVariants.{Fault}
 use Rattle.zy_read.specs.declared.not_taken.NotTaken.TheVariants as Reads
 use Rattle.zy_read.specs.Format.{Reading, reading_of, read_on, fault_met}
 use Rattle.zy_read.specs.Standing.{StandsAs}
+use Rattle.zy_read.specs.Piece.{HasGiven}
 use Rattle.zy_read.proofs.Feeding.{read_more, verdict_here}
+use Rattle.zy_read.proofs.SourceLemmas.{consumed_none, told_first, told_all}
 use Rattle.zy_capture.specs.declared.record.Record.{Record}
 use Rattle.zy_capture.specs.declared.capture_fault.CaptureFault.{CaptureFault}
 use Rattle.zy_capture.specs.declared.due.Due.{Due}
@@ -20,53 +22,18 @@ use Rattle.zy_capture.specs.Verdict.{captures, ended, fault_in, read_from, verdi
 use Rattle.zy_capture.specs.Verdict.Verdict.{Good, Bad}
 use Rattle.zy_capture.specs.Standing.{StandsFor, EndsAs, EndsBy}
 use Rattle.zy_capture.proofs.Feeding.{version_here, count_here}
-use Rattle.zy_feed.specs.declared.stop.Stop.{Stop}
+use Rattle.zy_read.specs.declared.stop.Stop.{Stop}
 use Rattle.zy_feed.specs.declared.intake.Header.{Header}
-use Rattle.zy_feed.specs.Reads.{InPieces, IsFresh, HasRead, HasReadAll, StopsBy, TellsHeader, TellsNoHeader, Gives, TakesFirst, Advances, came_of, ended_by}
+use Rattle.zy_feed.specs.Reads.{InPieces, IsFresh, HasRead, HasReadAll, StopsBy, TellsHeader, TellsNoHeader, TakesFirst, Advances, came_of, ended_by}
 use Rattle.zy_feed.proofs.LawfulLemmas.{known_version, lawful_records}
 use Rattle.zy_feed.proofs.StepLemmas.{IsPast, Stays, step_gave, text_stays, text_short}
 
--- ---- sources
-
-pub consumed_none : (a : Option (List ℕ)) → Consumes a a []
-consumed_none None = tt
-consumed_none (Some u) = refl
-
-pub consumed_on : (a b c : Option (List ℕ)) (x y : List ℕ) → Consumes a b x → Consumes b c y → Consumes a c (x ++ y)
-consumed_on None b c x y first second = tt
-consumed_on (Some u) None c x y first second = absurd first
-consumed_on (Some u) (Some v) None x y first second = absurd second
-consumed_on (Some u) (Some v) (Some w) x y first second = first ∙ ap (λ (l : List ℕ). x ++ l) second ∙ sym (append_assoc x y w)
-
--- what is true of all longer texts is true of what the source told
-told_first : (before after : Option (List ℕ)) (bytes : List ℕ) (P : List ℕ → Type 0) → Consumes before after bytes → ((more : List ℕ) → P (bytes ++ more)) → IfSome before P
-told_first None after bytes P consumed all = tt
-told_first (Some u) None bytes P consumed all = absurd consumed
-told_first (Some u) (Some v) bytes P consumed all = subst P (sym consumed) (all v)
-
--- at its end it told these bytes
-told_all : (before after : Option (List ℕ)) (bytes : List ℕ) (P : List ℕ → Type 0) → Consumes before after bytes → IsAtEnd after → P bytes → IfSome before P
-told_all None after bytes P consumed end holds = tt
-told_all (Some u) None bytes P consumed end holds = absurd consumed
-told_all (Some u) (Some v) bytes P consumed end holds = subst P (sym (consumed ∙ ap (λ (l : List ℕ). bytes ++ l) end ∙ append-nil bytes)) holds
-
--- ---- the piece
-
--- nothing is left at the end of the piece
-pub none_left : (at stop : ℕ) (piece : List ℕ) → stop ≤ at → take (stop - at) (drop at piece) ≡ []
-none_left at stop piece end = let none : stop - at ≡ 0 = omega (arith, end) in rw none refl
-
 -- ---- one answer more
 
--- the source gave the next piece, or nothing was read
-pub given_more : {S : Type 0} (rest : S → Option (List ℕ)) (faults : S → ℕ) (first old now : S) (p q : InPieces) (records : List Record) (bytes : List ℕ) → q.reader ≡ p.reader → Gives (rest old) (rest now) p.left q.left → faults old ≤ faults now
-    → HasRead rest faults first old p records bytes → HasRead rest faults first now q records bytes
-given_more rest faults first old now p q records bytes same gives count has = record {
-  reader = rw same has.reader;
-  clean = has.clean;
-  source = subst (λ (l : List ℕ). Consumes (rest first) (rest now) l) (append_assoc bytes p.left gives.read ∙ ap (λ (l : List ℕ). bytes ++ l) (sym gives.follows)) (consumed_on (rest first) (rest old) (rest now) (bytes ++ p.left) gives.read has.source gives.gave);
-  count = omega (arith, has.count, count);
-}
+-- what was read after the source gave the next piece
+pub given_more : {S : Type 0} (rest : S → Option (List ℕ)) (faults : S → ℕ) (first old now : S) (p q : InPieces) (records : List Record) (bytes : List ℕ) → q.reader ≡ p.reader → HasRead rest faults first old p records bytes
+    → HasGiven rest faults first now q.left bytes → HasRead rest faults first now q records bytes
+given_more rest faults first old now p q records bytes same has given = record { reader = rw same has.reader; clean = has.clean; given = given }
 
 -- the bytes fed are those before and then the others
 regrouped : (bytes fed left later : List ℕ) → (bytes ++ (fed ++ left)) ++ later ≡ bytes ++ (fed ++ (left ++ later))
@@ -77,8 +44,10 @@ fed_has : {S : Type 0} (rest : S → Option (List ℕ)) (faults : S → ℕ) (fi
 fed_has rest faults first now p q records bytes fed gave left reader clean has = record {
   reader = reader;
   clean = clean;
-  source = subst (λ (l : List ℕ). Consumes (rest first) (rest now) l) (ap (λ (l : List ℕ). bytes ++ l) left ∙ sym (append_assoc bytes fed q.left)) has.source;
-  count = has.count;
+  given = record {
+    source = subst (λ (l : List ℕ). Consumes (rest first) (rest now) l) (ap (λ (l : List ℕ). bytes ++ l) left ∙ sym (append_assoc bytes fed q.left)) has.given.source;
+    count = has.given.count;
+  };
 }
 
 -- the reader's answer to some bytes
@@ -95,7 +64,7 @@ taken_came rest faults most first now p q (Ok None) records bytes takes has = (
   ),
 )
 taken_came rest faults most first now p q (Err (Fault fault)) records bytes takes has =
-    told_first (rest first) (rest now) (bytes ++ p.left) (λ (text : List ℕ). verdict text ≡ Bad fault) has.source
+    told_first (rest first) (rest now) (bytes ++ p.left) (λ (text : List ℕ). verdict text ≡ Bad fault) has.given.source
     (λ more. ap (λ (l : List ℕ). verdict ((bytes ++ l) ++ more)) takes.left ∙ ap (λ (l : List ℕ). verdict l) (regrouped bytes takes.fed q.left more) ∙ takes.lasts records bytes (q.left ++ more) has.reader)
 taken_came rest faults most first now p q (Err Reads.NoMemory) records bytes takes has = tt
 
@@ -105,7 +74,7 @@ pub ended_came : {S : Type 0} (rest : S → Option (List ℕ)) (faults : S → �
 ended_came rest faults most first now p (Ok done) records bytes ends none end has = record { reads = has; good = ends records bytes has.reader; none = none; end = end }
 ended_came rest faults most first now p (Err fault) records bytes ends none end has =
     told_all (rest first) (rest now) bytes (λ (text : List ℕ). verdict text ≡ Bad fault)
-    (subst (λ (l : List ℕ). Consumes (rest first) (rest now) l) (ap (λ (l : List ℕ). bytes ++ l) none ∙ append-nil bytes) has.source) end (ends records bytes has.reader)
+    (subst (λ (l : List ℕ). Consumes (rest first) (rest now) l) (ap (λ (l : List ℕ). bytes ++ l) none ∙ append-nil bytes) has.given.source) end (ends records bytes has.reader)
 
 -- ---- no capture has more bytes than the limit
 
@@ -114,7 +83,7 @@ unfolding fault_met reading_of
 has_few rest faults first now p records bytes has = omega (arith, text_short bytes start (omega arith) has.clean)
 
 -- so no stop needs a cause after so many
-pub too_long : {S : Type 0} (rest : S → Option (List ℕ)) (faults : S → ℕ) (first now : S) (p : InPieces) (records : List Record) (bytes more : List ℕ) (n : ℕ) (stop : Stop) → 18446744073709551615 ≤ n → n ≤ length more → HasRead rest faults first now p records (bytes ++ more) → StopsBy rest faults first now stop
+pub too_long : {S : Type 0} (rest : S → Option (List ℕ)) (faults : S → ℕ) (first now : S) (p : InPieces) (records : List Record) (bytes more : List ℕ) (n : ℕ) (stop : Stop CaptureFault) → 18446744073709551615 ≤ n → n ≤ length more → HasRead rest faults first now p records (bytes ++ more) → StopsBy rest faults first now stop
 too_long rest faults first now p records bytes more n stop over within has = absurd (omega (arith, over, within, length-append bytes more, has_few rest faults first now p records (bytes ++ more) has))
 
 -- ---- version and count
@@ -228,6 +197,8 @@ unfolding fault_met reading_of read_on
 fresh_read rest faults first p fresh = record {
   reader = fresh.0;
   clean = refl;
-  source = subst (λ (l : List ℕ). Consumes (rest first) (rest first) l) (sym fresh.1) (consumed_none (rest first));
-  count = omega arith;
+  given = record {
+    source = subst (λ (l : List ℕ). Consumes (rest first) (rest first) l) (sym fresh.1) (consumed_none (rest first));
+    count = omega arith;
+  };
 }

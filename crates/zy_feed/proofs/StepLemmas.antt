@@ -15,7 +15,7 @@ use Rattle.zy_capture.specs.Capture.{letters, connection_limit, segment_limit, c
 use Rattle.zy_capture.specs.Steps.{Progress, Step, taken, is_open, is_full, step}
 use Rattle.zy_capture.specs.Verdict.{captures, read_from, fault_in}
 use Rattle.zy_capture.proofs.ByteLemmas.{chosen}
-use Rattle.zy_capture.proofs.Feeding.{lasting}
+use Rattle.zy_capture.specs.Lasting.{lasting}
 
 -- the count was read where this is due
 abbrev pub IsPast : Due → Type 0

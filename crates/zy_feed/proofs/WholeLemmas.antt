@@ -3,7 +3,8 @@ use Rattle.std.proofs.Common.{◌≡◌, ℕ, List, [], ◌++◌, sym, ◌∙◌
 use Rattle.std.specs.Prelude.{Option, Some, ◌≤◌}
 use Rattle.std.specs.Io.KnownBytes.{Consumes}
 use Rattle.std.proofs.lemmas.List.{append-nil}
-use Rattle.zy_feed.specs.declared.stop.Stop.{Stop}
+use Rattle.zy_read.specs.declared.stop.Stop.{Stop}
+use Rattle.zy_capture.specs.declared.capture_fault.CaptureFault.{CaptureFault}
 use Rattle.zy_feed.specs.declared.stage.Stage.{Stage}
 use Rattle.zy_capture.specs.declared.record.Record.{Record}
 use Rattle.zy_feed.specs.declared.stage.Stage.TheVariants.{Cutting, Waiting, Ending, Ended, Broken}
@@ -33,18 +34,18 @@ fed_all rest faults first header f g begins unsent start ended leads =
       good = good_as_told g.intake.reader end.0 bytes header all.reads.reader all.good (told_stays begins.bytes end.1.0 header begins.told);
       lawful = lawful_as_told g.intake.reader end.0 bytes header all.reads.reader all.good (told_stays begins.bytes end.1.0 header begins.told);
       few = λ conn. few_closes g.intake.reader end.0 bytes conn all.reads.reader (has_few rest faults first g.source g.intake end.0 bytes all.reads);
-      source = subst (λ (l : List ℕ). Consumes (rest first) (rest g.source) l) (ap (λ (l : List ℕ). bytes ++ l) all.none ∙ append-nil bytes) all.reads.source;
+      source = subst (λ (l : List ℕ). Consumes (rest first) (rest g.source) l) (ap (λ (l : List ℕ). bytes ++ l) all.none ∙ append-nil bytes) all.reads.given.source;
       end = all.end;
-      count = all.reads.count;
+      count = all.reads.given.count;
       sent = subst (λ (s : Stage). AreSent g.sents s end.0) ended end.1.1.sent;
     }
 
 -- it broke by this stop
-stop_is : (stage : Stage) (stop : Stop) → stop_in stage ≡ Some stop → stage ≡ Broken stop
+stop_is : (stage : Stage) (stop : Stop CaptureFault) → stop_in stage ≡ Some stop → stage ≡ Broken stop
 stop_is (Broken found) stop is = cc
 stop_is stage stop is = cc
 
-pub has_cause : {S : Type 0} (rest : S → Option (List ℕ)) (faults : S → ℕ) (first : S) (header : Header) (f g : Feeding S) (stop : Stop) → HasBegun rest faults first f.source f.intake header → AreUnsent f.sents → f.stage ≡ Cutting → stop_in g.stage ≡ Some stop → Leads rest faults f g
+pub has_cause : {S : Type 0} (rest : S → Option (List ℕ)) (faults : S → ℕ) (first : S) (header : Header) (f g : Feeding S) (stop : Stop CaptureFault) → HasBegun rest faults first f.source f.intake header → AreUnsent f.sents → f.stage ≡ Cutting → stop_in g.stage ≡ Some stop → Leads rest faults f g
     → HasStopped rest faults first g.source stop
 has_cause rest faults first header f g stop begins unsent start broken leads =
     let end = leads first [] begins.bytes (begun rest faults first header f begins unsent start) in
@@ -53,10 +54,10 @@ has_cause rest faults first header f g stop begins unsent start broken leads =
 -- wherever it is
 counts_to : {S : Type 0} (rest : S → Option (List ℕ)) (faults : S → ℕ) (first now : S) (intake : InPieces) (stage : Stage) (records : List Record) (bytes : List ℕ) → IsReadTo rest faults first now intake stage records bytes
     → faults first ≤ faults now
-counts_to rest faults first now intake Cutting records bytes read = read.count
-counts_to rest faults first now intake (Waiting item) records bytes read = read.count
-counts_to rest faults first now intake (Ending core) records bytes read = read.reads.count
-counts_to rest faults first now intake Ended records bytes read = read.reads.count
+counts_to rest faults first now intake Cutting records bytes read = read.given.count
+counts_to rest faults first now intake (Waiting item) records bytes read = read.given.count
+counts_to rest faults first now intake (Ending core) records bytes read = read.reads.given.count
+counts_to rest faults first now intake Ended records bytes read = read.reads.given.count
 counts_to rest faults first now intake (Broken stop) records bytes read = read.count
 
 pub counts_on : {S : Type 0} (rest : S → Option (List ℕ)) (faults : S → ℕ) (first : S) (header : Header) (f g : Feeding S) → HasBegun rest faults first f.source f.intake header → AreUnsent f.sents → f.stage ≡ Cutting → Leads rest faults f g

@@ -1,7 +1,9 @@
 -- What a feeder has read of a capture, and what each core was sent.
 use Rattle.std.specs.Prelude.{◌≡◌, ◌≢◌, ◌↔◌, ℕ, ◌<◌, ◌^◌, ◌≤◌, ◌==◌, nat_lt, if◌then◌else◌, List, [], ◌∷◌, ◌++◌, length, Option, None, Some, slice_get, slice_set, ⊤}
 use Rattle.std.specs.Io.KnownBytes.{Consumes, IsAtEnd}
+use Rattle.zy_read.specs.declared.stop.Stop.{Stop}
 use Rattle.zy_capture.specs.declared.record.Record.{Record}
+use Rattle.zy_capture.specs.declared.capture_fault.CaptureFault.{CaptureFault}
 use Rattle.zy_capture.specs.Capture.{IsCapture}
 use Rattle.zy_capture.specs.Streams.{closes}
 use Rattle.zy_capture.specs.Verdict.{verdict}
@@ -14,7 +16,6 @@ use Rattle.zy_rx.specs.Routing.{items_for, offered_to}
 use Rattle.zy_rx.specs.declared.feeder.Fed.{Fed}
 use Rattle.zy_rx.specs.declared.feeder.Fed.TheVariants as Answers
 use Rattle.zy_rx.specs.Feed.{rings_of, sent_by, HasOffered, HasNoRoom}
-use Rattle.zy_feed.specs.declared.stop.Stop.{Stop}
 use Rattle.zy_feed.specs.declared.intake.Header.{Header}
 use Rattle.zy_feed.specs.declared.stage.Stage.{Stage}
 use Rattle.zy_feed.specs.declared.feeder.CaptureFeeder.{CaptureFeeder}
@@ -55,7 +56,7 @@ abbrev pub in_stage : {S : Type 0} → CaptureFeeder S → Stage → Feeding S
 in_stage f stage = feeding f.source.now f.intake f.inlets stage
 
 -- what it broke by; none where it is not broken
-abbrev pub stop_in : Stage → Option Stop
+abbrev pub stop_in : Stage → Option (Stop CaptureFault)
 stop_in (Broken stop) = Some stop
 stop_in stage = None
 
@@ -87,7 +88,7 @@ AreSent sents stage records =
 
 -- it stopped, and this is the cause
 pub record HasStopped {S : Type 0} (rest : S → Option (List ℕ)) (faults : S → ℕ) (first now : S)
-    (stop : Stop) : Type 0 where
+    (stop : Stop CaptureFault) : Type 0 where
   pub cause : StopsBy rest faults first now stop
   pub count : faults first ≤ faults now
 

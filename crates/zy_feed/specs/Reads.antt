@@ -1,7 +1,10 @@
 -- What was read of a capture, in pieces: the records that were cut, the bytes, and why it is read no further.
 use Rattle.std.specs.Prelude.{◌≡◌, ◌⊎◌, ℕ, ◌<◌, ◌≤◌, List, [], ◌∷◌, ◌++◌, length, Option, None, Some, IfSome, Result, Ok, Err, ⊤}
-use Rattle.std.specs.Io.KnownBytes.{Consumes, IsAtEnd}
+use Rattle.std.specs.Io.KnownBytes.{IsAtEnd}
 use Rattle.zy_base.specs.Outside.{Rose}
+use Rattle.zy_read.specs.declared.stop.Stop.{Stop}
+use Rattle.zy_read.specs.declared.stop.Stop.TheVariants.{Refused, ReadFault, NoMemory}
+use Rattle.zy_read.specs.Piece.{HasGiven}
 use Rattle.zy_read.specs.declared.not_taken.NotTaken.{NotTaken}
 use Rattle.zy_read.specs.declared.not_taken.NotTaken.TheVariants.{Fault}
 use Rattle.zy_read.specs.declared.not_taken.NotTaken.TheVariants as Reads
@@ -12,8 +15,6 @@ use Rattle.zy_capture.specs.Steps.{Progress}
 use Rattle.zy_capture.specs.Standing.{StandsFor, EndsAs}
 use Rattle.zy_capture.specs.Verdict.{captures, verdict, fault_of, version_of, count_of}
 use Rattle.zy_capture.specs.Verdict.Verdict.{Bad}
-use Rattle.zy_feed.specs.declared.stop.Stop.{Stop}
-use Rattle.zy_feed.specs.declared.stop.Stop.TheVariants.{Refused, ReadFault, NoMemory}
 use Rattle.zy_feed.specs.declared.intake.Header.{Header}
 use Rattle.zy_feed.specs.declared.intake.Came.{Came}
 use Rattle.zy_feed.specs.declared.intake.Came.TheVariants as Comes
@@ -38,8 +39,7 @@ pub record HasRead {S : Type 0} (rest : S → Option (List ℕ)) (faults : S →
     (records : List Record) (bytes : List ℕ) : Type 0 where
   pub reader : StandsFor intake.reader records bytes
   pub clean : fault_of bytes ≡ None
-  pub source : Consumes (rest first) (rest now) (bytes ++ intake.left)
-  pub count : faults first ≤ faults now
+  pub given : HasGiven rest faults first now intake.left bytes
 
 -- the bytes are a capture with these records, and the source is at its end
 pub record HasReadAll {S : Type 0} (rest : S → Option (List ℕ)) (faults : S → ℕ) (first now : S) (intake : InPieces)
@@ -51,7 +51,7 @@ pub record HasReadAll {S : Type 0} (rest : S → Option (List ℕ)) (faults : S 
 
 -- the cause of each stop: the fault is the verdict on all that the source told at first, or its count of faults rose,
 -- or stands at its last value; want of memory is free
-abbrev pub StopsBy : {S : Type 0} → (S → Option (List ℕ)) → (S → ℕ) → S → S → Stop → Type 0
+abbrev pub StopsBy : {S : Type 0} → (S → Option (List ℕ)) → (S → ℕ) → S → S → Stop CaptureFault → Type 0
 StopsBy rest faults first now (Refused fault) = IfSome (rest first) (λ text. verdict text ≡ Bad fault)
 StopsBy rest faults first now ReadFault = Rose (faults first) (faults now)
 StopsBy rest faults first now NoMemory = ⊤
@@ -77,7 +77,7 @@ pub record HasBegun {S : Type 0} (rest : S → Option (List ℕ)) (faults : S �
 
 -- a record was cut, or the capture came to its end, or it is read no further
 abbrev pub Cuts : {S : Type 0} → (S → Option (List ℕ)) → (S → ℕ) → S → S → InPieces → List Record → List ℕ
-    → Result (Option Record) Stop → Type 0
+    → Result (Option Record) (Stop CaptureFault) → Type 0
 Cuts rest faults first now intake records bytes (Ok (Some record')) =
     (more : List ℕ) × HasRead rest faults first now intake (records ++ record' ∷ []) (bytes ++ more)
 Cuts rest faults first now intake records bytes (Ok None) =
@@ -85,12 +85,6 @@ Cuts rest faults first now intake records bytes (Ok None) =
 Cuts rest faults first now intake records bytes (Err stop) = StopsBy rest faults first now stop
 
 -- ---- for the intake alone
-
--- a source gave these bytes, which follow what was left of the piece
-pub record Gives (before after : Option (List ℕ)) (left now : List ℕ) : Type 0 where
-  pub read : List ℕ
-  pub gave : Consumes before after read
-  pub follows : now ≡ left ++ read
 
 -- the reader took some first bytes of what was left, at most so many, and this is its answer
 pub record TakesFirst (most : ℕ) (old new : InPieces)
@@ -104,20 +98,20 @@ pub record TakesFirst (most : ℕ) (old new : InPieces)
   pub lasts : TellsLasting captures old.reader fed answer
 
 -- what comes of the reader's answer
-abbrev pub came_of : Result (Option Record) (NotTaken CaptureFault) → Result Came Stop
+abbrev pub came_of : Result (Option Record) (NotTaken CaptureFault) → Result Came (Stop CaptureFault)
 came_of (Ok (Some record')) = Ok (Comes.Record record')
 came_of (Ok None) = Ok Comes.Nothing
 came_of (Err (Fault fault)) = Err (Refused fault)
 came_of (Err Reads.NoMemory) = Err NoMemory
 
 -- what comes of its answer at the end of the source
-abbrev pub ended_by : Result ⊤ CaptureFault → Result Came Stop
+abbrev pub ended_by : Result ⊤ CaptureFault → Result Came (Stop CaptureFault)
 ended_by (Ok done) = Ok Comes.End
 ended_by (Err fault) = Err (Refused fault)
 
 -- a record was cut, or some bytes ended none, or the capture came to its end, or it is read no further
 abbrev pub Advances : {S : Type 0} → (S → Option (List ℕ)) → (S → ℕ) → ℕ → S → S → InPieces → List Record → List ℕ
-    → Result Came Stop → Type 0
+    → Result Came (Stop CaptureFault) → Type 0
 Advances rest faults most first now intake records bytes (Ok (Comes.Record record')) =
     (more : List ℕ) × ((length more ≤ most) × HasRead rest faults first now intake (records ++ record' ∷ [])
     (bytes ++ more))

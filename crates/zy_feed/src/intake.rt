@@ -1,22 +1,17 @@
 //! Reading a capture in pieces.
 ghost use Rattle.std.specs.Prelude.{◌≡◌, ◌<◌, ◌≤◌, ℕ, List, [], length, true, false};
 ghost use Rattle.std.specs.Prelude.{IfOk, IfErr, IfSome, IfNone, OnOk, OnErr};
-ghost use Rattle.std.specs.Io.KnownBytes.{Consumes, IsAtEnd};
-ghost use Rattle.zy_base.specs.Outside.{Rose};
 ghost use Rattle.zy_capture.specs.declared.record.Record.{Record};
 ghost use Rattle.zy_capture.specs.Standing.{StandsFor};
 ghost use Rattle.zy_feed.specs.Reads.{IsFresh, HasRead, HasBegun, StopsBy, TellsHeader};
-ghost use Rattle.zy_feed.specs.Reads.{TellsNoHeader, Cuts, Gives, TakesFirst, Advances, came_of, ended_by};
+ghost use Rattle.zy_feed.specs.Reads.{TellsNoHeader, Cuts, TakesFirst, Advances, came_of, ended_by};
 
 use crate::stop::Stop;
 use std::alloc::Global;
 use std::marker::Model;
 use zy_base::{Failed, NoMemory, Source};
 use zy_capture::{CaptureFault, FeedFault, Reader, Record};
-use zy_read::Fed;
-
-// The most bytes that one read asks for.
-const PIECE: usize = 65_536;
+use zy_read::{Fed, Pieces};
 
 /// What a capture begins with.
 #[derive(Clone, Copy, PartialEq, Eq)]
@@ -32,21 +27,15 @@ pub struct Header {
 #[derive(Drop)]
 pub struct Intake {
     reader: Reader,
-    piece: Vec<u8>,
-    at: usize,
-    end: usize,
+    pieces: Pieces,
 }
 
 impl Model for Intake {
-    ghost use Rattle.std.specs.Prelude.{◌-◌, ◌<◌, ◌≤◌, length, take, drop};
     ghost use Rattle.zy_feed.specs.Reads.{InPieces, in_pieces};
 
     ghost Value = { InPieces };
 
-    ghost view = { λ i. in_pieces i.reader (take (i.end - i.at) (drop i.at i.piece.items)) };
-
-    ghost invariant = { λ i. (i.at ≤ i.end)
-        × (i.end ≤ length i.piece.items) × (0 < length i.piece.items) };
+    ghost view = { λ i. in_pieces i.reader i.pieces };
 }
 
 // What came of some bytes.
@@ -82,15 +71,14 @@ impl Intake {
     fn new(alloc: Global) -> Result<Intake, NoMemory>
         ensures ok { IfOk result (λ intake. IsFresh intake) }
     {
-        match vec![in alloc; 0u8; PIECE] {
-            Ok(piece) => Ok(Intake {
-                reader: Reader::new(alloc),
-                piece,
-                at: 0,
-                end: 0,
-            }),
-            Err(_) => Err(NoMemory),
-        }
+        let pieces = match Pieces::new(alloc) {
+            Ok(pieces) => pieces,
+            Err(NoMemory) => return Err(NoMemory),
+        };
+        Ok(Intake {
+            reader: Reader::new(alloc),
+            pieces,
+        })
     }
 
     // Reads byte after byte until version and count are known.
@@ -142,7 +130,7 @@ impl Intake {
         ensures count { S.faults source.old ≤ S.faults source.new }
     {
         for _ in 0..u64::MAX {
-            match self.advance(source, PIECE) {
+            match self.advance(source, usize::MAX) {
                 Ok(Came::Nothing) => {}
                 Ok(Came::Record(record)) => return Ok(Some(record)),
                 Ok(Came::End) => return Ok(None),
@@ -162,34 +150,10 @@ impl Intake {
             → Advances S.rest S.faults most first source.new self.new records bytes result }
         ensures count { S.faults source.old ≤ S.faults source.new }
     {
-        match self.refill(source) {
+        match self.pieces.refill(source) {
             Ok(true) => came_from(self.feed(most)),
             Ok(false) => came_at_end(self.reader.end()),
             Err(Failed) => Err(Stop::ReadFault),
-        }
-    }
-
-    // Reads the next piece where nothing is left of this one. Gives whether there are bytes.
-    fn refill<S: Source>(&mut self, source: &mut S) -> Result<bool, Failed>
-        ensures reader { self.new.reader ≡ self.old.reader }
-        ensures ok { OnOk result
-            (Gives (S.rest source.old) (S.rest source.new) self.old.left self.new.left) }
-        ensures some { IfOk result (λ some. some ≡ true → 0 < length self.new.left) }
-        ensures end { IfOk result (λ some. some ≡ false
-            → (self.new.left ≡ []) × IsAtEnd (S.rest source.new)) }
-        ensures failed { OnErr result (Rose (S.faults source.old) (S.faults source.new)) }
-        ensures count { S.faults source.old ≤ S.faults source.new }
-    {
-        if self.at < self.end {
-            return Ok(true);
-        }
-        match source.read(self.piece.as_mut_slice()) {
-            Ok(n) => {
-                self.at = 0;
-                self.end = n;
-                Ok(n > 0)
-            }
-            Err(Failed) => Err(Failed),
         }
     }
 
@@ -198,9 +162,9 @@ impl Intake {
         requires some { (0 < most) × (0 < length self.old.left) }
         ensures value { TakesFirst most self.old self.new result }
     {
-        let stop = self.at + most.min(self.end - self.at);
-        let Fed { taken, answer } = self.reader.feed_piece(&self.piece[self.at..stop]);
-        self.at += taken;
+        let left = self.pieces.left();
+        let Fed { taken, answer } = self.reader.feed_piece(&left[..most.min(left.len())]);
+        self.pieces.pass(taken);
         answer
     }
 }

@@ -1,7 +1,8 @@
 //! What a feeder has done where it ended or broke.
 ghost use Rattle.std.specs.Prelude.{◌≡◌, ◌≤◌, Some};
 ghost use Rattle.zy_feed.specs.declared.intake.Header.{Header};
-ghost use Rattle.zy_feed.specs.declared.stop.Stop.{Stop};
+ghost use Rattle.zy_read.specs.declared.stop.Stop.{Stop};
+ghost use Rattle.zy_capture.specs.declared.capture_fault.CaptureFault.{CaptureFault};
 ghost use Rattle.zy_feed.specs.declared.stage.Stage.TheVariants as Stages;
 ghost use Rattle.zy_feed.specs.Reads.{HasBegun};
 ghost use Rattle.zy_feed.specs.Feeding.{Feeding, stop_in, AreUnsent, HasFedAll, HasStopped, Leads};
@@ -21,7 +22,7 @@ pub fn a_feeder_that_ended_has_offered_the_capture<S: Source>()
 /// One that has broken has its cause: the fault is the verdict on all that the source told before
 /// the first read, or its count of faults rose since, or stands at its last value.
 pub fn a_broken_feeder_has_its_cause<S: Source>()
-    ensures cause { (first : S) (header : Header) (f g : Feeding S) (stop : Stop)
+    ensures cause { (first : S) (header : Header) (f g : Feeding S) (stop : Stop CaptureFault)
         → HasBegun S.rest S.faults first f.source f.intake header → AreUnsent f.sents
         → f.stage ≡ Stages.Cutting → stop_in g.stage ≡ Some stop → Leads S.rest S.faults f g
         → HasStopped S.rest S.faults first g.source stop }

@@ -3,12 +3,4 @@
 use zy_capture::CaptureFault;
 
 /// Why a capture is read no further.
-#[derive(Clone, Copy, PartialEq, Eq)]
-pub enum Stop {
-    /// The capture has this fault.
-    Refused(CaptureFault),
-    /// A read failed.
-    ReadFault,
-    /// Memory was wanted and not found.
-    NoMemory,
-}
+pub type Stop = zy_read::Stop<CaptureFault>;

@@ -9,6 +9,9 @@ use zy_base::{Entries, Entry, NoMemory};
 
 // The turns of the histories of shards from one on: those of the lower half and those of the higher
 // half, joined.
+//
+// No sort of the library is used: each history is in order already, so an entry is compared at most
+// eight times here, and a sort of them all would not use that order.
 pub(crate) fn all_turns(
     alloc: Global,
     histories: &[Entries],

@@ -1,4 +1,3 @@
-pub mod Feeding
 pub mod RunLemmas
 pub mod PlaceLemmas
 pub mod GoesLemmas

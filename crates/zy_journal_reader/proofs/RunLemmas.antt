@@ -6,7 +6,7 @@ use Rattle.std.proofs.lemmas.Bool.Decides.{nat_tests}
 use Rattle.zy_read.specs.Format.{read_on, with_front}
 use Rattle.zy_read.specs.Standing.{Feeds}
 use Rattle.zy_read.proofs.Feeding.{fed_by, fed_step}
-use Rattle.zy_read.proofs.Pieces.{byte_on}
+use Rattle.zy_read.proofs.PieceLemmas.{byte_on}
 use Rattle.zy_journal_reader.specs.declared.due.Due.{Due}
 use Rattle.zy_journal_reader.specs.declared.due.Due.TheVariants.{Byte, Number, Long, Bytes, Nothing, Broken}
 use Rattle.zy_journal_reader.specs.declared.due.BytesField.{BytesField}

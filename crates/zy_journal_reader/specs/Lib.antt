@@ -3,3 +3,4 @@ pub mod Steps
 pub mod Verdict
 pub mod Standing
 pub mod Worked
+pub mod Lasting

@@ -22,7 +22,7 @@ use std::alloc::Global;
 use std::marker::Model;
 use zy_base::{Entries, Entry, FileFault, Hold, Holds};
 use zy_journal::Journal;
-use zy_read::{Fed, Field, FileFeed, goes_on};
+use zy_read::{Fed, Field, FileFeed, feed, feed_piece};
 
 const JOURNAL_LIMIT: u64 = 9_223_372_036_854_775_807;
 
@@ -97,7 +97,7 @@ impl JournalReader {
         ensures kept { result ≡ Err NoMemory → self.new ≡ self.old }
         ensures memory { result ≡ Err NoMemory → MayWant self.old byte }
     {
-        self.step(byte)
+        feed(self, byte)
     }
 
     /// Takes bytes up to the end of the journal or the first fault, and all of them where there is
@@ -117,18 +117,7 @@ impl JournalReader {
         ensures memory { result.answer ≡ Err NoMemory
             → MayWant self.new (get_or bytes.now result.taken 0) }
     {
-        let mut at = 0;
-        while at < bytes.len() {
-            at += self.feed_run(bytes, at);
-            if let Err(answer) = goes_on(self.step(bytes[at])) {
-                return Fed::at(at, answer);
-            }
-            at += 1;
-        }
-        Fed {
-            taken: at,
-            answer: Ok(None),
-        }
+        feed_piece(self, bytes)
     }
 
     #[tactic(auto, using(zy_read::proofs::Feeding::verdict_here))]

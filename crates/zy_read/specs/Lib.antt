@@ -1,2 +1,4 @@
 pub mod Format
+pub mod Lasting
 pub mod Standing
+pub mod Piece

@@ -4,7 +4,13 @@
 mod fed;
 mod field;
 mod not_taken;
+mod pieces;
+mod reads;
+mod stop;
 
 pub use fed::{Fed, goes_on};
 pub use field::Field;
 pub use not_taken::{FileFeed, NotTaken};
+pub use pieces::Pieces;
+pub use reads::{Reads, feed, feed_piece};
+pub use stop::Stop;

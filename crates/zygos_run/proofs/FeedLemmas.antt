@@ -3,7 +3,8 @@ use Rattle.std.proofs.Common.{◌≡◌, ℕ, ◌≤◌, List, sym, subst}
 use Rattle.std.specs.Prelude.{Option, Some}
 use Rattle.zy_rx.specs.Ring.{Offering}
 use Rattle.zy_rx.specs.Feed.{sent_by}
-use Rattle.zy_feed.specs.declared.stop.Stop.{Stop}
+use Rattle.zy_read.specs.declared.stop.Stop.{Stop}
+use Rattle.zy_capture.specs.declared.capture_fault.CaptureFault.{CaptureFault}
 use Rattle.zy_feed.specs.declared.stage.Stage.{Stage}
 use Rattle.zy_feed.specs.declared.stage.Stage.TheVariants.{Cutting, Ended}
 use Rattle.zy_feed.specs.declared.intake.Header.{Header}
@@ -22,7 +23,7 @@ module _ {S : Type 0} (rest : S → Option (List ℕ)) (faults : S → ℕ) (fir
   pub fed : stage' ≡ Ended → HasFedAll rest faults first later header (sent_by after)
   fed ended = fed_all rest faults first header (feeding now made ends stage) (feeding later further after stage') begun none cutting ended leads
 
-  pub stopped : (stop : Stop) → stop_in stage' ≡ Some stop → StopsBy rest faults first later stop
+  pub stopped : (stop : Stop CaptureFault) → stop_in stage' ≡ Some stop → StopsBy rest faults first later stop
   stopped stop broken = (has_cause rest faults first header (feeding now made ends stage) (feeding later further after stage') stop begun none cutting broken leads).cause
 
   pub counted : faults first ≤ faults later

@@ -9,9 +9,8 @@ use Rattle.zy_journal.specs.declared.journal.Journal.{Journal}
 use Rattle.zy_journal.specs.Journal.{IsJournal}
 use Rattle.zy_run.specs.Commands.{streams_in}
 use Rattle.zy_run.specs.Summary.{summary}
+use Rattle.zy_check_input.specs.declared.stop.Refusal.{Refusal}
 use Rattle.zy_check_input.specs.declared.stop.Refusal.TheVariants.{Capture}
-use Rattle.zy_check_input.specs.declared.stop.Stop.{Stop as PartStop}
-use Rattle.zy_check_input.specs.declared.stop.Stop.TheVariants as PartStops
 use Rattle.zy_check_input.specs.Parts.{AreParts, HasPartFault, ReadsAll}
 use Rattle.zy_check.specs.declared.verdict.Verdict.{Verdict as Certified}
 use Rattle.zy_check.specs.Given.{given}
@@ -23,8 +22,8 @@ use Rattle.zy_command_line.specs.declared.request.Run.{Run}
 use Rattle.zy_command_line.specs.declared.request.Out.{Out}
 use Rattle.zy_command_line.specs.declared.request.Traffic.{Traffic}
 use Rattle.zy_command_line.specs.Request.{request_of}
-use Rattle.zy_feed.specs.declared.stop.Stop.{Stop}
-use Rattle.zy_feed.specs.declared.stop.Stop.TheVariants as Stops
+use Rattle.zy_read.specs.declared.stop.Stop.{Stop}
+use Rattle.zy_read.specs.declared.stop.Stop.TheVariants as Stops
 use Rattle.zy_finish.specs.declared.finishing.Finished.{Finished}
 use Rattle.zy_run.specs.declared.summary.Summary.{Summary}
 use Rattle.zygos_run.specs.declared.answer.Answer.{Answer}
@@ -177,7 +176,7 @@ LeavesSink answer = ⊤
 -- ---- running
 
 -- how a run ends before anything is written: it is served, or it stopped, for its cause
-abbrev pub RunsTo : {S : Type 0} → (S → Option (List ℕ)) → (S → ℕ) → ℕ → S → S → Result Finished Stop → Type 0
+abbrev pub RunsTo : {S : Type 0} → (S → Option (List ℕ)) → (S → ℕ) → ℕ → S → S → Result Finished (Stop CaptureFault) → Type 0
 RunsTo rest faults shards source source' (Ok done) =
     (bytes : List ℕ) × ReadsAll (rest source) (rest source') bytes × IsServed shards bytes done.journal done.outputs
     × AreOutputs done.outputs × IsJournal done.journal
@@ -189,10 +188,10 @@ RunsTo rest faults shards source source' (Err Stops.NoMemory) = ⊤
 -- ---- checking
 
 -- how a check ends before anything is written: with its verdict, or it stopped, for its cause
-abbrev pub ChecksTo : {S : Type 0} → (S → Option (List ℕ)) → (S → ℕ) → ℕ → S → S → Result Certified PartStop → Type 0
+abbrev pub ChecksTo : {S : Type 0} → (S → Option (List ℕ)) → (S → ℕ) → ℕ → S → S → Result Certified (Stop Refusal) → Type 0
 ChecksTo rest faults shards source source' (Ok found) =
     OfGiven (rest source) (rest source') (λ bytes. IsChecked shards bytes found)
-ChecksTo rest faults shards source source' (Err (PartStops.Refused refusal)) =
+ChecksTo rest faults shards source source' (Err (Stops.Refused refusal)) =
     IfSome (rest source) (λ bytes. HasPartFault bytes refusal)
-ChecksTo rest faults shards source source' (Err PartStops.ReadFault) = Rose (faults source) (faults source')
-ChecksTo rest faults shards source source' (Err PartStops.NoMemory) = ⊤
+ChecksTo rest faults shards source source' (Err Stops.ReadFault) = Rose (faults source) (faults source')
+ChecksTo rest faults shards source source' (Err Stops.NoMemory) = ⊤

@@ -1,28 +1,40 @@
 //! What the reader of captures does at each byte, by what is due.
-ghost use Rattle.std.specs.Prelude.{◌≡◌, ◌+◌, ◌<◌, [], length, Err, vec_capacity};
+ghost use Rattle.std.specs.Prelude.{◌≡◌, ◌+◌, ◌<◌, ◌≤◌, [], length, Err, vec_capacity};
 ghost use Rattle.zy_read.specs.declared.not_taken.NotTaken.TheVariants.{Fault};
 ghost use Rattle.zy_capture.specs.declared.due.Due.TheVariants as Dues;
 ghost use Rattle.zy_capture.specs.Capture.{capture_limit};
-ghost use Rattle.zy_capture.specs.Steps.{goes, after_record, refuses, keeps, step, taken, is_full};
-ghost use Rattle.zy_capture.specs.Standing.{Takes, IsWithin};
+ghost use Rattle.zy_capture.specs.Steps.{goes, after_record, refuses, keeps, grown_by, taken, is_full};
+ghost use Rattle.zy_capture.specs.Verdict.{Verdict, captures};
+ghost use Rattle.zy_capture.specs.Standing.{Takes, IsWithin, IsLengthEnd};
+ghost use Rattle.zy_capture.specs.Lasting.{lasting};
 
-use super::{CAPTURE_LIMIT, Reader};
+use super::Reader;
 use crate::capture_fault::{CaptureFault, FeedFault};
 use crate::due::Due;
 use crate::limits::CONNECTION_LIMIT;
 use crate::record::{Record, Segment};
 use std::mem;
 use zy_base::Blob;
+use zy_read::Reads;
+
+const CAPTURE_LIMIT: u64 = 4_294_967_295;
 
 const LETTERS: &[u8; 6] = b"ZYGCAP";
 
 const SEGMENT_LIMIT: u32 = 65_535;
 
-impl Reader {
-    // Takes the next byte.
-    pub(super) fn step(&mut self, byte: u8) -> Result<Option<Record>, FeedFault>
-        ensures value { Takes (step self.old byte) self.old self.new byte result }
-    {
+impl Reads for Reader {
+    type Gives = Record;
+
+    type Fault = CaptureFault;
+
+    ghost Verdict = { Verdict };
+
+    ghost format = { captures };
+
+    ghost wants = { IsLengthEnd };
+
+    fn step(&mut self, byte: u8) -> Result<Option<Record>, FeedFault> {
         if self.is_full() {
             return self.refuse(CaptureFault::TooLong);
         }
@@ -39,6 +51,36 @@ impl Reader {
             Due::Nothing => self.refuse(CaptureFault::Trailing { at: self.at }),
             Due::Broken(fault) => Err(FeedFault::Fault(fault)),
         }
+    }
+
+    #[tactic(auto, using(crate::proofs::RunLemmas::run_fed, zy_read::proofs::Feeding::fed_none))]
+    // Takes bytes of a segment, but not its last one.
+    fn take_run(&mut self, bytes: &[u8], at: usize) -> usize {
+        match self.due {
+            Due::Payload { conn, length } if self.at < CAPTURE_LIMIT => {
+                let left = length as usize - self.payload.len() - 1;
+                let room = (CAPTURE_LIMIT - self.at) as usize;
+                let run = left.min(room).min(bytes.len() - at - 1);
+                self.append(conn, length, &bytes[at..at + run]);
+                run
+            }
+            _ => 0,
+        }
+    }
+
+    ghost lasting = { lasting };
+}
+
+impl Reader {
+    // Takes bytes of a segment, but not its last one.
+    fn append(&mut self, conn: u32, size: u32, bytes: &[u8])
+        requires due { self.old.due ≡ Dues.Payload conn size }
+        requires fits { length self.old.payload + length bytes.now < size }
+        requires room { self.old.at + length bytes.now ≤ capture_limit }
+        ensures value { self.new ≡ grown_by self.old bytes.now }
+    {
+        let _ = self.payload.extend_from_slice(bytes);
+        self.at += bytes.len() as u64;
     }
 
     // The capture has its most bytes, and its end was not read.

@@ -1,29 +1,40 @@
 //! What the reader of replies files does at each byte, by what is due.
-ghost use Rattle.std.specs.Prelude.{◌≡◌, ◌+◌, ◌<◌, [], length, Err};
+ghost use Rattle.std.specs.Prelude.{◌≡◌, ◌+◌, ◌<◌, ◌≤◌, [], length, Err, true, false};
 ghost use Rattle.zy_read.specs.declared.not_taken.NotTaken.TheVariants.{Fault};
 ghost use Rattle.zy_capture.specs.declared.replies_due.RepliesDue.TheVariants as Dues;
 ghost use Rattle.zy_capture.specs.Replies.{replies_limit, AreNumbers};
-ghost use Rattle.zy_capture.specs.RepliesSteps.{goes, after_output, refuses, keeps, step, taken, is_full};
+ghost use Rattle.zy_capture.specs.RepliesSteps.{goes, after_output, refuses, keeps, grown_by, taken, is_full};
 ghost use Rattle.zy_capture.specs.RepliesSteps.{may_come, due_session};
-ghost use Rattle.zy_capture.specs.RepliesStanding.{Takes, IsWithin};
+ghost use Rattle.zy_capture.specs.RepliesVerdict.{Verdict, replies};
+ghost use Rattle.zy_capture.specs.RepliesStanding.{Takes, IsWithin, IsOfOutput};
+ghost use Rattle.zy_capture.specs.RepliesLasting.{lasting};
 
-use super::{REPLIES_LIMIT, RepliesReader};
+use super::RepliesReader;
 use crate::limits::CONNECTION_LIMIT;
 use crate::replies_due::RepliesDue;
 use crate::session_bytes::SessionBytes;
 use std::mem;
 use zy_base::{Blob, FileFault};
-use zy_read::FileFeed;
+use zy_read::{FileFeed, Reads};
+
+const REPLIES_LIMIT: u64 = 9_223_372_036_854_775_807;
 
 const LETTERS: &[u8; 6] = b"ZYGREP";
 
 const SESSION_LIMIT: u32 = 2_147_483_648;
 
-impl RepliesReader {
-    // Takes the next byte.
-    pub(super) fn step(&mut self, byte: u8) -> Result<Option<SessionBytes>, FileFeed>
-        ensures value { Takes (step self.old byte) self.old self.new byte result }
-    {
+impl Reads for RepliesReader {
+    type Gives = SessionBytes;
+
+    type Fault = FileFault;
+
+    ghost Verdict = { Verdict };
+
+    ghost format = { replies };
+
+    ghost wants = { IsOfOutput };
+
+    fn step(&mut self, byte: u8) -> Result<Option<SessionBytes>, FileFeed> {
         if self.is_full() {
             return self.refuse(FileFault::TooLong);
         }
@@ -43,6 +54,47 @@ impl RepliesReader {
             RepliesDue::Nothing => self.refuse(FileFault::Form { at: self.at }),
             RepliesDue::Broken(fault) => Err(FileFeed::Fault(fault)),
         }
+    }
+
+    #[tactic(auto, using(crate::proofs::RepliesRunLemmas::run_fed, zy_read::proofs::Feeding::fed_none))]
+    // Takes bytes of an output, but not its last one; where memory is wanted for them, none.
+    fn take_run(&mut self, bytes: &[u8], at: usize) -> usize {
+        match self.due {
+            RepliesDue::Output {
+                conn,
+                session,
+                length,
+            } if self.at < REPLIES_LIMIT => {
+                let left = length - self.payload.len() as u64 - 1;
+                let room = REPLIES_LIMIT - self.at;
+                let run = left.min(room).min((bytes.len() - at - 1) as u64) as usize;
+                if self.append(conn, session, length, &bytes[at..at + run]) {
+                    run
+                } else {
+                    0
+                }
+            }
+            _ => 0,
+        }
+    }
+
+    ghost lasting = { lasting };
+}
+
+impl RepliesReader {
+    // Takes bytes of an output, but not its last one, where there is memory.
+    fn append(&mut self, conn: u32, session: u32, size: u64, bytes: &[u8]) -> bool
+        requires due { self.old.due ≡ Dues.Output conn session size }
+        requires fits { length self.old.payload + length bytes.now < size }
+        requires room { self.old.at + length bytes.now ≤ replies_limit }
+        ensures ok { result ≡ true → self.new ≡ grown_by self.old bytes.now }
+        ensures kept { result ≡ false → self.new ≡ self.old }
+    {
+        if self.payload.extend_from_slice(bytes).is_err() {
+            return false;
+        }
+        self.at += bytes.len() as u64;
+        true
     }
 
     // The file has its most bytes, and its end was not read.

@@ -2,19 +2,28 @@
 ghost use Rattle.std.specs.Prelude.{◌≡◌, ◌+◌, ◌<◌, [], ◌++◌, ◌∷◌, length, Err};
 ghost use Rattle.zy_read.specs.declared.not_taken.NotTaken.TheVariants.{Fault};
 ghost use Rattle.zy_journal_reader.specs.Fields.{IsWithin};
-ghost use Rattle.zy_journal_reader.specs.Steps.{goes, begins, refuses, keeps, step, is_full, journal_limit};
-ghost use Rattle.zy_journal_reader.specs.Standing.{Takes};
+ghost use Rattle.zy_journal_reader.specs.Steps.{goes, begins, refuses, keeps, is_full, journal_limit};
+ghost use Rattle.zy_journal_reader.specs.Verdict.{Verdict, journals};
+ghost use Rattle.zy_journal_reader.specs.Standing.{MayWant};
+ghost use Rattle.zy_journal_reader.specs.Lasting.{lasting};
 
 use super::{JOURNAL_LIMIT, JournalReader};
 use crate::due::{BytesField, Due};
 use zy_base::FileFault;
-use zy_read::FileFeed;
+use zy_read::{FileFeed, Reads};
 
-impl JournalReader {
-    // Takes the next byte.
-    pub(super) fn step(&mut self, byte: u8) -> Result<Option<()>, FileFeed>
-        ensures value { Takes (step self.old byte) self.old self.new result }
-    {
+impl Reads for JournalReader {
+    type Gives = ();
+
+    type Fault = FileFault;
+
+    ghost Verdict = { Verdict };
+
+    ghost format = { journals };
+
+    ghost wants = { MayWant };
+
+    fn step(&mut self, byte: u8) -> Result<Option<()>, FileFeed> {
         if self.is_full() {
             return self.refuse(FileFault::TooLong);
         }
@@ -28,6 +37,15 @@ impl JournalReader {
         }
     }
 
+    // Takes bytes of what is due, but not its last one.
+    fn take_run(&mut self, bytes: &[u8], at: usize) -> usize {
+        self.feed_run(bytes, at)
+    }
+
+    ghost lasting = { lasting };
+}
+
+impl JournalReader {
     // The journal has its most bytes, and its end was not read.
     fn is_full(&self) -> bool
         ensures value { result ≡ is_full self.now }

@@ -1,4 +1,4 @@
-use Rattle.zy_feed.specs.declared.stop.Stop.TheVariants.{Refused}
+use Rattle.zy_read.specs.declared.stop.Stop.TheVariants.{Refused}
 use Rattle.zy_capture.specs.declared.capture_fault.CaptureFault.TheVariants.{TooLong}
 use Rattle.zy_feed.proofs.ReadLemmas.{too_long}
 use Rattle.zy_feed.proofs.intake.Intake.cut.Goals as goal

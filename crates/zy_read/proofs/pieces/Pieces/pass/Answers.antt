@@ -1,6 +1,6 @@
 use Rattle.std.proofs.Common.{sym}
-use Rattle.zy_check_input.proofs.PartLemmas.{piece_on}
-use Rattle.zy_check_input.proofs.pieces.Pieces.pass.Goals as goal
+use Rattle.zy_read.proofs.SourceLemmas.{piece_on}
+use Rattle.zy_read.proofs.pieces.Pieces.pass.Goals as goal
 
 pub returns : goal.returns
 returns c = record {

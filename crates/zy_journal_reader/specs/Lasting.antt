@@ -1,7 +1,8 @@
--- The format of journals is one of those whose first fault counts.
+-- The first fault of a journal counts.
 use Rattle.std.proofs.Common.{◌≡◌, ℕ, refl, ap}
 use Rattle.std.specs.Prelude.{Some, None}
 use Rattle.zy_read.specs.Format.{IsLasting}
+use Rattle.zy_read.specs.Lasting.{none_met, one_met}
 use Rattle.zy_base.specs.declared.file_fault.FileFault.{FileFault}
 use Rattle.zy_journal_reader.specs.declared.due.Due.{Due}
 use Rattle.zy_journal_reader.specs.declared.due.Due.TheVariants.{Broken}
@@ -9,12 +10,19 @@ use Rattle.zy_journal_reader.specs.Fields.{fault_in}
 use Rattle.zy_journal_reader.specs.Steps.{Progress, step}
 use Rattle.zy_journal_reader.specs.Verdict.{journals, ended}
 
+-- where a fault was met, it is what is due
 pub is_broken : (due : Due) (fault : FileFault) → fault_in due ≡ Some fault → due ≡ Broken fault
-is_broken (Broken found) fault is = cc
-is_broken due fault is = cc
+is_broken (Broken found) fault is = one_met Broken found fault is
+is_broken due fault is = absurd (none_met fault is)
 
-still : (p : Progress) (byte : ℕ) (fault : FileFault) → fault_in p.due ≡ Some fault → step p byte ≡ record { next = p; gave = None }
-still p byte fault met = let is : p.due ≡ Broken fault = is_broken p.due fault met in rw is refl
+-- and no byte does anything
+still : (p : Progress) (byte : ℕ) (fault : FileFault) → fault_in p.due ≡ Some fault
+    → step p byte ≡ record { next = p; gave = None }
+still p byte fault met = rw (is_broken p.due fault met) refl
 
+-- the first fault counts
 pub lasting : IsLasting journals
-lasting = record { still = still; counts = λ p given fault met. ap (λ (d : Due). ended d p) (is_broken p.due fault met) }
+lasting = record {
+  still = still;
+  counts = λ p given fault met. ap (λ (d : Due). ended d p) (is_broken p.due fault met);
+}

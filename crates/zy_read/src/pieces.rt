@@ -1,6 +1,6 @@
 //! The bytes of a source, read in pieces.
 ghost use Rattle.std.specs.Prelude.{◌≡◌, ◌<◌, ◌≤◌, ℕ, List, [], length, drop, true, Ok, IfOk};
-ghost use Rattle.zy_check_input.specs.Reading.{HasGiven, Refills};
+ghost use Rattle.zy_read.specs.Piece.{HasGiven, Refills};
 
 use std::alloc::Global;
 use std::marker::Model;
@@ -9,9 +9,9 @@ use zy_base::{Failed, NoMemory, Source};
 // The most bytes that one read asks for.
 const PIECE: usize = 65_536;
 
-/// A piece of a source. Contracts see it as its bytes that were not taken yet.
+/// A piece of a source, of 64 KiB at most. Contracts see it as its bytes that were not taken yet.
 #[derive(Drop)]
-pub(crate) struct Pieces {
+pub struct Pieces {
     piece: Vec<u8>,
     at: usize,
     end: usize,
@@ -29,8 +29,8 @@ impl Model for Pieces {
 }
 
 impl Pieces {
-    // No byte was read yet.
-    pub(crate) fn new(alloc: Global) -> Result<Pieces, NoMemory>
+    /// No byte was read yet.
+    pub fn new(alloc: Global) -> Result<Pieces, NoMemory>
         ensures ok { IfOk result (λ pieces. pieces ≡ []) }
     {
         match vec![in alloc; 0u8; PIECE] {
@@ -43,8 +43,8 @@ impl Pieces {
         }
     }
 
-    // Reads the next piece where none is left of this one. Gives whether there are bytes.
-    pub(crate) fn refill<S: Source>(&mut self, source: &mut S) -> Result<bool, Failed>
+    /// Reads the next piece where nothing is left of this one. Gives whether there are bytes.
+    pub fn refill<S: Source>(&mut self, source: &mut S) -> Result<bool, Failed>
         ensures value { (first : S) (taken : List ℕ)
             → HasGiven S.rest S.faults first source.old self.old taken
             → Refills S.rest S.faults first source.new self.new taken result }
@@ -64,15 +64,15 @@ impl Pieces {
         }
     }
 
-    // The bytes that are left.
-    pub(crate) fn left(&self) -> &[u8]
+    /// The bytes that are left.
+    pub fn left(&self) -> &[u8]
         ensures value { result.now ≡ self.now }
     {
         &self.piece[self.at..self.end]
     }
 
-    // Takes so many first bytes of those that are left.
-    pub(crate) fn pass(&mut self, count: usize)
+    /// Takes this many first bytes of those that are left.
+    pub fn pass(&mut self, count: usize)
         requires within { count ≤ length self.old }
         ensures value { self.new ≡ drop count self.old }
     {
