@@ -1,0 +1,142 @@
+-- What is seen at one key of a shard depends on the calls with this key alone.
+use Rattle.std.proofs.Common.{◌≡◌, ℕ, ◌+◌, Bool, true, false, cond, List, length, refl, sym, ap, ◌∙◌, subst, Option, None, Some}
+use Rattle.std.specs.Prelude.{◌++◌, nat_lt}
+use Rattle.std.specs.Ordering.{nat_cmp, eq_by_cmp, is_eq}
+use Rattle.std.specs.declared.cmp.Ordering.{Ordering}
+use Rattle.std.specs.declared.cmp.Ordering.TheVariants.{Less, Equal, Greater}
+use Rattle.std.specs.Cmp.Lexicographic.{slice_cmp, nat_list_cmp_total}
+use Rattle.std.specs.FinMap.{get, get-empty, get-insert, get-remove, nat_cmp-IsAntisymmetric, slice_cmp-IsAntisymmetric}
+use Rattle.zy_base.specs.declared.item.Item.{Item}
+use Rattle.zy_base.specs.declared.call.Call.{Call}
+use Rattle.zy_base.specs.declared.call.Call.TheVariants.{Get, Set, Add, Replace, Append, Prepend, Cas, Incr, Decr, Delete, Flush}
+use Rattle.zy_base.specs.declared.call_reply.CallReply.TheVariants.{TooLarge}
+use Rattle.zy_base.specs.Call.{key_of}
+use Rattle.zy_base.specs.Number.{number_of}
+use Rattle.zy_base.specs.Shard.{Items, State, Effect, keeps, stores, removes, empties, value_limit, unique_of, reply_to, state_after, state_with, item_at, outcome_of, outcome_on, answers, stored, counted_up, counted_down}
+use Rattle.zy_base.specs.Told.{told, seen, seen_at, seen_after, IsSteady, IsAtOnly}
+
+-- ---- what a call answers and does
+
+-- a call's answer, without its unique, depends on what is found without its unique
+told-outcome_of : (call : Call) (found : Option Item) → IsSteady call → told (outcome_of call found).reply ≡ told (outcome_of call (seen found)).reply
+told-outcome_of (Cas key flags unique value) found steady = absurd steady
+told-outcome_of Flush found steady = absurd steady
+told-outcome_of call None steady = refl
+told-outcome_of call (Some item) steady = refl
+
+-- its effect depends on what is found without its unique
+effect-outcome_of : (call : Call) (found : Option Item) → IsSteady call → (outcome_of call found).effect ≡ (outcome_of call (seen found)).effect
+effect-outcome_of (Cas key flags unique value) found steady = absurd steady
+effect-outcome_of Flush found steady = absurd steady
+effect-outcome_of call None steady = refl
+effect-outcome_of call (Some item) steady = refl
+
+-- ---- the key of an effect
+
+at-stored : (key : List ℕ) (item : Item) (value : List ℕ) (b : Bool) → IsAtOnly key (cond b (answers TooLarge) (stored key item.flags value)).effect
+at-stored key item value true = tt
+at-stored key item value false = refl
+
+at-counted_up : (key : List ℕ) (item : Item) (amount : ℕ) (number : Option ℕ) → IsAtOnly key (counted_up key item amount number).effect
+at-counted_up key item amount None = tt
+at-counted_up key item amount (Some number) = refl
+
+at-counted_down : (key : List ℕ) (item : Item) (amount : ℕ) (number : Option ℕ) → IsAtOnly key (counted_down key item amount number).effect
+at-counted_down key item amount None = tt
+at-counted_down key item amount (Some number) = refl
+
+-- the effect of a call is at its key
+at-outcome_of : (key : List ℕ) (call : Call) (found : Option Item) → IsSteady call → key_of call ≡ Some key → IsAtOnly key (outcome_of call found).effect
+at-outcome_of key (Get at) None steady is = tt
+at-outcome_of key (Get at) (Some item) steady is = tt
+at-outcome_of key (Set at flags value) found steady is = cc
+at-outcome_of key (Add at flags value) None steady is = cc
+at-outcome_of key (Add at flags value) (Some item) steady is = tt
+at-outcome_of key (Replace at flags value) None steady is = tt
+at-outcome_of key (Replace at flags value) (Some item) steady is = cc
+at-outcome_of key (Append at value) None steady is = tt
+at-outcome_of key (Append at value) (Some item) steady is =
+    let same : at ≡ key = cc in subst (λ k. IsAtOnly k (outcome_of (Append at value) (Some item)).effect) same (at-stored at item (item.value ++ value) (nat_lt value_limit (length (item.value ++ value))))
+at-outcome_of key (Prepend at value) None steady is = tt
+at-outcome_of key (Prepend at value) (Some item) steady is =
+    let same : at ≡ key = cc in subst (λ k. IsAtOnly k (outcome_of (Prepend at value) (Some item)).effect) same (at-stored at item (value ++ item.value) (nat_lt value_limit (length (value ++ item.value))))
+at-outcome_of key (Cas at flags unique value) found steady is = absurd steady
+at-outcome_of key (Incr at amount) None steady is = tt
+at-outcome_of key (Incr at amount) (Some item) steady is =
+    let same : at ≡ key = cc in subst (λ k. IsAtOnly k (outcome_of (Incr at amount) (Some item)).effect) same (at-counted_up at item amount (number_of item.value))
+at-outcome_of key (Decr at amount) None steady is = tt
+at-outcome_of key (Decr at amount) (Some item) steady is =
+    let same : at ≡ key = cc in subst (λ k. IsAtOnly k (outcome_of (Decr at amount) (Some item)).effect) same (at-counted_down at item amount (number_of item.value))
+at-outcome_of key (Delete at) None steady is = tt
+at-outcome_of key (Delete at) (Some item) steady is = cc
+at-outcome_of key Flush found steady is = absurd steady
+
+-- ---- a shard after an effect
+
+seen-cond : (b : Bool) (item : Option Item) (found : Option Item) → seen (cond b item found) ≡ cond b (seen item) (seen found)
+seen-cond true item found = refl
+seen-cond false item found = refl
+
+-- what is seen at a key after an effect depends on what was seen there before it
+seen_at-state_with : (shards number : ℕ) (state : State) (effect : Effect) (key : List ℕ) → seen_at key (state_with shards number state effect) ≡ seen_after effect key (seen_at key state)
+seen_at-state_with shards number state keeps key = refl
+seen_at-state_with shards number state (stores at flags value) key =
+    let item : Item = record { flags = flags; value = value; unique = unique_of shards number (state.count + 1) } in
+    ap seen (get-insert nat_list_cmp_total state.items at item key) ∙ seen-cond (eq_by_cmp (slice_cmp nat_cmp) key at) (Some item) (get state.items key)
+seen_at-state_with shards number state (removes at) key =
+    ap seen (get-remove nat_list_cmp_total state.items at key) ∙ seen-cond (eq_by_cmp (slice_cmp nat_cmp) key at) None (get state.items key)
+seen_at-state_with shards number state empties key = ap seen (get-empty (slice_cmp nat_cmp) key)
+
+-- keys that are apart do not tie
+no_tie : (key at : List ℕ) → (at ≡ key → ⊥) → eq_by_cmp (slice_cmp nat_cmp) key at ≡ false
+no_tie key at apart = go (slice_cmp nat_cmp key at) refl
+  where
+    go : (r : Ordering) → slice_cmp nat_cmp key at ≡ r → is_eq r ≡ false
+    go Less is = refl
+    go Equal is = absurd (apart (sym (slice_cmp-IsAntisymmetric nat_cmp-IsAntisymmetric key at is)))
+    go Greater is = refl
+
+-- an effect at one key leaves what is seen at others
+seen_after-other : (effect : Effect) (at key : List ℕ) (found : Option Item) → IsAtOnly at effect → (at ≡ key → ⊥) → seen_after effect key found ≡ found
+seen_after-other keeps at key found is apart = refl
+seen_after-other (stores own flags value) at key found is apart =
+    ap (λ b. cond b (Some (record { flags = flags; value = value; unique = 0 })) found) (no_tie key own (λ same. apart (sym is ∙ same)))
+seen_after-other (removes own) at key found is apart = ap (λ b. cond b None found) (no_tie key own (λ same. apart (sym is ∙ same)))
+seen_after-other empties at key found is apart = absurd is
+
+-- ---- a shard after a call
+
+item-named : (items : Items) (call : Call) (key : List ℕ) → key_of call ≡ Some key → item_at items (key_of call) ≡ get items key
+item-named items call key named = ap (item_at items) named
+
+-- shards on which the same is seen at a call's key give it the same answer
+pub told-reply_to : (state other : State) (call : Call) (key : List ℕ) → IsSteady call → key_of call ≡ Some key → seen_at key state ≡ seen_at key other
+    → told (reply_to state call) ≡ told (reply_to other call)
+told-reply_to state other call key steady named same =
+    told-outcome_of call (item_at state.items (key_of call)) steady
+    ∙ ap (λ found. told (outcome_of call found).reply) (ap seen (item-named state.items call key named) ∙ same ∙ sym (ap seen (item-named other.items call key named)))
+    ∙ sym (told-outcome_of call (item_at other.items (key_of call)) steady)
+
+-- and the call has the same effect on them
+pub effect-same : (state other : State) (call : Call) (key : List ℕ) → IsSteady call → key_of call ≡ Some key → seen_at key state ≡ seen_at key other
+    → (outcome_on state.items call).effect ≡ (outcome_on other.items call).effect
+effect-same state other call key steady named same =
+    effect-outcome_of call (item_at state.items (key_of call)) steady
+    ∙ ap (λ found. (outcome_of call found).effect) (ap seen (item-named state.items call key named) ∙ same ∙ sym (ap seen (item-named other.items call key named)))
+    ∙ sym (effect-outcome_of call (item_at other.items (key_of call)) steady)
+
+-- so a key at which the same is seen has the same after the call, also where the shards have other numbers
+pub seen_at-both : (shards number shards' number' : ℕ) (state other : State) (call : Call) (own key : List ℕ) → IsSteady call → key_of call ≡ Some own
+    → seen_at own state ≡ seen_at own other → seen_at key state ≡ seen_at key other → seen_at key (state_after shards number state call) ≡ seen_at key (state_after shards' number' other call)
+seen_at-both shards number shards' number' state other call own key steady named same_own same =
+    seen_at-state_with shards number state (outcome_on state.items call).effect key
+    ∙ ap (λ effect. seen_after effect key (seen_at key state)) (effect-same state other call own steady named same_own)
+    ∙ ap (seen_after (outcome_on other.items call).effect key) same
+    ∙ sym (seen_at-state_with shards' number' other (outcome_on other.items call).effect key)
+
+-- a call leaves what is seen at other keys
+pub seen_at-other : (shards number : ℕ) (state : State) (call : Call) (own key : List ℕ) → IsSteady call → key_of call ≡ Some own → (own ≡ key → ⊥)
+    → seen_at key (state_after shards number state call) ≡ seen_at key state
+seen_at-other shards number state call own key steady named apart =
+    seen_at-state_with shards number state (outcome_on state.items call).effect key
+    ∙ seen_after-other (outcome_on state.items call).effect own key (seen_at key state) (at-outcome_of own call (item_at state.items (key_of call)) steady named) apart

@@ -1,0 +1,59 @@
+-- Items, replies and entries as they are seen without uniques, shards and stamps.
+use Rattle.std.specs.Prelude.{◌≡◌, ℕ, List, map, if◌then◌else◌, Option, None, Some}
+use Rattle.std.specs.Ordering.{nat_cmp, eq_by_cmp}
+use Rattle.std.specs.Cmp.Lexicographic.{slice_cmp}
+use Rattle.std.specs.FinMap.{get}
+use Rattle.zy_base.specs.declared.item.Item.{Item}
+use Rattle.zy_base.specs.declared.call.Call.{Call}
+use Rattle.zy_base.specs.declared.call.Call.TheVariants.{Cas, Flush}
+use Rattle.zy_base.specs.declared.call_reply.CallReply.{CallReply}
+use Rattle.zy_base.specs.declared.call_reply.CallReply.TheVariants.{Hit}
+use Rattle.zy_base.specs.declared.entry.Entry.{Entry}
+use Rattle.zy_base.specs.Shard.{State, Effect, keeps, stores, removes, empties}
+
+-- ---- values
+
+-- a reply without its unique
+abbrev pub told : CallReply → CallReply
+told (Hit flags unique value) = Hit flags 0 value
+told reply = reply
+
+-- an entry without its shard, its unique and its stamp
+abbrev pub told_of : Entry → Entry
+told_of e = record { tag = e.tag; shard = 0; call = e.call; reply = told e.reply; stamp = 0 }
+
+-- entries without shards, uniques and stamps
+abbrev pub all_told : List Entry → List Entry
+all_told es = map told_of es
+
+-- what is found at a key, without its unique
+abbrev pub seen : Option Item → Option Item
+seen None = None
+seen (Some item) = Some (record { flags = item.flags; value = item.value; unique = 0 })
+
+-- what a shard has at a key, without its unique
+abbrev pub seen_at : List ℕ → State → Option Item
+seen_at key state = seen (get state.items key)
+
+-- ---- calls and effects
+
+-- the reply to the call does not depend on a unique, but for the unique that it tells, and its effect is at one key
+abbrev pub IsSteady : Call → Type 0
+IsSteady (Cas key flags unique value) = ⊥
+IsSteady Flush = ⊥
+IsSteady call = Unit {0}
+
+-- what is seen at a key after an effect, where this was seen before it
+abbrev pub seen_after : Effect → List ℕ → Option Item → Option Item
+seen_after keeps key found = found
+seen_after (stores at flags value) key found =
+    if eq_by_cmp (slice_cmp nat_cmp) key at then Some (record { flags = flags; value = value; unique = 0 }) else found
+seen_after (removes at) key found = if eq_by_cmp (slice_cmp nat_cmp) key at then None else found
+seen_after empties key found = None
+
+-- an effect is at this key alone
+abbrev pub IsAtOnly : List ℕ → Effect → Type 0
+IsAtOnly key keeps = Unit {0}
+IsAtOnly key (stores at flags value) = at ≡ key
+IsAtOnly key (removes at) = at ≡ key
+IsAtOnly key empties = ⊥
