@@ -1,0 +1,143 @@
+-- The calls of plain commands are steady, and about their keys; and what lines of plain commands mean.
+use Rattle.std.proofs.Common.{◌≡◌, ℕ, ◌+◌, ◌<◌, true, false, List, [], ◌∷◌, ◌++◌, refl, sym, ap, ◌∙◌, arith}
+use Rattle.std.specs.Prelude.{map, All, Bool, if◌then◌else◌}
+use Rattle.std.specs.List.{AllByRecursion, Contains}
+use Rattle.std.proofs.lemmas.List.{map-append}
+use Rattle.std.proofs.lemmas.List.Elements.{recursion_from_All, Contains-append_left, Contains-append_right}
+use Rattle.zy_base.specs.declared.call.Call.TheVariants.{Get as GetCall}
+use Rattle.mc_parse.specs.declared.command.Command.{Command}
+use Rattle.mc_parse.specs.declared.command.Command.TheVariants.{Store, Cas, Get, Delete, Count, Flush, Fault}
+use Rattle.mc_parse.specs.declared.verb.Verb.TheVariants.{Set, Add, Replace, Append, Prepend}
+use Rattle.mc_parse.specs.declared.shard_call.ShardCall.{ShardCall}
+use Rattle.mc_parse.specs.declared.error_line.ErrorLine.TheVariants.{BadChunk}
+use Rattle.mc_parse.specs.Form.{Ask, stores, exchanges, gets, deletes, counts, flushes, Form, faulty, asks, line_form}
+use Rattle.mc_parse.specs.Meaning.{is_ended, value_of, value_command, command_for, block_command_for, large_command_for, line_command, block_command, large_command}
+use Rattle.mc_parse.specs.Calls.{Due, calls_of, get_at, on_shard, tag_of, tagged, due, due_from, due_at}
+use Rattle.mc_parse.specs.Plain.{keys_of, all_keys_of, IsPlain, IsKeyed, IsDueOwn, bare, IsOwnCommand, IsOwnAsk, IsOwnForm}
+
+-- ---- lists
+
+pub each-append : {X : Type 0} (P : X → Type 0) (xs ys : List X) → AllByRecursion P xs → AllByRecursion P ys → AllByRecursion P (xs ++ ys)
+each-append P [] ys front back = back
+each-append P (x ∷ xs) ys front back = (front.0, each-append P xs ys front.1 back)
+
+first_in : (key : List ℕ) (keys : List (List ℕ)) → Contains (key ∷ keys) key
+first_in key keys = (0, omega arith, refl)
+
+-- ---- the calls of a command
+
+gets_keyed : (shards : ℕ) (IsOwn : List ℕ → Type 0) (keys : List (List ℕ)) → ((key : List ℕ) → Contains keys key → IsOwn key) → AllByRecursion (IsKeyed shards IsOwn) (map (get_at shards) keys)
+gets_keyed shards IsOwn [] own = tt
+gets_keyed shards IsOwn (key ∷ keys) own = (
+  record { key = key; named = refl; own = own key (first_in key keys); place = refl; steady = tt },
+  gets_keyed shards IsOwn keys (λ k inside. own k (Contains-append_right (key ∷ []) keys k inside)),
+)
+
+-- each call of a plain command is steady, and about one of its keys
+calls_keyed : (shards : ℕ) (IsOwn : List ℕ → Type 0) (command : Command) → IsPlain command → ((key : List ℕ) → Contains (keys_of command) key → IsOwn key)
+    → AllByRecursion (IsKeyed shards IsOwn) (calls_of shards command)
+calls_keyed shards IsOwn (Store Set key flags value quiet) plain own = (record { key = key; named = refl; own = own key (first_in key []); place = refl; steady = tt }, tt)
+calls_keyed shards IsOwn (Store Add key flags value quiet) plain own = (record { key = key; named = refl; own = own key (first_in key []); place = refl; steady = tt }, tt)
+calls_keyed shards IsOwn (Store Replace key flags value quiet) plain own = (record { key = key; named = refl; own = own key (first_in key []); place = refl; steady = tt }, tt)
+calls_keyed shards IsOwn (Store Append key flags value quiet) plain own = (record { key = key; named = refl; own = own key (first_in key []); place = refl; steady = tt }, tt)
+calls_keyed shards IsOwn (Store Prepend key flags value quiet) plain own = (record { key = key; named = refl; own = own key (first_in key []); place = refl; steady = tt }, tt)
+calls_keyed shards IsOwn (Cas key flags unique value quiet) plain own = absurd plain
+calls_keyed shards IsOwn (Get keys true) plain own = absurd plain
+calls_keyed shards IsOwn (Get keys false) plain own = gets_keyed shards IsOwn keys own
+calls_keyed shards IsOwn (Delete key quiet) plain own = (record { key = key; named = refl; own = own key (first_in key []); place = refl; steady = tt }, tt)
+calls_keyed shards IsOwn (Count key true amount quiet) plain own = (record { key = key; named = refl; own = own key (first_in key []); place = refl; steady = tt }, tt)
+calls_keyed shards IsOwn (Count key false amount quiet) plain own = (record { key = key; named = refl; own = own key (first_in key []); place = refl; steady = tt }, tt)
+calls_keyed shards IsOwn (Flush quiet) plain own = absurd plain
+calls_keyed shards IsOwn command plain own = tt
+
+-- ---- the calls due of a connection
+
+tagged_own : (shards count conn index part : ℕ) (keys : ℕ → List (List ℕ)) (calls : List ShardCall) → conn < count → AllByRecursion (IsKeyed shards (Contains (keys conn))) calls
+    → AllByRecursion (IsDueOwn shards count keys) (tagged conn index part calls)
+tagged_own shards count conn index part keys [] within keyed = tt
+tagged_own shards count conn index part keys (call ∷ calls) within keyed =
+    (record { within = within; keyed = keyed.0 }, tagged_own shards count conn index (part + 1) keys calls within keyed.1)
+
+due_from_own : (shards count conn index : ℕ) (keys : ℕ → List (List ℕ)) (commands : List Command) → conn < count → AllByRecursion IsPlain commands
+    → ((key : List ℕ) → Contains (all_keys_of commands) key → Contains (keys conn) key) → AllByRecursion (IsDueOwn shards count keys) (due_from shards conn index commands)
+due_from_own shards count conn index keys [] within plain own = tt
+due_from_own shards count conn index keys (command ∷ commands) within plain own =
+    each-append (IsDueOwn shards count keys) (due_at shards conn index command) (due_from shards conn (index + 1) commands)
+    (tagged_own shards count conn index 0 keys (calls_of shards command) within
+    (calls_keyed shards (Contains (keys conn)) command plain.0 (λ key inside. own key (Contains-append_left (keys_of command) (all_keys_of commands) key inside))))
+    (due_from_own shards count conn (index + 1) keys commands within plain.1 (λ key inside. own key (Contains-append_right (keys_of command) (all_keys_of commands) key inside)))
+
+-- the calls due of a connection whose commands are plain are steady, and about its keys
+pub due_own : (shards count conn : ℕ) (commands : ℕ → List Command) → conn < count → All IsPlain (commands conn)
+    → AllByRecursion (IsDueOwn shards count (λ c. all_keys_of (commands c))) (due shards conn (commands conn))
+due_own shards count conn commands within plain =
+    due_from_own shards count conn 0 (λ c. all_keys_of (commands c)) (commands conn) within (recursion_from_All IsPlain (commands conn) plain) (λ key inside. inside)
+
+-- ---- calls due without their shards
+
+gets_bare : (shards others conn index part : ℕ) (keys : List (List ℕ)) → map bare (tagged conn index part (map (get_at shards) keys)) ≡ map bare (tagged conn index part (map (get_at others) keys))
+gets_bare shards others conn index part [] = refl
+gets_bare shards others conn index part (key ∷ keys) =
+    ap (λ (l : List Due). record { tag = tag_of conn index part; call = on_shard (GetCall key) 0 } ∷ l) (gets_bare shards others conn index (part + 1) keys)
+
+calls_bare : (shards others conn index : ℕ) (command : Command) → IsPlain command → map bare (due_at shards conn index command) ≡ map bare (due_at others conn index command)
+calls_bare shards others conn index (Get keys unique) plain = gets_bare shards others conn index 0 keys
+calls_bare shards others conn index (Flush quiet) plain = absurd plain
+calls_bare shards others conn index command plain = refl
+
+due_from_bare : (shards others conn index : ℕ) (commands : List Command) → AllByRecursion IsPlain commands → map bare (due_from shards conn index commands) ≡ map bare (due_from others conn index commands)
+due_from_bare shards others conn index [] plain = refl
+due_from_bare shards others conn index (command ∷ commands) plain =
+    map-append bare (due_at shards conn index command) (due_from shards conn (index + 1) commands)
+    ∙ ap (λ (l : List Due). l ++ map bare (due_from shards conn (index + 1) commands)) (calls_bare shards others conn index command plain.0)
+    ∙ ap (λ (l : List Due). map bare (due_at others conn index command) ++ l) (due_from_bare shards others conn (index + 1) commands plain.1)
+    ∙ sym (map-append bare (due_at others conn index command) (due_from others conn (index + 1) commands))
+
+-- but for shards the same calls are due of plain commands, whatever the number of shards
+pub due_bare : (shards others conn : ℕ) (commands : List Command) → All IsPlain commands → map bare (due shards conn commands) ≡ map bare (due others conn commands)
+due_bare shards others conn commands plain = due_from_bare shards others conn 0 commands (recursion_from_All IsPlain commands plain)
+
+-- ---- what lines say
+
+-- the command of a plain line by itself is plain, and calls its keys alone
+alone_own : (IsOwn : List ℕ → Type 0) (form : Form) → IsOwnForm IsOwn form → IsOwnCommand IsOwn (command_for form)
+alone_own IsOwn (faulty line) own = record { plain = tt; keys = tt }
+alone_own IsOwn (asks (exchanges key flags bytes unique) quiet) own = absurd own
+alone_own IsOwn (asks (gets keys true) quiet) own = absurd (let is = own.0 in cc)
+alone_own IsOwn (asks (gets keys false) quiet) own = record { plain = tt; keys = own.1 }
+alone_own IsOwn (asks (deletes key) quiet) own = record { plain = tt; keys = (own, tt) }
+alone_own IsOwn (asks (counts key up amount) quiet) own = record { plain = tt; keys = (own, tt) }
+alone_own IsOwn (asks flushes quiet) own = absurd own
+alone_own IsOwn (asks ask quiet) own = record { plain = tt; keys = tt }
+
+value_own : (IsOwn : List ℕ → Type 0) (ask : Ask) (quiet : Bool) (value : List ℕ) → IsOwnAsk IsOwn ask → IsOwnCommand IsOwn (value_command ask quiet value)
+value_own IsOwn (stores verb key flags bytes) quiet value own = record { plain = tt; keys = (own, tt) }
+value_own IsOwn (exchanges key flags bytes unique) quiet value own = absurd own
+value_own IsOwn ask quiet value own = record { plain = tt; keys = tt }
+
+ended_own : (IsOwn : List ℕ → Type 0) (form : Form) (block : List ℕ) → IsOwnForm IsOwn form → IsOwnCommand IsOwn (block_command_for block form)
+ended_own IsOwn (faulty line) block own = record { plain = tt; keys = tt }
+ended_own IsOwn (asks ask quiet) block own = go (is_ended block)
+  where
+    go : (b : Bool) → IsOwnCommand IsOwn (if b then value_command ask quiet (value_of block) else Fault BadChunk quiet)
+    go true = value_own IsOwn ask quiet (value_of block) own
+    go false = record { plain = tt; keys = tt }
+
+refused_own : (IsOwn : List ℕ → Type 0) (form : Form) → IsOwnCommand IsOwn (large_command_for form)
+refused_own IsOwn (faulty line) = record { plain = tt; keys = tt }
+refused_own IsOwn (asks ask quiet) = record { plain = tt; keys = tt }
+
+-- the same of the line
+pub line_own : (IsOwn : List ℕ → Type 0) (line : List ℕ) → IsOwnForm IsOwn (line_form line) → IsOwnCommand IsOwn (line_command line)
+unfolding line_command
+line_own IsOwn line own = alone_own IsOwn (line_form line) own
+
+-- with its block, whatever that is
+pub block_own : (IsOwn : List ℕ → Type 0) (line block : List ℕ) → IsOwnForm IsOwn (line_form line) → IsOwnCommand IsOwn (block_command line block)
+unfolding block_command
+block_own IsOwn line block own = ended_own IsOwn (line_form line) block own
+
+-- and with a block that is too large
+pub large_own : (IsOwn : List ℕ → Type 0) (line : List ℕ) → IsOwnCommand IsOwn (large_command line)
+unfolding large_command
+large_own IsOwn line = refused_own IsOwn (line_form line)
