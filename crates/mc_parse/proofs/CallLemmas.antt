@@ -9,7 +9,7 @@ use Rattle.zy_base.specs.declared.call.Call.TheVariants.{Get as GetCall, Set as 
 use Rattle.zy_base.specs.declared.call.Call.{Call}
 use Rattle.mc_parse.specs.declared.verb.Verb.TheVariants.{Set, Add, Replace, Append, Prepend}
 use Rattle.mc_parse.specs.declared.command.Command.{Command}
-use Rattle.mc_parse.specs.declared.command.Command.TheVariants.{Store, Cas, Get, Delete, Count, Version, Verbosity, Flush, Fault}
+use Rattle.mc_parse.specs.declared.command.Command.TheVariants.{Store, Cas, Get, Delete, Count, Flush}
 use Rattle.mc_parse.specs.declared.shard_call.ShardCall.{ShardCall}
 use Rattle.zy_base.specs.declared.entry.Entry.{Entry}
 use Rattle.std.proofs.lemmas.List.{map-append}
@@ -49,10 +49,8 @@ all_calls P shards keyed flush (Get keys unique) = all_gets P shards (λ key. ke
 all_calls P shards keyed flush (Delete key quiet) = one P (at_key shards key (DeleteCall key)) (keyed key (DeleteCall key) refl)
 all_calls P shards keyed flush (Count key true amount quiet) = one P (at_key shards key (Incr key amount)) (keyed key (Incr key amount) refl)
 all_calls P shards keyed flush (Count key false amount quiet) = one P (at_key shards key (Decr key amount)) (keyed key (Decr key amount) refl)
-all_calls P shards keyed flush Version = All-nil P
-all_calls P shards keyed flush (Verbosity quiet) = All-nil P
 all_calls P shards keyed flush (Flush quiet) = all_flushes P 0 shards (λ shard low high. flush shard (omega arith))
-all_calls P shards keyed flush (Fault line quiet) = All-nil P
+all_calls P shards keyed flush command = All-nil P
 
 -- every call is on the shard of its key
 pub all_at_keys : (shards : ℕ) (command : Command) → All (IsAtKey shards) (calls_of shards command)

@@ -5,7 +5,8 @@ use Rattle.std.proofs.Math.Seq.{drop-append_seam, take-append_seam}
 use Rattle.mc_parse.specs.declared.name.Name.{Name}
 use Rattle.mc_parse.specs.declared.command.Command.TheVariants.{Fault}
 use Rattle.mc_parse.specs.declared.error_line.ErrorLine.TheVariants.{Unknown, BadLine, BadChunk, TooLarge}
-use Rattle.mc_parse.specs.Arity.{Following, arity_of, has_count, lacks_noreply, following, following_of}
+use Rattle.mc_parse.specs.Name.{arity_of}
+use Rattle.mc_parse.specs.Arity.{Following, has_count, lacks_noreply, following, following_of}
 use Rattle.mc_parse.specs.Form.{Ask, Form, faulty, asks, number_fault, find, form_with, form_after}
 use Rattle.mc_parse.specs.Checks.{HasBadCount, LacksNoreply, HasLongKey, HasBadNumber, Asks, AreCounted, is_silenced}
 use Rattle.mc_parse.specs.Need.{need_for}

@@ -3,3 +3,7 @@ pub mod ArityLemmas
 pub mod NoreplyLemmas
 pub mod CheckLemmas
 pub mod CallLemmas
+pub mod KeyLemmas
+pub mod PlainLemmas
+pub mod BoundLemmas
+pub mod SameLemmas

@@ -16,13 +16,13 @@ use Rattle.mc_parse.specs.declared.name.Name.{Name}
 use Rattle.mc_parse.specs.declared.name.Name.TheVariants.{Store, Cas, Get, Delete, Count, Version, Verbosity, Flush, Quit}
 use Rattle.mc_parse.specs.declared.sizes.Sizes.{Sizes}
 use Rattle.mc_parse.specs.Words.{words as words_of, is_noreply}
-use Rattle.mc_parse.specs.Name.{name_of}
+use Rattle.mc_parse.specs.Name.{name_of, arity_of}
 use Rattle.mc_parse.specs.Number.{small_number_of, is_zero}
-use Rattle.mc_parse.specs.Arity.{Following, from_to, arity_of, has_count, ends_in_noreply, but_last, lacks_noreply, asks_silence, following, following_of}
+use Rattle.mc_parse.specs.Arity.{Following, from_to, has_count, ends_in_noreply, but_last, lacks_noreply, asks_silence, following, following_of}
 use Rattle.mc_parse.specs.Form.{Ask, stores, exchanges, gets, deletes, counts, tells_version, sets_verbosity, flushes, quits, Form, faulty, asks, is_key, keys_among, sizes_of, store_ask, cas_ask, store_words, cas_words, with_zero, delete_words, count_words, verbosity_words, ask_of, number_fault, check, find, form_with, form_after, form_of}
 use Rattle.mc_parse.specs.Need.{need_for}
-use Rattle.mc_parse.specs.Meaning.{command_for, block_command_for, large_command_for, is_ended, value_of, IsBlockFor, IsTooLarge}
-use Rattle.mc_parse.specs.Noreply.{may_be_quiet, is_loud, is_quiet, silent, silenced, with_noreply, EndsInNoreply}
+use Rattle.mc_parse.specs.Meaning.{command_for, block_command_for, large_command_for, is_ended, value_of, IsBlockFor, IsTooLarge, silenced}
+use Rattle.mc_parse.specs.Noreply.{may_be_quiet, is_loud, is_quiet, silent, with_noreply, EndsInNoreply}
 use Rattle.mc_parse.proofs.WordLemmas.{words-parted, words-one}
 use Rattle.mc_parse.proofs.ArityLemmas.{noreply, is_the_word, ends-split, unsilenced, follows_silently, follows_by, both}
 

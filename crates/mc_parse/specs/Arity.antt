@@ -1,11 +1,9 @@
 -- How many words may follow a name, and the word noreply among them (docs/PROFILE.md, "Commands").
 use Rattle.std.specs.Prelude.{ℕ, Bool, true, false, not, ◌&&◌, ◌==◌, nat_le, nat_lt, if◌then◌else◌, List, [], ◌∷◌, length, Option, None, Some}
 use Rattle.mc_parse.specs.declared.arity.Arity.{Arity}
-use Rattle.mc_parse.specs.declared.name.Name.{Name}
-use Rattle.mc_parse.specs.declared.name.Name.TheVariants.{Store, Cas, Get, Delete, Count, Version, Verbosity, Flush, Quit}
 use Rattle.mc_parse.specs.Words.{is_noreply}
 
--- ---- the table
+-- ---- so many words
 
 -- at least and at most so many words follow, and the last of the most is noreply
 abbrev pub from_to : ℕ → ℕ → Arity
@@ -18,18 +16,6 @@ at_least least = record { least = least; most = None; noreply = false }
 -- no word follows
 abbrev pub no_more : Arity
 no_more = record { least = 0; most = Some 0; noreply = false }
-
--- how many words may follow a name
-abbrev pub arity_of : Name → Arity
-arity_of (Store verb) = from_to 4 5
-arity_of Cas = from_to 5 6
-arity_of (Get unique) = at_least 1
-arity_of Delete = from_to 1 3
-arity_of (Count up) = from_to 2 3
-arity_of Version = no_more
-arity_of Verbosity = from_to 1 2
-arity_of Flush = from_to 0 2
-arity_of Quit = no_more
 
 -- ---- the count of words
 

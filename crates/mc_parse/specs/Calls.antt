@@ -11,7 +11,7 @@ use Rattle.mc_parse.specs.declared.verb.Verb.{Verb}
 use Rattle.mc_parse.specs.declared.verb.Verb.TheVariants.{Set, Add, Replace, Append, Prepend}
 use Rattle.mc_parse.specs.declared.shard_call.ShardCall.{ShardCall}
 use Rattle.mc_parse.specs.declared.command.Command.{Command}
-use Rattle.mc_parse.specs.declared.command.Command.TheVariants.{Store, Cas, Get, Delete, Count, Version, Verbosity, Flush, Fault}
+use Rattle.mc_parse.specs.declared.command.Command.TheVariants.{Store, Cas, Get, Delete, Count, Flush}
 
 -- ---- one command
 
@@ -57,10 +57,8 @@ calls_of shards (Cas key flags unique value quiet) =
 calls_of shards (Get keys unique) = get_calls shards keys
 calls_of shards (Delete key quiet) = at_key shards key (DeleteCall key) ∷ []
 calls_of shards (Count key up amount quiet) = at_key shards key (counted_by up key amount) ∷ []
-calls_of shards Version = []
-calls_of shards (Verbosity quiet) = []
 calls_of shards (Flush quiet) = flush_calls shards
-calls_of shards (Fault line quiet) = []
+calls_of shards command = []
 
 -- a call is on the shard of its key, where it has one
 abbrev pub IsAtKey : ℕ → ShardCall → Type 0

@@ -3,7 +3,8 @@
 use Rattle.std.specs.Prelude.{◌≡◌, ℕ, Bool, true, false, List, length, None, Some}
 use Rattle.std.specs.List.{list_all}
 use Rattle.mc_parse.specs.declared.name.Name.{Name}
-use Rattle.mc_parse.specs.Arity.{arity_of, has_count, lacks_noreply, asks_silence, following}
+use Rattle.mc_parse.specs.Name.{arity_of}
+use Rattle.mc_parse.specs.Arity.{has_count, lacks_noreply, asks_silence, following}
 use Rattle.mc_parse.specs.Form.{Ask, is_key, keys_among, ask_of}
 
 -- so many words may not follow the name

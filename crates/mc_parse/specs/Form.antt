@@ -2,6 +2,8 @@
 use Rattle.std.specs.Prelude.{ℕ, Bool, true, false, nat_le, if◌then◌else◌, List, [], ◌∷◌, length, Option, None, Some, option_map}
 use Rattle.std.specs.List.{list_all}
 use Rattle.zy_base.specs.Number.{number_of}
+use Rattle.mc_parse.specs.declared.asking.Ask.{Ask as SeenAsk}
+use Rattle.mc_parse.specs.declared.asking.Ask.TheVariants as Asked
 use Rattle.mc_parse.specs.declared.error_line.ErrorLine.{ErrorLine}
 use Rattle.mc_parse.specs.declared.error_line.ErrorLine.TheVariants.{Unknown, BadLine, BadDelta}
 use Rattle.mc_parse.specs.declared.verb.Verb.{Verb}
@@ -9,9 +11,9 @@ use Rattle.mc_parse.specs.declared.name.Name.{Name}
 use Rattle.mc_parse.specs.declared.name.Name.TheVariants.{Store, Cas, Get, Delete, Count, Version, Verbosity, Flush, Quit}
 use Rattle.mc_parse.specs.declared.sizes.Sizes.{Sizes}
 use Rattle.mc_parse.specs.Words.{words}
-use Rattle.mc_parse.specs.Name.{name_of}
+use Rattle.mc_parse.specs.Name.{name_of, arity_of}
 use Rattle.mc_parse.specs.Number.{small_number_of, is_zero, is_exptime}
-use Rattle.mc_parse.specs.Arity.{Following, arity_of, following_of}
+use Rattle.mc_parse.specs.Arity.{Following, following_of}
 
 -- ---- what a line can say
 
@@ -42,6 +44,18 @@ pub data Form : Type 0 where
   faulty : ErrorLine → Form
   -- it asks for this, quietly or not
   asks : Ask → Bool → Form
+
+-- what is asked for, where the parts of a line are seen as texts
+abbrev pub ask_seen : SeenAsk → Ask
+ask_seen (Asked.Store verb key flags bytes) = stores verb key.now flags bytes
+ask_seen (Asked.Cas key flags bytes unique) = exchanges key.now flags bytes unique
+ask_seen (Asked.Get keys unique) = gets (words keys.now) unique
+ask_seen (Asked.Delete key) = deletes key.now
+ask_seen (Asked.Count key up amount) = counts key.now up amount
+ask_seen Asked.Version = tells_version
+ask_seen Asked.Verbosity = sets_verbosity
+ask_seen Asked.Flush = flushes
+ask_seen Asked.Quit = quits
 
 -- ---- keys
 

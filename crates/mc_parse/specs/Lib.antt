@@ -8,5 +8,7 @@ pub mod Line
 pub mod Need
 pub mod Meaning
 pub mod Calls
+pub mod Bounds
+pub mod Plain
 pub mod Noreply
 pub mod Worked

@@ -2,15 +2,12 @@
 use Rattle.std.specs.Prelude.{ℕ, Bool, ◌==◌, List, map, filter, length, take, ⊤}
 use Rattle.std.specs.Borrow.{Bor}
 use Rattle.mc_parse.specs.declared.args.Args.{Args}
-use Rattle.mc_parse.specs.declared.ask.Ask.{Ask as SeenAsk}
-use Rattle.mc_parse.specs.declared.ask.Ask.TheVariants.{Store, Cas, Get, Delete, Count, Version, Verbosity, Flush, Quit}
 use Rattle.mc_parse.specs.declared.line.Line.{Line}
 use Rattle.mc_parse.specs.declared.name.Name.{Name}
 use Rattle.mc_parse.specs.declared.name.Name.TheVariants as Names
 use Rattle.mc_parse.specs.declared.line.Line.TheVariants.{Fault, Asks}
-use Rattle.mc_parse.specs.Words.{words}
 use Rattle.mc_parse.specs.Name.{names}
-use Rattle.mc_parse.specs.Form.{Ask, Form, stores, exchanges, gets, deletes, counts, tells_version, sets_verbosity, flushes, quits, faulty, asks}
+use Rattle.mc_parse.specs.Form.{Form, ask_seen, faulty, asks}
 
 -- ---- words
 
@@ -38,18 +35,6 @@ abbrev pub names_of_length : ℕ → List (List ℕ × Name)
 names_of_length count = filter (has_length count) names
 
 -- ---- lines
-
--- what was asked for
-abbrev pub ask_seen : SeenAsk → Ask
-ask_seen (Store verb key flags bytes) = stores verb key.now flags bytes
-ask_seen (Cas key flags bytes unique) = exchanges key.now flags bytes unique
-ask_seen (Get keys unique) = gets (words keys.now) unique
-ask_seen (Delete key) = deletes key.now
-ask_seen (Count key up amount) = counts key.now up amount
-ask_seen Version = tells_version
-ask_seen Verbosity = sets_verbosity
-ask_seen Flush = flushes
-ask_seen Quit = quits
 
 -- what a line that was read says
 abbrev pub form_seen : Line → Form

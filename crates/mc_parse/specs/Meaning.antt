@@ -1,5 +1,5 @@
 -- The command of a line, and of a line with its block (docs/PROFILE.md, "Commands").
-use Rattle.std.specs.Prelude.{◌≡◌, ℕ, ◌+◌, ◌-◌, ◌<◌, ◌≤◌, Bool, false, if◌then◌else◌, List, [], ◌∷◌, length, take, drop}
+use Rattle.std.specs.Prelude.{◌≡◌, ℕ, ◌+◌, ◌-◌, ◌<◌, ◌≤◌, Bool, true, false, if◌then◌else◌, List, [], ◌∷◌, length, take, drop}
 use Rattle.std.specs.Str.{bytes_eq}
 use Rattle.mc_parse.specs.declared.command.Command.{Command}
 use Rattle.mc_parse.specs.declared.command.Command.TheVariants.{Store, Cas, Get, Delete, Count, Version, Verbosity, Flush, Fault}
@@ -93,3 +93,17 @@ large_command line = large_command_for (line_form line)
 -- the command of a line that is too long
 abbrev pub long_command : Command
 long_command = fault LongLine
+
+-- ---- answers
+
+-- a command but for its answer; a retrieval and the version always have one
+abbrev pub silenced : Command → Command
+silenced (Store verb key flags value quiet) = Store verb key flags value true
+silenced (Cas key flags unique value quiet) = Cas key flags unique value true
+silenced (Get keys unique) = Get keys unique
+silenced (Delete key quiet) = Delete key true
+silenced (Count key up amount quiet) = Count key up amount true
+silenced Version = Version
+silenced (Verbosity quiet) = Verbosity true
+silenced (Flush quiet) = Flush true
+silenced (Fault line quiet) = Fault line true

@@ -1,9 +1,11 @@
--- The names of commands, byte for byte: memcached's protocol.txt, "Commands".
+-- The names of commands, byte for byte, and how many words may follow each: memcached's protocol.txt, "Commands".
 use Rattle.std.specs.Prelude.{ℕ, true, false, if◌then◌else◌, List, [], ◌∷◌, codes, Option, None, Some}
 use Rattle.std.specs.Str.{bytes_eq}
 use Rattle.mc_parse.specs.declared.verb.Verb.TheVariants.{Set, Add, Replace, Append, Prepend}
+use Rattle.mc_parse.specs.declared.arity.Arity.{Arity}
 use Rattle.mc_parse.specs.declared.name.Name.{Name}
 use Rattle.mc_parse.specs.declared.name.Name.TheVariants.{Store, Cas, Get, Delete, Count, Version, Verbosity, Flush, Quit}
+use Rattle.mc_parse.specs.Arity.{from_to, at_least, no_more}
 
 -- the names, each with how it is written
 abbrev pub names : List (List ℕ × Name)
@@ -23,3 +25,15 @@ name_among word (entry ∷ entries) =
 -- the name that a word is
 abbrev pub name_of : List ℕ → Option Name
 name_of word = name_among word names
+
+-- how many words may follow a name
+abbrev pub arity_of : Name → Arity
+arity_of (Store verb) = from_to 4 5
+arity_of Cas = from_to 5 6
+arity_of (Get unique) = at_least 1
+arity_of Delete = from_to 1 3
+arity_of (Count up) = from_to 2 3
+arity_of Version = no_more
+arity_of Verbosity = from_to 1 2
+arity_of Flush = from_to 0 2
+arity_of Quit = no_more

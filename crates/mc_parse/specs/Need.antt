@@ -2,19 +2,14 @@
 use Rattle.std.specs.Prelude.{ℕ, List}
 use Rattle.mc_parse.specs.declared.need.Need.{Need}
 use Rattle.mc_parse.specs.declared.need.Need.TheVariants.{Nothing, Block, Quit}
-use Rattle.mc_parse.specs.Form.{Ask, stores, exchanges, gets, deletes, counts, tells_version, sets_verbosity, flushes, quits, Form, line_form, faulty, asks}
+use Rattle.mc_parse.specs.Form.{Ask, stores, exchanges, quits, Form, line_form, faulty, asks}
 
 -- what must come with what is asked for
 abbrev pub ask_need : Ask → Need
 ask_need (stores verb key flags bytes) = Block bytes
 ask_need (exchanges key flags bytes unique) = Block bytes
-ask_need (gets keys unique) = Nothing
-ask_need (deletes key) = Nothing
-ask_need (counts key up amount) = Nothing
-ask_need tells_version = Nothing
-ask_need sets_verbosity = Nothing
-ask_need flushes = Nothing
 ask_need quits = Quit
+ask_need ask = Nothing
 
 -- what a line that says this needs
 abbrev pub need_for : Form → Need

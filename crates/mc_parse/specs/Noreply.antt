@@ -1,11 +1,9 @@
 -- Lines that may ask for no answer, and the word noreply (docs/PROFILE.md, "noreply").
 use Rattle.std.specs.Prelude.{◌≡◌, ℕ, Bool, true, false, not, ◌&&◌, List, [], ◌∷◌, ◌++◌, codes}
 use Rattle.mc_parse.specs.declared.need.Need.TheVariants.{Nothing}
-use Rattle.mc_parse.specs.declared.command.Command.{Command}
-use Rattle.mc_parse.specs.declared.command.Command.TheVariants.{Store, Cas, Get, Delete, Count, Version, Verbosity, Flush, Fault}
 use Rattle.mc_parse.specs.Words.{words}
 use Rattle.mc_parse.specs.Need.{need}
-use Rattle.mc_parse.specs.Meaning.{line_command, block_command, large_command, IsBlockFor, IsTooLarge}
+use Rattle.mc_parse.specs.Meaning.{line_command, block_command, large_command, silenced, IsBlockFor, IsTooLarge}
 use Rattle.mc_parse.specs.Form.{Ask, gets, tells_version, quits, Form, form_of, line_form, faulty, asks}
 
 -- ---- lines
@@ -51,18 +49,6 @@ pub record EndsInNoreply (line : List ℕ) : Type 0 where
   pub says : line_form line ≡ silent (form_of front)
 
 -- ---- commands
-
--- a command but for its answer; a retrieval and the version always have one
-abbrev pub silenced : Command → Command
-silenced (Store verb key flags value quiet) = Store verb key flags value true
-silenced (Cas key flags unique value quiet) = Cas key flags unique value true
-silenced (Get keys unique) = Get keys unique
-silenced (Delete key quiet) = Delete key true
-silenced (Count key up amount quiet) = Count key up amount true
-silenced Version = Version
-silenced (Verbosity quiet) = Verbosity true
-silenced (Flush quiet) = Flush true
-silenced (Fault line quiet) = Fault line true
 
 -- with the word noreply behind it, a line means the same, but is quiet
 pub record OnlyFallsSilent (line : List ℕ) : Type 0 where

@@ -1,9 +1,8 @@
 //! How many words may follow a name.
 ghost use Rattle.std.specs.Prelude.{◌≡◌};
-ghost use Rattle.mc_parse.specs.Arity.{arity_of, from_to, has_count, ends_in_noreply, lacks_noreply, asks_silence};
+ghost use Rattle.mc_parse.specs.Arity.{from_to, has_count, ends_in_noreply, lacks_noreply, asks_silence};
 ghost use Rattle.mc_parse.specs.Line.{texts};
 
-use crate::name::Name;
 use crate::word::is_noreply;
 
 /// How many words may follow a name, and whether the last of the most is noreply.
@@ -52,32 +51,8 @@ fn ends_in_noreply(words: &[&[u8]]) -> bool
     }
 }
 
-/// How many words may follow a name.
-pub(crate) fn arity_of(name: Name) -> Arity
-    ensures value { result ≡ arity_of name }
-{
-    match name {
-        Name::Store { .. } => from_to(4, 5),
-        Name::Cas => from_to(5, 6),
-        Name::Get { .. } => Arity {
-            least: 1,
-            most: None,
-            noreply: false,
-        },
-        Name::Delete => from_to(1, 3),
-        Name::Count { .. } => from_to(2, 3),
-        Name::Verbosity => from_to(1, 2),
-        Name::Flush => from_to(0, 2),
-        Name::Version | Name::Quit => Arity {
-            least: 0,
-            most: Some(0),
-            noreply: false,
-        },
-    }
-}
-
-// At least and at most so many words, and the last of the most is noreply.
-fn from_to(least: usize, most: usize) -> Arity
+/// At least and at most so many words, and the last of the most is noreply.
+pub(crate) fn from_to(least: usize, most: usize) -> Arity
     ensures value { result ≡ from_to least most }
 {
     Arity {

@@ -1,9 +1,8 @@
-//! What a name asks for with the words after it.
+//! What a line asks for, and what a name asks for with the words after it.
 ghost use Rattle.std.specs.Prelude.{◌≡◌, option_map};
-ghost use Rattle.mc_parse.specs.Form.{number_fault, sizes_of, store_words, cas_ask, cas_words, with_zero, delete_words, count_words, verbosity_words, ask_of};
-ghost use Rattle.mc_parse.specs.Line.{texts, ask_seen, HasFew};
+ghost use Rattle.mc_parse.specs.Form.{number_fault, sizes_of, store_words, cas_ask, cas_words, with_zero, delete_words, count_words, verbosity_words, ask_of, ask_seen};
+ghost use Rattle.mc_parse.specs.Line.{texts, HasFew};
 
-use crate::ask::Ask;
 use crate::error_line::ErrorLine;
 use crate::exptime::is_exptime;
 use crate::name::Name;
@@ -11,6 +10,48 @@ use crate::number::{is_zero, read_small_number};
 use crate::sizes::Sizes;
 use crate::verb::Verb;
 use zy_base::read_number;
+
+/// What a line asks for. Its words are parts of the line.
+#[derive(Clone, Copy)]
+pub(crate) enum Ask<'a> {
+    /// Store the block.
+    Store {
+        verb: Verb,
+        key: &'a [u8],
+        flags: u32,
+        bytes: u32,
+    },
+    /// Store the block where the item there has this unique.
+    Cas {
+        key: &'a [u8],
+        flags: u32,
+        bytes: u32,
+        unique: u64,
+    },
+    /// Get the items of the keys, which are the words of this text.
+    Get {
+        keys: &'a [u8],
+        unique: bool,
+    },
+    /// Remove the item.
+    Delete {
+        key: &'a [u8],
+    },
+    /// Count the value.
+    Count {
+        key: &'a [u8],
+        up: bool,
+        amount: u64,
+    },
+    /// Tell the version.
+    Version,
+    /// Set the verbosity.
+    Verbosity,
+    /// Remove all items.
+    Flush,
+    /// End the connection.
+    Quit,
+}
 
 /// What a name asks for with the words that follow; `None` where a number is bad.
 pub(crate) fn read_ask<'a>(name: Name, words: &[&'a [u8]]) -> Option<Ask<'a>>

@@ -1,9 +1,11 @@
 //! Laws of lines, commands and calls: the functions do nothing, and their contracts are the laws.
 ghost use Rattle.std.specs.Prelude.{◌≡◌, ℕ, ◌≤◌, Bool, true, false, List, [], ◌∷◌, ◌++◌, map, None, Some, All, codes};
-ghost use Rattle.std.specs.List.{list_all};
+ghost use Rattle.std.specs.List.{list_all, filter_map, AllByRecursion};
 ghost use Rattle.zy_base.specs.declared.call.Call.{Call};
 ghost use Rattle.zy_base.specs.declared.call.Call.TheVariants as Calls;
 ghost use Rattle.zy_base.specs.declared.entry.Entry.{Entry};
+ghost use Rattle.zy_base.specs.Bounds.{IsValue};
+ghost use Rattle.zy_base.specs.Call.{key_of};
 ghost use Rattle.mc_parse.specs.declared.command.Command.{Command};
 ghost use Rattle.mc_parse.specs.declared.error_line.ErrorLine.{ErrorLine};
 ghost use Rattle.mc_parse.specs.declared.error_line.ErrorLine.TheVariants as Errors;
@@ -15,8 +17,10 @@ ghost use Rattle.mc_parse.specs.Name.{name_of};
 ghost use Rattle.mc_parse.specs.Form.{Ask, stores, exchanges, gets, deletes, counts, tells_version, sets_verbosity, flushes, quits, asks, faulty, number_fault, form_after, form_of, line_form};
 ghost use Rattle.mc_parse.specs.Checks.{HasBadCount, LacksNoreply, HasLongKey, HasBadNumber, Asks, is_silenced};
 ghost use Rattle.mc_parse.specs.Need.{need};
-ghost use Rattle.mc_parse.specs.Meaning.{line_end, is_ended, value_command, line_command, block_command, large_command, fault, IsBlockFor, IsTooLarge};
+ghost use Rattle.mc_parse.specs.Meaning.{line_end, is_ended, value_of, value_command, line_command, block_command, large_command, fault, IsBlockFor, IsTooLarge};
 ghost use Rattle.mc_parse.specs.Calls.{calls_of, on_shard, asked_by, due, due_of, dues_of, IsAtKey, IsOnShard, IsDueOn, FollowsAll, FollowAll};
+ghost use Rattle.mc_parse.specs.Plain.{keys_of};
+ghost use Rattle.mc_parse.specs.Bounds.{IsCommand, IsShardCall};
 ghost use Rattle.mc_parse.specs.Noreply.{takes_noreply, is_quiet, OnlyFallsSilent, EndsInNoreply};
 ghost use Rattle.mc_parse.specs.Worked.{AllSay, Means, sets, long_key, lines_with_key, forms_with_key, nameless_lines, other_commands, short_lines, wordy_lines, lines_without_noreply, bad_deletions, bad_amounts, bad_levels, bad_flags, bad_exptimes, bad_lengths, bad_uniques, deletions_of_a, sets_of_a, unended_blocks, store_of, get_of_two, shards_of};
 
@@ -93,6 +97,23 @@ pub fn calls_are_at_their_keys()
     ensures value { (shards : ℕ) (command : Command)
         → All (IsAtKey shards) (calls_of shards command) }
     ensures within { (n : ℕ) (command : Command) → 1 ≤ n → All (IsOnShard n) (calls_of n command) }
+{}
+
+/// The keys that a command calls are those of its calls, in their order.
+pub fn a_command_calls_its_keys()
+    ensures value { (shards : ℕ) (command : Command)
+        → filter_map key_of (asked_by (calls_of shards command)) ≡ keys_of command }
+{}
+
+/// The keys and the value of a command are within their bounds, and so are its calls: whatever the
+/// line, where the value of its block is within the limit.
+pub fn commands_are_within_their_bounds()
+    ensures alone { (line : List ℕ) → IsCommand (line_command line) }
+    ensures block { (line block : List ℕ) → IsValue (value_of block)
+        → IsCommand (block_command line block) }
+    ensures large { (line : List ℕ) → IsCommand (large_command line) }
+    ensures calls { (shards : ℕ) (command : Command) → IsCommand command
+        → AllByRecursion IsShardCall (calls_of shards command) }
 {}
 
 /// A fault has no calls.

@@ -1,5 +1,5 @@
 //! What a line says.
-use crate::ask::Ask;
+use crate::asking::Ask;
 use crate::error_line::ErrorLine;
 
 /// What a line says.

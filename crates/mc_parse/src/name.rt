@@ -1,9 +1,10 @@
-//! The names of commands.
+//! The names of commands, and how many words may follow each.
 ghost use Rattle.std.specs.Prelude.{◌≡◌};
 ghost use Rattle.std.specs.Str.{bytes_eq};
-ghost use Rattle.mc_parse.specs.Name.{name_among, name_of};
+ghost use Rattle.mc_parse.specs.Name.{name_among, name_of, arity_of};
 ghost use Rattle.mc_parse.specs.Line.{names_of_length};
 
+use crate::arity::{Arity, from_to};
 use crate::verb::Verb;
 
 /// The name that a line begins with.
@@ -40,6 +41,30 @@ pub(crate) fn name_of(word: &[u8]) -> Option<Name>
         7 => name_of_seven(word),
         9 => name_of_nine(word),
         _ => None,
+    }
+}
+
+/// How many words may follow a name.
+pub(crate) fn arity_of(name: Name) -> Arity
+    ensures value { result ≡ arity_of name }
+{
+    match name {
+        Name::Store { .. } => from_to(4, 5),
+        Name::Cas => from_to(5, 6),
+        Name::Get { .. } => Arity {
+            least: 1,
+            most: None,
+            noreply: false,
+        },
+        Name::Delete => from_to(1, 3),
+        Name::Count { .. } => from_to(2, 3),
+        Name::Verbosity => from_to(1, 2),
+        Name::Flush => from_to(0, 2),
+        Name::Version | Name::Quit => Arity {
+            least: 0,
+            most: Some(0),
+            noreply: false,
+        },
     }
 }
 

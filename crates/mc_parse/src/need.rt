@@ -4,7 +4,7 @@ ghost use Rattle.mc_parse.specs.Words.{line_limit};
 ghost use Rattle.mc_parse.specs.Need.{need, need_for};
 ghost use Rattle.mc_parse.specs.Line.{form_seen};
 
-use crate::ask::Ask;
+use crate::asking::Ask;
 use crate::line::Line;
 use crate::reading::read_line;
 

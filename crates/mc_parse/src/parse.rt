@@ -4,10 +4,11 @@ ghost use Rattle.mc_parse.specs.declared.need.Need.{Need};
 ghost use Rattle.mc_parse.specs.declared.command.Command.{Command};
 ghost use Rattle.mc_parse.specs.Words.{words, line_limit};
 ghost use Rattle.mc_parse.specs.Need.{need};
-ghost use Rattle.mc_parse.specs.Line.{ask_seen, form_seen};
+ghost use Rattle.mc_parse.specs.Form.{ask_seen};
+ghost use Rattle.mc_parse.specs.Line.{form_seen};
 ghost use Rattle.mc_parse.specs.Meaning.{line_command, block_command, large_command, alone_command, value_command, command_for, block_command_for, large_command_for, fault, is_ended, value_of, IsBlockFor, IsTooLarge};
 
-use crate::ask::Ask;
+use crate::asking::Ask;
 use crate::command::{Command, Keys};
 use crate::error_line::ErrorLine;
 use crate::line::Line;

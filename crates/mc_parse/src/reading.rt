@@ -7,12 +7,10 @@ ghost use Rattle.mc_parse.specs.Form.{is_key, keys_among, form_with, form_after,
 ghost use Rattle.mc_parse.specs.Line.{texts, form_seen, HasFew};
 
 use crate::args::Args;
-use crate::arity::arity_of;
-use crate::ask::Ask;
-use crate::asking::{number_fault, read_ask};
+use crate::asking::{Ask, number_fault, read_ask};
 use crate::error_line::ErrorLine;
 use crate::line::Line;
-use crate::name::{Name, name_of};
+use crate::name::{Name, arity_of, name_of};
 use crate::word::{is_key, next_word};
 
 /// What a line says, or its first fault.

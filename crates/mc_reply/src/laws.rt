@@ -1,5 +1,5 @@
 //! Laws of texts: the functions do nothing, and their contracts are the laws.
-ghost use Rattle.std.specs.Prelude.{◌≡◌, ◌≤◌, ◌+◌, ℕ, true, false, List, [], ◌∷◌, ◌++◌, length, take, codes};
+ghost use Rattle.std.specs.Prelude.{◌≡◌, ◌≤◌, ◌+◌, ℕ, true, false, List, [], ◌∷◌, ◌++◌, length, take, map, codes};
 ghost use Rattle.zy_base.specs.declared.call_reply.CallReply.{CallReply};
 ghost use Rattle.zy_base.specs.declared.call_reply.CallReply.TheVariants as Replies;
 ghost use Rattle.zy_base.specs.declared.entry.Entry.{Entry};
@@ -7,6 +7,8 @@ ghost use Rattle.zy_base.specs.Replies.{replies_at};
 ghost use Rattle.mc_parse.specs.declared.command.Command.{Command};
 ghost use Rattle.mc_parse.specs.declared.verb.Verb.TheVariants as Verbs;
 ghost use Rattle.mc_parse.specs.declared.error_line.ErrorLine.TheVariants as Errors;
+ghost use Rattle.zy_base.specs.Told.{told};
+ghost use Rattle.mc_parse.specs.Plain.{IsPlain};
 ghost use Rattle.mc_reply.specs.Text.{text};
 ghost use Rattle.mc_reply.specs.Texts.{texts_from, texts_of};
 
@@ -97,4 +99,10 @@ pub fn each_command_has_one_text()
         → count ≤ last.tag.index
         → take count (texts_of commands (entries ++ last ∷ []))
         ≡ take count (texts_of commands entries) }
+{}
+
+/// The text of a plain command tells no unique of its replies.
+pub fn a_plain_command_tells_no_unique()
+    ensures value { (command : Command) (replies : List CallReply) → IsPlain command
+        → text command (map told replies) ≡ text command replies }
 {}

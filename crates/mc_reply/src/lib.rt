@@ -10,6 +10,7 @@ mod lines;
 mod writing;
 
 pub use laws::{
-    each_command_has_one_text, worked_answers, worked_faults, worked_limits, worked_lines,
+    a_plain_command_tells_no_unique, each_command_has_one_text, worked_answers, worked_faults,
+    worked_limits, worked_lines,
 };
 pub use writing::reply_text;

@@ -9,3 +9,6 @@ pub mod NumberLemmas
 pub mod RisingLemmas
 pub mod WritingLemmas
 pub mod WorkedLemmas
+pub mod KeyLemmas
+pub mod ReplyLemmas
+pub mod SameLemmas

@@ -6,7 +6,10 @@ pub mod Number
 pub mod Call
 pub mod Shard
 pub mod Kind
+pub mod Code
 pub mod Order
+pub mod Bounds
+pub mod Told
 pub mod Replies
 pub mod History
 pub mod Reserved

@@ -1,9 +1,11 @@
 //! Calls on a shard of the store.
 ghost use Rattle.std.specs.Prelude.{◌≡◌, IfOk, option_copied};
 ghost use Rattle.zy_base.specs.Call.{key_of};
+ghost use Rattle.zy_base.specs.Code.{call_code};
 ghost use Rattle.zy_base.specs.declared.call.Call.TheVariants.{Cas};
 
 use crate::blob::Blob;
+use crate::call_kind::CallKind;
 use crate::outside::NoMemory;
 
 /// A call on one shard of the store. A key has 1 to 250 bytes, and a value at most 1,048,576.
@@ -83,6 +85,25 @@ impl Call {
             Call::Decr { key, .. } => Some(key),
             Call::Delete { key } => Some(key),
             Call::Flush => None,
+        }
+    }
+
+    /// The code of the call in a journal.
+    pub fn code(&self) -> u8
+        ensures value { result ≡ call_code self.now }
+    {
+        match self {
+            Call::Get { .. } => CallKind::Get.code(),
+            Call::Set { .. } => CallKind::Set.code(),
+            Call::Add { .. } => CallKind::Add.code(),
+            Call::Replace { .. } => CallKind::Replace.code(),
+            Call::Append { .. } => CallKind::Append.code(),
+            Call::Prepend { .. } => CallKind::Prepend.code(),
+            Call::Cas { .. } => CallKind::Cas.code(),
+            Call::Incr { .. } => CallKind::Incr.code(),
+            Call::Decr { .. } => CallKind::Decr.code(),
+            Call::Delete { .. } => CallKind::Delete.code(),
+            Call::Flush => CallKind::Flush.code(),
         }
     }
 

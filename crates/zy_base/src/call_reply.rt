@@ -1,5 +1,6 @@
 //! What a shard answers to a call.
 ghost use Rattle.std.specs.Prelude.{◌≡◌, IfOk};
+ghost use Rattle.zy_base.specs.Code.{reply_code, plain_reply};
 
 use crate::blob::Blob;
 use crate::items::Items;
@@ -39,6 +40,42 @@ pub enum CallReply {
 }
 
 impl CallReply {
+    /// The code of the reply in a journal.
+    pub fn code(&self) -> u8
+        ensures value { result ≡ reply_code self.now }
+    {
+        match self {
+            CallReply::Miss => 1,
+            CallReply::Hit { .. } => 2,
+            CallReply::Stored => 3,
+            CallReply::NotStored => 4,
+            CallReply::Exists => 5,
+            CallReply::NotFound => 6,
+            CallReply::Deleted => 7,
+            CallReply::Number { .. } => 8,
+            CallReply::NotNumber => 9,
+            CallReply::TooLarge => 10,
+            CallReply::Flushed => 11,
+        }
+    }
+
+    /// The reply that has this code and no fields.
+    pub fn plain(code: u8) -> CallReply
+        ensures value { result ≡ plain_reply code }
+    {
+        match code {
+            1 => CallReply::Miss,
+            3 => CallReply::Stored,
+            4 => CallReply::NotStored,
+            5 => CallReply::Exists,
+            6 => CallReply::NotFound,
+            7 => CallReply::Deleted,
+            9 => CallReply::NotNumber,
+            10 => CallReply::TooLarge,
+            _ => CallReply::Flushed,
+        }
+    }
+
     /// The same reply.
     pub fn copy(&self) -> Result<CallReply, NoMemory>
         ensures value { IfOk result (λ copy. copy ≡ self.now) }

@@ -1,5 +1,6 @@
 //! Laws of the definitions: each is the contract of a function without a body.
 ghost use Rattle.std.specs.Prelude.{◌≡◌, ◌≢◌, ℕ, ◌<◌, ◌^◌, List, [], ◌∷◌, ◌++◌, length, codes, decimal, None, Some};
+ghost use Rattle.std.specs.List.{AllByRecursion};
 ghost use Rattle.zy_base.specs.declared.call.Call.{Call};
 ghost use Rattle.zy_base.specs.declared.entry.Entry.{Entry};
 ghost use Rattle.zy_base.specs.declared.call.Call.TheVariants as Calls;
@@ -10,6 +11,9 @@ ghost use Rattle.zy_base.specs.Key.{hash_of, shard_of};
 ghost use Rattle.zy_base.specs.Shard.{State, empty_state, reply_to, outcome_of, value_limit};
 ghost use Rattle.zy_base.specs.Worked as Worked;
 ghost use Rattle.zy_base.specs.Kind.{MayAnswer, AreAnswers};
+ghost use Rattle.zy_base.specs.Call.{key_of};
+ghost use Rattle.zy_base.specs.Bounds.{IsCallWithin, IsReply};
+ghost use Rattle.zy_base.specs.Told.{told, seen_at, IsSteady};
 ghost use Rattle.zy_base.specs.Replies.{replies_at};
 ghost use Rattle.zy_base.specs.History.{IsReplay, IsLegal, replayed, AreHistories};
 ghost use Rattle.zy_base.specs.Order.{of_connection, at_shard, AreBelow, AreByShard, StampsRise, AreStampsBelow, history_of, IsMergeOf, AreCallsOf};
@@ -86,6 +90,21 @@ pub fn replies_are_of_the_table()
     ensures replay { (shards number : ℕ) (state : State) (es : List Entry)
         → IsReplay shards number state es → AreAnswers es }
     ensures legal { (shards : ℕ) (es : List Entry) → IsLegal shards es → AreAnswers es }
+{}
+
+/// The replies of a legal list are within their bounds, where its calls are.
+pub fn replies_are_within_their_bounds()
+    ensures each { (commands shards : ℕ) (es : List Entry) → IsLegal shards es
+        → AllByRecursion (IsCallWithin commands) es
+        → AllByRecursion (λ (e : Entry). IsReply e.reply) es }
+{}
+
+/// Shards that have the same at a call's key, but for uniques, answer a steady call alike, but for
+/// the unique that is told.
+pub fn steady_calls_tell_no_other_unique()
+    ensures reply { (state other : State) (call : Call) (key : List ℕ) → IsSteady call
+        → key_of call ≡ Some key → seen_at key state ≡ seen_at key other
+        → told (reply_to state call) ≡ told (reply_to other call) }
 {}
 
 // ---- legal lists

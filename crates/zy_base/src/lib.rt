@@ -3,6 +3,7 @@
 
 mod blob;
 mod call;
+mod call_kind;
 mod call_numbers;
 mod call_reply;
 mod entry;
@@ -27,6 +28,7 @@ mod writing;
 
 pub use blob::Blob;
 pub use call::Call;
+pub use call_kind::{CallFields, CallKind};
 pub use call_numbers::CallNumbers;
 pub use call_reply::{CallReply, Replies};
 pub use entry::{Entries, Entry, Tag};

@@ -7,3 +7,4 @@ pub mod Feeding
 pub mod CutLaws
 pub mod FrameFits
 pub mod TextKinds
+pub mod BoundLemmas

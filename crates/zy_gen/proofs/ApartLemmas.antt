@@ -14,10 +14,11 @@ use Rattle.zy_frame.specs.Cut.{commands_of, joined}
 use Rattle.zy_frame.proofs.CutLaws.{commands_of_splits}
 use Rattle.zy_run.specs.Commands.{commands_in}
 use Rattle.zy_run.specs.Summary.{count_of_commands}
-use Rattle.zy_run.specs.Apart.{keys_of, all_keys_of, IsPlain, AreApart}
+use Rattle.mc_parse.specs.Plain.{keys_of, all_keys_of, IsPlain, IsOwnCommand}
+use Rattle.zy_run.specs.Apart.{AreApart}
 use Rattle.zy_gen.specs.Traffic.{request_text, records_of, IsTraffic}
 use Rattle.zy_gen.proofs.LengthLemmas.{text_few}
-use Rattle.zy_gen.specs.Said.{IsKeyOf, IsOwnCommand, IsOwnText, Says, Gives}
+use Rattle.zy_gen.specs.Said.{IsKeyOf, IsOwnText, Says, Gives}
 use Rattle.zy_gen.proofs.SolidLemmas.{each-append}
 use Rattle.zy_gen.proofs.SaidLemmas.{said_text, said_own}
 use Rattle.zy_gen.proofs.RequestLemmas.{says}
@@ -39,7 +40,7 @@ texts_frame : (conn : ℕ) (texts : List (List ℕ)) → conn < 4096 → AllByRe
 texts_frame conn [] few own = tt
 texts_frame conn (text ∷ texts) few own = (said_text conn text (text_says conn text few own.0) (text_short conn text few own.0), texts_frame conn texts few own.1)
 
-texts_own : (conn : ℕ) (texts : List (List ℕ)) → conn < 4096 → AllByRecursion (IsOwnText conn) texts → AllByRecursion (IsOwnCommand conn) (map (λ text. command_of (frame_of text)) texts)
+texts_own : (conn : ℕ) (texts : List (List ℕ)) → conn < 4096 → AllByRecursion (IsOwnText conn) texts → AllByRecursion (IsOwnCommand (IsKeyOf conn)) (map (λ text. command_of (frame_of text)) texts)
 texts_own conn [] few own = tt
 texts_own conn (text ∷ texts) few own = (said_own conn text (text_says conn text few own.0) (text_short conn text few own.0), texts_own conn texts few own.1)
 
@@ -72,20 +73,20 @@ module _ (number connections commands conn : ℕ) (is : IsTraffic number connect
       ∙ append-nil (commands_of (stream conn 0 records)) ∙ commands_are conn (stream conn 0 records) gives.texts few gives.whole gives.each
 
   -- the commands of a connection of generated traffic are plain, and about its own keys
-  own_commands : AllByRecursion (IsOwnCommand conn) (commands_in (records_of number connections commands) conn)
+  own_commands : AllByRecursion (IsOwnCommand (IsKeyOf conn)) (commands_in (records_of number connections commands) conn)
   unfolding records
-  own_commands = subst (AllByRecursion (IsOwnCommand conn)) (sym commands_is) (texts_own conn gives.texts few gives.each)
+  own_commands = subst (AllByRecursion (IsOwnCommand (IsKeyOf conn))) (sym commands_is) (texts_own conn gives.texts few gives.each)
 
   -- and as many as were asked for
   pub length-commands : length (commands_in (records_of number connections commands) conn) ≡ commands
   unfolding records
   length-commands = ap length commands_is ∙ length-map gives.texts (λ text. command_of (frame_of text)) ∙ gives.count
 
-each_plain : (conn : ℕ) (commands : List Command) → AllByRecursion (IsOwnCommand conn) commands → AllByRecursion IsPlain commands
+each_plain : (conn : ℕ) (commands : List Command) → AllByRecursion (IsOwnCommand (IsKeyOf conn)) commands → AllByRecursion IsPlain commands
 each_plain conn [] own = tt
 each_plain conn (command ∷ commands) own = (own.0.plain, each_plain conn commands own.1)
 
-each_key : (conn : ℕ) (commands : List Command) → AllByRecursion (IsOwnCommand conn) commands → AllByRecursion (IsKeyOf conn) (all_keys_of commands)
+each_key : (conn : ℕ) (commands : List Command) → AllByRecursion (IsOwnCommand (IsKeyOf conn)) commands → AllByRecursion (IsKeyOf conn) (all_keys_of commands)
 each_key conn [] own = tt
 each_key conn (command ∷ commands) own = each-append (IsKeyOf conn) (keys_of command) (all_keys_of commands) own.0.keys (each_key conn commands own.1)
 

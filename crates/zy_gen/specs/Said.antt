@@ -1,11 +1,10 @@
 -- What a line of generated traffic says. No public clause cites this module.
-use Rattle.std.specs.Prelude.{◌≡◌, ℕ, ◌≤◌, ◌<◌, false, Bool, List, [], ◌∷◌, ◌++◌, length, Some}
+use Rattle.std.specs.Prelude.{◌≡◌, ℕ, ◌≤◌, ◌<◌, Bool, List, [], ◌∷◌, ◌++◌, length, Some}
 use Rattle.std.specs.List.{AllByRecursion}
-use Rattle.mc_parse.specs.declared.command.Command.{Command}
-use Rattle.mc_parse.specs.Form.{Ask, stores, exchanges, gets, deletes, counts, tells_version, sets_verbosity, flushes, quits, asks, form_of}
+use Rattle.mc_parse.specs.Form.{Ask, asks, form_of}
 use Rattle.mc_parse.specs.Need.{ask_need}
 use Rattle.zy_frame.specs.Frame.{tail_by}
-use Rattle.zy_run.specs.Apart.{IsPlain, keys_of}
+use Rattle.mc_parse.specs.Plain.{IsOwnAsk}
 use Rattle.zy_frame.specs.Cut.{joined}
 use Rattle.zy_capture.specs.declared.record.Record.{Record}
 use Rattle.zy_capture.specs.declared.record.Record.TheVariants as Kinds
@@ -40,23 +39,6 @@ pub record IsKeyOf (conn : ℕ) (text : List ℕ) : Type 0 where
   pub item : ℕ
   pub is : text ≡ key conn item
 
--- what is asked for is plain, and about keys of the connection
-abbrev pub IsOwnAsk : ℕ → Ask → Type 0
-IsOwnAsk conn (stores verb key flags bytes) = IsKeyOf conn key
-IsOwnAsk conn (exchanges key flags bytes unique) = ⊥
-IsOwnAsk conn (gets keys unique) = (unique ≡ false) × AllByRecursion (IsKeyOf conn) keys
-IsOwnAsk conn (deletes key) = IsKeyOf conn key
-IsOwnAsk conn (counts key up amount) = IsKeyOf conn key
-IsOwnAsk conn tells_version = ⊥
-IsOwnAsk conn sets_verbosity = ⊥
-IsOwnAsk conn flushes = ⊥
-IsOwnAsk conn quits = ⊥
-
--- a command is plain, and calls keys of the connection alone
-pub record IsOwnCommand (conn : ℕ) (command : Command) : Type 0 where
-  pub plain : IsPlain command
-  pub keys : AllByRecursion (IsKeyOf conn) (keys_of command)
-
 -- ---- texts
 
 -- a text is a line of words that ask for something of the connection's own, and what belongs to it
@@ -70,7 +52,7 @@ pub record Says (conn : ℕ) (text : List ℕ) : Type 0 where
   pub solid : AllByRecursion IsSolidWord (name ∷ words)
   pub form : form_of (name ∷ words) ≡ asks ask quiet
   pub tail : tail_by (ask_need ask) ≡ Some (length after)
-  pub own : IsOwnAsk conn ask
+  pub own : IsOwnAsk (IsKeyOf conn) ask
 
 -- a text is a request of the connection
 pub record IsOwnText (conn : ℕ) (text : List ℕ) : Type 0 where

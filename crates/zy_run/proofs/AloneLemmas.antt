@@ -12,9 +12,10 @@ use Rattle.zy_base.specs.History.{IsLegalFrom, states_after}
 use Rattle.zy_base.specs.Order.{of_connection}
 use Rattle.zy_base.proofs.EntryLemmas.{of_connection-here, of_connection-other}
 use Rattle.mc_parse.specs.Calls.{Due, dues_of}
-use Rattle.zy_run.specs.Told.{told, all_told, seen_at}
-use Rattle.zy_run.specs.Keyed.{IsEntryOwn, Agree, told_by, bare}
-use Rattle.zy_run.proofs.KeyLemmas.{told-reply_to, seen_at-both, seen_at-other}
+use Rattle.zy_base.specs.Told.{told, all_told, seen_at}
+use Rattle.mc_parse.specs.Plain.{bare}
+use Rattle.zy_run.specs.Keyed.{IsEntryOwn, Agree, told_by}
+use Rattle.zy_base.proofs.KeyLemmas.{told-reply_to, seen_at-both, seen_at-other}
 
 -- ---- one entry
 

@@ -9,9 +9,9 @@ use Rattle.mc_reply.specs.Texts.{texts_from}
 use Rattle.zy_frame.specs.Cut.{commands_of}
 use Rattle.zy_run.specs.Commands.{commands_over}
 use Rattle.zy_run.specs.Output.{commands_before, output, outputs_of}
-use Rattle.zy_run.specs.Apart.{IsPlain}
-use Rattle.zy_run.specs.Told.{all_told}
-use Rattle.zy_run.proofs.TextLemmas.{texts-told}
+use Rattle.mc_parse.specs.Plain.{IsPlain}
+use Rattle.zy_base.specs.Told.{all_told}
+use Rattle.mc_reply.proofs.ToldLemmas.{texts-told}
 
 -- ---- lists
 

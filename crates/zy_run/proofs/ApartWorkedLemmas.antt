@@ -19,7 +19,8 @@ use Rattle.zy_base.specs.Order.{of_connection}
 use Rattle.zy_frame.specs.Cut.{cut_of, frames_of}
 use Rattle.zy_run.specs.Commands.{commands_in}
 use Rattle.zy_run.specs.Run.{IsRun}
-use Rattle.zy_run.specs.Apart.{all_keys_of, IsPlain, AreApart}
+use Rattle.mc_parse.specs.Plain.{all_keys_of, IsPlain}
+use Rattle.zy_run.specs.Apart.{AreApart}
 use Rattle.zy_run.specs.ApartWorked.{apart_records, apart_entries}
 
 -- ---- the run

@@ -1,14 +1,10 @@
 pub mod StreamLemmas
 pub mod OutputLemmas
 pub mod WorkedLemmas
-pub mod KeyLemmas
 pub mod AloneLemmas
-pub mod DueLemmas
 pub mod SerialLemmas
 pub mod CountLemmas
-pub mod TextLemmas
 pub mod ApartOutputLemmas
 pub mod RunLemmas
 pub mod SummaryLemmas
-pub mod CommandLemmas
 pub mod ApartWorkedLemmas

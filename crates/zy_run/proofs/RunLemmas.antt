@@ -16,13 +16,15 @@ use Rattle.mc_parse.proofs.CallLemmas.{due_within}
 use Rattle.zy_run.specs.Commands.{commands_over}
 use Rattle.zy_run.specs.Run.{AreOfConnections, IsRun}
 use Rattle.zy_run.specs.Output.{outputs_of, all_outputs}
-use Rattle.zy_run.specs.Apart.{all_keys_of, commands_of_all, IsPlain, AreApart}
-use Rattle.zy_run.specs.Keyed.{IsDueOwn, told_by, bare}
+use Rattle.mc_parse.specs.Plain.{all_keys_of, IsPlain}
+use Rattle.zy_run.specs.Apart.{commands_of_all, AreApart}
+use Rattle.mc_parse.specs.Plain.{IsDueOwn, bare}
+use Rattle.zy_run.specs.Keyed.{told_by}
 use Rattle.zy_run.specs.Serial.{alone}
-use Rattle.zy_run.specs.Told.{all_told}
+use Rattle.zy_base.specs.Told.{all_told}
 use Rattle.zy_run.proofs.AloneLemmas.{told-alone, told_by-bare}
 use Rattle.zy_run.proofs.CountLemmas.{length-same}
-use Rattle.zy_run.proofs.DueLemmas.{due_own, due_bare}
+use Rattle.mc_parse.proofs.PlainLemmas.{due_own, due_bare}
 use Rattle.zy_run.proofs.ApartOutputLemmas.{map-range_same, outputs-same}
 use Rattle.zy_run.proofs.SerialLemmas.{dues_of-answered, legal-answered, own-alone}
 

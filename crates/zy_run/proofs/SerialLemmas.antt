@@ -14,7 +14,7 @@ use Rattle.mc_parse.specs.declared.command.Command.{Command}
 use Rattle.mc_parse.specs.declared.shard_call.ShardCall.{ShardCall}
 use Rattle.mc_parse.specs.Calls.{Due, calls_of, tagged, due, due_from, due_at, due_of, dues_of, IsDueOn}
 use Rattle.zy_run.specs.Serial.{answered, entry_of, all_due, alone}
-use Rattle.zy_run.proofs.DueLemmas.{each-append}
+use Rattle.mc_parse.proofs.PlainLemmas.{each-append}
 
 -- ---- the entries
 

@@ -15,7 +15,7 @@ use Rattle.zy_run.specs.Output.{all_outputs}
 use Rattle.zy_run.specs.Apart.{commands_of_all, AreApart}
 use Rattle.zy_run.specs.Serial.{answered, entry_of, made, all_due, serial}
 use Rattle.zy_run.specs.Summary.{bytes_in, count_of_commands, summary, summary_of_run}
-use Rattle.zy_run.proofs.DueLemmas.{each-append}
+use Rattle.mc_parse.proofs.PlainLemmas.{each-append}
 use Rattle.zy_run.proofs.RunLemmas.{all_outputs-same, length-run}
 use Rattle.zy_run.proofs.SerialLemmas.{legal-answered, ordered-answered, own-answered, own-all_due, due_from_of}
 

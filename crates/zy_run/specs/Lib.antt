@@ -7,5 +7,4 @@ pub mod Apart
 pub mod Serial
 pub mod Summary
 pub mod ApartWorked
-pub mod Told
 pub mod Keyed

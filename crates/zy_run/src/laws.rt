@@ -1,20 +1,19 @@
 //! Laws of the definitions: each is the contract of a function without a body.
 ghost use Rattle.std.specs.Prelude.{◌≡◌, ℕ, ◌+◌, ◌<◌, List, [], length, None, ◌≤◌};
-ghost use Rattle.std.specs.List.{slice_index_or, filter_map};
+ghost use Rattle.std.specs.List.{slice_index_or};
 ghost use Rattle.zy_base.specs.declared.entry.Entry.{Entry};
 ghost use Rattle.zy_base.specs.Order.{IsOrdered};
-ghost use Rattle.zy_base.specs.Call.{key_of};
 ghost use Rattle.zy_capture.specs.declared.record.Record.{Record};
 ghost use Rattle.zy_capture.specs.Capture.{IsCapture};
 ghost use Rattle.zy_capture.specs.Streams.{closes, sessions_of, no_bytes, with_records};
 ghost use Rattle.mc_parse.specs.declared.command.Command.{Command};
-ghost use Rattle.mc_parse.specs.Calls.{calls_of, asked_by};
 ghost use Rattle.zy_run.specs.Commands.{streams_in, commands_in, commands_held};
 ghost use Rattle.zy_run.specs.Run.{IsRun};
 ghost use Rattle.zy_run.specs.Output.{output, outputs_of, all_outputs};
 ghost use Rattle.zy_run.specs.Spans.{Spans};
 ghost use Rattle.zy_run.specs.Worked.{worked_records, worked_entries, worked_outputs, worked_holds};
-ghost use Rattle.zy_run.specs.Apart.{keys_of, commands_of_all, AreApart};
+ghost use Rattle.mc_parse.specs.Plain.{keys_of};
+ghost use Rattle.zy_run.specs.Apart.{commands_of_all, AreApart};
 ghost use Rattle.zy_run.specs.Serial.{serial, alone};
 ghost use Rattle.zy_run.specs.Summary.{summary, summary_of_run};
 ghost use Rattle.zy_run.specs.ApartWorked.{apart_records, apart_entries, apart_summary};
@@ -50,12 +49,6 @@ pub fn each_session_has_its_output()
     ensures value { (conn session : ℕ) (streams : List (List ℕ)) (es : List Entry)
         → session < length streams
         → slice_index_or (outputs_of conn streams es) session [] ≡ output conn session streams es }
-{}
-
-/// The keys that a command calls are those of its calls, in their order.
-pub fn a_command_calls_its_keys()
-    ensures value { (shards : ℕ) (command : Command)
-        → filter_map key_of (asked_by (calls_of shards command)) ≡ keys_of command }
 {}
 
 /// Where the commands of connections do not meet, two runs of them have the same outputs, whatever

@@ -7,7 +7,8 @@ use Rattle.mc_parse.specs.declared.arity.Arity.{Arity}
 use Rattle.mc_parse.specs.declared.name.Name.{Name}
 use Rattle.mc_parse.specs.Words.{words}
 use Rattle.mc_parse.specs.Line.{texts}
-use Rattle.mc_parse.specs.Arity.{Following, arity_of, has_count, lacks_noreply, asks_silence}
+use Rattle.mc_parse.specs.Name.{arity_of}
+use Rattle.mc_parse.specs.Arity.{Following, has_count, lacks_noreply, asks_silence}
 use Rattle.mc_parse.specs.Form.{find, form_with, form_after}
 use Rattle.mc_parse.proofs.ArityLemmas.{both, but_last-take, follows_by}
 use Rattle.mc_parse.proofs.reading.read_few.Goals as goal

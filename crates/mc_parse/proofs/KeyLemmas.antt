@@ -3,11 +3,11 @@ use Rattle.std.proofs.Common.{◌≡◌, ℕ, zero, suc, ◌+◌, true, false, L
 use Rattle.std.specs.List.{filter_map, range_with_len}
 use Rattle.zy_base.specs.Call.{key_of}
 use Rattle.mc_parse.specs.declared.command.Command.{Command}
-use Rattle.mc_parse.specs.declared.command.Command.TheVariants.{Store, Cas, Get, Delete, Count, Version, Verbosity, Flush, Fault}
+use Rattle.mc_parse.specs.declared.command.Command.TheVariants.{Store, Get, Count, Flush}
 use Rattle.mc_parse.specs.declared.verb.Verb.TheVariants.{Set, Add, Replace, Append, Prepend}
 use Rattle.zy_base.specs.declared.call.Call.TheVariants.{Flush as FlushCall}
 use Rattle.mc_parse.specs.Calls.{calls_of, asked_by, get_at, on_shard}
-use Rattle.zy_run.specs.Apart.{keys_of}
+use Rattle.mc_parse.specs.Plain.{keys_of}
 
 keys_of_gets : (shards : ℕ) (keys : List (List ℕ)) → filter_map key_of (asked_by (map (get_at shards) keys)) ≡ keys
 keys_of_gets shards [] = refl
@@ -23,12 +23,8 @@ keys-calls_of shards (Store Add key flags value quiet) = refl
 keys-calls_of shards (Store Replace key flags value quiet) = refl
 keys-calls_of shards (Store Append key flags value quiet) = refl
 keys-calls_of shards (Store Prepend key flags value quiet) = refl
-keys-calls_of shards (Cas key flags unique value quiet) = refl
 keys-calls_of shards (Get keys unique) = keys_of_gets shards keys
-keys-calls_of shards (Delete key quiet) = refl
 keys-calls_of shards (Count key true amount quiet) = refl
 keys-calls_of shards (Count key false amount quiet) = refl
-keys-calls_of shards Version = refl
-keys-calls_of shards (Verbosity quiet) = refl
 keys-calls_of shards (Flush quiet) = no_keys 0 shards
-keys-calls_of shards (Fault line quiet) = refl
+keys-calls_of shards command = refl

@@ -1,4 +1,4 @@
--- Items, replies and entries as they are seen without uniques, shards and stamps. No public clause cites this module.
+-- Items, replies and entries as they are seen without uniques, shards and stamps.
 use Rattle.std.specs.Prelude.{◌≡◌, ℕ, List, map, if◌then◌else◌, Option, None, Some}
 use Rattle.std.specs.Ordering.{nat_cmp, eq_by_cmp}
 use Rattle.std.specs.Cmp.Lexicographic.{slice_cmp}

@@ -1,17 +1,19 @@
--- The calls due of connections that are apart are steady, and about keys of their own.
+-- The calls of plain commands are steady, and about their keys; and what lines of plain commands mean.
 use Rattle.std.proofs.Common.{◌≡◌, ℕ, ◌+◌, ◌<◌, true, false, List, [], ◌∷◌, ◌++◌, refl, sym, ap, ◌∙◌, arith}
-use Rattle.std.specs.Prelude.{map, All}
+use Rattle.std.specs.Prelude.{map, All, Bool, if◌then◌else◌}
 use Rattle.std.specs.List.{AllByRecursion, Contains}
 use Rattle.std.proofs.lemmas.List.{map-append}
 use Rattle.std.proofs.lemmas.List.Elements.{recursion_from_All, Contains-append_left, Contains-append_right}
 use Rattle.zy_base.specs.declared.call.Call.TheVariants.{Get as GetCall}
 use Rattle.mc_parse.specs.declared.command.Command.{Command}
-use Rattle.mc_parse.specs.declared.command.Command.TheVariants.{Store, Cas, Get, Delete, Count, Version, Verbosity, Flush, Fault}
+use Rattle.mc_parse.specs.declared.command.Command.TheVariants.{Store, Cas, Get, Delete, Count, Flush, Fault}
 use Rattle.mc_parse.specs.declared.verb.Verb.TheVariants.{Set, Add, Replace, Append, Prepend}
 use Rattle.mc_parse.specs.declared.shard_call.ShardCall.{ShardCall}
+use Rattle.mc_parse.specs.declared.error_line.ErrorLine.TheVariants.{BadChunk}
+use Rattle.mc_parse.specs.Form.{Ask, stores, exchanges, gets, deletes, counts, flushes, Form, faulty, asks, line_form}
+use Rattle.mc_parse.specs.Meaning.{is_ended, value_of, value_command, command_for, block_command_for, large_command_for, line_command, block_command, large_command}
 use Rattle.mc_parse.specs.Calls.{Due, calls_of, get_at, on_shard, tag_of, tagged, due, due_from, due_at}
-use Rattle.zy_run.specs.Apart.{keys_of, all_keys_of, IsPlain}
-use Rattle.zy_run.specs.Keyed.{IsKeyed, IsDueOwn, bare}
+use Rattle.mc_parse.specs.Plain.{keys_of, all_keys_of, IsPlain, IsKeyed, IsDueOwn, bare, IsOwnCommand, IsOwnAsk, IsOwnForm}
 
 -- ---- lists
 
@@ -45,10 +47,8 @@ calls_keyed shards IsOwn (Get keys false) plain own = gets_keyed shards IsOwn ke
 calls_keyed shards IsOwn (Delete key quiet) plain own = (record { key = key; named = refl; own = own key (first_in key []); place = refl; steady = tt }, tt)
 calls_keyed shards IsOwn (Count key true amount quiet) plain own = (record { key = key; named = refl; own = own key (first_in key []); place = refl; steady = tt }, tt)
 calls_keyed shards IsOwn (Count key false amount quiet) plain own = (record { key = key; named = refl; own = own key (first_in key []); place = refl; steady = tt }, tt)
-calls_keyed shards IsOwn Version plain own = tt
-calls_keyed shards IsOwn (Verbosity quiet) plain own = tt
 calls_keyed shards IsOwn (Flush quiet) plain own = absurd plain
-calls_keyed shards IsOwn (Fault line quiet) plain own = tt
+calls_keyed shards IsOwn command plain own = tt
 
 -- ---- the calls due of a connection
 
@@ -81,15 +81,9 @@ gets_bare shards others conn index part (key ∷ keys) =
     ap (λ (l : List Due). record { tag = tag_of conn index part; call = on_shard (GetCall key) 0 } ∷ l) (gets_bare shards others conn index (part + 1) keys)
 
 calls_bare : (shards others conn index : ℕ) (command : Command) → IsPlain command → map bare (due_at shards conn index command) ≡ map bare (due_at others conn index command)
-calls_bare shards others conn index (Store verb key flags value quiet) plain = refl
-calls_bare shards others conn index (Cas key flags unique value quiet) plain = refl
 calls_bare shards others conn index (Get keys unique) plain = gets_bare shards others conn index 0 keys
-calls_bare shards others conn index (Delete key quiet) plain = refl
-calls_bare shards others conn index (Count key up amount quiet) plain = refl
-calls_bare shards others conn index Version plain = refl
-calls_bare shards others conn index (Verbosity quiet) plain = refl
 calls_bare shards others conn index (Flush quiet) plain = absurd plain
-calls_bare shards others conn index (Fault line quiet) plain = refl
+calls_bare shards others conn index command plain = refl
 
 due_from_bare : (shards others conn index : ℕ) (commands : List Command) → AllByRecursion IsPlain commands → map bare (due_from shards conn index commands) ≡ map bare (due_from others conn index commands)
 due_from_bare shards others conn index [] plain = refl
@@ -102,3 +96,48 @@ due_from_bare shards others conn index (command ∷ commands) plain =
 -- but for shards the same calls are due of plain commands, whatever the number of shards
 pub due_bare : (shards others conn : ℕ) (commands : List Command) → All IsPlain commands → map bare (due shards conn commands) ≡ map bare (due others conn commands)
 due_bare shards others conn commands plain = due_from_bare shards others conn 0 commands (recursion_from_All IsPlain commands plain)
+
+-- ---- what lines say
+
+-- the command of a plain line by itself is plain, and calls its keys alone
+alone_own : (IsOwn : List ℕ → Type 0) (form : Form) → IsOwnForm IsOwn form → IsOwnCommand IsOwn (command_for form)
+alone_own IsOwn (faulty line) own = record { plain = tt; keys = tt }
+alone_own IsOwn (asks (exchanges key flags bytes unique) quiet) own = absurd own
+alone_own IsOwn (asks (gets keys true) quiet) own = absurd (let is = own.0 in cc)
+alone_own IsOwn (asks (gets keys false) quiet) own = record { plain = tt; keys = own.1 }
+alone_own IsOwn (asks (deletes key) quiet) own = record { plain = tt; keys = (own, tt) }
+alone_own IsOwn (asks (counts key up amount) quiet) own = record { plain = tt; keys = (own, tt) }
+alone_own IsOwn (asks flushes quiet) own = absurd own
+alone_own IsOwn (asks ask quiet) own = record { plain = tt; keys = tt }
+
+value_own : (IsOwn : List ℕ → Type 0) (ask : Ask) (quiet : Bool) (value : List ℕ) → IsOwnAsk IsOwn ask → IsOwnCommand IsOwn (value_command ask quiet value)
+value_own IsOwn (stores verb key flags bytes) quiet value own = record { plain = tt; keys = (own, tt) }
+value_own IsOwn (exchanges key flags bytes unique) quiet value own = absurd own
+value_own IsOwn ask quiet value own = record { plain = tt; keys = tt }
+
+ended_own : (IsOwn : List ℕ → Type 0) (form : Form) (block : List ℕ) → IsOwnForm IsOwn form → IsOwnCommand IsOwn (block_command_for block form)
+ended_own IsOwn (faulty line) block own = record { plain = tt; keys = tt }
+ended_own IsOwn (asks ask quiet) block own = go (is_ended block)
+  where
+    go : (b : Bool) → IsOwnCommand IsOwn (if b then value_command ask quiet (value_of block) else Fault BadChunk quiet)
+    go true = value_own IsOwn ask quiet (value_of block) own
+    go false = record { plain = tt; keys = tt }
+
+refused_own : (IsOwn : List ℕ → Type 0) (form : Form) → IsOwnCommand IsOwn (large_command_for form)
+refused_own IsOwn (faulty line) = record { plain = tt; keys = tt }
+refused_own IsOwn (asks ask quiet) = record { plain = tt; keys = tt }
+
+-- the same of the line
+pub line_own : (IsOwn : List ℕ → Type 0) (line : List ℕ) → IsOwnForm IsOwn (line_form line) → IsOwnCommand IsOwn (line_command line)
+unfolding line_command
+line_own IsOwn line own = alone_own IsOwn (line_form line) own
+
+-- with its block, whatever that is
+pub block_own : (IsOwn : List ℕ → Type 0) (line block : List ℕ) → IsOwnForm IsOwn (line_form line) → IsOwnCommand IsOwn (block_command line block)
+unfolding block_command
+block_own IsOwn line block own = ended_own IsOwn (line_form line) block own
+
+-- and with a block that is too large
+pub large_own : (IsOwn : List ℕ → Type 0) (line : List ℕ) → IsOwnCommand IsOwn (large_command line)
+unfolding large_command
+large_own IsOwn line = refused_own IsOwn (line_form line)

@@ -13,53 +13,23 @@ use Rattle.zy_base.specs.declared.call_reply.CallReply.TheVariants.{TooLarge}
 use Rattle.zy_base.specs.Call.{key_of}
 use Rattle.zy_base.specs.Number.{number_of}
 use Rattle.zy_base.specs.Shard.{Items, State, Effect, keeps, stores, removes, empties, value_limit, unique_of, reply_to, state_after, state_with, item_at, outcome_of, outcome_on, answers, stored, counted_up, counted_down}
-use Rattle.zy_run.specs.Told.{told, seen, seen_at, seen_after, IsSteady, IsAtOnly}
+use Rattle.zy_base.specs.Told.{told, seen, seen_at, seen_after, IsSteady, IsAtOnly}
 
 -- ---- what a call answers and does
 
 -- a call's answer, without its unique, depends on what is found without its unique
 told-outcome_of : (call : Call) (found : Option Item) → IsSteady call → told (outcome_of call found).reply ≡ told (outcome_of call (seen found)).reply
-told-outcome_of (Get key) None steady = refl
-told-outcome_of (Get key) (Some item) steady = refl
-told-outcome_of (Set key flags value) found steady = refl
-told-outcome_of (Add key flags value) None steady = refl
-told-outcome_of (Add key flags value) (Some item) steady = refl
-told-outcome_of (Replace key flags value) None steady = refl
-told-outcome_of (Replace key flags value) (Some item) steady = refl
-told-outcome_of (Append key value) None steady = refl
-told-outcome_of (Append key value) (Some item) steady = refl
-told-outcome_of (Prepend key value) None steady = refl
-told-outcome_of (Prepend key value) (Some item) steady = refl
 told-outcome_of (Cas key flags unique value) found steady = absurd steady
-told-outcome_of (Incr key amount) None steady = refl
-told-outcome_of (Incr key amount) (Some item) steady = refl
-told-outcome_of (Decr key amount) None steady = refl
-told-outcome_of (Decr key amount) (Some item) steady = refl
-told-outcome_of (Delete key) None steady = refl
-told-outcome_of (Delete key) (Some item) steady = refl
 told-outcome_of Flush found steady = absurd steady
+told-outcome_of call None steady = refl
+told-outcome_of call (Some item) steady = refl
 
 -- its effect depends on what is found without its unique
 effect-outcome_of : (call : Call) (found : Option Item) → IsSteady call → (outcome_of call found).effect ≡ (outcome_of call (seen found)).effect
-effect-outcome_of (Get key) None steady = refl
-effect-outcome_of (Get key) (Some item) steady = refl
-effect-outcome_of (Set key flags value) found steady = refl
-effect-outcome_of (Add key flags value) None steady = refl
-effect-outcome_of (Add key flags value) (Some item) steady = refl
-effect-outcome_of (Replace key flags value) None steady = refl
-effect-outcome_of (Replace key flags value) (Some item) steady = refl
-effect-outcome_of (Append key value) None steady = refl
-effect-outcome_of (Append key value) (Some item) steady = refl
-effect-outcome_of (Prepend key value) None steady = refl
-effect-outcome_of (Prepend key value) (Some item) steady = refl
 effect-outcome_of (Cas key flags unique value) found steady = absurd steady
-effect-outcome_of (Incr key amount) None steady = refl
-effect-outcome_of (Incr key amount) (Some item) steady = refl
-effect-outcome_of (Decr key amount) None steady = refl
-effect-outcome_of (Decr key amount) (Some item) steady = refl
-effect-outcome_of (Delete key) None steady = refl
-effect-outcome_of (Delete key) (Some item) steady = refl
 effect-outcome_of Flush found steady = absurd steady
+effect-outcome_of call None steady = refl
+effect-outcome_of call (Some item) steady = refl
 
 -- ---- the key of an effect
 

@@ -1,32 +1,23 @@
--- The texts of plain commands do not depend on uniques.
+-- The texts of plain commands tell no unique.
 use Rattle.std.proofs.Common.{◌≡◌, ℕ, ◌+◌, Bool, true, false, cond, List, [], ◌∷◌, ◌++◌, map, refl, ap, ◌∙◌}
 use Rattle.std.specs.Prelude.{◌==◌, filter, codes}
 use Rattle.std.specs.List.{AllByRecursion}
 use Rattle.zy_base.specs.declared.call_reply.CallReply.{CallReply}
-use Rattle.zy_base.specs.declared.call_reply.CallReply.TheVariants.{Miss, Hit, Stored, NotStored, Exists, NotFound, Deleted, Number, NotNumber, TooLarge, Flushed}
+use Rattle.zy_base.specs.declared.call_reply.CallReply.TheVariants.{Hit}
 use Rattle.zy_base.specs.declared.entry.Entry.{Entry}
 use Rattle.zy_base.specs.Replies.{replies_at}
 use Rattle.mc_parse.specs.declared.command.Command.{Command}
-use Rattle.mc_parse.specs.declared.command.Command.TheVariants.{Store, Cas, Get, Delete, Count, Version, Verbosity, Flush, Fault}
+use Rattle.mc_parse.specs.declared.command.Command.TheVariants.{Store, Cas, Get, Delete, Count, Flush}
 use Rattle.mc_reply.specs.Text.{text, line, reply_line, only_line, item_text, items_text, unless}
 use Rattle.mc_reply.specs.Texts.{texts_from}
-use Rattle.zy_run.specs.Apart.{IsPlain}
-use Rattle.zy_run.specs.Told.{told, told_of, all_told}
+use Rattle.mc_parse.specs.Plain.{IsPlain}
+use Rattle.zy_base.specs.Told.{told, told_of, all_told}
 
 -- ---- one command
 
 line-told : (reply : CallReply) → reply_line (told reply) ≡ reply_line reply
-line-told Miss = refl
 line-told (Hit flags unique value) = refl
-line-told Stored = refl
-line-told NotStored = refl
-line-told Exists = refl
-line-told NotFound = refl
-line-told Deleted = refl
-line-told (Number number) = refl
-line-told NotNumber = refl
-line-told TooLarge = refl
-line-told Flushed = refl
+line-told reply = refl
 
 only_line-told : (replies : List CallReply) → only_line (map told replies) ≡ only_line replies
 only_line-told [] = refl
@@ -34,17 +25,8 @@ only_line-told (reply ∷ []) = line-told reply
 only_line-told (reply ∷ next ∷ replies) = refl
 
 item-told : (key : List ℕ) (reply : CallReply) → item_text false key (told reply) ≡ item_text false key reply
-item-told key Miss = refl
 item-told key (Hit flags unique value) = refl
-item-told key Stored = refl
-item-told key NotStored = refl
-item-told key Exists = refl
-item-told key NotFound = refl
-item-told key Deleted = refl
-item-told key (Number number) = refl
-item-told key NotNumber = refl
-item-told key TooLarge = refl
-item-told key Flushed = refl
+item-told key reply = refl
 
 items-told : (keys : List (List ℕ)) (replies : List CallReply) → items_text false keys (map told replies) ≡ items_text false keys replies
 items-told [] [] = refl
@@ -55,7 +37,7 @@ items-told (key ∷ keys) (reply ∷ replies) =
     ∙ ap (λ (items : List ℕ). item_text false key reply ++ items) (items-told keys replies)
 
 -- the text of a plain command is that with its replies' uniques left out
-text-told : (command : Command) (replies : List CallReply) → IsPlain command → text command (map told replies) ≡ text command replies
+pub text-told : (command : Command) (replies : List CallReply) → IsPlain command → text command (map told replies) ≡ text command replies
 unfolding text
 text-told (Store verb key flags value quiet) replies plain = ap (unless quiet) (only_line-told replies)
 text-told (Cas key flags unique value quiet) replies plain = absurd plain
@@ -63,10 +45,8 @@ text-told (Get keys true) replies plain = absurd plain
 text-told (Get keys false) replies plain = ap (λ (items : List ℕ). items ++ line (codes "END")) (items-told keys replies)
 text-told (Delete key quiet) replies plain = ap (unless quiet) (only_line-told replies)
 text-told (Count key up amount quiet) replies plain = ap (unless quiet) (only_line-told replies)
-text-told Version replies plain = refl
-text-told (Verbosity quiet) replies plain = refl
 text-told (Flush quiet) replies plain = absurd plain
-text-told (Fault line quiet) replies plain = refl
+text-told command replies plain = refl
 
 -- ---- all commands
 

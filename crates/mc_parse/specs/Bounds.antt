@@ -1,0 +1,25 @@
+-- Which commands, and which calls that are due, are within their bounds.
+use Rattle.std.specs.Prelude.{ℕ, ◌<◌}
+use Rattle.std.specs.List.{AllByRecursion}
+use Rattle.zy_base.specs.Bounds.{IsKey, IsValue, IsCall}
+use Rattle.mc_parse.specs.declared.command.Command.{Command}
+use Rattle.mc_parse.specs.declared.command.Command.TheVariants.{Store, Cas, Get, Delete, Count}
+use Rattle.mc_parse.specs.declared.shard_call.ShardCall.{ShardCall}
+use Rattle.mc_parse.specs.Calls.{Due}
+
+-- the keys and the value of a command are within their bounds
+abbrev pub IsCommand : Command → Type 0
+IsCommand (Store verb key flags value quiet) = IsKey key × IsValue value
+IsCommand (Cas key flags unique value quiet) = IsKey key × IsValue value
+IsCommand (Get keys unique) = AllByRecursion IsKey keys
+IsCommand (Delete key quiet) = IsKey key
+IsCommand (Count key up amount quiet) = IsKey key
+IsCommand command = Unit {0}
+
+-- the call on a shard is within its bounds
+abbrev pub IsShardCall : ShardCall → Type 0
+IsShardCall call = IsCall call.call
+
+-- the call that is due is within its bounds, and one of so many commands
+abbrev pub IsDueWithin : ℕ → Due → Type 0
+IsDueWithin commands due = IsCall due.call.call × (due.tag.index < commands)

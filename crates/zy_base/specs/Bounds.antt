@@ -1,0 +1,61 @@
+-- Which keys, values, calls, replies and items are within their bounds (docs/PROFILE.md).
+use Rattle.std.specs.Prelude.{ℕ, ◌<◌, ◌≤◌, List, length, Option, None, Some}
+use Rattle.std.specs.FinMap.{get}
+use Rattle.zy_base.specs.declared.item.Item.{Item}
+use Rattle.zy_base.specs.declared.call.Call.{Call}
+use Rattle.zy_base.specs.declared.call.Call.TheVariants.{Get, Set, Add, Replace, Append, Prepend, Cas, Incr, Decr, Delete, Flush}
+use Rattle.zy_base.specs.declared.call_reply.CallReply.{CallReply}
+use Rattle.zy_base.specs.declared.call_reply.CallReply.TheVariants.{Hit}
+use Rattle.zy_base.specs.declared.entry.Entry.{Entry}
+use Rattle.zy_base.specs.Shard.{State, Effect, keeps, stores, removes, empties, value_limit}
+
+-- ---- calls and replies
+
+-- a key has 1 to 250 bytes
+abbrev pub IsKey : List ℕ → Type 0
+IsKey key = (0 < length key) × (length key ≤ 250)
+
+-- a value has at most 1,048,576 bytes
+abbrev pub IsValue : List ℕ → Type 0
+IsValue value = length value ≤ value_limit
+
+-- the key and the value of a call are within their bounds
+abbrev pub IsCall : Call → Type 0
+IsCall (Get key) = IsKey key
+IsCall (Set key flags value) = IsKey key × IsValue value
+IsCall (Add key flags value) = IsKey key × IsValue value
+IsCall (Replace key flags value) = IsKey key × IsValue value
+IsCall (Append key value) = IsKey key × IsValue value
+IsCall (Prepend key value) = IsKey key × IsValue value
+IsCall (Cas key flags unique value) = IsKey key × IsValue value
+IsCall (Incr key amount) = IsKey key
+IsCall (Decr key amount) = IsKey key
+IsCall (Delete key) = IsKey key
+IsCall Flush = Unit {0}
+
+-- the value of a reply is within its bound
+abbrev pub IsReply : CallReply → Type 0
+IsReply (Hit flags unique value) = IsValue value
+IsReply reply = Unit {0}
+
+-- the call of an entry is within its bounds, and one of so many commands
+abbrev pub IsCallWithin : ℕ → Entry → Type 0
+IsCallWithin commands e = IsCall e.call × (e.tag.index < commands)
+
+-- ---- what a shard has
+
+-- the value of an item, where one is found, is within its bound
+abbrev pub IsFound : Option Item → Type 0
+IsFound None = Unit {0}
+IsFound (Some item) = IsValue item.value
+
+-- the values of all items of a shard are within their bound
+abbrev pub AreItems : State → Type 0
+AreItems state = (key : List ℕ) → IsFound (get state.items key)
+
+-- the value that is stored is within its bound
+abbrev pub IsEffect : Effect → Type 0
+IsEffect keeps = Unit {0}
+IsEffect (stores key flags value) = IsValue value
+IsEffect (removes key) = Unit {0}
+IsEffect empties = Unit {0}
