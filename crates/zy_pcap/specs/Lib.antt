@@ -1,0 +1,4 @@
+pub mod Frame
+pub mod Moves
+pub mod Packet
+pub mod Steps
