@@ -1,0 +1,11 @@
+mod ChunkLemmas
+mod CoverLemmas
+mod FlowLemmas
+mod FrontLemmas
+mod KeptLemmas
+mod MeetLemmas
+mod PairLemmas
+mod ReadLemmas
+mod SessionLemmas
+mod SlotLemmas
+mod StreamLemmas

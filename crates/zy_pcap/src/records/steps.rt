@@ -1,5 +1,5 @@
 //! What the reader of records does at each byte, by what is due.
-ghost use Rattle.std.specs.Prelude.{◌≡◌, ℕ, ◌<◌, [], length, true, false, Ok, Err};
+ghost use Rattle.std.specs.Prelude.{◌≡◌, ℕ, ◌<◌, [], length, take, true, false, Ok, Err};
 ghost use Rattle.zy_read.specs.declared.not_taken.NotTaken.TheVariants.{Fault};
 ghost use Rattle.zy_pcap.specs.declared.due.Due.TheVariants as Dues;
 ghost use Rattle.zy_pcap.specs.Steps.{then_due, broken, judged, number, settings, time, original, taken, move, is_full, file_limit};
@@ -20,6 +20,8 @@ impl Records {
         ensures value { Takes (move self.old byte) self.old self.new result }
         ensures part { result ≡ Ok false → IsPart self.new.due self.new.frame }
         ensures room { result ≡ Ok true → self.old.at < file_limit }
+        ensures front { result ≡ Ok true
+            → take (length self.old.frame) self.new.frame ≡ self.old.frame }
     {
         if self.is_full() {
             return self.fail(PcapFault::PcapTooLong);
@@ -63,6 +65,7 @@ impl Records {
     }
 
     // A byte of a frame.
+    #[tactic(auto, using(crate::proofs::FrontLemmas::take_front))]
     fn take_frame(&mut self, size: u32, byte: u8) -> bool
         requires due { self.old.due ≡ Dues.Frame size }
         requires part { length self.old.frame < size }
@@ -70,6 +73,7 @@ impl Records {
         ensures value { Takes (taken (Dues.Frame size) self.old byte) self.old self.new
             (Ok result) }
         ensures part { result ≡ false → IsPart self.new.due self.new.frame }
+        ensures front { take (length self.old.frame) self.new.frame ≡ self.old.frame }
     {
         self.frame.push_reserved(byte);
         if self.frame.len() < size as usize {
@@ -111,6 +115,8 @@ impl Records {
         requires room { self.old.at < file_limit }
         ensures value { Takes (original left size self.old) self.old self.new result }
         ensures part { result ≡ Ok false → IsPart self.new.due self.new.frame }
+        ensures front { result ≡ Ok true
+            → take (length self.old.frame) self.new.frame ≡ self.old.frame }
     {
         let _frame = &self.frame;
         if left > 1 {
