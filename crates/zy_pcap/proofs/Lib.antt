@@ -5,6 +5,7 @@ mod FrontLemmas
 mod KeptLemmas
 mod MeetLemmas
 mod PairLemmas
+mod PieceLemmas
 mod ReadLemmas
 mod SessionLemmas
 mod SlotLemmas

@@ -1,5 +1,5 @@
 -- Which bytes brought a reader of recorded packets to where it is, and what its answers mean.
-use Rattle.std.specs.Prelude.{◌≡◌, ℕ, List, [], ◌++◌, Option, None, Some, Result, Ok, Err, ⊤}
+use Rattle.std.specs.Prelude.{◌≡◌, ℕ, ◌+◌, List, [], ◌++◌, Option, None, Some, Result, Ok, Err, ⊤}
 use Rattle.zy_read.specs.declared.not_taken.NotTaken.{NotTaken}
 use Rattle.zy_read.specs.declared.not_taken.NotTaken.TheVariants.{Fault, NoMemory}
 use Rattle.zy_pcap.specs.declared.pcap_fault.PcapFault.{PcapFault}
@@ -37,6 +37,11 @@ Lasts old bytes fault =
 abbrev pub FeedsAs : Reading → Reading → List ℕ → Result ⊤ (NotTaken PcapFault) → Type 0
 FeedsAs old new bytes (Err NoMemory) = Feeds old new []
 FeedsAs old new bytes answer = Feeds old new bytes
+
+-- how many bytes were taken where one that so many others stand before was refused
+abbrev pub taken_before : ℕ → NotTaken PcapFault → ℕ
+taken_before before (Fault fault) = before + 1
+taken_before before NoMemory = before
 
 -- the answer tells the fault that was met
 abbrev pub TellsFault : Reading → List ℕ → Result ⊤ (NotTaken PcapFault) → Type 0

@@ -3,7 +3,7 @@
 use crate::pcap_fault::PcapFault;
 
 /// What is due next.
-#[derive(Clone, Copy, PartialEq, Eq)]
+#[derive(Clone, Copy)]
 pub(crate) enum Due {
     /// The magic.
     Magic,

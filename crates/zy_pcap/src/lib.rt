@@ -3,6 +3,7 @@
 
 mod chunk;
 mod due;
+mod fed;
 mod flows;
 mod frame;
 mod judged;
@@ -18,6 +19,7 @@ mod records;
 mod slot;
 mod word;
 
+pub use fed::Fed;
 pub use flows::Flows;
 pub use laws::{the_worked_faults_are_told, the_worked_file_makes_its_capture};
 pub use pcap_fault::{PcapFault, PcapFeed};

@@ -1,10 +1,11 @@
 //! The reader of recorded packets.
-ghost use Rattle.std.specs.Prelude.{◌≡◌, ◌<◌, ◌≤◌, [], ◌∷◌, length};
+ghost use Rattle.std.specs.Prelude.{◌≡◌, ◌<◌, ◌≤◌, [], ◌∷◌, length, take, IsOk};
 ghost use Rattle.zy_pcap.specs.Steps.{file_limit};
-ghost use Rattle.zy_pcap.specs.Standing.{StandsFor, FeedsAs, TellsFault, TellsLasting, FinishesBy};
+ghost use Rattle.zy_pcap.specs.Standing.{StandsFor, Feeds, FeedsAs, TellsFault, TellsLasting, FinishesBy};
 ghost use Rattle.zy_pcap.specs.Step.{Follows, MeetsFrame, PlaceIs};
 
 use crate::due::Due;
+use crate::fed::Fed;
 use crate::flows::Flows;
 use crate::frame::judge;
 use crate::judged::Judged;
@@ -62,6 +63,32 @@ impl PcapReader {
         ensures lasts { TellsLasting self.old (byte ∷ []) result }
     {
         self.step(byte)
+    }
+
+    /// Takes bytes up to the first fault, which comes at the last byte taken, and all of them where
+    /// there is none.
+    ///
+    /// Where memory is wanted, the bytes before the one that wants it are taken.
+    pub fn feed_piece(&mut self, bytes: &[u8]) -> Fed
+        requires some { 0 < length bytes.now }
+        ensures port { self.new.port ≡ self.old.port }
+        ensures within { result.taken ≤ length bytes.now }
+        ensures none { IsOk result.answer → result.taken ≡ length bytes.now }
+        ensures fed { Feeds self.old self.new (take result.taken bytes.now) }
+        ensures exact { TellsFault self.old (take result.taken bytes.now) result.answer }
+        ensures lasts { TellsLasting self.old (take result.taken bytes.now) result.answer }
+    {
+        let mut at = 0;
+        while at < bytes.len() {
+            if let Err(refused) = self.feed(bytes[at]) {
+                return Fed::stopped(at, refused);
+            }
+            at += 1;
+        }
+        Fed {
+            taken: at,
+            answer: Ok(()),
+        }
     }
 
     // Takes the next byte.
