@@ -1,0 +1,12 @@
+mod ChunkLemmas
+mod CoverLemmas
+mod FlowLemmas
+mod FrontLemmas
+mod KeptLemmas
+mod MeetLemmas
+mod PairLemmas
+mod PieceLemmas
+mod ReadLemmas
+mod SessionLemmas
+mod SlotLemmas
+mod StreamLemmas

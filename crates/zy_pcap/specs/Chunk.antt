@@ -1,0 +1,50 @@
+-- Bytes that are kept by their offsets, in chunks of 64. No public clause cites this module.
+use Rattle.std.specs.Prelude.{◌≡◌, ℕ, ◌+◌, ◌-◌, ◌/◌, ◌%◌, ◌<◌, ◌≤◌, ◌==◌, nat_le, nat_lt, if◌then◌else◌, ◌&&◌, List, length, Option, None, Some, IsSome, slice_index}
+use Rattle.std.specs.Int.{bit_at}
+use Rattle.std.specs.BTreeMap.{BTreeMap, get, is_at}
+use Rattle.std.specs.Map.{lookup}
+use Rattle.std.specs.Ordering.{nat_cmp}
+use Rattle.zy_pcap.specs.declared.chunk.Chunk.{Chunk}
+use Rattle.zy_pcap.specs.Session.{first_of}
+
+-- the byte at a place of a chunk
+abbrev pub byte_in : Chunk → ℕ → Option ℕ
+byte_in chunk at = if bit_at chunk.have at == 1 then Some (slice_index chunk.bytes at) else None
+
+-- the byte at a place of a chunk that may be there
+abbrev pub byte_within : Option Chunk → ℕ → Option ℕ
+byte_within None at = None
+byte_within (Some chunk) at = byte_in chunk at
+
+-- the byte at an offset, of chunks by their numbers
+unfoldable pub held_in : List (ℕ × Chunk) → ℕ → Option ℕ
+held_in chunks at = byte_within (lookup (is_at (nat_cmp (at / 64))) chunks) (at % 64)
+
+-- the byte at an offset
+abbrev pub held : BTreeMap ℕ Chunk → ℕ → Option ℕ
+held chunks at = held_in chunks.entries at
+
+-- the byte at an offset of bytes that stand at some offset
+abbrev pub covered : List ℕ → ℕ → ℕ → Option ℕ
+covered bytes from at =
+    if nat_le from at && nat_lt at (from + length bytes) then Some (slice_index bytes (at - from)) else None
+
+-- the byte at a place
+abbrev pub alone : ℕ → ℕ → ℕ → Option ℕ
+alone place byte at = if at == place then Some byte else None
+
+-- all bytes are as they were
+abbrev pub HoldsSame : (ℕ → Option ℕ) → (ℕ → Option ℕ) → Type 0
+HoldsSame old new = (at : ℕ) → new at ≡ old at
+
+-- all bytes are as they were, and where there was none, those of the second one are there
+abbrev pub HoldsBoth : (ℕ → Option ℕ) → (ℕ → Option ℕ) → (ℕ → Option ℕ) → Type 0
+HoldsBoth old new more = (at : ℕ) → new at ≡ first_of (old at) (more at)
+
+-- there are all chunks from one number to before another
+abbrev pub HasChunks : BTreeMap ℕ Chunk → ℕ → ℕ → Type 0
+HasChunks chunks first end = (number : ℕ) → first ≤ number → number < end → IsSome (get nat_cmp chunks number)
+
+-- chunks that were there are there
+abbrev pub KeepsChunks : BTreeMap ℕ Chunk → BTreeMap ℕ Chunk → Type 0
+KeepsChunks old new = (number : ℕ) → IsSome (get nat_cmp old number) → IsSome (get nat_cmp new number)

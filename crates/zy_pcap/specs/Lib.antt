@@ -1,0 +1,15 @@
+pub mod Chunk
+pub mod Flow
+pub mod Frame
+pub mod Kept
+pub mod Made
+pub mod Moves
+pub mod Packet
+pub mod Packets
+pub mod Pairs
+pub mod Session
+pub mod Standing
+pub mod Step
+pub mod Steps
+pub mod Streams
+pub mod Worked

@@ -1,0 +1,36 @@
+-- What the reader of records answers to a byte. No public clause cites this module.
+use Rattle.std.specs.Prelude.{◌≡◌, ℕ, ◌<◌, ◌≤◌, Bool, true, false, List, [], length, Result, Ok, Err, ⊤}
+use Rattle.zy_read.specs.declared.not_taken.NotTaken.{NotTaken}
+use Rattle.zy_read.specs.declared.not_taken.NotTaken.TheVariants.{Fault, NoMemory}
+use Rattle.zy_pcap.specs.declared.pcap_fault.PcapFault.{PcapFault}
+use Rattle.zy_pcap.specs.declared.due.Due.{Due}
+use Rattle.zy_pcap.specs.declared.due.Due.TheVariants as Dues
+use Rattle.zy_pcap.specs.Steps.{Place, Move, is_open}
+use Rattle.zy_pcap.specs.Steps.Move.{Goes, Ends}
+
+-- an answer and a new place are those of a move; at a record's last byte the frame is whole, and all else as before
+abbrev pub Takes : Move → Place → Place → Result Bool (NotTaken PcapFault) → Type 0
+Takes (Goes q) old new (Ok is_end) = (is_end ≡ false) × (new ≡ q) × (is_open q.due ≡ true)
+Takes (Goes q) old new (Err (Fault fault)) = (new ≡ q) × (q.due ≡ Dues.Broken fault)
+Takes (Goes q) old new (Err NoMemory) = new ≡ old
+Takes (Ends frame) old new (Ok is_end) = (is_end ≡ true) × (new ≡ record old { frame = frame })
+Takes (Ends frame) old new (Err (Fault fault)) = ⊥
+Takes (Ends frame) old new (Err NoMemory) = new ≡ old
+
+-- the bytes of a frame are at most as many as it has, and there is room for all
+abbrev pub IsWithin : Due → List ℕ → ℕ → Type 0
+IsWithin (Dues.Frame size) frame room = (length frame ≤ size) × (size ≤ room)
+IsWithin due frame room = frame ≡ []
+
+-- the frame that is due is not whole
+abbrev pub IsPart : Due → List ℕ → Type 0
+IsPart (Dues.Frame size) frame = length frame < size
+IsPart due frame = ⊤
+
+-- the byte that is due is one of a number
+abbrev pub has_number : Due → Bool
+has_number Dues.Magic = true
+has_number Dues.Version = true
+has_number Dues.LinkType = true
+has_number Dues.Captured = true
+has_number due = false

@@ -1,0 +1,26 @@
+//! Recorded packets: the streams of their flows as a capture.
+#![tactic(auto)]
+
+mod chunk;
+mod due;
+mod fed;
+mod flows;
+mod frame;
+mod judged;
+mod kept_bytes;
+mod kept_flow;
+mod kept_flows;
+mod kept_session;
+mod kept_stream;
+mod laws;
+mod pcap_fault;
+mod reader;
+mod records;
+mod slot;
+mod word;
+
+pub use fed::Fed;
+pub use flows::Flows;
+pub use laws::{the_worked_faults_are_told, the_worked_file_makes_its_capture};
+pub use pcap_fault::{PcapFault, PcapFeed};
+pub use reader::PcapReader;

@@ -1,0 +1,179 @@
+//! The reader of recorded packets.
+ghost use Rattle.std.specs.Prelude.{◌≡◌, ◌<◌, ◌≤◌, [], ◌∷◌, length, take, IsOk};
+ghost use Rattle.zy_pcap.specs.Steps.{file_limit};
+ghost use Rattle.zy_pcap.specs.Standing.{StandsFor, Feeds, FeedsAs, TellsFault, TellsLasting, FinishesBy};
+ghost use Rattle.zy_pcap.specs.Step.{Follows, MeetsFrame, PlaceIs};
+
+use crate::due::Due;
+use crate::fed::Fed;
+use crate::flows::Flows;
+use crate::frame::judge;
+use crate::judged::Judged;
+use crate::kept_flows::KeptFlows;
+use crate::pcap_fault::{PcapFault, PcapFeed};
+use crate::records::Records;
+use std::alloc::Global;
+use std::marker::Model;
+
+/// Reads recorded packets, byte by byte, and joins the payloads of those to one port by their
+/// sequence numbers.
+#[derive(Drop)]
+pub struct PcapReader {
+    port: u16,
+    records: Records,
+    kept: KeptFlows,
+}
+
+impl Model for PcapReader {
+    ghost use Rattle.std.specs.Prelude.{◌≤◌, length};
+    ghost use Rattle.zy_pcap.specs.Standing.{Reading};
+    ghost use Rattle.zy_pcap.specs.Moves.{IsPart};
+
+    ghost Value = { Reading };
+
+    ghost view = { λ r. record { port = r.port; place = r.records; kept = r.kept.flows.items } };
+
+    ghost invariant = { λ r. (length r.kept.flows.items ≤ 4096)
+        × IsPart r.records.due r.records.frame };
+}
+
+impl PcapReader {
+    /// A reader to which no byte was fed, of packets to this port. Takes no memory.
+    #[tactic(auto, using(crate::proofs::ReadLemmas::begins_empty))]
+    pub fn new(alloc: Global, port: u16) -> PcapReader
+        requires port { 1 ≤ port }
+        ensures port { result.port ≡ port }
+        ensures value { StandsFor result [] }
+    {
+        PcapReader {
+            port,
+            records: Records::new(alloc),
+            kept: KeptFlows::new(alloc),
+        }
+    }
+
+    /// Takes the next byte.
+    ///
+    /// After a fault each call answers that same fault. Want of memory is free; then no byte was
+    /// taken.
+    pub fn feed(&mut self, byte: u8) -> Result<(), PcapFeed>
+        ensures port { self.new.port ≡ self.old.port }
+        ensures fed { FeedsAs self.old self.new (byte ∷ []) result }
+        ensures exact { TellsFault self.old (byte ∷ []) result }
+        ensures lasts { TellsLasting self.old (byte ∷ []) result }
+    {
+        self.step(byte)
+    }
+
+    /// Takes bytes up to the first fault, which comes at the last byte taken, and all of them where
+    /// there is none.
+    ///
+    /// Where memory is wanted, the bytes before the one that wants it are taken.
+    pub fn feed_piece(&mut self, bytes: &[u8]) -> Fed
+        requires some { 0 < length bytes.now }
+        ensures port { self.new.port ≡ self.old.port }
+        ensures within { result.taken ≤ length bytes.now }
+        ensures none { IsOk result.answer → result.taken ≡ length bytes.now }
+        ensures fed { Feeds self.old self.new (take result.taken bytes.now) }
+        ensures exact { TellsFault self.old (take result.taken bytes.now) result.answer }
+        ensures lasts { TellsLasting self.old (take result.taken bytes.now) result.answer }
+    {
+        let mut at = 0;
+        while at < bytes.len() {
+            if let Err(refused) = self.feed(bytes[at]) {
+                return Fed::stopped(at, refused);
+            }
+            at += 1;
+        }
+        Fed {
+            taken: at,
+            answer: Ok(()),
+        }
+    }
+
+    // Takes the next byte.
+    fn step(&mut self, byte: u8) -> Result<(), PcapFeed>
+        ensures port { self.new.port ≡ self.old.port }
+        ensures value { Follows self.old self.new byte result }
+    {
+        let before = self.records.frame().len();
+        match self.records.take(byte) {
+            Ok(false) => Ok(()),
+            Ok(true) => settle(&mut self.records, &mut self.kept, self.port, before),
+            Err(refused) => Err(refused),
+        }
+    }
+
+    /// The streams of all flows, where the bytes that were fed are a whole file, and else their
+    /// first fault. Takes no memory.
+    #[tactic(auto, using(crate::proofs::ReadLemmas::finished, crate::proofs::ReadLemmas::finished_broken, crate::proofs::ReadLemmas::finished_within))]
+    pub fn finish(self) -> Result<Flows, PcapFault>
+        ensures value { FinishesBy self result }
+    {
+        let PcapReader { records, kept, .. } = self;
+        let due = records.due();
+        let at = records.at();
+        drop(records);
+        match due {
+            Due::Time { left: 8 } => Ok(Flows::of(kept)),
+            Due::Broken(fault) => {
+                drop(kept);
+                Err(fault)
+            }
+            _ => {
+                drop(kept);
+                Err(PcapFault::PcapTruncated { at })
+            }
+        }
+    }
+}
+
+// Takes the record that has ended, whose frame is whole. Where memory is wanted, so many bytes of
+// the frame stay.
+fn settle(
+    records: &mut Records,
+    kept: &mut KeptFlows,
+    port: u16,
+    before: usize,
+) -> Result<(), PcapFeed>
+    requires room { records.old.at < file_limit }
+    requires limit { length kept.old.flows.items ≤ 4096 }
+    ensures place { PlaceIs before records.old records.new result }
+    ensures frame { MeetsFrame port records.old.begun records.old.frame kept.old.flows.items
+        kept.new.flows.items result }
+    ensures limit { length kept.new.flows.items ≤ 4096 }
+{
+    match meet_frame(records, kept, port) {
+        Ok(()) => {
+            records.end_record();
+            Ok(())
+        }
+        Err(PcapFeed::Fault(fault)) => {
+            records.refuse(fault);
+            Err(PcapFeed::Fault(fault))
+        }
+        Err(PcapFeed::NoMemory) => {
+            records.cut_frame(before);
+            Err(PcapFeed::NoMemory)
+        }
+    }
+}
+
+// Takes the packet of a frame that is whole.
+fn meet_frame(records: &Records, kept: &mut KeptFlows, port: u16) -> Result<(), PcapFeed>
+    requires limit { length kept.old.flows.items ≤ 4096 }
+    ensures frame { MeetsFrame port records.now.begun records.now.frame kept.old.flows.items
+        kept.new.flows.items result }
+    ensures limit { length kept.new.flows.items ≤ 4096 }
+{
+    let at = records.begun();
+    let frame = records.frame();
+    match judge(port, at, frame) {
+        Judged::Passed => Ok(()),
+        Judged::Refused(fault) => Err(PcapFeed::Fault(fault)),
+        Judged::Taken(segment) => {
+            let end = segment.begin + segment.size;
+            kept.meet(at, &segment, &frame[segment.begin..end])
+        }
+    }
+}

@@ -1,0 +1,127 @@
+//! The reader of a file's header and of its records.
+ghost use Rattle.std.specs.Prelude.{◌≡◌, ◌+◌, ◌<◌, ◌≤◌, length, take};
+ghost use Rattle.zy_pcap.specs.Steps.{start, grown_by, then_record, broken, file_limit};
+ghost use Rattle.zy_pcap.specs.declared.due.Due.TheVariants as Dues;
+
+mod steps;
+
+use crate::due::Due;
+use crate::pcap_fault::PcapFault;
+use crate::word::Word;
+use std::alloc::Global;
+use std::marker::Model;
+
+const FILE_LIMIT: u64 = 4_294_967_295;
+
+/// Reads a file up to the end of each record.
+#[derive(Drop)]
+pub(crate) struct Records {
+    due: Due,
+    field: Word,
+    frame: Vec<u8>,
+    is_big: bool,
+    begun: u64,
+    at: u64,
+}
+
+impl Model for Records {
+    ghost use Rattle.std.specs.Prelude.{◌≤◌, vec_capacity};
+    ghost use Rattle.zy_pcap.specs.Steps.{Place, file_limit};
+    ghost use Rattle.zy_pcap.specs.Moves.{IsWithin};
+
+    ghost Value = { Place };
+
+    ghost view = { λ r. record {
+      due = r.due;
+      field = r.field;
+      frame = r.frame.items;
+      is_big = r.is_big;
+      begun = r.begun;
+      at = r.at;
+    } };
+
+    ghost invariant = { λ r. (r.at ≤ file_limit)
+        × IsWithin r.due r.frame.items (vec_capacity r.frame) };
+}
+
+impl Records {
+    // No byte was read. Takes no memory.
+    pub(crate) fn new(alloc: Global) -> Records
+        ensures value { result ≡ start }
+    {
+        Records {
+            due: Due::Magic,
+            field: Word::new(),
+            frame: Vec::new(alloc),
+            is_big: true,
+            begun: 0,
+            at: 0,
+        }
+    }
+
+    // What is due.
+    pub(crate) fn due(&self) -> Due
+        ensures value { result ≡ self.now.due }
+    {
+        self.due
+    }
+
+    // The place of the record that is due.
+    pub(crate) fn begun(&self) -> u64
+        ensures value { result ≡ self.now.begun }
+    {
+        self.begun
+    }
+
+    // How many bytes were read.
+    pub(crate) fn at(&self) -> u64
+        ensures value { result ≡ self.now.at }
+    {
+        self.at
+    }
+
+    // The bytes of the frame that is due.
+    pub(crate) fn frame(&self) -> &[u8]
+        ensures value { result.now ≡ self.now.frame }
+    {
+        self.frame.as_slice()
+    }
+
+    // The record has ended.
+    pub(crate) fn end_record(&mut self)
+        requires room { self.old.at < file_limit }
+        ensures value { self.new ≡ then_record self.old }
+    {
+        self.due = Due::Time { left: 8 };
+        self.field.clear();
+        self.frame.clear();
+        self.at += 1;
+        self.begun = self.at;
+    }
+
+    // There is a fault.
+    pub(crate) fn refuse(&mut self, fault: PcapFault)
+        ensures value { self.new ≡ broken self.old fault }
+    {
+        self.due = Due::Broken(fault);
+        self.frame.clear();
+    }
+
+    // Only so many bytes of the frame were read.
+    pub(crate) fn cut_frame(&mut self, size: usize)
+        ensures value { self.new ≡ record self.old { frame = take size self.old.frame } }
+    {
+        self.frame.truncate(size);
+    }
+
+    // Takes bytes of a frame, and not its last one.
+    pub(crate) fn append(&mut self, size: u32, bytes: &[u8])
+        requires due { self.old.due ≡ Dues.Frame size }
+        requires fits { length self.old.frame + length bytes.now < size }
+        requires room { self.old.at + length bytes.now ≤ file_limit }
+        ensures value { self.new ≡ grown_by self.old bytes.now }
+    {
+        let _ = self.frame.extend_from_slice(bytes);
+        self.at += bytes.len() as u64;
+    }
+}
