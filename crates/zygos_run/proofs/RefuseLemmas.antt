@@ -10,7 +10,7 @@ use Rattle.zy_journal.specs.declared.journal.Journal.{Journal}
 use Rattle.zy_check_input.specs.declared.stop.Refusal.{Refusal}
 use Rattle.zy_check_input.specs.declared.stop.Refusal.TheVariants as Refusals
 use Rattle.zy_check_input.specs.Parts.{AreParts, HasPartFault}
-use Rattle.zy_check_input.proofs.PartLemmas.{told_all}
+use Rattle.zy_read.proofs.SourceLemmas.{told_all}
 use Rattle.zy_command_line.specs.declared.request.Out.{Out}
 use Rattle.zy_command_line.specs.declared.request.Request.{Request}
 use Rattle.zy_command_line.specs.declared.request.Request.TheVariants as Requests
