@@ -1,12 +1,11 @@
 -- Bytes that are fed one after another, as one piece.
-use Rattle.std.proofs.Common.{◌≡◌, ℕ, ◌+◌, ◌<◌, ◌≤◌, List, [], ◌∷◌, ◌++◌, length, take, get_or, refl, sym, ap, ◌∙◌, subst, append_assoc, arith}
-use Rattle.std.specs.Prelude.{Option, Some, None, Result, Ok, Err, ⊤}
+use Rattle.std.proofs.Common.{◌≡◌, ℕ, ◌+◌, ◌<◌, ◌≤◌, List, [], ◌∷◌, ◌++◌, length, take, get_or, sym, ap, ◌∙◌, subst, append_assoc, arith}
+use Rattle.std.specs.Prelude.{Option, Some, Err}
 use Rattle.std.proofs.lemmas.List.{take_more, append-nil}
 use Rattle.zy_read.specs.declared.not_taken.NotTaken.{NotTaken}
 use Rattle.zy_read.specs.declared.not_taken.NotTaken.TheVariants.{Fault, NoMemory}
 use Rattle.zy_pcap.specs.declared.pcap_fault.PcapFault.{PcapFault}
-use Rattle.zy_pcap.specs.Packets.{Found, packets, fault_met}
-use Rattle.zy_pcap.specs.Packets.Found.{Packets, Bad}
+use Rattle.zy_pcap.specs.Packets.{packets, fault_met}
 use Rattle.zy_pcap.specs.Standing.{Reading, StandsFor, Feeds, Meets, Lasts, FeedsAs, TellsFault, TellsLasting, taken_before}
 
 joined_is : (b bytes : List ℕ) (at : ℕ) → at < length bytes → b ++ take (at + 1) bytes ≡ (b ++ take at bytes) ++ get_or bytes at 0 ∷ []
