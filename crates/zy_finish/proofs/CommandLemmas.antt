@@ -17,10 +17,10 @@ use Rattle.mc_parse.specs.declared.verb.Verb.{Verb}
 use Rattle.mc_parse.specs.declared.verb.Verb.TheVariants as Verbs
 use Rattle.mc_parse.specs.declared.shard_call.ShardCall.{ShardCall}
 use Rattle.mc_parse.specs.Words.{words, has_byte, pieces_of, line_limit}
-use Rattle.mc_parse.specs.Name.{names, name_among}
+use Rattle.mc_parse.specs.Name.{names, name_among, arity_of}
 use Rattle.std.specs.Str.{bytes_eq}
 use Rattle.mc_parse.specs.Number.{small_number_of, is_zero}
-use Rattle.mc_parse.specs.Arity.{Following, but_last, following, arity_of, has_count, lacks_noreply, asks_silence}
+use Rattle.mc_parse.specs.Arity.{Following, but_last, following, has_count, lacks_noreply, asks_silence}
 use Rattle.mc_parse.specs.Form.{Ask, stores, exchanges, gets, deletes, counts, tells_version, sets_verbosity, flushes, quits, Form, faulty, asks, is_key, first_word, keys_among, sizes_of, store_ask, store_words, cas_ask, cas_words, delete_words, count_words, verbosity_words, with_zero, ask_of, number_fault, check, find, form_with, form_after, form_of, line_form}
 use Rattle.mc_parse.specs.Need.{need}
 use Rattle.mc_parse.specs.Meaning.{is_ended, value_of, value_command, command_for, block_command_for, large_command_for, line_command, block_command, large_command}
