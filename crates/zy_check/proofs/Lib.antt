@@ -7,7 +7,6 @@ pub mod OneVerdictLemmas
 pub mod RunVerdictLemmas
 pub mod YesVerdictLemmas
 pub mod FileVerdictLemmas
-pub mod SameLawLemmas
 pub mod SomeVerdictLemmas
 pub mod RightLemmas
 pub mod ByteLemmas

@@ -10,8 +10,10 @@ use Rattle.zy_base.specs.declared.hold.Hold.{Hold}
 use Rattle.zy_base.specs.Order.{of_connection, at_shard}
 use Rattle.zy_base.specs.Shard.{empty_state, reply_to}
 use Rattle.zy_base.specs.History.{replayed}
+use Rattle.zy_base.proofs.SameLemmas.{option_told, bytes_told, reply_told}
 use Rattle.zy_capture.specs.Streams.{sessions_of}
 use Rattle.mc_parse.specs.Calls.{due_of}
+use Rattle.mc_parse.proofs.SameLemmas.{due_told}
 use Rattle.zy_run.specs.Commands.{commands_over, commands_held}
 use Rattle.zy_run.specs.Output.{outputs_of}
 use Rattle.zy_run.specs.Spans.{held_of, AreHoldsOf}
@@ -20,7 +22,6 @@ use Rattle.zy_check.specs.declared.verdict.Verdict.TheVariants.{Yes, No}
 use Rattle.zy_check.specs.declared.verdict.Cause.TheVariants.{NotNext, WrongReply, Missing, WrongOutput, WrongHolds}
 use Rattle.zy_check.specs.Given.{Given, due_in, IsNext, IsNextAt, IsAnswered, IsAnsweredAt, AreRight, IsWhole, found_output, due_output, IsOutput, IsHeld}
 use Rattle.zy_check.specs.Cause.{IsComplete, ComesBefore, agreeing_in, HasVerdict}
-use Rattle.zy_check.proofs.SameLawLemmas.{option_told, bytes_told, due_told, reply_told}
 use Rattle.zy_check.proofs.RunVerdictLemmas.{element_at, no_sessions, held_none, whole_past}
 
 -- ---- the first of several numbers

@@ -4,14 +4,14 @@ use Rattle.std.specs.List.{AllByRecursion, filter, range_with_len}
 use Rattle.std.proofs.Common.{◌≡◌, ℕ, zero, suc, ◌+◌, ◌<◌, ◌≤◌, ◌^◌, List, [], ◌∷◌, Bool, true, false, cond, refl, sym, ap, ◌∙◌, subst, arith, eq-eqb}
 use Rattle.zy_base.specs.declared.entry.Entry.{Entry}
 use Rattle.zy_base.specs.declared.hold.Hold.{Hold}
+use Rattle.zy_base.specs.Bounds.{IsReply, IsCallWithin}
 use Rattle.zy_base.specs.Order.{of_connection, history_of, AreBelow, StampsRise, AreStampsBelow, IsMergeOf}
 use Rattle.zy_base.specs.History.{AreHistories}
 use Rattle.zy_capture.specs.Capture.{connection_limit}
-use Rattle.zy_journal.specs.Journal.{IsReply, IsEntry, IsHold}
+use Rattle.zy_journal.specs.Journal.{IsEntry, IsHold}
 use Rattle.zy_conn.specs.Hold.{EachIsHold}
 use Rattle.zy_run.specs.Run.{AreOfConnections}
 use Rattle.zy_finish.specs.Left.{AreOf}
-use Rattle.zy_finish.specs.Bounds.{IsCallWithin}
 use Rattle.zy_setup.proofs.ListLemmas.{all_append}
 
 -- ---- parts

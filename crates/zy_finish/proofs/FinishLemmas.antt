@@ -7,9 +7,11 @@ use native.Mathlib.Decide.{ℕ_discrete, dec_lt}
 use Rattle.std.proofs.lemmas.List.{length-map}
 use Rattle.std.proofs.lemmas.Option.{slice_get-map}
 use Rattle.atomic_table.specs.Seated.{TableId}
+use Rattle.zy_base.specs.Bounds.{IsCallWithin}
 use Rattle.zy_base.specs.Order.{of_connection}
 use Rattle.zy_base.proofs.LegalLemmas.{legal_below}
 use Rattle.zy_base.proofs.MergeLemmas.{merge_is_below}
+use Rattle.zy_base.proofs.ReplyLemmas.{replies_within}
 use Rattle.zy_base.specs.Shard.{empty_state}
 use Rattle.zy_capture.specs.declared.record.Record.{Record}
 use Rattle.zy_capture.specs.Capture.{IsCapture, IsRecordOf}
@@ -46,12 +48,10 @@ use Rattle.zy_finish.specs.declared.rest.Rest.{Rest}
 use Rattle.zy_finish.specs.declared.finishing.Finished.{Finished}
 use Rattle.zy_finish.specs.Over.{AreOver}
 use Rattle.zy_finish.specs.Finish.{HaveReceived, IsFinished}
-use Rattle.zy_finish.specs.Bounds.{IsCallWithin}
 use Rattle.zy_finish.specs.Part.{session_ends}
 use Rattle.zy_finish.specs.Rest.{rest_of, place_of, rest_at, blocks_left, ends_left, block_of, end_of, calls_in, holds_in, texts_in, ends_in, left_of, joined_to, IsKept, AreMerged}
 use Rattle.zy_finish.proofs.HomeLemmas.{IsHeld, is_held}
 use Rattle.zy_finish.proofs.CommandLemmas.{entries_within}
-use Rattle.zy_finish.proofs.ReplyLemmas.{replies_within}
 use Rattle.zy_finish.proofs.EntryLemmas.{merged_entries, holds_of, holds_within, all_holds_within}
 
 -- ---- the passes that were joined

@@ -4,7 +4,6 @@ pub mod CuttingLemmas
 pub mod HoldLemmas
 pub mod ServedLemmas
 pub mod CommandLemmas
-pub mod ReplyLemmas
 pub mod CutLemmas
 pub mod PartLemmas
 pub mod PlaceLemmas

@@ -6,4 +6,3 @@ pub mod Part
 pub mod Left
 pub mod Served
 pub mod Rest
-pub mod Bounds

@@ -8,7 +8,7 @@ use Rattle.zy_base.specs.declared.call_reply.CallReply.{CallReply}
 use Rattle.zy_base.specs.declared.call_reply.CallReply.TheVariants.{Miss, Hit, Stored, NotStored, Exists, NotFound, Deleted, Number, NotNumber, TooLarge, Flushed}
 use Rattle.zy_base.specs.declared.entry.Entry.{Entry}
 use Rattle.zy_base.specs.declared.hold.Hold.{Hold}
-use Rattle.zy_base.specs.Shard.{value_limit}
+use Rattle.zy_base.specs.Bounds.{IsCall, IsReply}
 use Rattle.zy_base.specs.Order.{IsOrdered}
 use Rattle.zy_journal.specs.declared.journal.Journal.{Journal}
 
@@ -78,33 +78,6 @@ unfoldable pub journal_bytes : Journal → List ℕ
 journal_bytes journal = magic ++ (flat_map entry_text journal.entries ++ (flat_map hold_text journal.holds ++ 69 ∷ []))
 
 -- ---- validity
-
--- a key has 1 to 250 bytes
-abbrev pub IsKey : List ℕ → Type 0
-IsKey key = (0 < length key) × (length key ≤ 250)
-
--- a value has at most 1,048,576 bytes
-abbrev pub IsValue : List ℕ → Type 0
-IsValue value = length value ≤ value_limit
-
--- the key and the value of a call are within their bounds
-abbrev pub IsCall : Call → Type 0
-IsCall (Get key) = IsKey key
-IsCall (Set key flags value) = IsKey key × IsValue value
-IsCall (Add key flags value) = IsKey key × IsValue value
-IsCall (Replace key flags value) = IsKey key × IsValue value
-IsCall (Append key value) = IsKey key × IsValue value
-IsCall (Prepend key value) = IsKey key × IsValue value
-IsCall (Cas key flags unique value) = IsKey key × IsValue value
-IsCall (Incr key amount) = IsKey key
-IsCall (Decr key amount) = IsKey key
-IsCall (Delete key) = IsKey key
-IsCall Flush = Unit {0}
-
--- the value of a reply is within its bound
-abbrev pub IsReply : CallReply → Type 0
-IsReply (Hit flags unique value) = IsValue value
-IsReply reply = Unit {0}
 
 -- an entry's numbers, call and reply are within their bounds
 pub record IsEntry (e : Entry) : Type 0 where

@@ -2,8 +2,9 @@
 ghost use Rattle.std.specs.Prelude.{◌≡◌, ◌≤◌, ◌∷◌, ◌++◌, length, flat_map};
 ghost use Rattle.std.specs.List.{AllByRecursion};
 ghost use Rattle.std.specs.Int.{to_be_bytes, w32, w64};
+ghost use Rattle.zy_base.specs.Bounds.{IsCall, IsReply};
 ghost use Rattle.zy_base.specs.Outside.{Writes};
-ghost use Rattle.zy_journal.specs.Journal.{IsJournal, IsEntry, IsCall, IsReply, journal_bytes};
+ghost use Rattle.zy_journal.specs.Journal.{IsJournal, IsEntry, journal_bytes};
 ghost use Rattle.zy_journal.specs.Journal.{entry_head, entry_text, call_text, reply_text, hold_text, key_text, value_text};
 
 use crate::journal::Journal;

@@ -4,7 +4,8 @@ use Rattle.std.specs.Prelude.{◌==◌, if◌then◌else◌, ⊤}
 use Rattle.std.specs.Int.{to_be_bytes, w32, w64}
 use Rattle.std.proofs.lemmas.Bool.Decides.{nat_tests}
 use Rattle.zy_base.specs.declared.call.Call.{Call}
-use Rattle.zy_journal.specs.Journal.{key_text, value_text, call_text, reply_text, IsKey, IsValue, IsCall, IsReply}
+use Rattle.zy_base.specs.Bounds.{IsKey, IsValue, IsCall, IsReply}
+use Rattle.zy_journal.specs.Journal.{key_text, value_text, call_text, reply_text}
 use Rattle.zy_journal_reader.specs.declared.call_kind.CallKind.{CallKind}
 use Rattle.zy_journal_reader.specs.declared.call_kind.CallKind.TheVariants.{Get, Set, Add, Replace, Append, Prepend, Cas, Incr, Decr, Delete, Flush}
 use Rattle.zy_journal_reader.specs.declared.due.Due.TheVariants.{Byte}

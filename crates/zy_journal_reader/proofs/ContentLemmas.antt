@@ -3,7 +3,8 @@ use Rattle.std.proofs.Common.{◌≡◌, ℕ, ◌+◌, ◌<◌, List, [], ◌∷
 use Rattle.std.specs.Int.{to_be_bytes, w32, w64}
 use Rattle.std.proofs.lemmas.List.{append-nil}
 use Rattle.zy_base.specs.declared.call_reply.CallReply.TheVariants as Replies
-use Rattle.zy_journal.specs.Journal.{key_text, value_text, call_text, reply_text, IsKey}
+use Rattle.zy_base.specs.Bounds.{IsKey}
+use Rattle.zy_journal.specs.Journal.{key_text, value_text, call_text, reply_text}
 use Rattle.zy_journal_reader.specs.declared.call_kind.CallKind.{CallKind}
 use Rattle.zy_journal_reader.specs.declared.call_kind.CallKind.TheVariants.{Get, Set, Add, Replace, Append, Prepend, Cas, Incr, Decr, Delete, Flush}
 use Rattle.zy_journal_reader.specs.declared.draft.Draft.{Draft}

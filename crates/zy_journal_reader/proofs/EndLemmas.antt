@@ -7,7 +7,8 @@ use Rattle.std.proofs.lemmas.Bool.{eqb-true}
 use Rattle.zy_base.specs.declared.call_reply.CallReply.{CallReply}
 use Rattle.zy_base.specs.declared.entry.Entry.{Entry}
 use Rattle.zy_base.specs.declared.hold.Hold.{Hold}
-use Rattle.zy_journal.specs.Journal.{call_text, reply_text, entry_head, entry_text, hold_text, IsReply}
+use Rattle.zy_base.specs.Bounds.{IsReply}
+use Rattle.zy_journal.specs.Journal.{call_text, reply_text, entry_head, entry_text, hold_text}
 use Rattle.zy_journal_reader.specs.declared.call_kind.CallKind.{CallKind}
 use Rattle.zy_journal_reader.specs.declared.call_kind.CallKind.TheVariants.{Flush}
 use Rattle.zy_journal_reader.specs.declared.due.Due.{Due}

@@ -10,7 +10,8 @@ use Rattle.zy_base.specs.declared.call_reply.CallReply.{CallReply}
 use Rattle.zy_base.specs.declared.call_reply.CallReply.TheVariants.{Miss, Hit, Stored, NotStored, Exists, NotFound, Deleted, NotNumber, TooLarge, Flushed}
 use Rattle.zy_base.specs.declared.call_reply.CallReply.TheVariants as Replies
 use Rattle.zy_base.specs.Shard.{value_limit}
-use Rattle.zy_journal.specs.Journal.{key_text, value_text, item_text, call_text, reply_text, IsKey, IsValue, IsCall, IsReply}
+use Rattle.zy_base.specs.Bounds.{IsKey, IsValue, IsCall, IsReply}
+use Rattle.zy_journal.specs.Journal.{key_text, value_text, item_text, call_text, reply_text}
 use Rattle.zy_journal_reader.specs.declared.call_kind.CallKind.TheVariants as Kinds
 use Rattle.zy_journal_reader.specs.declared.draft.Draft.{Draft}
 use Rattle.zy_journal_reader.specs.declared.due.Due.{Due}

@@ -6,7 +6,8 @@ use Rattle.std.proofs.lemmas.List.{append-nil}
 use Rattle.std.proofs.lemmas.Bool.{eqb-true}
 use Rattle.zy_base.specs.declared.call_reply.CallReply.TheVariants as Replies
 use Rattle.zy_base.specs.Shard.{value_limit}
-use Rattle.zy_journal.specs.Journal.{key_text, value_text, call_text, reply_text, IsKey, IsValue}
+use Rattle.zy_base.specs.Bounds.{IsKey, IsValue}
+use Rattle.zy_journal.specs.Journal.{key_text, value_text, call_text, reply_text}
 use Rattle.zy_journal_reader.specs.declared.call_kind.CallKind.{CallKind}
 use Rattle.zy_journal_reader.specs.declared.call_kind.CallKind.TheVariants.{Set, Add, Replace, Cas, Incr, Decr}
 use Rattle.zy_journal_reader.specs.declared.draft.Draft.{Draft}

@@ -8,7 +8,8 @@ use Rattle.zy_base.specs.declared.entry.Entry.{Entry}
 use Rattle.zy_base.specs.declared.hold.Hold.{Hold}
 use Rattle.zy_base.specs.Order.{IsOrdered}
 use Rattle.zy_base.specs.Shard.{value_limit}
-use Rattle.zy_journal.specs.Journal.{magic, key_text, call_text, entry_text, hold_text, IsKey, IsCall, IsEntry, IsHold, AreByConnection}
+use Rattle.zy_base.specs.Bounds.{IsKey, IsCall}
+use Rattle.zy_journal.specs.Journal.{magic, key_text, call_text, entry_text, hold_text, IsEntry, IsHold, AreByConnection}
 use Rattle.zy_journal_reader.specs.declared.draft.Draft.{Draft}
 use Rattle.zy_journal_reader.specs.declared.past.Past.{Past}
 use Rattle.zy_journal_reader.specs.declared.due.Due.{Due}
