@@ -104,7 +104,7 @@ all_heads hs place heads are end i = elim (sides i place) [
 -- a list with a first entry is there
 pub list_there : (hs : List (List Entry)) (ns : List ℕ) (i stamp : ℕ) → head_of (rests_of hs ns) i ≡ Some stamp → i < length hs
 list_there hs ns i stamp is =
-    elim (sides i (length hs)) [ | inl inside ↦ inside | inr over ↦ absurd (let o : Some stamp ≡ None = sym is ∙ rest_over hs ns i over in cc) ]
+    elim (sides i (length hs)) [ inl inside ↦ inside | inr over ↦ absurd (let o : Some stamp ≡ None = sym is ∙ rest_over hs ns i over in cc) ]
 
 -- and has one at its place
 pub entry_there : (hs : List (List Entry)) (ns : List ℕ) (i stamp : ℕ) (h : List Entry) → head_of (rests_of hs ns) i ≡ Some stamp → get_or hs i h ≡ h

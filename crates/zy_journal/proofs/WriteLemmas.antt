@@ -53,5 +53,5 @@ module _ {K E X : Type 0} (holds : K → Option (List ℕ)) (faults : K → ℕ)
       let whole : flat_map text all ≡ flat_map text are.taken ++ (text x ++ flat_map text rest) =
       ap (flat_map text) (are.split ∙ ap (λ l. are.taken ++ l) is) ∙ flat_map-append text are.taken (x ∷ rest) in
       subst (Writes holds faults old new (Err e)) (sym whole)
-          (writes_on holds faults old between new (Err e) (flat_map text are.taken) (text x ++ flat_map text rest) are.grew count
-          (writes_no_more holds faults between new e (text x) (flat_map text rest) failed))
+      (writes_on holds faults old between new (Err e) (flat_map text are.taken) (text x ++ flat_map text rest) are.grew count
+      (writes_no_more holds faults between new e (text x) (flat_map text rest) failed))

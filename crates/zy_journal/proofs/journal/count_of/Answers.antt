@@ -1,7 +1,6 @@
-use Rattle.std.proofs.Common.{rules, ◌≡◌, ◌≤◌, length, take, sym, ◌∙◌, ap}
+use Rattle.std.proofs.Common.{rules, ◌≤◌, length, sym, ◌∙◌, ap}
 use Rattle.std.specs.List.{sum_by}
 use Rattle.std.proofs.lemmas.List.{take_all}
-use Rattle.zy_base.specs.declared.entry.Entry.{Entry}
 use Rattle.zy_journal.proofs.MergedLemmas.{length-merged}
 use Rattle.zy_journal.proofs.journal.count_of.Goals as goal
 

@@ -1,4 +1,4 @@
-use Rattle.std.proofs.Common.{◌≡◌, arith, subst}
+use Rattle.std.proofs.Common.{arith, subst}
 use Rattle.std.specs.List.{AllByRecursion}
 use Rattle.zy_journal.specs.Journal.{IsEntry, entry_text}
 use Rattle.zy_journal.proofs.WriteLemmas.{one_written, next_failed}

@@ -1,4 +1,4 @@
-use Rattle.std.proofs.Common.{rules, ◌≡◌, ◌<◌, ◌≤◌, ℕ, List, length, slice_index_or, slice_set, ◌+◌, refl, sym, subst, ◌∙◌, ap}
+use Rattle.std.proofs.Common.{rules, ◌<◌, List, length, slice_index_or, slice_set, ◌+◌, refl, sym, subst, ◌∙◌, ap}
 use Rattle.zy_base.specs.declared.entry.Entry.{Entry}
 use Rattle.zy_journal.specs.Walk.{rests_of, IsTakenAt}
 use Rattle.zy_journal.proofs.WalkLemmas.{list_there, entry_there, taken_at, heads_taken}
