@@ -31,7 +31,9 @@ left_first [] zero e rest is = absurd (cc)
 left_first [] (suc at) e rest is = absurd (cc)
 left_first (x ∷ es) zero e rest is =
     let same : x ≡ e = cc in let others : es ≡ rest = cc in (ap (λ (y : Entry). Some y) same, sym others, omega arith)
-left_first (x ∷ es) (suc at) e rest is = let more = left_first es at e rest is in (more.0, more.1, let within = more.2 in omega (arith, within))
+left_first (x ∷ es) (suc at) e rest is =
+    let more = left_first es at e rest is in
+    let step : suc (at + 1) ≡ suc at + 1 = omega arith in (more.0, more.1 ∙ ap (λ (n : ℕ). drop n (x ∷ es)) step, let within = more.2 in omega (arith, within))
 
 -- where none is left, the place is at the end
 pub none_left : (es : List Entry) (at : ℕ) → drop at es ≡ [] → at ≤ length es → at ≡ length es
