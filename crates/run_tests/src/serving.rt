@@ -153,8 +153,8 @@ impl Given {
 // Whether this answer has a journal, and the gate was passed as often as its holds say.
 fn is_told_by(gate: &Watch, answer: &Answer) -> bool {
     match answer {
-        Answer::Served(journal) => gate.is_told_by(journal.holds.items()),
-        Answer::Tested(journal, _) => gate.is_told_by(journal.holds.items()),
+        Answer::Served(journal) => gate.is_told_by(journal.holds()),
+        Answer::Tested(journal, _) => gate.is_told_by(journal.holds()),
         _ => false,
     }
 }

@@ -1,7 +1,7 @@
 -- Walking through the entries: what is next, and how connections and shards stand.
 use Rattle.std.specs.Prelude.{All, IfSome}
 use Rattle.std.specs.List.{slice_get, slice_set}
-use Rattle.std.proofs.Common.{◌≡◌, ◌≢◌, ℕ, zero, suc, ◌+◌, ◌<◌, ◌≤◌, List, [], ◌∷◌, ◌++◌, length, take, Option, Some, refl, sym, ap, ◌∙◌, subst, arith}
+use Rattle.std.proofs.Common.{◌≡◌, ◌≢◌, ℕ, zero, suc, ◌+◌, ◌<◌, ◌≤◌, List, [], ◌∷◌, ◌++◌, length, take, drop, Option, Some, refl, sym, ap, ◌∙◌, subst, arith}
 use Rattle.std.proofs.lemmas.List.{length-set, take_more}
 use Rattle.std.proofs.lemmas.List.Elements.{All-head, All-tail}
 use Rattle.std.proofs.lemmas.Option.{slice_get_within, get_or_from_slice_get}
@@ -22,6 +22,25 @@ use Rattle.zy_check.specs.Given.{Given, due_in, IsNext, IsNextAt, IsAnswered, Is
 use Rattle.zy_check.specs.Cause.{IsNotNext, IsWrongReply}
 use Rattle.zy_check.specs.Walk.{AreReplayed}
 use Rattle.zy_check.proofs.DueLemmas.{asked_at}
+
+-- ---- the entries that are left
+
+-- the first of them is at the place, and the others are behind it
+pub left_first : (es : List Entry) (at : ℕ) (e : Entry) (rest : List Entry) → drop at es ≡ e ∷ rest → (slice_get es at ≡ Some e) × (rest ≡ drop (at + 1) es) × (at + 1 ≤ length es)
+left_first [] zero e rest is = absurd (cc)
+left_first [] (suc at) e rest is = absurd (cc)
+left_first (x ∷ es) zero e rest is =
+    let same : x ≡ e = cc in let others : es ≡ rest = cc in (ap (λ (y : Entry). Some y) same, sym others, omega arith)
+left_first (x ∷ es) (suc at) e rest is =
+    let more = left_first es at e rest is in
+    let step : suc (at + 1) ≡ suc at + 1 = omega arith in (more.0, more.1 ∙ ap (λ (n : ℕ). drop n (x ∷ es)) step, let within = more.2 in omega (arith, within))
+
+-- where none is left, the place is at the end
+pub none_left : (es : List Entry) (at : ℕ) → drop at es ≡ [] → at ≤ length es → at ≡ length es
+none_left [] zero none within = refl
+none_left [] (suc at) none within = absurd (omega (arith, within))
+none_left (x ∷ es) zero none within = absurd (cc)
+none_left (x ∷ es) (suc at) none within = ap suc (none_left es at none (omega (arith, within)))
 
 -- ---- one entry more
 

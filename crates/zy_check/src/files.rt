@@ -5,9 +5,9 @@ ghost use Rattle.zy_capture.specs.Streams.{sessions_of};
 ghost use Rattle.zy_check.specs.Given.{given, found_output};
 
 use std::marker::Model;
-use zy_base::{Entry, Hold};
+use zy_base::Hold;
 use zy_capture::{Outputs, Streams};
-use zy_journal::Journal;
+use zy_journal::{Journal, Walk};
 
 /// The streams, the journal and the outputs that are checked, on so many shards.
 #[derive(Drop)]
@@ -59,17 +59,17 @@ impl<'a> Files<'a> {
     }
 
     /// The entries of the journal.
-    pub fn entries(&self) -> &'a [Entry]
-        ensures value { result.now ≡ self.now.entries }
+    pub fn entries(&self) -> Walk<'a>
+        ensures value { result ≡ self.now.entries }
     {
-        self.journal.entries.items()
+        self.journal.entries()
     }
 
     /// The holds of the journal.
     pub fn holds(&self) -> &'a [Hold]
         ensures value { result.now ≡ self.now.holds }
     {
-        self.journal.holds.items()
+        self.journal.holds()
     }
 
     /// The number of connections that have a stream.

@@ -1,5 +1,6 @@
 //! Walking through the entries of a journal.
-ghost use Rattle.std.specs.Prelude.{◌≡◌, ◌↔◌, ◌<◌, ◌≤◌, ℕ, true, [], length, take, IfOk, OnOk};
+ghost use Rattle.std.specs.Prelude.{◌≡◌, ◌↔◌, ◌≤◌, ℕ, true, [], length, take, Some, IfOk, OnOk};
+ghost use Rattle.std.specs.List.{slice_get};
 ghost use Rattle.zy_base.specs.Shard.{reply_to};
 ghost use Rattle.mc_shard.specs.Replay.{state_replayed};
 ghost use Rattle.zy_check.specs.Given.{IsNext};
@@ -23,31 +24,36 @@ pub fn first_wrong(
     ensures found { IfOk result (FoundWrong files.now tracks.new) }
 {
     let mut states = empty_shards(alloc, files.shards())?;
-    for at in 0..files.entries().len() {
-        if let Some(cause) = wrong_at(files, at, tracks, &mut states)? {
+    let mut entries = files.entries();
+    for at in 0..u64::MAX {
+        let Some(entry) = entries.next() else {
+            return Ok(None);
+        };
+        if let Some(cause) = wrong_at(files, at, entry, tracks, &mut states)? {
             return Ok(Some(cause));
         }
     }
-    Ok(None)
+    // There are more entries than 64 bits count.
+    Err(NoMemory)
 }
 
 // The cause at an entry, where there is one.
 fn wrong_at(
     files: &Files,
-    at: usize,
+    at: u64,
+    entry: &Entry,
     tracks: &mut [Track],
     states: &mut Vec<Replay>,
 ) -> Result<Option<Cause>, NoMemory>
-    requires within { at < length files.now.entries }
+    requires is { slice_get files.now.entries at ≡ Some entry.now }
     requires here { AreAt files.now at tracks.old states.old.items }
     ensures found { IfOk result (FoundAt files.now at tracks.new states.new.items) }
 {
-    let entry = &files.entries()[at];
     if !is_next(files, tracks, entry)? {
-        return Ok(Some(Cause::NotNext { entry: at as u64 }));
+        return Ok(Some(Cause::NotNext { entry: at }));
     }
     if !answers(&mut states[entry.shard as usize], entry)? {
-        return Ok(Some(Cause::WrongReply { entry: at as u64 }));
+        return Ok(Some(Cause::WrongReply { entry: at }));
     }
     tracks[entry.tag.conn as usize].answer(entry.reply.copy()?)?;
     Ok(None)

@@ -1,3 +1,4 @@
-pub mod TurnLemmas
-pub mod MoveLemmas
+pub mod OrderLemmas
+pub mod MergedLemmas
+pub mod WalkLemmas
 pub mod WriteLemmas

@@ -1,3 +1,6 @@
 pub mod Journal
-pub mod Turn
+pub mod Kept
+pub mod Lists
+pub mod Merged
+pub mod Walk
 pub mod Worked

@@ -1,12 +1,104 @@
 //! The journal of a run.
+ghost use Rattle.std.specs.Prelude.{◌≡◌, ◌≤◌, length, IfSome};
+ghost use Rattle.zy_journal.specs.Merged.{AreInOrder, merged};
 
-use zy_base::{Entries, Holds};
+use crate::walk::Walk;
+use std::marker::Model;
+use zy_base::{Entries, Hold, Holds};
 
-/// The calls of all connections in the order in which they count, and the holds.
-#[derive(PartialEq, Eq, Drop)]
+/// The calls of all connections in the order in which they count, and the holds. Contracts see the
+/// two lists: the entries by stamp and then by shard, and the holds by rising connection and, for
+/// one connection, in the order in which they happened.
+#[derive(Drop)]
 pub struct Journal {
-    /// By stamp and then by shard.
-    pub entries: Entries,
-    /// By rising connection and, for one connection, in the order in which they happened.
-    pub holds: Holds,
+    kept: Kept,
+    holds: Holds,
+}
+
+// How the entries are kept.
+#[derive(Drop)]
+enum Kept {
+    // As their list.
+    Listed(Entries),
+    // As the histories of all shards, which are merged by the reader.
+    Apart(Vec<Entries>),
+}
+
+impl Model for Journal {
+    ghost use Rattle.zy_journal.specs.Lists.{JournalLists};
+
+    ghost Value = { JournalLists };
+
+    ghost use Rattle.zy_journal.specs.Kept.{entries_of, IsKept};
+
+    ghost view = { λ j. record { entries = entries_of j.kept; holds = j.holds } };
+
+    ghost invariant = { λ j. IsKept j.kept };
+}
+
+impl Journal {
+    /// These lists, which it takes over. Takes no memory.
+    pub fn new(entries: Entries, holds: Holds) -> Journal
+        ensures entries { result.entries ≡ entries }
+        ensures holds { result.holds ≡ holds }
+    {
+        Journal {
+            kept: Kept::Listed(entries),
+            holds,
+        }
+    }
+
+    // The merged list of histories, and these holds.
+    pub(crate) fn apart(histories: Vec<Entries>, holds: Holds) -> Journal
+        requires few { length histories.items ≤ 256 }
+        requires ordered { AreInOrder histories.items }
+        ensures entries { result.entries ≡ merged histories.items }
+        ensures holds { result.holds ≡ holds }
+    {
+        Journal {
+            kept: Kept::Apart(histories),
+            holds,
+        }
+    }
+
+    /// The entries, one after the other. Takes no memory.
+    pub fn entries(&self) -> Walk<'_>
+        ensures value { result ≡ self.now.entries }
+    {
+        match &self.kept {
+            Kept::Listed(entries) => Walk::listed(entries.items()),
+            Kept::Apart(histories) => Walk::apart(histories.as_slice()),
+        }
+    }
+
+    /// The holds.
+    pub fn holds(&self) -> &[Hold]
+        ensures value { result.now ≡ self.now.holds }
+    {
+        self.holds.items()
+    }
+
+    /// The number of entries; `None` where it does not fit in 64 bits.
+    pub fn count(&self) -> Option<u64>
+        ensures value { IfSome result (λ n. n ≡ length self.now.entries) }
+    {
+        match &self.kept {
+            Kept::Listed(entries) => Some(entries.items().len() as u64),
+            Kept::Apart(histories) => count_of(histories.as_slice()),
+        }
+    }
+}
+
+// The number of entries of all histories.
+fn count_of(histories: &[Entries]) -> Option<u64>
+    ensures value { IfSome result (λ n. n ≡ length (merged histories.now)) }
+{
+    let mut count: u64 = 0;
+    for history in histories {
+        count = match count.checked_add(history.items().len() as u64) {
+            Some(count) => count,
+            None => return None,
+        };
+    }
+    Some(count)
 }

@@ -1,15 +1,15 @@
-//! The journal: merging the shards' histories, and the writer of its file.
+//! The journal: the shards' histories as one list, and the writer of its file.
 #![tactic(auto)]
 
 mod journal;
 mod laws;
 mod merging;
-mod rest;
-mod turn;
-mod turns;
+mod rests;
+mod walk;
 mod writing;
 
 pub use journal::Journal;
 pub use laws::{rising_histories_are_in_order, the_worked_journal_has_its_bytes};
 pub use merging::merge;
+pub use walk::Walk;
 pub use writing::write_journal;

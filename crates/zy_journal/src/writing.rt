@@ -8,6 +8,7 @@ ghost use Rattle.zy_journal.specs.Journal.{IsJournal, IsEntry, journal_bytes};
 ghost use Rattle.zy_journal.specs.Journal.{entry_head, entry_text, call_text, reply_text, hold_text, key_text, value_text};
 
 use crate::journal::Journal;
+use crate::walk::Walk;
 use zy_base::{Blob, Call, CallReply, Entry, Failed, Hold, Sink, write_pieces, write_whole};
 
 /// Writes a journal whose numbers, keys and values are within the format's bounds. Takes no memory.
@@ -21,21 +22,21 @@ pub fn write_journal<K: Sink>(sink: &mut K, journal: &Journal) -> Result<(), Fai
     if let Err(failed) = write_whole(sink, b"ZYGJRN1\n") {
         return Err(failed);
     }
-    if let Err(failed) = write_entries(sink, journal.entries.items()) {
+    if let Err(failed) = write_entries(sink, journal.entries()) {
         return Err(failed);
     }
-    if let Err(failed) = write_holds(sink, journal.holds.items()) {
+    if let Err(failed) = write_holds(sink, journal.holds()) {
         return Err(failed);
     }
     write_whole(sink, b"E")
 }
 
-fn write_entries<K: Sink>(sink: &mut K, entries: &[Entry]) -> Result<(), Failed>
-    requires fits { AllByRecursion IsEntry entries.now }
-    ensures writes { Writes K.holds K.faults sink.old sink.new result
-        (flat_map entry_text entries.now) }
+fn write_entries<K: Sink>(sink: &mut K, entries: Walk<'_>) -> Result<(), Failed>
+    requires fits { AllByRecursion IsEntry entries }
+    ensures writes { Writes K.holds K.faults sink.old sink.new result (flat_map entry_text entries.entry) }
 {
-    for entry in entries {
+    let mut left = entries;
+    while let Some(entry) = left.next() {
         if let Err(failed) = write_entry(sink, entry) {
             return Err(failed);
         }

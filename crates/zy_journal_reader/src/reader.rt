@@ -134,10 +134,10 @@ impl JournalReader {
         ensures value { EndsBy self result }
     {
         match self.due {
-            Due::Nothing => Ok(Journal {
-                entries: Entries::from_vec(self.entries),
-                holds: Holds::from_vec(self.holds),
-            }),
+            Due::Nothing => Ok(Journal::new(
+                Entries::from_vec(self.entries),
+                Holds::from_vec(self.holds),
+            )),
             Due::Broken(fault) => Err(fault),
             _ => Err(FileFault::Truncated { at: self.at }),
         }

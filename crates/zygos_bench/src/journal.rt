@@ -42,21 +42,29 @@ fn merging<R: CpuClock>(rt: &R, alloc: Global, entries: u64, shards: u32) -> Res
     let before = nanos(rt);
     match merge(made, Holds::new(alloc)) {
         Ok(journal) => Ok(Done {
-            count: journal.entries.items().len() as u64,
+            count: walked(&journal),
             nanos: nanos(rt).saturating_sub(before),
         }),
         Err(_) => Err(NoMemory),
     }
 }
 
+// The number of entries, by a walk through all of them, which merges the histories.
+fn walked(journal: &Journal) -> u64 {
+    let mut entries = journal.entries();
+    for count in 0..u64::MAX {
+        if entries.next().is_none() {
+            return count;
+        }
+    }
+    u64::MAX
+}
+
 // Writes a journal of so many entries.
 fn writing<R: CpuClock>(rt: &R, alloc: Global, entries: u64) -> Result<Done, NoMemory>
     requires few { entries ≤ 2 ^ 32 }
 {
-    let journal = Journal {
-        entries: history(alloc, 0, entries)?,
-        holds: Holds::new(alloc),
-    };
+    let journal = Journal::new(history(alloc, 0, entries)?, Holds::new(alloc));
     let before = nanos(rt);
     let mut sink = Counting { bytes: 0 };
     let _ = write_journal(&mut sink, &journal);

@@ -21,9 +21,12 @@ pub(crate) fn summary_of(done: &Finished) -> Result<Summary, NoMemory>
         → done.now.outputs ≡ outputs_of version count records done.now.journal.entries
         → summary ≡ summary_of_run count (streams_in records) done.now.journal.entries) }
 {
+    let Some(calls) = done.journal.count() else {
+        return Err(NoMemory);
+    };
     Ok(Summary {
-        commands: all_held(done.journal.holds.items())?,
-        calls: done.journal.entries.items().len() as u64,
+        commands: all_held(done.journal.holds())?,
+        calls,
         reply_bytes: all_bytes(&done.outputs)?,
     })
 }

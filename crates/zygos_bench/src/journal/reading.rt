@@ -23,7 +23,7 @@ pub(crate) fn count<R: Read>(input: &mut R, alloc: Global) -> Result<Done, NoMem
     }
     match reader.end() {
         Ok(journal) => Ok(Done {
-            count: journal.entries.items().len() as u64,
+            count: journal.count().unwrap_or(u64::MAX),
             nanos: 0,
         }),
         Err(_) => Err(NoMemory),

@@ -8,7 +8,7 @@ use Rattle.zy_check.proofs.walk.wrong_at.Goals as goal
 pub index_mut-requires : goal.index_mut-requires
 index_mut-requires c =
     let g = c.args.files.now in
-    let e = c.index-entries-at.result in
+    let e = c.args.entry.now in
     let next = (c.in_ok-is_next.ensures.exact c.args.at c.requires.here.tracked).0 c.if-not-branch.false in
     let shard = next_within g (take c.args.at g.entries) e c.requires.here.some next in
     let size = c.requires.here.replays.count in
@@ -17,11 +17,9 @@ index_mut-requires c =
 pub returns-then-not-branch-2 : goal.returns-then-not-branch-2
 returns-then-not-branch-2 c =
     let g = c.args.files.now in
-    let e = c.index-entries-at.result in
+    let e = c.args.entry.now in
     let old = c.index_mut.result.now in
-    let within = rw (← c.entries.ensures.value) at c.requires.within in
-    let read = slice_get_read c.entries.result.now (length c.entries.result.now) c.args.at e refl within c.index-entries-at.is in
-    let is = rw c.entries.ensures.value at read in
+    let is = c.requires.is in
     let next = (c.in_ok-is_next.ensures.exact c.args.at c.requires.here.tracked).0 c.if-not-branch.false in
     let shard = next_within g (take c.args.at g.entries) e c.requires.here.some next in
     let size = c.requires.here.replays.count in
@@ -32,14 +30,14 @@ returns-then-not-branch-2 c =
 
 pub answer-requires-clause-next : goal.answer-requires-clause-next
 answer-requires-clause-next c =
-    let e = c.index-entries-at.result in
+    let e = c.args.entry.now in
     let next = c.in_ok-is_next.ensures.there c.if-not-branch.false in
     let t = get_or c.is_next.new.tracks e.tag.conn c.index-tracks-entry.result in
     due_at_call t.begun t.commands e (next.due t (slice_get-get_or c.is_next.new.tracks e.tag.conn c.index-tracks-entry.result next.within))
 
 pub answer-requires-clause-kind : goal.answer-requires-clause-kind
 answer-requires-clause-kind c b call begun there =
-    let e = c.index-entries-at.result in
+    let e = c.args.entry.now in
     let next = c.in_ok-is_next.ensures.there c.if-not-branch.false in
     let t = get_or c.is_next.new.tracks e.tag.conn c.index-tracks-entry.result in
     let due = next.due t (slice_get-get_or c.is_next.new.tracks e.tag.conn c.index-tracks-entry.result next.within) in
@@ -49,12 +47,10 @@ answer-requires-clause-kind c b call begun there =
 pub returns : goal.returns
 returns c =
     let g = c.args.files.now in
-    let e = c.index-entries-at.result in
+    let e = c.args.entry.now in
     let here = c.requires.here in
     let old = c.index_mut.result.now in
-    let within = rw (← c.entries.ensures.value) at c.requires.within in
-    let read = slice_get_read c.entries.result.now (length c.entries.result.now) c.args.at e refl within c.index-entries-at.is in
-    let is = rw c.entries.ensures.value at read in
+    let is = c.requires.is in
     let next = (c.in_ok-is_next.ensures.exact c.args.at here.tracked).0 c.if-not-branch.false in
     let shard = next_within g (take c.args.at g.entries) e here.some next in
     let size = here.replays.count in

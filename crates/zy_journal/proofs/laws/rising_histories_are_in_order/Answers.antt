@@ -1,4 +1,4 @@
-use Rattle.zy_journal.proofs.MoveLemmas.{rising_ordered}
+use Rattle.zy_journal.proofs.OrderLemmas.{rising_ordered}
 use Rattle.zy_journal.proofs.laws.rising_histories_are_in_order.Goals as goal
 
 pub returns : goal.returns

@@ -1,13 +1,22 @@
-use Rattle.std.proofs.Common.{subst}
-use Rattle.std.specs.Prelude.{Err}
-use Rattle.zy_base.specs.declared.entry.Entry.{Entry}
-use Rattle.zy_base.specs.Outside.{Writes}
-use Rattle.zy_base.proofs.WritingLemmas.{pieces_failed}
-use Rattle.zy_journal.specs.Journal.{entry_text}
+use Rattle.std.proofs.Common.{arith, subst}
+use Rattle.std.specs.List.{AllByRecursion}
+use Rattle.zy_journal.specs.Journal.{IsEntry, entry_text}
+use Rattle.zy_journal.proofs.WriteLemmas.{one_written, next_failed}
 use Rattle.zy_journal.proofs.writing.write_entries.Goals as goal
 
 pub returns-in-Err : goal.returns-in-Err
 returns-in-Err g c = record {
-  writes = pieces_failed g.K.Sink.holds g.K.Sink.faults c.args.sink.now c.loop-entry.sink c.write_entry.new.sink c.in-Err.failed entry_text c.args.entries.now c.loop-entry.entry-index c.entry-item.result c.loop-entry-test.true c.loop-entry.invariant.written c.loop-entry.invariant.count
-      (subst (λ (e : Entry). Writes g.K.Sink.holds g.K.Sink.faults c.loop-entry.sink c.write_entry.new.sink (Err c.in-Err.failed) (entry_text e)) c.entry-item.is c.in-Err.ensures.writes);
+  writes = next_failed g.K.Sink.holds g.K.Sink.faults c.args.sink.now c.loop-entry.sink c.write_entry.new.sink entry_text c.args.entries c.loop-entry.left c.next.new.self c.in-Some.entry.now
+      c.in-Err.failed c.loop-entry.invariant.written c.in-Some.ensures.some c.loop-entry.invariant.count c.in-Err.ensures.writes;
 }
+
+pub loop-entry-preserved : goal.loop-entry-preserved
+loop-entry-preserved g c =
+    let before = c.loop-entry.invariant.count in
+    let more = c.write_entry.ensures.writes.count in
+    record {
+      written = one_written (g.K.Sink.holds c.args.sink.now) (g.K.Sink.holds c.loop-entry.sink) (g.K.Sink.holds c.write_entry.new.sink) entry_text c.args.entries c.loop-entry.left c.next.new.self c.in-Some.entry.now
+          c.loop-entry.invariant.written c.in-Some.ensures.some c.in_default-write_entry.ensures.writes.whole;
+      count = omega (arith, before, more);
+      fits = (subst (AllByRecursion IsEntry) c.in-Some.ensures.some c.loop-entry.invariant.fits).1;
+    }

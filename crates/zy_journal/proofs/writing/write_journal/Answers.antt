@@ -18,7 +18,7 @@ returns-in-Err-write_entries g c =
     let holds : List ℕ = flat_map hold_text c.args.journal.now.holds in
     record {
       writes = writes_on g.K.Sink.holds g.K.Sink.faults c.args.sink.now c.write_whole.new.sink c.write_entries.new.sink (Err c.in-Err-write_entries.failed) magic (entries ++ (holds ++ 69 ∷ [])) c.in_default.ensures.writes.whole c.in_default.ensures.writes.count
-          (writes_no_more g.K.Sink.holds g.K.Sink.faults c.write_whole.new.sink c.write_entries.new.sink c.in-Err-write_entries.failed entries (holds ++ 69 ∷ []) (rw (← c.items.ensures.value) c.in-Err-write_entries.ensures.writes));
+          (writes_no_more g.K.Sink.holds g.K.Sink.faults c.write_whole.new.sink c.write_entries.new.sink c.in-Err-write_entries.failed entries (holds ++ 69 ∷ []) (rw (← c.entries.ensures.value) c.in-Err-write_entries.ensures.writes));
     }
 
 pub returns-in-Err-write_holds : goal.returns-in-Err-write_holds
@@ -28,8 +28,8 @@ returns-in-Err-write_holds g c =
     let holds : List ℕ = flat_map hold_text c.args.journal.now.holds in
     record {
       writes = writes_on g.K.Sink.holds g.K.Sink.faults c.args.sink.now c.write_whole.new.sink c.write_holds.new.sink (Err c.in-Err-write_holds.failed) magic (entries ++ (holds ++ 69 ∷ [])) c.in_default.ensures.writes.whole c.in_default.ensures.writes.count
-          (writes_on g.K.Sink.holds g.K.Sink.faults c.write_whole.new.sink c.write_entries.new.sink c.write_holds.new.sink (Err c.in-Err-write_holds.failed) entries (holds ++ 69 ∷ []) (rw (← c.items.ensures.value) c.in_default-write_entries.ensures.writes.whole) c.in_default-write_entries.ensures.writes.count
-          (writes_no_more g.K.Sink.holds g.K.Sink.faults c.write_entries.new.sink c.write_holds.new.sink c.in-Err-write_holds.failed holds (69 ∷ []) (rw (← c.items-2.ensures.value) c.in-Err-write_holds.ensures.writes)));
+          (writes_on g.K.Sink.holds g.K.Sink.faults c.write_whole.new.sink c.write_entries.new.sink c.write_holds.new.sink (Err c.in-Err-write_holds.failed) entries (holds ++ 69 ∷ []) (rw (← c.entries.ensures.value) c.in_default-write_entries.ensures.writes.whole) c.in_default-write_entries.ensures.writes.count
+          (writes_no_more g.K.Sink.holds g.K.Sink.faults c.write_entries.new.sink c.write_holds.new.sink c.in-Err-write_holds.failed holds (69 ∷ []) (rw (← c.holds.ensures.value) c.in-Err-write_holds.ensures.writes)));
     }
 
 pub returns : goal.returns
@@ -39,6 +39,6 @@ returns g c =
     let holds : List ℕ = flat_map hold_text c.args.journal.now.holds in
     record {
       writes = writes_on g.K.Sink.holds g.K.Sink.faults c.args.sink.now c.write_whole.new.sink c.write_whole-2.new.sink c.write_whole-2.result magic (entries ++ (holds ++ 69 ∷ [])) c.in_default.ensures.writes.whole c.in_default.ensures.writes.count
-          (writes_on g.K.Sink.holds g.K.Sink.faults c.write_whole.new.sink c.write_entries.new.sink c.write_whole-2.new.sink c.write_whole-2.result entries (holds ++ 69 ∷ []) (rw (← c.items.ensures.value) c.in_default-write_entries.ensures.writes.whole) c.in_default-write_entries.ensures.writes.count
-          (writes_on g.K.Sink.holds g.K.Sink.faults c.write_entries.new.sink c.write_holds.new.sink c.write_whole-2.new.sink c.write_whole-2.result holds (69 ∷ []) (rw (← c.items-2.ensures.value) c.in_default-write_holds.ensures.writes.whole) c.in_default-write_holds.ensures.writes.count c.write_whole-2.ensures.writes));
+          (writes_on g.K.Sink.holds g.K.Sink.faults c.write_whole.new.sink c.write_entries.new.sink c.write_whole-2.new.sink c.write_whole-2.result entries (holds ++ 69 ∷ []) (rw (← c.entries.ensures.value) c.in_default-write_entries.ensures.writes.whole) c.in_default-write_entries.ensures.writes.count
+          (writes_on g.K.Sink.holds g.K.Sink.faults c.write_entries.new.sink c.write_holds.new.sink c.write_whole-2.new.sink c.write_whole-2.result holds (69 ∷ []) (rw (← c.holds.ensures.value) c.in_default-write_holds.ensures.writes.whole) c.in_default-write_holds.ensures.writes.count c.write_whole-2.ensures.writes));
     }

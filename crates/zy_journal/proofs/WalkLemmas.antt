@@ -1,0 +1,214 @@
+-- What is left of histories that are walked.
+use Rattle.std.proofs.Common.{◌≡◌, ◌≢◌, ◌⊎◌, inl, inr, ℕ, zero, suc, ◌+◌, ◌<◌, ◌≤◌, true, List, [], ◌∷◌, drop, length, get_or, set, add-one, replicate, refl, sym, ◌∙◌, ap, subst, arith}
+use Rattle.std.specs.Prelude.{Option, None, Some}
+use Rattle.std.proofs.lemmas.List.{get_or-set_same, get_or-set_other}
+use Rattle.std.proofs.lemmas.Bool.Decides.{nat_tests, eqb_tells}
+use Rattle.zy_base.specs.declared.entry.Entry.{Entry}
+use Rattle.zy_base.specs.Order.{history_of}
+use Rattle.zy_journal.specs.Merged.{is_earlier}
+use Rattle.zy_journal.specs.Walk.{rests_of, first_stamp, head_of, AreHeads, IsBest, IsLeast, IsTakenAt}
+
+drop_none : (n : ℕ) → drop {A = Entry} n [] ≡ []
+drop_none zero = refl
+drop_none (suc n) = refl
+
+rest_is : (hs : List (List Entry)) (ns : List ℕ) (i : ℕ) → history_of (rests_of hs ns) i ≡ drop (get_or ns i 0) (history_of hs i)
+unfolding rests_of
+rest_is [] ns zero = sym (drop_none (get_or ns zero 0))
+rest_is [] ns (suc i) = sym (drop_none (get_or ns (suc i) 0))
+rest_is (h ∷ hs) [] zero = refl
+rest_is (h ∷ hs) [] (suc i) = refl
+rest_is (h ∷ hs) (n ∷ ns) zero = refl
+rest_is (h ∷ hs) (n ∷ ns) (suc i) = rest_is hs ns i
+
+-- ---- the first entries
+
+pub first_over : (h : List Entry) (n : ℕ) → length h ≤ n → first_stamp (drop n h) ≡ None
+first_over [] zero over = refl
+first_over [] (suc n) over = refl
+first_over (x ∷ h) zero over = absurd (omega (arith, over))
+first_over (x ∷ h) (suc n) over = first_over h n (omega (arith, over))
+
+pub first_inside : (h : List Entry) (n : ℕ) (e : Entry) → n < length h → first_stamp (drop n h) ≡ Some (get_or h n e).stamp
+first_inside [] n e inside = absurd (omega (arith, inside))
+first_inside (x ∷ h) zero e inside = refl
+first_inside (x ∷ h) (suc n) e inside = first_inside h n e (omega (arith, inside))
+
+pub own_inside : (hs : List (List Entry)) (i : ℕ) (h : List Entry) → i < length hs → history_of hs i ≡ get_or hs i h
+own_inside [] i h inside = absurd (omega (arith, inside))
+own_inside (x ∷ hs) zero h inside = refl
+own_inside (x ∷ hs) (suc i) h inside = own_inside hs i h (omega (arith, inside))
+
+own_over : (hs : List (List Entry)) (i : ℕ) → length hs ≤ i → history_of hs i ≡ []
+own_over [] zero over = refl
+own_over [] (suc i) over = refl
+own_over (x ∷ hs) zero over = absurd (omega (arith, over))
+own_over (x ∷ hs) (suc i) over = own_over hs i (omega (arith, over))
+
+pub head_over : (hs : List (List Entry)) (i : ℕ) → length hs ≤ i → head_of hs i ≡ None
+head_over hs i over = ap first_stamp (own_over hs i over)
+
+length-rests : (hs : List (List Entry)) (ns : List ℕ) → length (rests_of hs ns) ≡ length hs
+unfolding rests_of
+length-rests [] ns = refl
+length-rests (h ∷ hs) [] = refl
+length-rests (h ∷ hs) (n ∷ ns) = ap suc (length-rests hs ns)
+
+pub rest_over : (hs : List (List Entry)) (ns : List ℕ) (i : ℕ) → length hs ≤ i → head_of (rests_of hs ns) i ≡ None
+rest_over hs ns i over = head_over (rests_of hs ns) i (let size = length-rests hs ns in omega (arith, size, over))
+
+-- ---- nothing was taken
+
+pub none_taken : (hs : List (List Entry)) (n : ℕ) → rests_of hs (replicate {A = ℕ} n 0) ≡ hs
+unfolding rests_of
+none_taken [] n = refl
+none_taken (h ∷ hs) zero = refl
+none_taken (h ∷ hs) (suc n) = ap (λ (l : List (List Entry)). h ∷ l) (none_taken hs n)
+
+pub no_heads : (n i : ℕ) → get_or (replicate {A = Option ℕ} n None) i None ≡ None
+no_heads zero zero = refl
+no_heads zero (suc i) = refl
+no_heads (suc n) zero = refl
+no_heads (suc n) (suc i) = no_heads n i
+
+-- the heads of the lists below a place
+pub record AreHeadsBelow (hs : List (List Entry)) (place : ℕ) (heads : List (Option ℕ)) : Type 0 where
+  pub below : (i : ℕ) → i < place → get_or heads i None ≡ head_of hs i
+  pub above : (i : ℕ) → place ≤ i → get_or heads i None ≡ None
+
+-- those of one list more
+pub one_more : (hs : List (List Entry)) (place : ℕ) (heads : List (Option ℕ)) (h : List Entry) (head : Option ℕ) → AreHeadsBelow hs place heads → place < length heads → history_of hs place ≡ h → head ≡ first_stamp h
+    → AreHeadsBelow hs (place + 1) (set heads place head)
+one_more hs place heads h head are room is found = record {
+  below = λ i less. elim (eqb_tells i place) [
+    | inl same ↦ ap (λ n. get_or (set heads place head) n None) same.1 ∙ get_or-set_same heads place head None room ∙ found ∙ ap first_stamp (sym is) ∙ ap (head_of hs) (sym same.1)
+    | inr other ↦ get_or-set_other heads place i head None other.1 ∙ are.below i (grind (arith, nat_tests, less, other.0))
+  ];
+  above = λ i past. get_or-set_other heads place i head None (λ same. omega (arith, past, same)) ∙ are.above i (omega (arith, past));
+}
+
+sides : (j n : ℕ) → (j < n) ⊎ (n ≤ j)
+sides zero zero = inr (omega arith)
+sides zero (suc n) = inl (omega arith)
+sides (suc j) zero = inr (omega arith)
+sides (suc j) (suc n) = elim (sides j n) [ inl inside ↦ inl (omega (arith, inside)) | inr outside ↦ inr (omega (arith, outside)) ]
+
+pub all_heads : (hs : List (List Entry)) (place : ℕ) (heads : List (Option ℕ)) → AreHeadsBelow hs place heads → length hs ≤ place → AreHeads hs heads
+all_heads hs place heads are end i = elim (sides i place) [
+  | inl inside ↦ are.below i inside
+  | inr outside ↦ are.above i outside ∙ sym (head_over hs i (omega (arith, end, outside)))
+]
+
+-- ---- taking an entry
+
+-- a list with a first entry is there
+pub list_there : (hs : List (List Entry)) (ns : List ℕ) (i stamp : ℕ) → head_of (rests_of hs ns) i ≡ Some stamp → i < length hs
+list_there hs ns i stamp is =
+    elim (sides i (length hs)) [ inl inside ↦ inside | inr over ↦ absurd (let o : Some stamp ≡ None = sym is ∙ rest_over hs ns i over in cc) ]
+
+-- and has one at its place
+pub entry_there : (hs : List (List Entry)) (ns : List ℕ) (i stamp : ℕ) (h : List Entry) → head_of (rests_of hs ns) i ≡ Some stamp → get_or hs i h ≡ h
+    → (history_of hs i ≡ h) × (get_or ns i 0 < length h)
+entry_there hs ns i stamp h is at =
+    let own : history_of hs i ≡ h = own_inside hs i h (list_there hs ns i stamp is) ∙ at in (
+      own,
+      elim (sides (get_or ns i 0) (length h)) [
+        | inl inside ↦ inside
+        | inr over ↦ absurd (let o : Some stamp ≡ None = sym is ∙ ap first_stamp (rest_is hs ns i ∙ ap (λ (l : List Entry). drop (get_or ns i 0) l) own) ∙ first_over h (get_or ns i 0) over in cc)
+      ],
+    )
+
+drop_next : (h : List Entry) (n : ℕ) (e : Entry) → n < length h → drop n h ≡ get_or h n e ∷ drop (suc n) h
+drop_next [] n e inside = absurd (omega (arith, inside))
+drop_next (x ∷ h) zero e inside = refl
+drop_next (x ∷ h) (suc n) e inside = drop_next h n e (omega (arith, inside))
+
+drop_first : (h : List Entry) (n : ℕ) (e : Entry) → n < length h → drop n h ≡ get_or h n e ∷ drop (n + 1) h
+drop_first h n e inside = drop_next h n e inside ∙ ap (λ (m : ℕ). get_or h n e ∷ drop m h) (sym (add-one n))
+
+-- one place further on, a list has lost its first entry
+pub taken_at : (hs : List (List Entry)) (ns : List ℕ) (i n : ℕ) (e : Entry) → get_or ns i 0 ≡ n → i < length ns → n < length (history_of hs i) → get_or (history_of hs i) n e ≡ e
+    → IsTakenAt i (rests_of hs ns) (rests_of hs (set ns i (n + 1))) e
+taken_at hs ns i n e place room inside is = record {
+  own = rest_is hs ns i ∙ ap (λ (m : ℕ). drop m (history_of hs i)) place ∙ drop_first (history_of hs i) n e inside
+      ∙ ap (λ (x : Entry). x ∷ drop (n + 1) (history_of hs i)) is
+      ∙ ap (λ (l : List Entry). e ∷ l) (sym (rest_is hs (set ns i (n + 1)) i ∙ ap (λ (m : ℕ). drop m (history_of hs i)) (get_or-set_same ns i (n + 1) 0 room)));
+  others = λ shard not. rest_is hs ns shard ∙ ap (λ (m : ℕ). drop m (history_of hs shard)) (sym (get_or-set_other ns i shard (n + 1) 0 (λ same. not (sym same)))) ∙ sym (rest_is hs (set ns i (n + 1)) shard);
+}
+
+-- and the heads are still those of the lists
+pub heads_taken : (hs : List (List Entry)) (ns : List ℕ) (i n : ℕ) (heads : List (Option ℕ)) (h : List Entry) (head : Option ℕ) → AreHeads (rests_of hs ns) heads → i < length ns → i < length heads → history_of hs i ≡ h → head ≡ first_stamp (drop (n + 1) h)
+    → AreHeads (rests_of hs (set ns i (n + 1))) (set heads i head)
+heads_taken hs ns i n heads h head are room place is found shard = elim (eqb_tells shard i) [
+  | inl same ↦
+      ap (λ k. get_or (set heads i head) k None) same.1 ∙ get_or-set_same heads i head None place ∙ found ∙ ap (λ (l : List Entry). first_stamp (drop (n + 1) l)) (sym is)
+      ∙ sym (ap first_stamp (rest_is hs (set ns i (n + 1)) i ∙ ap (λ (m : ℕ). drop m (history_of hs i)) (get_or-set_same ns i (n + 1) 0 room)))
+      ∙ ap (head_of (rests_of hs (set ns i (n + 1)))) (sym same.1)
+  | inr other ↦
+      get_or-set_other heads i shard head None other.1 ∙ are shard
+      ∙ ap first_stamp (rest_is hs ns shard ∙ ap (λ (m : ℕ). drop m (history_of hs shard)) (sym (get_or-set_other ns i shard (n + 1) 0 other.1)) ∙ sym (rest_is hs (set ns i (n + 1)) shard))
+]
+
+-- ---- the best so far
+
+below : (i n : ℕ) → i < n + 1 → i ≢ n → i < n
+below i n less not = elim (eqb_tells i n) [ inl same ↦ absurd (not same.1) | inr other ↦ grind (arith, nat_tests, less, other.0) ]
+
+same_stamp : (a b : ℕ) → Some a ≡ Some b → a ≡ b
+same_stamp a b is = cc
+
+-- a list without a first entry changes nothing
+pub best_same : (rests : List (List Entry)) (n : ℕ) (best : Option (ℕ × ℕ)) → head_of rests n ≡ None → IsBest rests n best → IsBest rests (n + 1) best
+best_same rests n None none best = λ i less. elim (eqb_tells i n) [ inl same ↦ rw same.1 none | inr other ↦ best i (below i n less other.1) ]
+best_same rests n (Some b) none best =
+    (best.0, λ i t less not is. elim (eqb_tells i n) [ inl same ↦ (let no : head_of rests i ≡ None = rw same.1 none in absurd (let o : Some t ≡ None = sym is ∙ no in cc)) | inr other ↦ best.1 i t (below i n less other.1) not is ], omega (arith, best.2))
+
+-- the first of all is the best
+pub best_first : (rests : List (List Entry)) (n t : ℕ) → head_of rests n ≡ Some t → IsBest rests n None → IsBest rests (n + 1) (Some (n, t))
+best_first rests n t is best =
+    (is, λ i u less not there. absurd (let o : Some u ≡ None = sym there ∙ best i (below i n less not) in cc), omega arith)
+
+lower_first : (t u i n : ℕ) → t < u → is_earlier t n u i ≡ true
+lower_first t u i n less = grind (arith, nat_tests, less)
+
+lower_on : (t n b at u i : ℕ) → t < b → is_earlier b at u i ≡ true → is_earlier t n u i ≡ true
+lower_on t n b at u i less is = grind (arith, nat_tests, less, is)
+
+not_lower : (b at u i : ℕ) → b ≤ u → at < i → is_earlier b at u i ≡ true
+not_lower b at u i le less = grind (arith, nat_tests, le, less)
+
+-- one with a lower stamp than the best is the best
+pub best_new : (rests : List (List Entry)) (n t at first : ℕ) → head_of rests n ≡ Some t → t < first → IsBest rests n (Some (at, first)) → IsBest rests (n + 1) (Some (n, t))
+best_new rests n t at first is lower best = (
+  is,
+  λ i u less not there. elim (eqb_tells i at) [
+    | inl same ↦ (let u_is : first ≡ u = same_stamp first u (sym best.0 ∙ ap (head_of rests) (sym same.1) ∙ there) in subst (λ x. is_earlier t n x i ≡ true) u_is (lower_first t first i n lower))
+    | inr other ↦ lower_on t n first at u i lower (best.1 i u (below i n less not) other.1 there)
+  ],
+  omega arith,
+)
+
+-- and else the best stays
+pub best_stays : (rests : List (List Entry)) (n t at first : ℕ) → head_of rests n ≡ Some t → first ≤ t → IsBest rests n (Some (at, first)) → IsBest rests (n + 1) (Some (at, first))
+best_stays rests n t at first is late best = (
+  best.0,
+  λ i u less not there. elim (eqb_tells i n) [
+    | inl same ↦ (
+        let u_is : t ≡ u = same_stamp t u (sym is ∙ ap (head_of rests) (sym same.1) ∙ there) in
+        not_lower first at u i (omega (arith, late, u_is)) (let place = same.1 in let within = best.2 in omega (arith, place, within)))
+    | inr other ↦ best.1 i u (below i n less other.1) not there
+  ],
+  omega (arith, best.2),
+)
+
+-- where there is no best, no list has a first entry
+pub best_none : (rests : List (List Entry)) (n : ℕ) → ((i : ℕ) → n ≤ i → head_of rests i ≡ None) → IsBest rests n None → (i : ℕ) → head_of rests i ≡ None
+best_none rests n over best i = elim (sides i n) [ inl inside ↦ best i inside | inr outside ↦ over i outside ]
+
+-- the best of all comes next
+pub best_least : (rests : List (List Entry)) (n at first : ℕ) → ((i : ℕ) → n ≤ i → head_of rests i ≡ None) → IsBest rests n (Some (at, first)) → IsLeast rests at
+best_least rests n at first over best = record {
+  first = first;
+  is = best.0;
+  least = λ i t not is. elim (sides i n) [ inl inside ↦ best.1 i t inside not is | inr outside ↦ absurd (let o : Some t ≡ None = sym is ∙ over i outside in cc) ];
+}

@@ -1,5 +1,0 @@
-use Rattle.std.proofs.Common.{length}
-use Rattle.zy_journal.proofs.turns.+all_turns.Given as goal
-
-abbrev pub decreases-all_turns : goal.decreases-all_turns
-decreases-all_turns l = length l.histories.now

@@ -1,0 +1,55 @@
+-- What is left of histories that are walked, and which of their first entries comes next. No public clause cites this
+-- module.
+use Rattle.std.specs.Prelude.{◌≡◌, ◌≢◌, ℕ, ◌<◌, true, get_or, List, [], ◌∷◌, drop, Option, None, Some}
+use Rattle.zy_base.specs.declared.entry.Entry.{Entry}
+use Rattle.zy_base.specs.Order.{history_of}
+use Rattle.zy_journal.specs.Merged.{is_earlier}
+
+-- the lists, each without this many of its first entries
+unfoldable pub rests_of : List (List Entry) → List ℕ → List (List Entry)
+rests_of [] places = []
+rests_of (h ∷ hs) [] = h ∷ hs
+rests_of (h ∷ hs) (n ∷ ns) = drop n h ∷ rests_of hs ns
+
+-- the stamp of the first entry, where there is one
+abbrev pub first_stamp : List Entry → Option ℕ
+first_stamp [] = None
+first_stamp (e ∷ es) = Some e.stamp
+
+-- the stamp of the first entry of a list
+abbrev pub head_of : List (List Entry) → ℕ → Option ℕ
+head_of rests shard = first_stamp (history_of rests shard)
+
+-- these are the stamps of the first entries of all lists
+abbrev pub AreHeads : List (List Entry) → List (Option ℕ) → Type 0
+AreHeads rests heads = (shard : ℕ) → get_or heads shard None ≡ head_of rests shard
+
+-- the first entry of this list, which has this stamp, comes before those of all other lists below a limit
+abbrev pub IsFirstBelow : List (List Entry) → ℕ → ℕ → ℕ → Type 0
+IsFirstBelow rests limit at first =
+    (shard stamp : ℕ) → shard < limit → shard ≢ at → head_of rests shard ≡ Some stamp
+    → is_earlier first at stamp shard ≡ true
+
+-- the list below a limit whose first entry comes first, with the stamp of that entry; none where all these are empty
+abbrev pub IsBest : List (List Entry) → ℕ → Option (ℕ × ℕ) → Type 0
+IsBest rests limit None = (shard : ℕ) → shard < limit → head_of rests shard ≡ None
+IsBest rests limit (Some best) =
+    (head_of rests best.0 ≡ Some best.1) × IsFirstBelow rests limit best.0 best.1 × (best.0 < limit)
+
+-- the first entry of this list comes next
+pub record IsLeast (rests : List (List Entry)) (at : ℕ) : Type 0 where
+  pub first : ℕ
+  pub is : head_of rests at ≡ Some first
+  pub least : (shard stamp : ℕ) → shard ≢ at → head_of rests shard ≡ Some stamp
+      → is_earlier first at stamp shard ≡ true
+
+-- an entry was taken off this list, and no other changed
+pub record IsTakenAt (at : ℕ) (old new : List (List Entry)) (e : Entry) : Type 0 where
+  pub own : history_of old at ≡ e ∷ history_of new at
+  pub others : (shard : ℕ) → at ≢ shard → history_of old shard ≡ history_of new shard
+
+-- the next entry of all was taken
+pub record IsNext (old new : List (List Entry)) (e : Entry) : Type 0 where
+  pub at : ℕ
+  pub least : IsLeast old at
+  pub taken : IsTakenAt at old new e
