@@ -1,8 +1,10 @@
 -- What the calls of a command have in common.
 use Rattle.std.proofs.Common.{◌≡◌, ℕ, ◌+◌, ◌<◌, ◌≤◌, true, false, List, [], ◌∷◌, ◌++◌, length, append_assoc, append-nil, ◌∙◌, map, refl, ap, sym, subst, zero, suc, arith}
-use Rattle.std.specs.Prelude.{All, Option, Some, IfSome}
+use Rattle.std.specs.Prelude.{All, Option, None, Some, IfSome, option_map}
 use Rattle.std.proofs.lemmas.List.Elements.{All-nil, All-cons, All-head, All-tail, All-append}
-use Rattle.std.specs.List.{range_with_len}
+use Rattle.std.specs.List.{range_with_len, slice_get}
+use Rattle.std.proofs.lemmas.Option.{slice_get_past, slice_get_read, slice_get-map}
+use Rattle.std.proofs.lemmas.List.FromFn.{length-map-range_with_len, get_or-map-range_with_len}
 use Rattle.zy_base.specs.Key.{shard_of}
 use Rattle.zy_base.specs.Call.{key_of}
 use Rattle.zy_base.specs.declared.call.Call.TheVariants.{Get as GetCall, Set as SetCall, Add as AddCall, Replace as ReplaceCall, Append as AppendCall, Prepend as PrependCall, Cas as CasCall, Incr, Decr, Delete as DeleteCall, Flush as FlushCall}
@@ -13,12 +15,34 @@ use Rattle.mc_parse.specs.declared.command.Command.TheVariants.{Store, Cas, Get,
 use Rattle.mc_parse.specs.declared.shard_call.ShardCall.{ShardCall}
 use Rattle.zy_base.specs.declared.entry.Entry.{Entry}
 use Rattle.std.proofs.lemmas.List.{map-append}
-use Rattle.mc_parse.specs.Calls.{calls_of, asked_by, Due, due, due_at, due_from, due_of, dues_of, tag_of, tagged, at_key, get_at, on_shard, IsAtKey, IsOnShard, IsDueOn}
+use Rattle.mc_parse.specs.Calls.{calls_of, flush_calls, asked_by, Due, due, due_at, due_from, due_of, dues_of, tag_of, tagged, at_key, get_at, on_shard, IsAtKey, IsOnShard, IsDueOn}
 
 -- the calls of gets are the gets of the keys asked for
 pub asked_by-gets : (shards : ℕ) (keys : List (List ℕ)) → asked_by (map (get_at shards) keys) ≡ map GetCall keys
 asked_by-gets shards [] = refl
 asked_by-gets shards (key ∷ keys) = ap (λ (rest : List Call). GetCall key ∷ rest) (asked_by-gets shards keys)
+
+-- ---- one call
+
+-- where there is one call, there is none after it
+pub none_later : (call : ShardCall) (part : ℕ) → 0 < part → slice_get (call ∷ []) part ≡ None
+none_later call part later = slice_get_past (call ∷ []) part (omega (arith, later))
+
+-- the get of a key
+pub get_there : (shards : ℕ) (keys : List (List ℕ)) (part : ℕ) → slice_get (map (get_at shards) keys) part ≡ option_map (get_at shards) (slice_get keys part)
+get_there shards keys part = slice_get-map (get_at shards) keys part
+
+-- the flush of a shard
+pub flush_there : (shards part : ℕ) → part < shards → slice_get (flush_calls shards) part ≡ Some (on_shard FlushCall part)
+flush_there shards part within =
+    slice_get_read (flush_calls shards) shards part (on_shard FlushCall part) (sym (length-map-range_with_len (on_shard FlushCall) 0 shards)) within
+    (sym (get_or-map-range_with_len (on_shard FlushCall) 0 shards part part (on_shard FlushCall part) within (omega arith)))
+
+-- there is none past the last shard
+pub flush_past : (shards part : ℕ) → shards ≤ part → slice_get (flush_calls shards) part ≡ None
+flush_past shards part past =
+    let long = length-map-range_with_len (on_shard FlushCall) 0 shards in
+    slice_get_past (flush_calls shards) part (omega arith)
 
 -- ---- a property of every call
 

@@ -7,3 +7,4 @@ pub mod KeyLemmas
 pub mod PlainLemmas
 pub mod BoundLemmas
 pub mod SameLemmas
+pub mod NeedLemmas

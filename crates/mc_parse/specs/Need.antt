@@ -1,7 +1,9 @@
 -- What must come with a line before it is a request (docs/PROFILE.md, "Lines and words").
-use Rattle.std.specs.Prelude.{ℕ, List}
+use Rattle.std.specs.Prelude.{ℕ, Bool, true, false, List}
 use Rattle.mc_parse.specs.declared.need.Need.{Need}
 use Rattle.mc_parse.specs.declared.need.Need.TheVariants.{Nothing, Block, Quit}
+use Rattle.mc_parse.specs.declared.name.Name.{Name}
+use Rattle.mc_parse.specs.declared.name.Name.TheVariants.{Store, Cas, Quit as QuitName}
 use Rattle.mc_parse.specs.Form.{Ask, stores, exchanges, quits, Form, line_form, faulty, asks}
 
 -- what must come with what is asked for
@@ -19,3 +21,10 @@ need_for (asks ask quiet) = ask_need ask
 -- what a line needs
 unfoldable pub need : List ℕ → Need
 need line = need_for (line_form line)
+
+-- a line with this name may need something
+abbrev pub takes_more : Name → Bool
+takes_more (Store verb) = true
+takes_more Cas = true
+takes_more QuitName = true
+takes_more name = false

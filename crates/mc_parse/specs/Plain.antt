@@ -1,5 +1,5 @@
 -- Which keys a command calls, and which commands are plain: they call keys alone, and tell or compare no unique.
-use Rattle.std.specs.Prelude.{◌≡◌, ℕ, ◌<◌, true, false, List, [], ◌∷◌, map, flat_map, Some}
+use Rattle.std.specs.Prelude.{◌≡◌, ℕ, ◌<◌, true, false, List, [], ◌∷◌, flat_map, Some}
 use Rattle.std.specs.List.{AllByRecursion, Contains}
 use Rattle.zy_base.specs.Call.{key_of}
 use Rattle.zy_base.specs.Key.{shard_of}

@@ -13,6 +13,7 @@ mod listing;
 mod name;
 mod need;
 mod number;
+mod one_call;
 mod parse;
 mod reading;
 mod shard_call;
@@ -34,6 +35,7 @@ pub use laws::{
 };
 pub use listing::calls;
 pub use need::{LINE_LIMIT, Need, need_of};
+pub use one_call::call_at;
 pub use parse::{parse_block, parse_large, parse_line};
 pub use shard_call::{Calls, ShardCall};
 pub use verb::Verb;

@@ -46,7 +46,7 @@ pub fn calls(alloc: Global, command: &Command, shards: u32) -> Result<Calls, NoM
 }
 
 // The call that stores as a verb says.
-fn stored_by(verb: Verb, key: &Blob, flags: u32, value: &Blob) -> Result<Call, NoMemory>
+pub(crate) fn stored_by(verb: Verb, key: &Blob, flags: u32, value: &Blob) -> Result<Call, NoMemory>
     ensures value { IfOk result (λ call. call ≡ stored_by verb key.now flags value.now) }
 {
     let key = key.copy()?;
@@ -73,7 +73,7 @@ fn storing(verb: Verb, key: Blob, flags: u32, value: Blob) -> Call
 }
 
 // The call that stores where the item there has this unique.
-fn exchanged(key: &Blob, flags: u32, unique: u64, value: &Blob) -> Result<Call, NoMemory>
+pub(crate) fn exchanged(key: &Blob, flags: u32, unique: u64, value: &Blob) -> Result<Call, NoMemory>
     ensures value { IfOk result (λ call. call ≡ Call.Cas key.now flags unique value.now) }
 {
     let key = key.copy()?;
@@ -92,7 +92,7 @@ fn exchanged(key: &Blob, flags: u32, unique: u64, value: &Blob) -> Result<Call, 
 }
 
 // The call that removes the item.
-fn deleted(key: &Blob) -> Result<Call, NoMemory>
+pub(crate) fn deleted(key: &Blob) -> Result<Call, NoMemory>
     ensures value { IfOk result (λ call. call ≡ Call.Delete key.now) }
 {
     let key = key.copy()?;
@@ -100,7 +100,7 @@ fn deleted(key: &Blob) -> Result<Call, NoMemory>
 }
 
 // The call that counts up or down.
-fn counted_by(up: bool, key: &Blob, amount: u64) -> Result<Call, NoMemory>
+pub(crate) fn counted_by(up: bool, key: &Blob, amount: u64) -> Result<Call, NoMemory>
     ensures value { IfOk result (λ call. call ≡ counted_by up key.now amount) }
 {
     let key = key.copy()?;

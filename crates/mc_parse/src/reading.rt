@@ -26,8 +26,8 @@ pub(crate) fn read_line(line: &[u8]) -> Line<'_>
     }
 }
 
-// What the text after a name says.
-fn read_after(name: Name, text: &[u8]) -> Line<'_>
+/// What the text after a name says.
+pub(crate) fn read_after(name: Name, text: &[u8]) -> Line<'_>
     ensures value { form_seen result ≡ form_after name (words text.now) }
 {
     match name {

@@ -3,13 +3,15 @@ use Rattle.std.proofs.Common.{◌≡◌, ℕ, ◌<◌, List, [], ◌∷◌, ◌+
 use Rattle.std.specs.Prelude.{Option, Result, Ok, Err, IfOk, OnOk}
 use Rattle.zy_base.specs.declared.call.Call.{Call}
 use Rattle.zy_base.specs.declared.entry.Entry.{Entry}
+use Rattle.zy_base.specs.declared.entry.Tag.{Tag}
 use Rattle.zy_base.specs.Call.{key_of}
 use Rattle.zy_base.specs.Shard.{State, empty_state, Outcome, outcome_of, item_at, outcome_on, reply_to, state_with, state_after}
 use Rattle.zy_base.specs.History.{IsHistory, replayed}
 use Rattle.zy_base.specs.Order.{last_stamp}
 use Rattle.zy_base.proofs.EntryLemmas.{last_stamp-push}
 use Rattle.zy_base.proofs.ReplayLemmas.{replayed-push, IsHistory-push}
-use Rattle.mc_shard.specs.Shard.{Kept, state_of, with_entry, state_past}
+use Rattle.mc_shard.specs.declared.made.Made.{Made}
+use Rattle.mc_shard.specs.Shard.{Kept, state_of, entry_of, with_entry, state_past}
 use Rattle.mc_shard.specs.Contents.{IsSound}
 
 -- what a shard is after a call, from what each step of the call gives
@@ -39,8 +41,8 @@ IsSound-applied number shards last last' contents contents' es es' e key outcome
     }
 
 -- what a shard has after a call that was made, by the entry that was appended
-pub state_by : {E : Type 0} (old new : Kept) (call shared : Call) (result : Result Entry E)
-    → IfOk result (λ entry. new ≡ with_entry old entry) → IfOk result (λ entry. entry.call ≡ shared) → shared ≡ call → OnOk result (state_of new ≡ state_past old call)
-state_by old new call shared (Ok entry) longer of_call same =
-    ap state_of longer ∙ replayed-push old.shards old.number empty_state old.history entry ∙ ap (state_past old) (of_call ∙ same)
-state_by old new call shared (Err refused) longer of_call same = tt
+pub state_by : {E : Type 0} (old new : Kept) (tag : Tag) (call given : Call) (result : Result Made E)
+    → IfOk result (λ made. new ≡ with_entry old (entry_of tag old.number given made.reply made.stamp)) → given ≡ call → OnOk result (state_of new ≡ state_past old call)
+state_by old new tag call given (Ok made) longer same =
+    ap state_of longer ∙ replayed-push old.shards old.number empty_state old.history (entry_of tag old.number given made.reply made.stamp) ∙ ap (state_past old) same
+state_by old new tag call given (Err refused) longer same = tt

@@ -3,6 +3,7 @@ use Rattle.std.specs.Prelude.{ℕ, List, [], ◌∷◌, ◌++◌}
 use Rattle.zy_base.specs.declared.call.Call.{Call}
 use Rattle.zy_base.specs.declared.call_reply.CallReply.{CallReply}
 use Rattle.zy_base.specs.declared.entry.Entry.{Entry}
+use Rattle.zy_base.specs.declared.entry.Tag.{Tag}
 use Rattle.zy_base.specs.Shard.{State, empty_state, reply_to, state_after}
 use Rattle.zy_base.specs.History.{replayed}
 use Rattle.zy_base.specs.Order.{last_stamp}
@@ -26,6 +27,11 @@ state_of shard = replayed shard.shards shard.number empty_state shard.history
 -- the stamp of its last entry, 0 without entries
 abbrev pub last_of : Kept → ℕ
 last_of shard = last_stamp 0 shard.history
+
+-- the entry of a call with this tag, on the shard with this number, by its reply and its stamp
+abbrev pub entry_of : Tag → ℕ → Call → CallReply → ℕ → Entry
+entry_of tag number call reply stamp =
+    record { tag = tag; shard = number; call = call; reply = reply; stamp = stamp }
 
 -- the shard with one more entry in its history
 abbrev pub with_entry : Kept → Entry → Kept

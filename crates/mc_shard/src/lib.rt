@@ -5,6 +5,7 @@ mod change;
 mod contents;
 mod hashed;
 mod laws;
+mod made;
 mod replay;
 mod shard;
 mod step;
@@ -14,5 +15,6 @@ pub use laws::{
     the_counter_counts_calls, uniques_of_a_shard_rise, uniques_of_two_shards_differ,
     what_is_not_stored_changes_nothing,
 };
+pub use made::Made;
 pub use replay::Replay;
 pub use shard::Shard;

@@ -1,12 +1,13 @@
 //! A shard of the store with the history of its calls.
-ghost use Rattle.std.specs.Prelude.{◌≡◌, ◌+◌, ◌^◌, ◌<◌, ◌≤◌, [], length, max, IfOk, OnOk, OnErr};
+ghost use Rattle.std.specs.Prelude.{◌≡◌, ◌+◌, ◌^◌, ◌<◌, ◌≤◌, [], length, max, IfOk, IfErr, OnOk, OnErr};
 ghost use Rattle.zy_base.specs.Call.{key_of};
 ghost use Rattle.zy_base.specs.History.{IsHistory};
-ghost use Rattle.mc_shard.specs.Shard.{kept, state_of, last_of, reply_of, with_entry, state_past};
+ghost use Rattle.mc_shard.specs.Shard.{kept, state_of, last_of, entry_of, reply_of, with_entry, state_past};
 
 use crate::change::Step;
 use crate::contents::Contents;
 use crate::hashed::Hashed;
+use crate::made::Made;
 use crate::step::step_of;
 use std::alloc::Global;
 use std::marker::Model;
@@ -75,10 +76,8 @@ impl Shard {
         Entries::from_vec(self.history)
     }
 
-    /// Makes a call, with a stamp above all that the caller has seen, and answers its entry, which
-    /// is appended to the history. All memory is taken first: after a refusal the shard is as it
-    /// was.
-    pub fn apply(&mut self, tag: Tag, call: Call, seen: u64) -> Result<Entry, NoMemory>
+    /// Makes a call as `make` does, and answers a copy of its entry.
+    pub fn apply(&mut self, tag: Tag, mut call: Call, seen: u64) -> Result<Entry, NoMemory>
         requires last { last_of self.old < 2 ^ 60 }
         requires seen { seen < 2 ^ 60 }
         requires count { (state_of self.old).count < 2 ^ 52 }
@@ -96,31 +95,74 @@ impl Shard {
         ensures err { OnErr result (self.new ≡ self.old) }
         ensures sound { IsHistory self.new.shards self.new.number self.new.history }
     {
+        let shard = self.number;
+        let copy = match shared_copy(&mut call) {
+            Ok(copy) => copy,
+            Err(refused) => {
+                drop(call);
+                return Err(refused);
+            }
+        };
+        match self.make(tag, call, seen) {
+            Ok(Made { reply, stamp }) => Ok(Entry {
+                tag,
+                shard,
+                call: copy,
+                reply,
+                stamp,
+            }),
+            Err((call, refused)) => {
+                drop(call);
+                drop(copy);
+                Err(refused)
+            }
+        }
+    }
+
+    /// Makes a call, with a stamp above all that the caller has seen. It is moved into its entry, which
+    /// is appended to the history, and answered are its reply and the stamp alone. All memory is taken
+    /// first: after a refusal the shard is as it was, and the call is handed back.
+    pub fn make(&mut self, tag: Tag, mut call: Call, seen: u64) -> Result<Made, (Call, NoMemory)>
+        requires last { last_of self.old < 2 ^ 60 }
+        requires seen { seen < 2 ^ 60 }
+        requires count { (state_of self.old).count < 2 ^ 52 }
+
+        // The answer.
+        ensures reply { IfOk result (λ made. made.reply ≡ reply_of self.old call) }
+        ensures stamp { IfOk result (λ made. made.stamp ≡ max (last_of self.old) seen + 1) }
+        ensures returned { IfErr result (λ e. e.0 ≡ call) }
+
+        // The shard.
+        ensures ok { IfOk result (λ made. self.new
+            ≡ with_entry self.old (entry_of tag self.old.number call made.reply made.stamp)) }
+        ensures state { OnOk result (state_of self.new ≡ state_past self.old call) }
+        ensures err { OnErr result (self.new ≡ self.old) }
+        ensures sound { IsHistory self.new.shards self.new.number self.new.history }
+    {
         let _ = &self.number;
-        match shared(call) {
-            Ok((call, key)) => self.apply_shared(tag, call, key, seen),
-            Err(refused) => Err(refused),
+        match shared(&mut call) {
+            Ok(key) => self.make_shared(tag, call, key, seen),
+            Err(refused) => Err((call, refused)),
         }
     }
 
     // The same for a call whose bytes are shared, so that no copy here takes memory.
-    fn apply_shared(
+    fn make_shared(
         &mut self,
         tag: Tag,
         call: Call,
         key: Option<Hashed>,
         seen: u64,
-    ) -> Result<Entry, NoMemory>
+    ) -> Result<Made, (Call, NoMemory)>
         requires last { last_of self.old < 2 ^ 60 }
         requires seen { seen < 2 ^ 60 }
         requires count { (state_of self.old).count < 2 ^ 52 }
         requires key { key ≡ key_of call }
-        ensures tag { IfOk result (λ entry. entry.tag ≡ tag) }
-        ensures shard { IfOk result (λ entry. entry.shard ≡ self.old.number) }
-        ensures call { IfOk result (λ entry. entry.call ≡ call) }
-        ensures reply { IfOk result (λ entry. entry.reply ≡ reply_of self.old call) }
-        ensures stamp { IfOk result (λ entry. entry.stamp ≡ max (last_of self.old) seen + 1) }
-        ensures ok { IfOk result (λ entry. self.new ≡ with_entry self.old entry) }
+        ensures reply { IfOk result (λ made. made.reply ≡ reply_of self.old call) }
+        ensures stamp { IfOk result (λ made. made.stamp ≡ max (last_of self.old) seen + 1) }
+        ensures returned { IfErr result (λ e. e.0 ≡ call) }
+        ensures ok { IfOk result (λ made. self.new
+            ≡ with_entry self.old (entry_of tag self.old.number call made.reply made.stamp)) }
         ensures err { OnErr result (self.new ≡ self.old) }
         ensures sound { IsHistory self.new.shards self.new.number self.new.history }
     {
@@ -129,66 +171,68 @@ impl Shard {
         let Step { reply, change } = match step_of(*self.history.allocator(), &call, found) {
             Ok(step) => step,
             Err(refused) => {
-                drop(call);
                 drop(key);
-                return Err(refused);
+                return Err((call, refused));
             }
         };
-        let entry = Entry {
-            tag,
-            shard: self.number,
-            call,
-            reply,
-            stamp,
-        };
-        let copy = match entry.copy() {
+        let copy = match reply.copy() {
             Ok(copy) => copy,
             Err(refused) => {
-                drop(entry);
+                drop(reply);
                 drop(key);
                 drop(change);
-                return Err(refused);
+                return Err((call, refused));
             }
         };
         if self.history.reserve(1).is_err() {
-            drop(entry);
+            drop(reply);
             drop(copy);
             drop(key);
             drop(change);
-            return Err(NoMemory);
+            return Err((call, NoMemory));
         }
         match self
             .contents
             .carry_out(self.number, self.shards, key, change)
         {
             Ok(()) => {
-                self.history.push_reserved(entry);
+                self.history.push_reserved(Entry {
+                    tag,
+                    shard: self.number,
+                    call,
+                    reply,
+                    stamp,
+                });
                 self.last = stamp;
-                Ok(copy)
+                Ok(Made { reply: copy, stamp })
             }
             Err(refused) => {
-                drop(entry);
+                drop(reply);
                 drop(copy);
-                Err(refused)
+                Err((call, refused))
             }
         }
     }
 }
 
-// The same call, whose copies share its bytes, and its key with the hash.
-fn shared(mut call: Call) -> Result<(Call, Option<Hashed>), NoMemory>
-    ensures call { IfOk result (λ shared. shared.0 ≡ call) }
-    ensures key { IfOk result (λ shared. shared.1 ≡ key_of call) }
+// Lets the copies of a call share its bytes, and gives its key with the hash.
+fn shared(call: &mut Call) -> Result<Option<Hashed>, NoMemory>
+    ensures call { call.new ≡ call.old }
+    ensures key { IfOk result (λ key. key ≡ key_of call.old) }
 {
-    if let Err(refused) = call.share() {
-        drop(call);
-        return Err(refused);
+    match call.share() {
+        Ok(()) => Hashed::of_call(call),
+        Err(refused) => Err(refused),
     }
-    match Hashed::of_call(&call) {
-        Ok(key) => Ok((call, key)),
-        Err(refused) => {
-            drop(call);
-            Err(refused)
-        }
+}
+
+// Lets the copies of a call share its bytes, and gives one.
+fn shared_copy(call: &mut Call) -> Result<Call, NoMemory>
+    ensures call { call.new ≡ call.old }
+    ensures copy { IfOk result (λ copy. copy ≡ call.old) }
+{
+    match call.share() {
+        Ok(()) => call.copy(),
+        Err(refused) => Err(refused),
     }
 }

@@ -15,7 +15,7 @@ use Rattle.mc_store.specs.declared.store.view.View.TheVariants.{Pass}
 use Rattle.mc_store.specs.StoreRule.{StoreRule}
 use Rattle.mc_shard.specs.Shard.{with_entry}
 use Rattle.mc_store.specs.View.{mine_of, trace_of, passing, IsPass, calls_in, trace_in}
-use Rattle.mc_store.specs.Steps.{Seated, has_tried, HasTaken, has_put_back, mine_at, trace_at, IsIdle}
+use Rattle.mc_store.specs.Steps.{Seated, has_tried, HasTaken, has_put_back, mine_at, trace_at}
 use Rattle.mc_store.proofs.TryLemmas.{takes_shard}
 use Rattle.mc_store.proofs.GiveLemmas.{Fits, puts_call, puts_none}
 

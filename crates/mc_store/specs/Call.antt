@@ -3,8 +3,11 @@ use Rattle.std.specs.Prelude.{◌≡◌, ◌≢◌, ◌⊎◌, ℕ, ◌%◌, ◌
 use Rattle.zy_base.specs.declared.entry.Entry.{Entry}
 use Rattle.zy_base.specs.declared.entry.Tag.{Tag}
 use Rattle.zy_base.specs.declared.call.Call.{Call}
+use Rattle.zy_base.specs.declared.call_reply.CallReply.{CallReply}
 use Rattle.mc_store.specs.declared.got.Got.{Got}
 use Rattle.mc_store.specs.declared.got.Got.TheVariants.{Reply, Busy}
+use Rattle.mc_store.specs.declared.tried.Tried.{Tried}
+use Rattle.mc_store.specs.declared.tried.Tried.TheVariants.{Made, Busy as Taken}
 use Rattle.mc_store.specs.declared.store.view.Trace.{Trace}
 
 -- ---- the answers
@@ -20,6 +23,18 @@ abbrev pub IfBusy : {E : Type 0} → Result Got E → (ℕ → ℕ → ℕ → T
 IfBusy (Ok (Reply entry)) holds = ⊤
 IfBusy (Ok (Busy shard loaded found)) holds = holds shard loaded found
 IfBusy (Err e) holds = ⊤
+
+-- of the reply and the stamp, where a call that was given by value was made
+abbrev pub IfMade : {E : Type 0} → Result Tried E → (CallReply → ℕ → Type 0) → Type 0
+IfMade (Ok (Made reply stamp)) holds = holds reply stamp
+IfMade (Ok (Taken call shard loaded found)) holds = ⊤
+IfMade (Err e) holds = ⊤
+
+-- of the call that is handed back, the shard, the word loaded and the word found, where another pass had the shard
+abbrev pub IfTaken : {E : Type 0} → Result Tried E → (Call → ℕ → ℕ → ℕ → Type 0) → Type 0
+IfTaken (Ok (Made reply stamp)) holds = ⊤
+IfTaken (Ok (Taken call shard loaded found)) holds = holds call shard loaded found
+IfTaken (Err e) holds = ⊤
 
 -- the entry is that of this call on this shard
 pub record IsOfCall (tag : Tag) (shard : ℕ) (call : Call) (entry : Entry) : Type 0 where

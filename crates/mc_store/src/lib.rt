@@ -5,8 +5,10 @@ mod got;
 mod pass;
 mod root;
 mod store;
+mod tried;
 
 pub use got::Got;
 pub use pass::Pass;
 pub use root::Root;
 pub use store::StoreTable;
+pub use tried::Tried;

@@ -10,7 +10,8 @@ ghost use Rattle.zy_table.specs.Member.{is_in};
 ghost use Rattle.mc_store.specs.Joined.{is_joined};
 ghost use Rattle.mc_store.specs.View.{untraced};
 ghost use Rattle.mc_store.specs.Pass.{passed, rooted};
-ghost use Rattle.mc_store.specs.Call.{IfReply, IfBusy, IsOfCall, WasFree, WasBusy};
+ghost use Rattle.mc_shard.specs.Shard.{entry_of};
+ghost use Rattle.mc_store.specs.Call.{IfReply, IfBusy, IfMade, IfTaken, IsOfCall, WasFree, WasBusy};
 ghost use Rattle.mc_store.specs.Closing.{AreClosed, empties};
 
 pub(crate) mod calling;
@@ -21,6 +22,7 @@ pub(crate) mod view;
 use crate::got::Got;
 use crate::pass::Pass;
 use crate::root::Root;
+use crate::tried::Tried;
 use atomic_table::{Badge, Table};
 use draining::drain;
 use mc_shard::Shard;
@@ -29,7 +31,7 @@ use std::alloc::Global;
 use std::marker::{Brand, Model};
 use std::mem;
 use view::{Rule, View};
-use zy_base::{Call, Histories, NoMemory, Tag};
+use zy_base::{Call, Entry, Histories, NoMemory, Tag};
 
 /// The shards of a store. Contracts see which table it is, and how many shards it has.
 #[derive(Drop)]
@@ -135,7 +137,8 @@ impl StoreTable {
     /// and, where it was even, one exchange. The call happens at the store that makes the word even
     /// again. Its stamp is above all that the pass and the shard have seen.
     ///
-    /// After want of memory no call was made, and the shard is free again, as it was.
+    /// The entry that is answered is a copy. After want of memory no call was made, and the shard is free
+    /// again, as it was.
     pub fn try_call(
         &self,
         pass: &mut Pass,
@@ -163,15 +166,88 @@ impl StoreTable {
         ensures conn { pass.new.conn ≡ pass.old.conn }
         ensures steps { pass.old.trace.steps ≤ pass.new.trace.steps }
     {
+        let Ok(given) = call.copy() else {
+            return Err(NoMemory);
+        };
+        let kept = match call.copy() {
+            Ok(kept) => kept,
+            Err(refused) => {
+                drop(given);
+                return Err(refused);
+            }
+        };
+        match self.make_call(pass, tag, shard, given) {
+            Ok(Tried::Made { reply, stamp }) => Ok(Got::Reply(Entry {
+                tag,
+                shard,
+                call: kept,
+                reply,
+                stamp,
+            })),
+            Ok(
+                Tried::Busy {
+                    call,
+                    shard,
+                    loaded,
+                    found,
+                },
+            ) => {
+                drop(call);
+                drop(kept);
+                Ok(Got::Busy {
+                    shard,
+                    loaded,
+                    found,
+                })
+            }
+            Err((given, refused)) => {
+                drop(given);
+                drop(kept);
+                Err(refused)
+            }
+        }
+    }
+
+    /// Tries once to make a call on a shard, as `try_call` does. The call is moved into its entry, and
+    /// answered are its reply and the stamp alone. Where it was not made it is handed back.
+    pub fn make_call(
+        &self,
+        pass: &mut Pass,
+        tag: Tag,
+        shard: u32,
+        call: Call,
+    ) -> Result<Tried, (Call, NoMemory)>
+        requires table { pass.old.table ≡ self.now.id }
+        requires conn { tag.conn ≡ pass.old.conn }
+        requires within { shard < self.now.shards }
+        requires few { length pass.old.calls < 2 ^ 40 }
+
+        // The answer.
+        ensures kind { IfMade result (λ reply stamp. MayAnswer call reply) }
+        ensures free { IfMade result (λ reply stamp. WasFree shard pass.old.trace pass.new.trace) }
+        ensures busy { IfTaken result (λ back. WasBusy shard pass.old.trace pass.new.trace) }
+        ensures back { IfTaken result (λ back asked loaded found. back ≡ call) }
+        ensures returned { IfErr result (λ e. e.0 ≡ call) }
+
+        // The pass.
+        ensures ok { IfMade result (λ reply stamp. pass.new.calls
+            ≡ pass.old.calls ++ entry_of tag shard call reply stamp ∷ []) }
+        ensures stamp { IfMade result (λ reply stamp. last_stamp 0 pass.old.calls < stamp) }
+        ensures kept { IfTaken result (λ back asked loaded found. pass.new.calls ≡ pass.old.calls) }
+        ensures err { OnErr result (pass.new.calls ≡ pass.old.calls) }
+        ensures table { pass.new.table ≡ pass.old.table }
+        ensures conn { pass.new.conn ≡ pass.old.conn }
+        ensures steps { pass.old.trace.steps ≤ pass.new.trace.steps }
+    {
         let seen = pass.last;
         let mut seat = mem::replace(&mut pass.badge, Badge::blank()).into_seat();
-        let got = self.try_on(&mut seat, tag, shard, call, seen);
+        let tried = self.try_on(&mut seat, tag, shard, call, seen);
         pass.badge = seat.into_badge();
-        match got {
-            Ok(Got::Reply(entry)) => {
+        match tried {
+            Ok(Tried::Made { reply, stamp }) => {
                 pass.count += 1;
-                pass.last = entry.stamp;
-                Ok(Got::Reply(entry))
+                pass.last = stamp;
+                Ok(Tried::Made { reply, stamp })
             }
             other => other,
         }

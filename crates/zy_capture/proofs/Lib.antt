@@ -1,6 +1,7 @@
 pub mod Bounds
 pub mod Feeding
 pub mod RunLemmas
+pub mod HeadLemmas
 pub mod WholeLemmas
 pub mod SpelledLemmas
 pub mod StreamLemmas

@@ -68,6 +68,10 @@ grows p due byte =
 abbrev pub grown_by : Progress → List ℕ → Progress
 grown_by p bytes = record p { payload = p.payload ++ bytes; at = p.at + length bytes }
 
+-- where the eight bytes lead that a segment begins with, of this connection and with these first bytes of its length
+abbrev pub headed : Progress → ℕ → List ℕ → Progress
+headed p conn bytes = record p { due = Length conn; field = bytes; at = p.at + 8 }
+
 -- ---- what a byte does, by what is due
 
 -- a letter of the magic

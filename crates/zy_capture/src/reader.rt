@@ -8,6 +8,7 @@ ghost use Rattle.zy_capture.specs.Steps.{grown_by};
 ghost use Rattle.zy_capture.specs.Verdict.{captures, verdict, version_of, count_of, is_within_record, is_good};
 ghost use Rattle.zy_capture.specs.Standing.{StandsFor, EndsBy, IsLengthEnd};
 
+mod head;
 mod steps;
 
 use crate::capture_fault::{CaptureFault, FeedFault};

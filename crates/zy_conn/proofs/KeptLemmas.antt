@@ -9,7 +9,7 @@ use Rattle.zy_base.specs.Replies.{replies_at}
 use Rattle.zy_base.proofs.EntryLemmas.{replies_at-push, replies_at-push_other, AreAnswers-push}
 use Rattle.mc_parse.specs.declared.command.Command.{Command}
 use Rattle.mc_parse.specs.declared.shard_call.ShardCall.{ShardCall}
-use Rattle.mc_parse.specs.Calls.{Due, calls_of, due, due_at, due_of, dues_of, tag_of, tagged}
+use Rattle.mc_parse.specs.Calls.{Due, due, due_at, due_of, dues_of, tag_of, tagged}
 use Rattle.mc_parse.proofs.CallLemmas.{due-more, dues_of-more, tagged-append}
 use Rattle.mc_reply.specs.Text.{text}
 use Rattle.mc_reply.specs.Texts.{texts_of}
@@ -21,7 +21,7 @@ use Rattle.mc_store.specs.Pass.{Passed}
 use Rattle.zy_calls.specs.Batch.{Sends, no_text}
 use Rattle.zy_frame.specs.Frame.{command_of}
 use Rattle.zy_rx.specs.Ring.{RingName}
-use Rattle.zy_conn.specs.Work.{Start, idle, raw, read, going, Worked, worked, commands_of_frames, texts_all, texts_taken}
+use Rattle.zy_conn.specs.Work.{Start, idle, raw, going, Worked, worked, commands_of_frames, texts_all, texts_taken}
 use Rattle.zy_conn.specs.Kept.{command_begun, dues_begun, replies_begun, IsGoingOn, IsBegun, Kept}
 use Rattle.zy_conn.specs.Step.{IsPart}
 
@@ -146,39 +146,6 @@ module _ (w : Worked) (k : Kept w) where
         shown = k.shown;
         room = omega (arith, length-append w.taken (frame ∷ []));
       }
-
-  -- its command is read
-  pub kept_reads : (frame : FrameKind) → w.begun ≡ raw frame → (command : Command) → command ≡ command_of frame → Kept (record w { begun = read command })
-  kept_reads frame e command is = record {
-    done = k.done;
-    frames = k.frames ∙ ap (λ s. k.done ++ command_begun s) e ∙ ap (λ c. k.done ++ c ∷ []) (sym is);
-    count = k.count;
-    dues = k.dues ∙ ap (λ s. due w.table.slots w.conn k.done ++ dues_begun w.conn w.finished s) e;
-    kinds = k.kinds;
-    begun = tt;
-    now = k.now ∙ ap replies_begun e;
-    later = k.later;
-    texts = k.texts;
-    shown = k.shown;
-    room = k.room;
-  }
-
-  -- its calls are listed
-  pub kept_lists : (command : Command) → w.begun ≡ read command → (calls : List ShardCall) → calls ≡ calls_of w.table.slots command
-      → 1 ≤ w.table.slots → w.table.slots ≤ 256 → Kept (record w { begun = going command calls [] })
-  kept_lists command e calls is some limit = record {
-    done = k.done;
-    frames = k.frames ∙ ap (λ s. k.done ++ command_begun s) e;
-    count = k.count;
-    dues = k.dues ∙ ap (λ s. due w.table.slots w.conn k.done ++ dues_begun w.conn w.finished s) e;
-    kinds = k.kinds;
-    begun = record { some = some; limit = limit; all = is; few = omega arith; answers = tt };
-    now = k.now ∙ ap replies_begun e;
-    later = k.later;
-    texts = k.texts;
-    shown = k.shown;
-    room = k.room;
-  }
 
   module _ (command : Command) (calls : List ShardCall) (replies : List CallReply) (e : w.begun ≡ going command calls replies) where
     pub going_on : IsGoingOn w.table.slots command calls replies

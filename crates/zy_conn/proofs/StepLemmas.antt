@@ -17,7 +17,7 @@ use Rattle.zy_conn.specs.declared.hold_end.HoldEnd.{HoldEnd}
 use Rattle.zy_conn.specs.declared.hold_end.HoldEnd.TheVariants.{Drained, Limit, Spent, Busy}
 use Rattle.zy_conn.specs.declared.calling.Made.{Made}
 use Rattle.zy_conn.specs.declared.calling.Made.TheVariants.{Call, Done, Stopped}
-use Rattle.zy_conn.specs.Work.{Start, idle, raw, read, going, Worked, worked, texts_taken, mark_of}
+use Rattle.zy_conn.specs.Work.{Start, idle, raw, going, Worked, worked, texts_taken, mark_of}
 use Rattle.zy_conn.specs.Kept.{Kept}
 use Rattle.zy_conn.specs.Hold.{call_due, FoundBusy, HeldTo}
 use Rattle.zy_conn.specs.Step.{IsWhole, text_begun, calls_left, SamePass, CallStopsBy, Makes, Goes, StopsBy, MadeFrom}
@@ -121,7 +121,6 @@ module _ (p q : Passed) (r : RingName) (taken known : List FrameKind) (s : Start
 kept_ends : (w : Worked) (k : Kept w) (s : Start) → w.begun ≡ s → IsWhole s → Kept (record w { begun = idle; finished = w.finished + 1; batch = w.batch ++ text_begun s ∷ [] })
 kept_ends w k idle e whole = absurd whole
 kept_ends w k (raw frame) e whole = absurd whole
-kept_ends w k (read command) e whole = absurd whole
 kept_ends w k (going command calls replies) e whole = kept_finishes w k command calls replies e whole
 
 module _ (p : Passed) (r : RingName) (taken known : List FrameKind) (s s' : Start) (sh : ℕ) (batch sent batch' : Sends) (k : Kept (worked p r taken known s batch.finished sh batch.texts)) where

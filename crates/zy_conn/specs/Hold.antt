@@ -7,7 +7,7 @@ use Rattle.mc_store.specs.declared.store.view.Trace.{Trace}
 use Rattle.mc_store.specs.Call.{WasBusy}
 use Rattle.zy_conn.specs.declared.hold_end.HoldEnd.{HoldEnd}
 use Rattle.zy_conn.specs.declared.hold_end.HoldEnd.TheVariants.{Drained, Limit, Spent, Busy}
-use Rattle.zy_conn.specs.Work.{Start, idle, raw, read, going, Worked}
+use Rattle.zy_conn.specs.Work.{Start, idle, raw, going, Worked}
 use Rattle.zy_conn.specs.Block.{Blocked}
 
 -- ---- the holds of a connection
@@ -48,7 +48,6 @@ pub record IsRecorded (core : ℕ) (before after : Blocked) : Type 0 where
 abbrev pub call_due : Start → Option ShardCall
 call_due idle = None
 call_due (raw frame) = None
-call_due (read command) = None
 call_due (going command calls replies) = slice_get calls (length replies)
 
 -- a call is due, and the pass has made the most that it can

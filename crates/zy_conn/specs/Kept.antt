@@ -10,7 +10,7 @@ use Rattle.mc_parse.specs.Calls.{Due, calls_of, due, dues_of, tagged}
 use Rattle.mc_reply.specs.Answers.{AnswerEach}
 use Rattle.zy_frame.specs.declared.frame_kind.FrameKind.{FrameKind}
 use Rattle.zy_frame.specs.Frame.{command_of}
-use Rattle.zy_conn.specs.Work.{Start, idle, raw, read, going, Worked, commands_of_frames, texts_all, texts_taken}
+use Rattle.zy_conn.specs.Work.{Start, idle, raw, going, Worked, commands_of_frames, texts_all, texts_taken}
 
 -- ---- the command that is begun
 
@@ -18,14 +18,12 @@ use Rattle.zy_conn.specs.Work.{Start, idle, raw, read, going, Worked, commands_o
 abbrev pub command_begun : Start → List Command
 command_begun idle = []
 command_begun (raw frame) = command_of frame ∷ []
-command_begun (read command) = command ∷ []
 command_begun (going command calls replies) = command ∷ []
 
 -- the calls that were made of the command that is begun
 abbrev pub dues_begun : ℕ → ℕ → Start → List Due
 dues_begun connection index idle = []
 dues_begun connection index (raw frame) = []
-dues_begun connection index (read command) = []
 dues_begun connection index (going command calls replies) =
     tagged connection index 0 (take (length replies) calls)
 
@@ -33,7 +31,6 @@ dues_begun connection index (going command calls replies) =
 abbrev pub replies_begun : Start → List CallReply
 replies_begun idle = []
 replies_begun (raw frame) = []
-replies_begun (read command) = []
 replies_begun (going command calls replies) = replies
 
 -- the calls are those of the command, and the first of them have got these replies
@@ -48,7 +45,6 @@ pub record IsGoingOn (shards : ℕ) (command : Command) (calls : List ShardCall)
 abbrev pub IsBegun : ℕ → Start → Type 0
 IsBegun shards idle = Unit {0}
 IsBegun shards (raw frame) = Unit {0}
-IsBegun shards (read command) = Unit {0}
 IsBegun shards (going command calls replies) = IsGoingOn shards command calls replies
 
 -- ---- the work

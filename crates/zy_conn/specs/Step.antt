@@ -6,58 +6,39 @@ use Rattle.zy_base.specs.Kind.{MayAnswer}
 use Rattle.mc_parse.specs.declared.shard_call.ShardCall.{ShardCall}
 use Rattle.mc_parse.specs.Calls.{due_of, tag_of}
 use Rattle.mc_reply.specs.Text.{text}
-use Rattle.mc_reply.specs.Answers.{AnswerCommand}
 use Rattle.mc_store.specs.Pass.{Passed}
 use Rattle.mc_store.specs.Call.{WasBusy}
 use Rattle.zy_conn.specs.declared.hold_end.HoldEnd.{HoldEnd}
 use Rattle.zy_conn.specs.declared.hold_end.HoldEnd.TheVariants.{Drained, Limit, Spent, Busy}
 use Rattle.zy_conn.specs.declared.calling.Made.{Made}
 use Rattle.zy_conn.specs.declared.calling.Made.TheVariants.{Call, Done, Stopped}
-use Rattle.zy_conn.specs.Work.{Start, idle, raw, read, going, Worked, mark_of}
+use Rattle.zy_conn.specs.Work.{Start, idle, raw, going, Worked, mark_of}
 use Rattle.zy_conn.specs.Hold.{IsCallSpent, IsCommandSpent, FoundBusy}
 
 -- ---- what is begun
 
--- the command of what is begun is known
-abbrev pub IsRead : Start → Type 0
-IsRead idle = ⊥
-IsRead (raw frame) = ⊥
-IsRead (read command) = Unit {0}
-IsRead (going command calls replies) = Unit {0}
-
--- its calls are known
+-- the command of what is begun is known, with its calls
 abbrev pub IsGoing : Start → Type 0
 IsGoing idle = ⊥
 IsGoing (raw frame) = ⊥
-IsGoing (read command) = ⊥
 IsGoing (going command calls replies) = Unit {0}
 
 -- each of its calls was made
 abbrev pub IsWhole : Start → Type 0
 IsWhole idle = ⊥
 IsWhole (raw frame) = ⊥
-IsWhole (read command) = ⊥
 IsWhole (going command calls replies) = length calls ≤ length replies
-
--- each of its calls got a reply that it may get
-abbrev pub AreAllAnswered : Start → Type 0
-AreAllAnswered idle = ⊥
-AreAllAnswered (raw frame) = ⊥
-AreAllAnswered (read command) = ⊥
-AreAllAnswered (going command calls replies) = AnswerCommand command replies
 
 -- the text of the command that is begun, with the replies so far
 abbrev pub text_begun : Start → List ℕ
 text_begun idle = []
 text_begun (raw frame) = []
-text_begun (read command) = []
 text_begun (going command calls replies) = text command replies
 
 -- how many calls are left of what is begun
 abbrev pub calls_left : Start → ℕ
 calls_left idle = 0
 calls_left (raw frame) = 0
-calls_left (read command) = 0
 calls_left (going command calls replies) = length calls - length replies
 
 -- ---- the next call
@@ -80,6 +61,15 @@ CallStopsBy asked before after Limit = ⊥
 CallStopsBy asked before after Spent = 2 ^ 40 ≤ length after.calls
 CallStopsBy asked before after (Busy shard loaded found) =
     WasBusy asked.shard before.trace after.trace shard loaded found
+
+-- what came of a call that is the next one, of the replies and the pass before and after it
+module _ (index : ℕ) (asked : ShardCall) (replies : List CallReply) (before : Passed) (replies' : List CallReply)
+    (after : Passed) where
+  abbrev pub MakesThis : Made → Type 0
+  MakesThis Call = (entry : Entry) × IsPart before.conn index (length replies) asked entry
+      × (after.calls ≡ before.calls ++ entry ∷ []) × (replies' ≡ replies ++ entry.reply ∷ [])
+  MakesThis Done = ⊥
+  MakesThis (Stopped end) = CallStopsBy asked before after end × (after.calls ≡ before.calls) × (replies' ≡ replies)
 
 -- what came of the next of these calls, of the replies and the pass before and after it
 module _ (index : ℕ) (calls : List ShardCall) (replies : List CallReply) (before : Passed) (replies' : List CallReply)

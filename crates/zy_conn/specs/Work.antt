@@ -6,6 +6,7 @@ use Rattle.zy_base.specs.declared.call_reply.CallReply.{CallReply}
 use Rattle.zy_base.specs.declared.entry.Entry.{Entry}
 use Rattle.mc_parse.specs.declared.command.Command.{Command}
 use Rattle.mc_parse.specs.declared.shard_call.ShardCall.{ShardCall}
+use Rattle.mc_parse.specs.Calls.{calls_of}
 use Rattle.mc_reply.specs.Texts.{texts_of}
 use Rattle.mc_store.specs.declared.store.view.Trace.{Trace}
 use Rattle.mc_store.specs.Pass.{Passed}
@@ -13,29 +14,26 @@ use Rattle.zy_frame.specs.declared.frame_kind.FrameKind.{FrameKind}
 use Rattle.zy_frame.specs.Frame.{command_of}
 use Rattle.zy_rx.specs.Ring.{RingName}
 use Rattle.zy_conn.specs.declared.begun.Begun.{Begun}
-use Rattle.zy_conn.specs.declared.begun.Begun.TheVariants.{Nothing, Raw, Read, Going}
+use Rattle.zy_conn.specs.declared.begun.Begun.TheVariants.{Nothing, Raw, Going}
 
 -- ---- the command that is begun
 
--- nothing is begun; or a frame that was taken, its command, or that with its calls and the replies so far
+-- nothing is begun; or a frame that was taken, or its command with its calls and the replies so far
 pub data Start : Type 0 where
   idle : Start
   raw : FrameKind → Start
-  read : Command → Start
   going : Command → List ShardCall → List CallReply → Start
 
--- what is begun, with the replies so far
-abbrev pub start_of : Begun → List CallReply → Start
-start_of Nothing replies = idle
-start_of (Raw frame) replies = raw frame
-start_of (Read command) replies = read command
-start_of (Going command calls) replies = going command calls replies
+-- what is begun on so many shards, with the replies so far
+abbrev pub start_of : ℕ → Begun → List CallReply → Start
+start_of shards Nothing replies = idle
+start_of shards (Raw frame) replies = raw frame
+start_of shards (Going command) replies = going command (calls_of shards command) replies
 
 -- something is begun
 abbrev pub is_begun : Start → Bool
 is_begun idle = false
 is_begun (raw frame) = true
-is_begun (read command) = true
 is_begun (going command calls replies) = true
 
 -- ---- the work

@@ -1,7 +1,7 @@
 //! The command that is begun.
 ghost use Rattle.std.specs.Prelude.{◌≡◌};
 
-use mc_parse::{Calls, Command};
+use mc_parse::Command;
 use std::mem;
 use zy_frame::Frame;
 
@@ -11,10 +11,8 @@ pub(crate) enum Begun {
     Nothing,
     /// A frame that was taken from the event ring.
     Raw(Frame),
-    /// The command of that frame.
-    Read(Command),
-    /// The command with its calls, of which the first were made.
-    Going { command: Command, calls: Calls },
+    /// The command of that frame, of whose calls the first were made.
+    Going(Command),
 }
 
 impl Begun {

@@ -1,12 +1,12 @@
 //! The next call of a command.
-ghost use Rattle.std.specs.Prelude.{◌≡◌, MatchResult, All};
-ghost use Rattle.mc_parse.specs.Calls.{IsOnShard};
-ghost use Rattle.zy_conn.specs.Step.{SamePass, Makes};
+ghost use Rattle.std.specs.Prelude.{◌≡◌, ◌<◌, ◌^◌, length, vec_len, vec_capacity, MatchResult};
+ghost use Rattle.mc_parse.specs.Calls.{calls_of, IsOnShard};
+ghost use Rattle.zy_conn.specs.Step.{SamePass, Makes, MakesThis};
 
 use crate::hold_end::HoldEnd;
-use mc_parse::ShardCall;
-use mc_store::{Got, Pass, StoreTable};
-use zy_base::{CallReply, Entry, NoMemory, Tag};
+use mc_parse::{Command, ShardCall, call_at};
+use mc_store::{Pass, StoreTable, Tried};
+use zy_base::{CallReply, NoMemory, Tag};
 
 // The most calls, and the most commands, of a connection.
 pub(crate) const MOST: u64 = 1 << 40;
@@ -28,64 +28,80 @@ pub(crate) fn next_call(
     pass: &mut Pass,
     store: &StoreTable,
     index: u64,
-    calls: &[ShardCall],
+    command: &Command,
     replies: &mut Vec<CallReply>,
 ) -> Result<Made, NoMemory>
     requires table { pass.old.table ≡ store.now.id }
-    requires within { All (IsOnShard store.now.shards) calls.now }
     ensures pass { SamePass pass.old pass.new }
-    ensures call { MatchResult result (Makes index calls.now replies.old.items pass.old replies.new.items pass.new)
+    ensures call { MatchResult result (Makes index (calls_of store.now.shards command.now)
+        replies.old.items pass.old replies.new.items pass.new)
         (λ _. (pass.new.calls ≡ pass.old.calls) × (replies.new.items ≡ replies.old.items)) }
 {
-    let part = replies.len();
-    let Some(next) = calls.get(part) else {
-        return Ok(Made::Done);
+    let next = match call_at(command, replies.len(), store.shards()) {
+        Ok(Some(next)) => next,
+        Ok(None) => return Ok(Made::Done),
+        Err(e) => return Err(e),
     };
     if pass.count() >= MOST {
+        drop(next);
         return Ok(Made::Stopped(HoldEnd::Spent));
     }
-    let Ok(number) = u32::try_from(part) else {
-        return Err(NoMemory);
-    };
     if replies.reserve(1).is_err() {
+        drop(next);
         return Err(NoMemory);
     }
+    make_call(pass, store, index, next, replies)
+}
+
+// Makes this call, which is the next one. There is room for its reply.
+fn make_call(
+    pass: &mut Pass,
+    store: &StoreTable,
+    index: u64,
+    next: ShardCall,
+    replies: &mut Vec<CallReply>,
+) -> Result<Made, NoMemory>
+    requires table { pass.old.table ≡ store.now.id }
+    requires within { IsOnShard store.now.shards next }
+    requires few { length pass.old.calls < 2 ^ 40 }
+    requires room { vec_len replies.old < vec_capacity replies.old }
+    ensures pass { SamePass pass.old pass.new }
+    ensures call { MatchResult result (MakesThis index next replies.old.items pass.old replies.new.items pass.new)
+        (λ _. (pass.new.calls ≡ pass.old.calls) × (replies.new.items ≡ replies.old.items)) }
+{
+    let Ok(part) = u32::try_from(replies.len()) else {
+        drop(next);
+        return Err(NoMemory);
+    };
     let tag = Tag {
         conn: pass.conn(),
         index,
-        part: number,
+        part,
     };
-    match store.try_call(pass, tag, next.shard, &next.call) {
-        Ok(Got::Reply(entry)) => {
-            replies.push_reserved(reply_of(entry));
+    let ShardCall { shard, call } = next;
+    match store.make_call(pass, tag, shard, call) {
+        Ok(Tried::Made { reply, stamp: _ }) => {
+            replies.push_reserved(reply);
             Ok(Made::Call)
         }
         Ok(
-            Got::Busy {
+            Tried::Busy {
+                call,
                 shard,
                 loaded,
                 found,
             },
-        ) => Ok(Made::Stopped(HoldEnd::Busy {
-            shard,
-            loaded,
-            found,
-        })),
-        Err(e) => Err(e),
+        ) => {
+            drop(call);
+            Ok(Made::Stopped(HoldEnd::Busy {
+                shard,
+                loaded,
+                found,
+            }))
+        }
+        Err((call, e)) => {
+            drop(call);
+            Err(e)
+        }
     }
-}
-
-// The reply of an entry; the rest is let go.
-fn reply_of(entry: Entry) -> CallReply
-    ensures value { result ≡ entry.reply }
-{
-    let Entry {
-        tag: _,
-        shard: _,
-        call,
-        reply,
-        stamp: _,
-    } = entry;
-    drop(call);
-    reply
 }

@@ -9,6 +9,6 @@ pub enum HoldEnd {
     Limit,
     /// A call or a command is due, and the most that a connection can have were made.
     Spent,
-    /// The next call found its shard busy, as `try_call` of the store answered it.
+    /// The next call found its shard busy, as `make_call` of the store answered it.
     Busy { shard: u32, loaded: u64, found: u64 },
 }

@@ -49,11 +49,11 @@ impl Model for Work {
 
     ghost view = { λ w. worked w.pass (ring_named w.frames.end.words w.frames.end.slots w.frames.end.names)
         (received w.frames) (known_items w.frames)
-        (start_of w.begun w.replies.items) w.batch.finished w.shown w.batch.texts };
+        (start_of w.pass.table.slots w.begun w.replies.items) w.batch.finished w.shown w.batch.texts };
 
     ghost invariant = { λ w. Kept (worked w.pass (ring_named w.frames.end.words w.frames.end.slots w.frames.end.names)
         (received w.frames) (known_items w.frames)
-        (start_of w.begun w.replies.items) w.batch.finished w.shown w.batch.texts) };
+        (start_of w.pass.table.slots w.begun w.replies.items) w.batch.finished w.shown w.batch.texts) };
 }
 
 impl Work {

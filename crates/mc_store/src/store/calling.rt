@@ -1,17 +1,18 @@
 //! One try of a call, step by step.
-ghost use Rattle.std.specs.Prelude.{◌≡◌, ◌<◌, ◌≤◌, ◌^◌, [], ◌∷◌, ◌++◌, length, IfOk, OnErr};
+ghost use Rattle.std.specs.Prelude.{◌≡◌, ◌<◌, ◌≤◌, ◌^◌, [], ◌∷◌, ◌++◌, length, IfOk, IfErr, OnErr};
 ghost use Rattle.zy_base.specs.Kind.{MayAnswer};
 ghost use Rattle.zy_base.specs.Order.{last_stamp};
+ghost use Rattle.mc_shard.specs.Shard.{entry_of};
 ghost use Rattle.mc_store.specs.Steps.{mine_at, trace_at, IsIdle, HasTaken, HasMade, HasGivenUp};
-ghost use Rattle.mc_store.specs.Call.{IfReply, IfBusy, IsOfCall, WasFree, WasBusy};
+ghost use Rattle.mc_store.specs.Call.{IfMade, IfTaken, WasFree, WasBusy};
 
-use crate::got::Got;
 use crate::store::StoreTable;
 use crate::store::plays::{Looks, PutsBack, Tries};
 use crate::store::view::View;
+use crate::tried::Tried;
 use atomic_table::Seat;
-use mc_shard::Shard;
-use zy_base::{Call, Entry, NoMemory, Tag};
+use mc_shard::{Made, Shard};
+use zy_base::{Call, NoMemory, Tag};
 
 impl StoreTable {
     // A load of the shard's word and, where it was even, an exchange. Where that took the shard, the call.
@@ -20,9 +21,9 @@ impl StoreTable {
         seat: &mut Seat<Shard, View>,
         tag: Tag,
         shard: u32,
-        call: &Call,
+        call: Call,
         seen: u64,
-    ) -> Result<Got, NoMemory>
+    ) -> Result<Tried, (Call, NoMemory)>
         requires table { seat.old.table_id ≡ self.now.id }
         requires within { shard < self.now.shards }
         requires idle { IsIdle tag.conn seat.old.me }
@@ -30,15 +31,17 @@ impl StoreTable {
         requires few { length (mine_at seat.old.me) < 2 ^ 40 }
 
         // The answer.
-        ensures reply { IfReply result (IsOfCall tag shard call.now) }
-        ensures kind { IfReply result (λ entry. MayAnswer call.now entry.reply) }
-        ensures free { IfReply result (λ entry. WasFree shard (trace_at seat.old.me) (trace_at seat.new.me)) }
-        ensures busy { IfBusy result (WasBusy shard (trace_at seat.old.me) (trace_at seat.new.me)) }
+        ensures kind { IfMade result (λ reply stamp. MayAnswer call reply) }
+        ensures free { IfMade result (λ reply stamp. WasFree shard (trace_at seat.old.me) (trace_at seat.new.me)) }
+        ensures busy { IfTaken result (λ back. WasBusy shard (trace_at seat.old.me) (trace_at seat.new.me)) }
+        ensures back { IfTaken result (λ back asked loaded found. back ≡ call) }
+        ensures returned { IfErr result (λ e. e.0 ≡ call) }
 
         // The seat.
-        ensures ok { IfReply result (λ entry. mine_at seat.new.me ≡ mine_at seat.old.me ++ entry ∷ []) }
-        ensures stamp { IfReply result (λ entry. last_stamp 0 (mine_at seat.old.me) < entry.stamp) }
-        ensures kept { IfBusy result (λ shard loaded found. mine_at seat.new.me ≡ mine_at seat.old.me) }
+        ensures ok { IfMade result (λ reply stamp. mine_at seat.new.me
+            ≡ mine_at seat.old.me ++ entry_of tag shard call reply stamp ∷ []) }
+        ensures stamp { IfMade result (λ reply stamp. last_stamp 0 (mine_at seat.old.me) < stamp) }
+        ensures kept { IfTaken result (λ back asked loaded found. mine_at seat.new.me ≡ mine_at seat.old.me) }
         ensures err { OnErr result (mine_at seat.new.me ≡ mine_at seat.old.me) }
         ensures idle { IsIdle tag.conn seat.new.me }
         ensures table { seat.new.table_id ≡ seat.old.table_id }
@@ -49,28 +52,25 @@ impl StoreTable {
         let word = shard as usize;
         let loaded = words.load::<Looks>(seat, word);
         if loaded % 2 == 1 {
-            return Ok(Got::Busy {
+            return Ok(Tried::Busy {
+                call,
                 shard,
                 loaded,
                 found: loaded,
             });
         }
-        let call = match call.copy() {
-            Ok(call) => call,
-            Err(refused) => return Err(refused),
-        };
         let found = words.compare_exchange::<Tries>(seat, word, loaded, loaded + 1);
         if found != loaded {
-            drop(call);
-            return Ok(Got::Busy {
+            return Ok(Tried::Busy {
+                call,
                 shard,
                 loaded,
                 found,
             });
         }
         match self.call_on(seat, tag, shard, loaded, call, seen) {
-            Ok(entry) => Ok(Got::Reply(entry)),
-            Err(refused) => Err(refused),
+            Ok(Made { reply, stamp }) => Ok(Tried::Made { reply, stamp }),
+            Err(back) => Err(back),
         }
     }
 
@@ -83,30 +83,31 @@ impl StoreTable {
         even: u64,
         call: Call,
         seen: u64,
-    ) -> Result<Entry, NoMemory>
+    ) -> Result<Made, (Call, NoMemory)>
         requires table { seat.old.table_id ≡ self.now.id }
         requires within { shard < self.now.shards }
         requires taken { HasTaken tag.conn shard self.now.shards even seat.old.me }
         requires seen { seen ≡ last_stamp 0 (mine_at seat.old.me) }
         requires few { length (mine_at seat.old.me) < 2 ^ 40 }
-        ensures reply { IfOk result (IsOfCall tag shard call) }
-        ensures kind { IfOk result (λ entry. MayAnswer call entry.reply) }
-        ensures stamp { IfOk result (λ entry. last_stamp 0 (mine_at seat.old.me) < entry.stamp) }
-        ensures ok { IfOk result (HasMade tag.conn seat.old.me seat.new.me) }
+        ensures kind { IfOk result (λ made. MayAnswer call made.reply) }
+        ensures stamp { IfOk result (λ made. last_stamp 0 (mine_at seat.old.me) < made.stamp) }
+        ensures returned { IfErr result (λ e. e.0 ≡ call) }
+        ensures ok { IfOk result (λ made. HasMade tag.conn seat.old.me seat.new.me
+            (entry_of tag shard call made.reply made.stamp)) }
         ensures err { OnErr result (HasGivenUp tag.conn seat.old.me seat.new.me) }
         ensures table { seat.new.table_id ≡ seat.old.table_id }
         ensures seat { seat.new.id ≡ seat.old.id }
     {
         let words = &self.table.shared;
         let word = shard as usize;
-        match seat.slot_mut(words, word).apply(tag, call, seen) {
-            Ok(entry) => {
+        match seat.slot_mut(words, word).make(tag, call, seen) {
+            Ok(made) => {
                 words.store::<PutsBack>(seat, word, even + 2);
-                Ok(entry)
+                Ok(made)
             }
-            Err(NoMemory) => {
+            Err(back) => {
                 words.store::<PutsBack>(seat, word, even);
-                Err(NoMemory)
+                Err(back)
             }
         }
     }

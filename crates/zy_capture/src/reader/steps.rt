@@ -17,7 +17,10 @@ use std::mem;
 use zy_base::Blob;
 use zy_read::Reads;
 
-const CAPTURE_LIMIT: u64 = 4_294_967_295;
+pub(super) const CAPTURE_LIMIT: u64 = 4_294_967_295;
+
+// The bytes of a segment before the last one of its length.
+const HEAD: usize = 8;
 
 const LETTERS: &[u8; 6] = b"ZYGCAP";
 
@@ -54,7 +57,7 @@ impl Reads for Reader {
     }
 
     #[tactic(auto, using(crate::proofs::RunLemmas::run_fed, zy_read::proofs::Feeding::fed_none))]
-    // Takes bytes of a segment, but not its last one.
+    // Takes bytes of a segment, but not its last one; or what one begins with.
     fn take_run(&mut self, bytes: &[u8], at: usize) -> usize {
         match self.due {
             Due::Payload { conn, length } if self.at < CAPTURE_LIMIT => {
@@ -63,6 +66,13 @@ impl Reads for Reader {
                 let run = left.min(room).min(bytes.len() - at - 1);
                 self.append(conn, length, &bytes[at..at + run]);
                 run
+            }
+            Due::Tag if bytes.len() - at > HEAD => {
+                if self.take_head(&bytes[at..at + HEAD]) {
+                    HEAD
+                } else {
+                    0
+                }
             }
             _ => 0,
         }

@@ -47,10 +47,7 @@ impl Work {
         if let Some(stop) = self.begin(gate, core) {
             return Ok(Some(stop));
         }
-        if let Err(e) = self.read() {
-            return Err(e);
-        }
-        if let Err(e) = self.list(shards) {
+        if let Err(e) = self.read(shards) {
             return Err(e);
         }
         match self.make_calls(store) {

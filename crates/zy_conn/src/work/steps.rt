@@ -1,14 +1,16 @@
 //! The steps of a connection's work. A step that finds no memory leaves the work where it was.
-ghost use Rattle.std.specs.Prelude.{◌≡◌, ◌≢◌, ◌+◌, ◌≤◌, [], ◌∷◌, ◌++◌, OnOk, OnErr, IfOk, MatchOption};
+ghost use Rattle.std.specs.Prelude.{◌≡◌, ◌≢◌, ◌+◌, ◌≤◌, OnOk, OnErr, IfOk, MatchOption};
 ghost use Rattle.zy_calls.specs.Batch.{with_text};
-ghost use Rattle.zy_conn.specs.Work.{start_of, idle};
-ghost use Rattle.zy_conn.specs.Step.{IsRead, IsGoing, IsWhole, AreAllAnswered, text_begun, Goes, StopsBy, MadeFrom};
+ghost use Rattle.mc_reply.specs.Text.{text};
+ghost use Rattle.mc_reply.specs.Answers.{AnswerCommand};
+ghost use Rattle.zy_conn.specs.Work.{idle};
+ghost use Rattle.zy_conn.specs.Step.{IsGoing, IsWhole, Goes, StopsBy, MadeFrom};
 
 use super::Work;
 use crate::begun::Begun;
 use crate::calling::{MOST, Made, next_call};
 use crate::hold_end::HoldEnd;
-use mc_parse::calls;
+use mc_parse::Command;
 use mc_reply::reply_text;
 use mc_store::StoreTable;
 use std::mem;
@@ -40,50 +42,25 @@ impl Work {
         None
     }
 
-    /// Reads the command of the frame that is begun.
-    pub(crate) fn read(&mut self) -> Result<(), NoMemory>
-        requires begun { self.old.begun ≢ idle }
-        ensures goes { Goes self.old self.new }
-        ensures finished { self.new.finished ≡ self.old.finished }
-        ensures read { OnOk result (IsRead self.new.begun) }
-    {
-        match mem::replace(&mut self.begun, Begun::Nothing) {
-            Begun::Raw(frame) => match meaning(self.alloc, frame) {
-                Ok(command) => {
-                    self.begun.put(Begun::Read(command));
-                    Ok(())
-                }
-                Err((frame, e)) => {
-                    self.begun.put(Begun::Raw(frame));
-                    Err(e)
-                }
-            },
-            begun => {
-                self.begun.put(begun);
-                Ok(())
-            }
-        }
-    }
-
-    /// Lists the calls of the command that is begun, on so many shards.
-    pub(crate) fn list(&mut self, shards: u32) -> Result<(), NoMemory>
+    /// Reads the command of the frame that is begun; its calls are on so many shards.
+    pub(crate) fn read(&mut self, shards: u32) -> Result<(), NoMemory>
         requires shards { shards ≡ self.old.table.slots }
         requires some { 1 ≤ shards }
         requires few { shards ≤ 256 }
-        requires read { IsRead self.old.begun }
+        requires begun { self.old.begun ≢ idle }
         ensures goes { Goes self.old self.new }
         ensures finished { self.new.finished ≡ self.old.finished }
         ensures going { OnOk result (IsGoing self.new.begun) }
     {
         match mem::replace(&mut self.begun, Begun::Nothing) {
-            Begun::Read(command) => match calls(self.alloc, &command, shards) {
-                Ok(calls) => {
+            Begun::Raw(frame) => match meaning(self.alloc, frame) {
+                Ok(command) => {
                     self.replies.clear();
-                    self.begun.put(Begun::Going { command, calls });
+                    self.begun.put(Begun::Going(command));
                     Ok(())
                 }
-                Err(e) => {
-                    self.begun.put(Begun::Read(command));
+                Err((frame, e)) => {
+                    self.begun.put(Begun::Raw(frame));
                     Err(e)
                 }
             },
@@ -104,14 +81,14 @@ impl Work {
         ensures going { IsGoing self.new.begun }
         ensures made { IfOk result (MadeFrom self.old self.new) }
     {
-        let Begun::Going { calls, .. } = &self.begun else {
+        let Begun::Going(command) = &self.begun else {
             unreachable!()
         };
         next_call(
             &mut self.pass,
             store,
             self.batch.finished(),
-            calls.items(),
+            command,
             &mut self.replies,
         )
     }
@@ -123,8 +100,11 @@ impl Work {
         ensures ok { OnOk result ((self.new.finished ≡ self.old.finished + 1) × (self.new.begun ≡ idle)) }
         ensures err { OnErr result (self.new.finished ≡ self.old.finished) }
     {
+        let Begun::Going(command) = &self.begun else {
+            unreachable!()
+        };
         let replies = Replies::from_vec(mem::replace(&mut self.replies, Vec::new(self.alloc)));
-        let sent = send(&mut self.batch, &mut self.text, &self.begun, &replies);
+        let sent = send(&mut self.batch, &mut self.text, command, &replies);
         self.replies = replies.into_vec();
         match sent {
             Ok(()) => {
@@ -139,21 +119,18 @@ impl Work {
     }
 }
 
-// Appends the text of the command that is begun to the batch. It is written into room that is used
+// Appends the text of a command with its replies to the batch. It is written into room that is used
 // again.
 fn send(
     batch: &mut Batch,
     room: &mut Blob,
-    begun: &Begun,
+    command: &Command,
     replies: &Replies,
 ) -> Result<(), NoMemory>
-    requires answers { AreAllAnswered (start_of begun.now replies.now) }
-    ensures ok { OnOk result (batch.new ≡ with_text batch.old (text_begun (start_of begun.now replies.now))) }
+    requires answers { AnswerCommand command.now replies.now }
+    ensures ok { OnOk result (batch.new ≡ with_text batch.old (text command.now replies.now)) }
     ensures err { OnErr result (batch.new ≡ batch.old) }
 {
-    let Begun::Going { command, .. } = begun else {
-        unreachable!()
-    };
     room.truncate(0);
     match reply_text(room, command, replies) {
         Ok(()) => batch.send_copy(room.bytes()),

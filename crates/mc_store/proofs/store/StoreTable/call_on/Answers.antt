@@ -1,7 +1,7 @@
 use Rattle.std.proofs.Common.{rules, ℕ, refl, ap, ◌∙◌, sym, subst, ◌∷◌}
 use Rattle.zy_base.specs.Kind.{MayAnswer}
 use Rattle.zy_base.proofs.KindLemmas.{reply_answers}
-use Rattle.mc_shard.specs.Shard.{kept, state_of}
+use Rattle.mc_shard.specs.Shard.{kept, state_of, entry_of}
 use Rattle.atomic_table.specs.Table.{rest}
 use Rattle.mc_store.specs.Steps.{Seated, HasTaken}
 use Rattle.mc_store.proofs.CallLemmas.{puts_call_as, puts_none_as}
@@ -21,7 +21,7 @@ store-requires c =
     let made = c.in-Ok.ensures in (
       search rules,
       search rules,
-      puts_call_as _ _ _ _ _ c.args.seen c.args.seat.now.me _ _ _ c.in-Ok.entry taken c.slot_mut.ensures.value refl made.ok (ap (λ t. t.conn) made.tag) made.shard made.stamp c.requires.seen made.sound c.requires.few,
+      puts_call_as _ _ _ _ _ c.args.seen c.args.seat.now.me _ _ _ (entry_of c.args.tag c.slot_mut.result.now.number c.args.call c.in-Ok.made.reply c.in-Ok.made.stamp) taken c.slot_mut.ensures.value refl made.ok refl refl made.stamp c.requires.seen made.sound c.requires.few,
     )
 
 pub store-requires-in-Err : goal.store-requires-in-Err

@@ -6,12 +6,12 @@ use Rattle.zy_conn.proofs.work.Work.begin.Goals as goal
 
 pub invariant_of-self-2 : goal.invariant_of-self-2
 invariant_of-self-2 g c =
-    kept_begins_as _ _ _ _ _ _ _ _ _ _ _ _ _ c.self.invariant (ap (λ b. start_of b c.self.inside.replies.items) c.in-Nothing.is) (λ e. c.if-index-eq-MOST.false (c.finished-index.ensures.value ∙ e))
+    kept_begins_as _ _ _ _ _ _ _ _ _ _ _ _ _ c.self.invariant (ap (λ b. start_of c.self.inside.pass.table.slots b c.self.inside.replies.items) c.in-Nothing.is) (λ e. c.if-index-eq-MOST.false (c.finished-index.ensures.value ∙ e))
     (cc) (c.pop_known-frame.ensures.received.0 ∙ ap (λ (l : List FrameKind). l ++ c.pop_known-frame.result ∷ []) c.if-is_empty.ensures.looked.1)
-    (ap (λ b. start_of b c.self.inside.replies.items) c.put.ensures.value)
+    (ap (λ b. start_of c.self.inside.pass.table.slots b c.self.inside.replies.items) c.put.ensures.value)
 
 pub returns-clause-goes : goal.returns-clause-goes
 returns-clause-goes g c =
     rw (← c.self.view_is)
-    (goes_begins_as _ _ _ _ _ _ _ _ _ _ _ _ _ c.self.invariant (ap (λ b. start_of b c.self.inside.replies.items) c.in-Nothing.is)
+    (goes_begins_as _ _ _ _ _ _ _ _ _ _ _ _ _ c.self.invariant (ap (λ b. start_of c.self.inside.pass.table.slots b c.self.inside.replies.items) c.in-Nothing.is)
     (cc) (c.pop_known-frame.ensures.received.0 ∙ ap (λ (l : List FrameKind). l ++ c.pop_known-frame.result ∷ []) c.if-is_empty.ensures.looked.1))

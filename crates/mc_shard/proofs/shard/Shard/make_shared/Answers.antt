@@ -2,7 +2,7 @@ use Rattle.std.proofs.Common.{refl, arith, ap, ◌∙◌}
 use Rattle.zy_base.specs.Shard.{outcome_of}
 use Rattle.mc_shard.specs.Step.{outcome_in}
 use Rattle.mc_shard.proofs.SoundLemmas.{IsSound-applied}
-use Rattle.mc_shard.proofs.shard.Shard.apply_shared.Goals as goal
+use Rattle.mc_shard.proofs.shard.Shard.make_shared.Goals as goal
 
 pub invariant_of-self-in-Ok-carry_out : goal.invariant_of-self-in-Ok-carry_out
 invariant_of-self-in-Ok-carry_out c =

@@ -1,0 +1,134 @@
+//! One call of a command.
+ghost use Rattle.std.specs.Prelude.{◌≡◌, ◌<◌, ◌≤◌, IfOk, IfErr, IfSome, Some, Err, slice_get};
+ghost use Rattle.mc_parse.specs.Calls.{calls_of, get_calls, flush_calls, at_key, IsOnShard};
+
+use crate::command::Command;
+use crate::listing::{counted_by, deleted, exchanged, stored_by};
+use crate::shard_call::ShardCall;
+use zy_base::{Blob, Call, NoMemory, shard_of};
+
+/// The call of a command on so many shards that has this number in the list `calls`; `None` exactly where
+/// the list has no such call. It has copies of key and value.
+pub fn call_at(command: &Command, part: usize, shards: u32) -> Result<Option<ShardCall>, NoMemory>
+    requires some { 1 ≤ shards }
+    requires limit { shards ≤ 256 }
+    ensures value { IfOk result (λ call. call ≡ slice_get (calls_of shards command.now) part) }
+    ensures within { IfOk result (λ call. IfSome call (IsOnShard shards)) }
+{
+    if part == 0 {
+        first_call(command, shards)
+    } else {
+        later_call(command, part, shards)
+    }
+}
+
+// The first call of a command.
+fn first_call(command: &Command, shards: u32) -> Result<Option<ShardCall>, NoMemory>
+    requires some { 1 ≤ shards }
+    ensures value { IfOk result (λ call. call ≡ slice_get (calls_of shards command.now) 0) }
+    ensures within { IfOk result (λ call. IfSome call (IsOnShard shards)) }
+{
+    match command {
+        Command::Store {
+            verb,
+            key,
+            flags,
+            value,
+            ..
+        } => only_call(key, stored_by(*verb, key, *flags, value), shards),
+        Command::Cas {
+            key,
+            flags,
+            unique,
+            value,
+            ..
+        } => only_call(key, exchanged(key, *flags, *unique, value), shards),
+        Command::Get { keys, .. } => get_at(keys.items(), 0, shards),
+        Command::Delete { key, .. } => only_call(key, deleted(key), shards),
+        Command::Count {
+            key,
+            up,
+            amount,
+            ..
+        } => only_call(key, counted_by(*up, key, *amount), shards),
+        Command::Flush { .. } => Ok(flush_at(0, shards)),
+        Command::Version | Command::Verbosity { .. } | Command::Fault { .. } => Ok(None),
+    }
+}
+
+// A call of a command that is not its first.
+#[tactic(auto, using(crate::proofs::CallLemmas::none_later))]
+fn later_call(command: &Command, part: usize, shards: u32) -> Result<Option<ShardCall>, NoMemory>
+    requires some { 1 ≤ shards }
+    requires later { 0 < part }
+    ensures value { IfOk result (λ call. call ≡ slice_get (calls_of shards command.now) part) }
+    ensures within { IfOk result (λ call. IfSome call (IsOnShard shards)) }
+{
+    match command {
+        Command::Get { keys, .. } => get_at(keys.items(), part, shards),
+        Command::Flush { .. } => Ok(flush_at(part, shards)),
+        Command::Store { .. }
+        | Command::Cas { .. }
+        | Command::Delete { .. }
+        | Command::Count { .. }
+        | Command::Version
+        | Command::Verbosity { .. }
+        | Command::Fault { .. } => Ok(None),
+    }
+}
+
+// The one call that was made, on the shard of its key.
+fn only_call(
+    key: &Blob,
+    made: Result<Call, NoMemory>,
+    shards: u32,
+) -> Result<Option<ShardCall>, NoMemory>
+    requires some { 1 ≤ shards }
+    ensures value { IfOk made (λ call. IfOk result (λ one. one ≡ Some (at_key shards key.now call))) }
+    ensures refused { IfErr made (λ e. result ≡ Err e) }
+    ensures within { IfOk result (λ call. IfSome call (IsOnShard shards)) }
+{
+    match made {
+        Ok(call) => Ok(Some(ShardCall {
+            shard: shard_of(key.bytes(), shards),
+            call,
+        })),
+        Err(e) => Err(e),
+    }
+}
+
+// The get of the key with this number.
+#[tactic(auto, using(crate::proofs::CallLemmas::get_there))]
+fn get_at(keys: &[Blob], part: usize, shards: u32) -> Result<Option<ShardCall>, NoMemory>
+    requires some { 1 ≤ shards }
+    ensures value { IfOk result (λ call. call ≡ slice_get (get_calls shards keys.now) part) }
+    ensures within { IfOk result (λ call. IfSome call (IsOnShard shards)) }
+{
+    let Some(key) = keys.get(part) else {
+        return Ok(None);
+    };
+    let shard = shard_of(key.bytes(), shards);
+    match key.copy() {
+        Ok(key) => Ok(Some(ShardCall {
+            shard,
+            call: Call::Get { key },
+        })),
+        Err(e) => Err(e),
+    }
+}
+
+// The flush of the shard with this number.
+#[tactic(auto, using(crate::proofs::CallLemmas::flush_there, crate::proofs::CallLemmas::flush_past))]
+fn flush_at(part: usize, shards: u32) -> Option<ShardCall>
+    ensures value { result ≡ slice_get (flush_calls shards) part }
+    ensures within { IfSome result (IsOnShard shards) }
+{
+    if part < shards as usize {
+        Some(ShardCall {
+            shard: part as u32,
+            call: Call::Flush,
+        })
+    } else {
+        None
+    }
+}
