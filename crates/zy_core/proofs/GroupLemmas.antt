@@ -1,5 +1,5 @@
 -- Groups of cores that are dealt, driven and gathered.
-use Rattle.std.proofs.Common.{◌≡◌, ℕ, zero, suc, ◌<◌, List, [], ◌∷◌, ◌++◌, length, map, get_or, true, Some, slice_get, Vec, refl, sym, ap, ◌∙◌, subst, append_assoc, arith}
+use Rattle.std.proofs.Common.{◌≡◌, ℕ, zero, suc, ◌<◌, List, [], ◌∷◌, ◌++◌, length, map, get_or, true, Some, slice_get, Vec, refl, sym, ap, ◌∙◌, subst, append_assoc, append-nil, arith}
 use Rattle.std.specs.Prelude.{remove}
 use Rattle.std.specs.declared.alloc.Global.{Global}
 use Rattle.zy_table.proofs.SliceLemmas.{get_at}
@@ -9,7 +9,8 @@ use Rattle.zy_core.specs.Share.{Sharing}
 use Rattle.zy_core.specs.Core.{Cored, Identity, identity_of, Fits}
 use Rattle.zy_core.specs.Drive.{identities, EachFits, EachSettled}
 use Rattle.zy_core.specs.Deal.{lists_of, Deals, gathered, Each, EachOfAll}
-use Rattle.zy_core.specs.Seat.{all_of_groups, AllFit, AllSettled}
+use Rattle.zy_core.specs.declared.threads.seat.Seat.{Seat}
+use Rattle.zy_core.specs.Seat.{seat_identities, all_of_seats, all_of_groups, AllFit, AllSettled}
 use Rattle.zy_core.proofs.ListLemmas.{get_map, map_get}
 use Rattle.zy_core.proofs.DealLemmas.{dealt_each, gathers_same, gathered_each}
 
@@ -79,3 +80,20 @@ pub taken_on : {X Y : Type 0} (f : X → Y) (bs : List Y) (xs : List X) (x : X) 
 taken_on f bs [] x ys y some first rest is = absurd (omega arith)
 taken_on f bs (z ∷ zs) x ys y some first rest is =
     append_assoc bs (y ∷ []) (map f ys) ∙ ap (λ l. bs ++ l) (λ i. (is ∙ ap f first) i ∷ map f (rest i))
+
+-- ---- groups that get their seats
+
+-- what stays of one more seat
+pub seats_last : (ss : List Seat) (s : Seat) → all_of_seats (ss ++ s ∷ []) ≡ all_of_seats ss ++ seat_identities s ∷ []
+seats_last [] s = refl
+seats_last (x ∷ xs) s = ap (λ l. seat_identities x ∷ l) (seats_last xs s)
+
+-- the first group is taken
+pub fit_rest : (s : Sharing) (gs hs : List (Vec Core Global)) → hs ≡ remove gs 0 → AllFit s (all_of_groups gs) → AllFit s (all_of_groups hs)
+fit_rest s [] hs rest all = subst (λ (l : List (Vec Core Global)). AllFit s (all_of_groups l)) (sym rest) tt
+fit_rest s (g ∷ gs) hs rest all = subst (λ (l : List (Vec Core Global)). AllFit s (all_of_groups l)) (sym rest) all.1
+
+-- and none is left
+pub none_left : (bs all : List (List Identity)) (gs : List (Vec Core Global)) → length gs ≡ 0 → bs ++ all_of_groups gs ≡ all → bs ≡ all
+none_left bs all [] none is = sym (append-nil bs) ∙ is
+none_left bs all (g ∷ gs) none is = absurd (omega arith)

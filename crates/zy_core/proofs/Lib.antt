@@ -2,5 +2,6 @@ pub mod RoundLemmas
 pub mod ListLemmas
 pub mod DealLemmas
 pub mod CoreLemmas
+pub mod KeepLemmas
 pub mod TurnLemmas
 pub mod GroupLemmas

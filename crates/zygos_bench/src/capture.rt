@@ -19,7 +19,9 @@ pub(crate) fn measured<R: CpuClock, I: Read>(
     let start = nanos(rt);
     let fed = read_all(input, &mut reader, &mut tally);
     let spent = nanos(rt).saturating_sub(start);
-    match (fed, reader.end()) {
+    let ended = reader.end();
+    drop(reader);
+    match (fed, ended) {
         (Ok(()), Ok(())) => Ok(Done {
             count: tally.bytes,
             nanos: spent,
@@ -52,7 +54,10 @@ fn feed_all(reader: &mut Reader, tally: &mut Tally, bytes: &[u8]) -> Result<(), 
         at += taken;
         match answer {
             Ok(None) => return Ok(()),
-            Ok(Some(found)) => tally.count(&found),
+            Ok(Some(found)) => {
+                tally.count(&found);
+                drop(found);
+            }
             Err(fault) => return Err(fault),
         }
     }

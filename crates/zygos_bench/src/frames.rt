@@ -60,6 +60,20 @@ fn append_all(text: &mut Blob) -> Result<(), NoMemory> {
 fn count_frames(alloc: Global, traffic: &[u8], bytes: u64, piece: u64) -> Result<u64, NoMemory> {
     let mut framer = Framer::new(alloc);
     let mut frames = Frames::new(alloc);
+    let counted = feed_pieces(&mut framer, &mut frames, traffic, bytes, piece);
+    drop(framer);
+    drop(frames);
+    counted
+}
+
+// The same, by this framer.
+fn feed_pieces(
+    framer: &mut Framer,
+    frames: &mut Frames,
+    traffic: &[u8],
+    bytes: u64,
+    piece: u64,
+) -> Result<u64, NoMemory> {
     let mut count = 0u64;
     let mut left = bytes as usize;
     let mut at = 0;
@@ -71,8 +85,8 @@ fn count_frames(alloc: Global, traffic: &[u8], bytes: u64, piece: u64) -> Result
         if taken == 0 {
             break;
         }
-        framer.feed(&traffic[at..][..taken], &mut frames)?;
-        count = count.wrapping_add(drained(&mut frames));
+        framer.feed(&traffic[at..][..taken], frames)?;
+        count = count.wrapping_add(drained(frames));
         at += taken;
         left -= taken;
     }
@@ -83,7 +97,8 @@ fn count_frames(alloc: Global, traffic: &[u8], bytes: u64, piece: u64) -> Result
 fn drained(frames: &mut Frames) -> u64 {
     let mut count = 0u64;
     for _ in 0..frames.len() {
-        if frames.pop().is_some() {
+        if let Some(frame) = frames.pop() {
+            drop(frame);
             count = count.wrapping_add(1);
         }
     }

@@ -41,11 +41,20 @@ fn merging<R: CpuClock>(rt: &R, alloc: Global, entries: u64, shards: u32) -> Res
     let made = histories(alloc, shards, entries / u64::from(shards))?;
     let before = nanos(rt);
     match merge(made, Holds::new(alloc)) {
-        Ok(journal) => Ok(Done {
-            count: walked(&journal),
-            nanos: nanos(rt).saturating_sub(before),
-        }),
-        Err(_) => Err(NoMemory),
+        Ok(journal) => {
+            let count = walked(&journal);
+            let spent = nanos(rt).saturating_sub(before);
+            drop(journal);
+            Ok(Done {
+                count,
+                nanos: spent,
+            })
+        }
+        Err((histories, holds)) => {
+            drop(histories);
+            drop(holds);
+            Err(NoMemory)
+        }
     }
 }
 
@@ -68,8 +77,10 @@ fn writing<R: CpuClock>(rt: &R, alloc: Global, entries: u64) -> Result<Done, NoM
     let before = nanos(rt);
     let mut sink = Counting { bytes: 0 };
     let _ = write_journal(&mut sink, &journal);
+    let spent = nanos(rt).saturating_sub(before);
+    drop(journal);
     Ok(Done {
         count: sink.bytes,
-        nanos: nanos(rt).saturating_sub(before),
+        nanos: spent,
     })
 }

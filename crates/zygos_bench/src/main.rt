@@ -1,6 +1,7 @@
 //! Times one part of the program: the first word says which, and the numbers behind it how much of it.
 #![tactic(auto)]
 
+mod calls;
 mod capture;
 mod clock;
 mod conn;

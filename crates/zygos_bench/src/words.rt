@@ -38,18 +38,51 @@ pub(crate) fn read_words<R: Env>(rt: &R) -> Asked {
     }
 }
 
+// A word, and what it names.
+struct Name {
+    word: &'static [u8],
+    what: What,
+}
+
+const NAMES: [Name; 7] = [
+    Name {
+        word: b"shard",
+        what: What::Shard,
+    },
+    Name {
+        word: b"frames",
+        what: What::Frames,
+    },
+    Name {
+        word: b"capture",
+        what: What::Capture,
+    },
+    Name {
+        word: b"journal",
+        what: What::Journal,
+    },
+    Name {
+        word: b"store",
+        what: What::Store,
+    },
+    Name {
+        word: b"shuffle",
+        what: What::Shuffle,
+    },
+    Name {
+        word: b"conn",
+        what: What::Conn,
+    },
+];
+
 // What a word names.
 fn what_named(word: &[u8]) -> Option<What> {
-    match word {
-        b"shard" => Some(What::Shard),
-        b"frames" => Some(What::Frames),
-        b"capture" => Some(What::Capture),
-        b"journal" => Some(What::Journal),
-        b"store" => Some(What::Store),
-        b"shuffle" => Some(What::Shuffle),
-        b"conn" => Some(What::Conn),
-        _ => None,
+    for name in &NAMES {
+        if word == name.word {
+            return Some(name.what);
+        }
     }
+    None
 }
 
 // The number that a word of the command line spells, and 0 where it spells none.

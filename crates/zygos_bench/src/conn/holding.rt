@@ -1,9 +1,9 @@
 //! A block that is held again and again, each time with some frames in its ring.
-ghost use Rattle.std.specs.Prelude.{◌≡◌};
+ghost use Rattle.std.specs.Prelude.{◌≡◌, []};
 
 use crate::clock::nanos;
 use crate::conn::load::text_of;
-use mc_store::StoreTable;
+use mc_store::{Root, StoreTable};
 use std::alloc::Global;
 use std::time::CpuClock;
 use zy_base::{NoMemory, Ungated};
@@ -18,14 +18,36 @@ pub(crate) fn held<R: CpuClock>(
     size: u64,
 ) -> Result<u64, NoMemory> {
     let (store, mut root) = StoreTable::new(alloc, 16)?;
-    let pass = store.split(&mut root, 0)?;
+    let spent = held_on(rt, alloc, &store, &mut root, rounds, size);
+    drop(root);
+    drop(store);
+    spent
+}
+
+// The same, on this store.
+fn held_on<R: CpuClock>(
+    rt: &R,
+    alloc: Global,
+    store: &StoreTable,
+    root: &mut Root,
+    rounds: u64,
+    size: u64,
+) -> Result<u64, NoMemory>
+    requires table { root.old.table ≡ store.now.id }
+    requires fresh { root.old.given ≡ [] }
+{
+    let pass = store.split(root, 0)?;
     match Block::new(alloc, 0, pass) {
         Ok((mut block, mut inlet)) => {
-            let spent = hold_all(rt, alloc, &store, &mut block, &mut inlet, rounds, size);
-            let _ = block.into_parts();
+            let spent = hold_all(rt, alloc, store, &mut block, &mut inlet, rounds, size);
+            drop(block);
+            drop(inlet);
             spent
         }
-        Err((_, e)) => Err(e),
+        Err((pass, e)) => {
+            drop(pass);
+            Err(e)
+        }
     }
 }
 
@@ -54,9 +76,20 @@ fn offer(alloc: Global, inlet: &mut EventInlet, first: u64, size: u64) -> Result
     let text = text_of(alloc, first, size)?;
     let mut framer = Framer::new(alloc);
     let mut frames = Frames::new(alloc);
-    framer.feed(text.bytes(), &mut frames)?;
+    let fed = framer.feed(text.bytes(), &mut frames);
+    drop(text);
+    drop(framer);
+    let offered = offer_all(inlet, &mut frames);
+    drop(frames);
+    fed?;
+    offered
+}
+
+// Offers all frames.
+fn offer_all(inlet: &mut EventInlet, frames: &mut Frames) -> Result<(), NoMemory> {
     while let Some(frame) = frames.pop() {
-        if inlet.offer(frame).is_some() {
+        if let Some(frame) = inlet.offer(frame) {
+            drop(frame);
             return Err(NoMemory);
         }
     }

@@ -35,27 +35,60 @@ pub(crate) fn serve_all<R: CpuClock>(
     let mut spent = 0u64;
     for round in 0..rounds {
         let mut items = items_of(alloc, round, size)?;
-        let begin = nanos(rt);
-        receive_all(ring, home, &mut items)?;
-        own_all(ring, store, home)?;
-        spent = spent.wrapping_add(nanos(rt).saturating_sub(begin));
+        let served = serve_items(rt, ring, store, home, &mut items);
+        drop(items);
+        spent = spent.wrapping_add(served?);
     }
     Ok(spent)
+}
+
+// The nanoseconds that the home takes to receive these items and to serve them.
+fn serve_items<R: CpuClock>(
+    rt: &R,
+    ring: &Ring<Block>,
+    store: &StoreTable,
+    home: &mut Home,
+    items: &mut Queue<Rx>,
+) -> Result<u64, NoMemory>
+    requires table { home.old.pass.table ≡ ring.now.id }
+    requires label { home.old.pass.label ≡ name_of store.now.id }
+    requires live { home.old.refused ≡ false }
+    requires few { home.old.pass.count ≤ 2 ^ 30 }
+    ensures kept { (home.new.pass.table ≡ home.old.pass.table) × (home.new.pass.label ≡ home.old.pass.label) }
+    ensures live { OnOk result (home.new.refused ≡ false) }
+    ensures count { home.new.pass.count ≤ home.old.pass.count + 400 }
+{
+    let begin = nanos(rt);
+    receive_all(ring, home, items)?;
+    own_all(ring, store, home)?;
+    Ok(nanos(rt).saturating_sub(begin))
 }
 
 // A segment of so many commands for each connection.
 fn items_of(alloc: Global, round: u64, size: u64) -> Result<Queue<Rx>, NoMemory> {
     let mut items = Queue::new(alloc);
+    match add_items(alloc, &mut items, round, size) {
+        Ok(()) => Ok(items),
+        Err(e) => {
+            drop(items);
+            Err(e)
+        }
+    }
+}
+
+// Appends them.
+fn add_items(alloc: Global, items: &mut Queue<Rx>, round: u64, size: u64) -> Result<(), NoMemory> {
     for conn in 0..CONNECTIONS {
         let part = round
             .wrapping_mul(CONNECTIONS as u64)
             .wrapping_add(conn as u64);
         let bytes = text_of(alloc, part.wrapping_mul(size), size)?;
-        if items.push(Rx::Segment { conn, bytes }).is_err() {
-            return Err(NoMemory);
+        if let Err((item, e)) = items.push(Rx::Segment { conn, bytes }) {
+            drop(item);
+            return Err(e);
         }
     }
-    Ok(items)
+    Ok(())
 }
 
 // The home receives items, one for each connection.

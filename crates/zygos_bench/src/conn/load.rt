@@ -2,10 +2,9 @@
 //! of 100 bytes.
 ghost use Rattle.std.specs.Prelude.{◌<◌};
 
+use crate::calls::{VALUE, get, set};
 use std::alloc::Global;
 use zy_base::{Blob, Call, NoMemory, number_text};
-
-const VALUE: [u8; 100] = [b'v'; 100];
 
 // The key of a command, of seven digits.
 fn key_of(number: u64) -> u64
@@ -31,23 +30,28 @@ pub(crate) fn spell(text: &mut Blob, number: u64) -> Result<(), NoMemory> {
 /// So many commands from this one on.
 pub(crate) fn text_of(alloc: Global, first: u64, size: u64) -> Result<Blob, NoMemory> {
     let mut text = Blob::new(alloc);
-    for at in 0..size {
-        spell(&mut text, first.wrapping_add(at))?;
+    match spell_all(&mut text, first, size) {
+        Ok(()) => Ok(text),
+        Err(e) => {
+            drop(text);
+            Err(e)
+        }
     }
-    Ok(text)
+}
+
+// Appends so many commands from this one on.
+fn spell_all(text: &mut Blob, first: u64, size: u64) -> Result<(), NoMemory> {
+    for at in 0..size {
+        spell(text, first.wrapping_add(at))?;
+    }
+    Ok(())
 }
 
 /// The call of a command.
 pub(crate) fn call_of(alloc: Global, number: u64) -> Result<Call, NoMemory> {
-    let mut key = Blob::new(alloc);
-    number_text(&mut key, key_of(number))?;
-    if number % 2 != 0 {
-        return Ok(Call::Get { key });
+    if number % 2 == 0 {
+        set(alloc, key_of(number))
+    } else {
+        get(alloc, key_of(number))
     }
-    let value = Blob::copy_of(alloc, &VALUE)?;
-    Ok(Call::Set {
-        key,
-        flags: 0,
-        value,
-    })
 }

@@ -19,7 +19,9 @@ pub(crate) fn homed<R: CpuClock>(
     requires rounds { rounds ≤ 2 ^ 20 }
 {
     let mut started = start(alloc, CONNECTIONS, 1, 16)?;
-    serve_started(rt, alloc, &mut started, rounds, size)
+    let spent = serve_started(rt, alloc, &mut started, rounds, size);
+    drop(started);
+    spent
 }
 
 // The same, of what was made.

@@ -1,5 +1,5 @@
 //! Entries to be merged and written.
-ghost use Rattle.std.specs.Prelude.{◌≡◌, ◌+◌, ◌*◌, ◌<◌, ◌≤◌, ◌^◌, None, IfOk};
+ghost use Rattle.std.specs.Prelude.{◌≡◌, ◌+◌, ◌*◌, ◌<◌, ◌≤◌, ◌^◌, [], ◌∷◌, ◌++◌, length, None, IfOk, OnOk};
 ghost use Rattle.std.specs.List.{AllByRecursion};
 ghost use Rattle.zy_base.specs.Order.{AreAt, StampsRise, IsOrdered, history_of};
 ghost use Rattle.zy_journal.specs.Journal.{IsEntry};
@@ -18,17 +18,50 @@ pub(crate) fn history(alloc: Global, shard: u32, count: u64) -> Result<Entries, 
     ensures entries { IfOk result (λ es. AllByRecursion IsEntry es) }
 {
     let mut entries = Entries::new(alloc);
+    match add_entries(alloc, &mut entries, shard, count) {
+        Ok(()) => {
+            rising_histories_are_in_order();
+            Ok(entries)
+        }
+        Err(refused) => {
+            drop(entries);
+            Err(refused)
+        }
+    }
+}
+
+// Appends so many entries of a shard where there are none.
+fn add_entries(alloc: Global, entries: &mut Entries, shard: u32, count: u64) -> Result<(), NoMemory>
+    requires none { entries.old ≡ [] }
+    requires shard { shard < 256 }
+    requires few { count ≤ 2 ^ 32 }
+    ensures shard { OnOk result (AreAt shard entries.new) }
+    ensures rising { OnOk result (StampsRise 0 entries.new) }
+    ensures entries { OnOk result (AllByRecursion IsEntry entries.new) }
+{
     for i in 0..count {
         let next = match entry(alloc, shard, i) {
             Ok(next) => next,
             Err(refused) => return Err(refused),
         };
-        if let Err((_, refused)) = entries.push(next) {
+        if let Err(refused) = add_entry(entries, next) {
             return Err(refused);
         }
     }
-    rising_histories_are_in_order();
-    Ok(entries)
+    Ok(())
+}
+
+// Appends an entry.
+fn add_entry(entries: &mut Entries, entry: Entry) -> Result<(), NoMemory>
+    ensures ok { OnOk result (entries.new ≡ entries.old ++ entry ∷ []) }
+{
+    match entries.push(entry) {
+        Ok(()) => Ok(()),
+        Err((entry, refused)) => {
+            drop(entry);
+            Err(refused)
+        }
+    }
 }
 
 // The entry of a shard with this number.
@@ -40,7 +73,13 @@ fn entry(alloc: Global, shard: u32, number: u64) -> Result<Entry, NoMemory>
     ensures entry { IfOk result (λ e. IsEntry e) }
 {
     let key = Blob::copy_of(alloc, b"key:0123")?;
-    let value = Blob::copy_of(alloc, b"0123456789")?;
+    let value = match Blob::copy_of(alloc, b"0123456789") {
+        Ok(value) => value,
+        Err(refused) => {
+            drop(key);
+            return Err(refused);
+        }
+    };
     Ok(Entry {
         tag: Tag {
             conn: shard,
@@ -65,14 +104,45 @@ pub(crate) fn histories(alloc: Global, shards: u32, each: u64) -> Result<Histori
     ensures ordered { IfOk result (λ hs. (shard : _) → IsOrdered None (history_of hs shard)) }
 {
     let mut all = Histories::new(alloc);
+    match add_histories(alloc, &mut all, shards, each) {
+        Ok(()) => Ok(all),
+        Err(refused) => {
+            drop(all);
+            Err(refused)
+        }
+    }
+}
+
+// Appends them where there are none.
+fn add_histories(alloc: Global, all: &mut Histories, shards: u32, each: u64) -> Result<(), NoMemory>
+    requires none { all.old ≡ [] }
+    requires shards { shards ≤ 256 }
+    requires few { each ≤ 2 ^ 32 }
+    ensures ordered { OnOk result ((shard : _) → IsOrdered None (history_of all.new shard)) }
+{
     for shard in 0..shards {
         let made = match history(alloc, shard, each) {
             Ok(made) => made,
             Err(refused) => return Err(refused),
         };
-        if let Err((_, refused)) = all.add(made) {
+        if let Err(refused) = add_history(all, made) {
             return Err(refused);
         }
     }
-    Ok(all)
+    Ok(())
+}
+
+// Appends the history of the next shard.
+fn add_history(all: &mut Histories, history: Entries) -> Result<(), NoMemory>
+    requires room { length all.old < 256 }
+    requires shard { AreAt (length all.old) history }
+    ensures ok { OnOk result (all.new ≡ all.old ++ history ∷ []) }
+{
+    match all.add(history) {
+        Ok(()) => Ok(()),
+        Err((history, refused)) => {
+            drop(history);
+            Err(refused)
+        }
+    }
 }

@@ -36,17 +36,29 @@ pub(crate) fn alone(alloc: Global, rounds: u64) -> Result<(), NoMemory>
     requires few { rounds ≤ 2 ^ 40 }
 {
     let (ring, mut home) = Ring::<Block>::new::<Brand>(alloc, PLACES)?;
+    publish_and_claim(&ring, &mut home, rounds);
+    drop(home);
+    drop(ring);
+    Ok(())
+}
+
+// The same, on this new ring.
+fn publish_and_claim(ring: &Ring<Block>, home: &mut HomePass<Block>, rounds: u64)
+    requires within { home.old.table ≡ ring.now.id }
+    requires all { HasAll 64 home.old.hand }
+    requires label { (home.old.label ≡ no_name) × (home.old.count ≡ 0) }
+    requires few { rounds ≤ 2 ^ 40 }
+{
     let mut place = 0;
     let mut block = Block { number: 0 };
     for _ in 0..rounds {
-        ring.publish(&mut home, place, block);
-        let Claim::Took { place: p, block: b } = ring.claim_home(&mut home) else {
-            return Ok(());
+        ring.publish(home, place, block);
+        let Claim::Took { place: p, block: b } = ring.claim_home(home) else {
+            return;
         };
         place = p;
         block = b;
     }
-    Ok(())
 }
 
 // The home publishes each place that comes back, so many times, while so many thieves claim from
@@ -61,11 +73,27 @@ pub(crate) fn robbed<R: Threads + Wait + Sync>(
 {
     let (ring, mut home) = Ring::<Block>::new::<Brand>(alloc, PLACES)?;
     publish_all(&ring, &mut home);
-    let one = new_pass(&ring, &mut home)?;
-    let two = new_pass(&ring, &mut home)?;
-    let three = new_pass(&ring, &mut home)?;
+    let done = rob_ring(rt, &ring, home, thieves, rounds);
+    drop(ring);
+    done
+}
+
+// The same, on this ring.
+fn rob_ring<R: Threads + Wait + Sync>(
+    rt: &R,
+    ring: &Ring<Block>,
+    mut home: HomePass<Block>,
+    thieves: u64,
+    rounds: u64,
+) -> Result<(), NoMemory>
+    requires within { home.table ≡ ring.now.id }
+    requires few { (home.count ≤ 64) × (rounds ≤ 2 ^ 40) }
+{
+    let one = new_pass(ring, &mut home)?;
+    let two = new_pass(ring, &mut home)?;
+    let three = new_pass(ring, &mut home)?;
     let stop = AtomicBool::new(false);
-    let (shared, ended) = (&ring, &stop);
+    let (shared, ended) = (ring, &stop);
     thread::join(
         rt,
         move ||

@@ -1,15 +1,14 @@
 //! Calls on a shard alone, and by one pass: nine reads to one write, of 1,024 keys with values of
 //! 100 bytes.
-ghost use Rattle.std.specs.Prelude.{◌≡◌, ◌≤◌, ◌^◌};
+ghost use Rattle.std.specs.Prelude.{◌≡◌, ◌≤◌, ◌^◌, []};
 
+use crate::calls::{apply, get, set};
 use mc_shard::Shard;
-use mc_store::{Got, Pass, StoreTable};
+use mc_store::{Got, Pass, Root, StoreTable};
 use std::alloc::Global;
 use std::sync::Wait;
 use std::thread;
-use zy_base::{Blob, Call, NoMemory, Tag, number_text};
-
-const VALUE: [u8; 100] = [b'v'; 100];
+use zy_base::{Call, NoMemory, Tag};
 
 // The key of a call.
 fn key_of(number: u64) -> u64
@@ -20,17 +19,12 @@ fn key_of(number: u64) -> u64
 
 // Some call.
 fn some_call(alloc: Global, number: u64) -> Result<Call, NoMemory> {
-    let mut key = Blob::new(alloc);
-    number_text(&mut key, 1_000_000 + key_of(number))?;
-    if number % 10 != 0 {
-        return Ok(Call::Get { key });
+    let key = 1_000_000 + key_of(number);
+    if number % 10 == 0 {
+        set(alloc, key)
+    } else {
+        get(alloc, key)
     }
-    let value = Blob::copy_of(alloc, &VALUE)?;
-    Ok(Call::Set {
-        key,
-        flags: 0,
-        value,
-    })
 }
 
 // The tag of a call.
@@ -47,11 +41,15 @@ fn tag_of(conn: u32, index: u64) -> Tag
 /// Makes so many calls on a shard.
 pub(crate) fn shard_alone(alloc: Global, calls: u64) -> Result<(), NoMemory> {
     let mut shard = Shard::new(alloc, 0, 1);
+    let made = apply_all(alloc, &mut shard, calls);
+    drop(shard);
+    made
+}
+
+// The same, on this shard.
+fn apply_all(alloc: Global, shard: &mut Shard, calls: u64) -> Result<(), NoMemory> {
     for number in 0..calls {
-        if shard.last() >= 1 << 60 || shard.history().len() >= 1 << 52 {
-            return Err(NoMemory);
-        }
-        shard.apply(tag_of(0, number), some_call(alloc, number)?, 0)?;
+        apply(shard, number, some_call(alloc, number)?)?;
     }
     Ok(())
 }
@@ -61,8 +59,26 @@ pub(crate) fn pass_alone<R: Wait>(rt: &R, alloc: Global, calls: u64) -> Result<(
     requires few { calls ≤ 2 ^ 32 }
 {
     let (store, mut root) = StoreTable::new(alloc, 1)?;
-    let pass = store.split(&mut root, 0)?;
-    make_calls(rt, alloc, &store, pass, calls);
+    let made = call_alone(rt, alloc, &store, &mut root, calls);
+    drop(root);
+    drop(store);
+    made
+}
+
+/// Makes so many calls on a new store, by one pass.
+pub(crate) fn call_alone<R: Wait>(
+    rt: &R,
+    alloc: Global,
+    store: &StoreTable,
+    root: &mut Root,
+    calls: u64,
+) -> Result<(), NoMemory>
+    requires table { root.old.table ≡ store.now.id }
+    requires fresh { root.old.given ≡ [] }
+    requires few { calls ≤ 2 ^ 32 }
+{
+    let pass = store.split(root, 0)?;
+    make_calls(rt, alloc, store, pass, calls);
     Ok(())
 }
 
@@ -88,9 +104,13 @@ pub(crate) fn make_calls<R: Wait>(
         };
         let tag = tag_of(pass.conn(), number);
         let shard = (key_of(number) % shards) as u32;
-        match store.try_call(&mut pass, tag, shard, &call) {
-            Ok(Got::Reply(_)) | Err(NoMemory) => {}
+        let got = store.try_call(&mut pass, tag, shard, &call);
+        drop(call);
+        match got {
+            Ok(Got::Reply(entry)) => drop(entry),
             Ok(Got::Busy { .. }) => thread::yield_now(),
+            Err(NoMemory) => {}
         }
     }
+    drop(pass);
 }

@@ -1,8 +1,8 @@
 //! Threads that call one store of 16 shards.
-ghost use Rattle.std.specs.Prelude.{◌≡◌, ◌≤◌, ◌^◌};
+ghost use Rattle.std.specs.Prelude.{◌≡◌, ◌≤◌, ◌^◌, []};
 
 use crate::store::making::make_calls;
-use mc_store::{Pass, StoreTable};
+use mc_store::{Pass, Root, StoreTable};
 use std::alloc::Global;
 use std::sync::Wait;
 use std::thread;
@@ -19,14 +19,33 @@ pub(crate) fn many<R: Threads + Wait + Sync>(
     requires few { calls ≤ 2 ^ 32 }
 {
     let (store, mut root) = StoreTable::new(alloc, 16)?;
-    let one = store.split(&mut root, 0)?;
-    let two = store.split(&mut root, 1)?;
-    let three = store.split(&mut root, 2)?;
-    let four = store.split(&mut root, 3)?;
+    let made = on_threads(rt, alloc, &store, &mut root, count, calls);
+    drop(root);
+    drop(store);
+    made
+}
+
+// The same, on this new store.
+fn on_threads<R: Threads + Wait + Sync>(
+    rt: &R,
+    alloc: Global,
+    store: &StoreTable,
+    root: &mut Root,
+    count: u64,
+    calls: u64,
+) -> Result<(), NoMemory>
+    requires table { root.old.table ≡ store.now.id }
+    requires fresh { root.old.given ≡ [] }
+    requires few { calls ≤ 2 ^ 32 }
+{
+    let one = store.split(root, 0)?;
+    let two = store.split(root, 1)?;
+    let three = store.split(root, 2)?;
+    let four = store.split(root, 3)?;
     match count {
-        1 => make_calls(rt, alloc, &store, one, calls),
-        2 => on_two(rt, alloc, &store, one, two, calls),
-        _ => on_four(rt, alloc, &store, (one, two), (three, four), calls),
+        1 => make_calls(rt, alloc, store, one, calls),
+        2 => on_two(rt, alloc, store, one, two, calls),
+        _ => on_four(rt, alloc, store, (one, two), (three, four), calls),
     }
     Ok(())
 }

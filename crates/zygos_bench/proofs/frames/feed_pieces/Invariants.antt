@@ -1,5 +1,5 @@
 use Rattle.std.proofs.Common.{◌≤◌, length}
-use Rattle.zygos_bench.proofs.frames.count_frames.Given as goal
+use Rattle.zygos_bench.proofs.frames.feed_pieces.Given as goal
 
 abbrev pub invariant-loop-left : goal.invariant-loop-left
 invariant-loop-left l = l.at ≤ length l.traffic

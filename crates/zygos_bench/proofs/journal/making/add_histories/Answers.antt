@@ -1,6 +1,6 @@
 use Rattle.std.proofs.Common.{◌∷◌, [], arith, length-append}
 use Rattle.zygos_bench.proofs.JournalLemmas.{histories_on}
-use Rattle.zygos_bench.proofs.journal.making.histories.Goals as goal
+use Rattle.zygos_bench.proofs.journal.making.add_histories.Goals as goal
 
 pub loop-shard-preserved : goal.loop-shard-preserved
 loop-shard-preserved c =

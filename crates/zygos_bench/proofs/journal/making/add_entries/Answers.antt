@@ -2,7 +2,7 @@ use Rattle.std.proofs.Common.{◌≡◌, ◌∷◌, ◌++◌, [], arith, ap, ◌
 use Rattle.zy_base.specs.Order.{last_stamp}
 use Rattle.zy_base.proofs.EntryLemmas.{AreAt-push, StampsRise-push, last_stamp-push}
 use Rattle.zygos_bench.proofs.JournalLemmas.{entries_on}
-use Rattle.zygos_bench.proofs.journal.making.history.Goals as goal
+use Rattle.zygos_bench.proofs.journal.making.add_entries.Goals as goal
 
 pub loop-i-preserved : goal.loop-i-preserved
 loop-i-preserved c =

@@ -2,7 +2,7 @@ use Rattle.std.proofs.Common.{◌+◌, ◌*◌, ◌≤◌}
 use Rattle.std.specs.List.{AllByRecursion}
 use Rattle.zy_base.specs.Order.{AreAt, StampsRise, last_stamp}
 use Rattle.zy_journal.specs.Journal.{IsEntry}
-use Rattle.zygos_bench.proofs.journal.making.history.Given as goal
+use Rattle.zygos_bench.proofs.journal.making.add_entries.Given as goal
 
 abbrev pub invariant-loop-i : goal.invariant-loop-i
 invariant-loop-i l = record {

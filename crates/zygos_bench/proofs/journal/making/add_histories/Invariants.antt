@@ -1,7 +1,7 @@
 use Rattle.std.proofs.Common.{◌≡◌, ℕ, length}
 use Rattle.std.specs.Prelude.{None}
 use Rattle.zy_base.specs.Order.{IsOrdered, history_of}
-use Rattle.zygos_bench.proofs.journal.making.histories.Given as goal
+use Rattle.zygos_bench.proofs.journal.making.add_histories.Given as goal
 
 abbrev pub invariant-loop-shard : goal.invariant-loop-shard
 invariant-loop-shard l = record {

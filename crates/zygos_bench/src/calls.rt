@@ -1,0 +1,63 @@
+//! Calls on a shard, with values of 100 bytes.
+use mc_shard::Shard;
+use std::alloc::Global;
+use zy_base::{Blob, Call, NoMemory, Tag, number_text};
+
+/// The value of each write.
+pub(crate) const VALUE: [u8; 100] = [b'v'; 100];
+
+/// A read of the key with these digits.
+pub(crate) fn get(alloc: Global, key: u64) -> Result<Call, NoMemory> {
+    match key_text(alloc, key) {
+        Ok(key) => Ok(Call::Get { key }),
+        Err(e) => Err(e),
+    }
+}
+
+/// A write.
+pub(crate) fn set(alloc: Global, key: u64) -> Result<Call, NoMemory> {
+    let key = key_text(alloc, key)?;
+    match Blob::copy_of(alloc, &VALUE) {
+        Ok(value) => Ok(Call::Set {
+            key,
+            flags: 0,
+            value,
+        }),
+        Err(e) => {
+            drop(key);
+            Err(e)
+        }
+    }
+}
+
+// The digits of a key.
+fn key_text(alloc: Global, number: u64) -> Result<Blob, NoMemory> {
+    let mut key = Blob::new(alloc);
+    match number_text(&mut key, number) {
+        Ok(()) => Ok(key),
+        Err(e) => {
+            drop(key);
+            Err(e)
+        }
+    }
+}
+
+/// Makes a call where the shard is young enough, and lets go of its entry.
+pub(crate) fn apply(shard: &mut Shard, index: u64, call: Call) -> Result<(), NoMemory> {
+    if shard.last() >= 1 << 60 || shard.history().len() >= 1 << 52 {
+        drop(call);
+        return Err(NoMemory);
+    }
+    let tag = Tag {
+        conn: 0,
+        index,
+        part: 0,
+    };
+    match shard.apply(tag, call, 0) {
+        Ok(entry) => {
+            drop(entry);
+            Ok(())
+        }
+        Err(e) => Err(e),
+    }
+}
