@@ -37,7 +37,7 @@ next_place : (at : ℕ) → at < 6 → (at == 5) ≡ false → at + 1 < 6
 next_place at within more = grind (arith, nat_tests)
 
 -- one letter more
-letters_on : (letters : List ℕ) (at byte : ℕ) → at < length letters → byte ≡ slice_index letters at → take at letters ++ byte ∷ [] ≡ take (at + 1) letters
+pub letters_on : (letters : List ℕ) (at byte : ℕ) → at < length letters → byte ≡ slice_index letters at → take at letters ++ byte ∷ [] ≡ take (at + 1) letters
 letters_on letters at byte within is = ap (λ (b : ℕ). take at letters ++ b ∷ []) is ∙ sym (take_more letters at 0 within)
 
 -- a byte leads on from the bytes before a part
