@@ -9,9 +9,14 @@ use Rattle.zy_capture.specs.declared.record.Record.{Record}
 use Rattle.zy_capture.specs.declared.capture_fault.CaptureFault.{CaptureFault}
 use Rattle.zy_capture.specs.declared.capture_fault.CaptureFault.TheVariants.{BadMagic, ConnCount, BadTag, ConnRange, SegmentLength, Truncated, Trailing, TooLong}
 use Rattle.zy_capture.specs.declared.due.Due.{Due}
-use Rattle.zy_capture.specs.declared.due.Due.TheVariants.{Letters, Digit, LineFeed, Count, Tag, Connection, Length, Payload, Closed, Nothing, Broken}
+use Rattle.zy_capture.specs.declared.due.Due.TheVariants.{Magic, Count, Tag, Connection, Length, Payload, Closed, Nothing, Broken}
 use Rattle.zy_capture.specs.Capture.{AreBytes, letters, magic, spelled, spelling, IsCapture, capture_limit, connection_limit, segment_limit}
-use Rattle.zy_capture.specs.Steps.{Progress, Step, start, goes, refuses, letter, digit, line_feed, tag, number, segment, taken, is_open, is_full, step}
+use Rattle.zy_capture.specs.Steps.{Progress, Step, start, refuses, after_magic, tag, number, segment, taken, is_open, is_full, step}
+use Rattle.zy_read.specs.declared.magic.MagicPart.{MagicPart}
+use Rattle.zy_read.specs.declared.magic.MagicPart.TheVariants.{Letters, Digit, LineFeed}
+use Rattle.zy_read.specs.declared.magic.MagicStep.{MagicStep}
+use Rattle.zy_read.specs.declared.magic.MagicStep.TheVariants.{Next, Whole, Wrong}
+use Rattle.zy_read.specs.Magic.{letter, digit, line_feed, magic_step}
 use Rattle.zy_read.specs.Format.{Reading, read_on, reading_of, verdict_on, fault_met}
 use Rattle.zy_read.specs.Standing.{StandsAs}
 use Rattle.zy_capture.specs.Verdict.{Verdict, read_from, ended, verdict, fault_in, is_good, captures}
@@ -85,10 +90,14 @@ number_text : (front field rest : List ℕ) (byte n : ℕ) → to_be_bytes w32 n
 number_text front field rest byte n is =
     append_assoc front field (byte ∷ rest) ∙ ap (λ (l : List ℕ). front ++ l) (sym (append_assoc field (byte ∷ []) rest) ∙ ap (λ (l : List ℕ). l ++ rest) (sym is))
 
-from_letters : (p : Progress) (before rest : List ℕ) (given : List Record) (byte : ℕ) (fault : CaptureFault) → Parts Letters p given before → Faults (before ++ byte ∷ rest) fault (letter p byte)
+-- the same of a step in the magic
+abbrev MagicFaults : Progress → List ℕ → CaptureFault → MagicStep → Type 0
+MagicFaults p text fault s = Faults text fault (after_magic p s)
+
+from_letters : (p : Progress) (before rest : List ℕ) (given : List Record) (byte : ℕ) (fault : CaptureFault) → Parts (Magic Letters) p given before → MagicFaults p (before ++ byte ∷ rest) fault (letter letters p.at byte)
 from_letters p before rest given byte fault parts =
-    chosen (Faults (before ++ byte ∷ rest) fault) (byte == slice_index letters p.at) _ _
-    (λ same. chosen (Faults (before ++ byte ∷ rest) fault) (p.at == 5) (goes p Digit) (goes p Letters) (λ last is. cc) (λ more is. cc))
+    chosen (MagicFaults p (before ++ byte ∷ rest) fault) (byte == slice_index letters p.at) _ Wrong
+    (λ same. chosen (MagicFaults p (before ++ byte ∷ rest) fault) (p.at == 5) (Next Digit) (Next Letters) (λ last is. cc) (λ more is. cc))
     (λ differs. told (before ++ byte ∷ rest) p (BadMagic p.at) fault (record {
       front = take p.at letters;
       byte = byte;
@@ -100,11 +109,11 @@ from_letters p before rest given byte fault parts =
       differs = differs_letter p.at byte parts.valid.0 differs;
     }))
 
-from_digit : (p : Progress) (before rest : List ℕ) (given : List Record) (byte : ℕ) (fault : CaptureFault) → Parts Digit p given before → Faults (before ++ byte ∷ rest) fault (digit p byte)
+from_digit : (p : Progress) (before rest : List ℕ) (given : List Record) (byte : ℕ) (fault : CaptureFault) → Parts (Magic Digit) p given before → MagicFaults p (before ++ byte ∷ rest) fault (digit byte)
 from_digit p before rest given byte fault parts =
-    chosen (Faults (before ++ byte ∷ rest) fault) (byte == 49) _ _
+    chosen (MagicFaults p (before ++ byte ∷ rest) fault) (byte == 49) (Next (LineFeed 1)) _
     (λ one is. cc)
-    (λ not_one. chosen (Faults (before ++ byte ∷ rest) fault) (byte == 50) _ _
+    (λ not_one. chosen (MagicFaults p (before ++ byte ∷ rest) fault) (byte == 50) (Next (LineFeed 2)) Wrong
     (λ two is. cc)
     (λ not_two. told (before ++ byte ∷ rest) p (BadMagic p.at) fault (record {
       front = letters;
@@ -117,9 +126,9 @@ from_digit p before rest given byte fault parts =
       differs = differs_digit byte not_one not_two;
     })))
 
-from_line_feed : (version : ℕ) (p : Progress) (before rest : List ℕ) (given : List Record) (byte : ℕ) (fault : CaptureFault) → Parts (LineFeed version) p given before → Faults (before ++ byte ∷ rest) fault (line_feed version p byte)
+from_line_feed : (version : ℕ) (p : Progress) (before rest : List ℕ) (given : List Record) (byte : ℕ) (fault : CaptureFault) → Parts (Magic (LineFeed version)) p given before → MagicFaults p (before ++ byte ∷ rest) fault (line_feed version byte)
 from_line_feed version p before rest given byte fault parts =
-    chosen (Faults (before ++ byte ∷ rest) fault) (byte == 10) _ _
+    chosen (MagicFaults p (before ++ byte ∷ rest) fault) (byte == 10) (Whole version) Wrong
     (λ same is. cc)
     (λ differs. told (before ++ byte ∷ rest) p (BadMagic p.at) fault (record {
       front = letters ++ (48 + version) ∷ [];
@@ -128,9 +137,14 @@ from_line_feed version p before rest given byte fault parts =
       whole = ap (λ (l : List ℕ). l ++ byte ∷ rest) parts.bytes;
       place = parts.count ∙ ap (λ (l : List ℕ). length l) parts.bytes;
       within = omega (arith, parts.count, ap (λ (l : List ℕ). length l) parts.bytes);
-      begins = begins_digit version parts.valid.0;
+      begins = begins_digit version parts.valid.1;
       differs = differs_line_feed version byte differs;
     }))
+
+from_magic : (part : MagicPart) (p : Progress) (before rest : List ℕ) (given : List Record) (byte : ℕ) (fault : CaptureFault) → Parts (Magic part) p given before → MagicFaults p (before ++ byte ∷ rest) fault (magic_step part letters p.at byte)
+from_magic Letters p before rest given byte fault parts = from_letters p before rest given byte fault parts
+from_magic Digit p before rest given byte fault parts = from_digit p before rest given byte fault parts
+from_magic (LineFeed version) p before rest given byte fault parts = from_line_feed version p before rest given byte fault parts
 
 from_count : (p : Progress) (before rest : List ℕ) (given : List Record) (byte : ℕ) (fault : CaptureFault) → byte < 256 → Parts Count p given before → Faults (before ++ byte ∷ rest) fault (number Count p byte)
 from_count p before rest given byte fault small parts =
@@ -276,9 +290,7 @@ from_end p before rest given byte fault parts =
 -- ---- the first fault
 
 from_taken : (due : Due) (p : Progress) (before rest : List ℕ) (given : List Record) (byte : ℕ) (fault : CaptureFault) → fault_in due ≡ None → byte < 256 → (is_open due ≡ true → p.at < capture_limit) → IsReadTo due p given before → Faults (before ++ byte ∷ rest) fault (taken due p byte)
-from_taken Letters p before rest given byte fault none small room read = from_letters p before rest given byte fault read
-from_taken Digit p before rest given byte fault none small room read = from_digit p before rest given byte fault read
-from_taken (LineFeed version) p before rest given byte fault none small room read = from_line_feed version p before rest given byte fault read
+from_taken (Magic part) p before rest given byte fault none small room read = from_magic part p before rest given byte fault read
 from_taken Count p before rest given byte fault none small room read = from_count p before rest given byte fault small read
 from_taken Tag p before rest given byte fault none small room read = from_tag p before rest given byte fault (room refl) read
 from_taken Connection p before rest given byte fault none small room read = from_connection p before rest given byte fault small (room refl) read
@@ -298,9 +310,7 @@ at_limit at full short = grind (arith, nat_tests)
 cut_there : (due : Due) (p : Progress) (given : List Record) (text : List ℕ) → p.due ≡ due → (is_open due && nat_le capture_limit p.at) ≡ true → IsReadTo due p given text → ended due p given ≡ Bad (Truncated capture_limit)
 cut_there Nothing p given text is full read = cc
 cut_there (Broken fault) p given text is full read = cc
-cut_there Letters p given text is full read = ap (λ (n : ℕ). Bad (Truncated n)) (at_limit p.at full read.short)
-cut_there Digit p given text is full read = ap (λ (n : ℕ). Bad (Truncated n)) (at_limit p.at full read.short)
-cut_there (LineFeed version) p given text is full read = ap (λ (n : ℕ). Bad (Truncated n)) (at_limit p.at full read.short)
+cut_there (Magic part) p given text is full read = ap (λ (n : ℕ). Bad (Truncated n)) (at_limit p.at full read.short)
 cut_there Count p given text is full read = ap (λ (n : ℕ). Bad (Truncated n)) (at_limit p.at full read.short)
 cut_there Tag p given text is full read = ap (λ (n : ℕ). Bad (Truncated n)) (at_limit p.at full read.short)
 cut_there Connection p given text is full read = ap (λ (n : ℕ). Bad (Truncated n)) (at_limit p.at full read.short)
@@ -357,9 +367,7 @@ cut_has : (due : Due) (p : Progress) (given : List Record) (text : List ℕ) (fa
 unfolding fault_met StandsAs
 cut_has Nothing p given text fault none read is stands ends = cc
 cut_has (Broken found) p given text fault none read is stands ends = cc
-cut_has Letters p given text fault none read is stands ends = cut_fault p given text fault read.count stands (rw is refl) (rw is refl) ends
-cut_has Digit p given text fault none read is stands ends = cut_fault p given text fault read.count stands (rw is refl) (rw is refl) ends
-cut_has (LineFeed version) p given text fault none read is stands ends = cut_fault p given text fault read.count stands (rw is refl) (rw is refl) ends
+cut_has (Magic part) p given text fault none read is stands ends = cut_fault p given text fault read.count stands (rw is refl) (rw is refl) ends
 cut_has Count p given text fault none read is stands ends = cut_fault p given text fault read.count stands (rw is refl) (rw is refl) ends
 cut_has Tag p given text fault none read is stands ends = cut_fault p given text fault read.count stands (rw is refl) (rw is refl) ends
 cut_has Connection p given text fault none read is stands ends = cut_fault p given text fault read.count stands (rw is refl) (rw is refl) ends
@@ -372,7 +380,7 @@ pub bad_has : (text : List ℕ) (fault : CaptureFault) → AreBytes text → ver
 unfolding verdict_on reading_of StandsAs
 bad_has text fault all bad =
     let r : Reading Progress Record = read_from start text in
-    let begun : Parts Letters start [] [] = record { bytes = refl; count = refl; short = omega arith; valid = (omega arith, refl) } in
+    let begun : Parts (Magic Letters) start [] [] = record { bytes = refl; count = refl; short = omega arith; valid = (omega arith, tt, refl) } in
     elim (fault_in r.last.due) as (λ (o : Option CaptureFault). fault_in r.last.due ≡ o → IsFault text fault) [
       | None ↦ λ none. cut_has r.last.due r.last r.given text fault none (read_whole start [] [] text all begun) refl refl bad
       | (Some found) ↦ λ met.

@@ -10,9 +10,12 @@ use Rattle.zy_capture.specs.declared.record.Record.{Record}
 use Rattle.zy_capture.specs.declared.capture_fault.CaptureFault.{CaptureFault}
 use Rattle.zy_capture.specs.declared.capture_fault.CaptureFault.TheVariants.{BadMagic, ConnCount, BadTag, ConnRange, SegmentLength, Truncated, Trailing, TooLong}
 use Rattle.zy_capture.specs.declared.due.Due.{Due}
-use Rattle.zy_capture.specs.declared.due.Due.TheVariants.{Letters, Digit, LineFeed, Count, Tag, Connection, Length, Closed, Nothing, Broken}
+use Rattle.zy_capture.specs.declared.due.Due.TheVariants.{Magic, Count, Tag, Connection, Length, Closed, Nothing, Broken}
 use Rattle.zy_capture.specs.Capture.{AreBytes, letters, magic, spelled, spelling, IsCapture, Spells, capture_limit, connection_limit, segment_limit}
-use Rattle.zy_capture.specs.Steps.{Progress, Step, start, goes, refuses, letter, digit, line_feed, tag, judged, is_open, step}
+use Rattle.zy_capture.specs.Steps.{Progress, Step, start, goes, refuses, after_magic, tag, judged, is_open, step}
+use Rattle.zy_read.specs.declared.magic.MagicPart.TheVariants.{Letters, Digit, LineFeed}
+use Rattle.zy_read.specs.Magic.{letter, digit, line_feed}
+use Rattle.zy_read.proofs.MagicLemmas.{letters_on}
 use Rattle.zy_read.specs.Format.{Reading, read_on, reading_of, verdict_on, fault_met}
 use Rattle.zy_read.specs.Standing.{StandsAs}
 use Rattle.zy_capture.specs.Verdict.{read_from, ended, verdict, fault_in, is_good, captures}
@@ -22,7 +25,7 @@ use Rattle.zy_capture.specs.Faults.{BeginsMagic, front_text, IsBadMagic, IsCount
 use Rattle.zy_capture.proofs.FaultWords.{IsCut, IsOverlong, IsFault}
 use Rattle.zy_read.proofs.Feeding.{fed_step, read_broken, lasts_by}
 use Rattle.zy_capture.specs.Lasting.{lasting}
-use Rattle.zy_capture.proofs.WholeLemmas.{letters_on, Parts, IsReadTo, read_whole}
+use Rattle.zy_capture.proofs.WholeLemmas.{Parts, IsReadTo, read_whole}
 use Rattle.zy_capture.proofs.SpelledLemmas.{at_place, goes_on, halfway, with_records, read_byte, read_number, read_records, read_magic, connection_read, count_read, spells_good}
 use Rattle.zy_capture.proofs.FaultLemmas.{begins_letters, begins_digit, bad_has}
 
@@ -46,7 +49,7 @@ bad_step p given before rest byte fault stands broken =
 
 -- the place after some letters
 abbrev letters_place : ℕ → Progress
-letters_place at = at_place Letters 0 0 at
+letters_place at = at_place (Magic Letters) 0 0 at
 
 letters_read : (at : ℕ) (more : List ℕ) → at < 6 → read_from start (take at letters ++ more) ≡ read_from (letters_place at) more
 unfolding read_on
@@ -160,41 +163,41 @@ segment_length_bad text at number has =
 letters_bad : (at byte : ℕ) (rest : List ℕ) → at < 6 → (BeginsMagic (take at letters ++ byte ∷ []) → ⊥) → verdict (take at letters ++ byte ∷ rest) ≡ Bad (BadMagic at)
 letters_bad at byte rest within differs =
     let p : Progress = letters_place at in
-    let other : byte ≡ slice_index letters at → ⊥ = λ same. differs (subst BeginsMagic (sym (letters_on at byte within same)) (begins_letters (at + 1))) in
+    let other : byte ≡ slice_index letters at → ⊥ = λ same. differs (subst BeginsMagic (sym (letters_on letters at byte within same)) (begins_letters (at + 1))) in
     let test : (byte == slice_index letters at) ≡ false = grind (arith, nat_tests) in
-    let refusal : letter p byte ≡ refuses p (BadMagic at) = rw test refl in
+    let refusal : after_magic p (letter letters at byte) ≡ refuses p (BadMagic at) = rw test refl in
     bad_by (take at letters ++ byte ∷ rest) (goes_on (refuses p (BadMagic at)) rest) (BadMagic at)
     (letters_read at (byte ∷ rest) within ∙ read_byte p byte rest (omega (arith, within)) ∙ ap (λ (k : Step). goes_on k rest) refusal)
     (refused p (BadMagic at) rest)
 
-digit_read : (more : List ℕ) → read_from start (letters ++ more) ≡ read_from (at_place Digit 0 0 6) more
+digit_read : (more : List ℕ) → read_from start (letters ++ more) ≡ read_from (at_place (Magic Digit) 0 0 6) more
 unfolding read_on
 digit_read more = refl
 
 digit_bad : (byte : ℕ) (rest : List ℕ) → (BeginsMagic (letters ++ byte ∷ []) → ⊥) → verdict (letters ++ byte ∷ rest) ≡ Bad (BadMagic 6)
 digit_bad byte rest differs =
-    let p : Progress = at_place Digit 0 0 6 in
+    let p : Progress = at_place (Magic Digit) 0 0 6 in
     let not_one : byte ≡ 49 → ⊥ = λ same. differs (subst (λ (b : ℕ). BeginsMagic (letters ++ b ∷ [])) (sym same) (begins_digit 1 (inl refl))) in
     let not_two : byte ≡ 50 → ⊥ = λ same. differs (subst (λ (b : ℕ). BeginsMagic (letters ++ b ∷ [])) (sym same) (begins_digit 2 (inr refl))) in
     let one : (byte == 49) ≡ false = grind (arith, nat_tests) in
     let two : (byte == 50) ≡ false = grind (arith, nat_tests) in
-    let refusal : digit p byte ≡ refuses p (BadMagic 6) = rw (one, two) refl in
+    let refusal : after_magic p (digit byte) ≡ refuses p (BadMagic 6) = rw (one, two) refl in
     bad_by (letters ++ byte ∷ rest) (goes_on (refuses p (BadMagic 6)) rest) (BadMagic 6)
     (digit_read (byte ∷ rest) ∙ read_byte p byte rest (omega arith) ∙ ap (λ (k : Step). goes_on k rest) refusal)
     (refused p (BadMagic 6) rest)
 
-line_read : (version : ℕ) (more : List ℕ) → (version ≡ 1) ⊎ (version ≡ 2) → read_from start ((letters ++ (48 + version) ∷ []) ++ more) ≡ read_from (at_place (LineFeed version) 0 0 7) more
+line_read : (version : ℕ) (more : List ℕ) → (version ≡ 1) ⊎ (version ≡ 2) → read_from start ((letters ++ (48 + version) ∷ []) ++ more) ≡ read_from (at_place (Magic (LineFeed version)) 0 0 7) more
 unfolding read_on
 line_read version more (inl one) = rw one refl
 line_read version more (inr two) = rw two refl
 
 line_bad : (version byte : ℕ) (rest : List ℕ) → (version ≡ 1) ⊎ (version ≡ 2) → (BeginsMagic ((letters ++ (48 + version) ∷ []) ++ byte ∷ []) → ⊥) → verdict ((letters ++ (48 + version) ∷ []) ++ byte ∷ rest) ≡ Bad (BadMagic 7)
 line_bad version byte rest known differs =
-    let p : Progress = at_place (LineFeed version) 0 0 7 in
+    let p : Progress = at_place (Magic (LineFeed version)) 0 0 7 in
     let whole : BeginsMagic ((letters ++ (48 + version) ∷ []) ++ 10 ∷ []) = record { version = version; rest = []; known = known; whole = refl } in
     let other : byte ≡ 10 → ⊥ = λ same. differs (subst (λ (b : ℕ). BeginsMagic ((letters ++ (48 + version) ∷ []) ++ b ∷ [])) (sym same) whole) in
     let test : (byte == 10) ≡ false = grind (arith, nat_tests) in
-    let refusal : line_feed version p byte ≡ refuses p (BadMagic 7) = rw test refl in
+    let refusal : after_magic p (line_feed version byte) ≡ refuses p (BadMagic 7) = rw test refl in
     bad_by ((letters ++ (48 + version) ∷ []) ++ byte ∷ rest) (goes_on (refuses p (BadMagic 7)) rest) (BadMagic 7)
     (line_read version (byte ∷ rest) known ∙ read_byte p byte rest (omega arith) ∙ ap (λ (k : Step). goes_on k rest) refusal)
     (refused p (BadMagic 7) rest)
@@ -248,8 +251,8 @@ open_counts Nothing p given text is read = cc
 open_counts (Broken fault) p given text is read = cc
 open_counts due p given text is read = read.count
 
-pub begun : Parts Letters start [] []
-begun = record { bytes = refl; count = refl; short = omega arith; valid = (omega arith, refl) }
+pub begun : Parts (Magic Letters) start [] []
+begun = record { bytes = refl; count = refl; short = omega arith; valid = (omega arith, tt, refl) }
 
 trailing_bad : (text : List ℕ) (at : ℕ) → AreBytes text → IsTrailing text at → verdict text ≡ Bad (Trailing at)
 unfolding verdict_on reading_of StandsAs

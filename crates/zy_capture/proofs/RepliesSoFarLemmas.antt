@@ -6,7 +6,7 @@ use Rattle.zy_read.specs.Standing.{StandsAs}
 use Rattle.zy_read.proofs.Feeding.{given_here}
 use Rattle.zy_capture.specs.declared.session_bytes.SessionBytes.{SessionBytes}
 use Rattle.zy_capture.specs.declared.replies_due.RepliesDue.{RepliesDue}
-use Rattle.zy_capture.specs.declared.replies_due.RepliesDue.TheVariants.{Letters, Digit, LineFeed, Tag, Connection, Session, Length, Output, Nothing, Broken}
+use Rattle.zy_capture.specs.declared.replies_due.RepliesDue.TheVariants.{Magic, Tag, Connection, Session, Length, Output, Nothing, Broken}
 use Rattle.zy_capture.specs.Capture.{AreBytes}
 use Rattle.zy_capture.specs.RepliesSteps.{Progress, start}
 use Rattle.zy_capture.specs.RepliesVerdict.{replies, read_from, verdict, ended, fault_in, fault_of, version_in, version_of, outputs_of}
@@ -49,9 +49,7 @@ made p given text stands keeps = record {
 }
 
 so_far : (due : RepliesDue) (p : Progress) (given : List SessionBytes) (text : List ℕ) → StandsForReplies p given text → fault_in due ≡ None → given ≢ [] → IsReadTo due p given text → IsRepliesSoFar text
-so_far Letters p given text stands none some read = absurd (some read.valid.0.none)
-so_far Digit p given text stands none some read = absurd (some read.valid.none)
-so_far (LineFeed version) p given text stands none some read = absurd (some read.valid.0.none)
+so_far (Magic part) p given text stands none some read = absurd (some read.valid.0.none)
 so_far Tag p given text stands none some read = made p given text stands read.valid
 so_far Connection p given text stands none some read = made p given text stands read.valid.0
 so_far (Session conn) p given text stands none some read = made p given text stands read.valid.0
@@ -65,4 +63,4 @@ pub outputs_so_far : (text : List ℕ) → AreBytes text → fault_of text ≡ N
 unfolding fault_met given_by reading_of StandsAs
 outputs_so_far text all none some =
     let r : Reading Progress SessionBytes = read_from start text in
-    so_far r.last.due r.last r.given text refl none some (read_whole start [] [] text all (record { bytes = refl; count = refl; short = omega arith; valid = (record { none = refl; no_connection = refl; no_session = refl }, omega arith) }))
+    so_far r.last.due r.last r.given text refl none some (read_whole start [] [] text all (record { bytes = refl; count = refl; short = omega arith; valid = (record { none = refl; no_connection = refl; no_session = refl }, omega arith, tt) }))

@@ -1,19 +1,23 @@
 -- A replies text without a fault is the bytes that spell what was read of it.
-use Rattle.std.proofs.Common.{◌≡◌, ◌⊎◌, inl, inr, ℕ, ◌+◌, ◌<◌, ◌≤◌, ◌^◌, Bool, true, false, List, [], ◌∷◌, ◌++◌, length, take, refl, sym, ◌∙◌, ap, subst, arith, append_assoc, length-append}
+use Rattle.std.proofs.Common.{◌≡◌, ◌⊎◌, inl, inr, ℕ, ◌+◌, ◌<◌, ◌≤◌, ◌^◌, Bool, true, false, List, [], ◌∷◌, ◌++◌, length, refl, sym, ◌∙◌, ap, subst, arith, append_assoc, length-append}
 use Rattle.std.specs.Prelude.{◌==◌, ◌&&◌, ◌||◌, nat_lt, nat_le, if◌then◌else◌, option_to_list, flat_map, ⊤}
-use Rattle.std.specs.List.{slice_index}
 use Rattle.std.specs.Int.{to_be_bytes, from_be_bytes, w32, w64}
 use Rattle.std.proofs.lemmas.List.{append-nil}
 use Rattle.std.proofs.lemmas.Bool.{eqb-true, eq-eqb, ltb-false, ltb-true}
 use Rattle.std.proofs.lemmas.Bool.Decides.{nat_tests}
 use Rattle.std.proofs.lemmas.Nat.{be_bytes_4, be_bytes_8}
-use Rattle.std.proofs.lemmas.Grind.{common_steps, flat_map-append}
+use Rattle.std.proofs.lemmas.Grind.{flat_map-append}
 use Rattle.zy_capture.specs.declared.session_bytes.SessionBytes.{SessionBytes}
 use Rattle.zy_capture.specs.declared.replies_due.RepliesDue.{RepliesDue}
-use Rattle.zy_capture.specs.declared.replies_due.RepliesDue.TheVariants.{Letters, Digit, LineFeed, Tag, Connection, Session, Length, Output, Nothing, Broken}
+use Rattle.zy_capture.specs.declared.replies_due.RepliesDue.TheVariants.{Magic, Tag, Connection, Session, Length, Output, Nothing, Broken}
 use Rattle.zy_capture.specs.Capture.{AreBytes, connection_limit}
 use Rattle.zy_capture.specs.Replies.{letters, magic, session_text, spelled, spelling, IsNext, AreNumbers, AreInOrder, SpellsReplies, replies_limit}
-use Rattle.zy_capture.specs.RepliesSteps.{Progress, Step, start, goes, gives, keeps, grows, letter, digit, line_feed, tag, may_come, due_session, connection, session, size_read, four, eight, output, taken, is_open, is_full, step}
+use Rattle.zy_capture.specs.RepliesSteps.{Progress, Step, start, goes, gives, keeps, grows, after_magic, tag, may_come, due_session, connection, session, size_read, four, eight, output, taken, is_open, is_full, step}
+use Rattle.zy_read.specs.declared.magic.MagicPart.{MagicPart}
+use Rattle.zy_read.specs.declared.magic.MagicStep.{MagicStep}
+use Rattle.zy_read.specs.declared.magic.MagicStep.TheVariants.{Next, Whole, Wrong}
+use Rattle.zy_read.specs.Magic.{magic_step, IsInMagic, magic_before}
+use Rattle.zy_read.proofs.MagicLemmas.{IsVersion, IsKnown, LeadsTo, leads}
 use Rattle.zy_read.specs.Format.{Reading, read_on, reading_of, verdict_on}
 use Rattle.zy_capture.specs.RepliesVerdict.{read_from, ended, verdict}
 use Rattle.zy_capture.specs.RepliesVerdict.Verdict.{Good}
@@ -37,9 +41,7 @@ front p given = magic p.version ++ flat_map (spelled p.version) given
 
 -- the bytes that lead to where this is due
 abbrev pub bytes_of : RepliesDue → Progress → List SessionBytes → List ℕ
-bytes_of Letters p given = take p.at letters
-bytes_of Digit p given = letters
-bytes_of (LineFeed version) p given = letters ++ (48 + version) ∷ []
+bytes_of (Magic part) p given = magic_before part letters p.at
 bytes_of Tag p given = front p given
 bytes_of Connection p given = front p given ++ 82 ∷ p.field
 bytes_of (Session conn) p given = front p given ++ 82 ∷ (to_be_bytes w32 conn ++ p.field)
@@ -48,10 +50,6 @@ bytes_of (Output conn number size) p given =
     front p given ++ 82 ∷ (to_be_bytes w32 conn ++ (session_text p.version number ++ (to_be_bytes w64 size ++ p.payload)))
 bytes_of Nothing p given = front p given ++ 69 ∷ []
 bytes_of (Broken fault) p given = []
-
--- a version is 1 or 2
-abbrev pub IsVersion : ℕ → Type 0
-IsVersion version = (version ≡ 1) ⊎ (version ≡ 2)
 
 -- some bytes of a number
 abbrev pub IsField : ℕ → List ℕ → Type 0
@@ -80,9 +78,7 @@ IsDue p conn number = IsNext p.version p.connections p.sessions conn number × A
 
 -- what holds where this is due
 abbrev pub IsSoFar : RepliesDue → Progress → List SessionBytes → Type 0
-IsSoFar Letters p given = IsFirst p given × (p.at < 6)
-IsSoFar Digit p given = IsFirst p given
-IsSoFar (LineFeed version) p given = IsFirst p given × IsVersion version
+IsSoFar (Magic part) p given = IsFirst p given × IsInMagic part p.at × IsKnown part
 IsSoFar Tag p given = Keeps p given
 IsSoFar Connection p given = Keeps p given × IsField 3 p.field
 IsSoFar (Session conn) p given = Keeps p given × IsField 3 p.field × MayCome p conn × (p.version ≡ 2)
@@ -104,9 +100,6 @@ IsReadTo (Broken fault) p given text = ⊤
 IsReadTo due p given text = Parts due p given text
 
 -- ---- tests
-
-not_last : (at : ℕ) → at < 6 → (at == 5) ≡ false → at + 1 < 6
-not_last at within more = grind (arith, nat_tests)
 
 -- either of two tests
 either : (x y : Bool) → (x || y) ≡ true → (x ≡ true) ⊎ (y ≡ true)
@@ -160,9 +153,6 @@ Leads given text byte s = IsReadTo s.next.due s.next (given ++ option_to_list s.
 stays : (due : RepliesDue) (p : Progress) (given : List SessionBytes) (text : List ℕ) → IsReadTo due p given text → IsReadTo due p (given ++ []) text
 stays due p given text read = subst (λ (l : List SessionBytes). IsReadTo due p l text) (sym (append-nil given)) read
 
-letters_on : (at byte : ℕ) → at < 6 → byte ≡ slice_index letters at → take at letters ++ byte ∷ [] ≡ take (at + 1) letters
-letters_on at byte within is = grind (arith, common_steps)
-
 -- one output more
 front_on : (p : Progress) (given : List SessionBytes) (item : SessionBytes) → front p given ++ spelled p.version item ≡ front p (given ++ item ∷ [])
 front_on p given item =
@@ -213,37 +203,26 @@ eight_is field byte is small long =
 
 -- ---- the magic
 
-from_letters : (p : Progress) (given : List SessionBytes) (text : List ℕ) (byte : ℕ) → p.at < replies_limit → Parts Letters p given text → Leads given text byte (letter p byte)
-from_letters p given text byte room parts =
-    chosen (Leads given text byte) (byte == slice_index letters p.at) _ _
-    (λ same.
-    let grown : text ++ byte ∷ [] ≡ take (p.at + 1) letters = ap (λ (l : List ℕ). l ++ byte ∷ []) parts.bytes ∙ letters_on p.at byte parts.valid.1 (eqb-true byte (slice_index letters p.at) same) in
-    let first : IsFirst (goes p Digit).next given = record { none = parts.valid.0.none; no_connection = parts.valid.0.no_connection; no_session = parts.valid.0.no_session } in
-    chosen (Leads given text byte) (p.at == 5) (goes p Digit) (goes p Letters)
-    (λ last. stays Digit (goes p Digit).next given (text ++ byte ∷ []) (record { bytes = grown ∙ ap (λ (n : ℕ). take (n + 1) letters) (eqb-true p.at 5 last); count = counted text p.at byte parts.count; short = omega arith; valid = first }))
-    (λ more. stays Letters (goes p Letters).next given (text ++ byte ∷ []) (record { bytes = grown; count = counted text p.at byte parts.count; short = omega arith; valid = (record { none = first.none; no_connection = first.no_connection; no_session = first.no_session }, not_last p.at parts.valid.1 more) })))
-    (λ differs. tt)
-
-from_digit : (p : Progress) (given : List SessionBytes) (text : List ℕ) (byte : ℕ) → p.at < replies_limit → Parts Digit p given text → Leads given text byte (digit p byte)
-from_digit p given text byte room parts =
-    let grown : text ++ byte ∷ [] ≡ letters ++ byte ∷ [] = ap (λ (l : List ℕ). l ++ byte ∷ []) parts.bytes in
-    chosen (Leads given text byte) (byte == 49) _ _
-    (λ one. stays (LineFeed 1) (goes p (LineFeed 1)).next given (text ++ byte ∷ []) (record { bytes = grown ∙ ap (λ (b : ℕ). letters ++ b ∷ []) (eqb-true byte 49 one); count = counted text p.at byte parts.count; short = omega arith; valid = (record { none = parts.valid.none; no_connection = parts.valid.no_connection; no_session = parts.valid.no_session }, inl refl) }))
-    (λ other. chosen (Leads given text byte) (byte == 50) _ _
-    (λ two. stays (LineFeed 2) (goes p (LineFeed 2)).next given (text ++ byte ∷ []) (record { bytes = grown ∙ ap (λ (b : ℕ). letters ++ b ∷ []) (eqb-true byte 50 two); count = counted text p.at byte parts.count; short = omega arith; valid = (record { none = parts.valid.none; no_connection = parts.valid.no_connection; no_session = parts.valid.no_session }, inr refl) }))
-    (λ differs. tt))
-
-from_line_feed : (version : ℕ) (p : Progress) (given : List SessionBytes) (text : List ℕ) (byte : ℕ) → p.at < replies_limit → Parts (LineFeed version) p given text → Leads given text byte (line_feed version p byte)
-from_line_feed version p given text byte room parts =
+-- the bytes of the magic up to a step
+magic_leads : (p : Progress) (given : List SessionBytes) (text : List ℕ) (byte : ℕ) (s : MagicStep) → p.at < replies_limit → p.at ≡ length text → IsFirst p given → LeadsTo letters (p.at + 1) (text ++ byte ∷ []) s → Leads given text byte (after_magic p s)
+magic_leads p given text byte (Next part) room place first on =
+    let none : IsFirst (goes p (Magic part)).next given = record { none = first.none; no_connection = first.no_connection; no_session = first.no_session } in
+    stays (Magic part) (goes p (Magic part)).next given (text ++ byte ∷ []) (record { bytes = on.2; count = counted text p.at byte place; short = omega arith; valid = (none, on.0, on.1) })
+magic_leads p given text byte (Whole version) room place first on =
     let next : Progress = (goes (record p { version = version }) Tag).next in
-    chosen (Leads given text byte) (byte == 10) _ _
-    (λ same. stays Tag next given (text ++ byte ∷ []) (subst (λ (l : List SessionBytes). IsReadTo Tag next l (text ++ byte ∷ [])) (sym parts.valid.0.none) (record {
-      bytes = ap (λ (l : List ℕ). l ++ byte ∷ []) parts.bytes ∙ ap (λ (b : ℕ). (letters ++ (48 + version) ∷ []) ++ b ∷ []) (eqb-true byte 10 same) ∙ sym (append-nil (magic version));
-      count = counted text p.at byte parts.count;
+    stays Tag next given (text ++ byte ∷ []) (subst (λ (l : List SessionBytes). IsReadTo Tag next l (text ++ byte ∷ [])) (sym first.none) (record {
+      bytes = on.1 ∙ sym (append-nil (magic version));
+      count = counted text p.at byte place;
       short = omega arith;
-      valid = record { known = parts.valid.1; ordered = tt; connections_are = parts.valid.0.no_connection; sessions_are = parts.valid.0.no_session };
-    })))
-    (λ differs. tt)
+      valid = record { known = on.0; ordered = tt; connections_are = first.no_connection; sessions_are = first.no_session };
+    }))
+magic_leads p given text byte Wrong room place first on = tt
+
+from_magic : (part : MagicPart) (p : Progress) (given : List SessionBytes) (text : List ℕ) (byte : ℕ) → p.at < replies_limit → Parts (Magic part) p given text → Leads given text byte (after_magic p (magic_step part letters p.at byte))
+from_magic part p given text byte room parts =
+    let s : MagicStep = magic_step part letters p.at byte in
+    magic_leads p given text byte s room parts.count parts.valid.0
+    (subst (λ (l : List ℕ). LeadsTo letters (p.at + 1) (l ++ byte ∷ []) s) (sym parts.bytes) (leads part letters p.at byte refl parts.valid.1 parts.valid.2))
 
 -- ---- records
 
@@ -360,9 +339,7 @@ from_output conn number size p given text byte room parts =
 
 -- a byte, where there is room
 from_taken : (due : RepliesDue) (p : Progress) (given : List SessionBytes) (text : List ℕ) (byte : ℕ) → p.due ≡ due → byte < 256 → (is_open due ≡ true → p.at < replies_limit) → IsReadTo due p given text → Leads given text byte (taken due p byte)
-from_taken Letters p given text byte is small room read = from_letters p given text byte (room refl) read
-from_taken Digit p given text byte is small room read = from_digit p given text byte (room refl) read
-from_taken (LineFeed version) p given text byte is small room read = from_line_feed version p given text byte (room refl) read
+from_taken (Magic part) p given text byte is small room read = from_magic part p given text byte (room refl) read
 from_taken Tag p given text byte is small room read = from_tag p given text byte (room refl) read
 from_taken Connection p given text byte is small room read = from_connection p given text byte small (room refl) read
 from_taken (Session conn) p given text byte is small room read = from_session conn p given text byte small (room refl) read
@@ -412,4 +389,4 @@ unfolding verdict_on reading_of
 good_spells text version items all good =
     let r : Reading Progress SessionBytes = read_from start text in
     let first : IsFirst start [] = record { none = refl; no_connection = refl; no_session = refl } in
-    spells r.last.due r.last r.given text version items (read_whole start [] [] text all (record { bytes = refl; count = refl; short = omega arith; valid = (first, omega arith) })) good
+    spells r.last.due r.last r.given text version items (read_whole start [] [] text all (record { bytes = refl; count = refl; short = omega arith; valid = (first, omega arith, tt) })) good

@@ -8,7 +8,7 @@ use Rattle.zy_read.specs.Standing.{StandsAs}
 use Rattle.zy_capture.specs.declared.record.Record.{Record}
 use Rattle.zy_capture.specs.declared.record.Record.TheVariants as Kinds
 use Rattle.zy_capture.specs.declared.due.Due.{Due}
-use Rattle.zy_capture.specs.declared.due.Due.TheVariants.{Letters, Digit, LineFeed, Count, Tag, Connection, Length, Payload, Closed, Nothing, Broken}
+use Rattle.zy_capture.specs.declared.due.Due.TheVariants.{Magic, Count, Tag, Connection, Length, Payload, Closed, Nothing, Broken}
 use Rattle.zy_capture.specs.Capture.{AreBytes, IsCapture, magic, spelled, capture_limit}
 use Rattle.zy_capture.specs.Steps.{Progress, start}
 use Rattle.zy_capture.specs.Streams.{closes}
@@ -83,9 +83,7 @@ made due p given tail text is counts stands valid bytes place short =
     }
 
 so_far : (due : Due) (p : Progress) (given : List Record) (text : List ℕ) → p.due ≡ due → StandsFor p given text → fault_in due ≡ None → given ≢ [] → IsReadTo due p given text → IsCaptureSoFar text
-so_far Letters p given text is stands none some read = absurd (some read.valid.1)
-so_far Digit p given text is stands none some read = absurd (some read.valid)
-so_far (LineFeed version) p given text is stands none some read = absurd (some read.valid.1)
+so_far (Magic part) p given text is stands none some read = absurd (some read.valid.2)
 so_far Count p given text is stands none some read = absurd (some read.valid.1)
 so_far Tag p given text is stands none some read = made Tag p given [] text is refl stands read.valid (read.bytes ∙ sym (append-nil (front p given))) read.count read.short
 so_far Connection p given text is stands none some read = made Connection p given (83 ∷ p.field) text is refl stands read.valid.0 read.bytes read.count read.short
@@ -100,4 +98,4 @@ pub records_so_far : (text : List ℕ) → AreBytes text → fault_of text ≡ N
 unfolding fault_met given_by reading_of StandsAs
 records_so_far text all none some =
     let r : Reading Progress Record = read_from start text in
-    so_far r.last.due r.last r.given text refl refl none some (read_whole start [] [] text all (record { bytes = refl; count = refl; short = omega arith; valid = (omega arith, refl) }))
+    so_far r.last.due r.last r.given text refl refl none some (read_whole start [] [] text all (record { bytes = refl; count = refl; short = omega arith; valid = (omega arith, tt, refl) }))

@@ -5,36 +5,36 @@ use Rattle.std.specs.List.{slice_index}
 use Rattle.std.specs.Int.{to_be_bytes, from_be_bytes, w32}
 use Rattle.std.proofs.lemmas.Bool.{eqb-true}
 use Rattle.std.proofs.lemmas.Bool.Decides.{nat_tests}
+use Rattle.zy_read.specs.declared.magic.MagicPart.TheVariants.{Letters, Digit, LineFeed}
+use Rattle.zy_read.specs.declared.magic.MagicStep.{MagicStep}
+use Rattle.zy_read.specs.declared.magic.MagicStep.TheVariants.{Next, Whole, Wrong}
+use Rattle.zy_read.specs.Magic.{letter, digit, line_feed}
+use Rattle.zy_read.proofs.MagicLemmas.{letters_on}
 use Rattle.zy_read.specs.Format.{Reading, read_on, reading_of}
 use Rattle.zy_read.proofs.Feeding.{read_broken}
 use Rattle.zy_capture.specs.declared.record.Record.{Record}
 use Rattle.zy_capture.specs.declared.capture_fault.CaptureFault.{CaptureFault}
 use Rattle.zy_capture.specs.declared.capture_fault.CaptureFault.TheVariants.{BadMagic, ConnCount}
 use Rattle.zy_capture.specs.declared.due.Due.{Due}
-use Rattle.zy_capture.specs.declared.due.Due.TheVariants.{Letters, Digit, LineFeed, Count, Tag, Connection, Length, Payload, Closed, Nothing, Broken}
+use Rattle.zy_capture.specs.declared.due.Due.TheVariants.{Magic, Count, Tag, Connection, Length, Payload, Closed, Nothing, Broken}
 use Rattle.zy_capture.specs.Capture.{letters, connection_limit, segment_limit}
-use Rattle.zy_capture.specs.Steps.{Progress, Step, start, goes, refuses, letter, digit, line_feed, taken, is_full, step}
+use Rattle.zy_capture.specs.Steps.{Progress, Step, start, goes, refuses, after_magic, taken, is_full, step}
 use Rattle.zy_capture.specs.Verdict.{captures, read_from, version_in, version_of, count_in, count_of}
 use Rattle.zy_capture.specs.SoFar.{BeginsWithMagic, BeginsWithCount}
 use Rattle.zy_capture.proofs.ByteLemmas.{chosen}
 use Rattle.zy_capture.specs.Lasting.{lasting}
-use Rattle.zy_capture.proofs.WholeLemmas.{letters_on}
 use Rattle.zy_capture.proofs.SpelledLemmas.{at_place, goes_on, halfway, read_byte, read_number, read_magic, count_read}
 
 -- ---- what stays
 
 -- the version was read where this is due
 abbrev IsPast : Due → Type 0
-IsPast Letters = ⊥
-IsPast Digit = ⊥
-IsPast (LineFeed version) = ⊥
+IsPast (Magic part) = ⊥
 IsPast due = ⊤
 
 -- the count was read where this is due
-abbrev IsPastCount : Due → Type 0
-IsPastCount Letters = ⊥
-IsPastCount Digit = ⊥
-IsPastCount (LineFeed version) = ⊥
+abbrev pub IsPastCount : Due → Type 0
+IsPastCount (Magic part) = ⊥
 IsPastCount Count = ⊥
 IsPastCount (Broken (BadMagic at)) = ⊥
 IsPastCount (Broken (ConnCount number)) = ⊥
@@ -48,67 +48,58 @@ KeepsVersion p s = (s.next.version ≡ p.version) × IsPast s.next.due
 abbrev KeepsCount : Progress → Step → Type 0
 KeepsCount p s = (s.next.count ≡ p.count) × IsPastCount s.next.due
 
-version_taken : (due : Due) (p : Progress) (byte : ℕ) → p.due ≡ due → IsPast due → KeepsVersion p (taken due p byte)
-version_taken Letters p byte is past = absurd past
-version_taken Digit p byte is past = absurd past
-version_taken (LineFeed version) p byte is past = absurd past
-version_taken Count p byte is past =
-    let n : ℕ = from_be_bytes w32 (p.field ++ byte ∷ []) in
-    chosen (KeepsVersion p) (nat_lt (length p.field) 3) _ _ (λ short. (refl, tt)) (λ long. chosen (KeepsVersion p) (nat_lt connection_limit n) _ _ (λ over. (refl, tt)) (λ few. (refl, tt)))
-version_taken Tag p byte is past =
-    chosen (KeepsVersion p) (byte == 83) _ _ (λ one. (refl, tt)) (λ not_one. chosen (KeepsVersion p) (byte == 69) _ _ (λ two. (refl, tt)) (λ not_two. chosen (KeepsVersion p) (byte == 67 && p.version == 2) _ _ (λ three. (refl, tt)) (λ none. (refl, tt))))
-version_taken Connection p byte is past =
-    let n : ℕ = from_be_bytes w32 (p.field ++ byte ∷ []) in
-    chosen (KeepsVersion p) (nat_lt (length p.field) 3) _ _ (λ short. (refl, tt)) (λ long. chosen (KeepsVersion p) (nat_lt n p.count) _ _ (λ below. (refl, tt)) (λ over. (refl, tt)))
-version_taken (Length conn) p byte is past =
-    let n : ℕ = from_be_bytes w32 (p.field ++ byte ∷ []) in
-    chosen (KeepsVersion p) (nat_lt (length p.field) 3) _ _ (λ short. (refl, tt)) (λ long. chosen (KeepsVersion p) (nat_lt segment_limit n) _ _ (λ over. (refl, tt)) (λ few. chosen (KeepsVersion p) (n == 0) _ _ (λ empty. (refl, tt)) (λ some. (refl, tt))))
-version_taken (Payload conn size) p byte is past = chosen (KeepsVersion p) (nat_lt (length p.payload + 1) size) _ _ (λ short. (refl, tt)) (λ long. (refl, tt))
-version_taken Closed p byte is past =
-    let n : ℕ = from_be_bytes w32 (p.field ++ byte ∷ []) in
-    chosen (KeepsVersion p) (nat_lt (length p.field) 3) _ _ (λ short. (refl, tt)) (λ long. chosen (KeepsVersion p) (nat_lt n p.count) _ _ (λ below. (refl, tt)) (λ over. (refl, tt)))
-version_taken Nothing p byte is past = (refl, tt)
-version_taken (Broken fault) p byte is past = (refl, subst IsPast (sym is) tt)
+-- a step leaves the version, and the count once it was read
+abbrev Keeps : Due → Progress → Step → Type 0
+Keeps due p s = KeepsVersion p s × (IsPastCount due → KeepsCount p s)
 
-count_taken : (due : Due) (p : Progress) (byte : ℕ) → p.due ≡ due → IsPastCount due → KeepsCount p (taken due p byte)
-count_taken Letters p byte is past = absurd past
-count_taken Digit p byte is past = absurd past
-count_taken (LineFeed version) p byte is past = absurd past
-count_taken Count p byte is past = absurd past
-count_taken Tag p byte is past =
-    chosen (KeepsCount p) (byte == 83) _ _ (λ one. (refl, tt)) (λ not_one. chosen (KeepsCount p) (byte == 69) _ _ (λ two. (refl, tt)) (λ not_two. chosen (KeepsCount p) (byte == 67 && p.version == 2) _ _ (λ three. (refl, tt)) (λ none. (refl, tt))))
-count_taken Connection p byte is past =
+past_both : (due : Due) → IsPastCount due → IsPast due
+past_both (Magic part) past = absurd past
+past_both due past = tt
+
+taken_keeps : (due : Due) (p : Progress) (byte : ℕ) → p.due ≡ due → IsPast due → Keeps due p (taken due p byte)
+taken_keeps (Magic part) p byte is past = absurd past
+taken_keeps Count p byte is past =
     let n : ℕ = from_be_bytes w32 (p.field ++ byte ∷ []) in
-    chosen (KeepsCount p) (nat_lt (length p.field) 3) _ _ (λ short. (refl, tt)) (λ long. chosen (KeepsCount p) (nat_lt n p.count) _ _ (λ below. (refl, tt)) (λ over. (refl, tt)))
-count_taken (Length conn) p byte is past =
+    let K : Step → Type 0 = Keeps Count p in
+    chosen K (nat_lt (length p.field) 3) _ _ (λ short. ((refl, tt), λ counted. absurd counted)) (λ long. chosen K (nat_lt connection_limit n) _ _ (λ over. ((refl, tt), λ counted. absurd counted)) (λ few. ((refl, tt), λ counted. absurd counted)))
+taken_keeps Tag p byte is past =
+    let K : Step → Type 0 = Keeps Tag p in
+    chosen K (byte == 83) _ _ (λ one. ((refl, tt), λ counted. (refl, tt))) (λ not_one. chosen K (byte == 69) _ _ (λ two. ((refl, tt), λ counted. (refl, tt))) (λ not_two. chosen K (byte == 67 && p.version == 2) _ _ (λ three. ((refl, tt), λ counted. (refl, tt))) (λ none. ((refl, tt), λ counted. (refl, tt)))))
+taken_keeps Connection p byte is past =
     let n : ℕ = from_be_bytes w32 (p.field ++ byte ∷ []) in
-    chosen (KeepsCount p) (nat_lt (length p.field) 3) _ _ (λ short. (refl, tt)) (λ long. chosen (KeepsCount p) (nat_lt segment_limit n) _ _ (λ over. (refl, tt)) (λ few. chosen (KeepsCount p) (n == 0) _ _ (λ empty. (refl, tt)) (λ some. (refl, tt))))
-count_taken (Payload conn size) p byte is past = chosen (KeepsCount p) (nat_lt (length p.payload + 1) size) _ _ (λ short. (refl, tt)) (λ long. (refl, tt))
-count_taken Closed p byte is past =
+    let K : Step → Type 0 = Keeps Connection p in
+    chosen K (nat_lt (length p.field) 3) _ _ (λ short. ((refl, tt), λ counted. (refl, tt))) (λ long. chosen K (nat_lt n p.count) _ _ (λ below. ((refl, tt), λ counted. (refl, tt))) (λ over. ((refl, tt), λ counted. (refl, tt))))
+taken_keeps (Length conn) p byte is past =
     let n : ℕ = from_be_bytes w32 (p.field ++ byte ∷ []) in
-    chosen (KeepsCount p) (nat_lt (length p.field) 3) _ _ (λ short. (refl, tt)) (λ long. chosen (KeepsCount p) (nat_lt n p.count) _ _ (λ below. (refl, tt)) (λ over. (refl, tt)))
-count_taken Nothing p byte is past = (refl, tt)
-count_taken (Broken fault) p byte is past = (refl, subst IsPastCount (sym is) past)
+    let K : Step → Type 0 = Keeps (Length conn) p in
+    chosen K (nat_lt (length p.field) 3) _ _ (λ short. ((refl, tt), λ counted. (refl, tt))) (λ long. chosen K (nat_lt segment_limit n) _ _ (λ over. ((refl, tt), λ counted. (refl, tt))) (λ few. chosen K (n == 0) _ _ (λ empty. ((refl, tt), λ counted. (refl, tt))) (λ some. ((refl, tt), λ counted. (refl, tt)))))
+taken_keeps (Payload conn size) p byte is past =
+    chosen (Keeps (Payload conn size) p) (nat_lt (length p.payload + 1) size) _ _ (λ short. ((refl, tt), λ counted. (refl, tt))) (λ long. ((refl, tt), λ counted. (refl, tt)))
+taken_keeps Closed p byte is past =
+    let n : ℕ = from_be_bytes w32 (p.field ++ byte ∷ []) in
+    let K : Step → Type 0 = Keeps Closed p in
+    chosen K (nat_lt (length p.field) 3) _ _ (λ short. ((refl, tt), λ counted. (refl, tt))) (λ long. chosen K (nat_lt n p.count) _ _ (λ below. ((refl, tt), λ counted. (refl, tt))) (λ over. ((refl, tt), λ counted. (refl, tt))))
+taken_keeps Nothing p byte is past = ((refl, tt), λ counted. (refl, tt))
+taken_keeps (Broken fault) p byte is past = ((refl, subst IsPast (sym is) tt), λ counted. (refl, subst IsPastCount (sym is) counted))
 
 version_kept : (text : List ℕ) (p : Progress) → IsPast p.due → (read_from p text).last.version ≡ p.version
 unfolding read_on
 version_kept [] p past = refl
 version_kept (byte ∷ text) p past =
-    let one : KeepsVersion p (step p byte) = chosen (KeepsVersion p) (is_full p) _ _ (λ full. (refl, tt)) (λ room. version_taken p.due p byte refl past) in
+    let one : KeepsVersion p (step p byte) = chosen (KeepsVersion p) (is_full p) _ _ (λ full. (refl, tt)) (λ room. (taken_keeps p.due p byte refl past).0) in
     version_kept text (step p byte).next one.1 ∙ one.0
 
 count_kept : (text : List ℕ) (p : Progress) → IsPastCount p.due → ((read_from p text).last.count ≡ p.count) × IsPastCount (read_from p text).last.due
 unfolding read_on
 count_kept [] p past = (refl, past)
 count_kept (byte ∷ text) p past =
-    let one : KeepsCount p (step p byte) = chosen (KeepsCount p) (is_full p) _ _ (λ full. (refl, tt)) (λ room. count_taken p.due p byte refl past) in
+    let one : KeepsCount p (step p byte) = chosen (KeepsCount p) (is_full p) _ _ (λ full. (refl, tt)) (λ room. (taken_keeps p.due p byte refl (past_both p.due past)).1 past) in
     let on = count_kept text (step p byte).next one.1 in
     (on.0 ∙ one.0, on.1)
 
-past_count : (due : Due) (count : ℕ) → IsPastCount due → count_in due count ≡ Some count
-past_count Letters count past = absurd past
-past_count Digit count past = absurd past
-past_count (LineFeed version) count past = absurd past
+-- the count that was read is told
+pub past_count : (due : Due) (count : ℕ) → IsPastCount due → count_in due count ≡ Some count
+past_count (Magic part) count past = absurd past
 past_count Count count past = absurd past
 past_count (Broken (BadMagic at)) count past = absurd past
 past_count (Broken (ConnCount number)) count past = absurd past
@@ -142,20 +133,20 @@ count_told text count begins =
 
 -- the place after some letters
 abbrev letters_at : ℕ → Progress
-letters_at at = at_place Letters 0 0 at
+letters_at at = at_place (Magic Letters) 0 0 at
 
 -- nothing is told after a refusal in the magic
 refused_none : (p : Progress) (fault : CaptureFault) (more : List ℕ) (version : ℕ) → p.version ≡ 0 → (goes_on (refuses p fault) more).last.version ≡ version → version ≡ 0
 refused_none p fault more version none is =
     sym is ∙ ap (λ (r : Reading Progress Record). r.last.version) (read_broken captures lasting (refuses p fault).next fault more refl) ∙ none
 
-from_line : (found : ℕ) (text : List ℕ) (version : ℕ) → (found ≡ 1) ⊎ (found ≡ 2) → version ≢ 0 → (read_from (at_place (LineFeed found) 0 0 7) text).last.version ≡ version → BeginsWithMagic ((letters ++ (48 + found) ∷ []) ++ text) version
+from_line : (found : ℕ) (text : List ℕ) (version : ℕ) → (found ≡ 1) ⊎ (found ≡ 2) → version ≢ 0 → (read_from (at_place (Magic (LineFeed found)) 0 0 7) text).last.version ≡ version → BeginsWithMagic ((letters ++ (48 + found) ∷ []) ++ text) version
 unfolding read_on
 from_line found [] version known some is = absurd (some (sym is))
 from_line found (byte ∷ text) version known some is =
-    let p : Progress = at_place (LineFeed found) 0 0 7 in
-    let on : (goes_on (line_feed found p byte) text).last.version ≡ version = ap (λ (r : Reading Progress Record). r.last.version) (sym (read_byte p byte text (omega arith))) ∙ is in
-    chosen (λ (s : Step). (goes_on s text).last.version ≡ version → BeginsWithMagic ((letters ++ (48 + found) ∷ []) ++ byte ∷ text) version) (byte == 10) _ _
+    let p : Progress = at_place (Magic (LineFeed found)) 0 0 7 in
+    let on : (goes_on (after_magic p (line_feed found byte)) text).last.version ≡ version = ap (λ (r : Reading Progress Record). r.last.version) (sym (read_byte p byte text (omega arith))) ∙ is in
+    chosen (λ (s : MagicStep). (goes_on (after_magic p s) text).last.version ≡ version → BeginsWithMagic ((letters ++ (48 + found) ∷ []) ++ byte ∷ text) version) (byte == 10) (Whole found) Wrong
     (λ same here.
     let found_is : found ≡ version = sym (version_kept text (goes (record p { version = found }) Count).next tt) ∙ here in
     record {
@@ -166,15 +157,15 @@ from_line found (byte ∷ text) version known some is =
     (λ differs here. absurd (some (refused_none p (BadMagic 7) text version refl here)))
     on
 
-from_digit_on : (text : List ℕ) (version : ℕ) → version ≢ 0 → (read_from (at_place Digit 0 0 6) text).last.version ≡ version → BeginsWithMagic (letters ++ text) version
+from_digit_on : (text : List ℕ) (version : ℕ) → version ≢ 0 → (read_from (at_place (Magic Digit) 0 0 6) text).last.version ≡ version → BeginsWithMagic (letters ++ text) version
 unfolding read_on
 from_digit_on [] version some is = absurd (some (sym is))
 from_digit_on (byte ∷ text) version some is =
-    let p : Progress = at_place Digit 0 0 6 in
-    let on : (goes_on (digit p byte) text).last.version ≡ version = ap (λ (r : Reading Progress Record). r.last.version) (sym (read_byte p byte text (omega arith))) ∙ is in
-    chosen (λ (s : Step). (goes_on s text).last.version ≡ version → BeginsWithMagic (letters ++ byte ∷ text) version) (byte == 49) _ _
+    let p : Progress = at_place (Magic Digit) 0 0 6 in
+    let on : (goes_on (after_magic p (digit byte)) text).last.version ≡ version = ap (λ (r : Reading Progress Record). r.last.version) (sym (read_byte p byte text (omega arith))) ∙ is in
+    chosen (λ (s : MagicStep). (goes_on (after_magic p s) text).last.version ≡ version → BeginsWithMagic (letters ++ byte ∷ text) version) (byte == 49) (Next (LineFeed 1)) _
     (λ one here. subst (λ (b : ℕ). BeginsWithMagic (letters ++ b ∷ text) version) (sym (eqb-true byte 49 one)) (from_line 1 text version (inl refl) some here))
-    (λ not_one. chosen (λ (s : Step). (goes_on s text).last.version ≡ version → BeginsWithMagic (letters ++ byte ∷ text) version) (byte == 50) _ _
+    (λ not_one. chosen (λ (s : MagicStep). (goes_on (after_magic p s) text).last.version ≡ version → BeginsWithMagic (letters ++ byte ∷ text) version) (byte == 50) (Next (LineFeed 2)) Wrong
     (λ two here. subst (λ (b : ℕ). BeginsWithMagic (letters ++ b ∷ text) version) (sym (eqb-true byte 50 two)) (from_line 2 text version (inr refl) some here))
     (λ neither here. absurd (some (refused_none p (BadMagic 6) text version refl here))))
     on
@@ -184,15 +175,15 @@ unfolding read_on
 from_letters_on [] at version within some is = absurd (some (sym is))
 from_letters_on (byte ∷ text) at version within some is =
     let p : Progress = letters_at at in
-    let on : (goes_on (letter p byte) text).last.version ≡ version = ap (λ (r : Reading Progress Record). r.last.version) (sym (read_byte p byte text (omega (arith, within)))) ∙ is in
+    let on : (goes_on (after_magic p (letter letters at byte)) text).last.version ≡ version = ap (λ (r : Reading Progress Record). r.last.version) (sym (read_byte p byte text (omega (arith, within)))) ∙ is in
     let B : List ℕ → Type 0 = λ l. BeginsWithMagic l version in
-    chosen (λ (s : Step). (goes_on s text).last.version ≡ version → B (take at letters ++ byte ∷ text)) (byte == slice_index letters at) _ _
+    chosen (λ (s : MagicStep). (goes_on (after_magic p s) text).last.version ≡ version → B (take at letters ++ byte ∷ text)) (byte == slice_index letters at) _ Wrong
     (λ same.
-    let grown : take at letters ++ byte ∷ text ≡ take (at + 1) letters ++ text = sym (append_assoc (take at letters) (byte ∷ []) text) ∙ ap (λ (l : List ℕ). l ++ text) (letters_on at byte within (eqb-true byte (slice_index letters at) same)) in
-    chosen (λ (s : Step). (goes_on s text).last.version ≡ version → B (take at letters ++ byte ∷ text)) (at == 5) (goes p Digit) (goes p Letters)
+    let grown : take at letters ++ byte ∷ text ≡ take (at + 1) letters ++ text = sym (append_assoc (take at letters) (byte ∷ []) text) ∙ ap (λ (l : List ℕ). l ++ text) (letters_on letters at byte within (eqb-true byte (slice_index letters at) same)) in
+    chosen (λ (s : MagicStep). (goes_on (after_magic p s) text).last.version ≡ version → B (take at letters ++ byte ∷ text)) (at == 5) (Next Digit) (Next Letters)
     (λ last here.
     let five : at ≡ 5 = eqb-true at 5 last in
-    subst B (sym (grown ∙ ap (λ (n : ℕ). take (n + 1) letters ++ text) five)) (from_digit_on text version some (ap (λ (n : ℕ). (read_from (at_place Digit 0 0 (n + 1)) text).last.version) (sym five) ∙ here)))
+    subst B (sym (grown ∙ ap (λ (n : ℕ). take (n + 1) letters ++ text) five)) (from_digit_on text version some (ap (λ (n : ℕ). (read_from (at_place (Magic Digit) 0 0 (n + 1)) text).last.version) (sym five) ∙ here)))
     (λ more here. subst B (sym grown) (from_letters_on text (at + 1) version (grind (arith, nat_tests, within)) some here)))
     (λ differs here. absurd (some (refused_none p (BadMagic at) text version refl here)))
     on

@@ -1,19 +1,24 @@
 -- A text without a fault is the bytes that spell what was read of it.
-use Rattle.std.proofs.Common.{◌≡◌, ◌⊎◌, inl, inr, ℕ, ◌+◌, ◌<◌, ◌≤◌, true, false, List, [], ◌∷◌, ◌++◌, length, take, refl, sym, ◌∙◌, ap, subst, arith, append_assoc, length-append}
+use Rattle.std.proofs.Common.{◌≡◌, ℕ, ◌+◌, ◌<◌, ◌≤◌, true, false, List, [], ◌∷◌, ◌++◌, length, refl, sym, ◌∙◌, ap, subst, arith, append_assoc, length-append}
 use Rattle.std.specs.Prelude.{◌==◌, ◌&&◌, nat_lt, nat_le, option_to_list, flat_map, ⊤}
-use Rattle.std.specs.List.{AllByRecursion, slice_index}
+use Rattle.std.specs.List.{AllByRecursion}
 use Rattle.std.specs.Int.{to_be_bytes, from_be_bytes, w32}
 use Rattle.std.proofs.lemmas.List.{append-nil}
 use Rattle.std.proofs.lemmas.Bool.{eqb-true, ltb-false, ltb-true}
 use Rattle.std.proofs.lemmas.Bool.Decides.{nat_tests}
 use Rattle.std.proofs.lemmas.Nat.{be_bytes_4}
-use Rattle.std.proofs.lemmas.Grind.{common_steps, flat_map-append}
+use Rattle.std.proofs.lemmas.Grind.{flat_map-append}
 use Rattle.zy_capture.specs.declared.record.Record.{Record}
 use Rattle.zy_capture.specs.declared.record.Record.TheVariants as Kinds
 use Rattle.zy_capture.specs.declared.due.Due.{Due}
-use Rattle.zy_capture.specs.declared.due.Due.TheVariants.{Letters, Digit, LineFeed, Count, Tag, Connection, Length, Payload, Closed, Nothing, Broken}
+use Rattle.zy_capture.specs.declared.due.Due.TheVariants.{Magic, Count, Tag, Connection, Length, Payload, Closed, Nothing, Broken}
 use Rattle.zy_capture.specs.Capture.{AreBytes, letters, magic, spelled, spelling, IsRecordOf, IsCapture, Spells, capture_limit, connection_limit, segment_limit}
-use Rattle.zy_capture.specs.Steps.{Progress, Step, start, goes, keeps, grows, letter, digit, line_feed, tag, number, segment, taken, is_open, is_full, step}
+use Rattle.zy_capture.specs.Steps.{Progress, Step, start, goes, keeps, grows, after_magic, tag, number, segment, taken, is_open, is_full, step}
+use Rattle.zy_read.specs.declared.magic.MagicPart.{MagicPart}
+use Rattle.zy_read.specs.declared.magic.MagicStep.{MagicStep}
+use Rattle.zy_read.specs.declared.magic.MagicStep.TheVariants.{Next, Whole, Wrong}
+use Rattle.zy_read.specs.Magic.{magic_step, IsInMagic, magic_before}
+use Rattle.zy_read.proofs.MagicLemmas.{IsVersion, IsKnown, LeadsTo, leads}
 use Rattle.zy_read.specs.Format.{Reading, read_on, reading_of, verdict_on}
 use Rattle.zy_capture.specs.Verdict.{read_from, ended, verdict}
 use Rattle.zy_capture.specs.Verdict.Verdict.{Good}
@@ -27,9 +32,7 @@ front p given = magic p.version ++ to_be_bytes w32 p.count ++ flat_map spelled g
 
 -- the bytes that lead to where this is due
 abbrev pub bytes_of : Due → Progress → List Record → List ℕ
-bytes_of Letters p given = take p.at letters
-bytes_of Digit p given = letters
-bytes_of (LineFeed version) p given = letters ++ (48 + version) ∷ []
+bytes_of (Magic part) p given = magic_before part letters p.at
 bytes_of Count p given = magic p.version ++ p.field
 bytes_of Tag p given = front p given
 bytes_of Connection p given = front p given ++ 83 ∷ p.field
@@ -39,19 +42,13 @@ bytes_of Closed p given = front p given ++ 67 ∷ p.field
 bytes_of Nothing p given = front p given ++ 69 ∷ []
 bytes_of (Broken fault) p given = []
 
--- a version is 1 or 2
-abbrev pub IsVersion : ℕ → Type 0
-IsVersion version = (version ≡ 1) ⊎ (version ≡ 2)
-
 -- the bytes of a number that is not whole
 abbrev pub IsField : List ℕ → Type 0
 IsField field = (length field ≤ 3) × AreBytes field
 
 -- what holds where this is due
 abbrev pub IsSoFar : Due → Progress → List Record → Type 0
-IsSoFar Letters p given = (p.at < 6) × (given ≡ [])
-IsSoFar Digit p given = given ≡ []
-IsSoFar (LineFeed version) p given = IsVersion version × (given ≡ [])
+IsSoFar (Magic part) p given = IsInMagic part p.at × IsKnown part × (given ≡ [])
 IsSoFar Count p given = IsVersion p.version × (given ≡ []) × IsField p.field
 IsSoFar Tag p given = IsCapture p.version p.count given
 IsSoFar Connection p given = IsCapture p.version p.count given × IsField p.field
@@ -84,9 +81,6 @@ Leads given text byte s = IsReadTo s.next.due s.next (given ++ option_to_list s.
 stays : (due : Due) (p : Progress) (given : List Record) (text : List ℕ) → IsReadTo due p given text → IsReadTo due p (given ++ []) text
 stays due p given text read = subst (λ (l : List Record). IsReadTo due p l text) (sym (append-nil given)) read
 
-pub letters_on : (at byte : ℕ) → at < 6 → byte ≡ slice_index letters at → take at letters ++ byte ∷ [] ≡ take (at + 1) letters
-letters_on at byte within is = grind (arith, common_steps)
-
 -- one record more
 front_on : (p : Progress) (given : List Record) (item : Record) → front p given ++ spelled item ≡ front p (given ++ item ∷ [])
 front_on p given item =
@@ -110,31 +104,19 @@ number_is field byte is small long =
 
 -- ---- the magic
 
-from_letters : (p : Progress) (given : List Record) (text : List ℕ) (byte : ℕ) → p.at < capture_limit → Parts Letters p given text → Leads given text byte (letter p byte)
-from_letters p given text byte room parts =
-    chosen (Leads given text byte) (byte == slice_index letters p.at) _ _
-    (λ same.
-    let grown : text ++ byte ∷ [] ≡ take (p.at + 1) letters = ap (λ (l : List ℕ). l ++ byte ∷ []) parts.bytes ∙ letters_on p.at byte parts.valid.0 (eqb-true byte (slice_index letters p.at) same) in
-    chosen (Leads given text byte) (p.at == 5) (goes p Digit) (goes p Letters)
-    (λ last. stays Digit (goes p Digit).next given (text ++ byte ∷ []) (record { bytes = grown ∙ ap (λ (n : ℕ). take (n + 1) letters) (eqb-true p.at 5 last); count = counted text p.at byte parts.count; short = omega arith; valid = parts.valid.1 }))
-    (λ more. stays Letters (goes p Letters).next given (text ++ byte ∷ []) (record { bytes = grown; count = counted text p.at byte parts.count; short = omega arith; valid = (grind (arith, nat_tests, parts.valid.0), parts.valid.1) })))
-    (λ differs. tt)
+-- the bytes of the magic up to a step
+magic_leads : (p : Progress) (given : List Record) (text : List ℕ) (byte : ℕ) (s : MagicStep) → p.at < capture_limit → p.at ≡ length text → given ≡ [] → LeadsTo letters (p.at + 1) (text ++ byte ∷ []) s → Leads given text byte (after_magic p s)
+magic_leads p given text byte (Next part) room place none on =
+    stays (Magic part) (goes p (Magic part)).next given (text ++ byte ∷ []) (record { bytes = on.2; count = counted text p.at byte place; short = omega arith; valid = (on.0, on.1, none) })
+magic_leads p given text byte (Whole version) room place none on =
+    stays Count (goes (record p { version = version }) Count).next given (text ++ byte ∷ []) (record { bytes = on.1; count = counted text p.at byte place; short = omega arith; valid = (on.0, none, (omega arith, tt)) })
+magic_leads p given text byte Wrong room place none on = tt
 
-from_digit : (p : Progress) (given : List Record) (text : List ℕ) (byte : ℕ) → p.at < capture_limit → Parts Digit p given text → Leads given text byte (digit p byte)
-from_digit p given text byte room parts =
-    let grown : text ++ byte ∷ [] ≡ letters ++ byte ∷ [] = ap (λ (l : List ℕ). l ++ byte ∷ []) parts.bytes in
-    chosen (Leads given text byte) (byte == 49) _ _
-    (λ one. stays (LineFeed 1) (goes p (LineFeed 1)).next given (text ++ byte ∷ []) (record { bytes = grown ∙ ap (λ (b : ℕ). letters ++ b ∷ []) (eqb-true byte 49 one); count = counted text p.at byte parts.count; short = omega arith; valid = (inl refl, parts.valid) }))
-    (λ other. chosen (Leads given text byte) (byte == 50) _ _
-    (λ two. stays (LineFeed 2) (goes p (LineFeed 2)).next given (text ++ byte ∷ []) (record { bytes = grown ∙ ap (λ (b : ℕ). letters ++ b ∷ []) (eqb-true byte 50 two); count = counted text p.at byte parts.count; short = omega arith; valid = (inr refl, parts.valid) }))
-    (λ differs. tt))
-
-from_line_feed : (version : ℕ) (p : Progress) (given : List Record) (text : List ℕ) (byte : ℕ) → p.at < capture_limit → Parts (LineFeed version) p given text → Leads given text byte (line_feed version p byte)
-from_line_feed version p given text byte room parts =
-    let next : Progress = (goes (record p { version = version }) Count).next in
-    chosen (Leads given text byte) (byte == 10) _ _
-    (λ same. stays Count next given (text ++ byte ∷ []) (record { bytes = ap (λ (l : List ℕ). l ++ byte ∷ []) parts.bytes ∙ ap (λ (b : ℕ). (letters ++ (48 + version) ∷ []) ++ b ∷ []) (eqb-true byte 10 same); count = counted text p.at byte parts.count; short = omega arith; valid = (parts.valid.0, parts.valid.1, (omega arith, tt)) }))
-    (λ differs. tt)
+from_magic : (part : MagicPart) (p : Progress) (given : List Record) (text : List ℕ) (byte : ℕ) → p.at < capture_limit → Parts (Magic part) p given text → Leads given text byte (after_magic p (magic_step part letters p.at byte))
+from_magic part p given text byte room parts =
+    let s : MagicStep = magic_step part letters p.at byte in
+    magic_leads p given text byte s room parts.count parts.valid.2
+    (subst (λ (l : List ℕ). LeadsTo letters (p.at + 1) (l ++ byte ∷ []) s) (sym parts.bytes) (leads part letters p.at byte refl parts.valid.0 parts.valid.1))
 
 from_count : (p : Progress) (given : List Record) (text : List ℕ) (byte : ℕ) → byte < 256 → p.at < capture_limit → Parts Count p given text → Leads given text byte (number Count p byte)
 from_count p given text byte small room parts =
@@ -254,9 +236,7 @@ from_payload conn size p given text byte room parts =
 
 -- a byte, where there is room
 from_taken : (due : Due) (p : Progress) (given : List Record) (text : List ℕ) (byte : ℕ) → p.due ≡ due → byte < 256 → (is_open due ≡ true → p.at < capture_limit) → IsReadTo due p given text → Leads given text byte (taken due p byte)
-from_taken Letters p given text byte is small room read = from_letters p given text byte (room refl) read
-from_taken Digit p given text byte is small room read = from_digit p given text byte (room refl) read
-from_taken (LineFeed version) p given text byte is small room read = from_line_feed version p given text byte (room refl) read
+from_taken (Magic part) p given text byte is small room read = from_magic part p given text byte (room refl) read
 from_taken Count p given text byte is small room read = from_count p given text byte small (room refl) read
 from_taken Tag p given text byte is small room read = from_tag p given text byte (room refl) read
 from_taken Connection p given text byte is small room read = from_connection p given text byte small (room refl) read
@@ -308,4 +288,4 @@ pub good_spells : (text : List ℕ) (version count : ℕ) (items : List Record) 
 unfolding verdict_on reading_of
 good_spells text version count items all good =
     let r : Reading Progress Record = read_from start text in
-    spells r.last.due r.last r.given text version count items (read_whole start [] [] text all (record { bytes = refl; count = refl; short = omega arith; valid = (omega arith, refl) })) good
+    spells r.last.due r.last r.given text version count items (read_whole start [] [] text all (record { bytes = refl; count = refl; short = omega arith; valid = (omega arith, tt, refl) })) good

@@ -3,9 +3,10 @@ use Rattle.std.specs.Prelude.{Option, ◌≡◌, ℕ, ◌<◌, List, length, Res
 use Rattle.zy_base.specs.declared.file_fault.FileFault.{FileFault}
 use Rattle.zy_read.specs.declared.not_taken.NotTaken.{NotTaken}
 use Rattle.zy_read.specs.Standing.{StandsAs, Follows}
+use Rattle.zy_read.specs.Magic.{IsInMagic}
 use Rattle.zy_capture.specs.declared.session_bytes.SessionBytes.{SessionBytes}
 use Rattle.zy_capture.specs.declared.replies_due.RepliesDue.{RepliesDue}
-use Rattle.zy_capture.specs.declared.replies_due.RepliesDue.TheVariants.{Letters, Connection, Session, Length, Output}
+use Rattle.zy_capture.specs.declared.replies_due.RepliesDue.TheVariants.{Magic, Connection, Session, Length, Output}
 use Rattle.zy_capture.specs.Capture.{connection_limit}
 use Rattle.zy_capture.specs.Replies.{AreNumbers, replies_limit}
 use Rattle.zy_capture.specs.RepliesSteps.{Progress, Step}
@@ -36,10 +37,10 @@ IsOfOutput p byte = ((conn session size : ℕ) × (p.due ≡ Output conn session
 abbrev pub Takes : Step → Progress → Progress → ℕ → Result (Option SessionBytes) (NotTaken FileFault) → Type 0
 Takes step old new byte result = Follows replies IsOfOutput step old new byte result
 
--- what is due is within its bounds: the place of a letter, the bytes of a number, the numbers, and the bytes of an
+-- what is due is within its bounds: the place of a part of the magic, the bytes of a number, the numbers, and the bytes of an
 -- output
 abbrev pub IsWithin : RepliesDue → ℕ → ℕ → List ℕ → Type 0
-IsWithin Letters at seen payload = at < 6
+IsWithin (Magic part) at seen payload = IsInMagic part at
 IsWithin Connection at seen payload = seen < 4
 IsWithin (Session conn) at seen payload = (seen < 4) × (conn < connection_limit)
 IsWithin (Length conn session) at seen payload = AreNumbers conn session

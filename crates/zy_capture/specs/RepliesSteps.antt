@@ -1,14 +1,17 @@
 -- What each byte of a replies file does, by what is due where it stands: the table of docs/FORMATS.md, "Replies". A
 -- number is judged at its last byte.
 use Rattle.std.specs.Prelude.{ℕ, ◌+◌, ◌-◌, ◌^◌, ◌==◌, ◌&&◌, ◌||◌, nat_lt, nat_le, if◌then◌else◌, Bool, true, false, List, [], ◌∷◌, ◌++◌, length, None, Some}
-use Rattle.std.specs.List.{slice_index}
 use Rattle.std.specs.Int.{from_be_bytes, w32, w64}
 use Rattle.zy_base.specs.declared.file_fault.FileFault.{FileFault}
 use Rattle.zy_base.specs.declared.file_fault.FileFault.TheVariants.{Form, TooLong}
 use Rattle.zy_read.specs.Format as Reads
+use Rattle.zy_read.specs.declared.magic.MagicPart.TheVariants.{Letters}
+use Rattle.zy_read.specs.declared.magic.MagicStep.{MagicStep}
+use Rattle.zy_read.specs.declared.magic.MagicStep.TheVariants.{Next, Whole, Wrong}
+use Rattle.zy_read.specs.Magic.{magic_step}
 use Rattle.zy_capture.specs.declared.session_bytes.SessionBytes.{SessionBytes}
 use Rattle.zy_capture.specs.declared.replies_due.RepliesDue.{RepliesDue}
-use Rattle.zy_capture.specs.declared.replies_due.RepliesDue.TheVariants.{Letters, Digit, LineFeed, Tag, Connection, Session, Length, Output, Nothing, Broken}
+use Rattle.zy_capture.specs.declared.replies_due.RepliesDue.TheVariants.{Magic, Tag, Connection, Session, Length, Output, Nothing, Broken}
 use Rattle.zy_capture.specs.Capture.{connection_limit}
 use Rattle.zy_capture.specs.Replies.{letters, replies_limit}
 
@@ -33,7 +36,7 @@ pub record Progress : Type 0 where
 
 -- before the first byte
 abbrev pub start : Progress
-start = record { due = Letters; field = []; payload = []; version = 0; connections = 0; sessions = 0; at = 0 }
+start = record { due = Magic Letters; field = []; payload = []; version = 0; connections = 0; sessions = 0; at = 0 }
 
 -- what a byte does: where it leads, and the output that it ends
 abbrev pub Step : Type 0
@@ -81,20 +84,11 @@ grown_by p bytes = record p { payload = p.payload ++ bytes; at = p.at + length b
 
 -- ---- what a byte does, by what is due
 
--- a letter of the magic
-abbrev pub letter : Progress → ℕ → Step
-letter p byte =
-    if byte == slice_index letters p.at then (if p.at == 5 then goes p Digit else goes p Letters)
-    else refuses p (Form p.at)
-
--- the digit of the magic
-abbrev pub digit : Progress → ℕ → Step
-digit p byte =
-    if byte == 49 then goes p (LineFeed 1) else if byte == 50 then goes p (LineFeed 2) else refuses p (Form p.at)
-
--- the line feed that ends the magic
-abbrev pub line_feed : ℕ → Progress → ℕ → Step
-line_feed version p byte = if byte == 10 then goes (record p { version = version }) Tag else refuses p (Form p.at)
+-- where a byte of the magic leads
+abbrev pub after_magic : Progress → MagicStep → Step
+after_magic p (Next part) = goes p (Magic part)
+after_magic p (Whole version) = goes (record p { version = version }) Tag
+after_magic p Wrong = refuses p (Form p.at)
 
 -- the tag of a record, or the end
 abbrev pub tag : Progress → ℕ → Step
@@ -144,9 +138,7 @@ output conn session size p byte =
 
 -- a byte, where this is due
 abbrev pub taken : RepliesDue → Progress → ℕ → Step
-taken Letters p byte = letter p byte
-taken Digit p byte = digit p byte
-taken (LineFeed version) p byte = line_feed version p byte
+taken (Magic part) p byte = after_magic p (magic_step part letters p.at byte)
 taken Tag p byte = tag p byte
 taken Connection p byte = four Connection connection p byte
 taken (Session conn) p byte = four (Session conn) (session conn) p byte

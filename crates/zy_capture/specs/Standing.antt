@@ -3,10 +3,11 @@ use Rattle.std.specs.Prelude.{Option, ◌≡◌, ℕ, ◌<◌, ◌≤◌, List, 
 use Rattle.std.specs.Int.{from_be_bytes, w32}
 use Rattle.zy_read.specs.declared.not_taken.NotTaken.{NotTaken}
 use Rattle.zy_read.specs.Standing.{StandsAs, Follows}
+use Rattle.zy_read.specs.Magic.{IsInMagic}
 use Rattle.zy_capture.specs.declared.record.Record.{Record}
 use Rattle.zy_capture.specs.declared.capture_fault.CaptureFault.{CaptureFault}
 use Rattle.zy_capture.specs.declared.due.Due.{Due}
-use Rattle.zy_capture.specs.declared.due.Due.TheVariants.{Letters, Length, Payload}
+use Rattle.zy_capture.specs.declared.due.Due.TheVariants.{Magic, Length, Payload}
 use Rattle.zy_capture.specs.Capture.{capture_limit, segment_limit}
 use Rattle.zy_capture.specs.Steps.{Progress, Step}
 use Rattle.zy_capture.specs.Verdict.{Verdict, captures, verdict}
@@ -40,8 +41,9 @@ pub record IsLengthEnd (p : Progress) (byte : ℕ) : Type 0 where
 abbrev pub Takes : Step → Progress → Progress → ℕ → Result (Option Record) (NotTaken CaptureFault) → Type 0
 Takes step old new byte result = Follows captures IsLengthEnd step old new byte result
 
--- what is due is within its bounds: the place of a letter, and the bytes of a segment, for which there is room
+-- what is due is within its bounds: the place of a part of the magic, and the bytes of a segment, for which there is
+-- room
 abbrev pub IsWithin : Due → ℕ → List ℕ → ℕ → Type 0
-IsWithin Letters at payload room = at < 6
+IsWithin (Magic part) at payload room = IsInMagic part at
 IsWithin (Payload conn size) at payload room = (length payload < size) × (size ≤ room)
 IsWithin due at payload room = ⊤

@@ -1,15 +1,18 @@
 -- What each byte of a capture does, by what is due where it stands: the table of docs/FORMATS.md, "Capture". A number
 -- is judged at its last byte.
 use Rattle.std.specs.Prelude.{ℕ, ◌+◌, ◌-◌, ◌==◌, ◌&&◌, nat_lt, nat_le, if◌then◌else◌, Bool, true, false, List, [], ◌∷◌, ◌++◌, length, None, Some}
-use Rattle.std.specs.List.{slice_index}
 use Rattle.std.specs.Int.{from_be_bytes, w32}
 use Rattle.zy_read.specs.Format as Reads
+use Rattle.zy_read.specs.declared.magic.MagicPart.TheVariants.{Letters}
+use Rattle.zy_read.specs.declared.magic.MagicStep.{MagicStep}
+use Rattle.zy_read.specs.declared.magic.MagicStep.TheVariants.{Next, Whole, Wrong}
+use Rattle.zy_read.specs.Magic.{magic_step}
 use Rattle.zy_capture.specs.declared.record.Record.{Record}
 use Rattle.zy_capture.specs.declared.record.Record.TheVariants as Kinds
 use Rattle.zy_capture.specs.declared.capture_fault.CaptureFault.{CaptureFault}
 use Rattle.zy_capture.specs.declared.capture_fault.CaptureFault.TheVariants.{BadMagic, ConnCount, BadTag, ConnRange, SegmentLength, Trailing, TooLong}
 use Rattle.zy_capture.specs.declared.due.Due.{Due}
-use Rattle.zy_capture.specs.declared.due.Due.TheVariants.{Letters, Digit, LineFeed, Count, Tag, Connection, Length, Payload, Closed, Nothing, Broken}
+use Rattle.zy_capture.specs.declared.due.Due.TheVariants.{Magic, Count, Tag, Connection, Length, Payload, Closed, Nothing, Broken}
 use Rattle.zy_capture.specs.Capture.{letters, connection_limit, segment_limit, capture_limit}
 
 -- ---- how far a text was read
@@ -31,7 +34,7 @@ pub record Progress : Type 0 where
 
 -- before the first byte
 abbrev pub start : Progress
-start = record { due = Letters; field = []; payload = []; version = 0; count = 0; at = 0 }
+start = record { due = Magic Letters; field = []; payload = []; version = 0; count = 0; at = 0 }
 
 -- what a byte does: where it leads, and the record that it ends
 abbrev pub Step : Type 0
@@ -74,20 +77,11 @@ headed p conn bytes = record p { due = Length conn; field = bytes; at = p.at + 8
 
 -- ---- what a byte does, by what is due
 
--- a letter of the magic
-abbrev pub letter : Progress → ℕ → Step
-letter p byte =
-    if byte == slice_index letters p.at then (if p.at == 5 then goes p Digit else goes p Letters)
-    else refuses p (BadMagic p.at)
-
--- the digit of the magic
-abbrev pub digit : Progress → ℕ → Step
-digit p byte =
-    if byte == 49 then goes p (LineFeed 1) else if byte == 50 then goes p (LineFeed 2) else refuses p (BadMagic p.at)
-
--- the line feed that ends the magic
-abbrev pub line_feed : ℕ → Progress → ℕ → Step
-line_feed version p byte = if byte == 10 then goes (record p { version = version }) Count else refuses p (BadMagic p.at)
+-- where a byte of the magic leads
+abbrev pub after_magic : Progress → MagicStep → Step
+after_magic p (Next part) = goes p (Magic part)
+after_magic p (Whole version) = goes (record p { version = version }) Count
+after_magic p Wrong = refuses p (BadMagic p.at)
 
 -- the tag of a record, or the end
 abbrev pub tag : Progress → ℕ → Step
@@ -128,9 +122,7 @@ segment conn size p byte =
 
 -- a byte, where this is due
 abbrev pub taken : Due → Progress → ℕ → Step
-taken Letters p byte = letter p byte
-taken Digit p byte = digit p byte
-taken (LineFeed version) p byte = line_feed version p byte
+taken (Magic part) p byte = after_magic p (magic_step part letters p.at byte)
 taken Tag p byte = tag p byte
 taken (Payload conn size) p byte = segment conn size p byte
 taken Nothing p byte = refuses p (Trailing p.at)

@@ -7,7 +7,7 @@ use Rattle.zy_capture.specs.declared.record.Record.{Record}
 use Rattle.zy_capture.specs.declared.capture_fault.CaptureFault.{CaptureFault}
 use Rattle.zy_capture.specs.declared.capture_fault.CaptureFault.TheVariants.{BadMagic, ConnCount, Truncated}
 use Rattle.zy_capture.specs.declared.due.Due.{Due}
-use Rattle.zy_capture.specs.declared.due.Due.TheVariants.{Letters, Digit, LineFeed, Count, Connection, Length, Payload, Closed, Nothing, Broken}
+use Rattle.zy_capture.specs.declared.due.Due.TheVariants.{Magic, Count, Connection, Length, Payload, Closed, Nothing, Broken}
 use Rattle.zy_capture.specs.Steps.{Progress, start, step}
 
 -- ---- a whole text
@@ -55,9 +55,7 @@ version_in version = if version == 0 then None else Some version
 
 -- the connection count, where it was read whole and not refused
 abbrev pub count_in : Due → ℕ → Option ℕ
-count_in Letters count = None
-count_in Digit count = None
-count_in (LineFeed found) count = None
+count_in (Magic part) count = None
 count_in Count count = None
 count_in (Broken (BadMagic at)) count = None
 count_in (Broken (ConnCount number)) count = None

@@ -1,16 +1,13 @@
 //! What is due next in a capture.
 
 use crate::capture_fault::CaptureFault;
+use zy_read::MagicPart;
 
 /// What is due next.
 #[derive(Clone, Copy)]
 pub(crate) enum Due {
-    /// A letter of the magic.
-    Letters,
-    /// The digit of the magic.
-    Digit,
-    /// The line feed that ends the magic of this version.
-    LineFeed { version: u32 },
+    /// This part of the magic.
+    Magic(MagicPart),
     /// The connection count.
     Count,
     /// A record or the end.

@@ -16,7 +16,7 @@ use crate::due::Due;
 use crate::record::Record;
 use std::alloc::Global;
 use std::marker::Model;
-use zy_read::{Fed, Field, feed, feed_piece};
+use zy_read::{Fed, Field, MagicPart, feed, feed_piece};
 
 /// Reads a capture, byte by byte or in pieces.
 #[derive(Drop)]
@@ -57,7 +57,7 @@ impl Reader {
     {
         Reader {
             alloc,
-            due: Due::Letters,
+            due: Due::Magic(MagicPart::Letters),
             field: Field::new(),
             payload: Vec::new(alloc),
             version: 0,
@@ -120,9 +120,7 @@ impl Reader {
         ensures value { AnswersBy captures self.now count_of result }
     {
         match self.due {
-            Due::Letters
-            | Due::Digit
-            | Due::LineFeed { .. }
+            Due::Magic(_)
             | Due::Count
             | Due::Broken(CaptureFault::BadMagic { .. })
             | Due::Broken(CaptureFault::ConnCount { .. }) => None,

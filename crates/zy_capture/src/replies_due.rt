@@ -1,18 +1,13 @@
 //! What is due next in a replies file.
 
 use zy_base::FileFault;
+use zy_read::MagicPart;
 
 /// What is due next.
 #[derive(Clone, Copy)]
 pub(crate) enum RepliesDue {
-    /// A letter of the magic.
-    Letters,
-    /// The digit of the magic.
-    Digit,
-    /// The line feed that ends the magic of this version.
-    LineFeed {
-        version: u32,
-    },
+    /// This part of the magic.
+    Magic(MagicPart),
     /// A record or the end.
     Tag,
     /// The connection of a record.

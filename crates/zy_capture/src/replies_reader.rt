@@ -15,7 +15,7 @@ use crate::session_bytes::SessionBytes;
 use std::alloc::Global;
 use std::marker::Model;
 use zy_base::FileFault;
-use zy_read::{Fed, Field, FileFeed, feed, feed_piece};
+use zy_read::{Fed, Field, FileFeed, MagicPart, feed, feed_piece};
 
 /// Reads a replies file, of either version, byte by byte or in pieces.
 #[derive(Drop)]
@@ -58,7 +58,7 @@ impl RepliesReader {
     {
         RepliesReader {
             alloc,
-            due: RepliesDue::Letters,
+            due: RepliesDue::Magic(MagicPart::Letters),
             field: Field::new(),
             payload: Vec::new(alloc),
             version: 0,

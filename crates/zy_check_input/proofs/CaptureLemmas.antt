@@ -12,7 +12,7 @@ use Rattle.zy_capture.specs.declared.record.Record.TheVariants as Kinds
 use Rattle.zy_capture.specs.declared.capture_fault.CaptureFault.{CaptureFault}
 use Rattle.zy_capture.specs.declared.capture_fault.CaptureFault.TheVariants.{ConnRange, SegmentLength, Trailing, TooLong}
 use Rattle.zy_capture.specs.declared.due.Due.{Due}
-use Rattle.zy_capture.specs.declared.due.Due.TheVariants.{Letters, Digit, LineFeed, Count, Tag, Connection, Length, Payload, Closed, Nothing, Broken}
+use Rattle.zy_capture.specs.declared.due.Due.TheVariants.{Magic, Count, Tag, Connection, Length, Payload, Closed, Nothing, Broken}
 use Rattle.zy_capture.specs.Streams.{no_bytes, with_record, with_records}
 use Rattle.zy_capture.specs.Capture.{segment_limit}
 use Rattle.zy_capture.specs.Steps.{Progress, Step, goes, gives, refuses, keeps, grows, place, judged, number, taken, is_full, step}
@@ -66,9 +66,7 @@ judged_leads Closed p n within =
     either LeadsOn (nat_lt n p.count) (gives p (Kinds.Close n)) (refuses p (ConnRange (place p) n)) (λ none. cc) (faulty p (ConnRange (place p) n))
 judged_leads (Payload conn size) p n within = λ none. inl refl
 judged_leads Count p n within = cc
-judged_leads Letters p n within = cc
-judged_leads Digit p n within = cc
-judged_leads (LineFeed version) p n within = cc
+judged_leads (Magic part) p n within = cc
 judged_leads Tag p n within = cc
 judged_leads Nothing p n within = cc
 judged_leads (Broken fault) p n within = cc
@@ -85,9 +83,7 @@ taken_leads Closed p byte within = number_leads Closed p byte within
 taken_leads (Payload conn size) p byte within =
     either LeadsOn (nat_lt (length p.payload + 1) size) (grows p (Payload conn size) byte) (gives p (Kinds.Segment (record { conn = conn; bytes = p.payload ++ byte ∷ [] }))) (λ none. inl refl) (λ none. cc)
 taken_leads Count p byte within = cc
-taken_leads Letters p byte within = cc
-taken_leads Digit p byte within = cc
-taken_leads (LineFeed version) p byte within = cc
+taken_leads (Magic part) p byte within = cc
 taken_leads Tag p byte within = cc
 taken_leads Nothing p byte within = cc
 taken_leads (Broken fault) p byte within = cc

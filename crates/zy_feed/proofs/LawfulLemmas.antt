@@ -5,29 +5,31 @@ use Rattle.std.specs.List.{slice_index, AllByRecursion}
 use Rattle.std.specs.Int.{from_be_bytes, w32}
 use Rattle.std.proofs.lemmas.Bool.{eqb-true}
 use Rattle.std.proofs.lemmas.Bool.Decides.{nat_tests}
+use Rattle.zy_read.specs.declared.magic.MagicPart.{MagicPart}
+use Rattle.zy_read.specs.declared.magic.MagicStep.{MagicStep}
+use Rattle.zy_read.specs.declared.magic.MagicStep.TheVariants.{Next, Whole, Wrong}
+use Rattle.zy_read.specs.Magic.{magic_step}
+use Rattle.zy_read.proofs.MagicLemmas.{IsVersion, IsKnown, StaysKnown, stays_known}
 use Rattle.zy_read.specs.Format.{Reading, read_on, reading_of}
 use Rattle.zy_read.specs.Standing.{StandsAs}
 use Rattle.zy_capture.specs.declared.record.Record.{Record}
 use Rattle.zy_capture.specs.declared.record.Record.TheVariants as Kinds
 use Rattle.zy_capture.specs.declared.due.Due.{Due}
-use Rattle.zy_capture.specs.declared.due.Due.TheVariants.{Letters, Digit, LineFeed, Count, Tag, Connection, Length, Payload, Closed, Nothing, Broken}
+use Rattle.zy_capture.specs.declared.due.Due.TheVariants.{Magic, Count, Tag, Connection, Length, Payload, Closed, Nothing, Broken}
 use Rattle.zy_capture.specs.Capture.{letters, connection_limit, segment_limit, capture_limit, IsRecordOf, IsCapture}
-use Rattle.zy_capture.specs.Steps.{Progress, Step, start, taken, is_full, step}
+use Rattle.zy_capture.specs.Steps.{Progress, Step, start, after_magic, taken, is_full, step}
 use Rattle.zy_capture.specs.Streams.{closes}
 use Rattle.zy_capture.specs.Standing.{StandsFor}
 use Rattle.zy_capture.specs.Verdict.{read_from, fault_in}
 use Rattle.zy_capture.proofs.ByteLemmas.{chosen}
-use Rattle.zy_feed.proofs.StepLemmas.{IsPast, Stays, step_gave, text_stays}
+use Rattle.zy_capture.proofs.TellLemmas.{IsPastCount}
+use Rattle.zy_feed.proofs.StepLemmas.{Stays, step_gave, text_stays}
 
 -- ---- what is lawful where this is due
 
--- a version
-abbrev IsKnown : ℕ → Type 0
-IsKnown version = (version ≡ 1) ⊎ (version ≡ 2)
-
 -- the version is known, and the count not too large
 record IsBegun (p : Progress) : Type 0 where
-  known : IsKnown p.version
+  known : IsVersion p.version
   few : p.count ≤ connection_limit
 
 -- a segment that is due is one of the capture
@@ -44,10 +46,8 @@ record IsClose (p : Progress) : Type 0 where
 
 -- what was read so far is lawful
 abbrev IsSound : Due → Progress → Type 0
-IsSound Letters p = ⊤
-IsSound Digit p = ⊤
-IsSound (LineFeed found) p = IsKnown found
-IsSound Count p = IsKnown p.version
+IsSound (Magic part) p = IsKnown part
+IsSound Count p = IsVersion p.version
 IsSound (Length conn) p = IsBegun p × (conn < p.count)
 IsSound (Payload conn size) p = IsSegment conn size p
 IsSound Closed p = IsClose p
@@ -110,16 +110,13 @@ second_of false b is = cc
 
 -- ---- a byte, by what is due
 
+magic_goes : (part : MagicPart) (p : Progress) (s : MagicStep) → StaysKnown s → Goes (Magic part) p (after_magic p s)
+magic_goes part p (Next next) known = goes_plain (Magic part) p _ known (omega arith)
+magic_goes part p (Whole version) known = goes_plain (Magic part) p _ known (omega arith)
+magic_goes part p Wrong known = goes_plain (Magic part) p _ tt (omega arith)
+
 goes : (due : Due) (p : Progress) (byte : ℕ) → p.due ≡ due → IsSound due p → Goes due p (taken due p byte)
-goes Letters p byte is sound =
-    chosen (Goes Letters p) (byte == slice_index letters p.at) _ _
-    (λ one. chosen (Goes Letters p) (p.at == 5) _ _ (λ last. goes_plain Letters p _ tt (omega arith)) (λ more. goes_plain Letters p _ tt (omega arith)))
-    (λ other. goes_plain Letters p _ tt (omega arith))
-goes Digit p byte is sound =
-    chosen (Goes Digit p) (byte == 49) _ _ (λ one. goes_plain Digit p _ (inl refl) (omega arith))
-    (λ other. chosen (Goes Digit p) (byte == 50) _ _ (λ second. goes_plain Digit p _ (inr refl) (omega arith)) (λ neither. goes_plain Digit p _ tt (omega arith)))
-goes (LineFeed found) p byte is sound =
-    chosen (Goes (LineFeed found) p) (byte == 10) _ _ (λ one. goes_plain (LineFeed found) p _ sound (omega arith)) (λ other. goes_plain (LineFeed found) p _ tt (omega arith))
+goes (Magic part) p byte is sound = magic_goes part p (magic_step part letters p.at byte) (stays_known part letters p.at byte sound)
 goes Count p byte is sound =
     let n : ℕ = from_be_bytes w32 (p.field ++ byte ∷ []) in
     chosen (Goes Count p) (nat_lt (length p.field) 3) _ _ (λ short. goes_plain Count p _ sound (omega arith))
@@ -210,7 +207,7 @@ text_spent conn (byte ∷ text) p sound =
     omega (arith, one, on, closes_on conn (step p byte).gave (read_from (stepped p byte) text).given)
 
 -- a version that was told is 1 or 2
-known_at : (due : Due) (p : Progress) → fault_in due ≡ None → IsPast due → IsSound due p → IsKnown p.version
+known_at : (due : Due) (p : Progress) → fault_in due ≡ None → IsPastCount due → IsSound due p → IsVersion p.version
 known_at Tag p clean past sound = sound.known
 known_at Connection p clean past sound = sound.known
 known_at (Length conn) p clean past sound = sound.0.known
@@ -220,7 +217,7 @@ known_at Nothing p clean past sound = sound.known
 known_at (Broken fault) p clean past sound = cc
 known_at due p clean past sound = absurd past
 
-pub known_version : (p : Progress) (given : List Record) (b : List ℕ) → StandsFor p given b → fault_in p.due ≡ None → IsPast p.due → (p.version ≡ 1) ⊎ (p.version ≡ 2)
+pub known_version : (p : Progress) (given : List Record) (b : List ℕ) → StandsFor p given b → fault_in p.due ≡ None → IsPastCount p.due → (p.version ≡ 1) ⊎ (p.version ≡ 2)
 unfolding StandsAs reading_of
 known_version p given b stands clean past =
     let last : (read_from start b).last ≡ p = ap (λ (r : Reading Progress Record). r.last) stands in

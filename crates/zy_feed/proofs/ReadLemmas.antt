@@ -14,7 +14,7 @@ use Rattle.zy_read.proofs.SourceLemmas.{consumed_none, told_first, told_all}
 use Rattle.zy_capture.specs.declared.record.Record.{Record}
 use Rattle.zy_capture.specs.declared.capture_fault.CaptureFault.{CaptureFault}
 use Rattle.zy_capture.specs.declared.due.Due.{Due}
-use Rattle.zy_capture.specs.declared.due.Due.TheVariants.{Letters, Digit, LineFeed, Count, Nothing, Broken}
+use Rattle.zy_capture.specs.declared.due.Due.TheVariants.{Magic, Count, Nothing, Broken}
 use Rattle.zy_capture.specs.declared.capture_fault.CaptureFault.TheVariants.{BadMagic, ConnCount}
 use Rattle.zy_capture.specs.Capture.{capture_limit, IsCapture}
 use Rattle.zy_capture.specs.Steps.{Progress, start, step}
@@ -26,7 +26,8 @@ use Rattle.zy_read.specs.declared.stop.Stop.{Stop}
 use Rattle.zy_feed.specs.declared.intake.Header.{Header}
 use Rattle.zy_feed.specs.Reads.{InPieces, IsFresh, HasRead, HasReadAll, StopsBy, TellsHeader, TellsNoHeader, TakesFirst, Advances, came_of, ended_by}
 use Rattle.zy_feed.proofs.LawfulLemmas.{known_version, lawful_records}
-use Rattle.zy_feed.proofs.StepLemmas.{IsPast, Stays, step_gave, text_stays, text_short}
+use Rattle.zy_capture.proofs.TellLemmas.{IsPastCount, past_count}
+use Rattle.zy_feed.proofs.StepLemmas.{Stays, step_gave, text_stays, text_short}
 
 -- ---- one answer more
 
@@ -88,19 +89,8 @@ too_long rest faults first now p records bytes more n stop over within has = abs
 
 -- ---- version and count
 
-past_counts : (due : Due) (count : ℕ) → IsPast due → count_in due count ≡ Some count
-past_counts Letters count past = absurd past
-past_counts Digit count past = absurd past
-past_counts (LineFeed version) count past = absurd past
-past_counts Count count past = absurd past
-past_counts (Broken (BadMagic at)) count past = absurd past
-past_counts (Broken (ConnCount number)) count past = absurd past
-past_counts due count past = refl
-
-counts_past : (due : Due) (count told : ℕ) → count_in due count ≡ Some told → IsPast due × (count ≡ told)
-counts_past Letters count told is = absurd (cc)
-counts_past Digit count told is = absurd (cc)
-counts_past (LineFeed version) count told is = absurd (cc)
+counts_past : (due : Due) (count told : ℕ) → count_in due count ≡ Some told → IsPastCount due × (count ≡ told)
+counts_past (Magic part) count told is = absurd (cc)
 counts_past Count count told is = absurd (cc)
 counts_past (Broken (BadMagic at)) count told is = absurd (cc)
 counts_past (Broken (ConnCount number)) count told is = absurd (cc)
@@ -117,19 +107,19 @@ told_version version (inl one) = rw one refl
 told_version version (inr two) = rw two refl
 
 -- after the count, version and count are told
-past_told : (p : Progress) (given : List Record) (b : List ℕ) → StandsFor p given b → fault_of b ≡ None → IsPast p.due → TellsHeader b (record { version = p.version; count = p.count })
+past_told : (p : Progress) (given : List Record) (b : List ℕ) → StandsFor p given b → fault_of b ≡ None → IsPastCount p.due → TellsHeader b (record { version = p.version; count = p.count })
 unfolding fault_met reading_of StandsAs
 past_told p given b stands clean past =
     let last : (reading_of captures b).last ≡ p = ap (λ (r : Reading Progress Record). r.last) stands in
     let none : fault_in p.due ≡ None = ap (λ (q : Progress). fault_in q.due) (sym last) ∙ clean in
-    (version_here p given b stands ∙ told_version p.version (known_version p given b stands none past), count_here p given b stands ∙ past_counts p.due p.count past)
+    (version_here p given b stands ∙ told_version p.version (known_version p given b stands none past), count_here p given b stands ∙ past_count p.due p.count past)
 
-not_early : (p : Progress) (given : List Record) (b : List ℕ) → StandsFor p given b → fault_of b ≡ None → IsPast p.due → TellsNoHeader b → ⊥
+not_early : (p : Progress) (given : List Record) (b : List ℕ) → StandsFor p given b → fault_of b ≡ None → IsPastCount p.due → TellsNoHeader b → ⊥
 not_early p given b stands clean past (inl none) = let told = past_told p given b stands clean past in let some : version_of b ≡ Some p.version = told.0 in cc
 not_early p given b stands clean past (inr none) = let told = past_told p given b stands clean past in let some : count_of b ≡ Some p.count = told.1 in cc
 
 -- the first record ends after the count
-record_late : (p q : Progress) (b more : List ℕ) (r : Record) → StandsFor p [] b → StandsFor q (r ∷ []) (b ++ more) → length more ≤ 1 → IsPast p.due
+record_late : (p q : Progress) (b more : List ℕ) (r : Record) → StandsFor p [] b → StandsFor q (r ∷ []) (b ++ more) → length more ≤ 1 → IsPastCount p.due
 unfolding StandsAs read_on
 record_late p q b [] r first second few =
     let given : [] ≡ r ∷ [] = ap (λ (x : Reading Progress Record). x.given) (sym (read_more captures p [] b [] first) ∙ second) in cc
@@ -137,7 +127,7 @@ record_late p q b (byte ∷ []) r first second few =
     let given : option_to_list (step p byte).gave ++ [] ≡ r ∷ [] = ap (λ (x : Reading Progress Record). x.given) (sym (read_more captures p [] b (byte ∷ []) first) ∙ second) in
     go (step p byte).gave refl given
   where
-    go : (gave : Option Record) → (step p byte).gave ≡ gave → option_to_list gave ++ [] ≡ r ∷ [] → IsPast p.due
+    go : (gave : Option Record) → (step p byte).gave ≡ gave → option_to_list gave ++ [] ≡ r ∷ [] → IsPastCount p.due
     go None is given = cc
     go (Some s) is given = step_gave p byte s is
 record_late p q b (byte ∷ next ∷ more) r first second few = absurd (omega (arith, few))
@@ -155,7 +145,7 @@ whole_due p given b stands good = nothing_due p.due p given good.0 good.1 (sym (
 
 pub end_absurd : {S : Type 0} (rest : S → Option (List ℕ)) (faults : S → ℕ) (first now : S) (q : InPieces) (bytes : List ℕ) → TellsNoHeader bytes → HasReadAll rest faults first now q [] bytes → ⊥
 end_absurd rest faults first now q bytes none all =
-    not_early q.reader [] bytes all.reads.reader all.reads.clean (subst IsPast (sym (whole_due q.reader [] bytes all.reads.reader all.good)) tt) none
+    not_early q.reader [] bytes all.reads.reader all.reads.clean (subst IsPastCount (sym (whole_due q.reader [] bytes all.reads.reader all.good)) tt) none
 
 -- what was told stays
 pub told_stays : (text more : List ℕ) (header : Header) → TellsHeader text header → TellsHeader (text ++ more) header
@@ -167,7 +157,7 @@ told_stays text more header told =
     let reads = read_more captures r.last r.given text more refl in
     let last : (reading_of captures (text ++ more)).last ≡ (read_from r.last more).last = ap (λ (x : Reading Progress Record). x.last) reads in
     let version : version_of (text ++ more) ≡ Some header.version = ap (λ (q : Progress). version_in q.version) last ∙ ap (λ (v : ℕ). version_in v) stays.0 ∙ told.0 in
-    let count : count_of (text ++ more) ≡ Some header.count = ap (λ (q : Progress). count_in q.due q.count) last ∙ past_counts (read_from r.last more).last.due (read_from r.last more).last.count stays.1.1 ∙ ap (λ (n : ℕ). Some n) (stays.1.0 ∙ counts.1) in
+    let count : count_of (text ++ more) ≡ Some header.count = ap (λ (q : Progress). count_in q.due q.count) last ∙ past_count (read_from r.last more).last.due (read_from r.last more).last.count stays.1.1 ∙ ap (λ (n : ℕ). Some n) (stays.1.0 ∙ counts.1) in
     (version, count)
 
 -- a capture has the version and the count that it told

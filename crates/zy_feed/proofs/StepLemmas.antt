@@ -4,56 +4,41 @@ use Rattle.std.specs.Prelude.{◌==◌, ◌&&◌, nat_lt, nat_le, Option, None, 
 use Rattle.std.specs.List.{slice_index}
 use Rattle.std.specs.Int.{from_be_bytes, w32}
 use Rattle.std.proofs.lemmas.Bool.Decides.{nat_tests}
+use Rattle.zy_read.specs.declared.magic.MagicPart.{MagicPart}
+use Rattle.zy_read.specs.declared.magic.MagicStep.{MagicStep}
+use Rattle.zy_read.specs.declared.magic.MagicStep.TheVariants.{Next, Whole, Wrong}
+use Rattle.zy_read.specs.Magic.{magic_step}
 use Rattle.zy_read.specs.Format.{Reading, read_on}
 use Rattle.zy_read.proofs.Feeding.{read_broken}
 use Rattle.zy_capture.specs.declared.record.Record.{Record}
 use Rattle.zy_capture.specs.declared.capture_fault.CaptureFault.{CaptureFault}
 use Rattle.zy_capture.specs.declared.capture_fault.CaptureFault.TheVariants.{BadMagic, ConnCount}
 use Rattle.zy_capture.specs.declared.due.Due.{Due}
-use Rattle.zy_capture.specs.declared.due.Due.TheVariants.{Letters, Digit, LineFeed, Count, Tag, Connection, Length, Payload, Closed, Nothing, Broken}
+use Rattle.zy_capture.specs.declared.due.Due.TheVariants.{Magic, Count, Tag, Connection, Length, Payload, Closed, Nothing, Broken}
 use Rattle.zy_capture.specs.Capture.{letters, connection_limit, segment_limit, capture_limit}
-use Rattle.zy_capture.specs.Steps.{Progress, Step, taken, is_open, is_full, step}
+use Rattle.zy_capture.specs.Steps.{Progress, Step, after_magic, taken, is_open, is_full, step}
 use Rattle.zy_capture.specs.Verdict.{captures, read_from, fault_in}
 use Rattle.zy_capture.proofs.ByteLemmas.{chosen}
+use Rattle.zy_capture.proofs.TellLemmas.{IsPastCount}
 use Rattle.zy_capture.specs.Lasting.{lasting}
-
--- the count was read where this is due
-abbrev pub IsPast : Due → Type 0
-IsPast Letters = ⊥
-IsPast Digit = ⊥
-IsPast (LineFeed version) = ⊥
-IsPast Count = ⊥
-IsPast (Broken (BadMagic at)) = ⊥
-IsPast (Broken (ConnCount number)) = ⊥
-IsPast due = ⊤
 
 -- the version and the count stay
 abbrev pub Stays : Progress → Progress → Type 0
-Stays p q = (q.version ≡ p.version) × ((q.count ≡ p.count) × IsPast q.due)
+Stays p q = (q.version ≡ p.version) × ((q.count ≡ p.count) × IsPastCount q.due)
 
 -- what a byte keeps, where this is due
 record Keeps (due : Due) (p : Progress) (s : Step) : Type 0 where
   goes : fault_in s.next.due ≡ None → (s.next.at ≡ p.at + 1) × (is_open due ≡ true)
-  stays : IsPast due → Stays p s.next
-  gave : (r : Record) → s.gave ≡ Some r → IsPast due
+  stays : IsPastCount due → Stays p s.next
+  gave : (r : Record) → s.gave ≡ Some r → IsPastCount due
+
+magic_kept : (part : MagicPart) (p : Progress) (s : MagicStep) → Keeps (Magic part) p (after_magic p s)
+magic_kept part p (Next next) = record { goes = λ none. (refl, refl); stays = λ past. absurd past; gave = λ r e. cc }
+magic_kept part p (Whole version) = record { goes = λ none. (refl, refl); stays = λ past. absurd past; gave = λ r e. cc }
+magic_kept part p Wrong = record { goes = λ none. cc; stays = λ past. absurd past; gave = λ r e. cc }
 
 kept : (due : Due) (p : Progress) (byte : ℕ) → p.due ≡ due → Keeps due p (taken due p byte)
-kept Letters p byte is =
-    chosen (Keeps Letters p) (byte == slice_index letters p.at) _ _
-    (λ one. chosen (Keeps Letters p) (p.at == 5) _ _
-    (λ last. record { goes = λ none. (refl, refl); stays = λ past. absurd past; gave = λ r e. cc })
-    (λ more. record { goes = λ none. (refl, refl); stays = λ past. absurd past; gave = λ r e. cc }))
-    (λ other. record { goes = λ none. cc; stays = λ past. absurd past; gave = λ r e. cc })
-kept Digit p byte is =
-    chosen (Keeps Digit p) (byte == 49) _ _
-    (λ one. record { goes = λ none. (refl, refl); stays = λ past. absurd past; gave = λ r e. cc })
-    (λ other. chosen (Keeps Digit p) (byte == 50) _ _
-    (λ two. record { goes = λ none. (refl, refl); stays = λ past. absurd past; gave = λ r e. cc })
-    (λ neither. record { goes = λ none. cc; stays = λ past. absurd past; gave = λ r e. cc }))
-kept (LineFeed found) p byte is =
-    chosen (Keeps (LineFeed found) p) (byte == 10) _ _
-    (λ one. record { goes = λ none. (refl, refl); stays = λ past. absurd past; gave = λ r e. cc })
-    (λ other. record { goes = λ none. cc; stays = λ past. absurd past; gave = λ r e. cc })
+kept (Magic part) p byte is = magic_kept part p (magic_step part letters p.at byte)
 kept Count p byte is =
     let n : ℕ = from_be_bytes w32 (p.field ++ byte ∷ []) in
     chosen (Keeps Count p) (nat_lt (length p.field) 3) _ _
@@ -99,7 +84,7 @@ kept Closed p byte is =
 kept Nothing p byte is = record { goes = λ none. cc; stays = λ past. (refl, (refl, tt)); gave = λ r e. tt }
 kept (Broken fault) p byte is = record {
   goes = λ none. let met : fault_in p.due ≡ Some fault = ap (λ (d : Due). fault_in d) is in cc;
-  stays = λ past. (refl, (refl, subst IsPast (sym is) past));
+  stays = λ past. (refl, (refl, subst IsPastCount (sym is) past));
   gave = λ r e. cc;
 }
 
@@ -107,11 +92,11 @@ kept (Broken fault) p byte is = record {
 abbrev stepped : Progress → ℕ → Progress
 stepped p byte = (step p byte).next
 
-step_stays : (p : Progress) (byte : ℕ) → IsPast p.due → Stays p (stepped p byte)
+step_stays : (p : Progress) (byte : ℕ) → IsPastCount p.due → Stays p (stepped p byte)
 step_stays p byte past = chosen (λ (s : Step). Stays p s.next) (is_full p) _ _ (λ full. (refl, (refl, tt))) (λ room. (kept p.due p byte refl).stays past)
 
-pub step_gave : (p : Progress) (byte : ℕ) (r : Record) → (step p byte).gave ≡ Some r → IsPast p.due
-step_gave p byte r gave = chosen (λ (s : Step). s.gave ≡ Some r → IsPast p.due) (is_full p) _ _ (λ full e. cc) (λ room e. (kept p.due p byte refl).gave r e) gave
+pub step_gave : (p : Progress) (byte : ℕ) (r : Record) → (step p byte).gave ≡ Some r → IsPastCount p.due
+step_gave p byte r gave = chosen (λ (s : Step). s.gave ≡ Some r → IsPastCount p.due) (is_full p) _ _ (λ full e. cc) (λ room e. (kept p.due p byte refl).gave r e) gave
 
 room_left : (due : Due) (at : ℕ) → (is_open due && nat_le capture_limit at) ≡ false → is_open due ≡ true → at < capture_limit
 room_left due at not_full live = let small : nat_le capture_limit at ≡ false = sym (ap (λ b. b && nat_le capture_limit at) live) ∙ not_full in grind (arith, nat_tests)
@@ -123,7 +108,7 @@ step_goes p byte clean =
 
 -- ---- a text
 
-pub text_stays : (text : List ℕ) (p : Progress) → IsPast p.due → Stays p (read_from p text).last
+pub text_stays : (text : List ℕ) (p : Progress) → IsPastCount p.due → Stays p (read_from p text).last
 unfolding read_on
 text_stays [] p past = (refl, (refl, past))
 text_stays (byte ∷ text) p past =

@@ -1,4 +1,5 @@
 pub mod Format
 pub mod Lasting
+pub mod Magic
 pub mod Standing
 pub mod Piece

@@ -3,6 +3,7 @@
 
 mod fed;
 mod field;
+mod magic;
 mod not_taken;
 mod pieces;
 mod reads;
@@ -10,6 +11,7 @@ mod stop;
 
 pub use fed::{Fed, goes_on};
 pub use field::Field;
+pub use magic::{MagicPart, MagicStep};
 pub use not_taken::{FileFeed, NotTaken};
 pub use pieces::Pieces;
 pub use reads::{Reads, feed, feed_piece};

@@ -1,31 +1,35 @@
-//! The end of a receive ring that items are offered to.
+//! The end of a ring that items are offered to.
 ghost use Rattle.std.specs.Prelude.{◌≡◌, ◌+◌, ◌<◌, ◌≤◌, [], ◌∷◌, ◌++◌, IfSome, IfNone, IsNone};
 
 use crate::rx::Rx;
 use rtrb::{Producer, PushError};
 use std::marker::Model;
 
-/// The end that items are offered to. Contracts see which ring it is of, the items offered and not
-/// handed back, and how many free slots it knows.
+/// The end of a receive ring that items are offered to.
+pub type Inlet = RingInlet<Rx>;
+
+/// The end of a ring that items are offered to, also while another thread holds the other end.
+/// Contracts see which ring it is of, the items offered and not handed back, and how many free slots
+/// it knows.
 #[derive(Drop)]
-pub struct Inlet {
-    pub(crate) producer: Producer<Rx>,
+pub struct RingInlet<T> {
+    pub(crate) producer: Producer<T>,
 }
 
-impl Model for Inlet {
+impl<T> Model for RingInlet<T> {
     ghost use Rattle.rtrb.specs.Ring.{sent, known_free, producer_capacity};
-    ghost use Rattle.zy_rx.specs.Ring.{Offering, offering, ring_named};
+    ghost use Rattle.zy_rx.specs.Ring.{RingInlet as Offered, offering, ring_named};
 
-    ghost Value = { Offering };
+    ghost Value = { Offered T };
 
-    ghost view = { λ i. offering (ring_named i.producer.end.words i.producer.end.slots i.producer.end.names)
-        (sent i.producer) (known_free i.producer) (producer_capacity i.producer) };
+    ghost view = { λ i. offering (ring_named i.producer.end.words i.producer.end.slots i.producer.end.names
+        (producer_capacity i.producer)) (sent i.producer) (known_free i.producer) };
 }
 
-impl Inlet {
+impl<T> RingInlet<T> {
     /// Appends the item to what was sent. It is handed back exactly where this end knew no free
     /// slot after its look.
-    pub fn offer(&mut self, item: Rx) -> Option<Rx>
+    pub fn offer(&mut self, item: T) -> Option<T>
         ensures ok { IfNone result (self.new.sent ≡ self.old.sent ++ item ∷ []) }
         ensures few { IfNone result (self.old.free ≤ self.new.free + 1) }
         ensures full { IfSome result (λ _. self.new.free ≡ 0) }

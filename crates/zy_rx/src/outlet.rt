@@ -1,34 +1,37 @@
-//! The end of a receive ring that items are taken from, and both ends together.
-ghost use Rattle.std.specs.Prelude.{◌≡◌, ◌+◌, ◌<◌, ◌≤◌, [], ◌∷◌, ◌++◌, length, IfSome, IfNone, IsSome, IfOk};
+//! The end of a ring that items are taken from, and both ends together.
+ghost use Rattle.std.specs.Prelude.{◌≡◌, ◌+◌, ◌<◌, ◌≤◌, [], ◌∷◌, ◌++◌, length, nat_lt, IfSome, IfNone, IsSome, IfOk};
 ghost use Rattle.zy_rx.specs.Ring.{IsFirstKnown, HasAllFree, offering, taking};
 
-use crate::inlet::Inlet;
+use crate::inlet::RingInlet;
 use crate::rx::Rx;
 use rtrb::{Consumer, RingBuffer};
 use std::alloc::Global;
 use std::marker::Model;
 use zy_base::NoMemory;
 
-/// The end that items are taken from. Contracts see which ring it is of, the items taken, and those
-/// that it knows.
+/// The end of a receive ring that items are taken from.
+pub type Outlet = RingOutlet<Rx>;
+
+/// The end of a ring that items are taken from. Contracts see which ring it is of, the items taken,
+/// and those that it knows.
 #[derive(Drop)]
-pub struct Outlet {
-    consumer: Consumer<Rx>,
+pub struct RingOutlet<T> {
+    consumer: Consumer<T>,
 }
 
-impl Model for Outlet {
-    ghost use Rattle.rtrb.specs.Ring.{received, known_items};
-    ghost use Rattle.zy_rx.specs.Ring.{Taking, taking, ring_named};
+impl<T> Model for RingOutlet<T> {
+    ghost use Rattle.rtrb.specs.Ring.{received, known_items, consumer_capacity};
+    ghost use Rattle.zy_rx.specs.Ring.{RingOutlet as Taken, taking, ring_named};
 
-    ghost Value = { Taking };
+    ghost Value = { Taken T };
 
-    ghost view = { λ o. taking (ring_named o.consumer.end.words o.consumer.end.slots o.consumer.end.names)
-        (received o.consumer) (known_items o.consumer) };
+    ghost view = { λ o. taking (ring_named o.consumer.end.words o.consumer.end.slots o.consumer.end.names
+        (consumer_capacity o.consumer)) (received o.consumer) (known_items o.consumer) };
 }
 
-impl Outlet {
+impl<T> RingOutlet<T> {
     /// The next item. It is `None` exactly where this end knew no item after its look.
-    pub fn take(&mut self) -> Option<Rx>
+    pub fn take(&mut self) -> Option<T>
         ensures taken { IfSome result (λ item. self.new.taken ≡ self.old.taken ++ item ∷ []) }
         ensures first { IfSome result (λ item. IsFirstKnown item self.old.known self.new.known) }
         ensures none { IfNone result ((self.new.taken ≡ self.old.taken) × (self.new.known ≡ [])) }
@@ -40,25 +43,54 @@ impl Outlet {
             Err(_) => None,
         }
     }
+
+    /// Whether this end knows an item, without a look.
+    pub fn knows(&self) -> bool
+        ensures value { result ≡ nat_lt 0 (length self.now.known) }
+    {
+        self.consumer.cached_slots() > 0
+    }
+
+    /// Looks for items, and says whether this end then knows one.
+    pub fn look(&mut self) -> bool
+        ensures value { result ≡ nat_lt 0 (length self.new.known) }
+        ensures outlet { self.new ≡ record self.old { known = self.new.known } }
+    {
+        self.consumer.slots() > 0
+    }
+
+    /// The next item, which this end knows.
+    pub fn take_known(&mut self) -> T
+        requires some { 0 < length self.old.known }
+        ensures taken { self.new.taken ≡ self.old.taken ++ result ∷ [] }
+        ensures known { self.old.known ≡ result ∷ self.new.known }
+        ensures kept { self.new.ring ≡ self.old.ring }
+    {
+        self.consumer.pop_known()
+    }
 }
 
-/// A ring with so many slots, all free.
-pub fn ring(alloc: Global, capacity: usize) -> Result<(Inlet, Outlet), NoMemory>
+/// A ring of this capacity. All of its slots are free.
+pub fn ring<T: Drop>(
+    alloc: Global,
+    capacity: usize,
+) -> Result<(RingInlet<T>, RingOutlet<T>), NoMemory>
     requires some { 1 ≤ capacity }
     requires few { capacity ≤ 256 }
     ensures ok { IfOk result (λ ends. ends.0.ring ≡ ends.1.ring) }
-    ensures inlet { IfOk result (λ ends. ends.0 ≡ offering ends.0.ring [] capacity capacity) }
+    ensures capacity { IfOk result (λ ends. ends.0.ring.capacity ≡ capacity) }
+    ensures inlet { IfOk result (λ ends. ends.0 ≡ offering ends.0.ring [] capacity) }
     ensures outlet { IfOk result (λ ends. ends.1 ≡ taking ends.1.ring [] []) }
 {
     match RingBuffer::new(alloc, capacity) {
-        Ok((producer, consumer)) => Ok((Inlet { producer }, Outlet { consumer })),
+        Ok((producer, consumer)) => Ok((RingInlet { producer }, RingOutlet { consumer })),
         Err(_) => Err(NoMemory),
     }
 }
 
 /// Shows each end what the other did, on the one thread that has both. After it the outlet knows
 /// every item, and the inlet every free slot.
-pub fn both_ends(inlet: &mut Inlet, outlet: &mut Outlet)
+pub fn both_ends<T>(inlet: &mut RingInlet<T>, outlet: &mut RingOutlet<T>)
     requires within { inlet.old.ring ≡ outlet.old.ring }
     ensures all { inlet.new.sent ≡ outlet.new.taken ++ outlet.new.known }
     ensures room { HasAllFree inlet.new outlet.new }

@@ -15,7 +15,7 @@ use crate::limits::CONNECTION_LIMIT;
 use crate::record::{Record, Segment};
 use std::mem;
 use zy_base::Blob;
-use zy_read::Reads;
+use zy_read::{MagicPart, MagicStep, Reads};
 
 pub(super) const CAPTURE_LIMIT: u64 = 4_294_967_295;
 
@@ -47,9 +47,7 @@ impl Reads for Reader {
             Due::Connection => self.feed_connection(byte),
             Due::Length { conn } => self.feed_length(conn, byte),
             Due::Closed => self.feed_closed(byte),
-            Due::Letters => self.feed_letter(byte),
-            Due::Digit => self.feed_digit(byte),
-            Due::LineFeed { version } => self.feed_line_feed(version, byte),
+            Due::Magic(part) => self.feed_magic(part, byte),
             Due::Count => self.feed_count(byte),
             Due::Nothing => self.refuse(CaptureFault::Trailing { at: self.at }),
             Due::Broken(fault) => Err(FeedFault::Fault(fault)),
@@ -145,49 +143,20 @@ impl Reader {
         Err(FeedFault::Fault(fault))
     }
 
-    // A letter of the magic.
-    fn feed_letter(&mut self, byte: u8) -> Result<Option<Record>, FeedFault>
-        requires due { self.old.due ≡ Dues.Letters }
+    // A byte of the magic.
+    fn feed_magic(&mut self, part: MagicPart, byte: u8) -> Result<Option<Record>, FeedFault>
+        requires due { self.old.due ≡ Dues.Magic part }
         requires room { self.old.at < capture_limit }
-        ensures value { Takes (taken Dues.Letters self.old byte) self.old self.new byte result }
+        ensures value { Takes (taken (Dues.Magic part) self.old byte) self.old self.new byte result }
     {
-        if byte != LETTERS[self.at as usize] {
-            return self.refuse(CaptureFault::BadMagic { at: self.at });
+        match part.step(LETTERS, self.at, byte) {
+            MagicStep::Next(next) => self.go_on(Due::Magic(next)),
+            MagicStep::Whole { version } => {
+                self.version = version;
+                self.go_on(Due::Count);
+            }
+            MagicStep::Wrong => return self.refuse(CaptureFault::BadMagic { at: self.at }),
         }
-        self.go_on(if self.at == 5 {
-            Due::Digit
-        } else {
-            Due::Letters
-        });
-        Ok(None)
-    }
-
-    // The digit of the magic.
-    fn feed_digit(&mut self, byte: u8) -> Result<Option<Record>, FeedFault>
-        requires due { self.old.due ≡ Dues.Digit }
-        requires room { self.old.at < capture_limit }
-        ensures value { Takes (taken Dues.Digit self.old byte) self.old self.new byte result }
-    {
-        match byte {
-            b'1' => self.go_on(Due::LineFeed { version: 1 }),
-            b'2' => self.go_on(Due::LineFeed { version: 2 }),
-            _ => return self.refuse(CaptureFault::BadMagic { at: self.at }),
-        }
-        Ok(None)
-    }
-
-    // The line feed that ends the magic.
-    fn feed_line_feed(&mut self, version: u32, byte: u8) -> Result<Option<Record>, FeedFault>
-        requires due { self.old.due ≡ Dues.LineFeed version }
-        requires room { self.old.at < capture_limit }
-        ensures value { Takes (taken (Dues.LineFeed version) self.old byte)
-            self.old self.new byte result }
-    {
-        if byte != b'\n' {
-            return self.refuse(CaptureFault::BadMagic { at: self.at });
-        }
-        self.version = version;
-        self.go_on(Due::Count);
         Ok(None)
     }
 

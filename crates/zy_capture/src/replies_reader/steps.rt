@@ -15,7 +15,7 @@ use crate::replies_due::RepliesDue;
 use crate::session_bytes::SessionBytes;
 use std::mem;
 use zy_base::{Blob, FileFault};
-use zy_read::{FileFeed, Reads};
+use zy_read::{FileFeed, MagicPart, MagicStep, Reads};
 
 const REPLIES_LIMIT: u64 = 9_223_372_036_854_775_807;
 
@@ -48,9 +48,7 @@ impl Reads for RepliesReader {
             RepliesDue::Connection => self.feed_connection(byte),
             RepliesDue::Session { conn } => self.feed_session(conn, byte),
             RepliesDue::Length { conn, session } => self.feed_length(conn, session, byte),
-            RepliesDue::Letters => self.feed_letter(byte),
-            RepliesDue::Digit => self.feed_digit(byte),
-            RepliesDue::LineFeed { version } => self.feed_line_feed(version, byte),
+            RepliesDue::Magic(part) => self.feed_magic(part, byte),
             RepliesDue::Nothing => self.refuse(FileFault::Form { at: self.at }),
             RepliesDue::Broken(fault) => Err(FileFeed::Fault(fault)),
         }
@@ -152,49 +150,20 @@ impl RepliesReader {
         Err(FileFeed::Fault(fault))
     }
 
-    // A letter of the magic.
-    fn feed_letter(&mut self, byte: u8) -> Result<Option<SessionBytes>, FileFeed>
-        requires due { self.old.due ≡ Dues.Letters }
+    // A byte of the magic.
+    fn feed_magic(&mut self, part: MagicPart, byte: u8) -> Result<Option<SessionBytes>, FileFeed>
+        requires due { self.old.due ≡ Dues.Magic part }
         requires room { self.old.at < replies_limit }
-        ensures value { Takes (taken Dues.Letters self.old byte) self.old self.new byte result }
+        ensures value { Takes (taken (Dues.Magic part) self.old byte) self.old self.new byte result }
     {
-        if byte != LETTERS[self.at as usize] {
-            return self.refuse(FileFault::Form { at: self.at });
+        match part.step(LETTERS, self.at, byte) {
+            MagicStep::Next(next) => self.go_on(RepliesDue::Magic(next)),
+            MagicStep::Whole { version } => {
+                self.version = version;
+                self.go_on(RepliesDue::Tag);
+            }
+            MagicStep::Wrong => return self.refuse(FileFault::Form { at: self.at }),
         }
-        self.go_on(if self.at == 5 {
-            RepliesDue::Digit
-        } else {
-            RepliesDue::Letters
-        });
-        Ok(None)
-    }
-
-    // The digit of the magic.
-    fn feed_digit(&mut self, byte: u8) -> Result<Option<SessionBytes>, FileFeed>
-        requires due { self.old.due ≡ Dues.Digit }
-        requires room { self.old.at < replies_limit }
-        ensures value { Takes (taken Dues.Digit self.old byte) self.old self.new byte result }
-    {
-        match byte {
-            b'1' => self.go_on(RepliesDue::LineFeed { version: 1 }),
-            b'2' => self.go_on(RepliesDue::LineFeed { version: 2 }),
-            _ => return self.refuse(FileFault::Form { at: self.at }),
-        }
-        Ok(None)
-    }
-
-    // The line feed that ends the magic.
-    fn feed_line_feed(&mut self, version: u32, byte: u8) -> Result<Option<SessionBytes>, FileFeed>
-        requires due { self.old.due ≡ Dues.LineFeed version }
-        requires room { self.old.at < replies_limit }
-        ensures value { Takes (taken (Dues.LineFeed version) self.old byte)
-            self.old self.new byte result }
-    {
-        if byte != b'\n' {
-            return self.refuse(FileFault::Form { at: self.at });
-        }
-        self.version = version;
-        self.go_on(RepliesDue::Tag);
         Ok(None)
     }
 
