@@ -3,7 +3,7 @@ use Rattle.zy_rx.specs.Flow.{home_of}
 use Rattle.mc_store.specs.Pass.{Rooted}
 use Rattle.zy_setup.specs.Make.{AreOwns}
 use Rattle.zy_setup.proofs.OwnLemmas.{own_room, owns_next, given_next}
-use Rattle.zy_setup.proofs.connections.all_owns.Goals as goal
+use Rattle.zy_setup.proofs.connections.add_connections.Goals as goal
 
 pub push-requires : goal.push-requires
 push-requires c =
@@ -21,10 +21,10 @@ loop-conn-preserved c =
     let cores = c.new-homes.ensures.value in
     let less = c.home_of-core.ensures.limit in
     let near : c.home_of-core.result < c.args.cores = omega arith in
-    let root = c.in-Ok-connection.ensures.root in record {
+    let root = c.in_ok-block.ensures.root in record {
       owns = owns_next c.args.store.now.id c.args.cores c.loop-conn.conn c.loop-conn.owns.items c.loop-conn.invariant.owns c.home_of-core.result
           (c.home_of-core.ensures.value ∙ ap (λ n. home_of n c.loop-conn.conn) cores) near c.index_mut.result.now c.index_mut.ensures.value
-          c.push.new.self _ _ c.in-Ok-connection.ensures.new c.in_default.ensures.ok;
+          c.push.new.self _ _ c.in_ok-block.ensures.new c.in_ok-push.ensures.ok;
       table = ap (λ (r : Rooted). r.table) root ∙ c.loop-conn.invariant.table;
       joined = ap (λ (r : Rooted). r.joined) root ∙ c.loop-conn.invariant.joined;
       given = given_next c.loop-conn.root.given c.connection.new.root.given c.loop-conn.conn c.loop-conn.invariant.given (ap (λ (r : Rooted). r.given) root);

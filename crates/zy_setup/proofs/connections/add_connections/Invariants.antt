@@ -2,7 +2,7 @@ use Rattle.std.proofs.Common.{◌≡◌, ◌<◌, ℕ, true}
 use Rattle.std.specs.Prelude.{◌↔◌}
 use Rattle.zy_table.specs.Member.{is_in}
 use Rattle.zy_setup.specs.Make.{AreOwns}
-use Rattle.zy_setup.proofs.connections.all_owns.Given as goal
+use Rattle.zy_setup.proofs.connections.add_connections.Given as goal
 
 -- the connections below this one are made
 abbrev pub invariant-loop-conn : goal.invariant-loop-conn
