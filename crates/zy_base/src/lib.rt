@@ -28,9 +28,9 @@ mod writing;
 
 pub use blob::Blob;
 pub use call::Call;
-pub use call_kind::{CallFields, CallKind};
+pub use call_kind::{CallFields, CallKind, LAST_CALL_CODE};
 pub use call_numbers::CallNumbers;
-pub use call_reply::{CallReply, Replies};
+pub use call_reply::{CallReply, HIT_CODE, LAST_REPLY_CODE, NUMBER_CODE, Replies};
 pub use entry::{Entries, Entry, Tag};
 pub use file_fault::FileFault;
 pub use histories::Histories;
