@@ -5,6 +5,7 @@ ghost use Rattle.zy_journal_reader.specs.Steps.{taken, lawful_long, after_eight,
 ghost use Rattle.zy_journal_reader.specs.Standing.{Takes};
 
 use super::JournalReader;
+use crate::call_fields::at_value;
 use crate::due::{Due, LongField, NumberField};
 use zy_base::{CallReply, FileFault};
 use zy_read::FileFeed;
@@ -61,7 +62,7 @@ impl JournalReader {
             }
             LongField::CallNumber => {
                 self.draft.number = number;
-                self.go_on(self.draft.kind.after_number());
+                self.go_on(at_value(self.draft.kind.fields()));
             }
             LongField::FoundUnique => {
                 self.draft.found_unique = number;

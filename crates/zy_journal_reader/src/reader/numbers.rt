@@ -6,6 +6,7 @@ ghost use Rattle.zy_journal_reader.specs.Steps.{taken, lawful_number, after_four
 ghost use Rattle.zy_journal_reader.specs.Standing.{Takes};
 
 use super::JournalReader;
+use crate::call_fields::at_number;
 use crate::due::{ByteField, BytesField, Due, LongField, NumberField};
 use zy_base::{Blob, CallReply, FileFault};
 use zy_read::FileFeed;
@@ -75,7 +76,7 @@ impl JournalReader {
             }
             NumberField::Flags => {
                 self.draft.flags = number;
-                self.go_on(self.draft.kind.after_flags());
+                self.go_on(at_number(self.draft.kind.fields()));
             }
             NumberField::ValueLength => self.begin_value(number),
             NumberField::FoundFlags => {
