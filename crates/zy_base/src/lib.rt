@@ -14,6 +14,7 @@ mod item;
 mod items;
 mod key;
 pub mod laws;
+mod limits;
 mod mem_sink;
 mod mem_source;
 mod number;
@@ -38,6 +39,10 @@ pub use hold::{Hold, Holds};
 pub use item::Item;
 pub use items::Items;
 pub use key::{hash_of, shard_of};
+pub use limits::{
+    COMMAND_LIMIT, CONNECTION_LIMIT, CORE_LIMIT, HOLD_LIMIT, KEY_LIMIT, LINE_LIMIT, SHARD_LIMIT,
+    STAMP_LIMIT, VALUE_LIMIT,
+};
 pub use mem_sink::MemSink;
 pub use mem_source::MemSource;
 pub use number::{digits_of, number_text, read_number};

@@ -1,5 +1,5 @@
 -- The journal format, docs/FORMATS.md, "Journal": its values, their one spelling, and which values have one.
-use Rattle.std.specs.Prelude.{ℕ, ◌^◌, ◌<◌, ◌≤◌, List, [], ◌∷◌, ◌++◌, length, flat_map, codes, Option, None, Some}
+use Rattle.std.specs.Prelude.{ℕ, ◌<◌, ◌≤◌, List, [], ◌∷◌, ◌++◌, length, flat_map, codes, Option, None, Some}
 use Rattle.std.specs.List.{AllByRecursion}
 use Rattle.std.specs.Int.{to_be_bytes, w32, w64}
 use Rattle.zy_base.specs.declared.call.Call.{Call}
@@ -9,6 +9,7 @@ use Rattle.zy_base.specs.declared.hold.Hold.{Hold}
 use Rattle.zy_base.specs.Call.{key_of}
 use Rattle.zy_base.specs.Code.{call_code, call_flags, call_number, call_value, reply_code, reply_flags, reply_number, reply_value}
 use Rattle.zy_base.specs.Bounds.{IsCall, IsReply}
+use Rattle.zy_base.specs.Limits.{connection_limit, shard_limit, core_limit, hold_limit, command_limit, stamp_limit}
 use Rattle.zy_base.specs.Order.{IsOrdered}
 use Rattle.zy_journal.specs.declared.journal.Journal.{Journal}
 
@@ -69,19 +70,19 @@ journal_bytes journal = magic ++ (flat_map entry_text journal.entries ++ (flat_m
 -- an entry's numbers, call and reply are within their bounds
 pub record IsEntry (e : Entry) : Type 0 where
   pub some_stamp : 0 < e.stamp
-  pub few_stamps : e.stamp < 2 ^ 60
-  pub few_shards : e.shard < 256
-  pub few_connections : e.tag.conn < 4096
-  pub few_commands : e.tag.index < 2 ^ 40
+  pub few_stamps : e.stamp < stamp_limit
+  pub few_shards : e.shard < shard_limit
+  pub few_connections : e.tag.conn < connection_limit
+  pub few_commands : e.tag.index < command_limit
   pub call : IsCall e.call
   pub reply : IsReply e.reply
 
 -- a hold's numbers are within their bounds
 pub record IsHold (h : Hold) : Type 0 where
-  pub few_connections : h.conn < 4096
-  pub few_cores : h.core < 64
+  pub few_connections : h.conn < connection_limit
+  pub few_cores : h.core < core_limit
   pub some_commands : 0 < h.count
-  pub few_commands : h.count ≤ 64
+  pub few_commands : h.count ≤ hold_limit
 
 -- the holds stand by rising connection, from this one on
 abbrev pub AreByConnection : ℕ → List Hold → Type 0

@@ -10,7 +10,7 @@ use Rattle.zy_base.specs.declared.call_reply.CallReply.TheVariants as Replies
 use Rattle.zy_base.specs.declared.entry.Entry.{Entry}
 use Rattle.zy_base.specs.declared.hold.Hold.{Hold}
 use Rattle.zy_base.specs.Code.{kind_of, fields_of, last_call_code, last_reply_code, hit_code, number_code, plain_reply}
-use Rattle.zy_base.specs.Shard.{value_limit}
+use Rattle.zy_base.specs.Limits.{key_limit, value_limit, connection_limit, shard_limit, core_limit, hold_limit, command_limit, stamp_limit}
 use Rattle.zy_read.specs.Format as Reads
 use Rattle.zy_journal.specs.Journal.{magic}
 use Rattle.zy_journal_reader.specs.declared.draft.Draft.{Draft}
@@ -128,7 +128,7 @@ abbrev pub lawful_byte : ByteField → Progress → ℕ → Bool
 lawful_byte Magic p byte = byte == slice_index magic p.at
 lawful_byte Tag p byte = byte == 69 || byte == 72 || (byte == 74 && length p.holds == 0)
 lawful_byte CallCode p byte = nat_le 1 byte && nat_le byte last_call_code
-lawful_byte KeyLength p byte = nat_le 1 byte && nat_le byte 250
+lawful_byte KeyLength p byte = nat_le 1 byte && nat_le byte key_limit
 lawful_byte ReplyCode p byte = nat_le 1 byte && nat_le byte last_reply_code
 
 -- what a lawful one does
@@ -146,13 +146,13 @@ after_byte ReplyCode p byte =
 
 -- which numbers are lawful; where the stamp is that of the entry before, the shard is above that one's
 abbrev pub lawful_number : NumberField → Progress → ℕ → Bool
-lawful_number Shard p n = nat_lt n 256 && (nat_lt p.past.stamp p.draft.stamp || nat_lt p.past.shard n)
-lawful_number Connection p n = nat_lt n 4096
+lawful_number Shard p n = nat_lt n shard_limit && (nat_lt p.past.stamp p.draft.stamp || nat_lt p.past.shard n)
+lawful_number Connection p n = nat_lt n connection_limit
 lawful_number ValueLength p n = nat_le n value_limit
 lawful_number FoundLength p n = nat_le n value_limit
-lawful_number HoldConnection p n = nat_le p.past.conn n && nat_lt n 4096
-lawful_number HoldCore p n = nat_lt n 64
-lawful_number HoldCount p n = nat_le 1 n && nat_le n 64
+lawful_number HoldConnection p n = nat_le p.past.conn n && nat_lt n connection_limit
+lawful_number HoldCore p n = nat_lt n core_limit
+lawful_number HoldCount p n = nat_le 1 n && nat_le n hold_limit
 lawful_number Part p n = true
 lawful_number Flags p n = true
 lawful_number FoundFlags p n = true
@@ -176,8 +176,8 @@ after_four HoldCount p n = ends_hold p n
 
 -- which numbers are lawful; a stamp is not below that of the entry before
 abbrev pub lawful_long : LongField → Progress → ℕ → Bool
-lawful_long Stamp p n = nat_le 1 n && nat_lt n (2 ^ 60) && nat_le p.past.stamp n
-lawful_long Index p n = nat_lt n (2 ^ 40)
+lawful_long Stamp p n = nat_le 1 n && nat_lt n stamp_limit && nat_le p.past.stamp n
+lawful_long Index p n = nat_lt n command_limit
 lawful_long CallNumber p n = true
 lawful_long FoundUnique p n = true
 lawful_long ReplyNumber p n = true
