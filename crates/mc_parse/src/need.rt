@@ -8,9 +8,6 @@ use crate::asking::Ask;
 use crate::line::Line;
 use crate::reading::read_line;
 
-/// The most bytes of a line that is looked at.
-pub const LINE_LIMIT: usize = 65_536;
-
 /// What must come with a line before it is a request.
 #[derive(Clone, Copy, PartialEq, Eq)]
 pub enum Need {

@@ -8,7 +8,10 @@ ghost use Rattle.zy_journal_reader.specs.Standing.{Takes};
 use super::JournalReader;
 use crate::call_fields::at_key;
 use crate::due::{ByteField, BytesField, Due, LongField, NumberField};
-use zy_base::{CallKind, CallReply, FileFault, HIT_CODE, LAST_CALL_CODE, LAST_REPLY_CODE, NUMBER_CODE};
+use zy_base::{
+    CallKind, CallReply, FileFault, HIT_CODE, KEY_LIMIT, LAST_CALL_CODE, LAST_REPLY_CODE,
+    NUMBER_CODE,
+};
 use zy_read::FileFeed;
 
 const MAGIC: &[u8; 8] = b"ZYGJRN1\n";
@@ -45,7 +48,7 @@ impl JournalReader {
             }
             ByteField::CallCode => 1 <= byte && byte <= LAST_CALL_CODE,
             ByteField::ReplyCode => 1 <= byte && byte <= LAST_REPLY_CODE,
-            ByteField::KeyLength => 1 <= byte && byte <= 250,
+            ByteField::KeyLength => 1 <= byte && byte <= KEY_LIMIT,
         }
     }
 
