@@ -2,10 +2,7 @@
 use Rattle.std.specs.Prelude.{ℕ, Bool, true, false, not, ◌&&◌, ◌==◌, if◌then◌else◌, List, [], ◌∷◌, filter, codes}
 use Rattle.std.specs.List.{list_all}
 use Rattle.std.specs.Str.{bytes_eq}
-
--- the most bytes of a line that is looked at
-abbrev pub line_limit : ℕ
-line_limit = 65536
+pub use Rattle.zy_base.specs.Limits.{line_limit}
 
 -- the byte between words
 abbrev pub space : ℕ

@@ -34,7 +34,7 @@ pub use laws::{
     worked_storage_lines, worked_verbs,
 };
 pub use listing::calls;
-pub use need::{LINE_LIMIT, Need, need_of};
+pub use need::{Need, need_of};
 pub use one_call::call_at;
 pub use parse::{parse_block, parse_large, parse_line};
 pub use shard_call::{Calls, ShardCall};

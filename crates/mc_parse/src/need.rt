@@ -10,9 +10,6 @@ use crate::name::{Name, name_of};
 use crate::reading::read_after;
 use crate::word::next_word;
 
-/// The most bytes of a line that is looked at.
-pub const LINE_LIMIT: usize = 65_536;
-
 /// What must come with a line before it is a request.
 #[derive(Clone, Copy, PartialEq, Eq)]
 pub enum Need {

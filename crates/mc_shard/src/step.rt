@@ -8,10 +8,7 @@ ghost use Rattle.mc_shard.specs.Step.{outcome_in, Gives};
 
 use crate::change::{Change, Step};
 use std::alloc::Global;
-use zy_base::{Blob, Call, CallReply, Item, NoMemory, number_text, read_number};
-
-// The most bytes that a value may have.
-const VALUE_LIMIT: usize = 1_048_576;
+use zy_base::{Blob, Call, CallReply, Item, NoMemory, VALUE_LIMIT, number_text, read_number};
 
 /// What a call answers and changes, where its key has this item or none.
 pub fn step_of(alloc: Global, call: &Call, found: Option<&Item>) -> Result<Step, NoMemory>
@@ -104,7 +101,7 @@ fn put(flags: u32, value: &Blob) -> Result<Step, NoMemory>
 fn join(item: &Item, front: &Blob, back: &Blob) -> Result<Step, NoMemory>
     ensures value { (key : List ℕ) → Gives (Some key) result (table.joined key item.now (front.now ++ back.now)) }
 {
-    if front.bytes().len() + back.bytes().len() > VALUE_LIMIT {
+    if front.bytes().len() + back.bytes().len() > VALUE_LIMIT as usize {
         return Ok(reply_alone(CallReply::TooLarge));
     }
     let mut value = front.copy()?;

@@ -12,3 +12,4 @@ pub mod WorkedLemmas
 pub mod KeyLemmas
 pub mod ReplyLemmas
 pub mod SameLemmas
+pub mod CodeLemmas

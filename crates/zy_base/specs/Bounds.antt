@@ -7,13 +7,14 @@ use Rattle.zy_base.specs.declared.call.Call.TheVariants.{Get, Set, Add, Replace,
 use Rattle.zy_base.specs.declared.call_reply.CallReply.{CallReply}
 use Rattle.zy_base.specs.declared.call_reply.CallReply.TheVariants.{Hit}
 use Rattle.zy_base.specs.declared.entry.Entry.{Entry}
-use Rattle.zy_base.specs.Shard.{State, Effect, keeps, stores, removes, empties, value_limit}
+use Rattle.zy_base.specs.Limits.{key_limit, value_limit}
+use Rattle.zy_base.specs.Shard.{State, Effect, keeps, stores, removes, empties}
 
 -- ---- calls and replies
 
 -- a key has 1 to 250 bytes
 abbrev pub IsKey : List ℕ → Type 0
-IsKey key = (0 < length key) × (length key ≤ 250)
+IsKey key = (0 < length key) × (length key ≤ key_limit)
 
 -- a value has at most 1,048,576 bytes
 abbrev pub IsValue : List ℕ → Type 0

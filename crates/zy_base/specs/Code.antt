@@ -1,5 +1,5 @@
 -- The codes of calls and replies in a journal, and the fields that follow them: docs/FORMATS.md, "Journal".
-use Rattle.std.specs.Prelude.{ℕ, ◌==◌, if◌then◌else◌, Bool, true, false, List}
+use Rattle.std.specs.Prelude.{ℕ, ◌==◌, if◌then◌else◌, Bool, true, false, List, Option, None, Some}
 use Rattle.zy_base.specs.declared.call.Call.{Call}
 use Rattle.zy_base.specs.declared.call.Call.TheVariants as Calls
 use Rattle.zy_base.specs.declared.call_kind.CallKind.{CallKind}
@@ -63,35 +63,96 @@ call_of Decr key flags number value = Calls.Decr key number
 call_of Delete key flags number value = Calls.Delete key
 call_of Flush key flags number value = Calls.Flush
 
+-- the kind of a call
+abbrev pub call_kind : Call → CallKind
+call_kind (Calls.Get key) = Get
+call_kind (Calls.Set key flags value) = Set
+call_kind (Calls.Add key flags value) = Add
+call_kind (Calls.Replace key flags value) = Replace
+call_kind (Calls.Append key value) = Append
+call_kind (Calls.Prepend key value) = Prepend
+call_kind (Calls.Cas key flags unique value) = Cas
+call_kind (Calls.Incr key amount) = Incr
+call_kind (Calls.Decr key amount) = Decr
+call_kind (Calls.Delete key) = Delete
+call_kind Calls.Flush = Flush
+
 -- the code of a call
 abbrev pub call_code : Call → ℕ
-call_code (Calls.Get key) = code_of Get
-call_code (Calls.Set key flags value) = code_of Set
-call_code (Calls.Add key flags value) = code_of Add
-call_code (Calls.Replace key flags value) = code_of Replace
-call_code (Calls.Append key value) = code_of Append
-call_code (Calls.Prepend key value) = code_of Prepend
-call_code (Calls.Cas key flags unique value) = code_of Cas
-call_code (Calls.Incr key amount) = code_of Incr
-call_code (Calls.Decr key amount) = code_of Decr
-call_code (Calls.Delete key) = code_of Delete
-call_code Calls.Flush = code_of Flush
+call_code call = code_of (call_kind call)
+
+-- the flags of a call, where it has some
+abbrev pub call_flags : Call → Option ℕ
+call_flags (Calls.Set key flags value) = Some flags
+call_flags (Calls.Add key flags value) = Some flags
+call_flags (Calls.Replace key flags value) = Some flags
+call_flags (Calls.Cas key flags unique value) = Some flags
+call_flags call = None
+
+-- the unique of a cas, and the amount of an incr or a decr
+abbrev pub call_number : Call → Option ℕ
+call_number (Calls.Cas key flags unique value) = Some unique
+call_number (Calls.Incr key amount) = Some amount
+call_number (Calls.Decr key amount) = Some amount
+call_number call = None
+
+-- the value of a call, where it has one
+abbrev pub call_value : Call → Option (List ℕ)
+call_value (Calls.Set key flags value) = Some value
+call_value (Calls.Add key flags value) = Some value
+call_value (Calls.Replace key flags value) = Some value
+call_value (Calls.Append key value) = Some value
+call_value (Calls.Prepend key value) = Some value
+call_value (Calls.Cas key flags unique value) = Some value
+call_value call = None
+
+-- the greatest code of a call
+abbrev pub last_call_code : ℕ
+last_call_code = 11
 
 -- ---- replies
 
--- the code of each reply; a hit has flags, a unique and a value, and a number has the number
+-- the code of a hit
+abbrev pub hit_code : ℕ
+hit_code = 2
+
+-- the code of a number
+abbrev pub number_code : ℕ
+number_code = 8
+
+-- the greatest code of a reply
+abbrev pub last_reply_code : ℕ
+last_reply_code = 11
+
+-- the code of each reply
 abbrev pub reply_code : CallReply → ℕ
 reply_code Replies.Miss = 1
-reply_code (Replies.Hit flags unique value) = 2
+reply_code (Replies.Hit flags unique value) = hit_code
 reply_code Replies.Stored = 3
 reply_code Replies.NotStored = 4
 reply_code Replies.Exists = 5
 reply_code Replies.NotFound = 6
 reply_code Replies.Deleted = 7
-reply_code (Replies.Number number) = 8
+reply_code (Replies.Number number) = number_code
 reply_code Replies.NotNumber = 9
 reply_code Replies.TooLarge = 10
 reply_code Replies.Flushed = 11
+
+-- the flags of a hit
+abbrev pub reply_flags : CallReply → Option ℕ
+reply_flags (Replies.Hit flags unique value) = Some flags
+reply_flags reply = None
+
+-- the unique of a hit, and the number that a value is now
+abbrev pub reply_number : CallReply → Option ℕ
+reply_number (Replies.Hit flags unique value) = Some unique
+reply_number (Replies.Number number) = Some number
+reply_number reply = None
+
+-- the value of a hit
+abbrev pub reply_value : CallReply → Option (List ℕ)
+reply_value (Replies.Hit flags unique value) = Some value
+reply_value reply = None
 
 -- the reply that has a code and no fields
 abbrev pub plain_reply : ℕ → CallReply

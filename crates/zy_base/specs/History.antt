@@ -1,8 +1,9 @@
 -- Histories of calls: what each shard's replies replay, and what all shards' together.
-use Rattle.std.specs.Prelude.{◌≡◌, ℕ, ◌<◌, ◌^◌, ◌==◌, if◌then◌else◌, List, [], ◌∷◌, length}
+use Rattle.std.specs.Prelude.{◌≡◌, ℕ, ◌<◌, ◌==◌, if◌then◌else◌, List, [], ◌∷◌, length}
 use Rattle.zy_base.specs.declared.entry.Entry.{Entry}
 use Rattle.zy_base.specs.Shard.{State, empty_state, reply_to, state_after}
 use Rattle.zy_base.specs.Order.{AreAt, StampsRise, AreStampsBelow, history_of}
+use Rattle.zy_base.specs.Limits.{stamp_limit}
 
 -- ---- one shard
 
@@ -51,4 +52,4 @@ pub record AreHistories (shards : ℕ) (histories : List (List Entry)) : Type 0 
   -- and it is a history of that shard
   pub each : (shard : ℕ) → IsHistory shards shard (history_of histories shard)
   -- its stamps are at most 2^60 - 1
-  pub limit : (shard : ℕ) → AreStampsBelow (2 ^ 60) (history_of histories shard)
+  pub limit : (shard : ℕ) → AreStampsBelow stamp_limit (history_of histories shard)

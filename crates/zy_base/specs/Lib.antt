@@ -3,6 +3,7 @@ pub mod Blob
 pub mod Memory
 pub mod Key
 pub mod Number
+pub mod Limits
 pub mod Call
 pub mod Shard
 pub mod Kind

@@ -12,6 +12,7 @@ use Rattle.zy_base.specs.declared.call_reply.CallReply.{CallReply}
 use Rattle.zy_base.specs.declared.call_reply.CallReply.TheVariants.{Miss, Hit, Stored, NotStored, Exists, NotFound, Deleted, Number, NotNumber, TooLarge, Flushed}
 use Rattle.zy_base.specs.Call.{key_of}
 use Rattle.zy_base.specs.Number.{number_of}
+pub use Rattle.zy_base.specs.Limits.{value_limit}
 
 -- ---- values
 
@@ -27,10 +28,6 @@ pub record State : Type 0 where
 -- a shard on which no call was made
 abbrev pub empty_state : State
 empty_state = record { items = empty; count = 0 }
-
--- the most bytes that a value may have
-abbrev pub value_limit : ℕ
-value_limit = 1048576
 
 -- the unique of the item that a shard stores with this count, of so many shards
 abbrev pub unique_of : ℕ → ℕ → ℕ → ℕ

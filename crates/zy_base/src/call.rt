@@ -1,7 +1,7 @@
 //! Calls on a shard of the store.
 ghost use Rattle.std.specs.Prelude.{◌≡◌, IfOk, option_copied};
 ghost use Rattle.zy_base.specs.Call.{key_of};
-ghost use Rattle.zy_base.specs.Code.{call_code};
+ghost use Rattle.zy_base.specs.Code.{call_kind, call_code, call_flags, call_number, call_value};
 ghost use Rattle.zy_base.specs.declared.call.Call.TheVariants.{Cas};
 
 use crate::blob::Blob;
@@ -88,22 +88,69 @@ impl Call {
         }
     }
 
+    /// The kind of the call.
+    pub fn kind(&self) -> CallKind
+        ensures value { result ≡ call_kind self.now }
+    {
+        match self {
+            Call::Get { .. } => CallKind::Get,
+            Call::Set { .. } => CallKind::Set,
+            Call::Add { .. } => CallKind::Add,
+            Call::Replace { .. } => CallKind::Replace,
+            Call::Append { .. } => CallKind::Append,
+            Call::Prepend { .. } => CallKind::Prepend,
+            Call::Cas { .. } => CallKind::Cas,
+            Call::Incr { .. } => CallKind::Incr,
+            Call::Decr { .. } => CallKind::Decr,
+            Call::Delete { .. } => CallKind::Delete,
+            Call::Flush => CallKind::Flush,
+        }
+    }
+
     /// The code of the call in a journal.
     pub fn code(&self) -> u8
         ensures value { result ≡ call_code self.now }
     {
+        self.kind().code()
+    }
+
+    /// The flags of the call, where it has some.
+    pub fn flags(&self) -> Option<u32>
+        ensures value { result ≡ call_flags self.now }
+    {
         match self {
-            Call::Get { .. } => CallKind::Get.code(),
-            Call::Set { .. } => CallKind::Set.code(),
-            Call::Add { .. } => CallKind::Add.code(),
-            Call::Replace { .. } => CallKind::Replace.code(),
-            Call::Append { .. } => CallKind::Append.code(),
-            Call::Prepend { .. } => CallKind::Prepend.code(),
-            Call::Cas { .. } => CallKind::Cas.code(),
-            Call::Incr { .. } => CallKind::Incr.code(),
-            Call::Decr { .. } => CallKind::Decr.code(),
-            Call::Delete { .. } => CallKind::Delete.code(),
-            Call::Flush => CallKind::Flush.code(),
+            Call::Set { flags, .. } => Some(*flags),
+            Call::Add { flags, .. } => Some(*flags),
+            Call::Replace { flags, .. } => Some(*flags),
+            Call::Cas { flags, .. } => Some(*flags),
+            _ => None,
+        }
+    }
+
+    /// The unique of a cas, and the amount of an incr or a decr.
+    pub fn number(&self) -> Option<u64>
+        ensures value { result ≡ call_number self.now }
+    {
+        match self {
+            Call::Cas { unique, .. } => Some(*unique),
+            Call::Incr { amount, .. } => Some(*amount),
+            Call::Decr { amount, .. } => Some(*amount),
+            _ => None,
+        }
+    }
+
+    /// The value of the call, where it has one.
+    pub fn value(&self) -> Option<&Blob>
+        ensures value { option_copied result ≡ call_value self.now }
+    {
+        match self {
+            Call::Set { value, .. } => Some(value),
+            Call::Add { value, .. } => Some(value),
+            Call::Replace { value, .. } => Some(value),
+            Call::Append { value, .. } => Some(value),
+            Call::Prepend { value, .. } => Some(value),
+            Call::Cas { value, .. } => Some(value),
+            _ => None,
         }
     }
 

@@ -21,6 +21,9 @@ pub enum CallKind {
     Flush,
 }
 
+/// The greatest code of a call.
+pub const LAST_CALL_CODE: u8 = 11;
+
 /// Which fields a kind of call has. In a file they stand in this order.
 #[derive(Clone, Copy)]
 pub struct CallFields {
@@ -89,7 +92,10 @@ impl CallKind {
         ensures value { result ≡ call_of self key flags number value }
     {
         match self {
-            CallKind::Get => Call::Get { key },
+            CallKind::Get => {
+                drop(value);
+                Call::Get { key }
+            }
             CallKind::Set => Call::Set { key, flags, value },
             CallKind::Add => Call::Add { key, flags, value },
             CallKind::Replace => Call::Replace { key, flags, value },
@@ -101,16 +107,25 @@ impl CallKind {
                 unique: number,
                 value,
             },
-            CallKind::Incr => Call::Incr {
-                key,
-                amount: number,
-            },
-            CallKind::Decr => Call::Decr {
-                key,
-                amount: number,
-            },
-            CallKind::Delete => Call::Delete { key },
-            CallKind::Flush => Call::Flush,
+            CallKind::Incr => {
+                drop(value);
+                let amount = number;
+                Call::Incr { key, amount }
+            }
+            CallKind::Decr => {
+                drop(value);
+                let amount = number;
+                Call::Decr { key, amount }
+            }
+            CallKind::Delete => {
+                drop(value);
+                Call::Delete { key }
+            }
+            CallKind::Flush => {
+                drop(value);
+                drop(key);
+                Call::Flush
+            }
         }
     }
 }

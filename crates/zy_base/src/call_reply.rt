@@ -1,6 +1,6 @@
 //! What a shard answers to a call.
-ghost use Rattle.std.specs.Prelude.{◌≡◌, IfOk};
-ghost use Rattle.zy_base.specs.Code.{reply_code, plain_reply};
+ghost use Rattle.std.specs.Prelude.{◌≡◌, IfOk, option_copied};
+ghost use Rattle.zy_base.specs.Code.{reply_code, reply_flags, reply_number, reply_value, plain_reply};
 
 use crate::blob::Blob;
 use crate::items::Items;
@@ -39,6 +39,15 @@ pub enum CallReply {
     Flushed,
 }
 
+/// The greatest code of a reply.
+pub const LAST_REPLY_CODE: u8 = 11;
+
+/// The code of a hit, after which its flags, its unique and its value come.
+pub const HIT_CODE: u8 = 2;
+
+/// The code of a number, after which it comes.
+pub const NUMBER_CODE: u8 = 8;
+
 impl CallReply {
     /// The code of the reply in a journal.
     pub fn code(&self) -> u8
@@ -46,16 +55,47 @@ impl CallReply {
     {
         match self {
             CallReply::Miss => 1,
-            CallReply::Hit { .. } => 2,
+            CallReply::Hit { .. } => HIT_CODE,
             CallReply::Stored => 3,
             CallReply::NotStored => 4,
             CallReply::Exists => 5,
             CallReply::NotFound => 6,
             CallReply::Deleted => 7,
-            CallReply::Number { .. } => 8,
+            CallReply::Number { .. } => NUMBER_CODE,
             CallReply::NotNumber => 9,
             CallReply::TooLarge => 10,
             CallReply::Flushed => 11,
+        }
+    }
+
+    /// The flags of a hit.
+    pub fn flags(&self) -> Option<u32>
+        ensures value { result ≡ reply_flags self.now }
+    {
+        match self {
+            CallReply::Hit { flags, .. } => Some(*flags),
+            _ => None,
+        }
+    }
+
+    /// The unique of a hit, and the number that a value is now.
+    pub fn number(&self) -> Option<u64>
+        ensures value { result ≡ reply_number self.now }
+    {
+        match self {
+            CallReply::Hit { unique, .. } => Some(*unique),
+            CallReply::Number { number } => Some(*number),
+            _ => None,
+        }
+    }
+
+    /// The value of a hit.
+    pub fn value(&self) -> Option<&Blob>
+        ensures value { option_copied result ≡ reply_value self.now }
+    {
+        match self {
+            CallReply::Hit { value, .. } => Some(value),
+            _ => None,
         }
     }
 

@@ -1,5 +1,6 @@
 //! The histories of all shards.
 ghost use Rattle.std.specs.Prelude.{◌≡◌, ◌<◌, [], ◌∷◌, ◌++◌, length, ◌≤◌, OnOk, OnErr, IfErr};
+ghost use Rattle.zy_base.specs.Limits.{shard_limit};
 ghost use Rattle.zy_base.specs.Order.{AreAt, AreByShard, history_of};
 
 use crate::entry::{Entries, Entry};
@@ -20,11 +21,12 @@ impl Model for Histories {
 
     ghost Value = { List (List Entry) };
 
+    ghost use Rattle.zy_base.specs.Limits.{shard_limit};
     ghost use Rattle.zy_base.specs.Order.{AreByShard};
 
     ghost view = { λ h. h.lists.items };
 
-    ghost invariant = { λ h. (length h.lists.items ≤ 256) × AreByShard h.lists.items };
+    ghost invariant = { λ h. (length h.lists.items ≤ shard_limit) × AreByShard h.lists.items };
 }
 
 impl Histories {
@@ -39,7 +41,7 @@ impl Histories {
 
     /// The histories of a vector, which it takes over. Takes no memory.
     pub fn from_vec(lists: Vec<Entries>) -> Histories
-        requires few { length lists.items ≤ 256 }
+        requires few { length lists.items ≤ shard_limit }
         requires shards { AreByShard lists.items }
         ensures value { result ≡ lists.items }
     {
@@ -48,7 +50,7 @@ impl Histories {
 
     /// Appends the history of the next shard; after a refusal it is handed back.
     pub fn add(&mut self, list: Entries) -> Result<(), (Entries, NoMemory)>
-        requires room { length self.old < 256 }
+        requires room { length self.old < shard_limit }
         requires shard { AreAt (length self.old) list }
         ensures ok { OnOk result (self.new ≡ self.old ++ list ∷ []) }
         ensures err { OnErr result (self.new ≡ self.old) }
@@ -63,7 +65,7 @@ impl Histories {
     /// The number of lists.
     pub fn count(&self) -> u32
         ensures value { result ≡ length self.now }
-        ensures limit { result ≤ 256 }
+        ensures limit { result ≤ shard_limit }
     {
         self.lists.len() as u32
     }
@@ -81,7 +83,7 @@ impl Histories {
     pub fn into_vec(self) -> Vec<Entries>
         ensures value { result.items ≡ self }
         ensures shards { AreByShard result.items }
-        ensures limit { length result.items ≤ 256 }
+        ensures limit { length result.items ≤ shard_limit }
     {
         self.lists
     }

@@ -10,6 +10,7 @@ ghost use Rattle.zy_base.specs.Number.{number_of};
 ghost use Rattle.zy_base.specs.Key.{hash_of, shard_of};
 ghost use Rattle.zy_base.specs.Shard.{State, empty_state, reply_to, outcome_of, value_limit};
 ghost use Rattle.zy_base.specs.Worked as Worked;
+ghost use Rattle.zy_base.specs.Limits.{stamp_limit};
 ghost use Rattle.zy_base.specs.Kind.{MayAnswer, AreAnswers};
 ghost use Rattle.zy_base.specs.Call.{key_of};
 ghost use Rattle.zy_base.specs.Bounds.{IsCallWithin, IsReply};
@@ -158,7 +159,7 @@ pub fn a_merge_of_histories_is_legal()
     ensures legal { (shards : ℕ) (histories : List (List Entry)) (es : List Entry)
         → AreHistories shards histories → IsMergeOf histories es → IsLegal shards es }
     ensures limit { (shards : ℕ) (histories : List (List Entry)) (es : List Entry)
-        → AreHistories shards histories → IsMergeOf histories es → AreStampsBelow (2 ^ 60) es }
+        → AreHistories shards histories → IsMergeOf histories es → AreStampsBelow stamp_limit es }
 {}
 
 /// The merged list has the calls of each connection, each once and in their order.

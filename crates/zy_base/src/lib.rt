@@ -14,6 +14,7 @@ mod item;
 mod items;
 mod key;
 pub mod laws;
+mod limits;
 mod mem_sink;
 mod mem_source;
 mod number;
@@ -28,9 +29,9 @@ mod writing;
 
 pub use blob::Blob;
 pub use call::Call;
-pub use call_kind::{CallFields, CallKind};
+pub use call_kind::{CallFields, CallKind, LAST_CALL_CODE};
 pub use call_numbers::CallNumbers;
-pub use call_reply::{CallReply, Replies};
+pub use call_reply::{CallReply, HIT_CODE, LAST_REPLY_CODE, NUMBER_CODE, Replies};
 pub use entry::{Entries, Entry, Tag};
 pub use file_fault::FileFault;
 pub use histories::Histories;
@@ -38,6 +39,10 @@ pub use hold::{Hold, Holds};
 pub use item::Item;
 pub use items::Items;
 pub use key::{hash_of, shard_of};
+pub use limits::{
+    COMMAND_LIMIT, CONNECTION_LIMIT, CORE_LIMIT, HOLD_LIMIT, KEY_LIMIT, LINE_LIMIT, SHARD_LIMIT,
+    STAMP_LIMIT, VALUE_LIMIT,
+};
 pub use mem_sink::MemSink;
 pub use mem_source::MemSource;
 pub use number::{digits_of, number_text, read_number};

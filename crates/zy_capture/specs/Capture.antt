@@ -2,14 +2,11 @@
 use Rattle.std.specs.Prelude.{◌≡◌, ◌⊎◌, ℕ, ◌+◌, ◌<◌, ◌≤◌, List, [], ◌∷◌, ◌++◌, length, flat_map, codes}
 use Rattle.std.specs.List.{AllByRecursion}
 use Rattle.std.specs.Int.{to_be_bytes, w32}
+pub use Rattle.zy_base.specs.Limits.{connection_limit}
 use Rattle.zy_capture.specs.declared.record.Record.{Record}
 use Rattle.zy_capture.specs.declared.record.Record.TheVariants as Kinds
 
 -- ---- limits
-
--- the most connections
-abbrev pub connection_limit : ℕ
-connection_limit = 4096
 
 -- the most bytes of a segment
 abbrev pub segment_limit : ℕ

@@ -4,7 +4,6 @@
 mod capture_fault;
 mod due;
 mod laws;
-mod limits;
 mod outputs;
 mod reader;
 mod record;

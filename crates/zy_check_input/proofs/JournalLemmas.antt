@@ -2,15 +2,15 @@
 use Rattle.std.proofs.Common.{◌≡◌, inl, ℕ, ◌+◌, ◌-◌, ◌==◌, Bool, true, false, true≢false, List, [], ◌∷◌, ◌++◌, length, refl, sym, ◌∙◌, ap, subst}
 use Rattle.std.specs.Prelude.{nat_lt, if◌then◌else◌, Option, Some, None, Result, Ok, Err, ⊤}
 use Rattle.std.specs.Int.{from_be_bytes, w32, w64}
+use Rattle.zy_base.specs.declared.call_kind.CallFields.{CallFields}
 use Rattle.zy_base.specs.declared.call_reply.CallReply.TheVariants as Replies
 use Rattle.zy_base.specs.declared.file_fault.FileFault.{FileFault}
 use Rattle.zy_base.specs.declared.file_fault.FileFault.TheVariants.{Form, TooLong}
+use Rattle.zy_base.specs.Code.{kind_of, fields_of, hit_code, number_code, plain_reply}
 use Rattle.zy_read.specs.declared.not_taken.NotTaken.{NotTaken}
 use Rattle.zy_read.specs.declared.not_taken.NotTaken.TheVariants.{Fault}
 use Rattle.zy_read.specs.Standing.{given_in, Feeds, MeetsFault, TellsFault}
 use Rattle.zy_read.proofs.Feeding.{verdict_here}
-use Rattle.zy_journal_reader.specs.declared.call_kind.CallKind.{CallKind}
-use Rattle.zy_journal_reader.specs.declared.call_kind.CallKind.TheVariants.{Set, Cas, Flush}
 use Rattle.zy_journal_reader.specs.declared.due.Due.{Due}
 use Rattle.zy_journal_reader.specs.declared.due.Due.TheVariants.{Byte, Number, Long, Bytes, Nothing, Broken}
 use Rattle.zy_journal_reader.specs.declared.due.ByteField.{ByteField}
@@ -21,7 +21,7 @@ use Rattle.zy_journal_reader.specs.declared.due.LongField.{LongField}
 use Rattle.zy_journal_reader.specs.declared.due.LongField.TheVariants.{Stamp, Index, CallNumber, FoundUnique, ReplyNumber}
 use Rattle.zy_journal_reader.specs.declared.due.BytesField.{BytesField}
 use Rattle.zy_journal_reader.specs.declared.due.BytesField.TheVariants.{Key, Value, FoundValue}
-use Rattle.zy_journal_reader.specs.Fields.{fault_in, kind_of, after_code, after_key, after_flags, after_number, plain_reply}
+use Rattle.zy_journal_reader.specs.Fields.{fault_in, at_key, at_flags, at_number, at_value}
 use Rattle.zy_journal_reader.specs.Steps.{Progress, Step, goes, knows, begins, ends_entry, ends, refuses, keeps, grows, lawful_byte, after_byte, lawful_number, after_four, lawful_long, after_eight, after_bytes, taken, is_full, step}
 use Rattle.zy_journal_reader.specs.Standing.{StandsForJournal}
 use Rattle.zy_journal_reader.specs.Verdict.{journals, ended, is_good, verdict, fault_of}
@@ -53,35 +53,35 @@ once = record { lasting = lasting; closes = closes; bad = λ fault. refl }
 abbrev EndsNothing : Step → Type 0
 EndsNothing s = s.gave ≡ None → s.next.due ≡ Nothing → ⊥
 
-after_code_goes : (kind : CallKind) → after_code kind ≡ Nothing → ⊥
-after_code_goes Flush is = cc
-after_code_goes kind is = cc
+-- a due that goes on
+abbrev GoesOnAt : Due → Type 0
+GoesOnAt due = due ≡ Nothing → ⊥
 
-after_key_goes : (kind : CallKind) → after_key kind ≡ Nothing → ⊥
-after_key_goes Set is = cc
-after_key_goes kind is = cc
+value_goes : (fields : CallFields) → GoesOnAt (at_value fields)
+value_goes fields = either GoesOnAt fields.value (Number ValueLength) (Byte ReplyCode) (λ is. cc) (λ is. cc)
 
-after_flags_goes : (kind : CallKind) → after_flags kind ≡ Nothing → ⊥
-after_flags_goes Cas is = cc
-after_flags_goes kind is = cc
+number_goes : (fields : CallFields) → GoesOnAt (at_number fields)
+number_goes fields = either GoesOnAt fields.number (Long CallNumber) (at_value fields) (λ is. cc) (value_goes fields)
 
-after_number_goes : (kind : CallKind) → after_number kind ≡ Nothing → ⊥
-after_number_goes Cas is = cc
-after_number_goes kind is = cc
+flags_go : (fields : CallFields) → GoesOnAt (at_flags fields)
+flags_go fields = either GoesOnAt fields.flags (Number Flags) (at_number fields) (λ is. cc) (number_goes fields)
+
+key_goes : (fields : CallFields) → GoesOnAt (at_key fields)
+key_goes fields = either GoesOnAt fields.key (Byte KeyLength) (at_flags fields) (λ is. cc) (flags_go fields)
 
 byte_ends : (field : ByteField) (p : Progress) (byte : ℕ) → EndsNothing (after_byte field p byte)
 byte_ends Magic p byte = either EndsNothing (p.at == 7) (goes p (Byte Tag)) (goes p (Byte Magic)) (λ none is. cc) (λ none is. cc)
 byte_ends Tag p byte =
     either EndsNothing (byte == 69) (ends p) (if byte == 72 then goes p (Number HoldConnection) else goes p (Long Stamp)) (λ none is. cc)
     (either EndsNothing (byte == 72) (goes p (Number HoldConnection)) (goes p (Long Stamp)) (λ none is. cc) (λ none is. cc))
-byte_ends CallCode p byte = λ none is. after_code_goes (kind_of byte) is
+byte_ends CallCode p byte = λ none is. key_goes (fields_of (kind_of byte)) is
 byte_ends KeyLength p byte = λ none is. cc
 byte_ends ReplyCode p byte =
-    either EndsNothing (byte == 2) (goes p (Number FoundFlags)) (if byte == 8 then goes p (Long ReplyNumber) else ends_entry p (plain_reply byte)) (λ none is. cc)
-    (either EndsNothing (byte == 8) (goes p (Long ReplyNumber)) (ends_entry p (plain_reply byte)) (λ none is. cc) (λ none is. cc))
+    either EndsNothing (byte == hit_code) (goes p (Number FoundFlags)) (if byte == number_code then goes p (Long ReplyNumber) else ends_entry p (plain_reply byte)) (λ none is. cc)
+    (either EndsNothing (byte == number_code) (goes p (Long ReplyNumber)) (ends_entry p (plain_reply byte)) (λ none is. cc) (λ none is. cc))
 
 four_ends : (field : NumberField) (p : Progress) (n : ℕ) → EndsNothing (after_four field p n)
-four_ends Flags p n = λ none is. after_flags_goes p.draft.kind is
+four_ends Flags p n = λ none is. number_goes (fields_of p.draft.kind) is
 four_ends ValueLength p n =
     either EndsNothing (n == 0) (knows p (record p.draft { value = [] }) (Byte ReplyCode)) (begins p Value n) (λ none is. cc) (λ none is. cc)
 four_ends FoundLength p n =
@@ -97,12 +97,12 @@ four_ends HoldCount p n = λ none is. cc
 eight_ends : (field : LongField) (p : Progress) (n : ℕ) → EndsNothing (after_eight field p n)
 eight_ends Stamp p n none is = cc
 eight_ends Index p n none is = cc
-eight_ends CallNumber p n none is = after_number_goes p.draft.kind is
+eight_ends CallNumber p n none is = value_goes (fields_of p.draft.kind) is
 eight_ends FoundUnique p n none is = cc
 eight_ends ReplyNumber p n none is = cc
 
 bytes_end : (field : BytesField) (p : Progress) (bytes : List ℕ) → EndsNothing (after_bytes field p bytes)
-bytes_end Key p bytes none is = after_key_goes p.draft.kind is
+bytes_end Key p bytes none is = flags_go (fields_of p.draft.kind) is
 bytes_end Value p bytes none is = cc
 bytes_end FoundValue p bytes none is = cc
 

@@ -10,12 +10,9 @@ use crate::line_end::{chomp, chomp_kept, line_end};
 use crate::state::State;
 use crate::step::Step;
 use crate::wanted::Wanted;
-use mc_parse::{LINE_LIMIT, Need, need_of};
+use mc_parse::{Need, need_of};
 use std::alloc::Global;
-use zy_base::{Blob, NoMemory};
-
-// The most bytes that a value may have.
-const VALUE_LIMIT: u32 = 1_048_576;
+use zy_base::{Blob, LINE_LIMIT, NoMemory, VALUE_LIMIT};
 
 // At the start of a line.
 pub(crate) fn at_start(alloc: Global) -> State

@@ -10,9 +10,6 @@ use Rattle.zy_base.proofs.WritingLemmas.{grew_nothing, grew_on, writes_on, write
 pub text_3 : (x : ℕ) (a b c p q r : List ℕ) → a ≡ p → b ≡ q → c ≡ r → (x ∷ []) ++ (a ++ (b ++ (c ++ []))) ≡ x ∷ (p ++ (q ++ r))
 text_3 x a b c p q r one two three = rw (one, two, three, append-nil r) refl
 
-pub text_4 : (x : ℕ) (a b c d p q r s : List ℕ) → a ≡ p → b ≡ q → c ≡ r → d ≡ s → (x ∷ []) ++ (a ++ (b ++ (c ++ (d ++ [])))) ≡ x ∷ (p ++ (q ++ (r ++ s)))
-text_4 x a b c d p q r s one two three four = rw (one, two, three, four, append-nil s) refl
-
 pub text_5 : (x : ℕ) (a b c d e p q r s t : List ℕ) → a ≡ p → b ≡ q → c ≡ r → d ≡ s → e ≡ t → (x ∷ []) ++ (a ++ (b ++ (c ++ (d ++ (e ++ []))))) ≡ x ∷ (p ++ (q ++ (r ++ (s ++ t))))
 text_5 x a b c d e p q r s t one two three four five = rw (one, two, three, four, five, append-nil t) refl
 

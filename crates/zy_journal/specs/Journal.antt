@@ -1,14 +1,15 @@
 -- The journal format, docs/FORMATS.md, "Journal": its values, their one spelling, and which values have one.
-use Rattle.std.specs.Prelude.{ℕ, ◌^◌, ◌<◌, ◌≤◌, List, [], ◌∷◌, ◌++◌, length, flat_map, codes, None}
+use Rattle.std.specs.Prelude.{ℕ, ◌<◌, ◌≤◌, List, [], ◌∷◌, ◌++◌, length, flat_map, codes, Option, None, Some}
 use Rattle.std.specs.List.{AllByRecursion}
 use Rattle.std.specs.Int.{to_be_bytes, w32, w64}
 use Rattle.zy_base.specs.declared.call.Call.{Call}
-use Rattle.zy_base.specs.declared.call.Call.TheVariants.{Get, Set, Add, Replace, Append, Prepend, Cas, Incr, Decr, Delete, Flush}
 use Rattle.zy_base.specs.declared.call_reply.CallReply.{CallReply}
-use Rattle.zy_base.specs.declared.call_reply.CallReply.TheVariants.{Miss, Hit, Stored, NotStored, Exists, NotFound, Deleted, Number, NotNumber, TooLarge, Flushed}
 use Rattle.zy_base.specs.declared.entry.Entry.{Entry}
 use Rattle.zy_base.specs.declared.hold.Hold.{Hold}
+use Rattle.zy_base.specs.Call.{key_of}
+use Rattle.zy_base.specs.Code.{call_code, call_flags, call_number, call_value, reply_code, reply_flags, reply_number, reply_value}
 use Rattle.zy_base.specs.Bounds.{IsCall, IsReply}
+use Rattle.zy_base.specs.Limits.{connection_limit, shard_limit, core_limit, hold_limit, command_limit, stamp_limit}
 use Rattle.zy_base.specs.Order.{IsOrdered}
 use Rattle.zy_journal.specs.declared.journal.Journal.{Journal}
 
@@ -26,38 +27,25 @@ key_text key = length key ∷ key
 abbrev pub value_text : List ℕ → List ℕ
 value_text value = to_be_bytes w32 (length value) ++ value
 
--- an item that is stored: the key, the flags and the value
-abbrev pub item_text : List ℕ → ℕ → List ℕ → List ℕ
-item_text key flags value = key_text key ++ (to_be_bytes w32 flags ++ value_text value)
+-- a field that is there, and nothing for one that is not
+abbrev pub field_text : {X : Type 0} → (X → List ℕ) → Option X → List ℕ
+field_text text None = []
+field_text text (Some x) = text x
 
--- a call: its code and its fields
+-- the flags, four bytes, a number, eight bytes, and a value, each where it is there
+abbrev pub fields_text : Option ℕ → Option ℕ → Option (List ℕ) → List ℕ
+fields_text flags number value =
+    field_text (to_be_bytes w32) flags ++ (field_text (to_be_bytes w64) number ++ field_text value_text value)
+
+-- a call: its code, its key and its other fields
 unfoldable pub call_text : Call → List ℕ
-call_text (Get key) = 1 ∷ key_text key
-call_text (Set key flags value) = 2 ∷ item_text key flags value
-call_text (Add key flags value) = 3 ∷ item_text key flags value
-call_text (Replace key flags value) = 4 ∷ item_text key flags value
-call_text (Append key value) = 5 ∷ (key_text key ++ value_text value)
-call_text (Prepend key value) = 6 ∷ (key_text key ++ value_text value)
-call_text (Cas key flags unique value) =
-    7 ∷ (key_text key ++ (to_be_bytes w32 flags ++ (to_be_bytes w64 unique ++ value_text value)))
-call_text (Incr key amount) = 8 ∷ (key_text key ++ to_be_bytes w64 amount)
-call_text (Decr key amount) = 9 ∷ (key_text key ++ to_be_bytes w64 amount)
-call_text (Delete key) = 10 ∷ key_text key
-call_text Flush = 11 ∷ []
+call_text call =
+    call_code call
+    ∷ (field_text key_text (key_of call) ++ fields_text (call_flags call) (call_number call) (call_value call))
 
 -- a reply: its code and its fields
 unfoldable pub reply_text : CallReply → List ℕ
-reply_text Miss = 1 ∷ []
-reply_text (Hit flags unique value) = 2 ∷ (to_be_bytes w32 flags ++ (to_be_bytes w64 unique ++ value_text value))
-reply_text Stored = 3 ∷ []
-reply_text NotStored = 4 ∷ []
-reply_text Exists = 5 ∷ []
-reply_text NotFound = 6 ∷ []
-reply_text Deleted = 7 ∷ []
-reply_text (Number number) = 8 ∷ to_be_bytes w64 number
-reply_text NotNumber = 9 ∷ []
-reply_text TooLarge = 10 ∷ []
-reply_text Flushed = 11 ∷ []
+reply_text reply = reply_code reply ∷ fields_text (reply_flags reply) (reply_number reply) (reply_value reply)
 
 -- the tag of an entry, when and where it was, and whose call it is
 unfoldable pub entry_head : Entry → List ℕ
@@ -82,19 +70,19 @@ journal_bytes journal = magic ++ (flat_map entry_text journal.entries ++ (flat_m
 -- an entry's numbers, call and reply are within their bounds
 pub record IsEntry (e : Entry) : Type 0 where
   pub some_stamp : 0 < e.stamp
-  pub few_stamps : e.stamp < 2 ^ 60
-  pub few_shards : e.shard < 256
-  pub few_connections : e.tag.conn < 4096
-  pub few_commands : e.tag.index < 2 ^ 40
+  pub few_stamps : e.stamp < stamp_limit
+  pub few_shards : e.shard < shard_limit
+  pub few_connections : e.tag.conn < connection_limit
+  pub few_commands : e.tag.index < command_limit
   pub call : IsCall e.call
   pub reply : IsReply e.reply
 
 -- a hold's numbers are within their bounds
 pub record IsHold (h : Hold) : Type 0 where
-  pub few_connections : h.conn < 4096
-  pub few_cores : h.core < 64
+  pub few_connections : h.conn < connection_limit
+  pub few_cores : h.core < core_limit
   pub some_commands : 0 < h.count
-  pub few_commands : h.count ≤ 64
+  pub few_commands : h.count ≤ hold_limit
 
 -- the holds stand by rising connection, from this one on
 abbrev pub AreByConnection : ℕ → List Hold → Type 0

@@ -1,11 +1,12 @@
 //! The writer of journals.
-ghost use Rattle.std.specs.Prelude.{◌≡◌, ◌≤◌, ◌∷◌, ◌++◌, length, flat_map};
+ghost use Rattle.std.specs.Prelude.{◌∷◌, flat_map, IfSome, option_copied};
 ghost use Rattle.std.specs.List.{AllByRecursion};
 ghost use Rattle.std.specs.Int.{to_be_bytes, w32, w64};
-ghost use Rattle.zy_base.specs.Bounds.{IsCall, IsReply};
+ghost use Rattle.zy_base.specs.Bounds.{IsKey, IsValue, IsCall, IsReply};
 ghost use Rattle.zy_base.specs.Outside.{Writes};
 ghost use Rattle.zy_journal.specs.Journal.{IsJournal, IsEntry, journal_bytes};
-ghost use Rattle.zy_journal.specs.Journal.{entry_head, entry_text, call_text, reply_text, hold_text, key_text, value_text};
+ghost use Rattle.zy_journal.specs.Journal.{entry_head, entry_text, call_text, reply_text, hold_text};
+ghost use Rattle.zy_journal.specs.Journal.{key_text, value_text, field_text, fields_text};
 
 use crate::journal::Journal;
 use crate::walk::Walk;
@@ -89,110 +90,91 @@ fn write_head<K: Sink>(sink: &mut K, entry: &Entry) -> Result<(), Failed>
     write_pieces(sink, &[b"J", &stamp, &shard, &conn, &index, &part])
 }
 
-#[tactic(auto, unfolding(crate::specs::Journal::call_text))]
 fn write_call<K: Sink>(sink: &mut K, call: &Call) -> Result<(), Failed>
     requires fits { IsCall call.now }
     ensures writes { Writes K.holds K.faults sink.old sink.new result (call_text call.now) }
 {
-    match call {
-        Call::Get { key } => write_key(sink, 1, key, &[]),
-        Call::Set { key, flags, value } => {
-            write_value(sink, 2, key, &flags.to_be_bytes(), value)
-        }
-        Call::Add { key, flags, value } => {
-            write_value(sink, 3, key, &flags.to_be_bytes(), value)
-        }
-        Call::Replace { key, flags, value } => {
-            write_value(sink, 4, key, &flags.to_be_bytes(), value)
-        }
-        Call::Append { key, value } => write_value(sink, 5, key, &[], value),
-        Call::Prepend { key, value } => write_value(sink, 6, key, &[], value),
-        Call::Cas {
-            key,
-            flags,
-            unique,
-            value,
-        } => write_value(sink, 7, key, &flags_and_unique(*flags, *unique), value),
-        Call::Incr { key, amount } => write_key(sink, 8, key, &amount.to_be_bytes()),
-        Call::Decr { key, amount } => write_key(sink, 9, key, &amount.to_be_bytes()),
-        Call::Delete { key } => write_key(sink, 10, key, &[]),
-        Call::Flush => write_whole(sink, &[11]),
+    if let Err(failed) = write_start(sink, call.code(), call.key()) {
+        return Err(failed);
     }
+    write_fields(sink, call.flags(), call.number(), call.value())
 }
 
-// A code, a key, and what follows it.
-fn write_key<K: Sink>(sink: &mut K, code: u8, key: &Blob, rest: &[u8]) -> Result<(), Failed>
-    requires fits { length key.now ≤ 250 }
-    ensures writes { Writes K.holds K.faults sink.old sink.new result
-        (code ∷ (key_text key.now ++ rest.now)) }
-{
-    let size = key.bytes().len() as u8;
-    write_pieces(sink, &[&[code, size], key.bytes(), rest])
-}
-
-// A code, a key, some numbers and a value.
-fn write_value<'a, K: Sink>(
-    sink: &mut K,
-    code: u8,
-    key: &'a Blob,
-    numbers: &'a [u8],
-    value: &'a Blob,
-) -> Result<(), Failed>
-    requires fits { length key.now ≤ 250 }
-    requires few { length value.now ≤ 1048576 }
-    ensures writes { Writes K.holds K.faults sink.old sink.new result
-        (code ∷ (key_text key.now ++ (numbers.now ++ value_text value.now))) }
-{
-    let size = key.bytes().len() as u8;
-    let length = (value.bytes().len() as u32).to_be_bytes();
-    write_pieces(
-        sink,
-        &[&[code, size], key.bytes(), numbers, &length, value.bytes()],
-    )
-}
-
-// Two numbers, one after the other.
-fn flags_and_unique(flags: u32, unique: u64) -> [u8; 12]
-    ensures value { result ≡ to_be_bytes w32 flags ++ to_be_bytes w64 unique }
-{
-    let f = flags.to_be_bytes();
-    let u = unique.to_be_bytes();
-    [
-        f[0], f[1], f[2], f[3], u[0], u[1], u[2], u[3], u[4], u[5], u[6], u[7],
-    ]
-}
-
-#[tactic(auto, unfolding(crate::specs::Journal::reply_text))]
 fn write_reply<K: Sink>(sink: &mut K, reply: &CallReply) -> Result<(), Failed>
     requires fits { IsReply reply.now }
     ensures writes { Writes K.holds K.faults sink.old sink.new result (reply_text reply.now) }
 {
-    match reply {
-        CallReply::Miss => write_whole(sink, &[1]),
-        CallReply::Hit {
-            flags,
-            unique,
-            value,
-        } => write_hit(sink, *flags, *unique, value),
-        CallReply::Stored => write_whole(sink, &[3]),
-        CallReply::NotStored => write_whole(sink, &[4]),
-        CallReply::Exists => write_whole(sink, &[5]),
-        CallReply::NotFound => write_whole(sink, &[6]),
-        CallReply::Deleted => write_whole(sink, &[7]),
-        CallReply::Number { number } => write_pieces(sink, &[&[8], &number.to_be_bytes()]),
-        CallReply::NotNumber => write_whole(sink, &[9]),
-        CallReply::TooLarge => write_whole(sink, &[10]),
-        CallReply::Flushed => write_whole(sink, &[11]),
+    if let Err(failed) = write_whole(sink, &[reply.code()]) {
+        return Err(failed);
+    }
+    write_fields(sink, reply.flags(), reply.number(), reply.value())
+}
+
+// A code, and a key where there is one.
+fn write_start<K: Sink>(sink: &mut K, code: u8, key: Option<&Blob>) -> Result<(), Failed>
+    requires fits { IfSome (option_copied key) IsKey }
+    ensures writes { Writes K.holds K.faults sink.old sink.new result
+        (code ∷ field_text key_text (option_copied key.entry)) }
+{
+    match key {
+        Some(key) => {
+            let size = key.bytes().len() as u8;
+            write_pieces(sink, &[&[code, size], key.bytes()])
+        }
+        None => write_whole(sink, &[code]),
     }
 }
 
-fn write_hit<K: Sink>(sink: &mut K, flags: u32, unique: u64, value: &Blob) -> Result<(), Failed>
-    requires few { length value.now ≤ 1048576 }
+// The flags, a number and a value, each where it is there.
+fn write_fields<K: Sink>(
+    sink: &mut K,
+    flags: Option<u32>,
+    number: Option<u64>,
+    value: Option<&Blob>,
+) -> Result<(), Failed>
+    requires fits { IfSome (option_copied value) IsValue }
     ensures writes { Writes K.holds K.faults sink.old sink.new result
-        (2 ∷ (to_be_bytes w32 flags ++ (to_be_bytes w64 unique ++ value_text value.now))) }
+        (fields_text flags number (option_copied value.entry)) }
 {
-    let flags = flags.to_be_bytes();
-    let unique = unique.to_be_bytes();
-    let size = (value.bytes().len() as u32).to_be_bytes();
-    write_pieces(sink, &[&[2], &flags, &unique, &size, value.bytes()])
+    if let Err(failed) = write_flags(sink, flags) {
+        return Err(failed);
+    }
+    if let Err(failed) = write_number(sink, number) {
+        return Err(failed);
+    }
+    write_value(sink, value)
+}
+
+fn write_flags<K: Sink>(sink: &mut K, flags: Option<u32>) -> Result<(), Failed>
+    ensures writes { Writes K.holds K.faults sink.old sink.new result
+        (field_text (to_be_bytes w32) flags) }
+{
+    match flags {
+        Some(flags) => write_whole(sink, &flags.to_be_bytes()),
+        None => write_whole(sink, &[]),
+    }
+}
+
+fn write_number<K: Sink>(sink: &mut K, number: Option<u64>) -> Result<(), Failed>
+    ensures writes { Writes K.holds K.faults sink.old sink.new result
+        (field_text (to_be_bytes w64) number) }
+{
+    match number {
+        Some(number) => write_whole(sink, &number.to_be_bytes()),
+        None => write_whole(sink, &[]),
+    }
+}
+
+fn write_value<K: Sink>(sink: &mut K, value: Option<&Blob>) -> Result<(), Failed>
+    requires fits { IfSome (option_copied value) IsValue }
+    ensures writes { Writes K.holds K.faults sink.old sink.new result
+        (field_text value_text (option_copied value.entry)) }
+{
+    match value {
+        Some(value) => {
+            let length = (value.bytes().len() as u32).to_be_bytes();
+            write_pieces(sink, &[&length, value.bytes()])
+        }
+        None => write_whole(sink, &[]),
+    }
 }

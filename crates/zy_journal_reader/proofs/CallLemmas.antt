@@ -1,131 +1,118 @@
--- Calls and replies by their codes, and what is known of a call before it is read whole.
-use Rattle.std.proofs.Common.{◌≡◌, ℕ, ◌<◌, ◌≤◌, ◌^◌, Bool, true, false, List, [], ◌∷◌, ◌++◌, refl, sym, ap, arith, append_assoc}
-use Rattle.std.specs.Prelude.{◌==◌, if◌then◌else◌, ⊤}
+-- What was read of a call before it is whole, its text and its bounds, whatever its kind.
+use Rattle.std.proofs.Common.{◌≡◌, ℕ, ◌<◌, ◌≤◌, ◌^◌, Bool, true, false, List, [], ◌∷◌, ◌++◌, refl, sym, ap, ◌∙◌, subst, append_assoc}
+use Rattle.std.specs.Prelude.{◌==◌, if◌then◌else◌, Option, IfSome}
 use Rattle.std.specs.Int.{to_be_bytes, w32, w64}
-use Rattle.std.proofs.lemmas.Bool.Decides.{nat_tests}
 use Rattle.zy_base.specs.declared.call.Call.{Call}
+use Rattle.zy_base.specs.declared.call_kind.CallFields.{CallFields}
+use Rattle.zy_base.specs.Code.{code_of, fields_of, call_of, hit_code, number_code, last_reply_code, plain_reply}
 use Rattle.zy_base.specs.Bounds.{IsKey, IsValue, IsCall, IsReply}
-use Rattle.zy_journal.specs.Journal.{key_text, value_text, call_text, reply_text}
-use Rattle.zy_journal_reader.specs.declared.call_kind.CallKind.{CallKind}
-use Rattle.zy_journal_reader.specs.declared.call_kind.CallKind.TheVariants.{Get, Set, Add, Replace, Append, Prepend, Cas, Incr, Decr, Delete, Flush}
-use Rattle.zy_journal_reader.specs.declared.due.Due.TheVariants.{Byte}
-use Rattle.zy_journal_reader.specs.declared.due.ByteField.TheVariants.{ReplyCode}
-use Rattle.zy_journal_reader.specs.Fields.{kind_of, call_of, after_key, after_number, plain_reply}
+use Rattle.zy_base.proofs.CodeLemmas.{there, call_has, call_within, reply_within, plain_is}
+use Rattle.zy_journal.specs.Journal.{key_text, value_text, field_text, call_text, reply_text}
+use Rattle.zy_journal_reader.specs.declared.draft.Draft.{Draft}
 use Rattle.zy_journal_reader.specs.Verdict.{FitsCall, FitsReply}
 
--- ---- calls and replies by their codes
-
--- the code of a kind
-abbrev pub code_of : CallKind → ℕ
-code_of Get = 1
-code_of Set = 2
-code_of Add = 3
-code_of Replace = 4
-code_of Append = 5
-code_of Prepend = 6
-code_of Cas = 7
-code_of Incr = 8
-code_of Decr = 9
-code_of Delete = 10
-code_of Flush = 11
-
-pub code_is : (n : ℕ) → 1 ≤ n → n ≤ 11 → code_of (kind_of n) ≡ n
-code_is n some most = grind (arith, nat_tests)
-
-pub plain_is : (n : ℕ) → 1 ≤ n → n ≤ 11 → (n == 2) ≡ false → (n == 8) ≡ false → reply_text (plain_reply n) ≡ n ∷ []
-unfolding reply_text
-plain_is n some most no_hit no_number = grind (arith, nat_tests)
+-- ---- tests
 
 -- a fact of both ways that a test may go
 pub either : {S : Type 0} (P : S → Type 0) (test : Bool) (x y : S) → P x → P y → P (if test then x else y)
 either P test x y first second = elim test as (λ (t : Bool). P (if t then x else y)) [ true ↦ first | false ↦ second ]
 
-pub plain_within : (n : ℕ) → IsReply (plain_reply n)
-plain_within n = either IsReply (n == 1) _ _ tt (either IsReply (n == 3) _ _ tt (either IsReply (n == 4) _ _ tt (either IsReply (n == 5) _ _ tt (either IsReply (n == 6) _ _ tt (either IsReply (n == 7) _ _ tt (either IsReply (n == 9) _ _ tt (either IsReply (n == 10) _ _ tt tt)))))))
+-- ---- replies without fields
 
-pub plain_fits : (n : ℕ) → FitsReply (plain_reply n)
-plain_fits n = either FitsReply (n == 1) _ _ tt (either FitsReply (n == 3) _ _ tt (either FitsReply (n == 4) _ _ tt (either FitsReply (n == 5) _ _ tt (either FitsReply (n == 6) _ _ tt (either FitsReply (n == 7) _ _ tt (either FitsReply (n == 9) _ _ tt (either FitsReply (n == 10) _ _ tt tt)))))))
+pub plain_text : (n : ℕ) → 1 ≤ n → n ≤ last_reply_code → (n == hit_code) ≡ false → (n == number_code) ≡ false → reply_text (plain_reply n) ≡ n ∷ []
+unfolding reply_text
+plain_text n some most no_hit no_number = let is = plain_is n some most no_hit no_number in rw (is.code_is, is.no_flags, is.no_number, is.no_value) refl
 
--- ---- what is known of calls
+pub plain_within : (n : ℕ) → 1 ≤ n → n ≤ last_reply_code → (n == hit_code) ≡ false → (n == number_code) ≡ false → IsReply (plain_reply n)
+plain_within n some most no_hit no_number = reply_within (plain_reply n) (rw (plain_is n some most no_hit no_number).no_value tt)
 
--- kinds with a key
-abbrev pub HasKey : CallKind → Type 0
-HasKey Flush = ⊥
-HasKey kind = ⊤
+pub plain_fits : (n : ℕ) → 1 ≤ n → n ≤ last_reply_code → (n == hit_code) ≡ false → (n == number_code) ≡ false → FitsReply (plain_reply n)
+plain_fits n some most no_hit no_number = let is = plain_is n some most no_hit no_number in rw (is.no_flags, is.no_number) (tt, tt)
 
--- kinds with flags
-abbrev pub HasFlags : CallKind → Type 0
-HasFlags Set = ⊤
-HasFlags Add = ⊤
-HasFlags Replace = ⊤
-HasFlags Cas = ⊤
-HasFlags kind = ⊥
+-- ---- the call that was read
 
--- kinds with a number, and what is known before it
-abbrev pub NumberKnown : CallKind → ℕ → Type 0
-NumberKnown Cas flags = flags < 2 ^ 32
-NumberKnown Incr flags = ⊤
-NumberKnown Decr flags = ⊤
-NumberKnown kind flags = ⊥
+-- which fields it has
+abbrev pub fields_in : Draft → CallFields
+fields_in d = fields_of d.kind
 
--- kinds with a value, and what is known before it
-abbrev pub ValueKnown : CallKind → ℕ → ℕ → Type 0
-ValueKnown Set flags number = flags < 2 ^ 32
-ValueKnown Add flags number = flags < 2 ^ 32
-ValueKnown Replace flags number = flags < 2 ^ 32
-ValueKnown Append flags number = ⊤
-ValueKnown Prepend flags number = ⊤
-ValueKnown Cas flags number = (flags < 2 ^ 32) × (number < 2 ^ 64)
-ValueKnown kind flags number = ⊥
+-- the call itself
+abbrev pub call_in : Draft → Call
+call_in d = call_of d.kind d.key d.flags d.number d.value
 
--- what stands between the key and the number
-abbrev pub before_number : CallKind → ℕ → List ℕ
-before_number Cas flags = to_be_bytes w32 flags
-before_number kind flags = []
+-- the bytes of each field
+abbrev pub key_bytes : Draft → List ℕ
+key_bytes d = field_text key_text (there (fields_in d).key d.key)
 
--- what stands between the key and the value
-abbrev pub before_value : CallKind → ℕ → ℕ → List ℕ
-before_value Set flags number = to_be_bytes w32 flags
-before_value Add flags number = to_be_bytes w32 flags
-before_value Replace flags number = to_be_bytes w32 flags
-before_value Cas flags number = to_be_bytes w32 flags ++ to_be_bytes w64 number
-before_value kind flags number = []
+abbrev pub flags_bytes : Draft → List ℕ
+flags_bytes d = field_text (to_be_bytes w32) (there (fields_in d).flags d.flags)
 
--- the text of a call, and that it is within its bounds
-pub record IsSpelled (call : Call) (text : List ℕ) : Type 0 where
-  pub text_is : call_text call ≡ text
+abbrev pub number_bytes : Draft → List ℕ
+number_bytes d = field_text (to_be_bytes w64) (there (fields_in d).number d.number)
+
+abbrev pub value_bytes : Draft → List ℕ
+value_bytes d = field_text value_text (there (fields_in d).value d.value)
+
+-- the bytes of the call up to its flags, its number and its value
+abbrev pub to_flags : Draft → List ℕ
+to_flags d = code_of d.kind ∷ key_bytes d
+
+abbrev pub to_number : Draft → List ℕ
+to_number d = code_of d.kind ∷ (key_bytes d ++ flags_bytes d)
+
+abbrev pub to_value : Draft → List ℕ
+to_value d = code_of d.kind ∷ (key_bytes d ++ (flags_bytes d ++ number_bytes d))
+
+-- what is known of each field
+abbrev pub KeyKnown : Draft → Type 0
+KeyKnown d = IfSome (there (fields_in d).key d.key) IsKey
+
+abbrev pub FlagsKnown : Draft → Type 0
+FlagsKnown d = IfSome (there (fields_in d).flags d.flags) (λ n. n < 2 ^ 32)
+
+abbrev pub NumberKnown : Draft → Type 0
+NumberKnown d = IfSome (there (fields_in d).number d.number) (λ n. n < 2 ^ 64)
+
+abbrev pub ValueKnown : Draft → Type 0
+ValueKnown d = IfSome (there (fields_in d).value d.value) IsValue
+
+-- ---- fields that a call has not
+
+-- a field that is not there has no bytes
+pub no_bytes : {X : Type 0} (text : X → List ℕ) (b : Bool) (x : X) → b ≡ false → field_text text (there b x) ≡ []
+no_bytes text b x none = ap (λ (t : Bool). field_text text (there t x)) none
+
+-- one that is there has its own
+pub its_bytes : {X : Type 0} (text : X → List ℕ) (b : Bool) (x : X) → b ≡ true → text x ≡ field_text text (there b x)
+its_bytes text b x has = ap (λ (t : Bool). field_text text (there t x)) (sym has)
+
+-- and nothing is to be known of the one, and of the other all that is known
+pub no_field : {X : Type 0} (P : X → Type 0) (b : Bool) (x : X) → b ≡ false → IfSome (there b x) P
+no_field P b x none = subst (λ (t : Bool). IfSome (there t x) P) (sym none) tt
+
+pub its_field : {X : Type 0} (P : X → Type 0) (b : Bool) (x : X) → b ≡ true → P x → IfSome (there b x) P
+its_field P b x has is = subst (λ (t : Bool). IfSome (there t x) P) (sym has) is
+
+-- ---- the whole call
+
+-- its text
+pub call_text_is : (d : Draft) → call_text (call_in d) ≡ to_value d ++ value_bytes d
+unfolding call_text
+call_text_is d =
+    let has = call_has d.kind d.key d.flags d.number d.value in
+    let spelled : call_text (call_in d) ≡ code_of d.kind ∷ (key_bytes d ++ (flags_bytes d ++ (number_bytes d ++ value_bytes d))) = rw (has.kind_is, has.key_is, has.flags_are, has.number_is, has.value_is) refl in
+    spelled
+    ∙ ap (λ (l : List ℕ). code_of d.kind ∷ (key_bytes d ++ l)) (sym (append_assoc (flags_bytes d) (number_bytes d) (value_bytes d)))
+    ∙ ap (λ (l : List ℕ). code_of d.kind ∷ l) (sym (append_assoc (key_bytes d) (flags_bytes d ++ number_bytes d) (value_bytes d)))
+
+-- a call is within its bounds, and its numbers fit their bytes
+pub record IsRead (call : Call) : Type 0 where
   pub within : IsCall call
   pub fits : FitsCall call
 
--- a call that has its key alone
-pub key_alone : (kind : CallKind) (key : List ℕ) (flags number : ℕ) (value : List ℕ) → HasKey kind → after_key kind ≡ Byte ReplyCode → IsKey key → IsSpelled (call_of kind key flags number value) (code_of kind ∷ key_text key)
-unfolding call_text
-key_alone Get key flags number value has is within = record { text_is = refl; within = within; fits = tt }
-key_alone Delete key flags number value has is within = record { text_is = refl; within = within; fits = tt }
-key_alone Flush key flags number value has is within = absurd has
-key_alone kind key flags number value has is within = absurd (cc)
-
--- a call that ends in its number
-pub number_last : (kind : CallKind) (key : List ℕ) (flags number : ℕ) (value : List ℕ) → NumberKnown kind flags → after_number kind ≡ Byte ReplyCode → IsKey key → number < 2 ^ 64
-    → IsSpelled (call_of kind key flags number value) (code_of kind ∷ (key_text key ++ (before_number kind flags ++ to_be_bytes w64 number)))
-unfolding call_text
-number_last Incr key flags number value known is within small = record { text_is = refl; within = within; fits = small }
-number_last Decr key flags number value known is within small = record { text_is = refl; within = within; fits = small }
-number_last Cas key flags number value known is within small = absurd (cc)
-number_last kind key flags number value known is within small = absurd known
-
--- a call that ends in its value
-pub value_last : (kind : CallKind) (key : List ℕ) (flags number : ℕ) (value : List ℕ) → ValueKnown kind flags number → IsKey key → IsValue value
-    → IsSpelled (call_of kind key flags number value) (code_of kind ∷ (key_text key ++ (before_value kind flags number ++ value_text value)))
-unfolding call_text
-value_last Set key flags number value known within few = record { text_is = refl; within = (within, few); fits = known }
-value_last Add key flags number value known within few = record { text_is = refl; within = (within, few); fits = known }
-value_last Replace key flags number value known within few = record { text_is = refl; within = (within, few); fits = known }
-value_last Append key flags number value known within few = record { text_is = refl; within = (within, few); fits = tt }
-value_last Prepend key flags number value known within few = record { text_is = refl; within = (within, few); fits = tt }
-value_last Cas key flags number value known within few = record {
-  text_is = ap (λ (l : List ℕ). 7 ∷ (key_text key ++ l)) (sym (append_assoc (to_be_bytes w32 flags) (to_be_bytes w64 number) (value_text value)));
-  within = (within, few);
-  fits = known;
-}
-value_last kind key flags number value known within few = absurd known
+pub call_is : (d : Draft) → KeyKnown d → FlagsKnown d → NumberKnown d → ValueKnown d → IsRead (call_in d)
+call_is d key flags number value =
+    let has = call_has d.kind d.key d.flags d.number d.value in
+    record {
+      within = call_within (call_in d) (subst (λ (o : Option (List ℕ)). IfSome o IsKey) (sym has.key_is) key) (subst (λ (o : Option (List ℕ)). IfSome o IsValue) (sym has.value_is) value);
+      fits = (subst (λ (o : Option ℕ). IfSome o (λ n. n < 2 ^ 32)) (sym has.flags_are) flags, subst (λ (o : Option ℕ). IfSome o (λ n. n < 2 ^ 64)) (sym has.number_is) number);
+    }

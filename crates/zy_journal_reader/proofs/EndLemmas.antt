@@ -7,21 +7,21 @@ use Rattle.std.proofs.lemmas.Bool.{eqb-true}
 use Rattle.zy_base.specs.declared.call_reply.CallReply.{CallReply}
 use Rattle.zy_base.specs.declared.entry.Entry.{Entry}
 use Rattle.zy_base.specs.declared.hold.Hold.{Hold}
+use Rattle.zy_base.specs.Code.{code_of, kind_of, hit_code, number_code, last_reply_code, plain_reply}
 use Rattle.zy_base.specs.Bounds.{IsReply}
 use Rattle.zy_journal.specs.Journal.{call_text, reply_text, entry_head, entry_text, hold_text}
-use Rattle.zy_journal_reader.specs.declared.call_kind.CallKind.{CallKind}
-use Rattle.zy_journal_reader.specs.declared.call_kind.CallKind.TheVariants.{Flush}
 use Rattle.zy_journal_reader.specs.declared.due.Due.{Due}
 use Rattle.zy_journal_reader.specs.declared.due.Due.TheVariants.{Byte, Number, Bytes}
 use Rattle.zy_journal_reader.specs.declared.due.ByteField.TheVariants.{Tag, CallCode, KeyLength, ReplyCode}
 use Rattle.zy_journal_reader.specs.declared.due.NumberField.TheVariants.{HoldCount}
 use Rattle.zy_journal_reader.specs.declared.due.BytesField.TheVariants.{Key}
-use Rattle.zy_journal_reader.specs.Fields.{after_code, plain_reply, entry_of, hold_of}
-use Rattle.zy_journal_reader.specs.Steps.{Progress, Step, goes, ends_entry, ends_hold, lawful_byte, after_byte, journal_limit}
+use Rattle.zy_journal_reader.specs.Fields.{entry_of, hold_of}
+use Rattle.zy_journal_reader.specs.Steps.{Progress, Step, ends_entry, ends_hold, lawful_byte, after_byte, journal_limit}
 use Rattle.zy_journal_reader.specs.Verdict.{FitsReply}
-use Rattle.zy_journal_reader.proofs.CallLemmas.{code_of, plain_is, plain_within, plain_fits}
-use Rattle.zy_journal_reader.proofs.SoFar.{front, head, call_in, before, Kept, StampKnown, HeadKnown, CallKnown, Known, Parts, IsReadTo}
+use Rattle.zy_journal_reader.proofs.CallLemmas.{call_in, plain_text, plain_within, plain_fits}
+use Rattle.zy_journal_reader.proofs.SoFar.{front, head, before, Kept, StampKnown, HeadKnown, CallKnown, Known, Parts, IsReadTo}
 use Rattle.zy_journal_reader.proofs.TestLemmas.{between_true, tag_true, chosen, no_items, kept_entry, kept_hold, front_entry, front_hold, joined, empty}
+use Rattle.zy_journal_reader.proofs.ComingLemmas.{key_comes}
 
 -- ---- the ends of records
 
@@ -95,25 +95,15 @@ tag_on p byte text ends lawful =
     record { bytes = becomes 74 is.0; count = ends.count; short = omega (arith, ends.room); kept = ends.kept; field = empty 7; known = no_items p.holds is.1 }))
 
 -- after the code of a call
-pub code_on : (kind : CallKind) (p : Progress) (byte : ℕ) (text : List ℕ) → code_of kind ≡ byte → Ends (Byte CallCode) p (byte ∷ []) text
-    → IsReadTo (after_code kind) (goes (record p { draft = record p.draft { kind = kind } }) (after_code kind)).next text
-unfolding call_text
-code_on Flush p byte text code ends = record {
-  bytes = joined text (front p.entries p.holds) (head p.draft) (byte ∷ []) (head p.draft ++ 11 ∷ []) ends.bytes (ap (λ (b : ℕ). head p.draft ++ b ∷ []) (sym code));
-  count = ends.count;
-  short = omega (arith, ends.room);
-  kept = ends.kept;
-  field = refl;
-  known = (ends.known, tt, tt);
-}
-code_on kind p byte text code ends = record {
-  bytes = joined text (front p.entries p.holds) (head p.draft) (byte ∷ []) (head p.draft ++ code_of kind ∷ []) ends.bytes (ap (λ (b : ℕ). head p.draft ++ b ∷ []) (sym code));
-  count = ends.count;
-  short = omega (arith, ends.room);
-  kept = ends.kept;
-  field = refl;
-  known = (ends.known, tt);
-}
+pub code_on : (p : Progress) (byte : ℕ) (text : List ℕ) → code_of (kind_of byte) ≡ byte → Ends (Byte CallCode) p (byte ∷ []) text → IsReadTo (after_byte CallCode p byte).next.due (after_byte CallCode p byte).next text
+code_on p byte text code ends =
+    key_comes p (record p.draft { kind = kind_of byte }) text (record {
+      bytes = ends.bytes ∙ ap (λ (b : ℕ). front p.entries p.holds ++ (head p.draft ++ b ∷ [])) (sym code);
+      count = ends.count;
+      room = ends.room;
+      kept = ends.kept;
+      known = ends.known;
+    })
 
 pub key_length_on : (p : Progress) (byte : ℕ) (text : List ℕ) → Ends (Byte KeyLength) p (byte ∷ []) text → lawful_byte KeyLength p byte ≡ true → Parts (Bytes Key) (after_byte KeyLength p byte).next text
 key_length_on p byte text ends lawful =
@@ -130,21 +120,21 @@ key_length_on p byte text ends lawful =
 pub reply_code_on : (p : Progress) (byte : ℕ) (text : List ℕ) → Ends (Byte ReplyCode) p (byte ∷ []) text → lawful_byte ReplyCode p byte ≡ true → IsReadTo (after_byte ReplyCode p byte).next.due (after_byte ReplyCode p byte).next text
 reply_code_on p byte text ends lawful =
     let P : Step → Type 0 = λ (s : Step). IsReadTo s.next.due s.next text in
-    let is = between_true byte 1 11 lawful in
+    let is = between_true byte 1 last_reply_code lawful in
     let call : List ℕ = call_text (call_in p.draft) in
     let coded : (code : ℕ) → byte ≡ code → (head p.draft ++ call) ++ byte ∷ [] ≡ head p.draft ++ (call ++ code ∷ []) = λ code same. append_assoc (head p.draft) call (byte ∷ []) ∙ ap (λ (b : ℕ). head p.draft ++ (call ++ b ∷ [])) same in
-    chosen P (byte == 2) _ _
+    chosen P (byte == hit_code) _ _
     (λ hit. record {
-      bytes = joined text (front p.entries p.holds) (head p.draft ++ call) (byte ∷ []) (head p.draft ++ (call ++ 2 ∷ [])) ends.bytes (coded 2 (eqb-true byte 2 hit));
+      bytes = joined text (front p.entries p.holds) (head p.draft ++ call) (byte ∷ []) (head p.draft ++ (call ++ hit_code ∷ [])) ends.bytes (coded hit_code (eqb-true byte hit_code hit));
       count = ends.count;
       short = omega (arith, ends.room);
       kept = ends.kept;
       field = empty 3;
       known = ends.known;
     })
-    (λ no_hit. chosen P (byte == 8) _ _
+    (λ no_hit. chosen P (byte == number_code) _ _
     (λ number. record {
-      bytes = joined text (front p.entries p.holds) (head p.draft ++ call) (byte ∷ []) (head p.draft ++ (call ++ 8 ∷ [])) ends.bytes (coded 8 (eqb-true byte 8 number));
+      bytes = joined text (front p.entries p.holds) (head p.draft ++ call) (byte ∷ []) (head p.draft ++ (call ++ number_code ∷ [])) ends.bytes (coded number_code (eqb-true byte number_code number));
       count = ends.count;
       short = omega (arith, ends.room);
       kept = ends.kept;
@@ -152,5 +142,5 @@ reply_code_on p byte text ends lawful =
       known = ends.known;
     })
     (λ no_number. entry_on p (plain_reply byte) text
-    (ends.bytes ∙ ap (λ (l : List ℕ). front p.entries p.holds ++ ((head p.draft ++ call) ++ l)) (sym (plain_is byte is.0 is.1 no_hit no_number)))
-    ends.count ends.room ends.kept ends.known (plain_within byte) (plain_fits byte)))
+    (ends.bytes ∙ ap (λ (l : List ℕ). front p.entries p.holds ++ ((head p.draft ++ call) ++ l)) (sym (plain_text byte is.0 is.1 no_hit no_number)))
+    ends.count ends.room ends.kept ends.known (plain_within byte is.0 is.1 no_hit no_number) (plain_fits byte is.0 is.1 no_hit no_number)))

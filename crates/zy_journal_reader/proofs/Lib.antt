@@ -5,6 +5,7 @@ pub mod SpelledLemmas
 pub mod CallLemmas
 pub mod SoFar
 pub mod TestLemmas
+pub mod ComingLemmas
 pub mod EndLemmas
 pub mod NumberLemmas
 pub mod ContentLemmas

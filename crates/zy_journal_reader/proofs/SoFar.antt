@@ -1,15 +1,15 @@
 -- What was read of a journal text so far, and what is known of it.
-use Rattle.std.proofs.Common.{◌≡◌, ◌⊎◌, ℕ, ◌<◌, ◌≤◌, ◌^◌, List, [], ◌∷◌, ◌++◌, length, take}
+use Rattle.std.proofs.Common.{◌≡◌, ◌⊎◌, ℕ, ◌<◌, ◌≤◌, ◌^◌, true, List, [], ◌∷◌, ◌++◌, length, take}
 use Rattle.std.specs.Prelude.{None, flat_map, ⊤}
 use Rattle.std.specs.List.{AllByRecursion}
 use Rattle.std.specs.Int.{to_be_bytes, w32, w64}
-use Rattle.zy_base.specs.declared.call.Call.{Call}
 use Rattle.zy_base.specs.declared.entry.Entry.{Entry}
 use Rattle.zy_base.specs.declared.hold.Hold.{Hold}
 use Rattle.zy_base.specs.Order.{IsOrdered}
 use Rattle.zy_base.specs.Shard.{value_limit}
-use Rattle.zy_base.specs.Bounds.{IsKey, IsCall}
-use Rattle.zy_journal.specs.Journal.{magic, key_text, call_text, entry_text, hold_text, IsEntry, IsHold, AreByConnection}
+use Rattle.zy_base.specs.Code.{code_of, hit_code, number_code}
+use Rattle.zy_base.specs.Bounds.{IsCall}
+use Rattle.zy_journal.specs.Journal.{magic, call_text, entry_text, hold_text, IsEntry, IsHold, AreByConnection}
 use Rattle.zy_journal_reader.specs.declared.draft.Draft.{Draft}
 use Rattle.zy_journal_reader.specs.declared.past.Past.{Past}
 use Rattle.zy_journal_reader.specs.declared.due.Due.{Due}
@@ -18,10 +18,9 @@ use Rattle.zy_journal_reader.specs.declared.due.ByteField.TheVariants.{Magic, Ca
 use Rattle.zy_journal_reader.specs.declared.due.NumberField.TheVariants.{Shard, Connection, Part, Flags, ValueLength, FoundFlags, FoundLength, HoldConnection, HoldCore, HoldCount}
 use Rattle.zy_journal_reader.specs.declared.due.LongField.TheVariants.{Stamp, Index, CallNumber, FoundUnique, ReplyNumber}
 use Rattle.zy_journal_reader.specs.declared.due.BytesField.TheVariants.{Key, Value, FoundValue}
-use Rattle.zy_journal_reader.specs.Fields.{call_of}
 use Rattle.zy_journal_reader.specs.Steps.{Progress, journal_limit}
 use Rattle.zy_journal_reader.specs.Verdict.{FitsCall, FitsEntry, AreBytes}
-use Rattle.zy_journal_reader.proofs.CallLemmas.{code_of, HasKey, HasFlags, NumberKnown, ValueKnown, before_number, before_value}
+use Rattle.zy_journal_reader.proofs.CallLemmas.{fields_in, call_in, to_flags, to_number, to_value, KeyKnown, FlagsKnown, NumberKnown}
 
 -- the bytes before the record that is read
 abbrev pub front : List Entry → List Hold → List ℕ
@@ -31,10 +30,6 @@ front es hs = magic ++ (flat_map entry_text es ++ flat_map hold_text hs)
 abbrev pub head : Draft → List ℕ
 head d = 74 ∷ (to_be_bytes w64 d.stamp ++ (to_be_bytes w32 d.shard ++ (to_be_bytes w32 d.conn ++ (to_be_bytes w64 d.index ++ to_be_bytes w32 d.part))))
 
--- the call that was read
-abbrev pub call_in : Draft → Call
-call_in d = call_of d.kind d.key d.flags d.number d.value
-
 -- the bytes of the record that stand before what is due
 abbrev pub before : Due → Draft → List ℕ
 before (Byte CallCode) d = head d
@@ -43,21 +38,21 @@ before (Byte ReplyCode) d = head d ++ call_text (call_in d)
 before (Number Shard) d = 74 ∷ to_be_bytes w64 d.stamp
 before (Number Connection) d = 74 ∷ (to_be_bytes w64 d.stamp ++ to_be_bytes w32 d.shard)
 before (Number Part) d = 74 ∷ (to_be_bytes w64 d.stamp ++ (to_be_bytes w32 d.shard ++ (to_be_bytes w32 d.conn ++ to_be_bytes w64 d.index)))
-before (Number Flags) d = head d ++ (code_of d.kind ∷ key_text d.key)
-before (Number ValueLength) d = head d ++ (code_of d.kind ∷ (key_text d.key ++ before_value d.kind d.flags d.number))
-before (Number FoundFlags) d = head d ++ (call_text (call_in d) ++ 2 ∷ [])
-before (Number FoundLength) d = head d ++ (call_text (call_in d) ++ 2 ∷ (to_be_bytes w32 d.found_flags ++ to_be_bytes w64 d.found_unique))
+before (Number Flags) d = head d ++ to_flags d
+before (Number ValueLength) d = head d ++ to_value d
+before (Number FoundFlags) d = head d ++ (call_text (call_in d) ++ hit_code ∷ [])
+before (Number FoundLength) d = head d ++ (call_text (call_in d) ++ hit_code ∷ (to_be_bytes w32 d.found_flags ++ to_be_bytes w64 d.found_unique))
 before (Number HoldConnection) d = 72 ∷ []
 before (Number HoldCore) d = 72 ∷ to_be_bytes w32 d.conn
 before (Number HoldCount) d = 72 ∷ (to_be_bytes w32 d.conn ++ to_be_bytes w32 d.core)
 before (Long Stamp) d = 74 ∷ []
 before (Long Index) d = 74 ∷ (to_be_bytes w64 d.stamp ++ (to_be_bytes w32 d.shard ++ to_be_bytes w32 d.conn))
-before (Long CallNumber) d = head d ++ (code_of d.kind ∷ (key_text d.key ++ before_number d.kind d.flags))
-before (Long FoundUnique) d = head d ++ (call_text (call_in d) ++ 2 ∷ to_be_bytes w32 d.found_flags)
-before (Long ReplyNumber) d = head d ++ (call_text (call_in d) ++ 8 ∷ [])
+before (Long CallNumber) d = head d ++ to_number d
+before (Long FoundUnique) d = head d ++ (call_text (call_in d) ++ hit_code ∷ to_be_bytes w32 d.found_flags)
+before (Long ReplyNumber) d = head d ++ (call_text (call_in d) ++ number_code ∷ [])
 before (Bytes Key) d = head d ++ (code_of d.kind ∷ d.size ∷ [])
-before (Bytes Value) d = head d ++ (code_of d.kind ∷ (key_text d.key ++ (before_value d.kind d.flags d.number ++ to_be_bytes w32 d.size)))
-before (Bytes FoundValue) d = head d ++ (call_text (call_in d) ++ 2 ∷ (to_be_bytes w32 d.found_flags ++ (to_be_bytes w64 d.found_unique ++ to_be_bytes w32 d.size)))
+before (Bytes Value) d = head d ++ (to_value d ++ to_be_bytes w32 d.size)
+before (Bytes FoundValue) d = head d ++ (call_text (call_in d) ++ hit_code ∷ (to_be_bytes w32 d.found_flags ++ (to_be_bytes w64 d.found_unique ++ to_be_bytes w32 d.size)))
 before due d = []
 
 -- the bytes of what is due that were read
@@ -110,13 +105,13 @@ FoundKnown past d hs = CallKnown past d hs × (d.found_flags < 2 ^ 32) × (d.fou
 -- what is known where this is due
 abbrev pub Known : Due → Past → Draft → List Hold → Type 0
 Known (Byte CallCode) past d hs = HeadKnown past d hs
-Known (Byte KeyLength) past d hs = HeadKnown past d hs × HasKey d.kind
+Known (Byte KeyLength) past d hs = HeadKnown past d hs × ((fields_in d).key ≡ true)
 Known (Byte ReplyCode) past d hs = CallKnown past d hs
 Known (Number Shard) past d hs = StampKnown past d hs
 Known (Number Connection) past d hs = ShardKnown past d hs
 Known (Number Part) past d hs = IndexKnown past d hs
-Known (Number Flags) past d hs = HeadKnown past d hs × IsKey d.key × HasFlags d.kind
-Known (Number ValueLength) past d hs = HeadKnown past d hs × IsKey d.key × ValueKnown d.kind d.flags d.number
+Known (Number Flags) past d hs = HeadKnown past d hs × KeyKnown d × ((fields_in d).flags ≡ true)
+Known (Number ValueLength) past d hs = HeadKnown past d hs × KeyKnown d × FlagsKnown d × NumberKnown d × ((fields_in d).value ≡ true)
 Known (Number FoundFlags) past d hs = CallKnown past d hs
 Known (Number FoundLength) past d hs = FoundKnown past d hs
 Known (Number HoldConnection) past d hs = ⊤
@@ -124,11 +119,11 @@ Known (Number HoldCore) past d hs = (past.conn ≤ d.conn) × (d.conn < 4096)
 Known (Number HoldCount) past d hs = (past.conn ≤ d.conn) × (d.conn < 4096) × (d.core < 64)
 Known (Long Stamp) past d hs = hs ≡ []
 Known (Long Index) past d hs = ConnectionKnown past d hs
-Known (Long CallNumber) past d hs = HeadKnown past d hs × IsKey d.key × NumberKnown d.kind d.flags
+Known (Long CallNumber) past d hs = HeadKnown past d hs × KeyKnown d × FlagsKnown d × ((fields_in d).number ≡ true)
 Known (Long FoundUnique) past d hs = CallKnown past d hs × (d.found_flags < 2 ^ 32)
 Known (Long ReplyNumber) past d hs = CallKnown past d hs
-Known (Bytes Key) past d hs = HeadKnown past d hs × HasKey d.kind × (d.size ≤ 250)
-Known (Bytes Value) past d hs = HeadKnown past d hs × IsKey d.key × ValueKnown d.kind d.flags d.number × (d.size ≤ value_limit)
+Known (Bytes Key) past d hs = HeadKnown past d hs × ((fields_in d).key ≡ true) × (d.size ≤ 250)
+Known (Bytes Value) past d hs = HeadKnown past d hs × KeyKnown d × FlagsKnown d × NumberKnown d × ((fields_in d).value ≡ true) × (d.size ≤ value_limit)
 Known (Bytes FoundValue) past d hs = FoundKnown past d hs × (d.size ≤ value_limit)
 Known due past d hs = ⊤
 

@@ -5,11 +5,14 @@ use Rattle.std.specs.List.{AllByRecursion}
 use Rattle.std.specs.Int.{to_be_bytes, w32, w64}
 use Rattle.std.proofs.lemmas.List.{append-nil}
 use Rattle.zy_base.specs.declared.call.Call.{Call}
-use Rattle.zy_base.specs.declared.call.Call.TheVariants as Calls
+use Rattle.zy_base.specs.declared.call_kind.CallKind.{CallKind}
 use Rattle.zy_base.specs.declared.call_reply.CallReply.{CallReply}
 use Rattle.zy_base.specs.declared.entry.Entry.{Entry}
 use Rattle.zy_base.specs.declared.hold.Hold.{Hold}
+use Rattle.zy_base.specs.Code.{call_of}
+use Rattle.zy_base.specs.Bounds.{IsCall, IsReply}
 use Rattle.zy_base.specs.Order.{IsOrdered, IsBehind}
+use Rattle.zy_base.proofs.CodeLemmas.{call_same, of_kinds}
 use Rattle.zy_read.specs.Format.{Reading, read_on, reading_of, verdict_on}
 use Rattle.zy_journal.specs.declared.journal.Journal.{Journal}
 use Rattle.zy_journal.specs.Journal.{magic, call_text, reply_text, entry_head, entry_text, hold_text, journal_bytes, IsEntry, IsHold, AreByConnection}
@@ -21,10 +24,10 @@ use Rattle.zy_journal_reader.specs.declared.due.NumberField.TheVariants.{Shard, 
 use Rattle.zy_journal_reader.specs.declared.due.LongField.TheVariants.{Stamp, Index}
 use Rattle.zy_journal_reader.specs.Fields.{fresh}
 use Rattle.zy_journal_reader.specs.Steps.{Progress, start, after_byte, journal_limit}
-use Rattle.zy_journal_reader.specs.Verdict.{read_from, ended, verdict, FitsEntry, SpellsJournal}
+use Rattle.zy_journal_reader.specs.Verdict.{read_from, ended, verdict, FitsCall, FitsReply, FitsEntry, SpellsJournal}
 use Rattle.zy_journal_reader.specs.Verdict.Verdict.{Good}
 use Rattle.zy_journal_reader.proofs.PlaceLemmas.{place, Goes, both, goes_on, read_byte, one_byte, four_bytes, eight_bytes}
-use Rattle.zy_journal_reader.proofs.GoesLemmas.{between, below_is, stamp_is, shard_is, conn_is, known, call_goes, after, reply_goes}
+use Rattle.zy_journal_reader.proofs.GoesLemmas.{between, below_is, stamp_is, shard_is, conn_is, plain, known, call_goes, after, reply_goes}
 
 -- ---- entries
 
@@ -63,28 +66,30 @@ head_goes p e none is fits comes =
 abbrev pub with_entry : Progress → Entry → Progress
 with_entry p e = record p { entries = p.entries ++ e ∷ []; past = record p.past { stamp = e.stamp; shard = e.shard } }
 
+-- the entry of which this was read before its call
+abbrev pub entry_with : Draft → Call → CallReply → Entry
+entry_with d call reply = record { tag = record { conn = d.conn; index = d.index; part = d.part }; shard = d.shard; call = call; reply = reply; stamp = d.stamp }
+
 -- what was read of an entry is the entry
-pub is_whole : (p : Progress) (d : Draft) (call : Call) (reply : CallReply) → after p (known call d) reply
-    ≡ with_entry p (record { tag = record { conn = d.conn; index = d.index; part = d.part }; shard = d.shard; call = call; reply = reply; stamp = d.stamp })
-is_whole p d (Calls.Get key) reply = refl
-is_whole p d (Calls.Set key flags value) reply = refl
-is_whole p d (Calls.Add key flags value) reply = refl
-is_whole p d (Calls.Replace key flags value) reply = refl
-is_whole p d (Calls.Append key value) reply = refl
-is_whole p d (Calls.Prepend key value) reply = refl
-is_whole p d (Calls.Cas key flags unique value) reply = refl
-is_whole p d (Calls.Incr key amount) reply = refl
-is_whole p d (Calls.Decr key amount) reply = refl
-is_whole p d (Calls.Delete key) reply = refl
-is_whole p d Calls.Flush reply = refl
+pub is_whole : (p : Progress) (d : Draft) (kind : CallKind) (key : List ℕ) (flags number : ℕ) (value : List ℕ) (reply : CallReply)
+    → after p (known kind key flags number value (plain d)) reply ≡ with_entry p (entry_with d (call_of kind key flags number value) reply)
+is_whole p d kind key flags number value reply = ap (λ (call : Call). with_entry p (entry_with d call reply)) (call_same kind key flags number value d.key d.flags d.number d.value)
+
+-- the call of an entry and its reply
+pub call_and_reply : (p : Progress) (d : Draft) (reply : CallReply) → IsReply reply → FitsReply reply → (call : Call) → IsCall call → FitsCall call
+    → Goes p (plain d) (Byte CallCode) (call_text call ++ reply_text reply) (with_entry p (entry_with d call reply)) fresh (Byte Tag)
+call_and_reply p d reply within fits =
+    of_kinds (λ (call : Call). IsCall call → FitsCall call → Goes p (plain d) (Byte CallCode) (call_text call ++ reply_text reply) (with_entry p (entry_with d call reply)) fresh (Byte Tag))
+    (λ kind key flags number value is small.
+    let call : Call = call_of kind key flags number value in
+    let e : Draft = known kind key flags number value (plain d) in
+    both (call_text call) (reply_text reply) (call_goes p d kind key flags number value is small)
+    (subst (λ (q : Progress). Goes p e (Byte ReplyCode) (reply_text reply) q fresh (Byte Tag)) (is_whole p d kind key flags number value reply) (reply_goes p e reply within fits)))
 
 pub entry_goes : (p : Progress) (e : Entry) → p.holds ≡ [] → IsEntry e → FitsEntry e → ComesAfter p.past e → Goes p fresh (Byte Tag) (entry_text e) (with_entry p e) fresh (Byte Tag)
 unfolding entry_text
 entry_goes p e none is fits comes =
-    both (entry_head e) (call_text e.call ++ reply_text e.reply) (head_goes p e none is fits comes)
-    (both (call_text e.call) (reply_text e.reply) (call_goes p (head_of e) e.call is.call fits.call)
-    (subst (λ (q : Progress). Goes p (known e.call (head_of e)) (Byte ReplyCode) (reply_text e.reply) q fresh (Byte Tag)) (is_whole p (head_of e) e.call e.reply)
-    (reply_goes p (known e.call (head_of e)) e.reply is.reply fits.reply)))
+    both (entry_head e) (call_text e.call ++ reply_text e.reply) (head_goes p e none is fits comes) (call_and_reply p (head_of e) e.reply is.reply fits.reply e.call is.call fits.call)
 
 -- the lists with some entries more
 abbrev pub with_entries : Progress → List Entry → Progress

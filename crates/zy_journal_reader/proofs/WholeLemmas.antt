@@ -9,6 +9,8 @@ use Rattle.std.proofs.lemmas.Bool.Decides.{nat_tests}
 use Rattle.std.proofs.lemmas.Grind.{common_steps}
 use Rattle.zy_base.specs.declared.entry.Entry.{Entry}
 use Rattle.zy_base.specs.declared.hold.Hold.{Hold}
+use Rattle.zy_base.specs.Code.{last_call_code}
+use Rattle.zy_base.proofs.CodeLemmas.{code_back}
 use Rattle.zy_read.specs.Format.{Reading, read_on, reading_of, verdict_on}
 use Rattle.zy_journal.specs.declared.journal.Journal.{Journal}
 use Rattle.zy_journal.specs.Journal.{magic, entry_text, hold_text, journal_bytes}
@@ -19,11 +21,9 @@ use Rattle.zy_journal_reader.specs.declared.due.ByteField.TheVariants.{Magic, Ta
 use Rattle.zy_journal_reader.specs.declared.due.NumberField.{NumberField}
 use Rattle.zy_journal_reader.specs.declared.due.LongField.{LongField}
 use Rattle.zy_journal_reader.specs.declared.due.BytesField.{BytesField}
-use Rattle.zy_journal_reader.specs.Fields.{kind_of}
 use Rattle.zy_journal_reader.specs.Steps.{Progress, Step, start, lawful_byte, lawful_number, lawful_long, after_byte, four, eight, bytes, taken, is_open, is_full, step, journal_limit}
 use Rattle.zy_journal_reader.specs.Verdict.{read_from, ended, verdict, journal_in, SpellsJournal, AreBytes}
 use Rattle.zy_journal_reader.specs.Verdict.Verdict.{Good}
-use Rattle.zy_journal_reader.proofs.CallLemmas.{code_is}
 use Rattle.zy_journal_reader.proofs.SoFar.{front, head, before, Kept, IsField, Parts, IsReadTo}
 use Rattle.zy_journal_reader.proofs.TestLemmas.{between_true, not_last, chosen, bytes_on, four_is, eight_is, four_small, eight_small, further, counted}
 use Rattle.zy_journal_reader.proofs.EndLemmas.{Ends, tag_on, code_on, key_length_on, reply_code_on}
@@ -61,8 +61,8 @@ from_byte Magic p text byte room parts lawful = from_magic p text byte room part
 from_byte Tag p text byte room parts lawful =
     tag_on p byte (text ++ byte ∷ []) (ends_on (Byte Tag) p (byte ∷ []) text byte (alone text (front p.entries p.holds) [] p.field byte parts.bytes parts.field) room parts) lawful
 from_byte CallCode p text byte room parts lawful =
-    let is = between_true byte 1 11 lawful in
-    code_on (kind_of byte) p byte (text ++ byte ∷ []) (code_is byte is.0 is.1) (ends_on (Byte CallCode) p (byte ∷ []) text byte (alone text (front p.entries p.holds) (head p.draft) p.field byte parts.bytes parts.field) room parts)
+    let is = between_true byte 1 last_call_code lawful in
+    code_on p byte (text ++ byte ∷ []) (code_back byte is.0 is.1) (ends_on (Byte CallCode) p (byte ∷ []) text byte (alone text (front p.entries p.holds) (head p.draft) p.field byte parts.bytes parts.field) room parts)
 from_byte KeyLength p text byte room parts lawful =
     key_length_on p byte (text ++ byte ∷ []) (ends_on (Byte KeyLength) p (byte ∷ []) text byte (alone text (front p.entries p.holds) (before (Byte KeyLength) p.draft) p.field byte parts.bytes parts.field) room parts) lawful
 from_byte ReplyCode p text byte room parts lawful =

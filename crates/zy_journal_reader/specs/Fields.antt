@@ -1,14 +1,12 @@
 -- What a record of a journal has, field by field: docs/FORMATS.md, "Journal".
-use Rattle.std.specs.Prelude.{◌≡◌, ℕ, ◌<◌, ◌==◌, if◌then◌else◌, List, [], length, ⊤, Option, None, Some}
-use Rattle.zy_base.specs.declared.call.Call.{Call}
-use Rattle.zy_base.specs.declared.call.Call.TheVariants as Calls
+use Rattle.std.specs.Prelude.{◌≡◌, ℕ, ◌<◌, if◌then◌else◌, List, [], length, ⊤, Option, None, Some}
+use Rattle.zy_base.specs.declared.call_kind.CallKind.TheVariants.{Flush}
+use Rattle.zy_base.specs.declared.call_kind.CallFields.{CallFields}
 use Rattle.zy_base.specs.declared.call_reply.CallReply.{CallReply}
-use Rattle.zy_base.specs.declared.call_reply.CallReply.TheVariants as Replies
 use Rattle.zy_base.specs.declared.entry.Entry.{Entry}
 use Rattle.zy_base.specs.declared.hold.Hold.{Hold}
 use Rattle.zy_base.specs.declared.file_fault.FileFault.{FileFault}
-use Rattle.zy_journal_reader.specs.declared.call_kind.CallKind.{CallKind}
-use Rattle.zy_journal_reader.specs.declared.call_kind.CallKind.TheVariants.{Get, Set, Add, Replace, Append, Prepend, Cas, Incr, Decr, Delete, Flush}
+use Rattle.zy_base.specs.Code.{call_of}
 use Rattle.zy_journal_reader.specs.declared.draft.Draft.{Draft}
 use Rattle.zy_journal_reader.specs.declared.due.Due.{Due}
 use Rattle.zy_journal_reader.specs.declared.due.Due.TheVariants.{Byte, Number, Long, Bytes, Broken}
@@ -18,62 +16,21 @@ use Rattle.zy_journal_reader.specs.declared.due.LongField.TheVariants.{CallNumbe
 
 -- ---- calls
 
--- the kind that has a code, 1 to 11
-abbrev pub kind_of : ℕ → CallKind
-kind_of code =
-    if code == 1 then Get else if code == 2 then Set else if code == 3 then Add else if code == 4 then Replace
-    else if code == 5 then Append else if code == 6 then Prepend else if code == 7 then Cas else if code == 8 then Incr
-    else if code == 9 then Decr else if code == 10 then Delete else Flush
+-- what comes where the value of a call stands: where it has none, its reply
+abbrev pub at_value : CallFields → Due
+at_value fields = if fields.value then Number ValueLength else Byte ReplyCode
 
--- the call of a kind, with its fields
-abbrev pub call_of : CallKind → List ℕ → ℕ → ℕ → List ℕ → Call
-call_of Get key flags number value = Calls.Get key
-call_of Set key flags number value = Calls.Set key flags value
-call_of Add key flags number value = Calls.Add key flags value
-call_of Replace key flags number value = Calls.Replace key flags value
-call_of Append key flags number value = Calls.Append key value
-call_of Prepend key flags number value = Calls.Prepend key value
-call_of Cas key flags number value = Calls.Cas key flags number value
-call_of Incr key flags number value = Calls.Incr key number
-call_of Decr key flags number value = Calls.Decr key number
-call_of Delete key flags number value = Calls.Delete key
-call_of Flush key flags number value = Calls.Flush
+-- what comes where its number stands
+abbrev pub at_number : CallFields → Due
+at_number fields = if fields.number then Long CallNumber else at_value fields
 
--- what follows the code of a call
-abbrev pub after_code : CallKind → Due
-after_code Flush = Byte ReplyCode
-after_code kind = Byte KeyLength
+-- what comes where its flags stand
+abbrev pub at_flags : CallFields → Due
+at_flags fields = if fields.flags then Number Flags else at_number fields
 
--- what follows its key
-abbrev pub after_key : CallKind → Due
-after_key Set = Number Flags
-after_key Add = Number Flags
-after_key Replace = Number Flags
-after_key Cas = Number Flags
-after_key Append = Number ValueLength
-after_key Prepend = Number ValueLength
-after_key Incr = Long CallNumber
-after_key Decr = Long CallNumber
-after_key kind = Byte ReplyCode
-
--- what follows its flags
-abbrev pub after_flags : CallKind → Due
-after_flags Cas = Long CallNumber
-after_flags kind = Number ValueLength
-
--- what follows its number
-abbrev pub after_number : CallKind → Due
-after_number Cas = Number ValueLength
-after_number kind = Byte ReplyCode
-
--- ---- replies
-
--- the reply that has a code and no fields
-abbrev pub plain_reply : ℕ → CallReply
-plain_reply code =
-    if code == 1 then Replies.Miss else if code == 3 then Replies.Stored else if code == 4 then Replies.NotStored
-    else if code == 5 then Replies.Exists else if code == 6 then Replies.NotFound else if code == 7 then Replies.Deleted
-    else if code == 9 then Replies.NotNumber else if code == 10 then Replies.TooLarge else Replies.Flushed
+-- what comes after its code
+abbrev pub at_key : CallFields → Due
+at_key fields = if fields.key then Byte KeyLength else at_flags fields
 
 -- ---- records
 

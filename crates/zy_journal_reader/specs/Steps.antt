@@ -9,7 +9,8 @@ use Rattle.zy_base.specs.declared.call_reply.CallReply.{CallReply}
 use Rattle.zy_base.specs.declared.call_reply.CallReply.TheVariants as Replies
 use Rattle.zy_base.specs.declared.entry.Entry.{Entry}
 use Rattle.zy_base.specs.declared.hold.Hold.{Hold}
-use Rattle.zy_base.specs.Shard.{value_limit}
+use Rattle.zy_base.specs.Code.{kind_of, fields_of, last_call_code, last_reply_code, hit_code, number_code, plain_reply}
+use Rattle.zy_base.specs.Limits.{key_limit, value_limit, connection_limit, shard_limit, core_limit, hold_limit, command_limit, stamp_limit}
 use Rattle.zy_read.specs.Format as Reads
 use Rattle.zy_journal.specs.Journal.{magic}
 use Rattle.zy_journal_reader.specs.declared.draft.Draft.{Draft}
@@ -24,7 +25,7 @@ use Rattle.zy_journal_reader.specs.declared.due.LongField.{LongField}
 use Rattle.zy_journal_reader.specs.declared.due.LongField.TheVariants.{Stamp, Index, CallNumber, FoundUnique, ReplyNumber}
 use Rattle.zy_journal_reader.specs.declared.due.BytesField.{BytesField}
 use Rattle.zy_journal_reader.specs.declared.due.BytesField.TheVariants.{Key, Value, FoundValue}
-use Rattle.zy_journal_reader.specs.Fields.{kind_of, after_code, after_key, after_flags, after_number, plain_reply, fresh, entry_of, hold_of}
+use Rattle.zy_journal_reader.specs.Fields.{at_key, at_flags, at_number, at_value, fresh, entry_of, hold_of}
 
 -- ---- how far a text was read
 
@@ -126,32 +127,32 @@ grown_by p bytes = record p { payload = p.payload ++ bytes; at = p.at + length b
 abbrev pub lawful_byte : ByteField → Progress → ℕ → Bool
 lawful_byte Magic p byte = byte == slice_index magic p.at
 lawful_byte Tag p byte = byte == 69 || byte == 72 || (byte == 74 && length p.holds == 0)
-lawful_byte CallCode p byte = nat_le 1 byte && nat_le byte 11
-lawful_byte KeyLength p byte = nat_le 1 byte && nat_le byte 250
-lawful_byte ReplyCode p byte = nat_le 1 byte && nat_le byte 11
+lawful_byte CallCode p byte = nat_le 1 byte && nat_le byte last_call_code
+lawful_byte KeyLength p byte = nat_le 1 byte && nat_le byte key_limit
+lawful_byte ReplyCode p byte = nat_le 1 byte && nat_le byte last_reply_code
 
 -- what a lawful one does
 abbrev pub after_byte : ByteField → Progress → ℕ → Step
 after_byte Magic p byte = if p.at == 7 then goes p (Byte Tag) else goes p (Byte Magic)
 after_byte Tag p byte =
     if byte == 69 then ends p else if byte == 72 then goes p (Number HoldConnection) else goes p (Long Stamp)
-after_byte CallCode p byte = knows p (record p.draft { kind = kind_of byte }) (after_code (kind_of byte))
+after_byte CallCode p byte = knows p (record p.draft { kind = kind_of byte }) (at_key (fields_of (kind_of byte)))
 after_byte KeyLength p byte = begins p Key byte
 after_byte ReplyCode p byte =
-    if byte == 2 then goes p (Number FoundFlags) else if byte == 8 then goes p (Long ReplyNumber)
+    if byte == hit_code then goes p (Number FoundFlags) else if byte == number_code then goes p (Long ReplyNumber)
     else ends_entry p (plain_reply byte)
 
 -- ---- numbers of four bytes
 
 -- which numbers are lawful; where the stamp is that of the entry before, the shard is above that one's
 abbrev pub lawful_number : NumberField → Progress → ℕ → Bool
-lawful_number Shard p n = nat_lt n 256 && (nat_lt p.past.stamp p.draft.stamp || nat_lt p.past.shard n)
-lawful_number Connection p n = nat_lt n 4096
+lawful_number Shard p n = nat_lt n shard_limit && (nat_lt p.past.stamp p.draft.stamp || nat_lt p.past.shard n)
+lawful_number Connection p n = nat_lt n connection_limit
 lawful_number ValueLength p n = nat_le n value_limit
 lawful_number FoundLength p n = nat_le n value_limit
-lawful_number HoldConnection p n = nat_le p.past.conn n && nat_lt n 4096
-lawful_number HoldCore p n = nat_lt n 64
-lawful_number HoldCount p n = nat_le 1 n && nat_le n 64
+lawful_number HoldConnection p n = nat_le p.past.conn n && nat_lt n connection_limit
+lawful_number HoldCore p n = nat_lt n core_limit
+lawful_number HoldCount p n = nat_le 1 n && nat_le n hold_limit
 lawful_number Part p n = true
 lawful_number Flags p n = true
 lawful_number FoundFlags p n = true
@@ -161,7 +162,7 @@ abbrev pub after_four : NumberField → Progress → ℕ → Step
 after_four Shard p n = knows p (record p.draft { shard = n }) (Number Connection)
 after_four Connection p n = knows p (record p.draft { conn = n }) (Long Index)
 after_four Part p n = knows p (record p.draft { part = n }) (Byte CallCode)
-after_four Flags p n = knows p (record p.draft { flags = n }) (after_flags p.draft.kind)
+after_four Flags p n = knows p (record p.draft { flags = n }) (at_number (fields_of p.draft.kind))
 after_four ValueLength p n =
     if n == 0 then knows p (record p.draft { value = [] }) (Byte ReplyCode) else begins p Value n
 after_four FoundFlags p n = knows p (record p.draft { found_flags = n }) (Long FoundUnique)
@@ -175,8 +176,8 @@ after_four HoldCount p n = ends_hold p n
 
 -- which numbers are lawful; a stamp is not below that of the entry before
 abbrev pub lawful_long : LongField → Progress → ℕ → Bool
-lawful_long Stamp p n = nat_le 1 n && nat_lt n (2 ^ 60) && nat_le p.past.stamp n
-lawful_long Index p n = nat_lt n (2 ^ 40)
+lawful_long Stamp p n = nat_le 1 n && nat_lt n stamp_limit && nat_le p.past.stamp n
+lawful_long Index p n = nat_lt n command_limit
 lawful_long CallNumber p n = true
 lawful_long FoundUnique p n = true
 lawful_long ReplyNumber p n = true
@@ -185,7 +186,7 @@ lawful_long ReplyNumber p n = true
 abbrev pub after_eight : LongField → Progress → ℕ → Step
 after_eight Stamp p n = knows p (record p.draft { stamp = n }) (Number Shard)
 after_eight Index p n = knows p (record p.draft { index = n }) (Number Part)
-after_eight CallNumber p n = knows p (record p.draft { number = n }) (after_number p.draft.kind)
+after_eight CallNumber p n = knows p (record p.draft { number = n }) (at_value (fields_of p.draft.kind))
 after_eight FoundUnique p n = knows p (record p.draft { found_unique = n }) (Number FoundLength)
 after_eight ReplyNumber p n = ends_entry p (Replies.Number n)
 
@@ -194,7 +195,8 @@ after_eight ReplyNumber p n = ends_entry p (Replies.Number n)
 -- what a whole key or value does
 abbrev pub after_bytes : BytesField → Progress → List ℕ → Step
 after_bytes Key p bytes =
-    knows (record p { payload = [] }) (record p.draft { key = bytes; size = 0 }) (after_key p.draft.kind)
+    knows (record p { payload = [] }) (record p.draft { key = bytes; size = 0 })
+    (at_flags (fields_of p.draft.kind))
 after_bytes Value p bytes =
     knows (record p { payload = [] }) (record p.draft { value = bytes; size = 0 }) (Byte ReplyCode)
 after_bytes FoundValue p bytes =

@@ -1,14 +1,13 @@
 -- What a whole text is as a journal: the journal that it spells, or its first fault. A text is read from its first
 -- byte to its last. That it is good exactly where it is a spelling is a law in src/laws.rt.
-use Rattle.std.specs.Prelude.{◌≡◌, ℕ, ◌^◌, ◌<◌, ◌≤◌, Bool, true, false, List, length, Option, ⊤}
+use Rattle.std.specs.Prelude.{◌≡◌, ℕ, ◌^◌, ◌<◌, ◌≤◌, Bool, true, false, List, length, Option, IfSome, ⊤}
 use Rattle.std.specs.List.{AllByRecursion}
 use Rattle.zy_base.specs.declared.call.Call.{Call}
-use Rattle.zy_base.specs.declared.call.Call.TheVariants.{Set, Add, Replace, Cas, Incr, Decr}
 use Rattle.zy_base.specs.declared.call_reply.CallReply.{CallReply}
-use Rattle.zy_base.specs.declared.call_reply.CallReply.TheVariants.{Hit, Number}
 use Rattle.zy_base.specs.declared.entry.Entry.{Entry}
 use Rattle.zy_base.specs.declared.file_fault.FileFault.{FileFault}
 use Rattle.zy_base.specs.declared.file_fault.FileFault.TheVariants.{Truncated}
+use Rattle.zy_base.specs.Code.{call_flags, call_number, reply_flags, reply_number}
 use Rattle.zy_read.specs.Format.{Format, Reading, read_on, fault_met, verdict_on}
 use Rattle.zy_journal.specs.declared.journal.Journal.{Journal}
 use Rattle.zy_journal.specs.Journal.{IsJournal, journal_bytes}
@@ -59,21 +58,17 @@ fault_of text = fault_met journals text
 
 -- ---- spellings
 
+-- flags have four bytes, and a number has eight
+abbrev pub FitFields : Option ℕ → Option ℕ → Type 0
+FitFields flags number = IfSome flags (λ n. n < 2 ^ 32) × IfSome number (λ n. n < 2 ^ 64)
+
 -- the flags of a call have four bytes, and its unique or its amount has eight
 abbrev pub FitsCall : Call → Type 0
-FitsCall (Set key flags value) = flags < 2 ^ 32
-FitsCall (Add key flags value) = flags < 2 ^ 32
-FitsCall (Replace key flags value) = flags < 2 ^ 32
-FitsCall (Cas key flags unique value) = (flags < 2 ^ 32) × (unique < 2 ^ 64)
-FitsCall (Incr key amount) = amount < 2 ^ 64
-FitsCall (Decr key amount) = amount < 2 ^ 64
-FitsCall call = ⊤
+FitsCall call = FitFields (call_flags call) (call_number call)
 
 -- so do those of a reply
 abbrev pub FitsReply : CallReply → Type 0
-FitsReply (Hit flags unique value) = (flags < 2 ^ 32) × (unique < 2 ^ 64)
-FitsReply (Number number) = number < 2 ^ 64
-FitsReply reply = ⊤
+FitsReply reply = FitFields (reply_flags reply) (reply_number reply)
 
 -- an entry's numbers without a bound of their own fit their bytes
 pub record FitsEntry (e : Entry) : Type 0 where

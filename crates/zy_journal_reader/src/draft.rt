@@ -1,10 +1,9 @@
 //! The record that is being read.
 ghost use Rattle.std.specs.Prelude.{◌≡◌};
-ghost use Rattle.zy_journal_reader.specs.Fields.{fresh, call_of, entry_of};
+ghost use Rattle.zy_journal_reader.specs.Fields.{fresh, entry_of};
 
-use crate::call_kind::CallKind;
 use std::alloc::Global;
-use zy_base::{Blob, Call, CallReply, Entry, Tag};
+use zy_base::{Blob, CallKind, CallReply, Entry, Tag};
 
 /// What was read of a record so far; 0 and empty where a field was not read.
 #[derive(Drop)]
@@ -64,38 +63,10 @@ impl Draft {
             },
             shard: self.shard,
             stamp: self.stamp,
-            call: into_call(self.kind, self.key, self.flags, self.number, self.value),
+            call: self
+                .kind
+                .call(self.key, self.flags, self.number, self.value),
             reply,
         }
-    }
-}
-
-// The call of a kind.
-fn into_call(kind: CallKind, key: Blob, flags: u32, number: u64, value: Blob) -> Call
-    ensures value { result ≡ call_of kind key flags number value }
-{
-    match kind {
-        CallKind::Get => Call::Get { key },
-        CallKind::Set => Call::Set { key, flags, value },
-        CallKind::Add => Call::Add { key, flags, value },
-        CallKind::Replace => Call::Replace { key, flags, value },
-        CallKind::Append => Call::Append { key, value },
-        CallKind::Prepend => Call::Prepend { key, value },
-        CallKind::Cas => Call::Cas {
-            key,
-            flags,
-            unique: number,
-            value,
-        },
-        CallKind::Incr => Call::Incr {
-            key,
-            amount: number,
-        },
-        CallKind::Decr => Call::Decr {
-            key,
-            amount: number,
-        },
-        CallKind::Delete => Call::Delete { key },
-        CallKind::Flush => Call::Flush,
     }
 }

@@ -1,7 +1,7 @@
 //! The reader of journals: fed byte by byte or in pieces, it gives the journal that was spelled.
 #![tactic(auto)]
 
-mod call_kind;
+mod call_fields;
 mod draft;
 mod due;
 mod laws;

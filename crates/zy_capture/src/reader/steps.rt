@@ -11,10 +11,9 @@ ghost use Rattle.zy_capture.specs.Lasting.{lasting};
 use super::Reader;
 use crate::capture_fault::{CaptureFault, FeedFault};
 use crate::due::Due;
-use crate::limits::CONNECTION_LIMIT;
 use crate::record::{Record, Segment};
 use std::mem;
-use zy_base::Blob;
+use zy_base::{Blob, CONNECTION_LIMIT};
 use zy_read::{MagicPart, MagicStep, Reads};
 
 pub(super) const CAPTURE_LIMIT: u64 = 4_294_967_295;

@@ -10,11 +10,10 @@ ghost use Rattle.zy_capture.specs.RepliesStanding.{Takes, IsWithin, IsOfOutput};
 ghost use Rattle.zy_capture.specs.RepliesLasting.{lasting};
 
 use super::RepliesReader;
-use crate::limits::CONNECTION_LIMIT;
 use crate::replies_due::RepliesDue;
 use crate::session_bytes::SessionBytes;
 use std::mem;
-use zy_base::{Blob, FileFault};
+use zy_base::{Blob, CONNECTION_LIMIT, FileFault};
 use zy_read::{FileFeed, MagicPart, MagicStep, Reads};
 
 const REPLIES_LIMIT: u64 = 9_223_372_036_854_775_807;

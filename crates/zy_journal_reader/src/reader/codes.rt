@@ -2,14 +2,16 @@
 ghost use Rattle.std.specs.Prelude.{◌≡◌, ◌<◌};
 ghost use Rattle.zy_journal_reader.specs.declared.due.Due.TheVariants as Dues;
 ghost use Rattle.zy_journal_reader.specs.declared.due.ByteField.TheVariants as Codes;
-ghost use Rattle.zy_journal_reader.specs.Fields.{plain_reply};
 ghost use Rattle.zy_journal_reader.specs.Steps.{taken, lawful_byte, after_byte, journal_limit};
 ghost use Rattle.zy_journal_reader.specs.Standing.{Takes};
 
 use super::JournalReader;
-use crate::call_kind::CallKind;
+use crate::call_fields::at_key;
 use crate::due::{ByteField, BytesField, Due, LongField, NumberField};
-use zy_base::{CallReply, FileFault};
+use zy_base::{
+    CallKind, CallReply, FileFault, HIT_CODE, KEY_LIMIT, LAST_CALL_CODE, LAST_REPLY_CODE,
+    NUMBER_CODE,
+};
 use zy_read::FileFeed;
 
 const MAGIC: &[u8; 8] = b"ZYGJRN1\n";
@@ -44,9 +46,9 @@ impl JournalReader {
             ByteField::Tag => {
                 byte == b'E' || byte == b'H' || (byte == b'J' && self.holds.len() == 0)
             }
-            ByteField::CallCode => 1 <= byte && byte <= 11,
-            ByteField::ReplyCode => 1 <= byte && byte <= 11,
-            ByteField::KeyLength => 1 <= byte && byte <= 250,
+            ByteField::CallCode => 1 <= byte && byte <= LAST_CALL_CODE,
+            ByteField::ReplyCode => 1 <= byte && byte <= LAST_REPLY_CODE,
+            ByteField::KeyLength => 1 <= byte && byte <= KEY_LIMIT,
         }
     }
 
@@ -87,7 +89,7 @@ impl JournalReader {
     {
         let kind = CallKind::of(byte);
         self.draft.kind = kind;
-        self.go_on(kind.after_code());
+        self.go_on(at_key(kind.fields()));
     }
 
     // The code of a reply.
@@ -97,28 +99,13 @@ impl JournalReader {
         ensures value { Takes (after_byte Codes.ReplyCode self.old byte)
             self.old self.new result }
     {
-        match byte {
-            2 => self.go_on(Due::Number(NumberField::FoundFlags)),
-            8 => self.go_on(Due::Long(LongField::ReplyNumber)),
-            _ => return self.end_entry(plain_reply(byte)),
+        if byte == HIT_CODE {
+            self.go_on(Due::Number(NumberField::FoundFlags));
+        } else if byte == NUMBER_CODE {
+            self.go_on(Due::Long(LongField::ReplyNumber));
+        } else {
+            return self.end_entry(CallReply::plain(byte));
         }
         Ok(None)
-    }
-}
-
-// The reply that has this code and no fields.
-fn plain_reply(code: u8) -> CallReply
-    ensures value { result ≡ plain_reply code }
-{
-    match code {
-        1 => CallReply::Miss,
-        3 => CallReply::Stored,
-        4 => CallReply::NotStored,
-        5 => CallReply::Exists,
-        6 => CallReply::NotFound,
-        7 => CallReply::Deleted,
-        9 => CallReply::NotNumber,
-        10 => CallReply::TooLarge,
-        _ => CallReply::Flushed,
     }
 }

@@ -6,6 +6,7 @@ ghost use Rattle.zy_journal_reader.specs.Standing.{Takes};
 ghost use Rattle.zy_journal_reader.specs.declared.due.BytesField.TheVariants as Contents;
 
 use super::JournalReader;
+use crate::call_fields::at_flags;
 use crate::due::{ByteField, BytesField, Due};
 use zy_base::{Blob, NoMemory};
 use zy_read::FileFeed;
@@ -42,7 +43,7 @@ impl JournalReader {
             Ok(key) => {
                 self.draft.key = key;
                 self.draft.size = 0;
-                self.due = self.draft.kind.after_key();
+                self.due = at_flags(self.draft.kind.fields());
                 self.field.clear();
                 self.at += 1;
                 Ok(None)

@@ -5,13 +5,10 @@ ghost use Rattle.zy_journal_reader.specs.Steps.{taken, lawful_long, after_eight,
 ghost use Rattle.zy_journal_reader.specs.Standing.{Takes};
 
 use super::JournalReader;
+use crate::call_fields::at_value;
 use crate::due::{Due, LongField, NumberField};
-use zy_base::{CallReply, FileFault};
+use zy_base::{COMMAND_LIMIT, CallReply, FileFault, STAMP_LIMIT};
 use zy_read::FileFeed;
-
-const STAMP_LIMIT: u64 = 1_152_921_504_606_846_976;
-
-const INDEX_LIMIT: u64 = 1_099_511_627_776;
 
 impl JournalReader {
     // A byte of a number of eight bytes.
@@ -37,7 +34,7 @@ impl JournalReader {
     {
         match field {
             LongField::Stamp => 1 <= number && number < STAMP_LIMIT && self.past.stamp <= number,
-            LongField::Index => number < INDEX_LIMIT,
+            LongField::Index => number < COMMAND_LIMIT,
             LongField::CallNumber => true,
             LongField::FoundUnique => true,
             LongField::ReplyNumber => true,
@@ -61,7 +58,7 @@ impl JournalReader {
             }
             LongField::CallNumber => {
                 self.draft.number = number;
-                self.go_on(self.draft.kind.after_number());
+                self.go_on(at_value(self.draft.kind.fields()));
             }
             LongField::FoundUnique => {
                 self.draft.found_unique = number;

@@ -6,11 +6,12 @@ ghost use Rattle.zy_journal_reader.specs.Steps.{taken, lawful_number, after_four
 ghost use Rattle.zy_journal_reader.specs.Standing.{Takes};
 
 use super::JournalReader;
+use crate::call_fields::at_number;
 use crate::due::{ByteField, BytesField, Due, LongField, NumberField};
-use zy_base::{Blob, CallReply, FileFault};
+use zy_base::{
+    Blob, CONNECTION_LIMIT, CORE_LIMIT, CallReply, FileFault, HOLD_LIMIT, SHARD_LIMIT, VALUE_LIMIT,
+};
 use zy_read::FileFeed;
-
-const VALUE_LIMIT: u32 = 1_048_576;
 
 impl JournalReader {
     // A byte of a number of four bytes.
@@ -40,14 +41,17 @@ impl JournalReader {
     {
         match field {
             NumberField::Shard => {
-                number < 256 && (self.past.stamp < self.draft.stamp || self.past.shard < number)
+                number < SHARD_LIMIT
+                    && (self.past.stamp < self.draft.stamp || self.past.shard < number)
             }
-            NumberField::Connection => number < 4_096,
+            NumberField::Connection => number < CONNECTION_LIMIT,
             NumberField::ValueLength => number <= VALUE_LIMIT,
             NumberField::FoundLength => number <= VALUE_LIMIT,
-            NumberField::HoldConnection => self.past.conn <= number && number < 4_096,
-            NumberField::HoldCore => number < 64,
-            NumberField::HoldCount => 1 <= number && number <= 64,
+            NumberField::HoldConnection => {
+                self.past.conn <= number && number < CONNECTION_LIMIT
+            }
+            NumberField::HoldCore => number < CORE_LIMIT,
+            NumberField::HoldCount => 1 <= number && number <= HOLD_LIMIT,
             NumberField::Part => true,
             NumberField::Flags => true,
             NumberField::FoundFlags => true,
@@ -75,7 +79,7 @@ impl JournalReader {
             }
             NumberField::Flags => {
                 self.draft.flags = number;
-                self.go_on(self.draft.kind.after_flags());
+                self.go_on(at_number(self.draft.kind.fields()));
             }
             NumberField::ValueLength => self.begin_value(number),
             NumberField::FoundFlags => {

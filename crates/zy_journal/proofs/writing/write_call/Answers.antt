@@ -1,11 +1,26 @@
-use Rattle.std.proofs.Common.{ℕ, List, ◌∷◌, ◌++◌, sym, subst}
+use Rattle.std.proofs.Common.{◌∷◌}
 use Rattle.zy_base.specs.declared.call.Call.{Call}
-use Rattle.zy_base.specs.Outside.{Writes}
-use Rattle.zy_journal.specs.Journal.{call_text, key_text, value_text}
+use Rattle.zy_base.specs.Call.{key_of}
+use Rattle.zy_base.specs.Code.{call_code, call_flags, call_number, call_value}
+use Rattle.zy_base.proofs.WritingLemmas.{writes_on, writes_no_more}
+use Rattle.zy_journal.specs.Journal.{key_text, field_text, fields_text, call_text}
 use Rattle.zy_journal.proofs.writing.write_call.Goals as goal
 
-pub returns-in-Cas : goal.returns-in-Cas
+pub returns-in-Err : goal.returns-in-Err
 unfolding call_text
-returns-in-Cas g c =
-    let numbered = subst (λ (l : List ℕ). Writes g.K.Sink.holds g.K.Sink.faults c.args.sink.now c.write_value-in-Cas.new.sink c.write_value-in-Cas.result (7 ∷ (key_text c.in-Cas.key ++ (l ++ value_text c.in-Cas.value)))) c.flags_and_unique.ensures.value c.write_value-in-Cas.ensures.writes in
-    record { writes = subst (λ (call : Call). Writes g.K.Sink.holds g.K.Sink.faults c.args.sink.now c.write_value-in-Cas.new.sink c.write_value-in-Cas.result (call_text call)) (sym c.in-Cas.is) numbered }
+returns-in-Err g c =
+    let call : Call = c.args.call.now in
+    record {
+      writes = writes_no_more g.K.Sink.holds g.K.Sink.faults c.args.sink.now c.write_start.new.sink c.in-Err.failed (call_code call ∷ field_text key_text (key_of call)) (fields_text (call_flags call) (call_number call) (call_value call))
+          (rw (← c.code.ensures.value, ← c.key.ensures.value) c.in-Err.ensures.writes);
+    }
+
+pub returns : goal.returns
+unfolding call_text
+returns g c =
+    let call : Call = c.args.call.now in
+    record {
+      writes = writes_on g.K.Sink.holds g.K.Sink.faults c.args.sink.now c.write_start.new.sink c.write_fields.new.sink c.write_fields.result (call_code call ∷ field_text key_text (key_of call)) (fields_text (call_flags call) (call_number call) (call_value call))
+          (rw (← c.code.ensures.value, ← c.key.ensures.value) c.in_default.ensures.writes.whole) c.in_default.ensures.writes.count
+          (rw (← c.flags.ensures.value, ← c.number.ensures.value, ← c.value.ensures.value) c.write_fields.ensures.writes);
+    }
