@@ -1,5 +1,5 @@
 -- What a core keeps through the steps of a turn, by what they do to its home.
-use Rattle.std.proofs.Common.{◌≡◌, ℕ, ◌+◌, ◌*◌, ◌<◌, ◌≤◌, List, length, Bool, true, false, ◌&&◌, refl, sym, ap, ◌∙◌, subst, arith}
+use Rattle.std.proofs.Common.{◌≡◌, ℕ, ◌+◌, ◌≤◌, List, length, Bool, true, false, ◌&&◌, refl, sym, ap, ◌∙◌, subst, arith}
 use Rattle.std.specs.Prelude.{not}
 use Rattle.zy_table.specs.declared.name.Name.{Name}
 use Rattle.zy_rx.specs.Ring.{Taking}
@@ -9,7 +9,7 @@ use Rattle.zy_steal.specs.Steal.{Thief, PassList, AreIdle, SeatOf, seats_of}
 use Rattle.zy_steal.proofs.SeatLemmas.{seats-length}
 use Rattle.zy_control.specs.declared.view.Role.TheVariants.{Core}
 use Rattle.zy_control.specs.View.{has_counted}
-use Rattle.zy_core.specs.Core.{Cored, cored, AreOfOne, CoreKeeps, identity_of}
+use Rattle.zy_core.specs.Core.{Cored, cored, CoreKeeps, identity_of}
 use Rattle.zy_core.specs.Step.{Kin, IsStill}
 
 -- ---- the home

@@ -10,12 +10,12 @@ loop-init g c =
 
 pub loop-preserved : goal.loop-preserved
 loop-preserved g c = (
-    search rules,
-    search rules,
-    ((λ e. let is = c.step.ensures.ended.1 e in cc), (λ e. let is = c.step.ensures.broken.1 e in cc)),
-    g.met.F.Feeder.leads_on _ _ _ c.loop.invariant.3 c.step.ensures.leads,
-    c.step.ensures.rings ∙ c.loop.invariant.4,
-  )
+  search rules,
+  search rules,
+  ((λ e. let is = c.step.ensures.ended.1 e in cc), (λ e. let is = c.step.ensures.broken.1 e in cc)),
+  g.met.F.Feeder.leads_on _ _ _ c.loop.invariant.3 c.step.ensures.leads,
+  c.step.ensures.rings ∙ c.loop.invariant.4,
+)
 
 pub returns-in-Full-clause-fresh : goal.returns-in-Full-clause-fresh
 returns-in-Full-clause-fresh g c =

@@ -9,14 +9,14 @@ use Rattle.zy_core.proofs.threads.seats.start_all.Goals as goal
 
 pub loop-t-init : goal.loop-t-init
 loop-t-init g c = (
-    omega arith,
-    omega arith,
-    c.len-count.ensures,
-    c.requires.room,
-    omega arith,
-    c.requires.fits,
-    refl,
-  )
+  omega arith,
+  omega arith,
+  c.len-count.ensures,
+  c.requires.room,
+  omega arith,
+  c.requires.fits,
+  refl,
+)
 
 pub loop-t-preserved : goal.loop-t-preserved
 loop-t-preserved g c =
@@ -29,7 +29,7 @@ loop-t-preserved g c =
       fit_rest c.args.shared.now c.loop-t.groups.items c.remove.new.self.items c.remove.ensures.items inv.5,
       ap (λ l. l ++ all_of_groups c.remove.new.self.items) (ap all_of_seats c.push_reserved.ensures.items ∙ seats_last c.loop-t.seats.items c.start_group-seat.result)
           ∙ taken_on (λ (g : Vec Core Global). identities g.items) (all_of_seats c.loop-t.seats.items) c.loop-t.groups.items c.remove.result c.remove.new.self.items (seat_identities c.start_group-seat.result) (let ok = c.loop-t.groups.ok.0 in omega (arith, inv.0)) c.remove.ensures.value c.remove.ensures.items
-              (c.start_group-seat.ensures.same ∙ ap (λ (g : Grouped). identities g.cores) c.new-group.ensures.value)
+          (c.start_group-seat.ensures.same ∙ ap (λ (g : Grouped). identities g.cores) c.new-group.ensures.value)
           ∙ inv.6,
     )
 
