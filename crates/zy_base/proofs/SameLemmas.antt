@@ -1,15 +1,16 @@
 -- Two calls are the same or not, and so are two replies.
-use Rattle.std.specs.Prelude.{◌==◌, if◌then◌else◌}
+use Rattle.std.specs.Prelude.{◌==◌, if◌then◌else◌, unwrap_or}
 use Rattle.std.proofs.Common.{◌≡◌, ℕ, List, [], Option, None, Some, refl, sym, ap, ◌∙◌}
 use Rattle.std.proofs.lemmas.Option.{none-some, same_Some}
 use mathlib.Core.HLevel.{×_discrete}
 use mathlib.Core.List.{List-discrete}
 use native.Mathlib.Decide.{ℕ_discrete}
 use Rattle.zy_base.specs.declared.call.Call.{Call}
-use Rattle.zy_base.specs.declared.call.Call.TheVariants.{Get, Set, Add, Replace, Append, Prepend, Cas, Incr, Decr, Delete, Flush}
+use Rattle.zy_base.specs.declared.call.Call.TheVariants.{Flush}
 use Rattle.zy_base.specs.declared.call_reply.CallReply.{CallReply}
 use Rattle.zy_base.specs.declared.call_reply.CallReply.TheVariants.{Hit, Number}
-use Rattle.zy_base.specs.Code.{kind_of, call_of, call_code, reply_code, plain_reply}
+use Rattle.zy_base.specs.Call.{key_of}
+use Rattle.zy_base.specs.Code.{kind_of, call_of, call_code, call_flags, call_number, call_value, hit_code, number_code, reply_code, reply_flags, reply_number, reply_value, plain_reply}
 
 -- what is read back from a code is told apart where codes are
 pub told_by : {A B : Type 0} (code : A → B) (read : B → A) → ((a : A) → read (code a) ≡ a) → Discrete B → Discrete A
@@ -39,17 +40,8 @@ abbrev CallParts : Type 0
 CallParts = ℕ × (List ℕ × (ℕ × (ℕ × List ℕ)))
 
 abbrev call_parts : Call → CallParts
-call_parts (Get key) = (call_code (Get key), (key, (0, (0, []))))
-call_parts (Set key flags value) = (call_code (Set key flags value), (key, (flags, (0, value))))
-call_parts (Add key flags value) = (call_code (Add key flags value), (key, (flags, (0, value))))
-call_parts (Replace key flags value) = (call_code (Replace key flags value), (key, (flags, (0, value))))
-call_parts (Append key value) = (call_code (Append key value), (key, (0, (0, value))))
-call_parts (Prepend key value) = (call_code (Prepend key value), (key, (0, (0, value))))
-call_parts (Cas key flags unique value) = (call_code (Cas key flags unique value), (key, (flags, (unique, value))))
-call_parts (Incr key amount) = (call_code (Incr key amount), (key, (0, (amount, []))))
-call_parts (Decr key amount) = (call_code (Decr key amount), (key, (0, (amount, []))))
-call_parts (Delete key) = (call_code (Delete key), (key, (0, (0, []))))
-call_parts Flush = (call_code Flush, ([], (0, (0, []))))
+call_parts call =
+    (call_code call, (unwrap_or (key_of call) [], (unwrap_or (call_flags call) 0, (unwrap_or (call_number call) 0, unwrap_or (call_value call) []))))
 
 abbrev call_by : CallParts → Call
 call_by (code, (key, (flags, (number, value)))) = call_of (kind_of code) key flags number value
@@ -63,18 +55,16 @@ call_told = told_by call_parts call_by call_back (×_discrete ℕ_discrete (×_d
 
 -- ---- replies
 
--- the code of a reply, its flags or number, its unique and its value
+-- the code of a reply, its flags, its unique or number, and its value
 abbrev ReplyParts : Type 0
 ReplyParts = ℕ × (ℕ × (ℕ × List ℕ))
 
 abbrev reply_parts : CallReply → ReplyParts
-reply_parts (Hit flags unique value) = (2, (flags, (unique, value)))
-reply_parts (Number number) = (8, (number, (0, [])))
-reply_parts reply = (reply_code reply, (0, (0, [])))
+reply_parts reply = (reply_code reply, (unwrap_or (reply_flags reply) 0, (unwrap_or (reply_number reply) 0, unwrap_or (reply_value reply) [])))
 
 abbrev reply_by : ReplyParts → CallReply
-reply_by (code, (number, (unique, value))) =
-    if code == 2 then Hit number unique value else if code == 8 then Number number else plain_reply code
+reply_by (code, (flags, (number, value))) =
+    if code == hit_code then Hit flags number value else if code == number_code then Number number else plain_reply code
 
 reply_back : (reply : CallReply) → reply_by (reply_parts reply) ≡ reply
 reply_back (Hit flags unique value) = refl

@@ -1,7 +1,10 @@
 //! Frames.
+ghost use Rattle.std.specs.Prelude.{◌≡◌, IfOk};
 
 use crate::frame_kind::FrameKind;
+use std::alloc::Global;
 use std::marker::Model;
+use zy_base::{Blob, NoMemory};
 
 /// A frame of a stream. Contracts see it as its kind, which is that of some frame text.
 #[derive(Drop)]
@@ -18,4 +21,16 @@ impl Model for Frame {
     ghost view = { λ frame. frame.kind };
 
     ghost invariant = { λ frame. IsFrame frame.kind };
+}
+
+impl Frame {
+    /// The same frame.
+    pub fn copy(&self) -> Result<Frame, NoMemory>
+        ensures value { IfOk result (λ copy. copy ≡ self.now) }
+    {
+        match self.kind.copy() {
+            Ok(kind) => Ok(Frame { kind }),
+            Err(e) => Err(e),
+        }
+    }
 }

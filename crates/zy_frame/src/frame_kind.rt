@@ -1,6 +1,7 @@
 //! Kinds of frames.
+ghost use Rattle.std.specs.Prelude.{◌≡◌, IfOk};
 
-use zy_base::Blob;
+use zy_base::{Blob, NoMemory};
 
 /// What a frame is. A line stands without its line feed and without one carriage return before
 /// that.
@@ -14,4 +15,33 @@ pub enum FrameKind {
     Large { line: Blob },
     /// A line that is too long; it was not kept.
     Long,
+}
+
+impl FrameKind {
+    // The same kind.
+    pub(crate) fn copy(&self) -> Result<FrameKind, NoMemory>
+        ensures value { IfOk result (λ copy. copy ≡ self.now) }
+    {
+        match self {
+            FrameKind::Line { line } => {
+                let line = line.copy()?;
+                Ok(FrameKind::Line { line })
+            }
+            FrameKind::Block { line, block } => {
+                let line = line.copy()?;
+                match block.copy() {
+                    Ok(block) => Ok(FrameKind::Block { line, block }),
+                    Err(e) => {
+                        drop(line);
+                        Err(e)
+                    }
+                }
+            }
+            FrameKind::Large { line } => {
+                let line = line.copy()?;
+                Ok(FrameKind::Large { line })
+            }
+            FrameKind::Long => Ok(FrameKind::Long),
+        }
+    }
 }

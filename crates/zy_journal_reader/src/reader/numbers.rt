@@ -47,9 +47,7 @@ impl JournalReader {
             NumberField::Connection => number < CONNECTION_LIMIT,
             NumberField::ValueLength => number <= VALUE_LIMIT,
             NumberField::FoundLength => number <= VALUE_LIMIT,
-            NumberField::HoldConnection => {
-                self.past.conn <= number && number < CONNECTION_LIMIT
-            }
+            NumberField::HoldConnection => { self.past.conn <= number && number < CONNECTION_LIMIT }
             NumberField::HoldCore => number < CORE_LIMIT,
             NumberField::HoldCount => 1 <= number && number <= HOLD_LIMIT,
             NumberField::Part => true,
