@@ -83,7 +83,7 @@ fn count_frames(alloc: Global, traffic: &[u8], bytes: u64, piece: u64) -> Result
 fn drained(frames: &mut Frames) -> u64 {
     let mut count = 0u64;
     for _ in 0..frames.len() {
-        if frames.pop().is_some() {
+        if frames.next().is_some() {
             count = count.wrapping_add(1);
         }
     }

@@ -55,7 +55,7 @@ fn offer(alloc: Global, inlet: &mut EventInlet, first: u64, size: u64) -> Result
     let mut framer = Framer::new(alloc);
     let mut frames = Frames::new(alloc);
     framer.feed(text.bytes(), &mut frames)?;
-    while let Some(frame) = frames.pop() {
+    while let Some(frame) = frames.next() {
         if inlet.offer(frame).is_some() {
             return Err(NoMemory);
         }
