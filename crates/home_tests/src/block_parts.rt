@@ -43,7 +43,7 @@ pub(crate) fn offer_text(rt: &impl Abort, alloc: Global, inlet: &mut EventInlet,
     let mut frames = Frames::new(alloc);
     sure(rt, framer.feed(text, &mut frames));
     drop(framer);
-    while let Some(frame) = frames.pop() {
+    while let Some(frame) = frames.next() {
         let refused = inlet.offer(frame);
         let is_refused = refused.is_some();
         drop(refused);

@@ -2,18 +2,18 @@
 use Rattle.std.specs.Prelude.{ℕ, List, [], ◌∷◌, ◌++◌}
 
 -- the texts to send, in order, and how many commands of the connection are finished
-pub record Sends : Type 0 where
+pub record Batch : Type 0 where
   pub texts : List (List ℕ)
   pub finished : ℕ
 
 -- no text yet
-abbrev pub no_text : ℕ → Sends
+abbrev pub no_text : ℕ → Batch
 no_text finished = record { texts = []; finished = finished }
 
 -- one text more
-abbrev pub with_text : Sends → List ℕ → Sends
+abbrev pub with_text : Batch → List ℕ → Batch
 with_text batch text = record { texts = batch.texts ++ text ∷ []; finished = batch.finished }
 
 -- another number of finished commands
-abbrev pub with_finished : Sends → ℕ → Sends
+abbrev pub with_finished : Batch → ℕ → Batch
 with_finished batch finished = record { texts = batch.texts; finished = finished }

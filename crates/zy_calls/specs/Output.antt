@@ -1,33 +1,33 @@
 -- The output of a connection: the texts of the batches that were carried out.
 use Rattle.std.specs.Prelude.{ℕ, List, [], ◌∷◌, ◌++◌, take}
 use Rattle.std.specs.List.{concat}
-use Rattle.zy_calls.specs.Batch.{Sends}
+use Rattle.zy_calls.specs.Batch.{Batch}
 
 -- the connection, its texts in order, and how many of its commands are finished
-pub record Sent : Type 0 where
+pub record Output : Type 0 where
   pub conn : ℕ
   pub texts : List (List ℕ)
   pub finished : ℕ
 
 -- nothing was carried out yet
-abbrev pub nothing_sent : ℕ → Sent
+abbrev pub nothing_sent : ℕ → Output
 nothing_sent conn = record { conn = conn; texts = []; finished = 0 }
 
 -- with a batch carried out
-abbrev pub with_batch : Sent → Sends → Sent
+abbrev pub with_batch : Output → Batch → Output
 with_batch output batch =
     record { conn = output.conn; texts = output.texts ++ batch.texts; finished = batch.finished }
 
 -- with batches carried out, one after another
-abbrev pub with_batches : Sent → List Sends → Sent
+abbrev pub with_batches : Output → List Batch → Output
 with_batches output [] = output
 with_batches output (batch ∷ batches) = with_batches (with_batch output batch) batches
 
 -- the texts of batches, one after another
-abbrev pub texts_sent : List Sends → List (List ℕ)
+abbrev pub texts_sent : List Batch → List (List ℕ)
 texts_sent [] = []
 texts_sent (batch ∷ batches) = batch.texts ++ texts_sent batches
 
 -- the bytes of the first so many texts
-abbrev pub bytes_upto : Sent → ℕ → List ℕ
+abbrev pub bytes_upto : Output → ℕ → List ℕ
 bytes_upto output count = concat (take count output.texts)

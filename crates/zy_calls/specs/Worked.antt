@@ -1,14 +1,14 @@
 -- A worked output.
 use Rattle.std.specs.Prelude.{ℕ, List, [], ◌∷◌, codes}
-use Rattle.zy_calls.specs.Batch.{Sends}
-use Rattle.zy_calls.specs.Output.{Sent, nothing_sent, with_batches}
+use Rattle.zy_calls.specs.Batch.{Batch}
+use Rattle.zy_calls.specs.Output.{Output, nothing_sent, with_batches}
 
 -- a batch of these texts, after which so many commands are finished
-abbrev pub batch_of : List (List ℕ) → ℕ → Sends
+abbrev pub batch_of : List (List ℕ) → ℕ → Batch
 batch_of texts finished = record { texts = texts; finished = finished }
 
 -- what connection 7 was sent by three holds: no text, then two, of which one is empty, and then three
-abbrev pub worked : Sent
+abbrev pub worked : Output
 worked = with_batches (nothing_sent 7)
     (batch_of [] 0 ∷ batch_of (codes "STORED\r\n" ∷ [] ∷ []) 2
     ∷ batch_of (codes "END\r\n" ∷ codes "OK\r\n" ∷ [] ∷ []) 5 ∷ [])

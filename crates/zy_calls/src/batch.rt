@@ -16,9 +16,9 @@ pub struct Batch {
 }
 
 impl Model for Batch {
-    ghost use Rattle.zy_calls.specs.Batch.{Sends};
+    ghost use Rattle.zy_calls.specs.Batch.{Batch};
 
-    ghost Value = { Sends };
+    ghost Value = { Batch };
 
     ghost view = { λ batch. record { texts = batch.texts; finished = batch.finished } };
 }

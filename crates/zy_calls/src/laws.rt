@@ -1,22 +1,22 @@
 //! Laws of outputs: the functions do nothing, and their contracts are the laws.
 ghost use Rattle.std.specs.Prelude.{◌≡◌, ◌≤◌, ◌++◌, ℕ, List, [], length, take, codes};
 ghost use Rattle.std.specs.List.{concat};
-ghost use Rattle.zy_calls.specs.Batch.{Sends};
-ghost use Rattle.zy_calls.specs.Output.{Sent, nothing_sent, with_batch, with_batches, texts_sent, bytes_upto};
+ghost use Rattle.zy_calls.specs.Batch.{Batch};
+ghost use Rattle.zy_calls.specs.Output.{Output, nothing_sent, with_batch, with_batches, texts_sent, bytes_upto};
 ghost use Rattle.zy_calls.specs.Worked.{worked};
 
 /// The texts of an output are those of all batches that were carried out, in order, and so are its
 /// bytes.
 pub fn texts_are_sent_in_order()
-    ensures texts { (output : Sent) (batches : List Sends)
+    ensures texts { (output : Output) (batches : List Batch)
         → (with_batches output batches).texts ≡ output.texts ++ texts_sent batches }
-    ensures bytes { (conn : ℕ) (batches : List Sends)
+    ensures bytes { (conn : ℕ) (batches : List Batch)
         → concat (with_batches (nothing_sent conn) batches).texts ≡ concat (texts_sent batches) }
 {}
 
 /// The first texts of an output stay what they are when a batch is carried out.
 pub fn first_texts_stay()
-    ensures stays { (output : Sent) (batch : Sends) (count : ℕ) → count ≤ length output.texts
+    ensures stays { (output : Output) (batch : Batch) (count : ℕ) → count ≤ length output.texts
         → bytes_upto (with_batch output batch) count ≡ bytes_upto output count }
 {}
 

@@ -19,9 +19,9 @@ pub struct Output {
 }
 
 impl Model for Output {
-    ghost use Rattle.zy_calls.specs.Output.{Sent};
+    ghost use Rattle.zy_calls.specs.Output.{Output};
 
-    ghost Value = { Sent };
+    ghost Value = { Output };
 
     ghost view = { λ output. record { conn = output.conn; texts = output.texts; finished = output.finished } };
 }

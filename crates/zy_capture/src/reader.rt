@@ -102,8 +102,8 @@ impl Reader {
         feed_piece(self, bytes)
     }
 
-    #[tactic(auto, using(crate::proofs::Feeding::version_here))]
     /// 1 or 2; `None` exactly where the magic was not read whole or was refused.
+    #[tactic(auto, using(crate::proofs::Feeding::version_here))]
     pub fn version(&self) -> Option<u32>
         ensures value { AnswersBy captures self.now version_of result }
     {
@@ -114,8 +114,8 @@ impl Reader {
         }
     }
 
-    #[tactic(auto, using(crate::proofs::Feeding::count_here))]
     /// The connection count; `None` exactly where it was not read whole or was refused.
+    #[tactic(auto, using(crate::proofs::Feeding::count_here))]
     pub fn count(&self) -> Option<u32>
         ensures value { AnswersBy captures self.now count_of result }
     {
@@ -128,8 +128,8 @@ impl Reader {
         }
     }
 
-    #[tactic(auto, using(crate::proofs::Feeding::within_here))]
     /// True exactly where a record was begun that has not ended.
+    #[tactic(auto, using(crate::proofs::Feeding::within_here))]
     pub fn is_within_record(&self) -> bool
         ensures value { AnswersBy captures self.now is_within_record result }
     {
@@ -139,16 +139,16 @@ impl Reader {
         )
     }
 
-    #[tactic(auto, using(zy_read::proofs::Feeding::verdict_here))]
     /// True exactly where the end was read and no fault was met.
+    #[tactic(auto, using(zy_read::proofs::Feeding::verdict_here))]
     pub fn is_done(&self) -> bool
         ensures value { AnswersBy captures self.now (λ b. is_good (verdict b)) result }
     {
         matches!(self.due, Due::Nothing)
     }
 
-    #[tactic(auto, using(zy_read::proofs::Feeding::verdict_here))]
     /// Whether the bytes that were fed are a whole capture, and their fault otherwise.
+    #[tactic(auto, using(zy_read::proofs::Feeding::verdict_here))]
     pub fn end(&self) -> Result<(), CaptureFault>
         ensures value { EndsBy self.now result }
     {

@@ -104,8 +104,8 @@ impl RepliesReader {
         feed_piece(self, bytes)
     }
 
-    #[tactic(auto, using(crate::proofs::RepliesFeeding::version_here))]
     /// 1 or 2; `None` exactly where the magic was not read whole or was refused.
+    #[tactic(auto, using(crate::proofs::RepliesFeeding::version_here))]
     pub fn version(&self) -> Option<u32>
         ensures value { AnswersBy replies self.now version_of result }
     {
@@ -116,16 +116,16 @@ impl RepliesReader {
         }
     }
 
-    #[tactic(auto, using(zy_read::proofs::Feeding::verdict_here))]
     /// True exactly where the end was read and no fault was met.
+    #[tactic(auto, using(zy_read::proofs::Feeding::verdict_here))]
     pub fn is_done(&self) -> bool
         ensures value { AnswersBy replies self.now (λ b. is_good (verdict b)) result }
     {
         matches!(self.due, RepliesDue::Nothing)
     }
 
-    #[tactic(auto, using(zy_read::proofs::Feeding::verdict_here))]
     /// Whether the bytes that were fed are a whole replies file, and their fault otherwise.
+    #[tactic(auto, using(zy_read::proofs::Feeding::verdict_here))]
     pub fn end(&self) -> Result<(), FileFault>
         ensures value { EndsBy self.now result }
     {

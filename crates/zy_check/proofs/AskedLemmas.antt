@@ -11,7 +11,7 @@ use Rattle.mc_parse.specs.declared.shard_call.ShardCall.{ShardCall}
 use Rattle.mc_parse.specs.Calls.{Due, due_of, tag_of, tagged, calls_of}
 use Rattle.mc_parse.proofs.CallLemmas.{length-tagged}
 use Rattle.mc_reply.specs.Answers.{AnswerEach}
-use Rattle.zy_check.specs.Answering.{IsKept}
+use Rattle.zy_check.specs.Begun.{IsKept}
 use Rattle.zy_check.proofs.DueLemmas.{tagged_at}
 
 -- an entry is the call at a place where it is this call

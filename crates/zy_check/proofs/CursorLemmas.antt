@@ -10,7 +10,7 @@ use Rattle.zy_frame.specs.Cut.{frames_of, commands_of}
 use Rattle.zy_frame.specs.Progress.{Progress, StandsFor}
 use Rattle.zy_frame.specs.Feed.{Appends}
 use Rattle.zy_frame.proofs.CutLaws.{frames_of_nil, commands_first}
-use Rattle.zy_check.specs.Cursor.{Reading, HasGiven}
+use Rattle.zy_check.specs.Cursor.{Cursor, HasGiven}
 
 -- the first elements up to a place, and then those up to a later one
 pub take_on : {A : Type 0} (start more : ℕ) (xs : List A) → take (start + more) xs ≡ take start xs ++ take more (drop start xs)
@@ -48,7 +48,7 @@ fed_on p q before after at end stream rising within stands appends given has =
     }
 
 -- one command more
-pub given_more : (c : Reading) (stream : List ℕ) (frame : FrameKind) (rest : List FrameKind) (command : Command) (given : List Command) → c.frames ≡ frame ∷ rest → command ≡ command_of frame
+pub given_more : (c : Cursor) (stream : List ℕ) (frame : FrameKind) (rest : List FrameKind) (command : Command) (given : List Command) → c.frames ≡ frame ∷ rest → command ≡ command_of frame
     → HasGiven c stream given → HasGiven (record c { frames = rest }) stream (given ++ command ∷ [])
 given_more c stream frame rest command given first is has = record {
   within = has.within;
@@ -58,12 +58,12 @@ given_more c stream frame rest command given first is has = record {
 }
 
 -- no command is left
-pub given_all : (c : Reading) (stream : List ℕ) (given : List Command) → c.frames ≡ [] → length stream ≤ c.at → HasGiven c stream given → commands_of stream ≡ given
+pub given_all : (c : Cursor) (stream : List ℕ) (given : List Command) → c.frames ≡ [] → length stream ≤ c.at → HasGiven c stream given → commands_of stream ≡ given
 given_all c stream given none end has =
     ap commands_of (sym (take_all c.at stream end)) ∙ has.all ∙ ap (λ (l : List FrameKind). given ++ map command_of l) none ∙ append-nil given
 
 -- what was given comes first
-pub given_first : (c : Reading) (stream : List ℕ) (given : List Command) → HasGiven c stream given → (later : List Command) × (commands_of stream ≡ given ++ later)
+pub given_first : (c : Cursor) (stream : List ℕ) (given : List Command) → HasGiven c stream given → (later : List Command) × (commands_of stream ≡ given ++ later)
 given_first c stream given has =
     let rest = commands_first (take c.at stream) (drop c.at stream) in (
       map command_of c.frames ++ rest.0,

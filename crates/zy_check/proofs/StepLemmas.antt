@@ -22,7 +22,7 @@ use Rattle.zy_check.specs.declared.compared.Differing.{Differing}
 use Rattle.zy_check.specs.declared.track.Track.{Track}
 use Rattle.zy_check.specs.Given.{Given, due_in, IsNext, AreRight, IsWhole, IsOutput}
 use Rattle.zy_check.specs.Cause.{IsComplete, IsMissing}
-use Rattle.zy_check.specs.Answering.{Answering, asked_in}
+use Rattle.zy_check.specs.Begun.{Begun, asked_in}
 use Rattle.zy_check.specs.Track.{HasMade, IsAtCall, IsAtEnd, Stands, AreCompared, with_reply}
 use Rattle.zy_check.specs.Walk.{AreTracked, IsDueIn, IsNextIn}
 use Rattle.zy_check.specs.Missing.{AreEnded}
@@ -42,32 +42,32 @@ made_size : (g : Given) (at conn : ℕ) → length (made_before g at conn) ≡ l
 made_size g at conn = length-map (of_connection conn (take at g.entries)) due_of
 
 -- at a call: an entry that is this call is next
-pub due_next : (g : Given) (at : ℕ) (e : Entry) (t : Track) (b : Answering) → e.tag.conn < length g.streams → HasMade g e.tag.conn t (made_before g at e.tag.conn) → t.begun ≡ Some b → length b.replies < length (asked_in b)
+pub due_next : (g : Given) (at : ℕ) (e : Entry) (t : Track) (b : Begun) → e.tag.conn < length g.streams → HasMade g e.tag.conn t (made_before g at e.tag.conn) → t.begun ≡ Some b → length b.replies < length (asked_in b)
     → slice_get (due_at b.shards e.tag.conn t.commands b.command) (length b.replies) ≡ Some (due_of e) → IsNext g (take at g.entries) e
 due_next g at e t b within has begun few due =
     let h : Stands g e.tag.conn t.session t.cursor (Some b) t.commands t.compared (made_before g at e.tag.conn) =
-    subst (λ (o : Option Answering). Stands g e.tag.conn t.session t.cursor o t.commands t.compared (made_before g at e.tag.conn)) begun has in record {
+    subst (λ (o : Option Begun). Stands g e.tag.conn t.session t.cursor o t.commands t.compared (made_before g at e.tag.conn)) begun has in record {
       connection = within;
       call = ap (slice_get (due_in g e.tag.conn)) (sym (made_size g at e.tag.conn)) ∙ next_due g e.tag.conn t.session t.cursor b t.commands t.compared (made_before g at e.tag.conn) h few
           ∙ ap (λ (n : ℕ). slice_get (due_at n e.tag.conn t.commands b.command) (length b.replies)) (sym h.shards) ∙ due;
     }
 
 -- and the entry that is next is this call
-pub next_due_in : (g : Given) (at : ℕ) (e : Entry) (t : Track) (b : Answering) → HasMade g e.tag.conn t (made_before g at e.tag.conn) → t.begun ≡ Some b → length b.replies < length (asked_in b)
+pub next_due_in : (g : Given) (at : ℕ) (e : Entry) (t : Track) (b : Begun) → HasMade g e.tag.conn t (made_before g at e.tag.conn) → t.begun ≡ Some b → length b.replies < length (asked_in b)
     → IsNext g (take at g.entries) e → slice_get (due_at b.shards e.tag.conn t.commands b.command) (length b.replies) ≡ Some (due_of e)
 next_due_in g at e t b has begun few next =
     let h : Stands g e.tag.conn t.session t.cursor (Some b) t.commands t.compared (made_before g at e.tag.conn) =
-    subst (λ (o : Option Answering). Stands g e.tag.conn t.session t.cursor o t.commands t.compared (made_before g at e.tag.conn)) begun has in
+    subst (λ (o : Option Begun). Stands g e.tag.conn t.session t.cursor o t.commands t.compared (made_before g at e.tag.conn)) begun has in
     ap (λ (n : ℕ). slice_get (due_at n e.tag.conn t.commands b.command) (length b.replies)) h.shards
     ∙ sym (next_due g e.tag.conn t.session t.cursor b t.commands t.compared (made_before g at e.tag.conn) h few)
     ∙ ap (slice_get (due_in g e.tag.conn)) (made_size g at e.tag.conn) ∙ next.call
 
 -- so an entry is the call that is next exactly where it is next
 pub next_exact : (g : Given) (at : ℕ) (e : Entry) (t : Track) (so : Bool) → e.tag.conn < length g.streams → HasMade g e.tag.conn t (made_before g at e.tag.conn) → IsAtCall t.begun
-    → ((b : Answering) → t.begun ≡ Some b → (so ≡ true ↔ slice_get (due_at b.shards e.tag.conn t.commands b.command) (length b.replies) ≡ Some (due_of e))) → (so ≡ true ↔ IsNext g (take at g.entries) e)
+    → ((b : Begun) → t.begun ≡ Some b → (so ≡ true ↔ slice_get (due_at b.shards e.tag.conn t.commands b.command) (length b.replies) ≡ Some (due_of e))) → (so ≡ true ↔ IsNext g (take at g.entries) e)
 next_exact g at e t so within has call exact = go t.begun refl call
   where
-    go : (o : Option Answering) → t.begun ≡ o → IsAtCall o → (so ≡ true ↔ IsNext g (take at g.entries) e)
+    go : (o : Option Begun) → t.begun ≡ o → IsAtCall o → (so ≡ true ↔ IsNext g (take at g.entries) e)
     go None is few = absurd few
     go (Some b) is few = (
       (λ y. due_next g at e t b within has is few ((exact b is).0 y)),
@@ -76,7 +76,7 @@ next_exact g at e t so within has call exact = go t.begun refl call
 
 -- and it is the next call of what is begun
 pub next_in : (e : Entry) (tracks : List Track) (t : Track) (so : Bool) → e.tag.conn < length tracks → IsAtCall t.begun
-    → ((b : Answering) → t.begun ≡ Some b → (so ≡ true ↔ slice_get (due_at b.shards e.tag.conn t.commands b.command) (length b.replies) ≡ Some (due_of e))) → so ≡ true → IsNextIn (slice_set tracks e.tag.conn t) e
+    → ((b : Begun) → t.begun ≡ Some b → (so ≡ true ↔ slice_get (due_at b.shards e.tag.conn t.commands b.command) (length b.replies) ≡ Some (due_of e))) → so ≡ true → IsNextIn (slice_set tracks e.tag.conn t) e
 next_in e tracks t so within call exact y =
     let size = length-set tracks e.tag.conn t in record {
       within = omega arith;
@@ -86,14 +86,14 @@ next_in e tracks t so within call exact y =
           subst (λ (z : Track). IsDueIn z.begun z.commands e) same (go t.begun refl call);
     }
   where
-    go : (o : Option Answering) → t.begun ≡ o → IsAtCall o → IsDueIn o t.commands e
+    go : (o : Option Begun) → t.begun ≡ o → IsAtCall o → IsDueIn o t.commands e
     go None is few = absurd few
     go (Some b) is few = (few, (exact b is).0 y)
 
 -- at its end no entry is next
 ended_as : (g : Given) (conn : ℕ) (t : Track) (made : List Due) → HasMade g conn t made → IsAtEnd g conn t → (made ≡ due_in g conn) × (t.commands ≡ length (commands_held g.streams conn))
 ended_as g conn t made has end =
-    let h : Stands g conn t.session t.cursor None t.commands t.compared made = subst (λ (o : Option Answering). Stands g conn t.session t.cursor o t.commands t.compared made) end.0 has in
+    let h : Stands g conn t.session t.cursor None t.commands t.compared made = subst (λ (o : Option Begun). Stands g conn t.session t.cursor o t.commands t.compared made) end.0 has in
     (made_all g conn t.session t.cursor t.commands t.compared made h end.1, count_all g conn t.session t.cursor t.commands t.compared made h end.1)
 
 pub end_not_next : (g : Given) (at : ℕ) (e : Entry) (t : Track) → HasMade g e.tag.conn t (made_before g at e.tag.conn) → IsAtEnd g e.tag.conn t → IsNext g (take at g.entries) e → ⊥
@@ -152,7 +152,7 @@ pub taken : (g : Given) (at : ℕ) (e : Entry) (t : Track) (reply : CallReply) �
     → HasMade g e.tag.conn (record t { begun = with_reply t.begun reply }) (made_before g at e.tag.conn ++ due_of e ∷ [])
 taken g at e t reply has due is same = go t.begun has due
   where
-    go : (o : Option Answering) → Stands g e.tag.conn t.session t.cursor o t.commands t.compared (made_before g at e.tag.conn) → IsDueIn o t.commands e
+    go : (o : Option Begun) → Stands g e.tag.conn t.session t.cursor o t.commands t.compared (made_before g at e.tag.conn) → IsDueIn o t.commands e
         → Stands g e.tag.conn t.session t.cursor (with_reply o reply) t.commands t.compared (made_before g at e.tag.conn ++ due_of e ∷ [])
     go None h d = absurd d
     go (Some b) h d =
@@ -161,12 +161,12 @@ taken g at e t reply has due is same = go t.begun has due
         (ap (slice_get (of_connection e.tag.conn g.entries)) (made_size g at e.tag.conn) ∙ own_here e.tag.conn g.entries at e is refl) same
 
 -- it is at a call
-pub due_at_call : (o : Option Answering) (index : ℕ) (e : Entry) → IsDueIn o index e → IsAtCall o
+pub due_at_call : (o : Option Begun) (index : ℕ) (e : Entry) → IsDueIn o index e → IsAtCall o
 due_at_call None index e due = due
 due_at_call (Some b) index e due = due.0
 
 -- and the reply of the shard is of a kind that this call may get
-pub due_kind : (index : ℕ) (e : Entry) (state : State) (reply : CallReply) (b : Answering) (call : ShardCall) → IsDueIn (Some b) index e → reply ≡ reply_to state e.call → slice_get (asked_in b) (length b.replies) ≡ Some call
+pub due_kind : (index : ℕ) (e : Entry) (state : State) (reply : CallReply) (b : Begun) (call : ShardCall) → IsDueIn (Some b) index e → reply ≡ reply_to state e.call → slice_get (asked_in b) (length b.replies) ≡ Some call
     → MayAnswer call.call reply
 due_kind index e state reply b call due same is =
     let none : 0 + length b.replies ≡ length b.replies = omega arith in
@@ -194,7 +194,7 @@ end_whole g conn t has end =
 pub call_missing : (g : Given) (conn : ℕ) (t : Track) → AreRight g → ((c : ℕ) → c < conn → IsWhole g c) → HasMade g conn t (dues_of (of_connection conn g.entries)) → IsAtCall t.begun → IsMissing g conn t.commands
 call_missing g conn t right first has at = go t.begun has at
   where
-    go : (o : Option Answering) → Stands g conn t.session t.cursor o t.commands t.compared (dues_of (of_connection conn g.entries)) → IsAtCall o → IsMissing g conn t.commands
+    go : (o : Option Begun) → Stands g conn t.session t.cursor o t.commands t.compared (dues_of (of_connection conn g.entries)) → IsAtCall o → IsMissing g conn t.commands
     go None h few = absurd few
     go (Some b) h few =
         let call = there (asked_in b) (length b.replies) few in
@@ -244,7 +244,7 @@ ended_count g tracks conn t are is = let has = are.each conn t is in (ended_as g
 -- and where no output was found to be another, each is the one that is due
 pub end_outputs : (g : Given) (conn : ℕ) (t : Track) (made : List Due) → HasMade g conn t made → IsAtEnd g conn t → IsComplete g → t.compared.differing ≡ None → (s : ℕ) → s < length (sessions_of g.streams conn) → IsOutput g conn s
 end_outputs g conn t made has end complete none s below =
-    let h : Stands g conn t.session t.cursor None t.commands t.compared made = subst (λ (o : Option Answering). Stands g conn t.session t.cursor o t.commands t.compared made) end.0 has in
+    let h : Stands g conn t.session t.cursor None t.commands t.compared made = subst (λ (o : Option Begun). Stands g conn t.session t.cursor o t.commands t.compared made) end.0 has in
     let all : AreCompared g conn t.session [] t.compared.at None =
     subst (λ (o : Option Differing). AreCompared g conn t.session [] t.compared.at o) none (compared_all g conn t.session t.cursor t.commands t.compared made h end.1 complete) in
     let past = end.1 in

@@ -25,9 +25,9 @@ use Rattle.zy_check.specs.declared.compared.Compared.{Compared}
 use Rattle.zy_check.specs.declared.compared.Differing.{Differing}
 use Rattle.zy_check.specs.Given.{Given, due_in, found_output, due_output, IsOutput}
 use Rattle.zy_check.specs.Cause.{agreeing_in, IsComplete}
-use Rattle.zy_check.specs.Answering.{Answering, asked_in}
+use Rattle.zy_check.specs.Begun.{Begun, asked_in}
 use Rattle.zy_check.specs.Comparing.{HasFirst, IsOther, AddedTo, EndedWith, Adds, Ends}
-use Rattle.zy_check.specs.Cursor.{Reading, HasGiven}
+use Rattle.zy_check.specs.Cursor.{Cursor, HasGiven}
 use Rattle.zy_check.specs.Output.{IsDiffering}
 use Rattle.zy_check.specs.Track.{stream_of, commands_past, made_of, AreCompared, Stands}
 use Rattle.zy_check.proofs.ListLemmas.{get_append, get_behind, take_one}
@@ -40,7 +40,7 @@ use Rattle.zy_check.proofs.RightLemmas.{asked_all}
 
 -- ---- the start
 
-pub none_made : (g : Given) (conn : ℕ) (cursor : Reading) → ((stream : List ℕ) → HasGiven cursor stream []) → Stands g conn 0 cursor None 0 (record { at = 0; differing = None }) []
+pub none_made : (g : Given) (conn : ℕ) (cursor : Cursor) → ((stream : List ℕ) → HasGiven cursor stream []) → Stands g conn 0 cursor None 0 (record { at = 0; differing = None }) []
 none_made g conn cursor none = record {
   done = [];
   within = omega arith;
@@ -53,7 +53,7 @@ none_made g conn cursor none = record {
 
 -- ---- a command is begun
 
-pub begins : (g : Given) (conn session : ℕ) (cursor next : Reading) (commands : ℕ) (compared : Compared) (made : List Due) (command : Command)
+pub begins : (g : Given) (conn session : ℕ) (cursor next : Cursor) (commands : ℕ) (compared : Compared) (made : List Due) (command : Command)
     → ((given : List Command) → HasGiven cursor (stream_of g conn session) given → HasGiven next (stream_of g conn session) (given ++ command ∷ []))
     → Stands g conn session cursor None commands compared made → Stands g conn session next (Some (record { command = command; shards = g.shards; replies = [] })) commands compared made
 begins g conn session cursor next commands compared made command gave h = record {
@@ -73,7 +73,7 @@ no_commands : (g : Given) (conn session : ℕ) → length (sessions_of g.streams
 no_commands g conn session past = ap commands_of (get_or_past (sessions_of g.streams conn) session [] past) ∙ ap (map command_of) frames_of_nil
 
 -- so where a session has a command, it is there
-session_there : (g : Given) (conn session : ℕ) (cursor : Reading) (done : List Command) (command : Command) → HasGiven cursor (stream_of g conn session) (done ++ command ∷ []) → session < length (sessions_of g.streams conn)
+session_there : (g : Given) (conn session : ℕ) (cursor : Cursor) (done : List Command) (command : Command) → HasGiven cursor (stream_of g conn session) (done ++ command ∷ []) → session < length (sessions_of g.streams conn)
 session_there g conn session cursor done command has = dite (dec_lt session (length (sessions_of g.streams conn)))
     (λ low. low)
     (λ high.
@@ -103,7 +103,7 @@ whole_from g conn session given later there is =
 
 -- ---- the command that is begun
 
-module _ (g : Given) (conn session : ℕ) (cursor : Reading) (b : Answering) (commands : ℕ) (compared : Compared) (made : List Due) (h : Stands g conn session cursor (Some b) commands compared made) where
+module _ (g : Given) (conn session : ℕ) (cursor : Cursor) (b : Begun) (commands : ℕ) (compared : Compared) (made : List Due) (h : Stands g conn session cursor (Some b) commands compared made) where
   abbrev past : List Command
   past = commands_past g conn session
 
@@ -248,7 +248,7 @@ module _ (g : Given) (conn session : ℕ) (cursor : Reading) (b : Answering) (co
 
 -- ---- the session ends
 
-module _ (g : Given) (conn session : ℕ) (cursor : Reading) (commands : ℕ) (compared : Compared) (made : List Due) (h : Stands g conn session cursor None commands compared made)
+module _ (g : Given) (conn session : ℕ) (cursor : Cursor) (commands : ℕ) (compared : Compared) (made : List Due) (h : Stands g conn session cursor None commands compared made)
     (there : session < length (sessions_of g.streams conn)) (all : (given : List Command) → HasGiven cursor (stream_of g conn session) given → commands_of (stream_of g conn session) ≡ given) where
   all_done : commands_of (stream_of g conn session) ≡ h.done
   all_done = all (h.done ++ []) h.given ∙ append-nil h.done
@@ -285,7 +285,7 @@ module _ (g : Given) (conn session : ℕ) (cursor : Reading) (commands : ℕ) (c
         go None is was = new after.differing was.0 (ends.ended is whole was.1)
         go (Some d) is was = subst (AreCompared g conn (session + 1) [] after.at) (sym (ap (λ (c : Compared). c.differing) (ends.kept d is) ∙ is)) was
 
-  pub session_ended : (next : Reading) (after : Compared) → ((stream : List ℕ) → HasGiven next stream []) → Ends (found_output g conn session) session compared after → Stands g conn (session + 1) next None commands after made
+  pub session_ended : (next : Cursor) (after : Compared) → ((stream : List ℕ) → HasGiven next stream []) → Ends (found_output g conn session) session compared after → Stands g conn (session + 1) next None commands after made
   session_ended next after none ends = record {
     done = [];
     within = omega arith;
@@ -298,7 +298,7 @@ module _ (g : Given) (conn session : ℕ) (cursor : Reading) (commands : ℕ) (c
 
 -- ---- the end
 
-module _ (g : Given) (conn session : ℕ) (cursor : Reading) (commands : ℕ) (compared : Compared) (made : List Due) (h : Stands g conn session cursor None commands compared made)
+module _ (g : Given) (conn session : ℕ) (cursor : Cursor) (commands : ℕ) (compared : Compared) (made : List Due) (h : Stands g conn session cursor None commands compared made)
     (end : length (sessions_of g.streams conn) ≤ session) where
   none_done : h.done ≡ []
   none_done =

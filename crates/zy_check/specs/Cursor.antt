@@ -7,19 +7,19 @@ use Rattle.zy_frame.specs.Cut.{commands_of}
 use Rattle.zy_frame.specs.Progress.{Progress, StandsFor}
 
 -- a framer, the frames that it gave and that were not taken, and how many bytes were fed to it
-pub record Reading : Type 0 where
+pub record Cursor : Type 0 where
   pub framer : Progress
   pub frames : List FrameKind
   pub at : ℕ
 
 -- of a stream, these commands were given
-pub record HasGiven (cursor : Reading) (stream : List ℕ) (given : List Command) : Type 0 where
+pub record HasGiven (cursor : Cursor) (stream : List ℕ) (given : List Command) : Type 0 where
   pub within : cursor.at ≤ length stream
   pub stands : StandsFor cursor.framer (take cursor.at stream)
   pub all : commands_of (take cursor.at stream) ≡ given ++ map command_of cursor.frames
 
 -- one command more was given, or all are
-abbrev pub GaveNext : Reading → Reading → List ℕ → Option Command → Type 0
+abbrev pub GaveNext : Cursor → Cursor → List ℕ → Option Command → Type 0
 GaveNext before after stream None =
     (given : List Command) → HasGiven before stream given → commands_of stream ≡ given
 GaveNext before after stream (Some command) =

@@ -2,7 +2,7 @@ pub mod Given
 pub mod Cause
 pub mod OfRun
 pub mod Cursor
-pub mod Answering
+pub mod Begun
 pub mod Comparing
 pub mod Output
 pub mod Track

@@ -15,45 +15,45 @@ use Rattle.zy_check.specs.declared.compared.Differing.{Differing}
 use Rattle.zy_check.specs.declared.track.Track.{Track}
 use Rattle.zy_check.specs.Given.{Given, found_output, IsOutput}
 use Rattle.zy_check.specs.Cause.{IsComplete}
-use Rattle.zy_check.specs.Answering.{Answering, asked_in}
+use Rattle.zy_check.specs.Begun.{Begun, asked_in}
 use Rattle.zy_check.specs.Comparing.{HasFirst}
-use Rattle.zy_check.specs.Cursor.{Reading, HasGiven}
+use Rattle.zy_check.specs.Cursor.{Cursor, HasGiven}
 use Rattle.zy_check.specs.Output.{IsDiffering}
 
 -- ---- the command that is begun
 
 -- it, where there is one
-abbrev pub begun_in : Option Answering → List Command
+abbrev pub begun_in : Option Begun → List Command
 begun_in None = []
 begun_in (Some b) = b.command ∷ []
 
 -- its calls that are answered, as the command with this index
-abbrev pub answered_in : ℕ → ℕ → ℕ → Option Answering → List Due
+abbrev pub answered_in : ℕ → ℕ → ℕ → Option Begun → List Due
 answered_in shards conn index None = []
 answered_in shards conn index (Some b) = take (length b.replies) (due_at shards conn index b.command)
 
 -- it is on so many shards
-abbrev pub IsOn : ℕ → Option Answering → Type 0
+abbrev pub IsOn : ℕ → Option Begun → Type 0
 IsOn shards None = ⊤
 IsOn shards (Some b) = b.shards ≡ shards
 
 -- its replies are those of a connection's entries from a place on
-abbrev pub HasReplies : List Entry → ℕ → Option Answering → Type 0
+abbrev pub HasReplies : List Entry → ℕ → Option Begun → Type 0
 HasReplies own from None = ⊤
 HasReplies own from (Some b) = b.replies ≡ map (λ (e : Entry). e.reply) (take (length b.replies) (drop from own))
 
 -- one of its calls is next
-abbrev pub IsAtCall : Option Answering → Type 0
+abbrev pub IsAtCall : Option Begun → Type 0
 IsAtCall None = ⊥
 IsAtCall (Some b) = length b.replies < length (asked_in b)
 
 -- none of its calls is left
-abbrev pub IsDone : Option Answering → Type 0
+abbrev pub IsDone : Option Begun → Type 0
 IsDone None = ⊤
 IsDone (Some b) = length (asked_in b) ≡ length b.replies
 
 -- with one reply more
-abbrev pub with_reply : Option Answering → CallReply → Option Answering
+abbrev pub with_reply : Option Begun → CallReply → Option Begun
 with_reply None reply = None
 with_reply (Some b) reply = Some (record b { replies = b.replies ++ reply ∷ [] })
 
@@ -84,7 +84,7 @@ AreCompared g conn session done at None =
 AreCompared g conn session done at (Some d) = IsDiffering g conn d.session d.at
 
 -- where the entries are complete: the replies are those of the entries, and the outputs were compared so far
-pub record AreWritten (g : Given) (conn session : ℕ) (done : List Command) (begun : Option Answering)
+pub record AreWritten (g : Given) (conn session : ℕ) (done : List Command) (begun : Option Begun)
     (compared : Compared) : Type 0 where
   pub replies : HasReplies (of_connection conn g.entries)
       (length (due g.shards conn (commands_past g conn session ++ done))) begun
@@ -92,7 +92,7 @@ pub record AreWritten (g : Given) (conn session : ℕ) (done : List Command) (be
 
 -- a connection at a place of a session, with this command begun, so many commands done, and its outputs compared so
 -- far, where these calls were made
-pub record Stands (g : Given) (conn session : ℕ) (cursor : Reading) (begun : Option Answering) (commands : ℕ)
+pub record Stands (g : Given) (conn session : ℕ) (cursor : Cursor) (begun : Option Begun) (commands : ℕ)
     (compared : Compared) (made : List Due) : Type 0 where
   -- the commands of the session that are done
   pub done : List Command

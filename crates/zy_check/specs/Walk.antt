@@ -11,7 +11,7 @@ use Rattle.zy_check.specs.declared.track.Track.{Track}
 use Rattle.zy_check.specs.declared.verdict.Cause.{Cause}
 use Rattle.zy_check.specs.declared.verdict.Verdict.TheVariants.{No}
 use Rattle.zy_check.specs.Given.{Given, AreRight, AreRightBelow}
-use Rattle.zy_check.specs.Answering.{Answering, asked_in}
+use Rattle.zy_check.specs.Begun.{Begun, asked_in}
 use Rattle.zy_check.specs.Track.{HasMade}
 use Rattle.zy_check.specs.Cause.{HasVerdict}
 
@@ -35,7 +35,7 @@ pub record AreAt (g : Given) (at : ℕ) (tracks : List Track) (states : List Rep
   pub right : AreRightBelow g at
 
 -- an entry is the next call of the command that is begun, which is the one with this index
-abbrev pub IsDueIn : Option Answering → ℕ → Entry → Type 0
+abbrev pub IsDueIn : Option Begun → ℕ → Entry → Type 0
 IsDueIn None index e = ⊥
 IsDueIn (Some b) index e = (length b.replies < length (asked_in b))
     × (slice_get (due_at b.shards e.tag.conn index b.command) (length b.replies) ≡ Some (due_of e))

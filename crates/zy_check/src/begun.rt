@@ -5,7 +5,7 @@ ghost use Rattle.zy_base.specs.Kind.{MayAnswer};
 ghost use Rattle.mc_parse.specs.declared.shard_call.ShardCall.{ShardCall};
 ghost use Rattle.mc_parse.specs.Calls.{due_at, due_of, tag_of};
 ghost use Rattle.mc_reply.specs.Text.{text};
-ghost use Rattle.zy_check.specs.Answering.{asked_in};
+ghost use Rattle.zy_check.specs.Begun.{asked_in};
 
 use mc_parse::{Calls, Command, ShardCall, calls};
 use mc_reply::reply_text;
@@ -23,9 +23,9 @@ pub struct Begun {
 }
 
 impl Model for Begun {
-    ghost use Rattle.zy_check.specs.Answering.{Answering, IsKept};
+    ghost use Rattle.zy_check.specs.Begun.{Begun, IsKept};
 
-    ghost Value = { Answering };
+    ghost Value = { Begun };
 
     ghost view = { λ b. record { command = b.command; shards = b.shards; replies = b.replies } };
 

@@ -24,9 +24,9 @@ pub struct Cursor {
 }
 
 impl Model for Cursor {
-    ghost use Rattle.zy_check.specs.Cursor.{Reading};
+    ghost use Rattle.zy_check.specs.Cursor.{Cursor};
 
-    ghost Value = { Reading };
+    ghost Value = { Cursor };
 
     ghost view = { λ c. record { framer = c.framer; frames = c.frames; at = c.at } };
 }
@@ -51,7 +51,7 @@ impl Cursor {
         while self.at < stream.len() && self.frames.len() == 0 {
             self.read_on(stream)?;
         }
-        match self.frames.pop() {
+        match self.frames.next() {
             None => Ok(None),
             Some(frame) => match meaning(self.alloc, frame) {
                 Ok(command) => Ok(Some(command)),

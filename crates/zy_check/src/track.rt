@@ -9,7 +9,7 @@ ghost use Rattle.mc_parse.specs.Calls.{Due, due_at, due_of};
 ghost use Rattle.zy_check.specs.Given.{Given, found_output};
 ghost use Rattle.zy_check.specs.Cursor.{HasGiven};
 ghost use Rattle.zy_check.specs.Comparing.{Ends};
-ghost use Rattle.zy_check.specs.Answering.{Answering, asked_in};
+ghost use Rattle.zy_check.specs.Begun.{Begun, asked_in};
 ghost use Rattle.zy_check.specs.Track.{HasMade, IsAtCall, IsAtEnd, IsDone, with_reply};
 
 use crate::begun::Begun;
@@ -87,7 +87,7 @@ impl Track {
 
     /// Whether an entry is the call that is next.
     pub fn is_due(&self, entry: &Entry, conn: u32) -> bool
-        ensures exact { (b : Answering) → self.now.begun ≡ Some b → (result ≡ true
+        ensures exact { (b : Begun) → self.now.begun ≡ Some b → (result ≡ true
             ↔ slice_get (due_at b.shards conn self.now.commands b.command) (length b.replies)
             ≡ Some (due_of entry.now)) }
     {
@@ -100,7 +100,7 @@ impl Track {
     /// Takes the reply to the call that is next.
     pub fn answer(&mut self, reply: CallReply) -> Result<(), NoMemory>
         requires next { IsAtCall self.old.begun }
-        requires kind { (b : Answering) (call : ShardCall) → self.old.begun ≡ Some b
+        requires kind { (b : Begun) (call : ShardCall) → self.old.begun ≡ Some b
             → slice_get (asked_in b) (length b.replies) ≡ Some call → MayAnswer call.call reply }
         ensures ok { OnOk result (self.new ≡ record self.old { begun = with_reply self.old.begun reply }) }
         ensures err { OnErr result (self.new ≡ self.old) }

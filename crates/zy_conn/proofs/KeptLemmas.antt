@@ -18,7 +18,7 @@ use Rattle.mc_reply.proofs.TextLemmas.{texts_of-more, length-texts_from, take-te
 use Rattle.mc_store.specs.declared.store.view.Trace.{Trace}
 use Rattle.zy_frame.specs.declared.frame_kind.FrameKind.{FrameKind}
 use Rattle.mc_store.specs.Pass.{Passed}
-use Rattle.zy_calls.specs.Batch.{Sends, no_text}
+use Rattle.zy_calls.specs.Batch.{Batch, no_text}
 use Rattle.zy_frame.specs.Frame.{command_of}
 use Rattle.zy_rx.specs.Ring.{RingName}
 use Rattle.zy_conn.specs.Work.{Start, idle, raw, going, Worked, worked, commands_of_frames, texts_all, texts_taken}
@@ -54,8 +54,9 @@ texts_more count commands command entries within =
     ∙ take-append-le count (texts_of commands entries) (text command (replies_at (length commands) entries) ∷ []) (omega arith)
 
 -- nothing was offered yet
-kept_new : (p : Passed) (r : RingName) (known : List FrameKind) → p.calls ≡ [] → Kept (worked p r [] known idle 0 0 [])
-kept_new p r known none = record {
+kept_new : (p : Passed) (r : RingName) (known : List FrameKind) → r.capacity ≡ 64 → p.calls ≡ [] → Kept (worked p r [] known idle 0 0 [])
+kept_new p r known slots none = record {
+  slots = slots;
   done = [];
   frames = refl;
   count = refl;
@@ -69,11 +70,11 @@ kept_new p r known none = record {
   room = omega arith;
 }
 
-pub kept_new_as : (p : Passed) (r : RingName) (taken known : List FrameKind) (batch : Sends) → p.calls ≡ [] → taken ≡ [] → batch ≡ no_text 0
+pub kept_new_as : (p : Passed) (r : RingName) (taken known : List FrameKind) (batch : Batch) → r.capacity ≡ 64 → p.calls ≡ [] → taken ≡ [] → batch ≡ no_text 0
     → Kept (worked p r taken known idle batch.finished 0 batch.texts)
-kept_new_as p r taken known batch none t is =
+kept_new_as p r taken known batch slots none t is =
     subst (λ l. Kept (worked p r l known idle batch.finished 0 batch.texts)) (sym t)
-    (subst (λ (v : Sends). Kept (worked p r [] known idle v.finished 0 v.texts)) (sym is) (kept_new p r known none))
+    (subst (λ (v : Batch). Kept (worked p r [] known idle v.finished 0 v.texts)) (sym is) (kept_new p r known slots none))
 
 -- ---- steps
 
@@ -81,6 +82,7 @@ module _ (w : Worked) (k : Kept w) where
   -- a look
   pub kept_looks : (known : List FrameKind) (trace : Trace) → Kept (record w { known = known; trace = trace })
   kept_looks known trace = record {
+    slots = k.slots;
     done = k.done;
     frames = k.frames;
     count = k.count;
@@ -97,6 +99,7 @@ module _ (w : Worked) (k : Kept w) where
   -- the texts are taken
   pub kept_takes : Kept (record w { shown = w.finished; batch = [] })
   kept_takes = record {
+    slots = k.slots;
     done = k.done;
     frames = k.frames;
     count = k.count;
@@ -131,6 +134,7 @@ module _ (w : Worked) (k : Kept w) where
       let size = finished_idle e in
       let long = length-map w.taken command_of in
       let room = k.room in record {
+        slots = k.slots;
         done = k.done;
         frames = commands_more w.taken frame ∙ ap (λ l. l ++ command_of frame ∷ []) (done_idle e);
         count = k.count;
@@ -173,6 +177,7 @@ module _ (w : Worked) (k : Kept w) where
         ∙ tagged-append w.conn w.finished 0 first (asked ∷ [])
         ∙ ap (λ n. tagged w.conn w.finished 0 first ++ record { tag = tag_of w.conn w.finished n; call = asked } ∷ []) at
         ∙ ap (λ (d : Due). tagged w.conn w.finished 0 first ++ d ∷ []) (sym part.due) in record {
+          slots = k.slots;
           done = k.done;
           frames = k.frames ∙ ap (λ s. k.done ++ command_begun s) e;
           count = k.count;
@@ -214,6 +219,7 @@ module _ (w : Worked) (k : Kept w) where
         let size = length-append front (text command replies ∷ []) in
         let whole_size = ap length all in
         let shown = k.shown in record {
+          slots = k.slots;
           done = k.done ++ command ∷ [];
           frames = frames ∙ sym (append-nil (k.done ++ command ∷ []));
           count = length-append k.done (command ∷ []) ∙ ap (λ n. n + 1) k.count;

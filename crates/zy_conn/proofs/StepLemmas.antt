@@ -10,7 +10,7 @@ use Rattle.mc_parse.proofs.CallLemmas.{all_within}
 use Rattle.mc_store.specs.declared.store.view.Trace.{Trace}
 use Rattle.mc_store.specs.Call.{WasBusy}
 use Rattle.mc_store.specs.Pass.{Passed}
-use Rattle.zy_calls.specs.Batch.{Sends, with_text, with_finished}
+use Rattle.zy_calls.specs.Batch.{Batch, with_text, with_finished}
 use Rattle.zy_frame.specs.declared.frame_kind.FrameKind.{FrameKind}
 use Rattle.zy_rx.specs.Ring.{RingName}
 use Rattle.zy_conn.specs.declared.hold_end.HoldEnd.{HoldEnd}
@@ -123,12 +123,12 @@ kept_ends w k idle e whole = absurd whole
 kept_ends w k (raw frame) e whole = absurd whole
 kept_ends w k (going command calls replies) e whole = kept_finishes w k command calls replies e whole
 
-module _ (p : Passed) (r : RingName) (taken known : List FrameKind) (s s' : Start) (sh : ℕ) (batch sent batch' : Sends) (k : Kept (worked p r taken known s batch.finished sh batch.texts)) where
+module _ (p : Passed) (r : RingName) (taken known : List FrameKind) (s s' : Start) (sh : ℕ) (batch sent batch' : Batch) (k : Kept (worked p r taken known s batch.finished sh batch.texts)) where
   pub kept_ends_as : IsWhole s → s' ≡ idle → (s2 : Start) → s2 ≡ s → sent ≡ with_text batch (text_begun s2) → (n : ℕ) → n ≡ sent.finished → batch' ≡ with_finished sent (n + 1)
       → Kept (worked p r taken known s' batch'.finished sh batch'.texts)
   kept_ends_as whole none s2 same is n at more =
-      let finished : batch'.finished ≡ batch.finished + 1 = ap (λ (v : Sends). v.finished) more ∙ ap (λ m. m + 1) (at ∙ ap (λ (v : Sends). v.finished) is) in
-      let texts : batch'.texts ≡ batch.texts ++ text_begun s ∷ [] = ap (λ (v : Sends). v.texts) more ∙ ap (λ (v : Sends). v.texts) is ∙ ap (λ y. batch.texts ++ text_begun y ∷ []) same in
+      let finished : batch'.finished ≡ batch.finished + 1 = ap (λ (v : Batch). v.finished) more ∙ ap (λ m. m + 1) (at ∙ ap (λ (v : Batch). v.finished) is) in
+      let texts : batch'.texts ≡ batch.texts ++ text_begun s ∷ [] = ap (λ (v : Batch). v.texts) more ∙ ap (λ (v : Batch). v.texts) is ∙ ap (λ y. batch.texts ++ text_begun y ∷ []) same in
       subst (λ y. Kept (worked p r taken known y batch'.finished sh batch'.texts)) (sym none)
       (subst (λ m. Kept (worked p r taken known idle m sh batch'.texts)) (sym finished)
       (subst (λ l. Kept (worked p r taken known idle (batch.finished + 1) sh l)) (sym texts) (kept_ends (worked p r taken known s batch.finished sh batch.texts) k s refl whole)))

@@ -50,6 +50,8 @@ IsBegun shards (going command calls replies) = IsGoingOn shards command calls re
 -- ---- the work
 
 pub record Kept (work : Worked) : Type 0 where
+  -- the event ring has 64 slots
+  pub slots : work.ring.capacity ≡ 64
   -- the frames taken are those of the finished commands, and then that of the command that is begun
   pub done : List Command
   pub frames : commands_of_frames work.taken ≡ done ++ command_begun work.begun

@@ -1,7 +1,7 @@
 //! A connection's block.
 ghost use Rattle.std.specs.Prelude.{◌≡◌, ◌+◌, ◌<◌, ◌≤◌, [], ◌++◌, length, IfOk, IfErr};
 ghost use Rattle.mc_store.specs.Pass.{passed};
-ghost use Rattle.zy_conn.specs.Ring.{sending};
+ghost use Rattle.zy_rx.specs.Ring.{offering};
 ghost use Rattle.zy_conn.specs.Work.{worked, idle, has_event, texts_taken, mark_of};
 ghost use Rattle.zy_conn.specs.Kept.{Kept};
 ghost use Rattle.zy_conn.specs.Hold.{AreHolds, HeldTo, IsRecorded};
@@ -9,8 +9,7 @@ ghost use Rattle.zy_conn.specs.Block.{blocked};
 
 use crate::hold_end::HoldEnd;
 use crate::holding::carry_out;
-use crate::inlet::EventInlet;
-use crate::work::Work;
+use crate::work::{EventInlet, Work};
 use mc_store::{Pass, StoreTable};
 use std::alloc::Global;
 use std::marker::Model;
@@ -59,7 +58,7 @@ impl Block {
         requires conn { pass.conn ≡ conn }
         requires empty { pass.calls ≡ [] }
         ensures block { IfOk result (λ made. made.0 ≡ blocked (worked pass made.1.ring [] [] idle 0 0 []) []) }
-        ensures inlet { IfOk result (λ made. made.1 ≡ sending made.1.ring [] 64) }
+        ensures inlet { IfOk result (λ made. made.1 ≡ offering made.1.ring [] 64) }
         ensures returned { IfErr result (λ e. e.0 ≡ pass) }
     {
         match Work::new(alloc, pass) {

@@ -1,7 +1,7 @@
 //! A connection's work: all of a block but its holds.
 ghost use Rattle.std.specs.Prelude.{◌≡◌, ◌≢◌, ◌+◌, ◌≤◌, [], ◌++◌, length, IfOk, IfErr, MatchBool};
 ghost use Rattle.mc_store.specs.Pass.{passed};
-ghost use Rattle.zy_conn.specs.Ring.{sending};
+ghost use Rattle.zy_rx.specs.Ring.{offering};
 ghost use Rattle.zy_conn.specs.Work.{worked, idle, has_event, texts_taken};
 ghost use Rattle.zy_conn.specs.Kept.{Kept};
 
@@ -9,15 +9,18 @@ mod run;
 mod steps;
 
 use crate::begun::Begun;
-use crate::inlet::EventInlet;
 use mc_store::Pass;
-use rtrb::{Consumer, RingBuffer};
 use std::alloc::Global;
 use std::marker::Model;
 use std::mem;
 use zy_base::{Blob, CallReply, NoMemory};
 use zy_calls::Batch;
 use zy_frame::Frame;
+use zy_rx::{RingInlet, RingOutlet, both_ends, ring};
+
+/// The end of a block's event ring that frames are offered to, also while another thread holds the
+/// block.
+pub type EventInlet = RingInlet<Frame>;
 
 // The slots of an event ring.
 const EVENTS: usize = 64;
@@ -28,7 +31,7 @@ const EVENTS: usize = 64;
 pub(crate) struct Work {
     alloc: Global,
     pass: Pass,
-    frames: Consumer<Frame>,
+    frames: RingOutlet<Frame>,
     begun: Begun,
     // The replies so far of a command with its calls; its room is used again.
     replies: Vec<CallReply>,
@@ -40,19 +43,15 @@ pub(crate) struct Work {
 }
 
 impl Model for Work {
-    ghost use Rattle.rtrb.specs.Ring.{received, known_items};
-    ghost use Rattle.zy_rx.specs.Ring.{ring_named};
     ghost use Rattle.zy_conn.specs.Work.{Worked, start_of, worked};
     ghost use Rattle.zy_conn.specs.Kept.{Kept};
 
     ghost Value = { Worked };
 
-    ghost view = { λ w. worked w.pass (ring_named w.frames.end.words w.frames.end.slots w.frames.end.names)
-        (received w.frames) (known_items w.frames)
+    ghost view = { λ w. worked w.pass w.frames.ring w.frames.taken w.frames.known
         (start_of w.pass.table.slots w.begun w.replies.items) w.batch.finished w.shown w.batch.texts };
 
-    ghost invariant = { λ w. Kept (worked w.pass (ring_named w.frames.end.words w.frames.end.slots w.frames.end.names)
-        (received w.frames) (known_items w.frames)
+    ghost invariant = { λ w. Kept (worked w.pass w.frames.ring w.frames.taken w.frames.known
         (start_of w.pass.table.slots w.begun w.replies.items) w.batch.finished w.shown w.batch.texts) };
 }
 
@@ -62,11 +61,11 @@ impl Work {
     pub(crate) fn new(alloc: Global, pass: Pass) -> Result<(Work, EventInlet), (Pass, NoMemory)>
         requires empty { pass.calls ≡ [] }
         ensures work { IfOk result (λ made. made.0 ≡ worked pass made.1.ring [] [] idle 0 0 []) }
-        ensures inlet { IfOk result (λ made. made.1 ≡ sending made.1.ring [] 64) }
+        ensures inlet { IfOk result (λ made. made.1 ≡ offering made.1.ring [] 64) }
         ensures returned { IfErr result (λ e. e.0 ≡ pass) }
     {
-        match RingBuffer::new(alloc, EVENTS) {
-            Ok((producer, frames)) => Ok((
+        match ring(alloc, EVENTS) {
+            Ok((inlet, frames)) => Ok((
                 Work {
                     alloc,
                     pass,
@@ -77,9 +76,9 @@ impl Work {
                     batch: Batch::new(alloc, 0),
                     text: Blob::new(alloc),
                 },
-                EventInlet { producer },
+                inlet,
             )),
-            Err(_) => Err((pass, NoMemory)),
+            Err(e) => Err((pass, e)),
         }
     }
 
@@ -102,7 +101,7 @@ impl Work {
         ensures value { result ≡ has_event self.now }
     {
         match &self.begun {
-            Begun::Nothing => self.frames.cached_slots() > 0,
+            Begun::Nothing => self.frames.known() > 0,
             _ => true,
         }
     }
@@ -115,8 +114,7 @@ impl Work {
         ensures all { inlet.new.sent ≡ self.new.taken ++ self.new.known }
         ensures room { 64 + length self.new.taken ≤ length inlet.new.sent + inlet.new.free }
     {
-        inlet.producer.slots_beside(&mut self.frames);
-        self.frames.slots_beside(&mut inlet.producer);
+        both_ends(inlet, &mut self.frames);
     }
 
     /// Looks for frames, and says whether one is known.

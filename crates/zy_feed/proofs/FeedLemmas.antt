@@ -18,7 +18,7 @@ use Rattle.zy_rx.specs.Feed.{sent_by}
 use Rattle.zy_read.specs.declared.stop.Stop.{Stop}
 use Rattle.zy_capture.specs.declared.capture_fault.CaptureFault.{CaptureFault}
 use Rattle.zy_feed.specs.declared.stage.Stage.TheVariants.{Cutting, Waiting, Ending, Ended, Broken}
-use Rattle.zy_feed.specs.Reads.{InPieces, HasRead, Cuts}
+use Rattle.zy_feed.specs.Reads.{Intake, HasRead, Cuts}
 use Rattle.zy_feed.specs.Feeding.{home_in, kept_for, end_before, OffersTo, Feeding, feeding, AreSent, Stands, Leads}
 
 -- ---- which core an item is for
@@ -71,7 +71,7 @@ cores_are inlets = length-map inlets (λ (i : Offering). i.sent)
 
 -- ---- a record is cut
 
-pub cut_leads : {S : Type 0} (rest : S → Option (List ℕ)) (faults : S → ℕ) (old now : S) (p q : InPieces) (inlets : List Offering) (result : Result (Option Record) (Stop CaptureFault)) (r : Record) (item : Rx) → result ≡ Ok (Some r) → item ≡ item_of r
+pub cut_leads : {S : Type 0} (rest : S → Option (List ℕ)) (faults : S → ℕ) (old now : S) (p q : Intake) (inlets : List Offering) (result : Result (Option Record) (Stop CaptureFault)) (r : Record) (item : Rx) → result ≡ Ok (Some r) → item ≡ item_of r
     → ((first : S) (records : List Record) (bytes : List ℕ) → HasRead rest faults first old p records bytes → Cuts rest faults first now q records bytes result)
     → Leads rest faults (feeding old p inlets Cutting) (feeding now q inlets (Waiting item))
 cut_leads rest faults old now p q inlets result r item is item_is cuts first records bytes stands =
@@ -90,7 +90,7 @@ cut_leads rest faults old now p q inlets result r item is item_is cuts first rec
 no_end : (core : ℕ) → end_before core 0 ≡ []
 no_end core = let none : nat_lt core 0 ≡ false = grind (arith, nat_tests) in rw none refl
 
-pub cut_ends : {S : Type 0} (rest : S → Option (List ℕ)) (faults : S → ℕ) (old now : S) (p q : InPieces) (inlets : List Offering) (result : Result (Option Record) (Stop CaptureFault)) → result ≡ Ok None
+pub cut_ends : {S : Type 0} (rest : S → Option (List ℕ)) (faults : S → ℕ) (old now : S) (p q : Intake) (inlets : List Offering) (result : Result (Option Record) (Stop CaptureFault)) → result ≡ Ok None
     → ((first : S) (records : List Record) (bytes : List ℕ) → HasRead rest faults first old p records bytes → Cuts rest faults first now q records bytes result)
     → Leads rest faults (feeding old p inlets Cutting) (feeding now q inlets (Ending 0))
 cut_ends rest faults old now p q inlets result is cuts first records bytes stands =
@@ -106,7 +106,7 @@ cut_ends rest faults old now p q inlets result is cuts first records bytes stand
       ),
     )
 
-pub cut_stops : {S : Type 0} (rest : S → Option (List ℕ)) (faults : S → ℕ) (old now : S) (p q : InPieces) (inlets : List Offering) (result : Result (Option Record) (Stop CaptureFault)) (stop : Stop CaptureFault) → result ≡ Err stop → faults old ≤ faults now
+pub cut_stops : {S : Type 0} (rest : S → Option (List ℕ)) (faults : S → ℕ) (old now : S) (p q : Intake) (inlets : List Offering) (result : Result (Option Record) (Stop CaptureFault)) (stop : Stop CaptureFault) → result ≡ Err stop → faults old ≤ faults now
     → ((first : S) (records : List Record) (bytes : List ℕ) → HasRead rest faults first old p records bytes → Cuts rest faults first now q records bytes result)
     → Leads rest faults (feeding old p inlets Cutting) (feeding now q inlets (Broken stop))
 cut_stops rest faults old now p q inlets result stop is count cuts first records bytes stands =
@@ -128,7 +128,7 @@ onward : {S : Type 0} (rest : S → Option (List ℕ)) (faults : S → ℕ) (fir
     → (more : List Record) × ((fed : List ℕ) × Stands rest faults first g (records ++ more) (bytes ++ fed))
 onward rest faults first g records bytes stands = ([], ([], rw (append-nil records, append-nil bytes) stands))
 
-pub delivered : {S : Type 0} (rest : S → Option (List ℕ)) (faults : S → ℕ) (now : S) (p : InPieces) (before after : List Offering) (item : Rx) → OffersTo (home_in (length before) item) item before after
+pub delivered : {S : Type 0} (rest : S → Option (List ℕ)) (faults : S → ℕ) (now : S) (p : Intake) (before after : List Offering) (item : Rx) → OffersTo (home_in (length before) item) item before after
     → Leads rest faults (feeding now p before (Waiting item)) (feeding now p after Cutting)
 delivered {S} rest faults now p before after item offers first records bytes stands =
     onward rest faults first (feeding now p after Cutting) records bytes (record { read = stands.read; sent = sent })
@@ -159,7 +159,7 @@ delivered {S} rest faults now p before after item offers first records bytes sta
     sent : AreSent (sent_by after) Cutting records
     sent core got there = rw size (at_core core got (sent_after sents core home (offers.sent ++ item ∷ []) got (subst (λ (l : List (List Rx)). slice_get l core ≡ Some got) offers.is there)))
 
-pub handed_back : {S : Type 0} (rest : S → Option (List ℕ)) (faults : S → ℕ) (now : S) (p : InPieces) (before after : List Offering) (item back : Rx) → back ≡ item → sent_by after ≡ sent_by before
+pub handed_back : {S : Type 0} (rest : S → Option (List ℕ)) (faults : S → ℕ) (now : S) (p : Intake) (before after : List Offering) (item back : Rx) → back ≡ item → sent_by after ≡ sent_by before
     → Leads rest faults (feeding now p before (Waiting item)) (feeding now p after (Waiting back))
 handed_back rest faults now p before after item back is same first records bytes stands =
     onward rest faults first (feeding now p after (Waiting back)) records bytes (rw (is, same) stands)
@@ -179,7 +179,7 @@ end_same core next other = go (nat_lt core next) refl
     go true is = end_there core next (grind (arith, nat_tests)) ∙ sym (end_there core (next + 1) (grind (arith, nat_tests)))
     go false is = end_not core next (grind (arith, nat_tests)) ∙ sym (end_not core (next + 1) (grind (arith, nat_tests, other)))
 
-pub end_offered : {S : Type 0} (rest : S → Option (List ℕ)) (faults : S → ℕ) (now : S) (p : InPieces) (before after : List Offering) (next : ℕ) → OffersTo next End before after
+pub end_offered : {S : Type 0} (rest : S → Option (List ℕ)) (faults : S → ℕ) (now : S) (p : Intake) (before after : List Offering) (next : ℕ) → OffersTo next End before after
     → Leads rest faults (feeding now p before (Ending next)) (feeding now p after (Ending (next + 1)))
 end_offered {S} rest faults now p before after next offers first records bytes stands =
     onward rest faults first (feeding now p after (Ending (next + 1))) records bytes (record { read = stands.read; sent = sent })
@@ -205,12 +205,12 @@ end_offered {S} rest faults now p before after next offers first records bytes s
     sent : AreSent (sent_by after) (Ending (next + 1)) records
     sent core got there = rw size (at_core core got (sent_after sents core next (offers.sent ++ End ∷ []) got (subst (λ (l : List (List Rx)). slice_get l core ≡ Some got) offers.is there)))
 
-pub end_back : {S : Type 0} (rest : S → Option (List ℕ)) (faults : S → ℕ) (now : S) (p : InPieces) (before after : List Offering) (next : ℕ) → sent_by after ≡ sent_by before
+pub end_back : {S : Type 0} (rest : S → Option (List ℕ)) (faults : S → ℕ) (now : S) (p : Intake) (before after : List Offering) (next : ℕ) → sent_by after ≡ sent_by before
     → Leads rest faults (feeding now p before (Ending next)) (feeding now p after (Ending next))
 end_back rest faults now p before after next same first records bytes stands =
     onward rest faults first (feeding now p after (Ending next)) records bytes (rw same stands)
 
-pub all_ended : {S : Type 0} (rest : S → Option (List ℕ)) (faults : S → ℕ) (now : S) (p : InPieces) (inlets : List Offering) (next : ℕ) → length inlets ≤ next
+pub all_ended : {S : Type 0} (rest : S → Option (List ℕ)) (faults : S → ℕ) (now : S) (p : Intake) (inlets : List Offering) (next : ℕ) → length inlets ≤ next
     → Leads rest faults (feeding now p inlets (Ending next)) (feeding now p inlets Ended)
 all_ended rest faults now p inlets next last first records bytes stands =
     onward rest faults first (feeding now p inlets Ended) records bytes (record {

@@ -24,7 +24,7 @@ use Rattle.zy_capture.specs.Standing.{StandsFor, EndsAs, EndsBy}
 use Rattle.zy_capture.proofs.Feeding.{version_here, count_here}
 use Rattle.zy_read.specs.declared.stop.Stop.{Stop}
 use Rattle.zy_feed.specs.declared.intake.Header.{Header}
-use Rattle.zy_feed.specs.Reads.{InPieces, IsFresh, HasRead, HasReadAll, StopsBy, TellsHeader, TellsNoHeader, TakesFirst, Advances, came_of, ended_by}
+use Rattle.zy_feed.specs.Reads.{Intake, IsFresh, HasRead, HasReadAll, StopsBy, TellsHeader, TellsNoHeader, TakesFirst, Advances, came_of, ended_by}
 use Rattle.zy_feed.proofs.LawfulLemmas.{known_version, lawful_records}
 use Rattle.zy_capture.proofs.TellLemmas.{IsPastCount, past_count}
 use Rattle.zy_feed.proofs.StepLemmas.{Stays, step_gave, text_stays, text_short}
@@ -32,7 +32,7 @@ use Rattle.zy_feed.proofs.StepLemmas.{Stays, step_gave, text_stays, text_short}
 -- ---- one answer more
 
 -- what was read after the source gave the next piece
-pub given_more : {S : Type 0} (rest : S → Option (List ℕ)) (faults : S → ℕ) (first old now : S) (p q : InPieces) (records : List Record) (bytes : List ℕ) → q.reader ≡ p.reader → HasRead rest faults first old p records bytes
+pub given_more : {S : Type 0} (rest : S → Option (List ℕ)) (faults : S → ℕ) (first old now : S) (p q : Intake) (records : List Record) (bytes : List ℕ) → q.reader ≡ p.reader → HasRead rest faults first old p records bytes
     → HasGiven rest faults first now q.left bytes → HasRead rest faults first now q records bytes
 given_more rest faults first old now p q records bytes same has given = record { reader = rw same has.reader; clean = has.clean; given = given }
 
@@ -40,7 +40,7 @@ given_more rest faults first old now p q records bytes same has given = record {
 regrouped : (bytes fed left later : List ℕ) → (bytes ++ (fed ++ left)) ++ later ≡ bytes ++ (fed ++ (left ++ later))
 regrouped bytes fed left later = append_assoc bytes (fed ++ left) later ∙ ap (λ (l : List ℕ). bytes ++ l) (append_assoc fed left later)
 
-fed_has : {S : Type 0} (rest : S → Option (List ℕ)) (faults : S → ℕ) (first now : S) (p q : InPieces) (records : List Record) (bytes fed : List ℕ) (gave : List Record) → p.left ≡ fed ++ q.left → StandsFor q.reader (records ++ gave) (bytes ++ fed) → fault_of (bytes ++ fed) ≡ None
+fed_has : {S : Type 0} (rest : S → Option (List ℕ)) (faults : S → ℕ) (first now : S) (p q : Intake) (records : List Record) (bytes fed : List ℕ) (gave : List Record) → p.left ≡ fed ++ q.left → StandsFor q.reader (records ++ gave) (bytes ++ fed) → fault_of (bytes ++ fed) ≡ None
     → HasRead rest faults first now p records bytes → HasRead rest faults first now q (records ++ gave) (bytes ++ fed)
 fed_has rest faults first now p q records bytes fed gave left reader clean has = record {
   reader = reader;
@@ -52,7 +52,7 @@ fed_has rest faults first now p q records bytes fed gave left reader clean has =
 }
 
 -- the reader's answer to some bytes
-pub taken_came : {S : Type 0} (rest : S → Option (List ℕ)) (faults : S → ℕ) (most : ℕ) (first now : S) (p q : InPieces) (answer : Result (Option Record) (NotTaken CaptureFault)) (records : List Record) (bytes : List ℕ) → TakesFirst most p q answer
+pub taken_came : {S : Type 0} (rest : S → Option (List ℕ)) (faults : S → ℕ) (most : ℕ) (first now : S) (p q : Intake) (answer : Result (Option Record) (NotTaken CaptureFault)) (records : List Record) (bytes : List ℕ) → TakesFirst most p q answer
     → HasRead rest faults first now p records bytes → Advances rest faults most first now q records bytes (came_of answer)
 taken_came rest faults most first now p q (Ok (Some record')) records bytes takes has =
     (takes.fed, (takes.few, fed_has rest faults first now p q records bytes takes.fed (record' ∷ []) takes.left (takes.feeds records bytes has.reader) (takes.exact records bytes has.reader) has))
@@ -70,7 +70,7 @@ taken_came rest faults most first now p q (Err (Fault fault)) records bytes take
 taken_came rest faults most first now p q (Err Reads.NoMemory) records bytes takes has = tt
 
 -- its answer at the end of the source
-pub ended_came : {S : Type 0} (rest : S → Option (List ℕ)) (faults : S → ℕ) (most : ℕ) (first now : S) (p : InPieces) (answer : Result ⊤ CaptureFault) (records : List Record) (bytes : List ℕ) → EndsBy p.reader answer → p.left ≡ [] → IsAtEnd (rest now)
+pub ended_came : {S : Type 0} (rest : S → Option (List ℕ)) (faults : S → ℕ) (most : ℕ) (first now : S) (p : Intake) (answer : Result ⊤ CaptureFault) (records : List Record) (bytes : List ℕ) → EndsBy p.reader answer → p.left ≡ [] → IsAtEnd (rest now)
     → HasRead rest faults first now p records bytes → Advances rest faults most first now p records bytes (ended_by answer)
 ended_came rest faults most first now p (Ok done) records bytes ends none end has = record { reads = has; good = ends records bytes has.reader; none = none; end = end }
 ended_came rest faults most first now p (Err fault) records bytes ends none end has =
@@ -79,12 +79,12 @@ ended_came rest faults most first now p (Err fault) records bytes ends none end 
 
 -- ---- no capture has more bytes than the limit
 
-pub has_few : {S : Type 0} (rest : S → Option (List ℕ)) (faults : S → ℕ) (first now : S) (p : InPieces) (records : List Record) (bytes : List ℕ) → HasRead rest faults first now p records bytes → length bytes ≤ capture_limit
+pub has_few : {S : Type 0} (rest : S → Option (List ℕ)) (faults : S → ℕ) (first now : S) (p : Intake) (records : List Record) (bytes : List ℕ) → HasRead rest faults first now p records bytes → length bytes ≤ capture_limit
 unfolding fault_met reading_of
 has_few rest faults first now p records bytes has = omega (arith, text_short bytes start (omega arith) has.clean)
 
 -- so no stop needs a cause after so many
-pub too_long : {S : Type 0} (rest : S → Option (List ℕ)) (faults : S → ℕ) (first now : S) (p : InPieces) (records : List Record) (bytes more : List ℕ) (n : ℕ) (stop : Stop CaptureFault) → 18446744073709551615 ≤ n → n ≤ length more → HasRead rest faults first now p records (bytes ++ more) → StopsBy rest faults first now stop
+pub too_long : {S : Type 0} (rest : S → Option (List ℕ)) (faults : S → ℕ) (first now : S) (p : Intake) (records : List Record) (bytes more : List ℕ) (n : ℕ) (stop : Stop CaptureFault) → 18446744073709551615 ≤ n → n ≤ length more → HasRead rest faults first now p records (bytes ++ more) → StopsBy rest faults first now stop
 too_long rest faults first now p records bytes more n stop over within has = absurd (omega (arith, over, within, length-append bytes more, has_few rest faults first now p records (bytes ++ more) has))
 
 -- ---- version and count
@@ -132,7 +132,7 @@ record_late p q b (byte ∷ []) r first second few =
     go (Some s) is given = step_gave p byte s is
 record_late p q b (byte ∷ next ∷ more) r first second few = absurd (omega (arith, few))
 
-pub record_absurd : {S : Type 0} (rest : S → Option (List ℕ)) (faults : S → ℕ) (first old now : S) (p q : InPieces) (bytes more : List ℕ) (r : Record) → HasRead rest faults first old p [] bytes → TellsNoHeader bytes → length more ≤ 1 → HasRead rest faults first now q (r ∷ []) (bytes ++ more) → ⊥
+pub record_absurd : {S : Type 0} (rest : S → Option (List ℕ)) (faults : S → ℕ) (first old now : S) (p q : Intake) (bytes more : List ℕ) (r : Record) → HasRead rest faults first old p [] bytes → TellsNoHeader bytes → length more ≤ 1 → HasRead rest faults first now q (r ∷ []) (bytes ++ more) → ⊥
 record_absurd rest faults first old now p q bytes more r has none few later =
     not_early p.reader [] bytes has.reader has.clean (record_late p.reader q.reader bytes more r has.reader later.reader few) none
 
@@ -143,7 +143,7 @@ nothing_due due p given version count is = cc
 whole_due : (p : Progress) (given : List Record) (b : List ℕ) → StandsFor p given b → EndsAs given (Ok tt) (verdict b) → p.due ≡ Nothing
 whole_due p given b stands good = nothing_due p.due p given good.0 good.1 (sym (verdict_here captures p given b stands) ∙ good.2)
 
-pub end_absurd : {S : Type 0} (rest : S → Option (List ℕ)) (faults : S → ℕ) (first now : S) (q : InPieces) (bytes : List ℕ) → TellsNoHeader bytes → HasReadAll rest faults first now q [] bytes → ⊥
+pub end_absurd : {S : Type 0} (rest : S → Option (List ℕ)) (faults : S → ℕ) (first now : S) (q : Intake) (bytes : List ℕ) → TellsNoHeader bytes → HasReadAll rest faults first now q [] bytes → ⊥
 end_absurd rest faults first now q bytes none all =
     not_early q.reader [] bytes all.reads.reader all.reads.clean (subst IsPastCount (sym (whole_due q.reader [] bytes all.reads.reader all.good)) tt) none
 
@@ -182,7 +182,7 @@ lawful_as_told p given b header stands good told =
 
 -- ---- before the first byte
 
-pub fresh_read : {S : Type 0} (rest : S → Option (List ℕ)) (faults : S → ℕ) (first : S) (p : InPieces) → IsFresh p → HasRead rest faults first first p [] []
+pub fresh_read : {S : Type 0} (rest : S → Option (List ℕ)) (faults : S → ℕ) (first : S) (p : Intake) → IsFresh p → HasRead rest faults first first p [] []
 unfolding fault_met reading_of read_on
 fresh_read rest faults first p fresh = record {
   reader = fresh.0;

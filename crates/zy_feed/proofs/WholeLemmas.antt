@@ -9,7 +9,7 @@ use Rattle.zy_feed.specs.declared.stage.Stage.{Stage}
 use Rattle.zy_capture.specs.declared.record.Record.{Record}
 use Rattle.zy_feed.specs.declared.stage.Stage.TheVariants.{Cutting, Waiting, Ending, Ended, Broken}
 use Rattle.zy_feed.specs.declared.intake.Header.{Header}
-use Rattle.zy_feed.specs.Reads.{InPieces, HasReadAll, HasBegun}
+use Rattle.zy_feed.specs.Reads.{Intake, HasReadAll, HasBegun}
 use Rattle.zy_feed.specs.Feeding.{Feeding, stop_in, IsReadTo, AreSent, Stands, Leads, HasStopped, AreUnsent, HasFedAll}
 use Rattle.zy_feed.proofs.ReadLemmas.{has_few, told_stays, good_as_told, lawful_as_told}
 use Rattle.zy_feed.proofs.LawfulLemmas.{few_closes}
@@ -52,7 +52,7 @@ has_cause rest faults first header f g stop begins unsent start broken leads =
     subst (λ (s : Stage). IsReadTo rest faults first g.source g.intake s end.0 (begins.bytes ++ end.1.0)) (stop_is g.stage stop broken) end.1.1.read
 
 -- wherever it is
-counts_to : {S : Type 0} (rest : S → Option (List ℕ)) (faults : S → ℕ) (first now : S) (intake : InPieces) (stage : Stage) (records : List Record) (bytes : List ℕ) → IsReadTo rest faults first now intake stage records bytes
+counts_to : {S : Type 0} (rest : S → Option (List ℕ)) (faults : S → ℕ) (first now : S) (intake : Intake) (stage : Stage) (records : List Record) (bytes : List ℕ) → IsReadTo rest faults first now intake stage records bytes
     → faults first ≤ faults now
 counts_to rest faults first now intake Cutting records bytes read = read.given.count
 counts_to rest faults first now intake (Waiting item) records bytes read = read.given.count

@@ -20,7 +20,7 @@ use Rattle.zy_feed.specs.declared.intake.Header.{Header}
 use Rattle.zy_feed.specs.declared.stage.Stage.{Stage}
 use Rattle.zy_feed.specs.declared.feeder.CaptureFeeder.{CaptureFeeder}
 use Rattle.zy_feed.specs.declared.stage.Stage.TheVariants.{Cutting, Waiting, Ending, Ended, Broken}
-use Rattle.zy_feed.specs.Reads.{InPieces, HasRead, HasReadAll, StopsBy}
+use Rattle.zy_feed.specs.Reads.{Intake, HasRead, HasReadAll, StopsBy}
 
 -- ---- inlets
 
@@ -41,11 +41,11 @@ pub record OffersTo (core : ℕ) (item : Rx) (before after : List Offering) : Ty
 -- its source, its capture in pieces, what each core was sent, and where it is
 pub record Feeding (S : Type 0) : Type 0 where
   pub source : S
-  pub intake : InPieces
+  pub intake : Intake
   pub sents : List (List Rx)
   pub stage : Stage
 
-abbrev pub feeding : {S : Type 0} → S → InPieces → List Offering → Stage → Feeding S
+abbrev pub feeding : {S : Type 0} → S → Intake → List Offering → Stage → Feeding S
 feeding source intake inlets stage = record { source = source; intake = intake; sents = sent_by inlets; stage = stage }
 
 -- this feeder, and the same in another stage
@@ -94,7 +94,7 @@ pub record HasStopped {S : Type 0} (rest : S → Option (List ℕ)) (faults : S 
 
 -- what it has read, by where it is: these records of these bytes, the whole capture from the end of its records on,
 -- or it stopped
-abbrev pub IsReadTo : {S : Type 0} → (S → Option (List ℕ)) → (S → ℕ) → S → S → InPieces → Stage → List Record → List ℕ
+abbrev pub IsReadTo : {S : Type 0} → (S → Option (List ℕ)) → (S → ℕ) → S → S → Intake → Stage → List Record → List ℕ
     → Type 0
 IsReadTo rest faults first now intake Cutting records bytes = HasRead rest faults first now intake records bytes
 IsReadTo rest faults first now intake (Waiting item) records bytes = HasRead rest faults first now intake records bytes

@@ -22,27 +22,27 @@ use Rattle.zy_feed.specs.declared.intake.Came.TheVariants as Comes
 -- ---- a capture that is read in pieces
 
 -- how far the reader is, and the bytes of the piece that it was not fed yet
-pub record InPieces : Type 0 where
+pub record Intake : Type 0 where
   pub reader : Progress
   pub left : List ℕ
 
-abbrev pub in_pieces : Progress → List ℕ → InPieces
+abbrev pub in_pieces : Progress → List ℕ → Intake
 in_pieces reader left = record { reader = reader; left = left }
 
 -- nothing was read yet
-abbrev pub IsFresh : InPieces → Type 0
+abbrev pub IsFresh : Intake → Type 0
 IsFresh intake = StandsFor intake.reader [] [] × (intake.left ≡ [])
 
 -- these records were cut of these bytes, in which no fault was met; since a source was the first one it gave these
 -- bytes, and then what is left of the piece
-pub record HasRead {S : Type 0} (rest : S → Option (List ℕ)) (faults : S → ℕ) (first now : S) (intake : InPieces)
+pub record HasRead {S : Type 0} (rest : S → Option (List ℕ)) (faults : S → ℕ) (first now : S) (intake : Intake)
     (records : List Record) (bytes : List ℕ) : Type 0 where
   pub reader : StandsFor intake.reader records bytes
   pub clean : fault_of bytes ≡ None
   pub given : HasGiven rest faults first now intake.left bytes
 
 -- the bytes are a capture with these records, and the source is at its end
-pub record HasReadAll {S : Type 0} (rest : S → Option (List ℕ)) (faults : S → ℕ) (first now : S) (intake : InPieces)
+pub record HasReadAll {S : Type 0} (rest : S → Option (List ℕ)) (faults : S → ℕ) (first now : S) (intake : Intake)
     (records : List Record) (bytes : List ℕ) : Type 0 where
   pub reads : HasRead rest faults first now intake records bytes
   pub good : EndsAs records (Ok tt) (verdict bytes)
@@ -67,7 +67,7 @@ abbrev pub TellsNoHeader : List ℕ → Type 0
 TellsNoHeader bytes = (version_of bytes ≡ None) ⊎ (count_of bytes ≡ None)
 
 -- no record was cut yet, and version and count were told
-pub record HasBegun {S : Type 0} (rest : S → Option (List ℕ)) (faults : S → ℕ) (first now : S) (intake : InPieces)
+pub record HasBegun {S : Type 0} (rest : S → Option (List ℕ)) (faults : S → ℕ) (first now : S) (intake : Intake)
     (header : Header) : Type 0 where
   pub bytes : List ℕ
   pub reads : HasRead rest faults first now intake [] bytes
@@ -76,7 +76,7 @@ pub record HasBegun {S : Type 0} (rest : S → Option (List ℕ)) (faults : S �
 -- ---- a record more
 
 -- a record was cut, or the capture came to its end, or it is read no further
-abbrev pub Cuts : {S : Type 0} → (S → Option (List ℕ)) → (S → ℕ) → S → S → InPieces → List Record → List ℕ
+abbrev pub Cuts : {S : Type 0} → (S → Option (List ℕ)) → (S → ℕ) → S → S → Intake → List Record → List ℕ
     → Result (Option Record) (Stop CaptureFault) → Type 0
 Cuts rest faults first now intake records bytes (Ok (Some record')) =
     (more : List ℕ) × HasRead rest faults first now intake (records ++ record' ∷ []) (bytes ++ more)
@@ -87,7 +87,7 @@ Cuts rest faults first now intake records bytes (Err stop) = StopsBy rest faults
 -- ---- for the intake alone
 
 -- the reader took some first bytes of what was left, at most so many, and this is its answer
-pub record TakesFirst (most : ℕ) (old new : InPieces)
+pub record TakesFirst (most : ℕ) (old new : Intake)
     (answer : Result (Option Record) (NotTaken CaptureFault)) : Type 0 where
   pub fed : List ℕ
   pub left : old.left ≡ fed ++ new.left
@@ -110,7 +110,7 @@ ended_by (Ok done) = Ok Comes.End
 ended_by (Err fault) = Err (Refused fault)
 
 -- a record was cut, or some bytes ended none, or the capture came to its end, or it is read no further
-abbrev pub Advances : {S : Type 0} → (S → Option (List ℕ)) → (S → ℕ) → ℕ → S → S → InPieces → List Record → List ℕ
+abbrev pub Advances : {S : Type 0} → (S → Option (List ℕ)) → (S → ℕ) → ℕ → S → S → Intake → List Record → List ℕ
     → Result Came (Stop CaptureFault) → Type 0
 Advances rest faults most first now intake records bytes (Ok (Comes.Record record')) =
     (more : List ℕ) × ((length more ≤ most) × HasRead rest faults first now intake (records ++ record' ∷ [])

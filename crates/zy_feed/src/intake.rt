@@ -31,9 +31,9 @@ pub struct Intake {
 }
 
 impl Model for Intake {
-    ghost use Rattle.zy_feed.specs.Reads.{InPieces, in_pieces};
+    ghost use Rattle.zy_feed.specs.Reads.{Intake, in_pieces};
 
-    ghost Value = { InPieces };
+    ghost Value = { Intake };
 
     ghost view = { λ i. in_pieces i.reader i.pieces };
 }

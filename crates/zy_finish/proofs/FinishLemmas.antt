@@ -27,7 +27,7 @@ use Rattle.zy_rx.specs.Session.{Sessions, sessions_of, streams_of}
 use Rattle.zy_conn.specs.Work.{Start, Mark, commands_of_frames}
 use Rattle.zy_conn.specs.Kept.{command_begun}
 use Rattle.zy_conn.specs.Block.{Blocked}
-use Rattle.zy_home.specs.Link.{Linked, conn_of}
+use Rattle.zy_home.specs.Link.{Link, conn_of}
 use Rattle.zy_home.specs.Finish.{ConnEnd}
 use Rattle.zy_home.specs.Link as links
 use Rattle.zy_home.proofs.FinishLemmas.{conn_end}

@@ -9,7 +9,7 @@ use Rattle.zy_table.proofs.NameLemmas.{same_id}
 use Rattle.zy_rx.specs.Flow.{home_of}
 use Rattle.zy_conn.specs.Work.{Mark}
 use Rattle.zy_conn.specs.Block.{Blocked}
-use Rattle.zy_home.specs.Link.{Linked, conn_of}
+use Rattle.zy_home.specs.Link.{Link, conn_of}
 use Rattle.zy_home.specs.Idle.{IsIdle, due_mark, mark_in}
 use Rattle.zy_home.specs.Own.{own_conns}
 use Rattle.zy_home.specs.End.{ended_of, blocks_in}
@@ -51,16 +51,16 @@ block_at (Some b ∷ slots) (suc p) here within =
     let r = block_at slots p here (omega arith) in record { block = r.block; slot = r.slot; at = r.at }
 
 -- a link that has a number
-record LinkIs (o : Option Linked) (conn : ℕ) : Type 0 where
-  pub link : Linked
+record LinkIs (o : Option Link) (conn : ℕ) : Type 0 where
+  pub link : Link
   pub is : o ≡ Some link
   pub conn_is : conn_of link ≡ conn
 
-link_is : (o : Option Linked) (conn : ℕ) → option_map conn_of o ≡ Some conn → LinkIs o conn
+link_is : (o : Option Link) (conn : ℕ) → option_map conn_of o ≡ Some conn → LinkIs o conn
 link_is None conn e = absurd (cc)
 link_is (Some l) conn e = record { link = l; is = refl; conn_is = cc }
 
-link_at : (links : List Linked) (own : List ℕ) (place conn : ℕ) → conns_in links ≡ own → slice_get own place ≡ Some conn → LinkIs (slice_get links place) conn
+link_at : (links : List Link) (own : List ℕ) (place conn : ℕ) → conns_in links ≡ own → slice_get own place ≡ Some conn → LinkIs (slice_get links place) conn
 link_at links own place conn are at = link_is (slice_get links place) conn (sym (slice_get-map conn_of links place) ∙ ap (λ (c : List ℕ). slice_get c place) are ∙ at)
 
 -- ---- a connection
@@ -71,7 +71,7 @@ pub record IsHeld (store : TableId) (count : ℕ) (homes : List Homed) (conn : �
   pub home_there : slice_get homes (home_of (length homes) conn) ≡ Some home
   pub over : IsOver store (length homes) count (home_of (length homes) conn) home
   pub block : Blocked
-  pub link : Linked
+  pub link : Link
   pub block_there : slice_get (blocks_in home.blocks) (place_of (length homes) conn) ≡ Some block
   pub link_there : slice_get home.links (place_of (length homes) conn) ≡ Some link
   pub conn_is : conn_of link ≡ conn

@@ -5,7 +5,7 @@ ghost use Rattle.zy_frame.specs.Progress.{StandsFor, IsQuit, IsRefused, kept_by,
 ghost use Rattle.zy_frame.specs.Feed.{Appends, AppendsFirst};
 ghost use Rattle.zy_frame.specs.Steps.{Advances};
 
-use crate::frames::Frames;
+use crate::frames::{Frames, append};
 use crate::state::State;
 use crate::step::Step;
 use crate::stepping::step;
@@ -99,7 +99,7 @@ impl Framer {
                     taken,
                     frame,
                 } = step;
-                if let Err(e) = frames.append(frame) {
+                if let Err(e) = append(frames, frame) {
                     drop(state);
                     return Err(e);
                 }

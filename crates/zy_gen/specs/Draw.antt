@@ -1,4 +1,5 @@
--- What is drawn for generated traffic, docs/FORMATS.md, "Generator": words of PCG32 on the stream 54, modulo a bound.
+-- What is drawn for generated traffic, docs/FORMATS.md, "Generated traffic": words of PCG32 on the stream 54,
+-- modulo a bound.
 use Rattle.std.specs.Prelude.{ℕ, ◌%◌, ◌==◌, nat_lt, if◌then◌else◌, Bool, true, false}
 use Rattle.rand_pcg.specs.Lcg.{Lcg, started, increment_of}
 use Rattle.rand_pcg.specs.Pcg.{pcg32, multiplier_64}

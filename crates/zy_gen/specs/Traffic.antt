@@ -1,5 +1,5 @@
--- Generated traffic, docs/FORMATS.md, "Generator": the bytes of each command, the segments in which they come, and
--- the whole capture.
+-- Generated traffic, docs/FORMATS.md, "Generated traffic": the bytes of each command, the segments in which they come,
+-- and the whole capture.
 use Rattle.std.specs.Prelude.{ℕ, zero, suc, ◌+◌, ◌*◌, ◌%◌, ◌≤◌, ◌^◌, ◌<◌, Bool, true, false, List, [], ◌∷◌, ◌++◌, length, take, drop, codes, decimal}
 use Rattle.std.specs.Int.{to_be_bytes, w32}
 use Rattle.rand_pcg.specs.Lcg.{Lcg}

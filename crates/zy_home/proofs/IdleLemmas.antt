@@ -3,9 +3,9 @@ use Rattle.std.specs.Prelude.{◌||◌, nat_lt}
 use Rattle.std.proofs.Common.{◌≡◌, ◌≢◌, ℕ, ◌+◌, ◌≤◌, List, [], ◌∷◌, ◌++◌, length, false, refl, sym, ap, ◌∙◌, arith, append-nil}
 use Rattle.std.proofs.lemmas.Bool.Decides.{nat_tests}
 use Rattle.zy_frame.specs.declared.frame_kind.FrameKind.{FrameKind}
-use Rattle.zy_conn.specs.Ring.{Sending}
+use Rattle.zy_conn.specs.Ring.{EventInlet}
 use Rattle.zy_conn.specs.Work.{Start, idle, raw, read, going, Worked, is_begun, has_event}
-use Rattle.zy_home.specs.Link.{Linked}
+use Rattle.zy_home.specs.Link.{Link}
 use Rattle.zy_home.specs.Offer.{IsFilled}
 use Rattle.zy_home.specs.Idle.{IsIdle}
 
@@ -21,7 +21,7 @@ no_event (read command) known e = absurd (cc)
 no_event (going command calls replies) known e = absurd (cc)
 
 -- where the ring has room for 64 frames and none is known, none waits
-waiting_gone : (taken left : List FrameKind) (a b : Sending) → 64 + length taken ≤ length a.sent + a.free → IsFilled a b left → b.sent ≡ taken → left ≡ []
+waiting_gone : (taken left : List FrameKind) (a b : EventInlet) → 64 + length taken ≤ length a.sent + a.free → IsFilled a b left → b.sent ≡ taken → left ≡ []
 waiting_gone taken [] a b room filled same = refl
 waiting_gone taken (x ∷ xs) a b room filled same =
     let some : x ∷ xs ≢ [] = λ e. absurd (cc) in
@@ -29,7 +29,7 @@ waiting_gone taken (x ∷ xs) a b room filled same =
     let size = ap (λ (l : List FrameKind). length l) same in absurd (omega arith)
 
 -- w is the block's work after the last look, and m the connection then; a and b are the inlet before and after what waited was offered
-pub settled_idle : (w : Worked) (m : Linked) (a b : Sending) (taken : List FrameKind) → has_event w ≡ false → w.batch ≡ [] → w.taken ≡ taken → m.output.finished ≡ w.finished
+pub settled_idle : (w : Worked) (m : Link) (a b : EventInlet) (taken : List FrameKind) → has_event w ≡ false → w.batch ≡ [] → w.taken ≡ taken → m.output.finished ≡ w.finished
     → m.inlet.sent ≡ w.taken ++ w.known → b.sent ≡ m.inlet.sent → 64 + length taken ≤ length a.sent + a.free → IsFilled a b m.waiting → IsIdle w m
 settled_idle w m a b taken none batch same finished all sent room filled =
     let is = no_event w.begun w.known none in

@@ -12,7 +12,7 @@ use Rattle.zy_shuffle.specs.Hand.{marked}
 use Rattle.zy_shuffle.specs.Pass.{Held, Joined}
 use Rattle.zy_shuffle.proofs.HandLemmas.{marked_else}
 use Rattle.zy_conn.specs.Block.{Blocked}
-use Rattle.zy_home.specs.Link.{Linked}
+use Rattle.zy_home.specs.Link.{Link}
 use Rattle.zy_home.specs.Idle.{due_mark, mark_in}
 use Rattle.zy_home.specs.Home.{Homed, Keeps, SameHome, IsAt, all_here}
 use Rattle.zy_home.specs.Place.{IsOut, label_in, with_pass}
@@ -64,7 +64,7 @@ module _ (h : Homed) (w : Held Blocked) (n p : ℕ) (b : Blocked) (k : Keeps h) 
   not_here None e = refl
   not_here (Some y) e = absurd (let r = (k.here p y e).0 in let a = j.apart in cc)
 
-  keeps_at : (q : ℕ) (l : Linked) (x : Option Blocked) → IsAt h.pass q l x → IsAt w q l x
+  keeps_at : (q : ℕ) (l : Link) (x : Option Blocked) → IsAt h.pass q l x → IsAt w q l x
   keeps_at q l (Some y) at = at
   keeps_at q l None at = λ out. dite (ℕ_discrete q p)
       (λ same. absurd (let one = in_front p h.pass.hand in let two : is_in p (p ∷ h.pass.hand) ≡ false = ap (λ z. is_in z (p ∷ h.pass.hand)) (sym same) ∙ ap (is_in q) (sym (ap (λ (v : Held Blocked). v.hand) j.is)) ∙ out in cc))

@@ -9,7 +9,7 @@ use Rattle.zy_shuffle.specs.Pass.{Held}
 use Rattle.zy_conn.specs.Work.{Mark}
 use Rattle.zy_conn.specs.Kept.{Kept}
 use Rattle.zy_conn.specs.Block.{Blocked}
-use Rattle.zy_home.specs.Link.{Linked, LinkStands, conn_of}
+use Rattle.zy_home.specs.Link.{Link, LinkStands, conn_of}
 use Rattle.zy_home.specs.Idle.{due_mark, mark_in}
 use Rattle.zy_home.specs.Finish.{ConnEnd}
 use Rattle.zy_home.proofs.FinishLemmas.{conn_end}
@@ -41,12 +41,12 @@ settled_live h e = not_true h.refused (both_left (not h.refused) (all_here h.blo
 
 -- ---- connections
 
-pub ended_conns : (links : List Linked) → map (λ (e : Ended). e.output.conn) (map ended_of links) ≡ conns_in links
+pub ended_conns : (links : List Link) → map (λ (e : Ended). e.output.conn) (map ended_of links) ≡ conns_in links
 ended_conns [] = refl
 ended_conns (l ∷ ls) = ap (λ c. conn_of l ∷ c) (ended_conns ls)
 
 -- a connection whose block is idle in the hand
-finished_at : (label : Name) (received : ℕ → Sessions) (pass : Held Blocked) (p : ℕ) (b : Blocked) (l : Linked) → IsHere pass p b → IsAt pass p l (Some b) → pass.label ≡ label → LinkStands l (received (conn_of l)) → IsFinished label received b (ended_of l)
+finished_at : (label : Name) (received : ℕ → Sessions) (pass : Held Blocked) (p : ℕ) (b : Blocked) (l : Link) → IsHere pass p b → IsAt pass p l (Some b) → pass.label ≡ label → LinkStands l (received (conn_of l)) → IsFinished label received b (ended_of l)
 finished_at label received pass p b l here at same stands = record {
   conn = ap (λ (m : Mark). m.0) at.0;
   labelled = here.1 ∙ same;
@@ -54,8 +54,8 @@ finished_at label received pass p b l here at same stands = record {
 }
 
 -- the same of each, at places from one on
-all_finished : (label : Name) (received : ℕ → Sessions) (bs : List (Option Blocked)) (ls : List Linked) → length bs ≡ length ls → all_here bs ≡ true
-    → ((p : ℕ) (b : Blocked) (l : Linked) → slice_get bs p ≡ Some (Some b) → slice_get ls p ≡ Some l → IsFinished label received b (ended_of l)) → AreFinished label received (blocks_in bs) (map ended_of ls)
+all_finished : (label : Name) (received : ℕ → Sessions) (bs : List (Option Blocked)) (ls : List Link) → length bs ≡ length ls → all_here bs ≡ true
+    → ((p : ℕ) (b : Blocked) (l : Link) → slice_get bs p ≡ Some (Some b) → slice_get ls p ≡ Some l → IsFinished label received b (ended_of l)) → AreFinished label received (blocks_in bs) (map ended_of ls)
 all_finished label received [] [] long here each = tt
 all_finished label received [] (l ∷ ls) long here each = absurd (omega arith)
 all_finished label received (x ∷ bs) [] long here each = absurd (omega arith)

@@ -10,8 +10,8 @@ use Rattle.zy_frame.proofs.CutLaws.{frames_of_nil}
 use Rattle.zy_rx.specs.declared.rx.Rx.{Rx}
 use Rattle.zy_rx.specs.declared.rx.Rx.TheVariants.{Segment, Close}
 use Rattle.zy_rx.specs.Session.{Sessions, no_sessions, with_bytes, with_close, takes_in, streams_of}
-use Rattle.zy_conn.specs.Ring.{Sending}
-use Rattle.zy_home.specs.Link.{Linked, LinkStands, IsFresh, conn_of, frames_in, ends_from}
+use Rattle.zy_conn.specs.Ring.{EventInlet}
+use Rattle.zy_home.specs.Link.{Link, LinkStands, IsFresh, conn_of, frames_in, ends_from}
 
 -- ---- frames of sessions
 
@@ -44,7 +44,7 @@ ends_from-push before (stream ∷ streams) last =
 
 -- ---- what the connection stands for
 
-module _ (l m : Linked) (s : Sessions) (h : LinkStands l s) where
+module _ (l m : Link) (s : Sessions) (h : LinkStands l s) where
   -- bytes were cut: `front` is the frame that was handed back, if any
   pub stands_bytes : (front before after : List FrameKind) (bytes : List ℕ) → l.waiting ≡ front ++ before → m.waiting ≡ front ++ after → m.inlet ≡ l.inlet → m.ends ≡ l.ends
       → StandsFor m.framer (s.current ++ bytes) → Appends s.current bytes before after → m.cut ≡ l.cut + (length after - length before) → LinkStands m (with_bytes bytes s)
@@ -81,7 +81,7 @@ module _ (l m : Linked) (s : Sessions) (h : LinkStands l s) where
   }
 
 -- a fresh connection has received nothing
-pub stands_fresh : (conn : ℕ) (inlet : Sending) (l : Linked) → IsFresh conn inlet l → inlet.sent ≡ [] → LinkStands l no_sessions
+pub stands_fresh : (conn : ℕ) (inlet : EventInlet) (l : Link) → IsFresh conn inlet l → inlet.sent ≡ [] → LinkStands l no_sessions
 stands_fresh conn inlet l f none = record {
   framer = f.framer;
   frames = (λ i. (f.inlet_is i).sent ++ f.waiting i) ∙ append-nil inlet.sent ∙ none ∙ sym frames_in-none;

@@ -9,13 +9,13 @@ use Rattle.zy_table.specs.declared.name.Name.{Name}
 use Rattle.zy_table.proofs.SliceLemmas.{get_below}
 use Rattle.zy_rx.specs.Ring.{RingName}
 use Rattle.zy_shuffle.specs.Pass.{Held, HasAll}
-use Rattle.zy_conn.specs.Ring.{Sending}
+use Rattle.zy_conn.specs.Ring.{EventInlet}
 use Rattle.zy_conn.specs.Work.{texts_all, texts_taken}
-use Rattle.zy_calls.specs.Output.{Sent}
+use Rattle.zy_calls.specs.Output.{Output}
 use Rattle.zy_table.specs.Name.{name_of}
 use Rattle.zy_home.proofs.JoinLemmas.{some_there}
 use Rattle.zy_conn.specs.Block.{Blocked}
-use Rattle.zy_home.specs.Link.{Linked, IsFresh, conn_of}
+use Rattle.zy_home.specs.Link.{Link, IsFresh, conn_of}
 use Rattle.zy_home.proofs.LinkLemmas.{stands_fresh}
 use Rattle.zy_home.specs.Own.{own_conns}
 use Rattle.zy_home.specs.End.{blocks_in}
@@ -42,7 +42,7 @@ slot_at (b ∷ bs) (suc p) x e = slot_at bs p x e
 
 -- ---- links that are made
 
-pub fresh_conns : (bs : List Blocked) (is : List Sending) (ls : List Linked) → AreFresh bs is ls → conns_in ls ≡ conns_of_blocks bs
+pub fresh_conns : (bs : List Blocked) (is : List EventInlet) (ls : List Link) → AreFresh bs is ls → conns_in ls ≡ conns_of_blocks bs
 fresh_conns [] [] [] f = refl
 fresh_conns [] [] (l ∷ ls) f = absurd f
 fresh_conns [] (i ∷ is) ls f = absurd f
@@ -51,12 +51,12 @@ fresh_conns (b ∷ bs) (i ∷ is) [] f = absurd f
 fresh_conns (b ∷ bs) (i ∷ is) (l ∷ ls) f = λ j. (f.0.output j).conn ∷ fresh_conns bs is ls f.1 j
 
 -- a link with the inlet that it was made with
-pub record MadeAt (is : List Sending) (p : ℕ) (b : Blocked) (l : Linked) : Type 0 where
-  pub inlet : Sending
+pub record MadeAt (is : List EventInlet) (p : ℕ) (b : Blocked) (l : Link) : Type 0 where
+  pub inlet : EventInlet
   pub there : slice_get is p ≡ Some inlet
   pub fresh : IsFresh b.work.conn inlet l
 
-pub fresh_at : (bs : List Blocked) (is : List Sending) (ls : List Linked) (p : ℕ) (b : Blocked) (l : Linked) → AreFresh bs is ls → slice_get bs p ≡ Some b → slice_get ls p ≡ Some l → MadeAt is p b l
+pub fresh_at : (bs : List Blocked) (is : List EventInlet) (ls : List Link) (p : ℕ) (b : Blocked) (l : Link) → AreFresh bs is ls → slice_get bs p ≡ Some b → slice_get ls p ≡ Some l → MadeAt is p b l
 fresh_at [] is ls p b l f eb el = absurd (cc)
 fresh_at (c ∷ bs) [] ls p b l f eb el = absurd f
 fresh_at (c ∷ bs) (i ∷ is) [] p b l f eb el = absurd f
@@ -67,7 +67,7 @@ fresh_at (c ∷ bs) (i ∷ is) (m ∷ ls) (suc p) b l f eb el =
     let r = fresh_at bs is ls p b l f.1 eb el in record { inlet = r.inlet; there = r.there; fresh = r.fresh }
 
 -- a link more
-pub fresh_push : (bs : List Blocked) (is : List Sending) (ls : List Linked) (b : Blocked) (i : Sending) (l : Linked) → AreFresh bs is ls → IsFresh b.work.conn i l → AreFresh (bs ++ b ∷ []) (is ++ i ∷ []) (ls ++ l ∷ [])
+pub fresh_push : (bs : List Blocked) (is : List EventInlet) (ls : List Link) (b : Blocked) (i : EventInlet) (l : Link) → AreFresh bs is ls → IsFresh b.work.conn i l → AreFresh (bs ++ b ∷ []) (is ++ i ∷ []) (ls ++ l ∷ [])
 fresh_push [] [] [] b i l f g = (g, tt)
 fresh_push [] [] (m ∷ ls) b i l f g = absurd f
 fresh_push [] (j ∷ is) ls b i l f g = absurd f
@@ -78,24 +78,24 @@ fresh_push (c ∷ bs) (j ∷ is) (m ∷ ls) b i l f g = (f.0, fresh_push bs is l
 -- ---- the home
 
 -- a new block is idle and has the mark that is due
-new_at : (label : Name) (pass : Held Blocked) (p : ℕ) (b : Blocked) (i : Sending) (l : Linked) → IsNew label b → IsFresh b.work.conn i l → i.ring ≡ b.work.ring → i.sent ≡ [] → IsAt pass p l (Some b)
+new_at : (label : Name) (pass : Held Blocked) (p : ℕ) (b : Blocked) (i : EventInlet) (l : Link) → IsNew label b → IsFresh b.work.conn i l → i.ring ≡ b.work.ring → i.sent ≡ [] → IsAt pass p l (Some b)
 new_at label pass p b i l n f ring unused =
     let shown : take b.work.shown (texts_all b.work) ≡ [] = ap (λ k. take k (texts_all b.work)) n.shown in
-    let conn : b.work.conn ≡ conn_of l = ap (λ (z : Sent). z.conn) (sym f.output) in
-    let is : b.work.ring ≡ l.inlet.ring = sym ring ∙ ap (λ (z : Sending). z.ring) (sym f.inlet_is) in
-    let texts : texts_taken b.work ≡ l.output.texts = shown ∙ ap (λ (z : Sent). z.texts) (sym f.output) in (
+    let conn : b.work.conn ≡ conn_of l = ap (λ (z : Output). z.conn) (sym f.output) in
+    let is : b.work.ring ≡ l.inlet.ring = sym ring ∙ ap (λ (z : EventInlet). z.ring) (sym f.inlet_is) in
+    let texts : texts_taken b.work ≡ l.output.texts = shown ∙ ap (λ (z : Output). z.texts) (sym f.output) in (
       (λ j. (conn j, (is j, texts j))),
       record {
         begun = n.begun;
         known = n.known;
         batch = n.batch;
-        taken = n.taken ∙ sym unused ∙ ap (λ (z : Sending). z.sent) (sym f.inlet_is);
+        taken = n.taken ∙ sym unused ∙ ap (λ (z : EventInlet). z.sent) (sym f.inlet_is);
         waiting = f.waiting;
-        finished = ap (λ (z : Sent). z.finished) f.output ∙ sym n.finished;
+        finished = ap (λ (z : Output). z.finished) f.output ∙ sym n.finished;
       },
     )
 
-module _ (core cores count : ℕ) (pass : Held Blocked) (blocks : List Blocked) (inlets : List Sending) (links : List Linked) (parts : HomeParts) (is_pass : pass ≡ parts.pass) (is_blocks : blocks ≡ parts.blocks) (is_inlets : inlets ≡ parts.inlets) (fits : AreParts core cores count parts) (fresh : AreFresh blocks inlets links) where
+module _ (core cores count : ℕ) (pass : Held Blocked) (blocks : List Blocked) (inlets : List EventInlet) (links : List Link) (parts : HomeParts) (is_pass : pass ≡ parts.pass) (is_blocks : blocks ≡ parts.blocks) (is_inlets : inlets ≡ parts.inlets) (fits : AreParts core cores count parts) (fresh : AreFresh blocks inlets links) where
   -- the home that is made
   abbrev pub made : Homed
   made = record { core = core; cores = cores; count = count; pass = pass; blocks = map Some blocks; links = links; ended = false; refused = false }
@@ -116,17 +116,17 @@ module _ (core cores count : ℕ) (pass : Held Blocked) (blocks : List Blocked) 
   new_is : (p : ℕ) (b : Blocked) → slice_get blocks p ≡ Some b → IsNew parts.pass.label b
   new_is p b e = all_at (IsNew parts.pass.label) parts.blocks p b fits.new (ap (λ bs. slice_get bs p) (sym is_blocks) ∙ e)
 
-  ring_at : (p : ℕ) (b : Blocked) (i : Sending) → slice_get blocks p ≡ Some b → slice_get inlets p ≡ Some i → i.ring ≡ b.work.ring
+  ring_at : (p : ℕ) (b : Blocked) (i : EventInlet) → slice_get blocks p ≡ Some b → slice_get inlets p ≡ Some i → i.ring ≡ b.work.ring
   ring_at p b i eb ei =
-      let left : slice_get (rings_of_inlets inlets) p ≡ Some i.ring = slice_get-map (λ (z : Sending). z.ring) inlets p ∙ ap (option_map (λ (z : Sending). z.ring)) ei in
+      let left : slice_get (rings_of_inlets inlets) p ≡ Some i.ring = slice_get-map (λ (z : EventInlet). z.ring) inlets p ∙ ap (option_map (λ (z : EventInlet). z.ring)) ei in
       let right : slice_get (rings_of_blocks blocks) p ≡ Some b.work.ring = slice_get-map (λ (z : Blocked). z.work.ring) blocks p ∙ ap (option_map (λ (z : Blocked). z.work.ring)) eb in
       let same : rings_of_inlets inlets ≡ rings_of_blocks blocks = ap rings_of_inlets is_inlets ∙ fits.rings ∙ ap rings_of_blocks (sym is_blocks) in
       let both : Some i.ring ≡ Some b.work.ring = sym left ∙ ap (λ (l : List RingName). slice_get l p) same ∙ right in cc
 
-  unused_at : (p : ℕ) (i : Sending) → slice_get inlets p ≡ Some i → i.sent ≡ []
+  unused_at : (p : ℕ) (i : EventInlet) → slice_get inlets p ≡ Some i → i.sent ≡ []
   unused_at p i e = all_at IsUnused parts.inlets p i fits.unused (ap (λ is. slice_get is p) (sym is_inlets) ∙ e)
 
-  is_at : (p : ℕ) (b : Blocked) (l : Linked) → slice_get blocks p ≡ Some b → slice_get links p ≡ Some l → IsAt pass p l (Some b)
+  is_at : (p : ℕ) (b : Blocked) (l : Link) → slice_get blocks p ≡ Some b → slice_get links p ≡ Some l → IsAt pass p l (Some b)
   is_at p b l eb el =
       let r = fresh_at blocks inlets links p b l fresh eb el in
       new_at parts.pass.label pass p b r.inlet l (new_is p b eb) r.fresh (ring_at p b r.inlet eb r.there) (unused_at p r.inlet r.there)

@@ -7,7 +7,7 @@ use native.Mathlib.Decide.{dec_lt}
 use Rattle.std.proofs.lemmas.List.Elements.{filter-append}
 use Rattle.std.proofs.lemmas.Option.{slice_get-map}
 use Rattle.zy_rx.specs.Flow.{home_of}
-use Rattle.zy_home.specs.Link.{Linked, conn_of}
+use Rattle.zy_home.specs.Link.{Link, conn_of}
 use Rattle.zy_home.specs.Own.{own_conns, IsOwn, IsRising}
 use Rattle.zy_home.specs.Home.{conns_in}
 
@@ -57,11 +57,11 @@ own_is core cores count p conn e =
     ((let m = r.most in omega arith), eqb-true (home_of cores conn) core r.passes)
 
 -- the number of the connection at a place
-pub conn_at : (links : List Linked) (p : ℕ) (l : Linked) → slice_get links p ≡ Some l → slice_get (conns_in links) p ≡ Some (conn_of l)
+pub conn_at : (links : List Link) (p : ℕ) (l : Link) → slice_get links p ≡ Some l → slice_get (conns_in links) p ≡ Some (conn_of l)
 conn_at links p l e = slice_get-map conn_of links p ∙ ap (option_map conn_of) e
 
 -- no two places have one connection
-pub rising_apart : (links : List Linked) → IsRising (conns_in links) → (p q : ℕ) (l m : Linked) → slice_get links p ≡ Some l → slice_get links q ≡ Some m → conn_of l ≡ conn_of m → p ≡ q
+pub rising_apart : (links : List Link) → IsRising (conns_in links) → (p q : ℕ) (l m : Link) → slice_get links p ≡ Some l → slice_get links q ≡ Some m → conn_of l ≡ conn_of m → p ≡ q
 rising_apart links rises p q l m ep eq same = dite (dec_lt p q)
     (λ lt. absurd (let less = rises p q (conn_of l) (conn_of m) (conn_at links p l ep) (conn_at links q m eq) lt in omega arith))
     (λ no. dite (dec_lt q p)
@@ -71,15 +71,15 @@ rising_apart links rises p q l m ep eq same = dite (dec_lt p q)
 -- ---- the search for a place
 
 -- the middle of what is left
-module _ (links : List Linked) (rises : IsRising (conns_in links)) (conn middle : ℕ) (l : Linked) (there : slice_get links middle ≡ Some l) where
+module _ (links : List Link) (rises : IsRising (conns_in links)) (conn middle : ℕ) (l : Link) (there : slice_get links middle ≡ Some l) where
   -- the connections up to the middle are below, where that of the middle is
-  pub below_middle : conn_of l < conn → (at : ℕ) (x : Linked) → at < middle + 1 → slice_get links at ≡ Some x → conn_of x < conn
+  pub below_middle : conn_of l < conn → (at : ℕ) (x : Link) → at < middle + 1 → slice_get links at ≡ Some x → conn_of x < conn
   below_middle less at x near e = dite (dec_lt at middle)
       (λ lt. let r = rises at middle (conn_of x) (conn_of l) (conn_at links at x e) (conn_at links middle l there) lt in omega arith)
       (λ no. let same : at ≡ middle = omega arith in let is : Some x ≡ Some l = sym e ∙ ap (slice_get links) same ∙ there in let one : x ≡ l = cc in let two = ap conn_of one in omega arith)
 
   -- and those from the middle on are above, where that of the middle is
-  pub above_middle : conn_of l ≢ conn → (conn ≤ conn_of l) → (at : ℕ) (x : Linked) → middle ≤ at → slice_get links at ≡ Some x → conn < conn_of x
+  pub above_middle : conn_of l ≢ conn → (conn ≤ conn_of l) → (at : ℕ) (x : Link) → middle ≤ at → slice_get links at ≡ Some x → conn < conn_of x
   above_middle other more at x near e = dite (dec_lt middle at)
       (λ lt. let r = rises middle at (conn_of l) (conn_of x) (conn_at links middle l there) (conn_at links at x e) lt in omega arith)
       (λ no. let same : at ≡ middle = omega arith in let is : Some x ≡ Some l = sym e ∙ ap (slice_get links) same ∙ there in let one : x ≡ l = cc in let two = ap conn_of one in omega arith)

@@ -8,7 +8,7 @@ use Rattle.zy_rx.specs.Session.{Sessions, no_sessions, with_bytes, with_close, t
 use Rattle.zy_rx.proofs.SessionLemmas.{sessions-push}
 use Rattle.zy_shuffle.specs.Pass.{Held}
 use Rattle.zy_conn.specs.Block.{Blocked}
-use Rattle.zy_home.specs.Link.{Linked, LinkStands, IsFor, TakesIn, conn_of}
+use Rattle.zy_home.specs.Link.{Link, LinkStands, IsFor, TakesIn, conn_of}
 use Rattle.zy_home.specs.Offer.{WaitsFull}
 use Rattle.zy_home.specs.Own.{IsOwn, IsOfOthers, IsRising, item_conn, is_end}
 use Rattle.zy_home.specs.Home.{Homed, Keeps, HomeStands, SameHome, StandsMore, conns_in}
@@ -91,16 +91,16 @@ not_others core cores count conn (Close c) others e own = others (subst (IsOwn c
 not_others core cores count conn End others e own = absurd (cc)
 
 -- the connection of a place is one of the home's
-pub link_own : (h : Homed) → Keeps h → (p : ℕ) (l : Linked) → slice_get h.links p ≡ Some l → IsOwn h.core h.cores h.count (conn_of l)
+pub link_own : (h : Homed) → Keeps h → (p : ℕ) (l : Link) → slice_get h.links p ≡ Some l → IsOwn h.core h.cores h.count (conn_of l)
 link_own h k p l e = own_is h.core h.cores h.count p (conn_of l) (ap (λ ns. slice_get ns p) (sym k.conns) ∙ conn_at h.links p l e)
 
-pub apart : (h : Homed) → Keeps h → (p q : ℕ) (l m : Linked) → slice_get h.links p ≡ Some l → slice_get h.links q ≡ Some m → conn_of l ≡ conn_of m → p ≡ q
+pub apart : (h : Homed) → Keeps h → (p q : ℕ) (l m : Link) → slice_get h.links p ≡ Some l → slice_get h.links q ≡ Some m → conn_of l ≡ conn_of m → p ≡ q
 apart h k p q l m = rising_apart h.links (λ p q a b ea eb. own_rises h.core h.cores h.count p q a b (ap (λ ns. slice_get ns p) (sym k.conns) ∙ ea) (ap (λ ns. slice_get ns q) (sym k.conns) ∙ eb)) p q l m
 
 -- ---- what the home stands for
 
 -- the item is of no connection of the home
-pub more_none : (h : Homed) (conn : ℕ) (item : Rx) → item_conn item ≡ Some conn → ((p : ℕ) (l : Linked) → slice_get h.links p ≡ Some l → conn_of l ≢ conn) → StandsMore h item h
+pub more_none : (h : Homed) (conn : ℕ) (item : Rx) → item_conn item ≡ Some conn → ((p : ℕ) (l : Link) → slice_get h.links p ≡ Some l → conn_of l ≢ conn) → StandsMore h item h
 more_none h conn item is none items s = record {
   ended = λ c. ap (λ (z : Sessions). z.ended) (push c items item) ∙ takes_ended c conn (sessions_of c items) item is ∙ s.ended c;
   links = λ p l e. subst (LinkStands l) (sym (push (conn_of l) items item ∙ takes_other (conn_of l) conn (sessions_of (conn_of l) items) item is (none p l e))) (s.links p l e);
@@ -123,7 +123,7 @@ more_end h item is items s =
     }
 
 -- the item comes to the connection of a place
-pub more_at : (h : Homed) (p : ℕ) (x : Option Blocked) (l m : Linked) (w : Held Blocked) (r : Bool) → Turns h p x l m w r → Keeps h → h.ended ≡ false → (item : Rx) → IsFor (conn_of l) item → TakesIn item l m → StandsMore h item (turned h p x m w r)
+pub more_at : (h : Homed) (p : ℕ) (x : Option Blocked) (l m : Link) (w : Held Blocked) (r : Bool) → Turns h p x l m w r → Keeps h → h.ended ≡ false → (item : Rx) → IsFor (conn_of l) item → TakesIn item l m → StandsMore h item (turned h p x m w r)
 more_at h p x l m w r t k live item own takes items s =
     let is = for_is (conn_of l) item own in
     turned_more h p x l m w r t (apart h k) items (items ++ item ∷ []) s
@@ -138,7 +138,7 @@ pub forwards_none : (h h' : Homed) (item : Rx) → ((p : ℕ) → ComesTo h p it
 forwards_none h h' item none = record { here = λ p b comes at. absurd (none p comes); away = λ p comes at. absurd (none p comes) }
 
 -- it comes to a place where it was taken in
-module _ (h : Homed) (k : Keeps h) (p : ℕ) (x : Option Blocked) (l m : Linked) (w : Held Blocked) (r : Bool) (item : Rx) (there : slice_get h.links p ≡ Some l) (conn : conn_of m ≡ conn_of l) (own : IsFor (conn_of l) item) where
+module _ (h : Homed) (k : Keeps h) (p : ℕ) (x : Option Blocked) (l m : Link) (w : Held Blocked) (r : Bool) (item : Rx) (there : slice_get h.links p ≡ Some l) (conn : conn_of m ≡ conn_of l) (own : IsFor (conn_of l) item) where
   place_is : (q : ℕ) → ComesTo h q item → q ≡ p
   place_is q c = apart h k q p c.link l c.there there (let one = for_is (conn_of c.link) item c.own in let two = for_is (conn_of l) item own in cc)
 
@@ -146,7 +146,7 @@ module _ (h : Homed) (k : Keeps h) (p : ℕ) (x : Option Blocked) (l m : Linked)
   here_at (Some c) b is fed = settles h p l m w x r there conn fed
   here_at None b is fed = absurd (cc)
 
-  away_at : (x0 : Option Blocked) → x0 ≡ None → slice_get h.blocks p ≡ Some x0 → IsFed p l m h.pass w x0 x → (w ≡ h.pass) × (set h.blocks p x ≡ h.blocks) × ((n : Linked) → slice_get (set h.links p m) p ≡ Some n → WaitsFull n)
+  away_at : (x0 : Option Blocked) → x0 ≡ None → slice_get h.blocks p ≡ Some x0 → IsFed p l m h.pass w x0 x → (w ≡ h.pass) × (set h.blocks p x ≡ h.blocks) × ((n : Link) → slice_get (set h.links p m) p ≡ Some n → WaitsFull n)
   away_at (Some c) is slot fed = absurd (cc)
   away_at None is slot fed = (fed.0, ap (set h.blocks p) fed.1 ∙ set_there h.blocks p None slot, λ n e. subst WaitsFull (get_set_same h.links p m n e) fed.3)
 
@@ -166,10 +166,10 @@ pub record Received (h h' : Homed) (item : Rx) : Type 0 where
   pub stands : StandsMore h item h'
   pub forwards : Forwards h h' item
 
-module _ (h : Homed) (k : Keeps h) (p : ℕ) (item : Rx) (comes : ComesTo h p item) (l m : Linked) (w : Held Blocked) (x0 x : Option Blocked) (slot : x0 ≡ get_or h.blocks p x0) (at : l ≡ get_or h.links p l) where
+module _ (h : Homed) (k : Keeps h) (p : ℕ) (item : Rx) (comes : ComesTo h p item) (l m : Link) (w : Held Blocked) (x0 x : Option Blocked) (slot : x0 ≡ get_or h.blocks p x0) (at : l ≡ get_or h.links p l) where
   -- the item is for the connection that stands there
   pub comes_own : IsFor (conn_of l) item
-  comes_own = subst (λ (z : Linked). IsFor (conn_of z) item) (sym (fed_link h k p comes.link l m w x0 x comes.there slot at)) comes.own
+  comes_own = subst (λ (z : Link). IsFor (conn_of z) item) (sym (fed_link h k p comes.link l m w x0 x comes.there slot at)) comes.own
 
   pub comes_place : h.refused ≡ false → IsPlace h.pass p l x0
   comes_place = fed_place h k p comes.link l m w x0 x comes.there slot at

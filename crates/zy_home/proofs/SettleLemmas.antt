@@ -7,10 +7,10 @@ use Rattle.zy_table.proofs.SliceLemmas.{get_at, get_below, get_set_same}
 use Rattle.zy_shuffle.specs.Hand.{marked}
 use Rattle.zy_shuffle.specs.Pass.{Held, after_publish}
 use Rattle.zy_shuffle.proofs.HandLemmas.{marked_here, marked_else}
-use Rattle.zy_conn.specs.Ring.{Sending}
+use Rattle.zy_conn.specs.Ring.{EventInlet}
 use Rattle.zy_conn.specs.Work.{has_event}
 use Rattle.zy_conn.specs.Block.{Blocked}
-use Rattle.zy_home.specs.Link.{Linked, StandsOn, conn_of}
+use Rattle.zy_home.specs.Link.{Link, StandsOn, conn_of}
 use Rattle.zy_home.specs.Offer.{WaitsBehind, WaitsFull}
 use Rattle.zy_home.specs.Idle.{IsIdle, due_mark, mark_in}
 use Rattle.zy_home.specs.Home.{Homed, Keeps, SameHome, StandsHome, IsAt, IsHere}
@@ -44,7 +44,7 @@ same_turns p v w is =
 
 -- ---- one place
 
-module _ (h : Homed) (p : ℕ) (l m : Linked) (w : Held Blocked) (x : Option Blocked) (r : Bool) (there : slice_get h.links p ≡ Some l) (conn : conn_of m ≡ conn_of l) where
+module _ (h : Homed) (p : ℕ) (l m : Link) (w : Held Blocked) (x : Option Blocked) (r : Bool) (there : slice_get h.links p ≡ Some l) (conn : conn_of m ≡ conn_of l) where
   -- the block was settled
   pub settled_turns : (r ≡ false → h.refused ≡ false) → is_in p h.pass.hand ≡ true → IsSettled p m h.pass w x → Turns h p x l m w r
   settled_turns live hand s = go (has_event s.block.work) refl
@@ -129,7 +129,7 @@ module _ (h : Homed) (p : ℕ) (l m : Linked) (w : Held Blocked) (x : Option Blo
   unfed_turns refused k None slot s = unfed_away refused s.0 s.1
 
 -- a place of a home that is not refused
-pub place_of_home : (h : Homed) → Keeps h → h.refused ≡ false → (p : ℕ) (x : Option Blocked) (l : Linked) → slice_get h.blocks p ≡ Some x → slice_get h.links p ≡ Some l → IsPlace h.pass p l x
+pub place_of_home : (h : Homed) → Keeps h → h.refused ≡ false → (p : ℕ) (x : Option Blocked) (l : Link) → slice_get h.blocks p ≡ Some x → slice_get h.links p ≡ Some l → IsPlace h.pass p l x
 place_of_home h k live p x l ex el = record { here = λ b e. k.here p b (ex ∙ ap Some e); at = k.each live p x l ex el }
 
 -- ---- the hand after a refusal
@@ -139,23 +139,23 @@ filled-set [] p x y e same = refl
 filled-set (b ∷ bs) zero x y e same = let is : b ≡ x = cc in ap (λ z. z ∷ map is_some bs) (same ∙ ap is_some (sym is))
 filled-set (b ∷ bs) (suc p) x y e same = ap (λ l. is_some b ∷ l) (filled-set bs p x y e same)
 
-pub same_hand : (h : Homed) (p : ℕ) (m : Linked) (w : Held Blocked) (x x0 : Option Blocked) (r : Bool) → slice_get h.blocks p ≡ Some x0 → IsUnfed h.pass w x0 x → SameHand h (turned h p x m w r)
+pub same_hand : (h : Homed) (p : ℕ) (m : Link) (w : Held Blocked) (x x0 : Option Blocked) (r : Bool) → slice_get h.blocks p ≡ Some x0 → IsUnfed h.pass w x0 x → SameHand h (turned h p x m w r)
 same_hand h p m w x (Some b) r e s = record { pass = s.pass_is; blocks = filled-set h.blocks p (Some b) x e (ap is_some s.slot_is) }
 same_hand h p m w x None r e s = record { pass = s.0; blocks = filled-set h.blocks p None x e (ap is_some s.1) }
 
 -- ---- whole steps
 
 -- what a step at one place comes to
-pub record Stepped (h h' : Homed) (l m : Linked) : Type 0 where
+pub record Stepped (h h' : Homed) (l m : Link) : Type 0 where
   pub keeps : Keeps h'
   pub same : SameHome h h'
   pub stands : StandsOn l m → StandsHome h h'
 
-pub stepped : (h : Homed) (p : ℕ) (x : Option Blocked) (l m : Linked) (w : Held Blocked) (r : Bool) → Keeps h → Turns h p x l m w r → Stepped h (turned h p x m w r) l m
+pub stepped : (h : Homed) (p : ℕ) (x : Option Blocked) (l m : Link) (w : Held Blocked) (r : Bool) → Keeps h → Turns h p x l m w r → Stepped h (turned h p x m w r) l m
 stepped h p x l m w r k t = record { keeps = turned_keeps h p x l m w r t k; same = turned_same h p x l m w r t; stands = turned_stands h p x l m w r t }
 
 -- a block that is with the caller is settled, or put back where memory was refused
-module _ (h : Homed) (k : Keeps h) (p : ℕ) (b : Blocked) (o : IsOut h p b) (l m : Linked) (w : Held Blocked) (x : Option Blocked) (at : l ≡ get_or h.links p l) (conn : conn_of m ≡ conn_of l) where
+module _ (h : Homed) (k : Keeps h) (p : ℕ) (b : Blocked) (o : IsOut h p b) (l m : Link) (w : Held Blocked) (x : Option Blocked) (at : l ≡ get_or h.links p l) (conn : conn_of m ≡ conn_of l) where
   pub out_there : slice_get h.links p ≡ Some l
   out_there = get_at h.links p l l (get_below h.links p o.link o.there) at
 
@@ -170,7 +170,7 @@ module _ (h : Homed) (k : Keeps h) (p : ℕ) (b : Blocked) (o : IsOut h p b) (l 
   out_back s = stepped h p x l m w true k (back_turns h p l m w x true out_there conn refl o.hand s)
 
 -- an item is taken in at a place, or memory is refused
-module _ (h : Homed) (k : Keeps h) (p : ℕ) (l0 l m : Linked) (w : Held Blocked) (x0 x : Option Blocked) (there : slice_get h.links p ≡ Some l0) (slot : x0 ≡ get_or h.blocks p x0) (at : l ≡ get_or h.links p l) where
+module _ (h : Homed) (k : Keeps h) (p : ℕ) (l0 l m : Link) (w : Held Blocked) (x0 x : Option Blocked) (there : slice_get h.links p ≡ Some l0) (slot : x0 ≡ get_or h.blocks p x0) (at : l ≡ get_or h.links p l) where
   pub fed_there : slice_get h.links p ≡ Some l
   fed_there = get_at h.links p l l (get_below h.links p l0 there) at
 
@@ -190,7 +190,7 @@ module _ (h : Homed) (k : Keeps h) (p : ℕ) (l0 l m : Linked) (w : Held Blocked
   unfed_step conn s = stepped h p x l m w true k (unfed_turns h p l m w x true fed_there conn refl k x0 fed_slot s)
 
 -- an item was taken in where the block is away
-pub fed_away : (p : ℕ) (l m o : Linked) (v : Held Blocked) (x0 x : Option Blocked) → x0 ≡ None → x ≡ None → m.inlet ≡ l.inlet → m.output ≡ l.output → o.inlet.ring ≡ m.inlet.ring → o.output ≡ m.output → WaitsFull o → IsFed p l o v v x0 x
+pub fed_away : (p : ℕ) (l m o : Link) (v : Held Blocked) (x0 x : Option Blocked) → x0 ≡ None → x ≡ None → m.inlet ≡ l.inlet → m.output ≡ l.output → o.inlet.ring ≡ m.inlet.ring → o.output ≡ m.output → WaitsFull o → IsFed p l o v v x0 x
 fed_away p l m o v x0 x was is inlet output ring texts full =
     subst (λ z. IsFed p l o v v z x) (sym was)
-    (refl, is, (λ i. (((texts ∙ output) i).conn, ((ring ∙ ap (λ (z : Sending). z.ring) inlet) i, ((texts ∙ output) i).texts))), full)
+    (refl, is, (λ i. (((texts ∙ output) i).conn, ((ring ∙ ap (λ (z : EventInlet). z.ring) inlet) i, ((texts ∙ output) i).texts))), full)

@@ -10,24 +10,24 @@ use Rattle.zy_rx.specs.Session.{Sessions, sessions_of, takes_in, no_sessions}
 use Rattle.zy_shuffle.specs.Hand.{marked}
 use Rattle.zy_shuffle.specs.Pass.{Held}
 use Rattle.zy_conn.specs.Block.{Blocked}
-use Rattle.zy_home.specs.Link.{Linked, LinkStands, StandsOn, conn_of}
+use Rattle.zy_home.specs.Link.{Link, LinkStands, StandsOn, conn_of}
 use Rattle.zy_home.specs.Idle.{due_mark, mark_in}
 use Rattle.zy_home.specs.Home.{Homed, Keeps, HomeStands, SameHome, StandsHome, IsAt, IsHere, conns_in}
 use Rattle.zy_home.specs.Turn.{PassTurns, Turns, turned}
 
-conns-set : (ls : List Linked) (p : ℕ) (l m : Linked) → slice_get ls p ≡ Some l → conn_of m ≡ conn_of l → conns_in (set ls p m) ≡ conns_in ls
+conns-set : (ls : List Link) (p : ℕ) (l m : Link) → slice_get ls p ≡ Some l → conn_of m ≡ conn_of l → conns_in (set ls p m) ≡ conns_in ls
 conns-set [] p l m e same = refl
 conns-set (y ∷ ys) zero l m e same = let is : y ≡ l = cc in ap (λ c. c ∷ conns_in ys) (same ∙ ap conn_of (sym is))
 conns-set (y ∷ ys) (suc p) l m e same = ap (λ l. conn_of y ∷ l) (conns-set ys p l m e same)
 
 -- what is so of another place
-pub at_else : (v w : Held Blocked) (q : ℕ) (l : Linked) (x : Option Blocked) → is_in q w.hand ≡ is_in q v.hand → marked mark_in q w.kept ≡ marked mark_in q v.kept → IsAt v q l x → IsAt w q l x
+pub at_else : (v w : Held Blocked) (q : ℕ) (l : Link) (x : Option Blocked) → is_in q w.hand ≡ is_in q v.hand → marked mark_in q w.kept ≡ marked mark_in q v.kept → IsAt v q l x → IsAt w q l x
 at_else v w q l None hand kept k = λ out. kept ∙ k (sym hand ∙ out)
 at_else v w q l (Some b) hand kept k = k
 
-module _ (h : Homed) (p : ℕ) (x : Option Blocked) (l m : Linked) (w : Held Blocked) (r : Bool) (t : Turns h p x l m w r) where
+module _ (h : Homed) (p : ℕ) (x : Option Blocked) (l m : Link) (w : Held Blocked) (r : Bool) (t : Turns h p x l m w r) where
   -- the connection of a place, and what it was before
-  here_is : (q : ℕ) (n : Linked) → q ≡ p → slice_get (set h.links p m) q ≡ Some n → m ≡ n
+  here_is : (q : ℕ) (n : Link) → q ≡ p → slice_get (set h.links p m) q ≡ Some n → m ≡ n
   here_is q n same e = get_set_same h.links p m n (ap (slice_get (set h.links p m)) (sym same) ∙ e)
 
   slot_is : (q : ℕ) (y : Option Blocked) → q ≡ p → slice_get (set h.blocks p x) q ≡ Some y → x ≡ y
@@ -75,7 +75,7 @@ module _ (h : Homed) (p : ℕ) (x : Option Blocked) (l m : Linked) (w : Held Blo
   }
 
   -- the connection stands for more, and every other for what it stood for
-  pub turned_more : ((q o : ℕ) (a b : Linked) → slice_get h.links q ≡ Some a → slice_get h.links o ≡ Some b → conn_of a ≡ conn_of b → q ≡ o)
+  pub turned_more : ((q o : ℕ) (a b : Link) → slice_get h.links q ≡ Some a → slice_get h.links o ≡ Some b → conn_of a ≡ conn_of b → q ≡ o)
       → (items more : List Rx) → HomeStands h items → ((c : ℕ) → (sessions_of c more).ended ≡ (sessions_of c items).ended)
       → (LinkStands l (sessions_of (conn_of l) items) → LinkStands m (sessions_of (conn_of l) more))
       → ((c : ℕ) → c ≢ conn_of l → sessions_of c more ≡ sessions_of c items) → HomeStands (turned h p x m w r) more

@@ -1,10 +1,10 @@
 -- What is left of a home at the end: its blocks, and the outputs of its connections.
 use Rattle.std.specs.Prelude.{◌≡◌, ℕ, List, [], ◌∷◌, Option, Some, None}
-use Rattle.zy_calls.specs.Output.{Sent}
+use Rattle.zy_calls.specs.Output.{Output}
 use Rattle.zy_table.specs.declared.name.Name.{Name}
 use Rattle.zy_table.specs.Name.{name_of}
 use Rattle.zy_conn.specs.Block.{Blocked}
-use Rattle.zy_home.specs.Link.{Linked}
+use Rattle.zy_home.specs.Link.{Link}
 
 -- the blocks that are in these slots
 abbrev pub blocks_in : List (Option Blocked) → List Blocked
@@ -14,15 +14,15 @@ blocks_in (Some block ∷ slots) = block ∷ blocks_in slots
 
 -- what is left of a connection: its output, and the ends of its sessions
 pub record Ended : Type 0 where
-  pub output : Sent
+  pub output : Output
   pub ends : List ℕ
 
 -- an output with these ends of sessions
-abbrev pub ended : Sent → List ℕ → Ended
+abbrev pub ended : Output → List ℕ → Ended
 ended output ends = record { output = output; ends = ends }
 
 -- what is left of a connection that is no longer served
-abbrev pub ended_of : Linked → Ended
+abbrev pub ended_of : Link → Ended
 ended_of l = ended l.output l.ends
 
 -- the block's store has this label

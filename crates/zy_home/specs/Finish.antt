@@ -5,7 +5,7 @@ use Rattle.mc_parse.specs.declared.command.Command.{Command}
 use Rattle.mc_parse.specs.Calls.{due, dues_of}
 use Rattle.mc_reply.specs.Texts.{texts_from, texts_of}
 use Rattle.zy_frame.specs.Cut.{commands_of}
-use Rattle.zy_calls.specs.Output.{Sent}
+use Rattle.zy_calls.specs.Output.{Output}
 use Rattle.zy_rx.specs.Session.{Sessions, streams_of}
 use Rattle.zy_home.specs.Link.{ends_from}
 
@@ -16,7 +16,7 @@ commands_received s = flat_map commands_of (streams_of s)
 -- the end of a connection that received these sessions, with its calls on so many shards, its output, and the ends of
 -- its sessions: each call due was made, in order; the output has the texts of all commands, each with the replies of
 -- its own calls; all commands are finished; and each closed session ends behind its commands
-pub record ConnEnd (shards : ℕ) (calls : List Entry) (s : Sessions) (output : Sent) (ends : List ℕ) : Type 0 where
+pub record ConnEnd (shards : ℕ) (calls : List Entry) (s : Sessions) (output : Output) (ends : List ℕ) : Type 0 where
   pub dues : dues_of calls ≡ due shards output.conn (commands_received s)
   pub texts : output.texts ≡ texts_of (commands_received s) calls
   pub finished : output.finished ≡ length (commands_received s)

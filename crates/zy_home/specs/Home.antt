@@ -7,7 +7,7 @@ use Rattle.zy_rx.specs.Session.{sessions_of}
 use Rattle.zy_shuffle.specs.Hand.{marked}
 use Rattle.zy_shuffle.specs.Pass.{Held}
 use Rattle.zy_conn.specs.Block.{Blocked}
-use Rattle.zy_home.specs.Link.{Linked, LinkStands, conn_of}
+use Rattle.zy_home.specs.Link.{Link, LinkStands, conn_of}
 use Rattle.zy_home.specs.Idle.{IsIdle, due_mark, mark_in}
 use Rattle.zy_home.specs.Own.{own_conns}
 
@@ -22,12 +22,12 @@ pub record Homed : Type 0 where
   pub count : ℕ
   pub pass : Held Blocked
   pub blocks : List (Option Blocked)
-  pub links : List Linked
+  pub links : List Link
   pub ended : Bool
   pub refused : Bool
 
 -- the numbers of connections
-abbrev pub conns_in : List Linked → List ℕ
+abbrev pub conns_in : List Link → List ℕ
 conns_in links = map conn_of links
 
 -- each block is in the hand
@@ -54,7 +54,7 @@ pub record IsMade (core cores count : ℕ) (pass : Held Blocked) (blocks : List 
 
 -- what is so of a connection's block: in the hand it is idle and has the mark that is due; away from it the pass
 -- keeps this mark for its place
-abbrev pub IsAt : Held Blocked → ℕ → Linked → Option Blocked → Type 0
+abbrev pub IsAt : Held Blocked → ℕ → Link → Option Blocked → Type 0
 IsAt pass place link (Some block) = (mark_in block ≡ due_mark link) × IsIdle block.work link
 IsAt pass place link None =
     is_in place pass.hand ≡ false → marked mark_in place pass.kept ≡ Some (due_mark link)
@@ -74,14 +74,14 @@ pub record Keeps (h : Homed) : Type 0 where
   -- the blocks in the hand, also where memory was refused
   pub here : (p : ℕ) (b : Blocked) → slice_get h.blocks p ≡ Some (Some b) → IsHere h.pass p b
   -- and where it was not, in the hand they are idle
-  pub each : h.refused ≡ false → (p : ℕ) (x : Option Blocked) (l : Linked)
+  pub each : h.refused ≡ false → (p : ℕ) (x : Option Blocked) (l : Link)
       → slice_get h.blocks p ≡ Some x → slice_get h.links p ≡ Some l → IsAt h.pass p l x
 
 -- these items may be what the home received: each of its connections may have received the sessions that they have
 -- for it
 pub record HomeStands (h : Homed) (items : List Rx) : Type 0 where
   pub ended : (conn : ℕ) → (sessions_of conn items).ended ≡ h.ended
-  pub links : (p : ℕ) (l : Linked) → slice_get h.links p ≡ Some l
+  pub links : (p : ℕ) (l : Link) → slice_get h.links p ≡ Some l
       → LinkStands l (sessions_of (conn_of l) items)
 
 -- whatever the home may have received, it may still have received

@@ -2,7 +2,7 @@
 use Rattle.std.specs.Prelude.{◌≡◌, []}
 use Rattle.zy_conn.specs.Work.{Mark, Worked, idle, mark_of}
 use Rattle.zy_conn.specs.Block.{Blocked}
-use Rattle.zy_home.specs.Link.{Linked, conn_of}
+use Rattle.zy_home.specs.Link.{Link, conn_of}
 
 -- the mark of a block
 abbrev pub mark_in : Blocked → Mark
@@ -10,12 +10,12 @@ mark_in block = mark_of block.work
 
 -- the mark that the block of a connection has: the connection, its event ring, and the texts of its output as those
 -- ever taken from the block
-abbrev pub due_mark : Linked → Mark
+abbrev pub due_mark : Link → Mark
 due_mark l = (conn_of l, (l.inlet.ring, l.output.texts))
 
 -- the block has no event, no begun command and no pending text, it has taken all that was offered, and no frame waits
 -- for it; the output has its number of finished commands
-pub record IsIdle (work : Worked) (l : Linked) : Type 0 where
+pub record IsIdle (work : Worked) (l : Link) : Type 0 where
   pub begun : work.begun ≡ idle
   pub known : work.known ≡ []
   pub batch : work.batch ≡ []

@@ -3,26 +3,26 @@ use Rattle.std.specs.Prelude.{◌≡◌, ℕ, ◌+◌, Bool, false, List, [], �
 use Rattle.zy_frame.specs.declared.frame_kind.FrameKind.{FrameKind}
 use Rattle.zy_frame.specs.Cut.{frames_of}
 use Rattle.zy_frame.specs.Progress.{Progress, StandsFor}
-use Rattle.zy_calls.specs.Output.{Sent, nothing_sent}
+use Rattle.zy_calls.specs.Output.{Output, nothing_sent}
 use Rattle.zy_rx.specs.declared.rx.Rx.{Rx}
 use Rattle.zy_rx.specs.declared.rx.Rx.TheVariants.{Segment, Close, End}
 use Rattle.zy_rx.specs.Session.{Sessions, takes_in, streams_of}
-use Rattle.zy_conn.specs.Ring.{Sending}
+use Rattle.zy_conn.specs.Ring.{EventInlet}
 
 -- ---- values
 
 -- the end of its event ring that frames are offered to, what its framer is in the middle of, the frames that wait,
 -- the ends of its closed sessions, how many frames were cut, and its output
-pub record Linked : Type 0 where
-  pub inlet : Sending
+pub record Link : Type 0 where
+  pub inlet : EventInlet
   pub framer : Progress
   pub waiting : List FrameKind
   pub ends : List ℕ
   pub cut : ℕ
-  pub output : Sent
+  pub output : Output
 
 -- the number of the connection
-abbrev pub conn_of : Linked → ℕ
+abbrev pub conn_of : Link → ℕ
 conn_of l = l.output.conn
 
 -- ---- what a connection received
@@ -39,7 +39,7 @@ ends_from before (stream ∷ streams) =
 
 -- the connection may have received these sessions: its framer stands for the open one, the frames offered and then
 -- those that wait are those of all sessions, and each closed session ends behind the frames cut up to then
-pub record LinkStands (l : Linked) (s : Sessions) : Type 0 where
+pub record LinkStands (l : Link) (s : Sessions) : Type 0 where
   pub framer : StandsFor l.framer s.current
   pub frames : l.inlet.sent ++ l.waiting ≡ frames_in s
   pub ends : l.ends ≡ ends_from 0 s.closed
@@ -52,18 +52,18 @@ IsFor conn (Close c) = c ≡ conn
 IsFor conn End = ⊥
 
 -- whatever the connection may have received, it may now have received this item too
-abbrev pub TakesIn : Rx → Linked → Linked → Type 0
+abbrev pub TakesIn : Rx → Link → Link → Type 0
 TakesIn item l l' = (s : Sessions) → s.ended ≡ false → LinkStands l s
     → LinkStands l' (takes_in (conn_of l) s item)
 
 -- whatever the connection may have received, it may still have received
-abbrev pub StandsOn : Linked → Linked → Type 0
+abbrev pub StandsOn : Link → Link → Type 0
 StandsOn l l' = (s : Sessions) → LinkStands l s → LinkStands l' s
 
 -- ---- beginnings and what stays
 
 -- a connection with this inlet that has received and sent nothing
-pub record IsFresh (conn : ℕ) (inlet : Sending) (l : Linked) : Type 0 where
+pub record IsFresh (conn : ℕ) (inlet : EventInlet) (l : Link) : Type 0 where
   pub inlet_is : l.inlet ≡ inlet
   pub framer : StandsFor l.framer []
   pub waiting : l.waiting ≡ []
@@ -72,6 +72,6 @@ pub record IsFresh (conn : ℕ) (inlet : Sending) (l : Linked) : Type 0 where
   pub output : l.output ≡ nothing_sent conn
 
 -- the connection and its event ring stay the same
-pub record SameLink (l l' : Linked) : Type 0 where
+pub record SameLink (l l' : Link) : Type 0 where
   pub conn : conn_of l' ≡ conn_of l
   pub ring : l'.inlet.ring ≡ l.inlet.ring

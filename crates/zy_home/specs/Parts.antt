@@ -3,11 +3,11 @@ use Rattle.std.specs.Prelude.{◌≡◌, ℕ, List, [], ◌∷◌, length, map, 
 use Rattle.std.specs.List.{AllByRecursion}
 use Rattle.zy_rx.specs.Ring.{RingName}
 use Rattle.zy_shuffle.specs.Pass.{Held, HasAll}
-use Rattle.zy_conn.specs.Ring.{Sending}
+use Rattle.zy_conn.specs.Ring.{EventInlet}
 use Rattle.zy_conn.specs.Work.{Worked, idle}
 use Rattle.zy_conn.specs.Block.{Blocked}
 use Rattle.zy_table.specs.declared.name.Name.{Name}
-use Rattle.zy_home.specs.Link.{Linked, IsFresh}
+use Rattle.zy_home.specs.Link.{Link, IsFresh}
 use Rattle.zy_home.specs.declared.parts.HomeParts.{HomeParts}
 use Rattle.zy_home.specs.Own.{own_conns}
 use Rattle.zy_home.specs.End.{HasLabel}
@@ -23,8 +23,8 @@ abbrev pub rings_of_blocks : List Blocked → List RingName
 rings_of_blocks blocks = map (λ (b : Blocked). b.work.ring) blocks
 
 -- the event rings of inlets
-abbrev pub rings_of_inlets : List Sending → List RingName
-rings_of_inlets inlets = map (λ (i : Sending). i.ring) inlets
+abbrev pub rings_of_inlets : List EventInlet → List RingName
+rings_of_inlets inlets = map (λ (i : EventInlet). i.ring) inlets
 
 -- the block of a connection that has done nothing, of the store with this label
 pub record IsNew (label : Name) (block : Blocked) : Type 0 where
@@ -37,7 +37,7 @@ pub record IsNew (label : Name) (block : Blocked) : Type 0 where
   pub labelled : HasLabel label block
 
 -- no frame was ever offered to the event ring
-abbrev pub IsUnused : Sending → Type 0
+abbrev pub IsUnused : EventInlet → Type 0
 IsUnused inlet = inlet.sent ≡ []
 
 -- the parts of the home of a core: new blocks of its connections below the count, in rising order, with the ring's
@@ -53,7 +53,7 @@ pub record AreParts (core cores count : ℕ) (parts : HomeParts) : Type 0 where
 -- ---- making
 
 -- the links of new connections, of these blocks with these inlets
-abbrev pub AreFresh : List Blocked → List Sending → List Linked → Type 0
+abbrev pub AreFresh : List Blocked → List EventInlet → List Link → Type 0
 AreFresh [] [] [] = Unit {0}
 AreFresh (block ∷ blocks) (inlet ∷ inlets) (link ∷ links) =
     IsFresh block.work.conn inlet link × AreFresh blocks inlets links

@@ -10,7 +10,7 @@ use Rattle.zy_shuffle.specs.Pass.{Held, Joined, Claimed, Collected, after_publis
 use Rattle.zy_conn.specs.Work.{has_event}
 use Rattle.zy_conn.specs.Hold.{HeldTo}
 use Rattle.zy_conn.specs.Block.{Blocked}
-use Rattle.zy_home.specs.Link.{Linked, IsFor, conn_of}
+use Rattle.zy_home.specs.Link.{Link, IsFor, conn_of}
 use Rattle.zy_home.specs.Offer.{WaitsBehind, WaitsFull}
 use Rattle.zy_home.specs.Idle.{IsIdle, due_mark, mark_in}
 use Rattle.zy_home.specs.declared.own.Own.{Own}
@@ -26,7 +26,7 @@ label_in block = name_of block.work.table
 -- the block of a place is with the caller, who may settle it: the place is in the home's hand, and the block has the
 -- mark and the label that are due
 pub record IsOut (h : Homed) (place : ℕ) (block : Blocked) : Type 0 where
-  pub link : Linked
+  pub link : Link
   pub there : slice_get h.links place ≡ Some link
   pub hand : is_in place h.pass.hand ≡ true
   pub mark : mark_in block ≡ due_mark link
@@ -40,7 +40,7 @@ pub record Settles (place : ℕ) (h h' : Homed) : Type 0 where
       → (h'.pass ≡ after_publish place block h.pass h'.pass.trace) × (h'.blocks ≡ slice_set h.blocks place None)
   pub idle : has_event block.work ≡ false
       → (h'.pass ≡ h.pass) × (h'.blocks ≡ slice_set h.blocks place (Some block))
-  pub behind : (link : Linked) → slice_get h'.links place ≡ Some link → WaitsBehind link block
+  pub behind : (link : Link) → slice_get h'.links place ≡ Some link → WaitsBehind link block
 
 -- a block was put back at its place, and nothing was published
 pub record PutsBack (place : ℕ) (h h' : Homed) : Type 0 where
@@ -91,7 +91,7 @@ OwnsTo places h h' (Raced saw found) =
 -- the item is for the connection at this place, and no end came before it
 pub record ComesTo (h : Homed) (place : ℕ) (item : Rx) : Type 0 where
   pub live : h.ended ≡ false
-  pub link : Linked
+  pub link : Link
   pub there : slice_get h.links place ≡ Some link
   pub own : IsFor (conn_of link) item
 
@@ -102,7 +102,7 @@ pub record Forwards (h h' : Homed) (item : Rx) : Type 0 where
       → slice_get h.blocks place ≡ Some (Some block) → Settles place h h'
   pub away : (place : ℕ) → ComesTo h place item → slice_get h.blocks place ≡ Some None
       → (h'.pass ≡ h.pass) × (h'.blocks ≡ h.blocks)
-      × ((link : Linked) → slice_get h'.links place ≡ Some link → WaitsFull link)
+      × ((link : Link) → slice_get h'.links place ≡ Some link → WaitsFull link)
 
 -- the same connections are in the home's hand, and nothing was published
 pub record SameHand (h h' : Homed) : Type 0 where

@@ -6,7 +6,7 @@ use Rattle.zy_shuffle.specs.Hand.{marked}
 use Rattle.zy_shuffle.specs.Pass.{Held, after_publish}
 use Rattle.zy_conn.specs.Work.{has_event}
 use Rattle.zy_conn.specs.Block.{Blocked}
-use Rattle.zy_home.specs.Link.{Linked, conn_of}
+use Rattle.zy_home.specs.Link.{Link, conn_of}
 use Rattle.zy_home.specs.Offer.{WaitsBehind, WaitsFull}
 use Rattle.zy_home.specs.Idle.{IsIdle, due_mark, mark_in}
 use Rattle.zy_home.specs.Home.{Homed, IsAt, IsHere}
@@ -15,13 +15,13 @@ use Rattle.zy_home.specs.Place.{label_in}
 -- ---- one place
 
 -- the block of a place may be settled with its link
-pub record IsDue (pass : Held Blocked) (place : ℕ) (link : Linked) (block : Blocked) : Type 0 where
+pub record IsDue (pass : Held Blocked) (place : ℕ) (link : Link) (block : Blocked) : Type 0 where
   pub hand : is_in place pass.hand ≡ true
   pub mark : mark_in block ≡ due_mark link
   pub label : label_in block ≡ pass.label
 
 -- a block was settled: it was published where it has an event, and lies in its slot, idle, where it has none
-pub record IsSettled (place : ℕ) (link' : Linked) (pass pass' : Held Blocked) (slot' : Option Blocked) : Type 0 where
+pub record IsSettled (place : ℕ) (link' : Link) (pass pass' : Held Blocked) (slot' : Option Blocked) : Type 0 where
   pub block : Blocked
   pub mark : mark_in block ≡ due_mark link'
   pub label : label_in block ≡ pass.label
@@ -39,13 +39,13 @@ pub record IsPutBack (pass pass' : Held Blocked) (slot' : Option Blocked) : Type
   pub slot_is : slot' ≡ Some block
 
 -- what is so of a place in a home that is not refused
-pub record IsPlace (pass : Held Blocked) (place : ℕ) (link : Linked) (slot : Option Blocked) : Type 0 where
+pub record IsPlace (pass : Held Blocked) (place : ℕ) (link : Link) (slot : Option Blocked) : Type 0 where
   pub here : (block : Blocked) → slot ≡ Some block → IsHere pass place block
   pub at : IsAt pass place link slot
 
 -- an item was taken in where the block is in its slot: it was settled; and where it is away: nothing was published,
 -- what waits was offered, and the same mark is due
-abbrev pub IsFed : ℕ → Linked → Linked → Held Blocked → Held Blocked → Option Blocked → Option Blocked → Type 0
+abbrev pub IsFed : ℕ → Link → Link → Held Blocked → Held Blocked → Option Blocked → Option Blocked → Type 0
 IsFed place link link' pass pass' (Some block) slot' = IsSettled place link' pass pass' slot'
 IsFed place link link' pass pass' None slot' =
     (pass' ≡ pass) × (slot' ≡ None) × (due_mark link' ≡ due_mark link) × WaitsFull link'
@@ -67,7 +67,7 @@ pub record PassTurns (place : ℕ) (pass pass' : Held Blocked) : Type 0 where
   pub kept : (q : ℕ) → q ≢ place → marked mark_in q pass'.kept ≡ marked mark_in q pass.kept
 
 -- the home after a step at one place
-abbrev pub turned : Homed → ℕ → Option Blocked → Linked → Held Blocked → Bool → Homed
+abbrev pub turned : Homed → ℕ → Option Blocked → Link → Held Blocked → Bool → Homed
 turned h place slot link pass refused = record h {
   pass = pass;
   blocks = slice_set h.blocks place slot;
@@ -76,7 +76,7 @@ turned h place slot link pass refused = record h {
 }
 
 -- the step is one that a home may make
-pub record Turns (h : Homed) (place : ℕ) (slot' : Option Blocked) (link link' : Linked) (pass' : Held Blocked)
+pub record Turns (h : Homed) (place : ℕ) (slot' : Option Blocked) (link link' : Link) (pass' : Held Blocked)
     (refused' : Bool) : Type 0 where
   pub there : slice_get h.links place ≡ Some link
   pub conn : conn_of link' ≡ conn_of link

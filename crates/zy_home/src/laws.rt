@@ -8,7 +8,7 @@ ghost use Rattle.zy_rx.specs.Flow.{home_of};
 ghost use Rattle.zy_rx.specs.Session.{Sessions, sessions_of, streams_of};
 ghost use Rattle.zy_conn.specs.Kept.{Kept};
 ghost use Rattle.zy_conn.specs.Block.{Blocked};
-ghost use Rattle.zy_home.specs.Link.{Linked, LinkStands, ends_from};
+ghost use Rattle.zy_home.specs.Link.{Link, LinkStands, ends_from};
 ghost use Rattle.zy_home.specs.Idle.{IsIdle, due_mark, mark_in};
 ghost use Rattle.zy_home.specs.Finish.{ConnEnd, commands_received, cut_at, outputs_from};
 ghost use Rattle.zy_home.specs.Own.{own_conns};
@@ -19,7 +19,7 @@ ghost use Rattle.zy_home.specs.Settled.{AreFinished};
 /// A connection whose block is idle has finished what it received: each call due was made in order,
 /// its output has the text of each command, and its sessions end behind their commands.
 pub fn an_idle_connection_is_finished()
-    ensures value { (block : Blocked) (l : Linked) (s : Sessions) → Kept block.work
+    ensures value { (block : Blocked) (l : Link) (s : Sessions) → Kept block.work
         → IsIdle block.work l → mark_in block ≡ due_mark l → LinkStands l s
         → ConnEnd block.work.table.slots block.work.calls s l.output l.ends }
 {}

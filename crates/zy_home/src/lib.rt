@@ -4,8 +4,7 @@
 mod blocks;
 mod ends;
 mod home;
-mod inlets;
-pub mod laws;
+mod laws;
 mod link;
 mod own;
 mod parts;
@@ -14,6 +13,9 @@ mod place;
 pub use blocks::Blocks;
 pub use ends::Ends;
 pub use home::Home;
-pub use inlets::Inlets;
+pub use laws::{
+    a_settled_home_is_finished, an_idle_connection_is_finished, own_connections_come_in_turn,
+    texts_are_cut_at_the_ends_of_sessions,
+};
 pub use own::Own;
-pub use parts::HomeParts;
+pub use parts::{HomeParts, Inlets};

@@ -32,9 +32,9 @@ pub struct Link {
 
 impl Model for Link {
     ghost use Rattle.std.specs.Prelude.{◌++◌, option_to_list};
-    ghost use Rattle.zy_home.specs.Link.{Linked};
+    ghost use Rattle.zy_home.specs.Link.{Link};
 
-    ghost Value = { Linked };
+    ghost Value = { Link };
 
     ghost view = { λ l. record {
       inlet = l.inlet;
@@ -178,7 +178,7 @@ fn next_waiting(front: &mut Option<Frame>, waiting: &mut Frames) -> Option<Frame
 {
     match mem::replace(front, None) {
         Some(frame) => Some(frame),
-        None => waiting.pop(),
+        None => waiting.next(),
     }
 }
 

@@ -1,8 +1,11 @@
 //! What a home is made of.
 use crate::blocks::Blocks;
-use crate::inlets::Inlets;
-use zy_conn::Block;
+use zy_base::Queue;
+use zy_conn::{Block, EventInlet};
 use zy_shuffle::HomePass;
+
+/// Ends of event rings.
+pub type Inlets = Queue<EventInlet>;
 
 /// What a home is made of: its pass on its ring, the blocks of its connections by rising number, and
 /// their inlets in the same order.

@@ -1,6 +1,6 @@
 //! The steps at one place of a home: what is done with a block, its link and the pass.
 ghost use Rattle.std.specs.Prelude.{◌≡◌, ◌≢◌, ◌<◌, ◌^◌, ℕ, OnOk, OnErr, IfSome, IfNone, Some, slice_get};
-ghost use Rattle.zy_home.specs.Link.{Linked, SameLink, StandsOn, TakesIn, IsFor, conn_of};
+ghost use Rattle.zy_home.specs.Link.{Link, SameLink, StandsOn, TakesIn, IsFor, conn_of};
 ghost use Rattle.zy_home.specs.Own.{IsRising, item_conn};
 ghost use Rattle.zy_home.specs.Home.{conns_in};
 ghost use Rattle.zy_home.specs.Turn.{IsDue, IsSettled, IsPutBack, IsPlace, IsFed, IsUnfed};
@@ -26,8 +26,8 @@ pub(crate) fn conn_in(item: &Rx) -> Option<u32>
 // The place of a connection, by halves of what is left.
 pub(crate) fn place_of(links: &[Link], conn: u32) -> Option<usize>
     requires rising { IsRising (conns_in links.now) }
-    ensures some { IfSome result (λ at. (l : Linked) × (slice_get links.now at ≡ Some l) × (conn_of l ≡ conn)) }
-    ensures none { IfNone result ((at : ℕ) (l : Linked) → slice_get links.now at ≡ Some l → conn_of l ≢ conn) }
+    ensures some { IfSome result (λ at. (l : Link) × (slice_get links.now at ≡ Some l) × (conn_of l ≡ conn)) }
+    ensures none { IfNone result ((at : ℕ) (l : Link) → slice_get links.now at ≡ Some l → conn_of l ≢ conn) }
 {
     let mut low = 0;
     let mut high = links.len();

@@ -1,5 +1,5 @@
 //! The end of a ring that items are taken from, and both ends together.
-ghost use Rattle.std.specs.Prelude.{◌≡◌, ◌+◌, ◌<◌, ◌≤◌, [], ◌∷◌, ◌++◌, length, nat_lt, IfSome, IfNone, IsSome, IfOk};
+ghost use Rattle.std.specs.Prelude.{◌≡◌, ◌+◌, ◌<◌, ◌≤◌, [], ◌∷◌, ◌++◌, ◌↔◌, length, IsTrue, IfSome, IfNone, IsSome, IfOk};
 ghost use Rattle.zy_rx.specs.Ring.{IsFirstKnown, HasAllFree, offering, taking};
 
 use crate::inlet::RingInlet;
@@ -44,19 +44,19 @@ impl<T> RingOutlet<T> {
         }
     }
 
-    /// Whether this end knows an item, without a look.
-    pub fn knows(&self) -> bool
-        ensures value { result ≡ nat_lt 0 (length self.now.known) }
+    /// The number of items that this end knows, without a look.
+    pub fn known(&self) -> usize
+        ensures value { result ≡ length self.now.known }
     {
-        self.consumer.cached_slots() > 0
+        self.consumer.cached_slots()
     }
 
-    /// Looks for items, and says whether this end then knows one.
-    pub fn look(&mut self) -> bool
-        ensures value { result ≡ nat_lt 0 (length self.new.known) }
+    /// Looks for items, and says whether this end then knows none.
+    pub fn is_empty(&mut self) -> bool
+        ensures value { IsTrue result ↔ (length self.new.known ≡ 0) }
         ensures outlet { self.new ≡ record self.old { known = self.new.known } }
     {
-        self.consumer.slots() > 0
+        self.consumer.is_empty()
     }
 
     /// The next item, which this end knows.

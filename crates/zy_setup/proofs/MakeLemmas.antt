@@ -100,7 +100,7 @@ module _ (shared : Sharing) (homes : List Homed) where
         inlets = λ i d at. ap (λ l. slice_get l d.core) has.rings ∙ ap (slice_get (rings_in (identities m.cores))) (numbers i d at) ∙ map_at (λ (x : Identity). x.ring) (identities m.cores) i d at;
         same = sym (append-nil (stations_in (identities m.cores))) ∙ has.same;
         rings = has.rings;
-        unsent = λ i sent at. let o = of_map (λ (x : Offering). x.sent) m.inlets.items i sent at in sym o.2 ∙ ap (λ (x : Offering). x.sent) (has.fresh i o.0 o.1);
+        unsent = λ i sent at. let o = of_map (λ (x : Offering). x.sent) m.inlets.items i sent at in sym o.2 ∙ ap (λ (x : Offering). x.sent) (has.fresh i o.0 o.1).unused;
         fresh = has.fresh;
         count = n;
       }

@@ -14,7 +14,7 @@ use Rattle.zy_table.specs.Name.{name_of}
 use Rattle.zy_table.proofs.MemberLemmas.{not_in}
 use Rattle.zy_table.proofs.SliceLemmas.{get_at, get_set_else, get_set_same}
 use Rattle.zy_rx.specs.Flow.{home_of}
-use Rattle.zy_conn.specs.Ring.{Sending}
+use Rattle.zy_conn.specs.Ring.{EventInlet}
 use Rattle.zy_conn.specs.Block.{Blocked}
 use Rattle.zy_home.specs.Own.{own_conns}
 use Rattle.zy_home.specs.Parts.{IsNew, IsUnused, conns_of_blocks, rings_of_blocks, rings_of_inlets}
@@ -54,13 +54,13 @@ places_few store core cores count own is =
 
 module _ (store : TableId) (core cores conn : ℕ) (own : Own) (is : IsOwnOf store core cores conn own) where
   -- a connection of the core is added
-  own_added : (own' : Own) (block : Blocked) (inlet : Sending) → home_of cores conn ≡ core → IsConnection store conn block inlet → HasOneMore block inlet own own' → IsOwnOf store core cores (conn + 1) own'
+  own_added : (own' : Own) (block : Blocked) (inlet : EventInlet) → home_of cores conn ≡ core → IsConnection store conn block inlet → HasOneMore block inlet own own' → IsOwnOf store core cores (conn + 1) own'
   own_added own' block inlet here new more = record {
     places_are = (let places = is.places_are in let one = more.places_are in let size = ap (λ (l : List Blocked). length l) more.blocks_are in let long = length-append own.blocks (block ∷ []) in omega arith);
     conns = ap conns_of_blocks more.blocks_are ∙ map-append (λ (b : Blocked). b.work.conn) own.blocks (block ∷ [])
         ∙ (λ i. is.conns i ++ new.conn_is i ∷ []) ∙ sym (own-here core cores conn here);
     new = subst (AllByRecursion (IsNew (name_of store))) (sym more.blocks_are) (all_append (IsNew (name_of store)) own.blocks (block ∷ []) is.new (new.new, tt));
-    rings = ap rings_of_inlets more.inlets_are ∙ map-append (λ (x : Sending). x.ring) own.inlets (inlet ∷ [])
+    rings = ap rings_of_inlets more.inlets_are ∙ map-append (λ (x : EventInlet). x.ring) own.inlets (inlet ∷ [])
         ∙ (λ i. is.rings i ++ new.ring_is i ∷ [])
         ∙ sym (ap rings_of_blocks more.blocks_are ∙ map-append (λ (b : Blocked). b.work.ring) own.blocks (block ∷ []));
     unused = subst (AllByRecursion IsUnused) (sym more.inlets_are) (all_append IsUnused own.inlets (inlet ∷ []) is.unused (new.unused, tt));
@@ -94,7 +94,7 @@ module _ (store : TableId) (cores conn : ℕ) (owns : List Own) (are : AreOwns s
   pub own_room : conn < 4096 → own.places < 4096
   own_room below = let few = places_few store core cores conn own own_at_core in omega arith
 
-  pub owns_next : (own' : Own) (block : Blocked) (inlet : Sending) → IsConnection store conn block inlet → HasOneMore block inlet own own' → AreOwns store cores (conn + 1) (set owns core own')
+  pub owns_next : (own' : Own) (block : Blocked) (inlet : EventInlet) → IsConnection store conn block inlet → HasOneMore block inlet own own' → AreOwns store cores (conn + 1) (set owns core own')
   owns_next own' block inlet new more = record {
     count = length-set owns core own' ∙ are.count;
     each = λ k x at. dite (ℕ_discrete k core)

@@ -7,7 +7,7 @@ use Rattle.zy_table.specs.Name.{name_of}
 use Rattle.zy_shuffle.specs.Pass.{Held, Ringed}
 use Rattle.zy_steal.specs.Order.{other_core}
 use Rattle.zy_steal.specs.Steal.{PassList, pass_list, AreIdle, seats_of}
-use Rattle.zy_conn.specs.Ring.{Sending}
+use Rattle.zy_conn.specs.Ring.{EventInlet}
 use Rattle.zy_conn.specs.Block.{Blocked}
 use Rattle.zy_home.specs.Own.{own_conns}
 use Rattle.zy_home.specs.Parts.{IsNew, IsUnused, conns_of_blocks, rings_of_blocks, rings_of_inlets}
@@ -25,14 +25,14 @@ pub record IsEmpty (own : Own) : Type 0 where
   pub inlets_are : own.inlets ≡ []
 
 -- a block with its inlet, of a new connection of this store
-pub record IsConnection (store : TableId) (conn : ℕ) (block : Blocked) (inlet : Sending) : Type 0 where
+pub record IsConnection (store : TableId) (conn : ℕ) (block : Blocked) (inlet : EventInlet) : Type 0 where
   pub conn_is : block.work.conn ≡ conn
   pub new : IsNew (name_of store) block
   pub ring_is : inlet.ring ≡ block.work.ring
   pub unused : IsUnused inlet
 
 -- one connection more
-pub record HasOneMore (block : Blocked) (inlet : Sending) (own own' : Own) : Type 0 where
+pub record HasOneMore (block : Blocked) (inlet : EventInlet) (own own' : Own) : Type 0 where
   pub places_are : own'.places ≡ own.places + 1
   pub blocks_are : own'.blocks ≡ own.blocks ++ block ∷ []
   pub inlets_are : own'.inlets ≡ own.inlets ++ inlet ∷ []

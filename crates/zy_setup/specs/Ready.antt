@@ -39,8 +39,9 @@ pub record AreReady (rings : List Ringed) (store : Stored) (homes : List Homed)
       → AreNewPasses rings (name_of store.id) core p
 
 -- nothing was offered to a receive ring of 256 slots, and all of them are free
-abbrev pub IsFresh : Offering → Type 0
-IsFresh inlet = inlet ≡ offering inlet.ring [] 256 256
+pub record IsFresh (inlet : Offering) : Type 0 where
+  pub unused : inlet ≡ offering inlet.ring [] 256
+  pub slots : inlet.ring.capacity ≡ 256
 
 -- the same of the receive ring of each core
 abbrev pub AreFresh : List Offering → Type 0

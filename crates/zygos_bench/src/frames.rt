@@ -97,7 +97,7 @@ fn feed_pieces(
 fn drained(frames: &mut Frames) -> u64 {
     let mut count = 0u64;
     for _ in 0..frames.len() {
-        if let Some(frame) = frames.pop() {
+        if let Some(frame) = frames.next() {
             drop(frame);
             count = count.wrapping_add(1);
         }

@@ -53,8 +53,8 @@ impl Reads for Reader {
         }
     }
 
-    #[tactic(auto, using(crate::proofs::RunLemmas::run_fed, zy_read::proofs::Feeding::fed_none))]
     // Takes bytes of a segment, but not its last one; or what one begins with.
+    #[tactic(auto, using(crate::proofs::RunLemmas::run_fed, zy_read::proofs::Feeding::fed_none))]
     fn take_run(&mut self, bytes: &[u8], at: usize) -> usize {
         match self.due {
             Due::Payload { conn, length } if self.at < CAPTURE_LIMIT => {
@@ -86,6 +86,7 @@ impl Reader {
         requires room { self.old.at + length bytes.now ≤ capture_limit }
         ensures value { self.new ≡ grown_by self.old bytes.now }
     {
+        // There is room: it was taken at the end of the length.
         let _ = self.payload.extend_from_slice(bytes);
         self.at += bytes.len() as u64;
     }

@@ -53,8 +53,8 @@ impl Reads for RepliesReader {
         }
     }
 
-    #[tactic(auto, using(crate::proofs::RepliesRunLemmas::run_fed, zy_read::proofs::Feeding::fed_none))]
     // Takes bytes of an output, but not its last one; where memory is wanted for them, none.
+    #[tactic(auto, using(crate::proofs::RepliesRunLemmas::run_fed, zy_read::proofs::Feeding::fed_none))]
     fn take_run(&mut self, bytes: &[u8], at: usize) -> usize {
         match self.due {
             RepliesDue::Output {

@@ -37,7 +37,7 @@ impl Work {
             return Some(HoldEnd::Spent);
         }
         gate.pass(core, self.pass.conn(), index);
-        let frame = self.frames.pop_known();
+        let frame = self.frames.take_known();
         self.begun.put(Begun::Raw(frame));
         None
     }

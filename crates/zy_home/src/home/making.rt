@@ -5,9 +5,8 @@ ghost use Rattle.zy_home.specs.Home.{HomeStands, IsMade};
 
 use super::Home;
 use crate::blocks::Blocks;
-use crate::inlets::Inlets;
 use crate::link::Link;
-use crate::parts::HomeParts;
+use crate::parts::{HomeParts, Inlets};
 use std::alloc::Global;
 use zy_base::NoMemory;
 use zy_conn::Block;

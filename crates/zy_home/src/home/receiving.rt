@@ -2,7 +2,7 @@
 ghost use Rattle.std.specs.Prelude.{◌≡◌, ◌<◌, ◌^◌, ◌||◌, List, [], ◌∷◌, ◌++◌, true, false, Ok, OnOk, OnErr, is_err, Some, slice_get, length};
 ghost use Rattle.zy_rx.specs.declared.rx.Rx.{Rx};
 ghost use Rattle.zy_rx.specs.Session.{sessions_of};
-ghost use Rattle.zy_home.specs.Link.{Linked, IsFor, conn_of};
+ghost use Rattle.zy_home.specs.Link.{Link, IsFor, conn_of};
 ghost use Rattle.zy_home.specs.Own.{IsOfOthers, is_end};
 ghost use Rattle.zy_home.specs.Home.{HomeStands, SameHome, StandsMore};
 ghost use Rattle.zy_home.specs.Place.{Forwards, SameHand, ComesTo};
@@ -81,6 +81,7 @@ impl Home {
         ensures refused { self.new.refused ≡ is_err result }
         ensures err { OnErr result (SameHand self.old self.new) }
     {
+        // The call tells the prover that the places are the slots of the ring's table, at most 4096.
         let _places = ring.places();
         let (pass, slot, link) = (&mut self.pass, &mut self.blocks[at], &mut self.links[at]);
         match feed_at(ring, pass, slot, link, at as u32, item) {

@@ -53,6 +53,7 @@ impl Home {
         ensures refused { self.new.refused ≡ is_err result }
         ensures err { OnErr result (StaysIn ring.now.places self.old self.new) }
     {
+        // The call tells the prover that the places are the slots of the ring's table, at most 4096.
         let _places = ring.places();
         let Some((place, block)) = ring.collect(&mut self.pass) else {
             return Ok(false);
@@ -83,6 +84,7 @@ impl Home {
         ensures refused { self.new.refused ≡ is_err result }
         ensures err { OnErr result (StaysIn ring.now.places self.old self.new) }
     {
+        // The call tells the prover that the places are the slots of the ring's table, at most 4096.
         let _places = ring.places();
         match ring.claim_home(&mut self.pass) {
             Claim::Took { place, mut block } => match block.hold(store, gate, self.core) {

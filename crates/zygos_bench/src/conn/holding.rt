@@ -87,7 +87,7 @@ fn offer(alloc: Global, inlet: &mut EventInlet, first: u64, size: u64) -> Result
 
 // Offers all frames.
 fn offer_all(inlet: &mut EventInlet, frames: &mut Frames) -> Result<(), NoMemory> {
-    while let Some(frame) = frames.pop() {
+    while let Some(frame) = frames.next() {
         if let Some(frame) = inlet.offer(frame) {
             drop(frame);
             return Err(NoMemory);

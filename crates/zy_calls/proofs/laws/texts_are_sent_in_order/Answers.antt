@@ -1,11 +1,11 @@
 use Rattle.std.proofs.Common.{◌≡◌, ℕ, List, [], ◌∷◌, ◌++◌, ap, sym, ◌∙◌, append_assoc}
 use Rattle.std.specs.List.{concat}
 use Rattle.std.proofs.lemmas.List.{append-nil}
-use Rattle.zy_calls.specs.Batch.{Sends}
-use Rattle.zy_calls.specs.Output.{Sent, nothing_sent, with_batch, with_batches, texts_sent}
+use Rattle.zy_calls.specs.Batch.{Batch}
+use Rattle.zy_calls.specs.Output.{Output, nothing_sent, with_batch, with_batches, texts_sent}
 use Rattle.zy_calls.proofs.laws.texts_are_sent_in_order.Goals as goal
 
-sent : (output : Sent) (batches : List Sends) → (with_batches output batches).texts ≡ output.texts ++ texts_sent batches
+sent : (output : Output) (batches : List Batch) → (with_batches output batches).texts ≡ output.texts ++ texts_sent batches
 sent output [] = sym (append-nil output.texts)
 sent output (batch ∷ batches) = sent (with_batch output batch) batches ∙ append_assoc output.texts batch.texts (texts_sent batches)
 

@@ -1,6 +1,6 @@
 use Rattle.std.proofs.Common.{List, sym, subst}
 use Rattle.zy_base.specs.declared.call_reply.CallReply.{CallReply}
-use Rattle.zy_check.specs.Answering.{IsKept}
+use Rattle.zy_check.specs.Begun.{IsKept}
 use Rattle.zy_check.proofs.AskedLemmas.{kept_more}
 use Rattle.zy_check.proofs.begun.Begun.answer.Goals as goal
 use Rattle.zy_check.proofs.begun.Begun.answer.Goals.{in-Ok, in-Err}

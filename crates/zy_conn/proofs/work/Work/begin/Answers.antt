@@ -1,5 +1,6 @@
 use Rattle.std.proofs.Common.{◌++◌, ◌∷◌, [], List, ap, ◌∙◌}
 use Rattle.zy_frame.specs.declared.frame_kind.FrameKind.{FrameKind}
+use Rattle.zy_rx.specs.Ring.{RingOutlet}
 use Rattle.zy_conn.specs.Work.{start_of}
 use Rattle.zy_conn.proofs.StepLemmas.{kept_begins_as, goes_begins_as}
 use Rattle.zy_conn.proofs.work.Work.begin.Goals as goal
@@ -7,11 +8,13 @@ use Rattle.zy_conn.proofs.work.Work.begin.Goals as goal
 pub invariant_of-self-2 : goal.invariant_of-self-2
 invariant_of-self-2 g c =
     kept_begins_as _ _ _ _ _ _ _ _ _ _ _ _ _ c.self.invariant (ap (λ b. start_of c.self.inside.pass.table.slots b c.self.inside.replies.items) c.in-Nothing.is) (λ e. c.if-index-eq-MOST.false (c.finished-index.ensures.value ∙ e))
-    (cc) (c.pop_known-frame.ensures.received.0 ∙ ap (λ (l : List FrameKind). l ++ c.pop_known-frame.result ∷ []) c.if-is_empty.ensures.looked.1)
+    (c.take_known-frame.ensures.kept ∙ ap (λ (o : RingOutlet FrameKind). o.ring) c.if-is_empty.ensures.outlet)
+    (c.take_known-frame.ensures.taken ∙ ap (λ (o : RingOutlet FrameKind). o.taken ++ c.take_known-frame.result ∷ []) c.if-is_empty.ensures.outlet)
     (ap (λ b. start_of c.self.inside.pass.table.slots b c.self.inside.replies.items) c.put.ensures.value)
 
 pub returns-clause-goes : goal.returns-clause-goes
 returns-clause-goes g c =
     rw (← c.self.view_is)
     (goes_begins_as _ _ _ _ _ _ _ _ _ _ _ _ _ c.self.invariant (ap (λ b. start_of c.self.inside.pass.table.slots b c.self.inside.replies.items) c.in-Nothing.is)
-    (cc) (c.pop_known-frame.ensures.received.0 ∙ ap (λ (l : List FrameKind). l ++ c.pop_known-frame.result ∷ []) c.if-is_empty.ensures.looked.1))
+    (c.take_known-frame.ensures.kept ∙ ap (λ (o : RingOutlet FrameKind). o.ring) c.if-is_empty.ensures.outlet)
+    (c.take_known-frame.ensures.taken ∙ ap (λ (o : RingOutlet FrameKind). o.taken ++ c.take_known-frame.result ∷ []) c.if-is_empty.ensures.outlet))

@@ -1,5 +1,11 @@
+use Rattle.std.proofs.Common.{sym, ap, ◌∙◌}
+use Rattle.zy_frame.specs.declared.frame_kind.FrameKind.{FrameKind}
+use Rattle.zy_rx.specs.Ring.{RingName, RingOutlet}
 use Rattle.zy_conn.proofs.KeptLemmas.{kept_new_as}
 use Rattle.zy_conn.proofs.work.Work.new.Goals as goal
 
 pub invariant_of-result : goal.invariant_of-result
-invariant_of-result c = kept_new_as c.args.pass _ _ _ c.new-in-Ok-2.result c.requires.empty c.in-Ok.ensures.consumer.0 c.new-in-Ok-2.ensures.value
+invariant_of-result c =
+    kept_new_as c.args.pass _ _ _ c.new-in-Ok.result
+    (sym (ap (λ (r : RingName). r.capacity) c.in-Ok.ensures.ok) ∙ c.in-Ok.ensures.capacity) c.requires.empty
+    (ap (λ (o : RingOutlet FrameKind). o.taken) c.in-Ok.ensures.outlet) c.new-in-Ok.ensures.value

@@ -1,5 +1,5 @@
 use Rattle.std.proofs.Common.{◌≡◌, ◌+◌, ◌≤◌, ◌++◌, List, length, map, Some, vec_len, vec_capacity}
-use Rattle.zy_conn.specs.Ring.{Sending}
+use Rattle.zy_conn.specs.Ring.{EventInlet}
 use Rattle.zy_conn.specs.Block.{Blocked}
 use Rattle.zy_home.specs.Parts.{AreFresh, rings_of_blocks, rings_of_inlets}
 use Rattle.zy_home.proofs.home.making.fill.Given as goal
@@ -8,7 +8,7 @@ use Rattle.zy_home.proofs.home.making.fill.Given as goal
 abbrev pub invariant-loop-block : goal.invariant-loop-block
 invariant-loop-block l = record {
   done : List Blocked;
-  used : List Sending;
+  used : List EventInlet;
   blocks : done ++ l.blocks ≡ l.fn.blocks;
   inlets : used ++ l.inlets ≡ l.fn.inlets;
   rings : rings_of_inlets l.inlets ≡ rings_of_blocks l.blocks;

@@ -1,9 +1,9 @@
 use Rattle.std.proofs.Common.{List, sym, ap, ◌∙◌, subst}
 use Rattle.zy_frame.specs.declared.frame_kind.FrameKind.{FrameKind}
-use Rattle.zy_calls.specs.Output.{Sent}
-use Rattle.zy_conn.specs.Ring.{Sending}
+use Rattle.zy_calls.specs.Output.{Output}
+use Rattle.zy_conn.specs.Ring.{EventInlet}
 use Rattle.zy_conn.specs.Block.{Blocked}
-use Rattle.zy_home.specs.Link.{Linked}
+use Rattle.zy_home.specs.Link.{Link}
 use Rattle.zy_home.specs.Offer.{IsFilled}
 use Rattle.zy_home.proofs.IdleLemmas.{settled_idle}
 use Rattle.zy_home.proofs.link.Link.settle.Goals as goal
@@ -13,9 +13,9 @@ returns-clause-idle c none =
     let b0 = c.take_batch.ensures.block in
     let b1 = c.meet.ensures.block in
     let b2 = c.meet-2.ensures.block in
-    let carried = ap (λ (o : Sent). o.finished) c.in-Ok.ensures.ok in
-    let kept = ap (λ (o : Sent). o.finished) c.offer_waiting.ensures.same.1 in
-    let seen = ap (λ (l : Linked). l.output.finished) c.self-2.view_is in
+    let carried = ap (λ (o : Output). o.finished) c.in-Ok.ensures.ok in
+    let kept = ap (λ (o : Output). o.finished) c.offer_waiting.ensures.same.1 in
+    let seen = ap (λ (l : Link). l.output.finished) c.self-2.view_is in
     let finished = ap (λ (b : Blocked). b.work.finished) b2 ∙ ap (λ (b : Blocked). b.work.finished) b1 ∙ ap (λ (b : Blocked). b.work.finished) b0 in
     settled_idle c.meet-2.new.self.work _ c.meet.new.inlet c.offer_waiting.new.self.inlet c.meet.new.self.work.taken
     (sym c.has_event.ensures.value ∙ none)
@@ -23,6 +23,6 @@ returns-clause-idle c none =
     (ap (λ (b : Blocked). b.work.taken) b2)
     (seen ∙ kept ∙ carried ∙ c.take_batch.ensures.batch.1 ∙ sym finished)
     c.meet-2.ensures.all
-    (sym (ap (λ (l : Linked). l.inlet.sent) c.self-2.view_is) ∙ sym (ap (λ (i : Sending). i.sent) c.meet-2.ensures.inlet))
+    (sym (ap (λ (l : Link). l.inlet.sent) c.self-2.view_is) ∙ sym (ap (λ (i : EventInlet). i.sent) c.meet-2.ensures.inlet))
     c.meet.ensures.room
-    (subst (λ (w : List FrameKind). IsFilled c.meet.new.inlet c.offer_waiting.new.self.inlet w) (sym (ap (λ (l : Linked). l.waiting) c.self-2.view_is)) c.offer_waiting.ensures.filled)
+    (subst (λ (w : List FrameKind). IsFilled c.meet.new.inlet c.offer_waiting.new.self.inlet w) (sym (ap (λ (l : Link). l.waiting) c.self-2.view_is)) c.offer_waiting.ensures.filled)

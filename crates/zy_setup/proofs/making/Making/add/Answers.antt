@@ -16,6 +16,6 @@ returns c = record {
         (fits_new c.args.shared.now _ c.args.home c.new.result c.args.passes c.in-Ok.ends.1 c.in-Ok-seat.pass c.requires.home c.requires.passes
         (ap (λ p. p.table) c.in-Ok-seat.ensures.value ∙ ap (λ r. r.table) c.requires.root));
     ring = ap (λ (x : Cored). x.outlet.ring) c.new-core.ensures.value ∙ sym c.in-Ok.ensures.ok;
-    fresh = c.in-Ok.ensures.inlet;
+    fresh = record { unused = c.in-Ok.ensures.inlet; slots = c.in-Ok.ensures.capacity };
   };
 }

@@ -7,13 +7,13 @@ use Rattle.mc_parse.specs.Calls.{calls_of}
 use Rattle.mc_reply.specs.Answers.{AnswerEach}
 
 -- a command on so many shards, and the replies to its first calls
-pub record Answering : Type 0 where
+pub record Begun : Type 0 where
   pub command : Command
   pub shards : ℕ
   pub replies : List CallReply
 
 -- its calls
-abbrev pub asked_in : Answering → List ShardCall
+abbrev pub asked_in : Begun → List ShardCall
 asked_in a = calls_of a.shards a.command
 
 -- a command with its calls, and replies of the kinds that the first of them may get
