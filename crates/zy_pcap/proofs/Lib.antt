@@ -2,11 +2,14 @@ mod ChunkLemmas
 mod CoverLemmas
 mod FlowLemmas
 mod FrontLemmas
+mod HeldLemmas
 mod KeptLemmas
 mod MeetLemmas
 mod PairLemmas
 mod PieceLemmas
 mod ReadLemmas
+mod RunLemmas
 mod SessionLemmas
 mod SlotLemmas
 mod StreamLemmas
+mod TextLemmas

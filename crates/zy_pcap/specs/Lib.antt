@@ -12,4 +12,5 @@ pub mod Standing
 pub mod Step
 pub mod Steps
 pub mod Streams
+pub mod Texts
 pub mod Worked

@@ -18,9 +18,11 @@ mod reader;
 mod records;
 mod slot;
 mod word;
+mod writing;
 
 pub use fed::Fed;
 pub use flows::Flows;
 pub use laws::{the_worked_faults_are_told, the_worked_file_makes_its_capture};
 pub use pcap_fault::{PcapFault, PcapFeed};
 pub use reader::PcapReader;
+pub use writing::write_flows;
