@@ -96,6 +96,12 @@ next_added front old new bytes from next some both at =
           ∙ ap (λ (b : Option ℕ). first_of b (covered bytes from at)) (sym (out_of_row was at out))
     ]
 
+pub next_as : (front : List ℕ) (old new : List (ℕ × Chunk)) (bytes more : List ℕ) (from have : ℕ) → have ≡ length front → from ≤ length front → length front < from + length bytes → more ≡ drop (have - from) bytes
+    → HoldsBoth (held_in old) (held_in new) (covered more have)
+    → HoldsBoth (byte_held (record { front = front; chunks = old })) (byte_held (record { front = front; chunks = new })) (covered bytes from)
+next_as front old new bytes more from have size next some is both =
+    next_added front old new bytes from next some (λ at. both at ∙ ap (λ (l : List ℕ). first_of (held_in old at) (covered l have at)) is ∙ ap (λ (n : ℕ). first_of (held_in old at) (covered (drop (n - from) bytes) n at)) size)
+
 -- all bytes went to chunks
 pub apart_added : (front : List ℕ) (old new : List (ℕ × Chunk)) (bytes : List ℕ) (from : ℕ) → HoldsBoth (held_in old) (held_in new) (covered bytes from)
     → HoldsBoth (byte_held (record { front = front; chunks = old })) (byte_held (record { front = front; chunks = new })) (covered bytes from)

@@ -116,6 +116,10 @@ capture_is flows =
     ∙ ap (λ (l : List ℕ). magic 2 ++ to_be_bytes w32 (length flows) ++ l ++ 69 ∷ []) (records_are 0 flows)
     ∙ ap (λ (n : ℕ). magic 2 ++ to_be_bytes w32 n ++ records ++ 69 ∷ []) (sym (streams_length flows))
 
+pub capture_written : (flows : List (Option KeptFlow)) (streams : List (List (List ℕ))) (count : ℕ) → kept_streams flows ≡ streams → count ≡ length streams → start_text count ++ (numbered_from kept_connection 0 flows ++ 69 ∷ []) ≡ capture_of streams
+capture_written flows streams count are is =
+    ap (λ (n : ℕ). start_text n ++ (numbered_from kept_connection 0 flows ++ 69 ∷ [])) (is ∙ ap length (sym are) ∙ streams_length flows) ∙ capture_is flows ∙ ap capture_of are
+
 -- ---- a stream, segment after segment
 
 -- what is left of a stream from an offset on

@@ -34,7 +34,7 @@ returns-then-size-eq0 g c =
     }
 
 pub write_segment-requires-clause-there : goal.write_segment-requires-clause-there
-write_segment-requires-clause-there g c = λ κs within.
+write_segment-requires-clause-there g c =
     subst (λ (k : ℕ). length (longest_from (byte_held c.args.stream.now) c.loop-at.at k) ≡ k) (sym c.run_size-size.ensures.value) (ap length (self_from (byte_held c.args.stream.now) c.loop-at.at c.min.result))
 
 pub returns-in-Err : goal.returns-in-Err

@@ -7,8 +7,8 @@ use Rattle.zy_pcap.proofs.kept_stream.KeptStream.absorb_part.Goals as goal
 pub returns : goal.returns
 returns c =
     let grew : c.extend_from_slice.new.self.items ≡ c.self.inside.front.items ++ c.part-part.result.now = grind arith in
-    let place : c.len-at.result ≡ length c.self.inside.front.items = c.len-at.ensures in
-    let end : c.len-end.result ≡ length c.self.inside.front.items + length c.part-part.result.now = c.len-end.ensures ∙ ap length grew ∙ length-append c.self.inside.front.items c.part-part.result.now in
+    let place : c.len-at.result ≡ length c.self.inside.front.items = omega arith in
+    let end : c.len-end.result ≡ length c.self.inside.front.items + length c.part-part.result.now = omega (arith, ap length grew, length-append c.self.inside.front.items c.part-part.result.now) in
     let new : Held = record { front = c.extend_from_slice.new.self.items; chunks = c.forget.new.self.chunks.entries } in
     record {
       same = subst (λ (h : Held). HoldsSame (byte_held h) (byte_held new)) c.self.view_is

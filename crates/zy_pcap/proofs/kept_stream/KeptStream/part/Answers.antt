@@ -8,7 +8,7 @@ use Rattle.zy_pcap.proofs.kept_stream.KeptStream.part.Goals as goal
 pub returns-then-at-len-clause-there : goal.returns-then-at-len-clause-there
 returns-then-at-len-clause-there c =
     let front : List ℕ = c.self.inside.front.items in
-    let rest : take (length c.deref.result.now - c.args.at) (drop c.args.at c.deref.result.now) ≡ drop c.args.at front = take_rest c.deref.result.now c.args.at ∙ ap (drop c.args.at) c.deref.ensures in
+    let rest : take (length c.deref.result.now - c.args.at) (drop c.args.at c.deref.result.now) ≡ drop c.args.at front = take_rest c.deref.result.now c.args.at ∙ ap (drop c.args.at) c.deref.ensures.value in
     subst (λ (h : Held). AreThere (byte_held h) c.args.at (take (length c.deref.result.now - c.args.at) (drop c.args.at c.deref.result.now))) c.self.view_is
     (subst (λ (l : List ℕ). AreThere (byte_held (record { front = front; chunks = c.self.inside.rest.chunks.entries })) c.args.at l) (sym rest) (row_there front c.self.inside.rest.chunks.entries c.args.at))
 
