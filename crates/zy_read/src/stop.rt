@@ -1,4 +1,8 @@
 //! Why a text of a source is read no further.
+ghost use Rattle.std.specs.Prelude.{◌≡◌};
+ghost use Rattle.zy_read.specs.declared.stop.Stop.TheVariants as Stops;
+
+use zy_base::NoMemory;
 
 /// Why a text of a source is read no further, where texts have faults of this type.
 #[derive(Clone, Copy, PartialEq, Eq)]
@@ -9,4 +13,12 @@ pub enum Stop<F> {
     ReadFault,
     /// Memory was wanted and not found.
     NoMemory,
+}
+
+impl<F> From<NoMemory> for Stop<F> {
+    ghost from_gives = { λ _ stop. stop ≡ Stops.NoMemory };
+
+    fn from(_: NoMemory) -> Stop<F> {
+        Stop::NoMemory
+    }
 }

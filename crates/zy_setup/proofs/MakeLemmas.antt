@@ -21,7 +21,7 @@ use Rattle.zy_setup.proofs.ListLemmas.{map_at, of_map, map_push, length_push, le
 
 -- a core of new parts fits
 pub fits_new : (shared : Sharing) (number : ℕ) (home : Homed) (thief : Thief) (passes : PassList Blocked) (outlet : Taking) (pass : control.Held)
-    → IsNewHome shared.rings (name_of shared.store.id) number home → AreNewPasses shared.rings (name_of shared.store.id) number passes
+    → IsNewHome shared.rings (name_of shared.store.id) (length shared.rings) number home → AreNewPasses shared.rings (name_of shared.store.id) number passes
     → pass.table ≡ shared.control.id → Fits shared (identity_of (cored home thief passes outlet pass 0))
 fits_new shared number home thief passes outlet pass new own words = record {
   cores = sym new.cores_is;

@@ -14,7 +14,7 @@ use Rattle.zy_home.specs.Parts.{IsNew, IsUnused, conns_of_blocks, rings_of_block
 use Rattle.zy_home.specs.Home.{Homed}
 use Rattle.zy_setup.specs.declared.own.Own.{Own}
 use Rattle.zy_setup.specs.declared.made.Made.{Made}
-use Rattle.zy_setup.specs.Start.{IsNewHome}
+use Rattle.zy_setup.specs.Ready.{IsNewHome}
 
 -- ---- connections
 
@@ -85,8 +85,8 @@ pub record HasPasses (label : Name) (rings : List Ringed) (core : ℕ) (passes :
 pub record AreMade (store : TableId) (cores count : ℕ) (made : Made) : Type 0 where
   pub same : length made.rings ≡ length made.homes.items
   pub all : length made.passes.items ≡ cores
-  pub homes : (core : ℕ) (h : Homed) (r : Ringed) → slice_get made.homes.items core ≡ Some h
-      → slice_get made.rings core ≡ Some r
-      → IsNewHome store cores count core r h
+  pub homes : (core : ℕ) (h : Homed) → slice_get made.homes.items core ≡ Some h
+      → IsNewHome made.rings (name_of store) cores core h
+  pub counts : (core : ℕ) (h : Homed) → slice_get made.homes.items core ≡ Some h → h.count ≡ count
   pub passes : (core : ℕ) (p : PassList Blocked) → slice_get made.passes.items core ≡ Some p
       → HasPasses (name_of store) made.rings core p

@@ -39,7 +39,7 @@ pub record HasMade (shared : Sharing) (homes : List Homed) (m : Making) (left : 
   pub each : (i : ℕ) (c : Cored) → slice_get m.cores i ≡ Some c → Fits shared (identity_of c)
   pub fresh : AreFresh m.inlets.items
   pub each_home : (i core : ℕ) (h : Homed) → slice_get left i ≡ Some h → core ≡ length m.inlets.items + i
-      → IsNewHome shared.rings (name_of shared.store.id) core h
+      → IsNewHome shared.rings (name_of shared.store.id) (length shared.rings) core h
   pub each_passes : (i core : ℕ) (p : PassList Blocked) → slice_get passes i ≡ Some p
       → core ≡ length m.inlets.items + i → AreNewPasses shared.rings (name_of shared.store.id) core p
 

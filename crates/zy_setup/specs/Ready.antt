@@ -9,14 +9,15 @@ use Rattle.zy_conn.specs.Block.{Blocked}
 use Rattle.zy_home.specs.Home.{Homed, HomeStands}
 use Rattle.zy_steal.specs.Steal.{PassList, ArePasses, AreIdle, seats_of}
 
--- the home of this core, on its ring among these, with this label; it has received and published nothing
-pub record IsNewHome (rings : List Ringed) (label : Name) (core : ℕ) (h : Homed) : Type 0 where
+-- the home of this core, of this number of cores, on its ring among these, with this label; it was not refused, and has
+-- received and published nothing
+pub record IsNewHome (rings : List Ringed) (label : Name) (cores core : ℕ) (h : Homed) : Type 0 where
   pub core_is : h.core ≡ core
-  pub cores_is : h.cores ≡ length rings
+  pub cores_is : h.cores ≡ cores
   pub ring : (r : Ringed) → slice_get rings core ≡ Some r → h.pass.table ≡ r.id
   pub label_is : h.pass.label ≡ label
+  pub unpublished : h.pass.count ≡ 0
   pub live : h.refused ≡ false
-  pub fresh : h.pass.count ≡ 0
   pub stands : HomeStands h []
 
 -- the passes of this core on the rings of the others, with this label and nothing in their hands
@@ -32,7 +33,8 @@ pub record AreReady (rings : List Ringed) (store : Stored) (homes : List Homed)
   pub few : length rings ≤ 64
   pub homes_are : length homes ≡ length rings
   pub passes_are : length passes ≡ length rings
-  pub each_home : (core : ℕ) (h : Homed) → slice_get homes core ≡ Some h → IsNewHome rings (name_of store.id) core h
+  pub each_home : (core : ℕ) (h : Homed) → slice_get homes core ≡ Some h
+      → IsNewHome rings (name_of store.id) (length rings) core h
   pub each_passes : (core : ℕ) (p : PassList Blocked) → slice_get passes core ≡ Some p
       → AreNewPasses rings (name_of store.id) core p
 

@@ -25,28 +25,56 @@ fn connection(
     ensures new { IfOk result (λ made. IsConnection store.now.id conn made.0 made.1) }
     ensures root { OnOk result (root.new ≡ rooted root.old.table (conn ∷ root.old.given) root.old.joined) }
 {
-    let pass = match store.split(root, conn) {
-        Ok(pass) => pass,
-        Err(e) => return Err(e),
-    };
+    let pass = store.split(root, conn)?;
     match Block::new(alloc, conn, pass) {
-        Ok((block, inlet)) => Ok((block, inlet)),
-        Err((_, e)) => Err(e),
+        Ok(made) => Ok(made),
+        Err((pass, e)) => {
+            drop(pass);
+            Err(e)
+        }
     }
 }
 
-// So many cores without connections.
-fn no_owns(alloc: Global, cores: u32) -> Result<Vec<Own>, NoMemory>
-    ensures count { IfOk result (λ owns. length owns.items ≡ cores) }
-    ensures empty { IfOk result (λ owns. All IsEmpty owns.items) }
+// Adds the cores, without connections.
+fn add_cores(alloc: Global, cores: u32, owns: &mut Vec<Own>) -> Result<(), NoMemory>
+    requires none { owns.old.items ≡ [] }
+    ensures count { OnOk result (length owns.new.items ≡ cores) }
+    ensures empty { OnOk result (All IsEmpty owns.new.items) }
 {
-    let mut owns = Vec::new(alloc);
     for _core in 0..cores {
-        if owns.push(Own::new(alloc)).is_err() {
-            return Err(NoMemory);
-        }
+        owns.push(Own::new(alloc))?;
     }
-    Ok(owns)
+    Ok(())
+}
+
+// Makes the connections below the count, each at its home core.
+fn add_connections(
+    alloc: Global,
+    count: u32,
+    cores: u32,
+    store: &StoreTable,
+    root: &mut Root,
+    owns: &mut Vec<Own>,
+) -> Result<(), NoMemory>
+    requires few { count ≤ 4096 }
+    requires some { 1 ≤ cores }
+    requires cores { cores ≤ 64 }
+    requires table { root.old.table ≡ store.now.id }
+    requires none { root.old.given ≡ [] }
+    requires count { length owns.old.items ≡ cores }
+    requires empty { All IsEmpty owns.old.items }
+    ensures owns { OnOk result (AreOwns store.now.id cores count owns.new.items) }
+    ensures table { OnOk result (root.new.table ≡ root.old.table) }
+    ensures joined { OnOk result (root.new.joined ≡ root.old.joined) }
+    ensures given { OnOk result ((conn : ℕ) → (is_in conn root.new.given ≡ true) ↔ (conn < count)) }
+{
+    let homes = FlowTable::new(cores);
+    for conn in 0..count {
+        let core = homes.home_of(conn) as usize;
+        let (block, inlet) = connection(alloc, store, root, conn)?;
+        owns[core].push(block, inlet)?;
+    }
+    Ok(())
 }
 
 /// The connections below the count, each with its home core.
@@ -67,20 +95,36 @@ pub(crate) fn all_owns(
     ensures joined { OnOk result (root.new.joined ≡ root.old.joined) }
     ensures given { OnOk result ((conn : ℕ) → (is_in conn root.new.given ≡ true) ↔ (conn < count)) }
 {
-    let mut owns = match no_owns(alloc, cores) {
-        Ok(owns) => owns,
-        Err(e) => return Err(e),
-    };
-    let homes = FlowTable::new(cores);
-    for conn in 0..count {
-        let core = homes.home_of(conn) as usize;
-        let (block, inlet) = match connection(alloc, store, root, conn) {
-            Ok(made) => made,
-            Err(e) => return Err(e),
-        };
-        if let Err(e) = owns[core].push(block, inlet) {
-            return Err(e);
+    let mut owns = Vec::new(alloc);
+    match fill(alloc, count, cores, store, root, &mut owns) {
+        Ok(()) => Ok(owns),
+        Err(e) => {
+            drop(owns);
+            Err(e)
         }
     }
-    Ok(owns)
+}
+
+// Adds the cores with their connections.
+fn fill(
+    alloc: Global,
+    count: u32,
+    cores: u32,
+    store: &StoreTable,
+    root: &mut Root,
+    owns: &mut Vec<Own>,
+) -> Result<(), NoMemory>
+    requires few { count ≤ 4096 }
+    requires some { 1 ≤ cores }
+    requires cores { cores ≤ 64 }
+    requires table { root.old.table ≡ store.now.id }
+    requires none { root.old.given ≡ [] }
+    requires empty { owns.old.items ≡ [] }
+    ensures owns { OnOk result (AreOwns store.now.id cores count owns.new.items) }
+    ensures table { OnOk result (root.new.table ≡ root.old.table) }
+    ensures joined { OnOk result (root.new.joined ≡ root.old.joined) }
+    ensures given { OnOk result ((conn : ℕ) → (is_in conn root.new.given ≡ true) ↔ (conn < count)) }
+{
+    add_cores(alloc, cores, owns)?;
+    add_connections(alloc, count, cores, store, root, owns)
 }

@@ -1,5 +1,7 @@
 //! Making the cores' parts, core by core.
-ghost use Rattle.std.specs.Prelude.{◌≡◌, ◌<◌, ◌≤◌, ◌+◌, [], length, IfOk, OnOk};
+ghost use Rattle.std.specs.Prelude.{◌≡◌, ◌<◌, ◌≤◌, ◌+◌, [], ◌∷◌, ◌++◌, length, IfOk, OnOk};
+ghost use Rattle.zy_home.specs.Home.{HomeStands, IsMade};
+ghost use Rattle.zy_home.specs.Parts.{AreParts};
 ghost use Rattle.zy_setup.specs.Make.{AreOwns, AreMade, IsOwnOf, no_passes};
 
 use crate::own::Own;
@@ -9,6 +11,7 @@ use std::alloc::Global;
 use zy_base::NoMemory;
 use zy_conn::Block;
 use zy_home::{Home, HomeParts};
+use zy_shuffle::{HomePass, Ring};
 use zy_steal::{Passes, Rings};
 
 /// The homes and the rings of the first cores, and the passes of all cores on these rings.
@@ -20,22 +23,82 @@ pub(crate) struct Made {
 }
 
 impl Made {
-    // No home, and no pass of so many cores.
-    fn new(alloc: Global, cores: u32) -> Result<Made, NoMemory>
-        ensures homes { IfOk result (λ made. (made.homes.items ≡ []) × (made.rings ≡ [])) }
-        ensures passes { IfOk result (λ made. made.passes.items ≡ no_passes cores) }
+    /// The parts of all cores, with these connections.
+    pub(crate) fn of(
+        alloc: Global,
+        store: &StoreTable,
+        cores: u32,
+        count: u32,
+        owns: Vec<Own>,
+    ) -> Result<Made, NoMemory>
+        requires cores { cores ≤ 64 }
+        requires few { count ≤ 4096 }
+        requires owns { AreOwns store.now.id cores count owns.items }
+        ensures made { IfOk result (AreMade store.now.id cores count) }
+        ensures all { IfOk result (λ made. length made.homes.items ≡ cores) }
     {
-        let mut passes = Vec::new(alloc);
-        for core in 0..cores {
-            if passes.push(Passes::new(alloc, core)).is_err() {
-                return Err(NoMemory);
+        let mut made = Made::new(alloc);
+        if let Err(e) = made.add_passes(alloc, cores) {
+            drop(made);
+            drop(owns);
+            return Err(e);
+        }
+        match made.add_all(alloc, store, cores, count, owns) {
+            Ok(()) => Ok(made),
+            Err(e) => {
+                drop(made);
+                Err(e)
             }
         }
-        Ok(Made {
+    }
+
+    // No home, and no passes. Takes no memory.
+    fn new(alloc: Global) -> Made
+        ensures homes { result.homes.items ≡ [] }
+        ensures rings { result.rings ≡ [] }
+        ensures passes { result.passes.items ≡ [] }
+    {
+        Made {
             homes: Vec::new(alloc),
             rings: Rings::new(alloc),
-            passes,
-        })
+            passes: Vec::new(alloc),
+        }
+    }
+
+    // Adds a list of passes without a pass for each core.
+    fn add_passes(&mut self, alloc: Global, cores: u32) -> Result<(), NoMemory>
+        requires none { self.old.passes.items ≡ [] }
+        ensures homes { self.new.homes ≡ self.old.homes }
+        ensures rings { self.new.rings ≡ self.old.rings }
+        ensures passes { OnOk result (self.new.passes.items ≡ no_passes cores) }
+    {
+        for core in 0..cores {
+            self.passes.push(Passes::new(alloc, core))?;
+        }
+        Ok(())
+    }
+
+    // Makes the ring, the home and the passes of each core.
+    fn add_all(
+        &mut self,
+        alloc: Global,
+        store: &StoreTable,
+        cores: u32,
+        count: u32,
+        owns: Vec<Own>,
+    ) -> Result<(), NoMemory>
+        requires cores { cores ≤ 64 }
+        requires few { count ≤ 4096 }
+        requires none { self.old.homes.items ≡ [] × self.old.rings ≡ [] }
+        requires passes { self.old.passes.items ≡ no_passes cores }
+        requires owns { AreOwns store.now.id cores count owns.items }
+        ensures made { OnOk result (AreMade store.now.id cores count self.new) }
+        ensures all { OnOk result (length self.new.homes.items ≡ cores) }
+    {
+        for own in owns {
+            self.add(alloc, store, cores, count, own)?;
+        }
+        Ok(())
     }
 
     // Makes the ring and the home of the next core, and the passes of the others on this ring.
@@ -56,60 +119,78 @@ impl Made {
         ensures one { OnOk result (length self.new.homes.items ≡ length self.old.homes.items + 1) }
     {
         let core = self.homes.len() as u32;
-        let Own {
-            places,
-            blocks,
-            inlets,
-        } = own;
-        let (ring, mut pass) = match ring_of(alloc, store, places) {
+        let (ring, mut pass) = match ring_of(alloc, store, own.places) {
             Ok(made) => made,
-            Err(e) => return Err(e),
+            Err(e) => {
+                drop(own);
+                return Err(e);
+            }
         };
+        // Does nothing. The call tells the prover that the places of a ring are the slots of its table.
         let _places = ring.places();
         if let Err(e) = give_passes(&ring, &mut pass, core, &mut self.passes) {
+            drop(ring);
+            drop(pass);
+            drop(own);
             return Err(e);
         }
-        let parts = HomeParts {
-            pass,
-            blocks,
-            inlets,
-        };
-        let home = match Home::new(alloc, core, cores, count, parts) {
+        let home = match home_of(alloc, core, cores, count, pass, own) {
             Ok(home) => home,
-            Err((_, e)) => return Err(e),
+            Err(e) => {
+                drop(ring);
+                return Err(e);
+            }
         };
-        if let Err((_, e)) = self.rings.push(ring) {
-            return Err(e);
-        }
-        if self.homes.push(home).is_err() {
-            return Err(NoMemory);
-        }
+        self.keep(ring, home)?;
         Ok(())
     }
 
-    /// The parts of all cores, with these connections.
-    pub(crate) fn of(
-        alloc: Global,
-        store: &StoreTable,
-        cores: u32,
-        count: u32,
-        owns: Vec<Own>,
-    ) -> Result<Made, NoMemory>
-        requires cores { cores ≤ 64 }
-        requires few { count ≤ 4096 }
-        requires owns { AreOwns store.now.id cores count owns.items }
-        ensures made { IfOk result (AreMade store.now.id cores count) }
-        ensures all { IfOk result (λ made. length made.homes.items ≡ cores) }
+    // Puts a ring and its home after the others.
+    fn keep(&mut self, ring: Ring<Block>, home: Home) -> Result<(), NoMemory>
+        ensures homes { OnOk result (self.new.homes.items ≡ self.old.homes.items ++ home ∷ []) }
+        ensures rings { OnOk result (self.new.rings ≡ self.old.rings ++ ring ∷ []) }
+        ensures passes { self.new.passes ≡ self.old.passes }
     {
-        let mut made = match Made::new(alloc, cores) {
-            Ok(made) => made,
-            Err(e) => return Err(e),
-        };
-        for own in owns {
-            if let Err(e) = made.add(alloc, store, cores, count, own) {
-                return Err(e);
-            }
+        if let Err((ring, e)) = self.rings.push(ring) {
+            drop(ring);
+            drop(home);
+            return Err(e);
         }
-        Ok(made)
+        self.homes.push(home)?;
+        Ok(())
+    }
+}
+
+// The home of a core on the ring of this pass, with its connections.
+fn home_of(
+    alloc: Global,
+    core: u32,
+    cores: u32,
+    count: u32,
+    pass: HomePass<Block>,
+    own: Own,
+) -> Result<Home, NoMemory>
+    requires core { core < cores }
+    requires cores { cores ≤ 64 }
+    requires parts { AreParts core cores count (record { pass = pass; blocks = own.blocks; inlets = own.inlets }) }
+    ensures ok { IfOk result (λ home. IsMade core cores count pass own.blocks home) }
+    ensures stands { IfOk result (λ home. HomeStands home []) }
+{
+    let Own {
+        places: _,
+        blocks,
+        inlets,
+    } = own;
+    let parts = HomeParts {
+        pass,
+        blocks,
+        inlets,
+    };
+    match Home::new(alloc, core, cores, count, parts) {
+        Ok(home) => Ok(home),
+        Err((parts, e)) => {
+            drop(parts);
+            Err(e)
+        }
     }
 }

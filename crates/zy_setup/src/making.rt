@@ -58,16 +58,43 @@ pub fn make(
     ensures unsent { IfOk result (λ made. AreUnsent (sent_by made.inlets)) }
     ensures fresh { IfOk result (λ made. AreFresh made.inlets) }
 {
-    let (shared, root) = match Shared::new(alloc, rings, store) {
-        Ok(made) => made,
-        Err(_) => return Err(NoMemory),
-    };
+    match Shared::new(alloc, rings, store) {
+        Ok((shared, root)) => make_cores(alloc, shared, root, homes, passes),
+        Err(given) => {
+            drop(given);
+            drop(homes);
+            drop(passes);
+            Err(NoMemory)
+        }
+    }
+}
+
+// Makes the cores, which share this.
+fn make_cores(
+    alloc: Global,
+    shared: Shared,
+    root: ControlRoot,
+    homes: Vec<Home>,
+    passes: Vec<Passes<Block>>,
+) -> Result<Made, NoMemory>
+    requires root { root ≡ rooted shared.control.id 0 (length shared.rings) }
+    requires ready { AreReady shared.rings shared.store homes.items passes.items }
+    ensures cores { IfOk result (λ made. AreCores made.shared (identities made.cores)) }
+    ensures inlets { IfOk result (λ made. AreInlets (rings_of made.inlets) (identities made.cores)) }
+    ensures same { IfOk result (λ made. stations_in (identities made.cores) ≡ stations_of homes.items) }
+    ensures rings { IfOk result (λ made. rings_of made.inlets ≡ rings_in (identities made.cores)) }
+    ensures shared { IfOk result (λ made. made.shared ≡ shared) }
+    ensures unsent { IfOk result (λ made. AreUnsent (sent_by made.inlets)) }
+    ensures fresh { IfOk result (λ made. AreFresh made.inlets) }
+{
     let mut making = Making {
         root,
         cores: Cores::new(alloc),
         inlets: Vec::new(alloc),
     };
     if let Err(e) = making.add_all(alloc, &shared, homes, passes) {
+        drop(making);
+        drop(shared);
         return Err(e);
     }
     let Making {
@@ -109,9 +136,7 @@ impl Making {
         let mut passes = passes;
         for home in homes {
             let own = passes.remove(0);
-            if let Err(e) = self.add(alloc, shared, count, home, own) {
-                return Err(e);
-            }
+            self.add(alloc, shared, count, home, own)?;
         }
         Ok(())
     }
@@ -129,7 +154,8 @@ impl Making {
         requires few { count ≤ 64 }
         requires next { length self.old.inlets.items < count }
         requires root { self.old.root ≡ rooted shared.now.control.id (length self.old.inlets.items) count }
-        requires home { IsNewHome shared.now.rings (name_of shared.now.store.id) (length self.old.inlets.items) home }
+        requires home { IsNewHome shared.now.rings (name_of shared.now.store.id) (length shared.now.rings)
+            (length self.old.inlets.items) home }
         requires passes { AreNewPasses shared.now.rings (name_of shared.now.store.id)
             (length self.old.inlets.items) passes }
         ensures ok { OnOk result (Adds shared.now home self.old self.new) }
@@ -137,31 +163,39 @@ impl Making {
         let number = self.inlets.len() as u32;
         let (inlet, outlet) = match ring(alloc, SLOTS) {
             Ok(ends) => ends,
-            Err(e) => return Err(e),
+            Err(e) => {
+                drop(home);
+                drop(passes);
+                return Err(e);
+            }
         };
         let control = match shared.seat(&mut self.root) {
             Ok(pass) => pass,
-            Err(e) => return Err(e),
+            Err(e) => {
+                drop(home);
+                drop(passes);
+                drop(inlet);
+                drop(outlet);
+                return Err(e);
+            }
         };
         let core = Core::new(home, Victims::new(number, count), passes, outlet, control);
-        if let Err(e) = self.keep(core, inlet) {
-            return Err(e);
-        }
+        self.keep(core, inlet)?;
         Ok(())
     }
 
-    // Puts a core and its inlet behind the others.
+    // Puts a core and its inlet after the others.
     fn keep(&mut self, core: Core, inlet: Inlet) -> Result<(), NoMemory>
         ensures cores { OnOk result (self.new.cores ≡ self.old.cores ++ core ∷ []) }
         ensures inlets { OnOk result (self.new.inlets.items ≡ self.old.inlets.items ++ inlet ∷ []) }
         ensures root { self.new.root ≡ self.old.root }
     {
-        if let Err(_) = self.cores.push(core) {
-            return Err(NoMemory);
+        if let Err((core, e)) = self.cores.push(core) {
+            drop(core);
+            drop(inlet);
+            return Err(e);
         }
-        if let Err(_) = self.inlets.push(inlet) {
-            return Err(NoMemory);
-        }
+        self.inlets.push(inlet)?;
         Ok(())
     }
 }

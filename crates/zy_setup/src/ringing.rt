@@ -53,9 +53,7 @@ pub(crate) fn give_passes(
     ensures gives { OnOk result (Gives core (newly_given home.old) passes.old passes.new) }
 {
     for other in 0..passes.len() {
-        if let Err(e) = give_pass(ring, home, core as usize, other, &mut passes[other]) {
-            return Err(e);
-        }
+        give_pass(ring, home, core as usize, other, &mut passes[other])?;
     }
     Ok(())
 }
@@ -75,12 +73,12 @@ fn give_pass(
     if other == core {
         return Ok(());
     }
-    let pass = match ring.split(home) {
-        Ok(pass) => pass,
-        Err(e) => return Err(e),
-    };
+    let pass = ring.split(home)?;
     match passes.push(pass) {
         Ok(()) => Ok(()),
-        Err((_, e)) => Err(e),
+        Err((pass, e)) => {
+            drop(pass);
+            Err(e)
+        }
     }
 }

@@ -1,6 +1,8 @@
 //! Making what a run begins with.
-ghost use Rattle.std.specs.Prelude.{◌≡◌, ◌≤◌, IfOk};
+ghost use Rattle.std.specs.Prelude.{◌≡◌, ◌↔◌, ℕ, ◌<◌, ◌≤◌, [], true, length, IfOk, OnOk};
+ghost use Rattle.zy_table.specs.Member.{is_in};
 ghost use Rattle.zy_setup.specs.Start.{IsStart};
+ghost use Rattle.zy_setup.specs.Make.{AreMade};
 
 use crate::connections::all_owns;
 use crate::made::Made;
@@ -33,28 +35,48 @@ pub fn start(alloc: Global, count: u32, cores: u32, shards: u32) -> Result<Start
     requires few_shards { shards ≤ 256 }
     ensures start { IfOk result (IsStart count cores shards) }
 {
-    let (store, mut root) = match StoreTable::new(alloc, shards) {
-        Ok(made) => made,
-        Err(e) => return Err(e),
-    };
-    let owns = match all_owns(alloc, count, cores, &store, &mut root) {
-        Ok(owns) => owns,
-        Err(e) => return Err(e),
-    };
-    let made = match Made::of(alloc, &store, cores, count, owns) {
-        Ok(made) => made,
-        Err(e) => return Err(e),
-    };
-    let Made {
-        homes,
-        rings,
-        passes,
-    } = made;
-    Ok(Started {
-        homes,
-        rings,
-        passes,
-        store,
-        root,
-    })
+    let (store, mut root) = StoreTable::new(alloc, shards)?;
+    match parts_of(alloc, count, cores, &store, &mut root) {
+        Ok(
+            Made {
+                homes,
+                rings,
+                passes,
+            },
+        ) => Ok(Started {
+            homes,
+            rings,
+            passes,
+            store,
+            root,
+        }),
+        Err(e) => {
+            drop(store);
+            drop(root);
+            Err(e)
+        }
+    }
+}
+
+// The homes, the rings, and the passes on these, with the connections whose passes the root gives.
+fn parts_of(
+    alloc: Global,
+    count: u32,
+    cores: u32,
+    store: &StoreTable,
+    root: &mut Root,
+) -> Result<Made, NoMemory>
+    requires connections { count ≤ 4096 }
+    requires some { 1 ≤ cores }
+    requires few { cores ≤ 64 }
+    requires table { root.old.table ≡ store.now.id }
+    requires none { root.old.given ≡ [] }
+    ensures made { IfOk result (AreMade store.now.id cores count) }
+    ensures all { IfOk result (λ made. length made.homes.items ≡ cores) }
+    ensures table { OnOk result (root.new.table ≡ root.old.table) }
+    ensures joined { OnOk result (root.new.joined ≡ root.old.joined) }
+    ensures given { OnOk result ((conn : ℕ) → (is_in conn root.new.given ≡ true) ↔ (conn < count)) }
+{
+    let owns = all_owns(alloc, count, cores, store, root)?;
+    Made::of(alloc, store, cores, count, owns)
 }

@@ -4,10 +4,10 @@ ghost use Rattle.zy_command_line.specs.Request.{request_of};
 ghost use Rattle.zygos_run.specs.Ends.{HasCause, ReadsNothing};
 
 use crate::answer::Answer;
-use crate::checking::check_input;
-use crate::making::make_traffic;
-use crate::serving_capture::serve_capture;
-use crate::testing::test_traffic;
+use crate::check::check_input;
+use crate::generate::make_traffic;
+use crate::run::serve_capture;
+use crate::self_test::test_traffic;
 use std::alloc::Global;
 use std::sync::Wait;
 use std::thread::Threads;

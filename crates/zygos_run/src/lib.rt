@@ -2,18 +2,15 @@
 #![tactic(auto)]
 
 mod answer;
-mod checking;
+mod check;
 mod command;
-mod driving;
+mod generate;
 mod lines;
-mod making;
-mod numbers;
-mod running;
+mod run;
 mod saying;
+mod self_test;
 mod serving;
-mod serving_capture;
 mod standard;
-mod testing;
 
 pub use answer::{Answer, status};
 pub use serving::serve;

@@ -8,9 +8,9 @@ returns c = record {
   ok = record {
     core = c.new-core.result;
     inlet = c.in-Ok.ends.0;
-    cores = c.in_default.ensures.cores;
-    inlets = c.in_default.ensures.inlets;
-    root = c.in_default.ensures.root ∙ c.in-Ok-seat.ensures.ok;
+    cores = c.in_ok-keep.ensures.cores;
+    inlets = c.in_ok-keep.ensures.inlets;
+    root = c.in_ok-keep.ensures.root ∙ c.in-Ok-seat.ensures.ok;
     home_is = ap (λ (x : Cored). x.home) c.new-core.ensures.value;
     fits = subst (λ (x : Cored). Fits c.args.shared.now (identity_of x)) (sym c.new-core.ensures.value)
         (fits_new c.args.shared.now _ c.args.home c.new.result c.args.passes c.in-Ok.ends.1 c.in-Ok-seat.pass c.requires.home c.requires.passes

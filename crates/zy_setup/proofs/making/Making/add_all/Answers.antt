@@ -35,7 +35,7 @@ loop-home-preserved c =
     first_removed c.loop-home.passes.items c.remove-own.result (omega arith) c.remove-own.ensures.value ∙ ap (λ l. c.remove-own.result ∷ l) (sym c.remove-own.ensures.items) in
     let next = subst (λ l. HasMade c.args.shared.now c.args.homes.items c.loop-home.self l (c.remove-own.result ∷ c.remove-own.new.self.items)) c.in-Some.ensures.steps.0
     (subst (λ l. HasMade c.args.shared.now c.args.homes.items c.loop-home.self (into_iter_items c.loop-home.home-iterator) l) own has) in
-    (tt, tt, made_next c.args.shared.now c.args.homes.items c.loop-home.self c.add.new.self c.in-Some.home _ c.remove-own.result _ next c.in_default.ensures.ok)
+    (tt, tt, made_next c.args.shared.now c.args.homes.items c.loop-home.self c.add.new.self c.in-Some.home _ c.remove-own.result _ next c.in_ok-add.ensures.ok)
 
 pub returns : goal.returns
 returns c =

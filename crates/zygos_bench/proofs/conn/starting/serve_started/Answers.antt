@@ -3,16 +3,16 @@ use Rattle.zygos_bench.proofs.conn.starting.serve_started.Goals as goal
 
 pub serve_all-requires-clause-table : goal.serve_all-requires-clause-table
 serve_all-requires-clause-table g c =
-    (first_new 200 16 c.args.started.now c.index_mut-home.result.now c.ring-ring.result.now c.requires.start c.index_mut-home.ensures.value c.ring-ring.ensures.value).table_is
+    (first_new 200 16 c.args.started.now c.index_mut-home.result.now c.requires.start c.index_mut-home.ensures.value).ring c.ring-ring.result.now c.ring-ring.ensures.value
 
 pub serve_all-requires-clause-label : goal.serve_all-requires-clause-label
 serve_all-requires-clause-label g c =
-    (first_new 200 16 c.args.started.now c.index_mut-home.result.now c.ring-ring.result.now c.requires.start c.index_mut-home.ensures.value c.ring-ring.ensures.value).label_is
+    (first_new 200 16 c.args.started.now c.index_mut-home.result.now c.requires.start c.index_mut-home.ensures.value).label_is
 
 pub serve_all-requires-clause-live : goal.serve_all-requires-clause-live
 serve_all-requires-clause-live g c =
-    (first_new 200 16 c.args.started.now c.index_mut-home.result.now c.ring-ring.result.now c.requires.start c.index_mut-home.ensures.value c.ring-ring.ensures.value).live
+    (first_new 200 16 c.args.started.now c.index_mut-home.result.now c.requires.start c.index_mut-home.ensures.value).live
 
 pub serve_all-requires-clause-count : goal.serve_all-requires-clause-count
 serve_all-requires-clause-count g c =
-    (first_new 200 16 c.args.started.now c.index_mut-home.result.now c.ring-ring.result.now c.requires.start c.index_mut-home.ensures.value c.ring-ring.ensures.value).unpublished
+    (first_new 200 16 c.args.started.now c.index_mut-home.result.now c.requires.start c.index_mut-home.ensures.value).unpublished

@@ -1,0 +1,86 @@
+//! Serving a capture, and writing what came.
+ghost use Rattle.std.specs.Prelude.{◌≡◌, ◌≤◌};
+ghost use Rattle.zy_base.specs.Outside.{Writes};
+ghost use Rattle.zy_capture.specs.Outputs.{AreOutputs};
+ghost use Rattle.zy_capture.specs.Replies.{replies_bytes};
+ghost use Rattle.zy_journal.specs.Journal.{IsJournal};
+ghost use Rattle.zy_command_line.specs.Range.{IsRunnable};
+ghost use Rattle.zygos_run.specs.Ends.{RunEnds};
+ghost use Rattle.zygos_run.specs.Headline.{front, written};
+
+mod drive;
+pub(crate) mod serve;
+
+use crate::answer::Answer;
+use crate::run::serve::run_capture;
+use std::alloc::Global;
+use std::sync::Wait;
+use std::thread::Threads;
+use zy_base::{Failed, Gate, Sink, Source};
+use zy_capture::{Outputs, write_replies};
+use zy_check_input::Refusal;
+use zy_command_line::{Out, Run};
+use zy_feed::Stop;
+use zy_finish::Finished;
+use zy_journal::{Journal, write_journal};
+
+/// Serves a capture, and writes the replies, and the journal where it is asked for.
+pub(crate) fn serve_capture<R: Threads + Wait + Sync, S: Source, K: Sink, G: Gate + Sync>(
+    rt: &R,
+    alloc: Global,
+    run: Run,
+    out: Out,
+    source: &mut S,
+    sink: &mut K,
+    gate: &G,
+) -> Answer
+    requires runnable { IsRunnable run }
+    ensures reads { S.faults source.old ≤ S.faults source.new }
+    ensures writes { K.faults sink.old ≤ K.faults sink.new }
+    ensures cause { RunEnds S.rest S.faults K.holds K.faults run.shards out source.old source.new sink.old sink.new
+        result }
+{
+    match run_capture(rt, alloc, run, source, gate) {
+        Ok(done) => match write_all(sink, out, &done) {
+            Ok(()) => Answer::Served(done.journal),
+            Err(_) => Answer::WriteFault,
+        },
+        Err(Stop::Refused(fault)) => Answer::Refused(Refusal::Capture(fault)),
+        Err(Stop::ReadFault) => Answer::ReadFault,
+        Err(Stop::NoMemory) => Answer::OutOfMemory,
+    }
+}
+
+// Writes the journal where it is asked for, and the replies, and finishes. Takes no memory.
+fn write_all<K: Sink>(sink: &mut K, out: Out, done: &Finished) -> Result<(), Failed>
+    requires outputs { AreOutputs done.now.outputs }
+    requires journal { IsJournal done.now.journal }
+    ensures writes { Writes K.holds K.faults sink.old sink.new result (written out done.now.journal done.now.outputs) }
+{
+    match write_front(sink, out, &done.journal) {
+        Ok(()) => write_back(sink, &done.outputs),
+        Err(failed) => Err(failed),
+    }
+}
+
+// Writes the replies, and finishes.
+fn write_back<K: Sink>(sink: &mut K, outputs: &Outputs) -> Result<(), Failed>
+    requires outputs { AreOutputs outputs.now }
+    ensures writes { Writes K.holds K.faults sink.old sink.new result (replies_bytes outputs.now) }
+{
+    if let Err(failed) = write_replies(sink, outputs) {
+        return Err(failed);
+    }
+    sink.finish()
+}
+
+// Writes what stands before the replies.
+fn write_front<K: Sink>(sink: &mut K, out: Out, journal: &Journal) -> Result<(), Failed>
+    requires journal { IsJournal journal.now }
+    ensures writes { Writes K.holds K.faults sink.old sink.new result (front out journal.now) }
+{
+    match out {
+        Out::Replies => Ok(()),
+        Out::Both => write_journal(sink, journal),
+    }
+}
