@@ -1,6 +1,7 @@
 mod ChunkLemmas
 mod CoverLemmas
 mod FlowLemmas
+mod FrameLemmas
 mod FrontLemmas
 mod HeldLemmas
 mod KeptLemmas

@@ -1,7 +1,7 @@
 //! The reader of recorded packets.
-ghost use Rattle.std.specs.Prelude.{◌≡◌, ◌<◌, ◌≤◌, [], ◌∷◌, length, take, IsOk};
+ghost use Rattle.std.specs.Prelude.{◌≡◌, ◌<◌, ◌≤◌, [], ◌∷◌, length, take, None, IsOk};
 ghost use Rattle.zy_pcap.specs.Steps.{file_limit};
-ghost use Rattle.zy_pcap.specs.Standing.{StandsFor, Feeds, FeedsAs, TellsFault, TellsLasting, FinishesBy};
+ghost use Rattle.zy_pcap.specs.Standing.{StandsFor, Feeds, FeedsAs, Meets, TellsFault, TellsLasting, FinishesBy};
 ghost use Rattle.zy_pcap.specs.Step.{Follows, MeetsFrame, PlaceIs};
 
 use crate::due::Due;
@@ -80,6 +80,7 @@ impl PcapReader {
     {
         let mut at = 0;
         while at < bytes.len() {
+            at += self.take_run(&bytes[at..]);
             if let Err(refused) = self.feed(bytes[at]) {
                 return Fed::stopped(at, refused);
             }
@@ -89,6 +90,20 @@ impl PcapReader {
             taken: at,
             answer: Ok(()),
         }
+    }
+
+    // Takes some first bytes of these, which are within a frame, and not the last one; maybe none.
+    // Gives how many.
+    fn take_run(&mut self, bytes: &[u8]) -> usize
+        requires some { 0 < length bytes.now }
+        ensures port { self.new.port ≡ self.old.port }
+        ensures within { result < length bytes.now }
+        ensures fed { Feeds self.old self.new (take result bytes.now) }
+        ensures still { 0 < result → Meets self.old (take result bytes.now) None }
+    {
+        let run = self.records.room().min(bytes.len() - 1);
+        self.records.append_run(&bytes[..run]);
+        run
     }
 
     // Takes the next byte.
