@@ -1,6 +1,6 @@
 -- Runs of bytes within a frame: they are fed as one byte after another.
 use Rattle.std.proofs.Common.{◌≡◌, ℕ, suc, ◌+◌, ◌-◌, ◌<◌, ◌≤◌, List, [], ◌∷◌, ◌++◌, length, refl, sym, ap, ◌∙◌, subst, append_assoc, length-append, arith}
-use Rattle.std.specs.Prelude.{Option, None, true, false, nat_lt, nat_le, min}
+use Rattle.std.specs.Prelude.{Option, true, false, nat_lt, nat_le, min}
 use Rattle.std.proofs.lemmas.List.{append-nil}
 use Rattle.std.proofs.lemmas.Bool.Decides.{nat_tests}
 use Rattle.zy_pcap.specs.declared.due.Due.{Due}
@@ -10,8 +10,8 @@ use Rattle.zy_pcap.specs.Steps.{Place, Move, move, taken, framed, grown_by, is_f
 use Rattle.zy_pcap.specs.Steps.Move.{Goes}
 use Rattle.zy_pcap.specs.Moves.{room_in, run_room}
 use Rattle.zy_pcap.specs.Flow.{flows_of}
-use Rattle.zy_pcap.specs.Packets.{Progress, step, moved, read_on, read, fault_met, fault_in}
-use Rattle.zy_pcap.specs.Standing.{Reading, StandsFor, Feeds, Meets}
+use Rattle.zy_pcap.specs.Packets.{Progress, step, moved, read_on, read}
+use Rattle.zy_pcap.specs.Standing.{StandsFor, Feeds}
 use Rattle.zy_pcap.specs.Kept.{KeepsFlows}
 use Rattle.zy_pcap.proofs.ReadLemmas.{read_more}
 
@@ -88,11 +88,3 @@ unfolding StandsFor
 run_fed port place kept bytes room = λ b stood.
     let is = stands_still port place kept b bytes room stood in
     (sym (ap (λ (q : Progress). q.place) is), subst (λ (q : Progress). KeepsFlows kept (flows_of q.packets)) (sym is) stood.1)
-
--- and has no fault, where it is not empty
-pub run_meets : (port : ℕ) (place : Place) (kept : List (Option KeptFlow)) (bytes : List ℕ) → length bytes ≤ run_room place → 0 < length bytes → Meets (record { port = port; place = place; kept = kept }) bytes None
-unfolding fault_met
-run_meets port place kept bytes room some = λ b stood.
-    let is = stands_still port place kept b bytes room stood in
-    let framed_is = framed_only place place.due refl (omega (arith, room, some)) in
-    ap (λ (q : Progress). fault_in q.place.due) is ∙ ap fault_in framed_is.1.0

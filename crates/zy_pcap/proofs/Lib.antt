@@ -1,4 +1,5 @@
 mod ChunkLemmas
+mod CopyLemmas
 mod CoverLemmas
 mod FlowLemmas
 mod FrameLemmas

@@ -20,6 +20,11 @@ longest_same f g at zero same = refl
 longest_same f g at (suc count) same =
     same_by f g at count (g at) (same at (omega arith)) refl (longest_same f g (at + 1) count (λ d low. same d (omega (arith, low))))
 
+-- the same byte at each offset
+pub same_longest : (f g : ℕ → Option ℕ) → ((d : ℕ) → f d ≡ g d) → longest f ≡ longest g
+unfolding longest
+same_longest f g same = longest_same f g 0 (2 ^ 31) (λ d low. same d)
+
 stream_same : (kept : KeptSession) (session : Session) → KeepsSession kept session → kept_stream kept ≡ stream session
 unfolding longest
 stream_same kept session keeps = longest_same (byte_held kept.bytes) (byte_at session.first session.packets) 0 (2 ^ 31) (λ d low. keeps.bytes d (omega (arith, low)))

@@ -1,4 +1,5 @@
 pub mod Chunk
+pub mod Copies
 pub mod Flow
 pub mod Frame
 pub mod Kept

@@ -1,6 +1,8 @@
 //! Laws over the definitions of recorded packets.
-ghost use Rattle.std.specs.Prelude.{◌≡◌, [], ◌∷◌};
+ghost use Rattle.std.specs.Prelude.{◌≡◌, List, [], ◌∷◌, ◌++◌};
 ghost use Rattle.zy_pcap.specs.declared.pcap_fault.PcapFault.TheVariants as Faults;
+ghost use Rattle.zy_pcap.specs.Packet.{Packet};
+ghost use Rattle.zy_pcap.specs.Copies.{stream_of, IsCovered, Agree};
 ghost use Rattle.zy_pcap.specs.Made.{pcap_capture};
 ghost use Rattle.zy_pcap.specs.Packets.{packets};
 ghost use Rattle.zy_pcap.specs.Packets.Found.{Packets, Bad};
@@ -16,4 +18,24 @@ pub fn the_worked_file_makes_its_capture()
 pub fn the_worked_faults_are_told()
     ensures empty { packets 1766 [] ≡ Bad (Faults.PcapTruncated 0) }
     ensures other { packets 1766 (10 ∷ 13 ∷ 13 ∷ 10 ∷ []) ≡ Bad (Faults.Magic 0) }
+{}
+
+/// A packet changes no stream where each of its bytes has an offset at which an earlier packet of the
+/// session has a byte; so a retransmission changes none.
+pub fn a_copy_changes_no_stream()
+    ensures covered { (first packet : Packet) (before after : List Packet)
+        → IsCovered first before packet
+        → stream_of first (before ++ packet ∷ after) ≡ stream_of first (before ++ after) }
+    ensures copy { (first packet : Packet) (before between after : List Packet)
+        → stream_of first ((before ++ packet ∷ between) ++ packet ∷ after)
+        ≡ stream_of first ((before ++ packet ∷ between) ++ after) }
+{}
+
+/// Two packets of a session may be exchanged, where they have the same byte at each offset at which
+/// both have one: the order of packets matters only for which copy is the first one.
+pub fn the_order_of_packets_changes_no_stream()
+    ensures order { (first one other : Packet) (before after : List Packet)
+        → Agree first one other
+        → stream_of first (before ++ one ∷ other ∷ after)
+        ≡ stream_of first (before ++ other ∷ one ∷ after) }
 {}

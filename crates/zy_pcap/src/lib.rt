@@ -22,7 +22,10 @@ mod writing;
 
 pub use fed::Fed;
 pub use flows::Flows;
-pub use laws::{the_worked_faults_are_told, the_worked_file_makes_its_capture};
+pub use laws::{
+    a_copy_changes_no_stream, the_order_of_packets_changes_no_stream, the_worked_faults_are_told,
+    the_worked_file_makes_its_capture,
+};
 pub use pcap_fault::{PcapFault, PcapFeed};
 pub use reader::PcapReader;
 pub use writing::write_flows;

@@ -1,7 +1,7 @@
 //! The reader of recorded packets.
-ghost use Rattle.std.specs.Prelude.{◌≡◌, ◌<◌, ◌≤◌, [], ◌∷◌, length, take, None, IsOk};
+ghost use Rattle.std.specs.Prelude.{◌≡◌, ◌<◌, ◌≤◌, [], ◌∷◌, length, take, IsOk};
 ghost use Rattle.zy_pcap.specs.Steps.{file_limit};
-ghost use Rattle.zy_pcap.specs.Standing.{StandsFor, Feeds, FeedsAs, Meets, TellsFault, TellsLasting, FinishesBy};
+ghost use Rattle.zy_pcap.specs.Standing.{StandsFor, Feeds, FeedsAs, TellsFault, TellsLasting, FinishesBy};
 ghost use Rattle.zy_pcap.specs.Step.{Follows, MeetsFrame, PlaceIs};
 
 use crate::due::Due;
@@ -99,7 +99,6 @@ impl PcapReader {
         ensures port { self.new.port ≡ self.old.port }
         ensures within { result < length bytes.now }
         ensures fed { Feeds self.old self.new (take result bytes.now) }
-        ensures still { 0 < result → Meets self.old (take result bytes.now) None }
     {
         let run = self.records.room().min(bytes.len() - 1);
         self.records.append_run(&bytes[..run]);
