@@ -4,6 +4,7 @@ mod CoverLemmas
 mod FlowLemmas
 mod FrameLemmas
 mod FrontLemmas
+mod GoodLemmas
 mod HeldLemmas
 mod KeptLemmas
 mod MeetLemmas

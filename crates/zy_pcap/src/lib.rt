@@ -23,7 +23,8 @@ mod writing;
 pub use fed::Fed;
 pub use flows::Flows;
 pub use laws::{
-    a_copy_changes_no_stream, the_order_of_packets_changes_no_stream, the_worked_faults_are_told,
+    a_copy_changes_no_stream, the_capture_of_packets_is_good,
+    the_order_of_packets_changes_no_stream, the_worked_faults_are_told,
     the_worked_file_makes_its_capture,
 };
 pub use pcap_fault::{PcapFault, PcapFeed};
