@@ -9,7 +9,7 @@ use Rattle.zy_capture.specs.RepliesVerdict as Replies
 use Rattle.zy_journal.specs.declared.journal.Journal.{Journal}
 use Rattle.zy_journal_reader.specs.Verdict as Journals
 use Rattle.zy_check_input.specs.declared.stop.Refusal.{Refusal}
-use Rattle.zy_check_input.specs.declared.stop.Refusal.TheVariants.{Capture, Journal as OfJournal, Replies as OfReplies}
+use Rattle.zy_check_input.specs.declared.stop.Refusal.TheVariants.{Capture, Journal as OfJournal, Replies as OfReplies, Pcap}
 use Rattle.zy_check_input.specs.Parts.{IsCapture, IsJournal, AreParts, HasCaptureFault, HasJournalFault, HasRepliesFault, HasPartFault}
 use Rattle.zy_check_input.proofs.FormatLemmas.{one_rest}
 use Rattle.zy_check_input.proofs.CaptureLemmas as OfCapture
@@ -35,6 +35,7 @@ no_fault text streams journal outputs (Capture fault) parts has = has.none parts
 no_fault text streams journal outputs (OfJournal fault) parts has =
     let rest : has.rest ≡ parts.journal_text ++ parts.replies_text = after_capture text has.capture_text has.rest parts.capture_text (parts.journal_text ++ parts.replies_text) has.whole parts.whole has.of_capture (is_capture parts.capture_text streams parts.of_capture) in
     has.none parts.journal_text parts.replies_text rest (is_journal parts.journal_text journal parts.of_journal)
+no_fault text streams journal outputs (Pcap fault) parts has = absurd has
 no_fault text streams journal outputs (OfReplies fault) parts has =
     let behind : has.journal_text ++ has.rest ≡ parts.journal_text ++ parts.replies_text = after_capture text has.capture_text (has.journal_text ++ has.rest) parts.capture_text (parts.journal_text ++ parts.replies_text) has.whole parts.whole has.of_capture (is_capture parts.capture_text streams parts.of_capture) in
     let rest : has.rest ≡ parts.replies_text = after_journal has.journal_text has.rest parts.journal_text parts.replies_text behind has.of_journal (is_journal parts.journal_text journal parts.of_journal) in
@@ -81,3 +82,7 @@ one_fault text (OfJournal first) (OfReplies second) one two = absurd (not_last t
 one_fault text (OfReplies first) (Capture second) one two = absurd (not_later text one.capture_text (one.journal_text ++ one.rest) second two one.whole one.of_capture)
 one_fault text (OfReplies first) (OfJournal second) one two = absurd (not_last text second first two one)
 one_fault text (OfReplies first) (OfReplies second) one two = ap (λ (f : FileFault). OfReplies f) (one_replies text first second one two)
+one_fault text (Capture first) (Pcap second) one two = absurd two
+one_fault text (OfJournal first) (Pcap second) one two = absurd two
+one_fault text (OfReplies first) (Pcap second) one two = absurd two
+one_fault text (Pcap first) second one two = absurd one

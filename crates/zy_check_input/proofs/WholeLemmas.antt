@@ -16,7 +16,7 @@ use Rattle.zy_check_input.specs.declared.journal_part.JournalPart.{JournalPart}
 use Rattle.zy_check_input.specs.declared.replies_part.RepliesPart.{RepliesPart}
 use Rattle.zy_check_input.specs.declared.parts.Parts.{Parts}
 use Rattle.zy_check_input.specs.declared.stop.Refusal.{Refusal}
-use Rattle.zy_check_input.specs.declared.stop.Refusal.TheVariants.{Capture, Journal as OfJournal, Replies as OfReplies}
+use Rattle.zy_check_input.specs.declared.stop.Refusal.TheVariants.{Capture, Journal as OfJournal, Replies as OfReplies, Pcap}
 use Rattle.zy_read.specs.declared.stop.Stop.{Stop}
 use Rattle.zy_read.specs.declared.stop.Stop.TheVariants.{Refused, ReadFault, NoMemory}
 use Rattle.zy_check_input.specs.Parts.{IsCapture, IsJournal, HasStreams, HasPartFault, HasCaptureFault, HasReadParts, HasReadStreams}
@@ -78,6 +78,7 @@ capture_fault : (text : List ℕ) (refusal : Refusal) → HasFaultBehind capture
 capture_fault text (Capture fault) behind = subst (λ (l : List ℕ). HasCaptureFault l fault) (sym behind.whole) behind.faulty
 capture_fault text (OfJournal fault) behind = absurd behind.faulty
 capture_fault text (OfReplies fault) behind = absurd behind.faulty
+capture_fault text (Pcap fault) behind = absurd behind.faulty
 
 -- a fault of the journal
 journal_fault : (text bytes : List ℕ) (refusal : Refusal) → IsCapture bytes → HasFaultBehind journal_kind bytes text refusal → HasPartFault text refusal
@@ -91,11 +92,13 @@ journal_fault text bytes (OfJournal fault) good behind = record {
   bad = behind.faulty.1;
 }
 journal_fault text bytes (OfReplies fault) good behind = absurd behind.faulty
+journal_fault text bytes (Pcap fault) good behind = absurd behind.faulty
 
 -- a fault of the replies file
 replies_fault : (text bytes more : List ℕ) (refusal : Refusal) → IsCapture bytes → IsJournal more → HasFaultBehind replies_kind (bytes ++ more) text refusal → HasPartFault text refusal
 replies_fault text bytes more (Capture fault) good journal behind = absurd behind.faulty
 replies_fault text bytes more (OfJournal fault) good journal behind = absurd behind.faulty
+replies_fault text bytes more (Pcap fault) good journal behind = absurd behind.faulty
 replies_fault text bytes more (OfReplies fault) good journal behind = record {
   capture_text = bytes;
   journal_text = more;
@@ -170,5 +173,6 @@ streams_read rest faults first now left (Ok streams) has =
 streams_read rest faults first now left (Err (Refused (Capture fault))) stops = if_some (rest first) (λ text. HasFaultBehind capture_kind [] text (Capture fault)) (λ text. HasCaptureFault text fault) (λ text. capture_fault text (Capture fault)) stops.1
 streams_read rest faults first now left (Err (Refused (OfJournal fault))) stops = absurd stops.0.1
 streams_read rest faults first now left (Err (Refused (OfReplies fault))) stops = absurd stops.0.1
+streams_read rest faults first now left (Err (Refused (Pcap fault))) stops = absurd stops.0.1
 streams_read rest faults first now left (Err ReadFault) stops = stops
 streams_read rest faults first now left (Err NoMemory) stops = tt

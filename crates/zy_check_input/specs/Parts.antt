@@ -15,7 +15,7 @@ use Rattle.zy_journal.specs.declared.journal.Journal.{Journal}
 use Rattle.zy_journal_reader.specs.Verdict as Journals
 use Rattle.zy_check_input.specs.declared.parts.Parts.{Parts}
 use Rattle.zy_check_input.specs.declared.stop.Refusal.{Refusal}
-use Rattle.zy_check_input.specs.declared.stop.Refusal.TheVariants.{Capture, Journal as OfJournal, Replies as OfReplies}
+use Rattle.zy_check_input.specs.declared.stop.Refusal.TheVariants.{Capture, Journal as OfJournal, Replies as OfReplies, Pcap}
 use Rattle.zy_read.specs.declared.stop.Stop.{Stop}
 use Rattle.zy_read.specs.declared.stop.Stop.TheVariants.{Refused, ReadFault, NoMemory}
 
@@ -87,6 +87,7 @@ abbrev pub HasPartFault : List ℕ → Refusal → Type 0
 HasPartFault text (Capture fault) = HasCaptureFault text fault
 HasPartFault text (OfJournal fault) = HasJournalFault text fault
 HasPartFault text (OfReplies fault) = HasRepliesFault text fault
+HasPartFault text (Pcap fault) = ⊥
 
 -- ---- reading
 

@@ -2,6 +2,7 @@
 
 use zy_base::FileFault;
 use zy_capture::CaptureFault;
+use zy_pcap::PcapFault;
 
 /// Why an input is refused: the first fault, of the part that has it. Places count from the start of
 /// that part.
@@ -13,6 +14,8 @@ pub enum Refusal {
     Journal(FileFault),
     /// The replies file has this fault.
     Replies(FileFault),
+    /// Recorded packets have this fault; no part of a check's input has it.
+    Pcap(PcapFault),
 }
 
 /// Why an input is read no further.

@@ -11,8 +11,8 @@ use Rattle.zy_command_line.specs.declared.request.Request.{Request}
 use Rattle.zy_command_line.specs.declared.request.Request.TheVariants as Requests
 use Rattle.zy_command_line.specs.declared.verb.Verb.{Verb}
 use Rattle.zy_command_line.specs.declared.verb.Verb.TheVariants as Verbs
-use Rattle.zy_command_line.specs.Request.{in_range, number_in, number_or, cores_of, threads_of, order_of, shards_of, out_of, run_on, run_of, traffic_of, traffic_within, seed_of, conns_of, commands_of, run_by, self_by, asked_by, asked_with, verb_named, names_of, request_of}
-use Rattle.zy_command_line.specs.Range.{IsRunnable, AreShards, IsMakeable}
+use Rattle.zy_command_line.specs.Request.{in_range, number_in, number_or, cores_of, threads_of, order_of, shards_of, port_of, out_of, run_on, run_of, traffic_of, traffic_within, seed_of, conns_of, commands_of, run_by, self_by, asked_by, asked_with, verb_named, names_of, request_of}
+use Rattle.zy_command_line.specs.Range.{IsRunnable, AreShards, IsPort, IsMakeable}
 
 -- a number, where there is one, is from one to another
 abbrev IsFrom : ℕ → ℕ → Option ℕ → Type 0
@@ -110,6 +110,7 @@ AsksFine (Some (Requests.Run run out)) = IsRunnable run
 AsksFine (Some (Requests.Check shards)) = AreShards shards
 AsksFine (Some (Requests.Gen traffic)) = IsMakeable traffic
 AsksFine (Some (Requests.SelfTest traffic run)) = IsMakeable traffic × IsRunnable run
+AsksFine (Some (Requests.Pcap port)) = IsPort port
 
 outed : (run : Run) (out : Option Out) → IsRunnable run → AsksFine (option_map (Requests.Run run) out)
 outed run None is = tt
@@ -135,11 +136,16 @@ gen_asks : (traffic : Option Traffic) → IsMade traffic → AsksFine (option_ma
 gen_asks None is = tt
 gen_asks (Some traffic) is = is
 
+pcap_asks : (port : Option ℕ) → IsFrom 1 65535 port → AsksFine (option_map Requests.Pcap port)
+pcap_asks None is = tt
+pcap_asks (Some port) is = is
+
 asks : (verb : Verb) (options : Options) → AsksFine (asked_by verb options)
 asks Verbs.Run options = run_asks options (run_of options) (run_fine options)
 asks Verbs.Check options = check_asks (shards_of options) (given 1 256 16 (value_of (codes "shards") options) (omega arith) (omega arith))
 asks Verbs.Gen options = gen_asks (traffic_of options) (traffic_fine options)
 asks Verbs.SelfTest options = self_asks options (traffic_of options) (traffic_fine options)
+asks Verbs.Pcap options = pcap_asks (port_of options) (given 1 65535 11211 (value_of (codes "port") options) (omega arith) (omega arith))
 
 spelled : (verb : Verb) (options : Option Options) → AsksFine (option_and_then (asked_by verb) options)
 spelled verb None = tt
@@ -158,6 +164,9 @@ runs_are_runnable words run out e = let fine : AsksFine (request_of words) = all
 
 pub checks_have_shards : (words : List Word) (shards : ℕ) → request_of words ≡ Some (Requests.Check shards) → AreShards shards
 checks_have_shards words shards e = let fine : AsksFine (request_of words) = all_fine words in rw e at fine
+
+pub ports_are_ports : (words : List Word) (port : ℕ) → request_of words ≡ Some (Requests.Pcap port) → IsPort port
+ports_are_ports words port e = let fine : AsksFine (request_of words) = all_fine words in rw e at fine
 
 pub traffic_is_makeable : (words : List Word) (traffic : Traffic) → request_of words ≡ Some (Requests.Gen traffic) → IsMakeable traffic
 traffic_is_makeable words traffic e = let fine : AsksFine (request_of words) = all_fine words in rw e at fine

@@ -16,6 +16,10 @@ pub record IsRunnable (run : Run) : Type 0 where
 abbrev pub AreShards : ℕ → Type 0
 AreShards shards = (1 ≤ shards) × (shards ≤ 256)
 
+-- a port is 1 to 65,535
+abbrev pub IsPort : ℕ → Type 0
+IsPort port = (1 ≤ port) × (port ≤ 65535)
+
 -- traffic has 1 to 4,096 connections, and 1 to 1,000,000 commands in all, as many of each connection
 pub record IsMakeable (traffic : Traffic) : Type 0 where
   pub some_connections : 1 ≤ traffic.conns

@@ -54,6 +54,10 @@ order_of threads options = order_from threads (value_of (codes "order") options)
 abbrev pub shards_of : Options → Option ℕ
 shards_of options = number_or 1 256 16 (value_of (codes "shards") options)
 
+-- the port of recorded packets, 1 to 65,535
+abbrev pub port_of : Options → Option ℕ
+port_of options = number_or 1 65535 11211 (value_of (codes "port") options)
+
 -- what is written, by its name
 abbrev pub out_named : Word → Option Out
 out_named word = if bytes_eq word (codes "replies") then Some Replies
@@ -109,7 +113,8 @@ abbrev pub verb_named : Word → Option Verb
 verb_named word = if bytes_eq word (codes "run") then Some Verbs.Run
     else (if bytes_eq word (codes "check") then Some Verbs.Check
     else (if bytes_eq word (codes "gen") then Some Verbs.Gen
-    else (if bytes_eq word (codes "self") then Some Verbs.SelfTest else None)))
+    else (if bytes_eq word (codes "self") then Some Verbs.SelfTest
+    else (if bytes_eq word (codes "pcap") then Some Verbs.Pcap else None))))
 
 -- the options that a command takes
 abbrev pub names_of : Verb → List Word
@@ -118,6 +123,7 @@ names_of Verbs.Check = codes "shards" ∷ []
 names_of Verbs.Gen = codes "number" ∷ codes "conns" ∷ codes "commands" ∷ []
 names_of Verbs.SelfTest = codes "number" ∷ codes "conns" ∷ codes "commands" ∷ codes "cores" ∷ codes "threads" ∷ codes
     "order" ∷ codes "shards" ∷ []
+names_of Verbs.Pcap = codes "port" ∷ []
 
 -- serve a capture
 abbrev pub run_by : Options → Option Request
@@ -134,6 +140,7 @@ asked_by Verbs.Run options = run_by options
 asked_by Verbs.Check options = option_map Requests.Check (shards_of options)
 asked_by Verbs.Gen options = option_map Requests.Gen (traffic_of options)
 asked_by Verbs.SelfTest options = self_by options
+asked_by Verbs.Pcap options = option_map Requests.Pcap (port_of options)
 
 -- what a command asks for with the options that the words after it spell
 abbrev pub asked_with : List Word → Verb → Option Request

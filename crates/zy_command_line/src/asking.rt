@@ -5,7 +5,7 @@ ghost use Rattle.zy_command_line.specs.Grammar.{Options, is_plain};
 ghost use Rattle.zy_command_line.specs.Splitting.{HasOptions};
 ghost use Rattle.zy_command_line.specs.Request.{request_of, asked_with, asked_by, run_by, self_by};
 
-use crate::given::{out, run, shards, traffic};
+use crate::given::{out, port, run, shards, traffic};
 use crate::plain::plain_text;
 use crate::request::Request;
 use crate::splitting::split;
@@ -55,6 +55,10 @@ fn asked_by(verb: Verb, given: &ArgMatches<'_>) -> Option<Request>
             None => None,
         },
         Verb::SelfTest => self_by(given),
+        Verb::Pcap => match port(given) {
+            Some(port) => Some(Request::Pcap { port }),
+            None => None,
+        },
     }
 }
 

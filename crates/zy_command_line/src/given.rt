@@ -2,7 +2,7 @@
 ghost use Rattle.std.specs.Prelude.{◌≡◌, ◌≤◌, option_map};
 ghost use Rattle.zy_command_line.specs.Grammar.{Options};
 ghost use Rattle.zy_command_line.specs.Splitting.{HasOptions};
-ghost use Rattle.zy_command_line.specs.Request.{cores_of, threads_of, order_of, order_from, shards_of, out_of, out_from, run_of, traffic_of, seed_of, conns_of, commands_of};
+ghost use Rattle.zy_command_line.specs.Request.{cores_of, threads_of, order_of, order_from, shards_of, port_of, out_of, out_from, run_of, traffic_of, seed_of, conns_of, commands_of};
 
 use crate::number::{number_in, number_or};
 use crate::request::{Out, Run, Traffic};
@@ -14,6 +14,16 @@ pub(crate) fn shards(given: &ArgMatches<'_>) -> Option<u32>
     ensures value { (options : Options) → HasOptions options given.now → result ≡ shards_of options }
 {
     number_or(1, 256, 16, value(given, "shards"))
+}
+
+/// The port.
+pub(crate) fn port(given: &ArgMatches<'_>) -> Option<u16>
+    ensures value { (options : Options) → HasOptions options given.now → result ≡ port_of options }
+{
+    match number_or(1, 65_535, 11_211, value(given, "port")) {
+        Some(port) => Some(port as u16),
+        None => None,
+    }
 }
 
 /// What is written.

@@ -1,7 +1,7 @@
 //! Worked examples of the definitions: the function does nothing, and its contract is what they compute.
 ghost use Rattle.std.specs.Prelude.{◌≡◌, ℕ, List, [], ◌∷◌, codes, Some, None};
 ghost use Rattle.zy_command_line.specs.Grammar.{Word};
-ghost use Rattle.zy_command_line.specs.Range.{IsRunnable, AreShards, IsMakeable};
+ghost use Rattle.zy_command_line.specs.Range.{IsRunnable, AreShards, IsPort, IsMakeable};
 ghost use Rattle.zy_command_line.specs.declared.request.Run.{Run};
 ghost use Rattle.zy_command_line.specs.declared.request.Traffic.{Traffic};
 ghost use Rattle.zy_command_line.specs.declared.request.Out.{Out};
@@ -26,16 +26,23 @@ pub fn worked_requests()
     ensures dashes { request_of (codes "run" ∷ codes "--" ∷ []) ≡ None }
     ensures other_out { request_of (codes "run" ∷ codes "--out=x" ∷ []) ≡ None }
     ensures other_command { request_of (codes "check" ∷ codes "--cores=1" ∷ []) ≡ None }
+    ensures default_port { request_of (codes "pcap" ∷ []) ≡ Some (Requests.Pcap 11211) }
+    ensures port { request_of (codes "pcap" ∷ codes "--port=65535" ∷ []) ≡ Some (Requests.Pcap 65535) }
+    ensures no_port { request_of (codes "pcap" ∷ codes "--port" ∷ codes "0" ∷ []) ≡ None }
+    ensures port_over { request_of (codes "pcap" ∷ codes "--port=65536" ∷ []) ≡ None }
     ensures too_much { request_of (codes "gen" ∷ codes "--conns=1001" ∷ codes "--commands=1000" ∷ []) ≡ None }
 {}
 
 /// A lawful run has 1 to 64 cores, 1 to as many threads, and 1 to 256 shards; a check has 1 to 256
-/// shards; made traffic has 1 to 4,096 connections and at most 1,000,000 commands.
+/// shards; made traffic has 1 to 4,096 connections and at most 1,000,000 commands; a port is 1
+/// to 65,535.
 pub fn requests_are_in_their_ranges()
     ensures run { (words : List Word) (run : Run) (out : Out)
         → request_of words ≡ Some (Requests.Run run out) → IsRunnable run }
     ensures check { (words : List Word) (shards : ℕ)
         → request_of words ≡ Some (Requests.Check shards) → AreShards shards }
+    ensures port { (words : List Word) (port : ℕ)
+        → request_of words ≡ Some (Requests.Pcap port) → IsPort port }
     ensures traffic { (words : List Word) (traffic : Traffic)
         → request_of words ≡ Some (Requests.Gen traffic) → IsMakeable traffic }
     ensures self_traffic { (words : List Word) (traffic : Traffic) (run : Run)

@@ -9,6 +9,8 @@ pub enum Request {
     Check { shards: u32 },
     /// Make a capture.
     Gen { traffic: Traffic },
+    /// Make a capture of recorded packets to this port, 1 to 65,535.
+    Pcap { port: u16 },
     /// Make a capture, serve it, and check what came.
     SelfTest { traffic: Traffic, run: Run },
 }

@@ -9,6 +9,7 @@ pub(crate) enum Verb {
     Check,
     Gen,
     SelfTest,
+    Pcap,
 }
 
 /// The command that a word names.
@@ -20,6 +21,7 @@ pub(crate) fn verb_named(word: &[u8]) -> Option<Verb>
         b"check" => Some(Verb::Check),
         b"gen" => Some(Verb::Gen),
         b"self" => Some(Verb::SelfTest),
+        b"pcap" => Some(Verb::Pcap),
         _ => None,
     }
 }
@@ -35,5 +37,6 @@ pub(crate) fn names_of(verb: Verb) -> &'static [&'static str]
         Verb::SelfTest => &[
             "number", "conns", "commands", "cores", "threads", "order", "shards",
         ],
+        Verb::Pcap => &["port"],
     }
 }

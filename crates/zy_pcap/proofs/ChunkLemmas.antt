@@ -1,11 +1,13 @@
 -- Bytes of chunks: what is there after a byte was put, and after several.
-use Rattle.std.proofs.Common.{◌≡◌, ℕ, ◌+◌, ◌*◌, ◌%◌, ◌^◌, ◌<◌, List, length, take, get_or, set, refl, sym, ap, ◌∙◌, inl, inr, arith}
+use Rattle.std.proofs.Common.{◌≡◌, ℕ, ◌+◌, ◌*◌, ◌/◌, ◌%◌, ◌^◌, ◌<◌, ◌≤◌, List, length, take, get_or, set, refl, sym, ap, ◌∙◌, inl, inr, arith}
 use Rattle.std.specs.Prelude.{Option, Some, None, bit_or}
 use Rattle.std.specs.Int.{bit_at, w64}
 use Rattle.std.proofs.lemmas.Bool.{cases_eq}
 use Rattle.std.proofs.lemmas.Bool.Decides.{nat_tests}
 use Rattle.std.proofs.lemmas.List.{get_or-set_same, get_or-set_other}
-use Rattle.std.proofs.lemmas.Nat.Bits.{bit_at-zero, bit_at_set_same, bit_at_set_other, bit_at-lt}
+use Rattle.std.proofs.lemmas.Nat.Bits.{bit_at-zero, bit_at_set_same, bit_at_set_other, bit_at-lt, bit_at_above}
+use Rattle.std.proofs.lemmas.Nat.{pow_pos}
+use Rattle.std.proofs.Math.Nat.{div-lt_iff_lt-mul}
 use Rattle.zy_pcap.specs.declared.chunk.Chunk.{Chunk}
 use Rattle.zy_pcap.specs.Session.{first_of}
 use Rattle.zy_pcap.specs.Chunk.{byte_in, covered, alone, HoldsBoth}
@@ -50,3 +52,12 @@ fill_more old now new bytes from n within before here at =
     here at ∙ ap (λ b. first_of b (alone (from + n) (get_or bytes n 0) at)) (before at)
     ∙ first_assoc (byte_in old at) (covered (take n bytes) from at) (alone (from + n) (get_or bytes n 0) at)
     ∙ ap (first_of (byte_in old at)) (sym (covered_more bytes n from at within))
+
+-- ---- no byte
+
+-- no byte is there from a place on, where the bits from there on are none
+pub none_above : (chunk : Chunk) (from at : ℕ) → chunk.have / 2 ^ from ≡ 0 → from ≤ at → byte_in chunk at ≡ None
+none_above chunk from at none above =
+    let below : chunk.have / 2 ^ from < 1 = omega (arith, none) in
+    let small : chunk.have < 2 ^ from = omega (arith, (div-lt_iff_lt-mul {k = 2 ^ from} {x = chunk.have} {y = 1} (pow_pos from)).0 below) in
+    rw (bit_at_above chunk.have from at small above) refl

@@ -7,11 +7,10 @@ use Rattle.zy_read.specs.declared.not_taken.NotTaken.TheVariants.{Fault, NoMemor
 use Rattle.zy_pcap.specs.declared.pcap_fault.PcapFault.{PcapFault}
 use Rattle.zy_pcap.specs.declared.pcap_fault.PcapFault.TheVariants.{FlowLength}
 use Rattle.zy_pcap.specs.declared.judged.Segment.{Segment}
-use Rattle.zy_pcap.specs.declared.chunk.Chunk.{Chunk}
 use Rattle.zy_pcap.specs.declared.kept_session.KeptSession.{KeptSession}
 use Rattle.zy_pcap.specs.Packet.{Packet, packet_with}
 use Rattle.zy_pcap.specs.Session.{Session, number_after, first_number, reaches, byte_of, first_of, byte_at, begun_by}
-use Rattle.zy_pcap.specs.Chunk.{held_in, covered, HoldsSame, HoldsBoth}
+use Rattle.zy_pcap.specs.Chunk.{Held, byte_held, covered, HoldsSame, HoldsBoth}
 use Rattle.zy_pcap.specs.Kept.{KeepsSession, Adds, MeetsSession, apart, session_next}
 use Rattle.zy_pcap.proofs.ChunkLemmas.{first_none, first_assoc}
 use Rattle.zy_pcap.proofs.SessionLemmas.{start, near_ends, before_ends, far_reaches, byte_near, byte_before, none_covered}
@@ -26,7 +25,7 @@ byte_at_last first (other ∷ packets) packet at =
 
 -- what was added is what the packet has
 added_keeps : (old new : KeptSession) (session : Session) (packet : Packet) (more : ℕ → Option ℕ) → KeepsSession old session → new.sequence ≡ old.sequence → new.is_syn ≡ old.is_syn
-    → HoldsBoth (held_in old.bytes) (held_in new.bytes) more → ((at : ℕ) → at < 2 ^ 31 → byte_of session.first packet at ≡ more at) → KeepsSession new (session_next packet session)
+    → HoldsBoth (byte_held old.bytes) (byte_held new.bytes) more → ((at : ℕ) → at < 2 ^ 31 → byte_of session.first packet at ≡ more at) → KeepsSession new (session_next packet session)
 added_keeps old new session packet more keeps sequence syn both same = record {
   sequence = sequence ∙ keeps.sequence;
   syn = syn ∙ keeps.syn;
@@ -36,7 +35,7 @@ added_keeps old new session packet more keeps sequence syn both same = record {
 }
 
 -- nothing was changed
-pub same_keeps : (old new : KeptSession) (session : Session) → KeepsSession old session → new.sequence ≡ old.sequence → new.is_syn ≡ old.is_syn → HoldsSame (held_in old.bytes) (held_in new.bytes) → KeepsSession new session
+pub same_keeps : (old new : KeptSession) (session : Session) → KeepsSession old session → new.sequence ≡ old.sequence → new.is_syn ≡ old.is_syn → HoldsSame (byte_held old.bytes) (byte_held new.bytes) → KeepsSession new session
 same_keeps old new session keeps sequence syn same = record {
   sequence = sequence ∙ keeps.sequence;
   syn = syn ∙ keeps.syn;
@@ -76,13 +75,13 @@ meets_before old new segment payload bytes at offset (Err NoMemory) same before 
 pub meets_nothing : (old : KeptSession) (segment : Segment) (payload : List ℕ) (at offset : ℕ) → offset ≡ start_by old segment → 2 ^ 31 ≤ offset → length payload < 65536 → length payload ≤ 2 ^ 32 - offset → MeetsSession (packet_with segment payload) at old old (Ok tt)
 meets_nothing old segment payload at offset same before few all =
     let none : drop (2 ^ 32 - offset) payload ≡ [] = drop_all (2 ^ 32 - offset) payload all in
-    meets_before old old segment payload [] at offset (Ok tt) same before few (sym none) (refl, refl, λ d. sym (ap (first_of (held_in old.bytes d)) (none_covered 0 d) ∙ first_none (held_in old.bytes d)))
+    meets_before old old segment payload [] at offset (Ok tt) same before few (sym none) (refl, refl, λ d. sym (ap (first_of (byte_held old.bytes d)) (none_covered 0 d) ∙ first_none (byte_held old.bytes d)))
 
 -- there is no payload
 pub meets_empty : (old : KeptSession) (segment : Segment) (payload : List ℕ) (at : ℕ) → length payload ≡ 0 → MeetsSession (packet_with segment payload) at old old (Ok tt)
 meets_empty old segment (byte ∷ payload) at none = absurd (omega (arith, none))
 meets_empty old segment [] at none = λ session keeps.
-    (refl, added_keeps old old session (packet_with segment []) (covered [] 0) keeps refl refl (λ d. sym (ap (first_of (held_in old.bytes d)) (none_covered 0 d) ∙ first_none (held_in old.bytes d))) (λ d low. sym (none_covered 0 d)))
+    (refl, added_keeps old old session (packet_with segment []) (covered [] 0) keeps refl refl (λ d. sym (ap (first_of (byte_held old.bytes d)) (none_covered 0 d) ∙ first_none (byte_held old.bytes d))) (λ d low. sym (none_covered 0 d)))
 
 pub meets_far : (old : KeptSession) (segment : Segment) (payload : List ℕ) (at offset : ℕ) → offset ≡ start_by old segment → offset < 2 ^ 31 → 0 < length payload → 2 ^ 30 < offset + length payload → MeetsSession (packet_with segment payload) at old old (Err (Fault (FlowLength at)))
 meets_far old segment payload at offset same low some far = λ session keeps.
@@ -97,7 +96,7 @@ apart_same n few = (let whole : n + (2 ^ 32 - n) ≡ 2 ^ 32 = omega (arith, few)
 start_zero : (packet : Packet) → start packet packet ≡ 0
 start_zero packet = apart_same (first_number packet) (omega arith)
 
-pub begun_keeps : (segment : Segment) (payload : List ℕ) (old new : List (ℕ × Chunk)) → length payload < 65536 → ((at : ℕ) → held_in old at ≡ None) → HoldsBoth (held_in old) (held_in new) (covered payload 0)
+pub begun_keeps : (segment : Segment) (payload : List ℕ) (old new : Held) → length payload < 65536 → ((at : ℕ) → byte_held old at ≡ None) → HoldsBoth (byte_held old) (byte_held new) (covered payload 0)
     → KeepsSession (record { sequence = segment.sequence; is_syn = segment.is_syn; bytes = new }) (begun_by (packet_with segment payload))
 begun_keeps segment payload old new few none both =
     let packet : Packet = packet_with segment payload in

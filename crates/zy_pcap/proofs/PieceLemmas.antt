@@ -1,7 +1,8 @@
 -- Bytes that are fed one after another, as one piece.
-use Rattle.std.proofs.Common.{◌≡◌, ℕ, ◌+◌, ◌<◌, ◌≤◌, List, [], ◌∷◌, ◌++◌, length, take, get_or, sym, ap, ◌∙◌, subst, append_assoc, arith}
+use Rattle.std.proofs.Common.{◌≡◌, ℕ, ◌+◌, ◌-◌, ◌<◌, ◌≤◌, List, [], ◌∷◌, ◌++◌, length, take, drop, get_or, sym, ap, ◌∙◌, subst, append_assoc, arith}
 use Rattle.std.specs.Prelude.{Option, Some, Err}
-use Rattle.std.proofs.lemmas.List.{take_more, append-nil}
+use Rattle.std.proofs.Math.Seq.{take-add}
+use Rattle.std.proofs.lemmas.List.{take_more, take_rest, append-nil}
 use Rattle.zy_read.specs.declared.not_taken.NotTaken.{NotTaken}
 use Rattle.zy_read.specs.declared.not_taken.NotTaken.TheVariants.{Fault, NoMemory}
 use Rattle.zy_pcap.specs.declared.pcap_fault.PcapFault.{PcapFault}
@@ -53,3 +54,17 @@ stop_lasts old now bytes at NoMemory within port first second = tt
 pub stop_within : (at size : ℕ) (refused : NotTaken PcapFault) → at < size → taken_before at refused ≤ size
 stop_within at size (Fault fault) within = omega (arith, within)
 stop_within at size NoMemory within = omega (arith, within)
+
+-- ---- a run
+
+run_is : (bytes : List ℕ) (at run : ℕ) → take (at + run) bytes ≡ take at bytes ++ take run (drop at bytes)
+run_is bytes at run = take-add at run bytes
+
+-- a run after the bytes before it
+pub run_on : (old now new : Reading) (bytes : List ℕ) (at run : ℕ) → Feeds old now (take at bytes) → Feeds now new (take run (drop at bytes)) → Feeds old new (take (at + run) bytes)
+run_on old now new bytes at run first second = λ b stood.
+    subst (StandsFor new) (append_assoc b (take at bytes) (take run (drop at bytes)) ∙ ap (λ (l : List ℕ). b ++ l) (sym (run_is bytes at run))) (second (b ++ take at bytes) (first b stood))
+
+-- the same of the slice from the place on
+pub slice_on : (old now new : Reading) (bytes : List ℕ) (at run : ℕ) → Feeds old now (take at bytes) → Feeds now new (take run (take (length bytes - at) (drop at bytes))) → Feeds old new (take (at + run) bytes)
+slice_on old now new bytes at run first second = run_on old now new bytes at run first (subst (λ (l : List ℕ). Feeds now new (take run l)) (take_rest bytes at) second)

@@ -111,6 +111,10 @@ unfolding read_on
 read_append port p [] second = refl
 read_append port p (byte ∷ first) second = read_append port (step port p byte) first second
 
+pub read_more : (port : ℕ) (b bytes : List ℕ) → read port (b ++ bytes) ≡ read_on port (read port b) bytes
+unfolding read
+read_more port b bytes = read_append port nothing_read b bytes
+
 read_last : (port : ℕ) (b : List ℕ) (byte : ℕ) → read port (b ++ byte ∷ []) ≡ step port (read port b) byte
 unfolding read read_on
 read_last port b byte = read_append port nothing_read b (byte ∷ [])

@@ -6,7 +6,7 @@ use Rattle.zy_pcap.specs.declared.kept_flow.KeptFlow.{KeptFlow}
 use Rattle.zy_pcap.specs.Session.{Session, byte_at, longest_from, longest, stream}
 use Rattle.zy_pcap.specs.Flow.{Flow, Flows, streams_in, streams_of}
 use Rattle.zy_pcap.specs.Pairs.{BothOrNone, AllPairs}
-use Rattle.zy_pcap.specs.Chunk.{held_in}
+use Rattle.zy_pcap.specs.Chunk.{byte_held}
 use Rattle.zy_pcap.specs.Kept.{KeepsSession, KeepsFlow, KeepsFlows}
 use Rattle.zy_pcap.specs.Streams.{kept_stream, streams_by, kept_streams}
 
@@ -20,9 +20,14 @@ longest_same f g at zero same = refl
 longest_same f g at (suc count) same =
     same_by f g at count (g at) (same at (omega arith)) refl (longest_same f g (at + 1) count (λ d low. same d (omega (arith, low))))
 
+-- the same byte at each offset
+pub same_longest : (f g : ℕ → Option ℕ) → ((d : ℕ) → f d ≡ g d) → longest f ≡ longest g
+unfolding longest
+same_longest f g same = longest_same f g 0 (2 ^ 31) (λ d low. same d)
+
 stream_same : (kept : KeptSession) (session : Session) → KeepsSession kept session → kept_stream kept ≡ stream session
 unfolding longest
-stream_same kept session keeps = longest_same (held_in kept.bytes) (byte_at session.first session.packets) 0 (2 ^ 31) (λ d low. keeps.bytes d (omega (arith, low)))
+stream_same kept session keeps = longest_same (byte_held kept.bytes) (byte_at session.first session.packets) 0 (2 ^ 31) (λ d low. keeps.bytes d (omega (arith, low)))
 
 sessions_same : (kept : List KeptSession) (sessions : List Session) → AllPairs KeepsSession kept sessions → map kept_stream kept ≡ map stream sessions
 sessions_same [] [] pairs = refl

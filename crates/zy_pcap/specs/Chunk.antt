@@ -1,4 +1,5 @@
--- Bytes that are kept by their offsets, in chunks of 64. No public clause cites this module.
+-- Bytes that are kept by their offsets: the first ones in a row, and others in chunks of 64. No public clause cites this
+-- module.
 use Rattle.std.specs.Prelude.{◌≡◌, ℕ, ◌+◌, ◌-◌, ◌/◌, ◌%◌, ◌<◌, ◌≤◌, ◌==◌, nat_le, nat_lt, if◌then◌else◌, ◌&&◌, List, length, Option, None, Some, IsSome, slice_index}
 use Rattle.std.specs.Int.{bit_at}
 use Rattle.std.specs.BTreeMap.{BTreeMap, get, is_at}
@@ -48,3 +49,24 @@ HasChunks chunks first end = (number : ℕ) → first ≤ number → number < en
 -- chunks that were there are there
 abbrev pub KeepsChunks : BTreeMap ℕ Chunk → BTreeMap ℕ Chunk → Type 0
 KeepsChunks old new = (number : ℕ) → IsSome (get nat_cmp old number) → IsSome (get nat_cmp new number)
+
+-- these are the bytes from an offset on
+abbrev pub AreThere : (ℕ → Option ℕ) → ℕ → List ℕ → Type 0
+AreThere byte from bytes = (d : ℕ) → d < length bytes → byte (from + d) ≡ Some (slice_index bytes d)
+
+-- the bytes from an offset on are as they were
+abbrev pub HoldsFrom : ℕ → (ℕ → Option ℕ) → (ℕ → Option ℕ) → Type 0
+HoldsFrom from old new = (at : ℕ) → from ≤ at → new at ≡ old at
+
+-- ---- the first bytes, and others
+
+-- bytes that are kept by their offsets
+pub record Held : Type 0 where
+  -- those from the first one on, in a row
+  pub front : List ℕ
+  -- others, in chunks by their numbers
+  pub chunks : List (ℕ × Chunk)
+
+-- the byte at an offset
+unfoldable pub byte_held : Held → ℕ → Option ℕ
+byte_held held at = first_of (covered held.front 0 at) (held_in held.chunks at)

@@ -12,7 +12,7 @@ use Rattle.zy_pcap.specs.declared.kept_flow.KeptFlow.{KeptFlow}
 use Rattle.zy_pcap.specs.Packet.{Packet}
 use Rattle.zy_pcap.specs.Session.{Session, reaches, byte_at, begun_by, with_packet}
 use Rattle.zy_pcap.specs.Flow.{Flow, Flows, Keys, put_at, grown, length_fault, flow_fault, joined}
-use Rattle.zy_pcap.specs.Chunk.{held_in, covered, HoldsSame, HoldsBoth}
+use Rattle.zy_pcap.specs.Chunk.{byte_held, covered, HoldsSame, HoldsBoth}
 use Rattle.zy_pcap.specs.Pairs.{BothOrNone, AllPairs}
 
 -- ---- what is kept
@@ -21,7 +21,7 @@ use Rattle.zy_pcap.specs.Pairs.{BothOrNone, AllPairs}
 pub record KeepsSession (kept : KeptSession) (session : Session) : Type 0 where
   pub sequence : kept.sequence ≡ session.first.sequence
   pub syn : kept.is_syn ≡ session.first.is_syn
-  pub bytes : (at : ℕ) → at < 2 ^ 31 → held_in kept.bytes at ≡ byte_at session.first session.packets at
+  pub bytes : (at : ℕ) → at < 2 ^ 31 → byte_held kept.bytes at ≡ byte_at session.first session.packets at
 
 -- of a flow its key and its sessions
 pub record KeepsFlow (kept : KeptFlow) (flow : Flow) : Type 0 where
@@ -64,10 +64,10 @@ continues sessions segment = continues_by (slice_get sessions (length sessions -
 abbrev pub Adds : KeptSession → KeptSession → ℕ → List ℕ → Result ⊤ (NotTaken PcapFault) → Type 0
 Adds old new from bytes (Ok u) =
     (new.sequence ≡ old.sequence) × (new.is_syn ≡ old.is_syn)
-    × HoldsBoth (held_in old.bytes) (held_in new.bytes) (covered bytes from)
+    × HoldsBoth (byte_held old.bytes) (byte_held new.bytes) (covered bytes from)
 Adds old new from bytes (Err (Fault fault)) = ⊥
 Adds old new from bytes (Err NoMemory) =
-    (new.sequence ≡ old.sequence) × (new.is_syn ≡ old.is_syn) × HoldsSame (held_in old.bytes) (held_in new.bytes)
+    (new.sequence ≡ old.sequence) × (new.is_syn ≡ old.is_syn) × HoldsSame (byte_held old.bytes) (byte_held new.bytes)
 
 -- what was kept of something is kept of what a packet makes of it, or there is this fault, or memory was wanted
 abbrev pub MeetsAs : {K S : Type 0} → (K → S → Type 0) → (S → Option PcapFault) → (S → S) → K → K

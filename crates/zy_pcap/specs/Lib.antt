@@ -1,4 +1,5 @@
 pub mod Chunk
+pub mod Copies
 pub mod Flow
 pub mod Frame
 pub mod Kept
@@ -12,4 +13,5 @@ pub mod Standing
 pub mod Step
 pub mod Steps
 pub mod Streams
+pub mod Texts
 pub mod Worked

@@ -1,11 +1,11 @@
 -- What the reader of records answers to a byte. No public clause cites this module.
-use Rattle.std.specs.Prelude.{◌≡◌, ℕ, ◌<◌, ◌≤◌, Bool, true, false, List, [], length, Result, Ok, Err, ⊤}
+use Rattle.std.specs.Prelude.{◌≡◌, ℕ, ◌-◌, ◌<◌, ◌≤◌, min, Bool, true, false, List, [], length, Result, Ok, Err, ⊤}
 use Rattle.zy_read.specs.declared.not_taken.NotTaken.{NotTaken}
 use Rattle.zy_read.specs.declared.not_taken.NotTaken.TheVariants.{Fault, NoMemory}
 use Rattle.zy_pcap.specs.declared.pcap_fault.PcapFault.{PcapFault}
 use Rattle.zy_pcap.specs.declared.due.Due.{Due}
 use Rattle.zy_pcap.specs.declared.due.Due.TheVariants as Dues
-use Rattle.zy_pcap.specs.Steps.{Place, Move, is_open}
+use Rattle.zy_pcap.specs.Steps.{Place, Move, is_open, file_limit}
 use Rattle.zy_pcap.specs.Steps.Move.{Goes, Ends}
 
 -- an answer and a new place are those of a move; at a record's last byte the frame is whole, and all else as before
@@ -26,6 +26,15 @@ IsWithin due frame room = frame ≡ []
 abbrev pub IsPart : Due → List ℕ → Type 0
 IsPart (Dues.Frame size) frame = length frame < size
 IsPart due frame = ⊤
+
+-- by what is due
+abbrev pub room_in : Due → Place → ℕ
+room_in (Dues.Frame size) p = min (size - length p.frame - 1) (file_limit - p.at)
+room_in due p = 0
+
+-- how many bytes of a frame may come next, apart from its last one
+abbrev pub run_room : Place → ℕ
+run_room p = room_in p.due p
 
 -- the byte that is due is one of a number
 abbrev pub has_number : Due → Bool

@@ -3,11 +3,11 @@ use Rattle.std.specs.Prelude.{ℕ, List, [], map, Option, None, Some}
 use Rattle.zy_pcap.specs.declared.kept_session.KeptSession.{KeptSession}
 use Rattle.zy_pcap.specs.declared.kept_flow.KeptFlow.{KeptFlow}
 use Rattle.zy_pcap.specs.Session.{longest}
-use Rattle.zy_pcap.specs.Chunk.{held_in}
+use Rattle.zy_pcap.specs.Chunk.{byte_held}
 
 -- the stream of a session
 abbrev pub kept_stream : KeptSession → List ℕ
-kept_stream session = longest (held_in session.bytes)
+kept_stream session = longest (byte_held session.bytes)
 
 -- the streams of a flow
 abbrev pub streams_by : Option KeptFlow → List (List ℕ)

@@ -1,6 +1,6 @@
 //! Some of 64 bytes.
-ghost use Rattle.std.specs.Prelude.{◌≡◌, ℕ, ◌+◌, ◌<◌, ◌≤◌, None, length};
-ghost use Rattle.zy_pcap.specs.Chunk.{byte_in, covered, alone, HoldsBoth};
+ghost use Rattle.std.specs.Prelude.{◌≡◌, ℕ, ◌+◌, ◌<◌, ◌≤◌, None, length, true};
+ghost use Rattle.zy_pcap.specs.Chunk.{byte_in, covered, alone, HoldsBoth, AreThere};
 
 /// Some of 64 bytes: bit i of `have` says whether byte i is there.
 #[derive(Clone, Copy)]
@@ -40,5 +40,27 @@ impl Chunk {
         for (i, byte) in bytes.iter().enumerate() {
             self.put(from + i, *byte);
         }
+    }
+
+    // The bytes that are there from a place on, up to the first one that is not.
+    pub(crate) fn run(&self, from: usize) -> &[u8]
+        requires within { from < 64 }
+        ensures there { AreThere (byte_in self.now) from result.now }
+        ensures none { length result.now ≡ 0 → byte_in self.now from ≡ None }
+        ensures within { from + length result.now ≤ 64 }
+    {
+        let mut end = from;
+        while end < 64 && (self.have >> end) % 2 == 1 {
+            end += 1;
+        }
+        &self.bytes[from..end]
+    }
+
+    // No byte is there from a place on.
+    pub(crate) fn is_done(&self, from: usize) -> bool
+        requires within { from < 64 }
+        ensures value { result ≡ true → (at : ℕ) → from ≤ at → byte_in self.now at ≡ None }
+    {
+        self.have >> from == 0
     }
 }

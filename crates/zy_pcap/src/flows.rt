@@ -2,6 +2,7 @@
 ghost use Rattle.std.specs.Prelude.{◌≡◌, ◌≤◌, length};
 ghost use Rattle.zy_pcap.specs.Streams.{kept_streams};
 
+use crate::kept_flow::KeptFlow;
 use crate::kept_flows::KeptFlows;
 use std::marker::Model;
 
@@ -31,6 +32,15 @@ impl Flows {
         ensures value { result ≡ kept_streams kept.flows.items }
     {
         Flows { kept }
+    }
+
+    // What is kept.
+    #[tactic(auto, using(crate::proofs::StreamLemmas::streams_length))]
+    pub(crate) fn kept(&self) -> &[Option<KeptFlow>]
+        ensures value { kept_streams result.now ≡ self.now }
+        ensures limit { length result.now ≤ 4096 }
+    {
+        self.kept.flows.as_slice()
     }
 
     #[tactic(auto, using(crate::proofs::StreamLemmas::streams_length))]

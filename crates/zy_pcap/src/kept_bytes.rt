@@ -1,8 +1,8 @@
 //! Bytes that are kept by their offsets, each the first one that came.
-ghost use Rattle.std.specs.Prelude.{◌≡◌, ℕ, ◌+◌, ◌/◌, ◌%◌, ◌<◌, ◌≤◌, ◌^◌, None, length, IsSome, OnOk, OnErr};
+ghost use Rattle.std.specs.Prelude.{◌≡◌, ℕ, ◌+◌, ◌/◌, ◌%◌, ◌<◌, ◌≤◌, ◌^◌, ◌-◌, None, length, true, [], IsSome, OnOk, OnErr};
 ghost use Rattle.std.specs.BTreeMap.{get};
 ghost use Rattle.std.specs.Ordering.{nat_cmp};
-ghost use Rattle.zy_pcap.specs.Chunk.{held, covered, HoldsSame, HoldsBoth, HasChunks, KeepsChunks};
+ghost use Rattle.zy_pcap.specs.Chunk.{held, covered, HoldsSame, HoldsBoth, HoldsFrom, AreThere, HasChunks, KeepsChunks};
 
 use crate::chunk::Chunk;
 use std::alloc::Global;
@@ -99,6 +99,51 @@ impl KeptBytes {
         let number = (from / 64) as u32;
         if let Some(chunk) = self.chunks.get_mut(&number) {
             chunk.fill(from % 64, bytes);
+        }
+    }
+
+    // There are no bytes.
+    pub(crate) fn is_empty(&self) -> bool
+        ensures value { result ≡ true → self.now.chunks.entries ≡ [] }
+    {
+        self.chunks.is_empty()
+    }
+
+    // Some bytes that are there from an offset on, in a row.
+    pub(crate) fn part(&self, at: usize) -> &[u8]
+        requires within { at < 2 ^ 31 }
+        ensures there { AreThere (held self.now.chunks) at result.now }
+        ensures none { length result.now ≡ 0 → held self.now.chunks at ≡ None }
+        ensures few { length result.now ≤ 64 }
+    {
+        match self.chunks.get(&((at / 64) as u32)) {
+            Some(chunk) => chunk.run(at % 64),
+            None => &[],
+        }
+    }
+
+    // Forgets the chunk that ends at an offset, or that has no bytes from there on.
+    pub(crate) fn forget(&mut self, end: usize)
+        requires some { 0 < end }
+        requires within { end ≤ 2 ^ 31 }
+        ensures rest { HoldsFrom end (held self.old.chunks) (held self.new.chunks) }
+    {
+        let number = ((end - 1) / 64) as u32;
+        if self.is_done(number, end) {
+            let _ = self.chunks.remove(&number);
+        }
+    }
+
+    // A chunk has no bytes from an offset on that is its end or within it.
+    fn is_done(&self, number: u32, end: usize) -> bool
+        requires some { 0 < end }
+        requires number { number ≡ (end - 1) / 64 }
+        ensures value { result ≡ true → (at : ℕ) → end ≤ at → at / 64 ≡ number
+            → held self.now.chunks at ≡ None }
+    {
+        match self.chunks.get(&number) {
+            Some(chunk) => end % 64 == 0 || chunk.is_done(end % 64),
+            None => false,
         }
     }
 }

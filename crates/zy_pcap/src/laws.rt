@@ -1,10 +1,18 @@
 //! Laws over the definitions of recorded packets.
-ghost use Rattle.std.specs.Prelude.{◌≡◌, [], ◌∷◌};
+ghost use Rattle.std.specs.Prelude.{◌≡◌, ◌≤◌, List, [], ◌∷◌, ◌++◌, length};
+ghost use Rattle.zy_capture.specs.Capture.{AreBytes, capture_limit};
+ghost use Rattle.zy_capture.specs.Verdict.{verdict};
+ghost use Rattle.zy_capture.specs.Verdict.Verdict.{Good};
+ghost use Rattle.zy_pcap.specs.Flow.{flows_of, streams_of};
 ghost use Rattle.zy_pcap.specs.declared.pcap_fault.PcapFault.TheVariants as Faults;
-ghost use Rattle.zy_pcap.specs.Made.{pcap_capture};
+ghost use Rattle.zy_pcap.specs.Packet.{Packet};
+ghost use Rattle.zy_pcap.specs.Copies.{stream_of, IsCovered, Agree};
+ghost use Rattle.zy_pcap.specs.Made.{pcap_capture, records_from};
 ghost use Rattle.zy_pcap.specs.Packets.{packets};
 ghost use Rattle.zy_pcap.specs.Packets.Found.{Packets, Bad};
 ghost use Rattle.zy_pcap.specs.Worked.{worked_file, worked_packets, worked_capture};
+
+use zy_capture::a_capture_is_good_exactly_where_it_is_a_spelling;
 
 /// The worked file has its packets, and these make its capture.
 pub fn the_worked_file_makes_its_capture()
@@ -17,3 +25,34 @@ pub fn the_worked_faults_are_told()
     ensures empty { packets 1766 [] ≡ Bad (Faults.PcapTruncated 0) }
     ensures other { packets 1766 (10 ∷ 13 ∷ 13 ∷ 10 ∷ []) ≡ Bad (Faults.Magic 0) }
 {}
+
+/// A packet changes no stream where each of its bytes has an offset at which an earlier packet of the
+/// session has a byte; so a retransmission changes none.
+pub fn a_copy_changes_no_stream()
+    ensures covered { (first packet : Packet) (before after : List Packet)
+        → IsCovered first before packet
+        → stream_of first (before ++ packet ∷ after) ≡ stream_of first (before ++ after) }
+    ensures copy { (first packet : Packet) (before between after : List Packet)
+        → stream_of first ((before ++ packet ∷ between) ++ packet ∷ after)
+        ≡ stream_of first ((before ++ packet ∷ between) ++ after) }
+{}
+
+/// Two packets of a session may be exchanged, where they have the same byte at each offset at which
+/// both have one: the order of packets matters only for which copy is the first one.
+pub fn the_order_of_packets_changes_no_stream()
+    ensures order { (first one other : Packet) (before after : List Packet)
+        → Agree first one other
+        → stream_of first (before ++ one ∷ other ∷ after)
+        ≡ stream_of first (before ++ other ∷ one ∷ after) }
+{}
+
+/// The capture of recorded packets is good, where it has bytes alone and is not too long: its count is
+/// that of the connections, at most 4,096, and its records are those of their streams.
+pub fn the_capture_of_packets_is_good()
+    ensures good { (packets : List Packet) → AreBytes (pcap_capture packets)
+        → length (pcap_capture packets) ≤ capture_limit
+        → verdict (pcap_capture packets) ≡ Good 2 (length (streams_of (flows_of packets)))
+        (records_from 0 (streams_of (flows_of packets))) }
+{
+    a_capture_is_good_exactly_where_it_is_a_spelling();
+}

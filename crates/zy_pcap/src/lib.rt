@@ -18,9 +18,15 @@ mod reader;
 mod records;
 mod slot;
 mod word;
+mod writing;
 
 pub use fed::Fed;
 pub use flows::Flows;
-pub use laws::{the_worked_faults_are_told, the_worked_file_makes_its_capture};
+pub use laws::{
+    a_copy_changes_no_stream, the_capture_of_packets_is_good,
+    the_order_of_packets_changes_no_stream, the_worked_faults_are_told,
+    the_worked_file_makes_its_capture,
+};
 pub use pcap_fault::{PcapFault, PcapFeed};
 pub use reader::PcapReader;
+pub use writing::write_flows;

@@ -80,6 +80,7 @@ impl PcapReader {
     {
         let mut at = 0;
         while at < bytes.len() {
+            at += self.take_run(&bytes[at..]);
             if let Err(refused) = self.feed(bytes[at]) {
                 return Fed::stopped(at, refused);
             }
@@ -89,6 +90,19 @@ impl PcapReader {
             taken: at,
             answer: Ok(()),
         }
+    }
+
+    // Takes some first bytes of these, which are within a frame, and not the last one; maybe none.
+    // Gives how many.
+    fn take_run(&mut self, bytes: &[u8]) -> usize
+        requires some { 0 < length bytes.now }
+        ensures port { self.new.port ≡ self.old.port }
+        ensures within { result < length bytes.now }
+        ensures fed { Feeds self.old self.new (take result bytes.now) }
+    {
+        let run = self.records.room().min(bytes.len() - 1);
+        self.records.append_run(&bytes[..run]);
+        run
     }
 
     // Takes the next byte.

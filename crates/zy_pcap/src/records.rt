@@ -1,7 +1,7 @@
 //! The reader of a file's header and of its records.
 ghost use Rattle.std.specs.Prelude.{◌≡◌, ◌+◌, ◌<◌, ◌≤◌, length, take};
 ghost use Rattle.zy_pcap.specs.Steps.{start, grown_by, then_record, broken, file_limit};
-ghost use Rattle.zy_pcap.specs.declared.due.Due.TheVariants as Dues;
+ghost use Rattle.zy_pcap.specs.Moves.{IsPart, run_room};
 
 mod steps;
 
@@ -114,12 +114,25 @@ impl Records {
         self.frame.truncate(size);
     }
 
-    // Takes bytes of a frame, and not its last one.
-    pub(crate) fn append(&mut self, size: u32, bytes: &[u8])
-        requires due { self.old.due ≡ Dues.Frame size }
-        requires fits { length self.old.frame + length bytes.now < size }
-        requires room { self.old.at + length bytes.now ≤ file_limit }
+    // How many bytes of a frame come next, apart from its last one; 0 where none is due.
+    pub(crate) fn room(&self) -> usize
+        requires part { IsPart self.now.due self.now.frame }
+        ensures value { result ≤ run_room self.now }
+    {
+        match self.due {
+            Due::Frame { size } => {
+                let left = size as usize - self.frame.len() - 1;
+                left.min((FILE_LIMIT - self.at) as usize)
+            }
+            _ => 0,
+        }
+    }
+
+    // Takes bytes of a frame, and not its last one; or none.
+    pub(crate) fn append_run(&mut self, bytes: &[u8])
+        requires fits { length bytes.now ≤ run_room self.old }
         ensures value { self.new ≡ grown_by self.old bytes.now }
+        ensures part { IsPart self.old.due self.old.frame → IsPart self.new.due self.new.frame }
     {
         let _ = self.frame.extend_from_slice(bytes);
         self.at += bytes.len() as u64;

@@ -1,13 +1,12 @@
 //! The journal: merging, writing and reading it.
 ghost use Rattle.std.specs.Prelude.{◌<◌, ◌≤◌, ◌^◌};
 
-mod counting;
 mod making;
 mod reading;
 
 use crate::clock::nanos;
+use crate::counting::Counting;
 use crate::done::Done;
-use counting::Counting;
 use making::{histories, history};
 use std::alloc::Global;
 use std::io::Read;

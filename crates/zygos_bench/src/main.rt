@@ -5,9 +5,11 @@ mod calls;
 mod capture;
 mod clock;
 mod conn;
+mod counting;
 mod done;
 mod frames;
 mod journal;
+mod pcap;
 mod shard;
 mod shuffle;
 mod store;
@@ -54,6 +56,7 @@ fn measured<R: Threads + Wait + Clock + CpuClock + Sync, I: Read>(
         Some(What::Frames) => frames::measured(rt, alloc, one, two),
         Some(What::Capture) => capture::measured(rt, alloc, input),
         Some(What::Journal) => journal::measured(rt, alloc, input, one, two, three),
+        Some(What::Pcap) => pcap::measured(rt, alloc, input),
         Some(What::Store) => store::measured(rt, alloc, one, two),
         Some(What::Shuffle) => shuffle::measured(rt, alloc, one, two, three),
         Some(What::Conn) => conn::measured(rt, alloc, one, two, three),

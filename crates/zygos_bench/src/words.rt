@@ -9,6 +9,7 @@ pub(crate) enum What {
     Frames,
     Capture,
     Journal,
+    Pcap,
     Store,
     Shuffle,
     Conn,
@@ -44,7 +45,7 @@ struct Name {
     what: What,
 }
 
-const NAMES: [Name; 7] = [
+const NAMES: [Name; 8] = [
     Name {
         word: b"shard",
         what: What::Shard,
@@ -60,6 +61,10 @@ const NAMES: [Name; 7] = [
     Name {
         word: b"journal",
         what: What::Journal,
+    },
+    Name {
+        word: b"pcap",
+        what: What::Pcap,
     },
     Name {
         word: b"store",

@@ -1,0 +1,148 @@
+-- The texts of which the capture is made: segment after segment, session after session, connection after connection.
+use Rattle.std.proofs.Common.{◌≡◌, ℕ, zero, suc, ◌+◌, ◌-◌, ◌^◌, ◌<◌, ◌≤◌, List, [], ◌∷◌, ◌++◌, length, map, take, drop, add-one, refl, sym, ap, ◌∙◌, append_assoc, arith}
+use Rattle.std.specs.Prelude.{Option, Some, None, flat_map, min}
+use Rattle.std.specs.Int.{to_be_bytes, w32}
+use Rattle.std.proofs.lemmas.Grind.{flat_map-append}
+use Rattle.std.proofs.lemmas.List.{append-nil, length-drop}
+use Rattle.zy_capture.specs.declared.record.Record.{Record}
+use Rattle.zy_capture.specs.declared.record.Record.TheVariants as Kinds
+use Rattle.zy_capture.specs.Capture.{segment_limit, magic, spelled, spelling}
+use Rattle.zy_capture.specs.Replies.{numbered_from}
+use Rattle.zy_pcap.specs.declared.kept_session.KeptSession.{KeptSession}
+use Rattle.zy_pcap.specs.declared.kept_flow.KeptFlow.{KeptFlow}
+use Rattle.zy_pcap.specs.Session.{longest_from, longest}
+use Rattle.zy_pcap.specs.Made.{capture_of, segments_of, session_records, connection_records, records_from}
+use Rattle.zy_pcap.specs.Streams.{kept_stream, streams_by, kept_streams}
+use Rattle.zy_pcap.specs.Texts.{start_text, close_text, head_text, segment_text, stream_text, session_text, kept_text, kept_connection}
+use Rattle.zy_pcap.proofs.StreamLemmas.{streams_length}
+use Rattle.zy_pcap.proofs.RunLemmas.{few_from, longer, nothing_there, Segment, segment_taken}
+
+-- ---- segments
+
+fewer : (size most : ℕ) → size ≤ suc most → 0 < size → size - segment_limit ≤ most
+fewer size most within some = omega (arith, within, some)
+
+-- how many segments there may be at most doesn't matter
+enough : (conn m n : ℕ) (bytes : List ℕ) → length bytes ≤ m → length bytes ≤ n → segments_of conn m bytes ≡ segments_of conn n bytes
+enough conn zero zero bytes few other = refl
+enough conn zero (suc n) [] few other = refl
+enough conn zero (suc n) (byte ∷ bytes) few other = absurd (omega (arith, few))
+enough conn (suc m) zero [] few other = refl
+enough conn (suc m) zero (byte ∷ bytes) few other = absurd (omega (arith, other))
+enough conn (suc m) (suc n) [] few other = refl
+enough conn (suc m) (suc n) (byte ∷ bytes) few other =
+    let rest : List ℕ = drop segment_limit (byte ∷ bytes) in
+    let size : length rest ≡ suc (length bytes) - segment_limit = length-drop segment_limit (byte ∷ bytes) in
+    ap (λ (l : List Record). Kinds.Segment (record { conn = conn; bytes = take segment_limit (byte ∷ bytes) }) ∷ l)
+    (enough conn m n rest (omega (arith, size, few)) (omega (arith, size, other)))
+
+pub stream_more : (conn : ℕ) (bytes : List ℕ) → 0 < length bytes → stream_text conn bytes ≡ segment_text conn (take segment_limit bytes) ++ stream_text conn (drop segment_limit bytes)
+unfolding stream_text segment_text
+stream_more conn [] some = absurd (omega (arith, some))
+stream_more conn (byte ∷ bytes) some =
+    let rest : List ℕ = drop segment_limit (byte ∷ bytes) in
+    let size : length rest ≡ suc (length bytes) - segment_limit = length-drop segment_limit (byte ∷ bytes) in
+    ap (λ (l : List Record). segment_text conn (take segment_limit (byte ∷ bytes)) ++ flat_map spelled l)
+    (enough conn (length bytes) (length rest) rest (omega (arith, size)) (omega arith))
+
+pub stream_none : (conn : ℕ) → stream_text conn [] ≡ []
+unfolding stream_text
+stream_none conn = refl
+
+-- a segment is its beginning and its bytes
+pub segment_is : (conn : ℕ) (bytes : List ℕ) → head_text conn (length bytes) ++ bytes ≡ segment_text conn bytes
+unfolding head_text segment_text
+segment_is conn bytes = refl
+
+-- ---- sessions
+
+later : (conn number : ℕ) (session : List ℕ) (sessions : List (List ℕ))
+    → flat_map spelled (Kinds.Close conn ∷ connection_records conn (session ∷ sessions)) ≡ numbered_from (session_text conn) (suc number) (session ∷ sessions)
+unfolding stream_text close_text
+later conn number session [] = sym (append-nil (spelled (Kinds.Close conn) ++ flat_map spelled (session_records conn session)))
+later conn number session (next ∷ sessions) =
+    let close : List ℕ = spelled (Kinds.Close conn) in
+    let here : List ℕ = flat_map spelled (session_records conn session) in
+    ap (λ (l : List ℕ). close ++ l) (flat_map-append spelled (session_records conn session) (Kinds.Close conn ∷ connection_records conn (next ∷ sessions))
+    ∙ ap (λ (l : List ℕ). here ++ l) (later conn (suc number) next sessions))
+    ∙ sym (append_assoc close here (numbered_from (session_text conn) (suc (suc number)) (next ∷ sessions)))
+    ∙ ap (λ (n : ℕ). (close ++ here) ++ numbered_from (session_text conn) n (next ∷ sessions)) (sym (add-one (suc number)))
+
+pub connection_is : (conn : ℕ) (sessions : List (List ℕ)) → flat_map spelled (connection_records conn sessions) ≡ numbered_from (session_text conn) 0 sessions
+unfolding stream_text close_text
+connection_is conn [] = refl
+connection_is conn (session ∷ []) = sym (append-nil (flat_map spelled (session_records conn session)))
+connection_is conn (session ∷ next ∷ sessions) =
+    flat_map-append spelled (session_records conn session) (Kinds.Close conn ∷ connection_records conn (next ∷ sessions))
+    ∙ ap (λ (l : List ℕ). flat_map spelled (session_records conn session) ++ l) (later conn 0 next sessions)
+
+-- by the number of a session
+pub first_session : (conn number : ℕ) (stream : List ℕ) → number ≡ 0 → session_text conn number stream ≡ stream_text conn stream
+first_session conn zero stream is = refl
+first_session conn (suc number) stream is = absurd (omega (arith, is))
+
+pub later_session : (conn number : ℕ) (stream : List ℕ) → (number ≡ 0 → ⊥) → session_text conn number stream ≡ close_text conn ++ stream_text conn stream
+later_session conn zero stream other = absurd (other refl)
+later_session conn (suc number) stream other = refl
+
+-- ---- connections
+
+-- texts of numbered things that something is made of
+numbered_made : {X Y : Type 0} (text : ℕ → Y → List ℕ) (made : X → Y) (number : ℕ) (xs : List X) → numbered_from (λ n x. text n (made x)) number xs ≡ numbered_from text number (map made xs)
+numbered_made text made number [] = refl
+numbered_made text made number (x ∷ xs) = ap (λ (l : List ℕ). text number (made x) ++ l) (numbered_made text made (number + 1) xs)
+
+flow_is : (conn : ℕ) (flow : Option KeptFlow) → kept_connection conn flow ≡ flat_map spelled (connection_records conn (streams_by flow))
+flow_is conn None = refl
+flow_is conn (Some flow) =
+    numbered_made (session_text conn) kept_stream 0 flow.sessions.items ∙ sym (connection_is conn (map kept_stream flow.sessions.items))
+
+-- the records of all connections, as they are written
+pub records_are : (number : ℕ) (flows : List (Option KeptFlow)) → numbered_from kept_connection number flows ≡ flat_map spelled (records_from number (kept_streams flows))
+unfolding kept_streams
+records_are number [] = refl
+records_are number (flow ∷ flows) =
+    ap (λ (l : List ℕ). l ++ numbered_from kept_connection (number + 1) flows) (flow_is number flow)
+    ∙ ap (λ (l : List ℕ). flat_map spelled (connection_records number (streams_by flow)) ++ l) (records_are (number + 1) flows)
+    ∙ sym (flat_map-append spelled (connection_records number (streams_by flow)) (records_from (number + 1) (kept_streams flows)))
+
+-- ---- the capture
+
+pub capture_is : (flows : List (Option KeptFlow)) → start_text (length flows) ++ (numbered_from kept_connection 0 flows ++ 69 ∷ []) ≡ capture_of (kept_streams flows)
+unfolding start_text capture_of spelling
+capture_is flows =
+    let records : List ℕ = flat_map spelled (records_from 0 (kept_streams flows)) in
+    append_assoc (magic 2) (to_be_bytes w32 (length flows)) (numbered_from kept_connection 0 flows ++ 69 ∷ [])
+    ∙ ap (λ (l : List ℕ). magic 2 ++ to_be_bytes w32 (length flows) ++ l ++ 69 ∷ []) (records_are 0 flows)
+    ∙ ap (λ (n : ℕ). magic 2 ++ to_be_bytes w32 n ++ records ++ 69 ∷ []) (sym (streams_length flows))
+
+pub capture_written : (flows : List (Option KeptFlow)) (streams : List (List (List ℕ))) (count : ℕ) → kept_streams flows ≡ streams → count ≡ length streams → start_text count ++ (numbered_from kept_connection 0 flows ++ 69 ∷ []) ≡ capture_of streams
+capture_written flows streams count are is =
+    ap (λ (n : ℕ). start_text n ++ (numbered_from kept_connection 0 flows ++ 69 ∷ [])) (is ∙ ap length (sym are) ∙ streams_length flows) ∙ capture_is flows ∙ ap capture_of are
+
+-- ---- a stream, segment after segment
+
+-- what is left of a stream from an offset on
+pub stream_steps : (f : ℕ → Option ℕ) (conn at most size : ℕ) → at ≤ 2 ^ 31 → most ≡ min 65535 (2 ^ 31 - at) → size ≡ length (longest_from f at most) → 0 < size
+    → stream_text conn (longest_from f at (2 ^ 31 - at)) ≡ segment_text conn (longest_from f at size) ++ stream_text conn (longest_from f (at + size) (2 ^ 31 - (at + size)))
+stream_steps f conn at most size within is size_is some =
+    let n : ℕ = 2 ^ 31 - at in
+    let taken : Segment f at n 65535 size = segment_taken f at n 65535 most size (omega (arith, is)) (omega (arith, is)) (λ cut. omega (arith, is, cut)) size_is in
+    let there : 0 < length (longest_from f at n) = longer f at size n some (omega (arith, size_is, is, few_from f at most)) taken.all in
+    let left : 2 ^ 31 - at - size ≡ 2 ^ 31 - (at + size) = omega arith in
+    stream_more conn (longest_from f at n) there
+    ∙ ap (λ (l : List ℕ). segment_text conn l ++ stream_text conn (drop 65535 (longest_from f at n))) taken.takes
+    ∙ ap (λ (l : List ℕ). segment_text conn (longest_from f at size) ++ stream_text conn l) (taken.leaves ∙ ap (longest_from f (at + size)) left)
+
+-- nothing is left
+pub stream_ends : (f : ℕ → Option ℕ) (conn at most size : ℕ) → at < 2 ^ 31 → most ≡ min 65535 (2 ^ 31 - at) → size ≡ length (longest_from f at most) → size ≡ 0 → stream_text conn (longest_from f at (2 ^ 31 - at)) ≡ []
+stream_ends f conn at most size within is size_is none =
+    ap (stream_text conn) (nothing_there f at (2 ^ 31 - at) most (omega (arith, within, is)) (sym size_is ∙ none)) ∙ stream_none conn
+
+pub stream_over : (f : ℕ → Option ℕ) (conn at : ℕ) → 2 ^ 31 ≤ at → stream_text conn (longest_from f at (2 ^ 31 - at)) ≡ []
+stream_over f conn at over = (let none : 2 ^ 31 - at ≡ 0 = omega (arith, over) in ap (λ (k : ℕ). stream_text conn (longest_from f at k)) none ∙ stream_none conn)
+
+-- from the first offset on
+pub stream_whole : (f : ℕ → Option ℕ) (conn : ℕ) → stream_text conn (longest_from f 0 (2 ^ 31 - 0)) ≡ stream_text conn (longest f)
+unfolding longest
+stream_whole f conn = refl

@@ -1,0 +1,27 @@
+use Rattle.std.proofs.Common.{◌≡◌, ℕ, List, ◌++◌, length, ap, ◌∙◌, sym, subst}
+use Rattle.std.specs.Prelude.{Err}
+use Rattle.zy_base.specs.Outside.{Writes}
+use Rattle.zy_base.proofs.WritingLemmas.{writes_on, writes_no_more}
+use Rattle.zy_pcap.specs.Session.{longest_from}
+use Rattle.zy_pcap.specs.Chunk.{byte_held}
+use Rattle.zy_pcap.specs.Texts.{head_text, segment_text}
+use Rattle.zy_pcap.proofs.TextLemmas.{segment_is}
+use Rattle.zy_pcap.proofs.writing.write_segment.Goals as goal
+
+pub returns-in-Err : goal.returns-in-Err
+returns-in-Err g c =
+    let run : List ℕ = longest_from (byte_held c.args.stream.now) c.args.at c.args.size in
+    let whole : head_text c.args.conn c.args.size ++ run ≡ segment_text c.args.conn run = ap (λ (n : ℕ). head_text c.args.conn n ++ run) (sym c.requires.there) ∙ segment_is c.args.conn run in
+    record {
+      writes = subst (Writes g.K.Sink.holds g.K.Sink.faults c.args.sink.now c.write_head.new.sink (Err c.in-Err.failed)) whole
+          (writes_no_more g.K.Sink.holds g.K.Sink.faults c.args.sink.now c.write_head.new.sink c.in-Err.failed (head_text c.args.conn c.args.size) run c.in-Err.ensures.writes);
+    }
+
+pub returns : goal.returns
+returns g c =
+    let run : List ℕ = longest_from (byte_held c.args.stream.now) c.args.at c.args.size in
+    let whole : head_text c.args.conn c.args.size ++ run ≡ segment_text c.args.conn run = ap (λ (n : ℕ). head_text c.args.conn n ++ run) (sym c.requires.there) ∙ segment_is c.args.conn run in
+    record {
+      writes = subst (Writes g.K.Sink.holds g.K.Sink.faults c.args.sink.now c.write_run.new.sink c.write_run.result) whole
+          (writes_on g.K.Sink.holds g.K.Sink.faults c.args.sink.now c.write_head.new.sink c.write_run.new.sink c.write_run.result (head_text c.args.conn c.args.size) run c.in_default.ensures.writes.whole c.in_default.ensures.writes.count c.write_run.ensures.writes);
+    }

@@ -1,0 +1,176 @@
+//! The writer of the capture of recorded packets.
+ghost use Rattle.std.specs.Prelude.{◌≡◌, ◌+◌, ◌<◌, ◌≤◌, ◌^◌, length};
+ghost use Rattle.zy_base.specs.Outside.{Writes};
+ghost use Rattle.zy_capture.specs.Replies.{numbered_from};
+ghost use Rattle.zy_pcap.specs.Session.{longest_from, longest};
+ghost use Rattle.zy_pcap.specs.Chunk.{byte_held};
+ghost use Rattle.zy_pcap.specs.Made.{capture_of};
+ghost use Rattle.zy_pcap.specs.Texts.{start_text, close_text, head_text, segment_text, stream_text, session_text, kept_text, kept_connection};
+
+use crate::flows::Flows;
+use crate::kept_flow::KeptFlow;
+use crate::kept_session::KeptSession;
+use crate::kept_stream::KeptStream;
+use zy_base::{Failed, Sink, write_pieces, write_whole};
+
+const SEGMENT: u32 = 65_535;
+
+const STREAM_END: u32 = 1 << 31;
+
+/// Writes the capture of the streams, in version 2. Takes no memory.
+///
+/// `Failed` comes only where the sink's count of faults rose, or stands at its last value; then the
+/// sink has grown by a prefix of that text.
+pub fn write_flows<K: Sink>(sink: &mut K, flows: &Flows) -> Result<(), Failed>
+    ensures writes { Writes K.holds K.faults sink.old sink.new result (capture_of flows.now) }
+{
+    if let Err(failed) = write_start(sink, flows.count()) {
+        return Err(failed);
+    }
+    if let Err(failed) = write_connections(sink, flows.kept()) {
+        return Err(failed);
+    }
+    write_whole(sink, b"E")
+}
+
+// The beginning.
+#[tactic(auto, unfolding(crate::specs::Texts::start_text))]
+fn write_start<K: Sink>(sink: &mut K, count: u32) -> Result<(), Failed>
+    ensures writes { Writes K.holds K.faults sink.old sink.new result (start_text count) }
+{
+    let count = count.to_be_bytes();
+    write_pieces(sink, &[b"ZYGCAP2\n", &count])
+}
+
+// The records of all connections.
+fn write_connections<K: Sink>(sink: &mut K, flows: &[Option<KeptFlow>]) -> Result<(), Failed>
+    requires few { length flows.now ≤ 4096 }
+    ensures writes { Writes K.holds K.faults sink.old sink.new result
+        (numbered_from kept_connection 0 flows.now) }
+{
+    for conn in 0..flows.len() as u32 {
+        if let Err(failed) = write_connection(sink, conn, &flows[conn as usize]) {
+            return Err(failed);
+        }
+    }
+    Ok(())
+}
+
+// The records of a connection, which may have been given to no flow.
+fn write_connection<K: Sink>(sink: &mut K, conn: u32, flow: &Option<KeptFlow>) -> Result<(), Failed>
+    ensures writes { Writes K.holds K.faults sink.old sink.new result
+        (kept_connection conn flow.now) }
+{
+    match flow {
+        Some(flow) => write_sessions(sink, conn, flow.sessions.as_slice()),
+        None => Ok(()),
+    }
+}
+
+// The records of a flow's sessions.
+fn write_sessions<K: Sink>(sink: &mut K, conn: u32, sessions: &[KeptSession]) -> Result<(), Failed>
+    ensures writes { Writes K.holds K.faults sink.old sink.new result
+        (numbered_from (kept_text conn) 0 sessions.now) }
+{
+    for session in 0..sessions.len() {
+        if let Err(failed) = write_session(sink, conn, session, &sessions[session].bytes) {
+            return Err(failed);
+        }
+    }
+    Ok(())
+}
+
+// The records of a session, after a close record where it is not the first one.
+fn write_session<K: Sink>(
+    sink: &mut K,
+    conn: u32,
+    session: usize,
+    stream: &KeptStream,
+) -> Result<(), Failed>
+    ensures writes { Writes K.holds K.faults sink.old sink.new result
+        (session_text conn session (longest (byte_held stream.now))) }
+{
+    if session == 0 {
+        return write_stream(sink, conn, stream);
+    }
+    if let Err(failed) = write_close(sink, conn) {
+        return Err(failed);
+    }
+    write_stream(sink, conn, stream)
+}
+
+// A close record.
+#[tactic(auto, unfolding(crate::specs::Texts::close_text))]
+fn write_close<K: Sink>(sink: &mut K, conn: u32) -> Result<(), Failed>
+    ensures writes { Writes K.holds K.faults sink.old sink.new result (close_text conn) }
+{
+    let number = conn.to_be_bytes();
+    write_pieces(sink, &[b"C", &number])
+}
+
+// The segments of a stream.
+fn write_stream<K: Sink>(sink: &mut K, conn: u32, stream: &KeptStream) -> Result<(), Failed>
+    ensures writes { Writes K.holds K.faults sink.old sink.new result
+        (stream_text conn (longest (byte_held stream.now))) }
+{
+    let mut at = 0;
+    while at < STREAM_END {
+        let size = stream.run_size(at, SEGMENT.min(STREAM_END - at));
+        if size == 0 {
+            return Ok(());
+        }
+        if let Err(failed) = write_segment(sink, conn, stream, at, size) {
+            return Err(failed);
+        }
+        at += size;
+    }
+    Ok(())
+}
+
+// A segment.
+fn write_segment<K: Sink>(
+    sink: &mut K,
+    conn: u32,
+    stream: &KeptStream,
+    at: u32,
+    size: u32,
+) -> Result<(), Failed>
+    requires within { at + size ≤ 2 ^ 31 }
+    requires there { length (longest_from (byte_held stream.now) at size) ≡ size }
+    ensures writes { Writes K.holds K.faults sink.old sink.new result
+        (segment_text conn (longest_from (byte_held stream.now) at size)) }
+{
+    if let Err(failed) = write_head(sink, conn, size) {
+        return Err(failed);
+    }
+    write_run(sink, stream, at, size)
+}
+
+// The beginning of a segment.
+#[tactic(auto, unfolding(crate::specs::Texts::head_text))]
+fn write_head<K: Sink>(sink: &mut K, conn: u32, size: u32) -> Result<(), Failed>
+    ensures writes { Writes K.holds K.faults sink.old sink.new result (head_text conn size) }
+{
+    let number = conn.to_be_bytes();
+    let length = size.to_be_bytes();
+    write_pieces(sink, &[b"S", &number, &length])
+}
+
+// So many bytes of a stream, which are there.
+fn write_run<K: Sink>(sink: &mut K, stream: &KeptStream, at: u32, size: u32) -> Result<(), Failed>
+    requires within { at + size ≤ 2 ^ 31 }
+    requires there { length (longest_from (byte_held stream.now) at size) ≡ size }
+    ensures writes { Writes K.holds K.faults sink.old sink.new result
+        (longest_from (byte_held stream.now) at size) }
+{
+    let mut done = 0;
+    while done < size {
+        let part = stream.part(at + done);
+        let run = part.len().min((size - done) as usize);
+        if let Err(failed) = write_whole(sink, &part[..run]) {
+            return Err(failed);
+        }
+        done += run as u32;
+    }
+    Ok(())
+}
