@@ -156,7 +156,7 @@ record IsTaken (histories rests : List (List Entry)) (e : Entry) : Type 0 where
   pub others : (shard : ℕ) → e.shard ≢ shard → history_of histories shard ≡ history_of rests shard
   pub least : (shard : ℕ) (f : Entry) (fs : List Entry) → e.shard ≢ shard → f.shard ≡ shard → history_of histories shard ≡ f ∷ fs → is_earlier e.stamp e.shard f.stamp f.shard ≡ true
 
--- it stands in front of the merge of what is left
+-- it is the first of the merge, which goes on with that of what is left
 taken_first : (histories rests : List (List Entry)) (e : Entry) (es : List Entry) → IsTaken histories rests e → IsMergeOf rests es → IsMergeOf histories (e ∷ es)
 taken_first histories rests e es taken merge = record {
   ordered = (tt, behind es merge.ordered merge.parts);

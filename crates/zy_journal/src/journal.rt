@@ -20,7 +20,7 @@ pub struct Journal {
 enum Kept {
     // As their list.
     Listed(Entries),
-    // As the histories of all shards, which are merged by the reader.
+    // As the histories of all shards, which a walk merges.
     Apart(Vec<Entries>),
 }
 

@@ -6,7 +6,7 @@ use crate::journal::Journal;
 use zy_base::{Histories, Holds};
 
 /// The entries of all histories by stamp and then by shard, and the holds. No entry is moved: the
-/// journal keeps the histories, and whoever reads its entries merges them on the way.
+/// journal keeps the histories, and a walk through its entries merges them on the way.
 ///
 /// Takes no memory, and is never `Err`.
 pub fn merge(histories: Histories, holds: Holds) -> Result<Journal, (Histories, Holds)>

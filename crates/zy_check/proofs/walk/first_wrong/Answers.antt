@@ -1,4 +1,4 @@
-use Rattle.std.proofs.Common.{◌≡◌, ◌×◌, drop, sym, ◌∙◌, subst}
+use Rattle.std.proofs.Common.{◌≡◌, sym, ◌∙◌, subst}
 use Rattle.std.specs.Prelude.{length}
 use Rattle.zy_check.specs.Given.{AreRightBelow}
 use Rattle.zy_check.specs.Walk.{AreTracked, FoundAt}
