@@ -15,7 +15,7 @@ use rtrb::{Consumer, RingBuffer};
 use std::alloc::Global;
 use std::marker::Model;
 use std::mem;
-use zy_base::{Blob, CallReply, NoMemory};
+use zy_base::{CallReply, NoMemory};
 use zy_calls::Batch;
 use zy_frame::Frame;
 
@@ -35,8 +35,6 @@ pub(crate) struct Work {
     // For how many commands the texts were taken.
     shown: u64,
     batch: Batch,
-    // Where a text is written; its room is used again.
-    text: Blob,
 }
 
 impl Model for Work {
@@ -75,7 +73,6 @@ impl Work {
                     replies: Vec::new(alloc),
                     shown: 0,
                     batch: Batch::new(alloc, 0),
-                    text: Blob::new(alloc),
                 },
                 EventInlet { producer },
             )),
@@ -151,13 +148,11 @@ impl Work {
             replies,
             shown: _,
             batch,
-            text,
         } = self;
         drop(frames);
         drop(begun);
         drop(replies);
         drop(batch);
-        drop(text);
         pass
     }
 }
