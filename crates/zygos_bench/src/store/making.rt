@@ -3,7 +3,7 @@
 ghost use Rattle.std.specs.Prelude.{◌≡◌, ◌≤◌, ◌^◌};
 
 use mc_shard::Shard;
-use mc_store::{Got, Pass, StoreTable};
+use mc_store::{Pass, StoreTable, Tried};
 use std::alloc::Global;
 use std::sync::Wait;
 use std::thread;
@@ -51,7 +51,11 @@ pub(crate) fn shard_alone(alloc: Global, calls: u64) -> Result<(), NoMemory> {
         if shard.last() >= 1 << 60 || shard.history().len() >= 1 << 52 {
             return Err(NoMemory);
         }
-        shard.apply(tag_of(0, number), some_call(alloc, number)?, 0)?;
+        let call = some_call(alloc, number)?;
+        if let Err((call, refused)) = shard.make(tag_of(0, number), call, 0) {
+            drop(call);
+            return Err(refused);
+        }
     }
     Ok(())
 }
@@ -88,9 +92,9 @@ pub(crate) fn make_calls<R: Wait>(
         };
         let tag = tag_of(pass.conn(), number);
         let shard = (key_of(number) % shards) as u32;
-        match store.try_call(&mut pass, tag, shard, &call) {
-            Ok(Got::Reply(_)) | Err(NoMemory) => {}
-            Ok(Got::Busy { .. }) => thread::yield_now(),
+        match store.make_call(&mut pass, tag, shard, call) {
+            Ok(Tried::Made { .. }) | Err(_) => {}
+            Ok(Tried::Busy { .. }) => thread::yield_now(),
         }
     }
 }
