@@ -1,8 +1,8 @@
 /*
  * A plain server of the generator's traffic, for bench/serve.py to compare with. It reads a capture of version 1 from
- * standard input, carries out each command as soon as it is complete, and writes the replies file. It has one thread, one
- * hash table and no journal. It knows the commands get, set, append, incr and delete in the form that the generator gives
- * them; on every other input it ends with status 1.
+ * standard input, carries out each command as soon as it is complete, and writes the replies file. It has one thread,
+ * one hash table and no journal. It knows the commands get, set, append, incr and delete in the form that the generator
+ * gives them; on every other input it ends with status 1.
  */
 #include <stdint.h>
 #include <stdio.h>
@@ -125,7 +125,8 @@ static void grow(void) {
 }
 
 /* Stores a value of two parts in place of what the link leads to. */
-static void store(struct item **link, struct word key, uint32_t hash, uint32_t flags, struct word one, struct word two) {
+static void store(struct item **link, struct word key, uint32_t hash, uint32_t flags, struct word one,
+                  struct word two) {
     struct item *old = *link;
     struct item *item = checked(malloc(sizeof *item + key.length + one.length + two.length));
     *item = (struct item){old ? old->next : NULL, hash, flags, key.length, one.length + two.length};
@@ -238,7 +239,8 @@ static size_t serve_one(struct text *output, const char *bytes, size_t length) {
         struct word value = {bytes + taken, number_of(words[4])};
         if (length - taken < value.length + 2) return 0;
         taken += value.length + 2;
-        if (is(words[0], "set")) set(output, words[1], number_of(words[2]), value, count == 6 && is(words[5], "noreply"));
+        int quiet = count == 6 && is(words[5], "noreply");
+        if (is(words[0], "set")) set(output, words[1], number_of(words[2]), value, quiet);
         else append(output, words[1], value);
     } else if (count == 3 && is(words[0], "incr")) {
         incr(output, words[1], number_of(words[2]));
@@ -257,8 +259,11 @@ static void serve(struct connection *connection, const char *bytes, size_t lengt
         bytes = kept->bytes;
         length = kept->length;
     }
-    size_t at = 0;
-    for (size_t taken; at < length && (taken = serve_one(&connection->output, bytes + at, length - at)) > 0;) at += taken;
+    size_t at = 0, taken = 1;
+    while (at < length && taken > 0) {
+        taken = serve_one(&connection->output, bytes + at, length - at);
+        at += taken;
+    }
     if (bytes == kept->bytes) {
         memmove(kept->bytes, kept->bytes + at, length - at);
         kept->length = length - at;

@@ -1,10 +1,10 @@
 #!/usr/bin/env python3
 """Serves generated traffic of 200 connections with 100,000 and 1,000,000 commands, and prints what it costs.
 
-On one thread: microseconds of processor time a command and resident memory as a multiple of the capture, with and without
-the journal written, how both grow from the smaller capture to the larger, and beside them the same of `bench/plain.c`, a
-plain server in C without a journal. The plain server's replies must be the same, byte for byte. Then the larger capture on
-more cores, with one thread and with as many threads.
+On one thread: microseconds of processor time a command and resident memory as a multiple of the capture, with and
+without the journal written, how both grow from the smaller capture to the larger, and beside them the same of
+`bench/plain.c`, a plain server in C without a journal. The plain server's replies must be the same, byte for byte. Then
+the larger capture on more cores, with one thread and with as many threads.
 
 usage: bench/run serve [--runs N] [PROGRAM]
 
@@ -69,13 +69,15 @@ def beside(kinds, paths, runs):
     for kind, command in kinds.items():
         rows[kind] = [least(runs, command, path) for path in paths]
         costs = "".join(
-            f"{row[0] / count * 1e6:13.2f}{row[2] / size:7.1f}" for row, count, size in zip(rows[kind], SIZES, sizes)
+            f"{row[0] / count * 1e6:13.2f}{row[2] / size:7.1f}"
+            for row, count, size in zip(rows[kind], SIZES, sizes)
         )
         small, large = rows[kind]
         print(f"{kind:32}{costs}{large[0] / small[0]:7.1f}{large[2] / small[2]:7.1f}", flush=True)
     *others, plain = rows
     for kind in others:
-        ratios = "".join(f"{row[0] / base[0]:13.2f}{row[2] / base[2]:7.1f}" for row, base in zip(rows[kind], rows[plain]))
+        pairs = zip(rows[kind], rows[plain])
+        ratios = "".join(f"{row[0] / base[0]:13.2f}{row[2] / base[2]:7.1f}" for row, base in pairs)
         print(f"{kind + ' / ' + plain:32}{ratios}")
     alone, written = (rows[kind][1][0] for kind in others)
     print(f"with the journal written: {written / alone:.2f} times the time")
@@ -102,7 +104,7 @@ def main():
         beside(kinds, paths, given.runs)
         for cores in (4, 16, 64):
             used = least(given.runs, [program, "run", "--cores", str(cores), "--threads", "1"], paths[1])
-            print(f"{cores} cores on one thread: {used[0] / SIZES[1] * 1e6:.2f} microseconds of processor time a command")
+            print(f"{cores} cores on one thread: {used[0] / SIZES[1] * 1e6:.2f} us of processor time a command")
         for threads in (1, 2, 4):
             used = least(given.runs, [program, "run", "--cores", str(threads)], paths[1])
             print(f"{threads} cores on as many threads: {used[1]:.2f} s, {used[0]:.2f} s of processor time")

@@ -3,6 +3,7 @@ ghost use Rattle.std.specs.Prelude.{◌≡◌, length, OnOk, OnErr, IfErr};
 ghost use Rattle.zy_calls.specs.Batch.{no_text, with_text, with_finished};
 
 use crate::texts::Texts;
+use crate::writes::Writes;
 use std::alloc::Global;
 use std::marker::Model;
 use zy_base::{Blob, NoMemory};
@@ -55,6 +56,15 @@ impl Batch {
         ensures err { OnErr result (self.new ≡ self.old) }
     {
         self.texts.push(text)
+    }
+
+    /// Appends the text that is written, which is not copied.
+    pub fn send_by<W: Writes>(&mut self, writer: &W) -> Result<(), NoMemory>
+        requires ready { W.ready writer.now }
+        ensures ok { OnOk result (self.new ≡ with_text self.old (W.text writer.now)) }
+        ensures err { OnErr result (self.new ≡ self.old) }
+    {
+        self.texts.push_by(writer)
     }
 
     /// Sets how many commands are finished.

@@ -4,6 +4,7 @@ ghost use Rattle.std.specs.Prelude.{◌+◌, vec_len, vec_capacity};
 ghost use Rattle.std.specs.List.{concat};
 ghost use Rattle.zy_calls.specs.Texts.{further, AreWithin};
 
+use crate::writes::Writes;
 use std::alloc::Global;
 use std::marker::Model;
 use std::mem;
@@ -54,6 +55,22 @@ impl Texts {
             return Err(NoMemory);
         }
         if let Err(e) = self.bytes.append(text) {
+            return Err(e);
+        }
+        self.ends.push_reserved(self.bytes.bytes().len());
+        Ok(())
+    }
+
+    /// Appends the text that is written.
+    pub(crate) fn push_by<W: Writes>(&mut self, writer: &W) -> Result<(), NoMemory>
+        requires ready { W.ready writer.now }
+        ensures ok { OnOk result (self.new ≡ self.old ++ W.text writer.now ∷ []) }
+        ensures err { OnErr result (self.new ≡ self.old) }
+    {
+        if self.ends.reserve(1).is_err() {
+            return Err(NoMemory);
+        }
+        if let Err(e) = writer.write(&mut self.bytes) {
             return Err(e);
         }
         self.ends.push_reserved(self.bytes.bytes().len());

@@ -1,6 +1,7 @@
 //! A connection's block: its pass on the store, its events, the command that is begun, its batch and its holds.
 #![tactic(auto)]
 
+mod answer;
 mod begun;
 mod block;
 mod calling;

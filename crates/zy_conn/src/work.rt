@@ -13,7 +13,7 @@ use mc_store::Pass;
 use std::alloc::Global;
 use std::marker::Model;
 use std::mem;
-use zy_base::{Blob, CallReply, NoMemory};
+use zy_base::{CallReply, NoMemory};
 use zy_calls::Batch;
 use zy_frame::Frame;
 use zy_rx::{RingInlet, RingOutlet, both_ends, ring};
@@ -38,8 +38,6 @@ pub(crate) struct Work {
     // For how many commands the texts were taken.
     shown: u64,
     batch: Batch,
-    // Where a text is written; its room is used again.
-    text: Blob,
 }
 
 impl Model for Work {
@@ -74,7 +72,6 @@ impl Work {
                     replies: Vec::new(alloc),
                     shown: 0,
                     batch: Batch::new(alloc, 0),
-                    text: Blob::new(alloc),
                 },
                 inlet,
             )),
@@ -149,13 +146,11 @@ impl Work {
             replies,
             shown: _,
             batch,
-            text,
         } = self;
         drop(frames);
         drop(begun);
         drop(replies);
         drop(batch);
-        drop(text);
         pass
     }
 }

@@ -42,7 +42,7 @@ fn key_text(alloc: Global, number: u64) -> Result<Blob, NoMemory> {
     }
 }
 
-/// Makes a call where the shard is young enough, and lets go of its entry.
+/// Makes a call where the shard is young enough, and lets go of its reply.
 pub(crate) fn apply(shard: &mut Shard, index: u64, call: Call) -> Result<(), NoMemory> {
     if shard.last() >= 1 << 60 || shard.history().len() >= 1 << 52 {
         drop(call);
@@ -53,9 +53,9 @@ pub(crate) fn apply(shard: &mut Shard, index: u64, call: Call) -> Result<(), NoM
         index,
         part: 0,
     };
-    match shard.apply(tag, call, 0) {
-        Ok(entry) => {
-            drop(entry);
+    match shard.make(tag, call, 0) {
+        Ok(made) => {
+            drop(made);
             Ok(())
         }
         Err(e) => Err(e),

@@ -7,14 +7,14 @@ ghost use Rattle.zy_conn.specs.Work.{idle};
 ghost use Rattle.zy_conn.specs.Step.{IsGoing, IsWhole, Goes, StopsBy, MadeFrom};
 
 use super::Work;
+use crate::answer::Answer;
 use crate::begun::Begun;
 use crate::calling::{MOST, Made, next_call};
 use crate::hold_end::HoldEnd;
 use mc_parse::Command;
-use mc_reply::reply_text;
 use mc_store::StoreTable;
 use std::mem;
-use zy_base::{Blob, Gate, NoMemory, Replies};
+use zy_base::{Gate, NoMemory, Replies};
 use zy_calls::Batch;
 use zy_frame::meaning;
 
@@ -104,7 +104,7 @@ impl Work {
             unreachable!()
         };
         let replies = Replies::from_vec(mem::replace(&mut self.replies, Vec::new(self.alloc)));
-        let sent = send(&mut self.batch, &mut self.text, command, &replies);
+        let sent = send(&mut self.batch, command, &replies);
         self.replies = replies.into_vec();
         match sent {
             Ok(()) => {
@@ -119,21 +119,11 @@ impl Work {
     }
 }
 
-// Appends the text of a command with its replies to the batch. It is written into room that is used
-// again.
-fn send(
-    batch: &mut Batch,
-    room: &mut Blob,
-    command: &Command,
-    replies: &Replies,
-) -> Result<(), NoMemory>
+// Appends the text of a command with its replies to the batch.
+fn send(batch: &mut Batch, command: &Command, replies: &Replies) -> Result<(), NoMemory>
     requires answers { AnswerCommand command.now replies.now }
     ensures ok { OnOk result (batch.new ≡ with_text batch.old (text command.now replies.now)) }
     ensures err { OnErr result (batch.new ≡ batch.old) }
 {
-    room.truncate(0);
-    match reply_text(room, command, replies) {
-        Ok(()) => batch.send_copy(room.bytes()),
-        Err(e) => Err(e),
-    }
+    batch.send_by(&Answer { command, replies })
 }

@@ -4,7 +4,7 @@ ghost use Rattle.std.specs.Prelude.{◌≡◌, ◌≤◌, ◌^◌, []};
 
 use crate::calls::{apply, get, set};
 use mc_shard::Shard;
-use mc_store::{Got, Pass, Root, StoreTable};
+use mc_store::{Pass, Root, StoreTable, Tried};
 use std::alloc::Global;
 use std::sync::Wait;
 use std::thread;
@@ -104,12 +104,13 @@ pub(crate) fn make_calls<R: Wait>(
         };
         let tag = tag_of(pass.conn(), number);
         let shard = (key_of(number) % shards) as u32;
-        let got = store.try_call(&mut pass, tag, shard, &call);
-        drop(call);
-        match got {
-            Ok(Got::Reply(entry)) => drop(entry),
-            Ok(Got::Busy { .. }) => thread::yield_now(),
-            Err(NoMemory) => {}
+        match store.make_call(&mut pass, tag, shard, call) {
+            Ok(Tried::Made { reply, .. }) => drop(reply),
+            Ok(Tried::Busy { call, .. }) => {
+                drop(call);
+                thread::yield_now();
+            }
+            Err((call, NoMemory)) => drop(call),
         }
     }
     drop(pass);

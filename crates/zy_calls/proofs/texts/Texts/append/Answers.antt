@@ -1,6 +1,5 @@
-use Rattle.std.proofs.Common.{◌<◌, ◌+◌, ◌^◌, ℕ, List, ◌++◌, length, get_or, refl, ap, sym, ◌∙◌, arith, rules, length-append}
-use Rattle.zy_calls.specs.Texts.{texts_from, further}
-use Rattle.zy_calls.proofs.TextLemmas.{joined_as, Rise-at, Holds}
+use Rattle.std.proofs.Common.{◌<◌, ◌+◌, ◌^◌, ℕ, List, ◌++◌, length, get_or, refl, ap, ◌∙◌, arith, rules}
+use Rattle.zy_calls.proofs.TextLemmas.{joined_as, Rise-at}
 use Rattle.zy_calls.proofs.texts.Texts.append.Goals as goal
 
 pub append_further-requires-clause-fits : goal.append_further-requires-clause-fits

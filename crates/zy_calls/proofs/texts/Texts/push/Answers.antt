@@ -1,4 +1,4 @@
-use Rattle.std.proofs.Common.{◌++◌, ◌∷◌, [], ℕ, List, length, ap, sym, ◌∙◌}
+use Rattle.std.proofs.Common.{◌++◌, ◌∷◌, [], ℕ, List, length, ap, ◌∙◌}
 use Rattle.zy_calls.proofs.TextLemmas.{pushed_as}
 use Rattle.zy_calls.proofs.texts.Texts.push.Goals as goal
 
