@@ -58,6 +58,9 @@ pub(crate) fn apply(shard: &mut Shard, index: u64, call: Call) -> Result<(), NoM
             drop(made);
             Ok(())
         }
-        Err(e) => Err(e),
+        Err((call, refused)) => {
+            drop(call);
+            Err(refused)
+        }
     }
 }
