@@ -4,7 +4,7 @@ use Rattle.std.proofs.Common.{◌≡◌, ◌≢◌, ℕ, ◌+◌, ◌≤◌, Lis
 use Rattle.std.proofs.lemmas.Bool.Decides.{nat_tests}
 use Rattle.zy_frame.specs.declared.frame_kind.FrameKind.{FrameKind}
 use Rattle.zy_conn.specs.Ring.{EventInlet}
-use Rattle.zy_conn.specs.Work.{Start, idle, raw, read, going, Worked, is_begun, has_event}
+use Rattle.zy_conn.specs.Work.{Start, idle, raw, going, Worked, is_begun, has_event}
 use Rattle.zy_home.specs.Link.{Link}
 use Rattle.zy_home.specs.Offer.{IsFilled}
 use Rattle.zy_home.specs.Idle.{IsIdle}
@@ -17,7 +17,6 @@ none_known (frame ∷ frames) e = absurd (grind (arith, nat_tests))
 pub no_event : (begun : Start) (known : List FrameKind) → (is_begun begun || nat_lt 0 (length known)) ≡ false → (begun ≡ idle) × (known ≡ [])
 no_event idle known e = (refl, none_known known e)
 no_event (raw frame) known e = absurd (cc)
-no_event (read command) known e = absurd (cc)
 no_event (going command calls replies) known e = absurd (cc)
 
 -- where the ring has room for 64 frames and none is known, none waits
