@@ -2,7 +2,9 @@ pub mod Answers
 pub mod Lines
 pub mod Said
 pub mod Numbers
+pub mod Seen
 pub mod Headline
 pub mod Prepared
 pub mod Ends
 pub mod Served
+pub mod Runs

@@ -11,10 +11,17 @@ use Rattle.zy_check.specs.declared.verdict.Cause.TheVariants.{NotNext, WrongRepl
 use Rattle.zy_check.specs.declared.verdict.Verdict.{Verdict}
 use Rattle.zy_check.specs.declared.verdict.Verdict.TheVariants.{Yes, No}
 use Rattle.zy_run.specs.declared.summary.Summary.{Summary}
+use Rattle.zygos_run.specs.declared.lines.Piece.{Piece}
+use Rattle.zygos_run.specs.declared.lines.Piece.TheVariants.{Text, Number}
 use Rattle.zygos_run.specs.declared.answer.Answer.{Answer}
 use Rattle.zygos_run.specs.declared.answer.Answer.TheVariants.{Served, Checked, Made, Tested, Usage, Refused, ReadFault, WriteFault, OutOfMemory}
 
--- ---- numbers in a line
+-- ---- pieces of a line
+
+-- the bytes of a piece
+abbrev pub piece_text : Piece → List ℕ
+piece_text (Text text) = text.now
+piece_text (Number number) = decimal number
 
 -- a line with a number at its end
 abbrev pub line_with : List ℕ → ℕ → List ℕ
@@ -42,7 +49,7 @@ fault_text (Truncated at) = codes "zygos: capture: truncated at "
 fault_text (Trailing at) = codes "zygos: capture: trailing at "
 fault_text TooLong = codes "zygos: capture: too-long\n"
 
--- what stands between its two numbers, where it has two
+-- what is between its two numbers, where it has two
 abbrev pub fault_middle : CaptureFault → List ℕ
 fault_middle (BadTag at byte) = codes " byte "
 fault_middle fault = codes " number "

@@ -1,7 +1,8 @@
 //! The command that the words ask for.
 ghost use Rattle.std.specs.Prelude.{◌≡◌, ◌≤◌};
 ghost use Rattle.zy_command_line.specs.Request.{request_of};
-ghost use Rattle.zygos_run.specs.Ends.{HasCause, ReadsNothing};
+ghost use Rattle.zygos_run.specs.Seen.{side, seen};
+ghost use Rattle.zygos_run.specs.Ends.{Ends, LeavesSink, ReadsNothing};
 
 use crate::answer::Answer;
 use crate::check::check_input;
@@ -26,8 +27,9 @@ pub(crate) fn carry_out<R: Threads + Wait + Sync, S: Source, K: Sink, G: Gate + 
 ) -> Answer
     ensures reads { S.faults source.old ≤ S.faults source.new }
     ensures writes { K.faults sink.old ≤ K.faults sink.new }
-    ensures cause { HasCause S.rest S.faults K.holds K.faults
-        (request_of words.now) source.old source.new sink.old sink.new result }
+    ensures ends { Ends (request_of words.now)
+        (seen (side S.rest S.faults source.old source.new) (side K.holds K.faults sink.old sink.new)) result }
+    ensures sink_kept { LeavesSink result → sink.new ≡ sink.old }
     ensures source_kept { ReadsNothing (request_of words.now) → source.new ≡ source.old }
 {
     requests_are_in_their_ranges();
