@@ -45,30 +45,43 @@ pub fn finish(
         → HaveReceived homes.items records
         → IsFinished store.shards version count records finished) }
 {
-    // What the call tells: the number of shards is that of the table's slots, and at most 256.
+    // Does nothing. The call tells the prover that the shards are the slots of the table, at most 256.
     let _shards = store.shards();
-    let rests = match rests_of(alloc, homes) {
+    let mut rests = match rests_of(alloc, homes) {
         Ok(rests) => rests,
-        Err(e) => return Err(e),
+        Err(e) => {
+            drop(store);
+            drop(root);
+            return Err(e);
+        }
     };
     let mut gathered = Gathered {
         root,
         holds: Vec::new(alloc),
         outputs: Outputs::new(alloc, version),
     };
-    if let Err(e) = gathered.take_all(alloc, &store, count, rests) {
-        return Err(e);
+    match gathered.take_all(alloc, &store, count, &mut rests) {
+        Ok(()) => drop(rests),
+        Err(e) => {
+            drop(rests);
+            drop(store);
+            drop(gathered);
+            return Err(e);
+        }
     }
     let Gathered {
         root,
         holds,
         outputs,
     } = gathered;
-    // What the call tells: the outputs are lawful.
+    // Does nothing. The call tells the prover that the outputs are lawful.
     let _version = outputs.version();
     match journal_of(store, root, Holds::from_vec(holds)) {
         Ok(journal) => Ok(Finished { journal, outputs }),
-        Err(e) => Err(e),
+        Err(e) => {
+            drop(outputs);
+            Err(e)
+        }
     }
 }
 
@@ -82,10 +95,17 @@ fn journal_of(store: StoreTable, root: Root, holds: Holds) -> Result<Journal, No
     rising_histories_are_in_order();
     let histories = match store.close(root) {
         Ok(histories) => histories,
-        Err(_) => return Err(NoMemory),
+        Err(kept) => {
+            drop(kept);
+            drop(holds);
+            return Err(NoMemory);
+        }
     };
     match merge(histories, holds) {
         Ok(journal) => Ok(journal),
-        Err(_) => Err(NoMemory),
+        Err(kept) => {
+            drop(kept);
+            Err(NoMemory)
+        }
     }
 }

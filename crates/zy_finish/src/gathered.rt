@@ -1,5 +1,5 @@
 //! What is gathered from connections.
-ghost use Rattle.std.specs.Prelude.{◌≡◌, ◌<◌, ◌≤◌, length, OnOk};
+ghost use Rattle.std.specs.Prelude.{◌≡◌, ◌<◌, ◌≤◌, ◌++◌, length, OnOk};
 ghost use Rattle.zy_capture.specs.Capture.{connection_limit};
 ghost use Rattle.zy_finish.specs.Rest.{IsThere, TakesIn, HasGathered};
 
@@ -7,7 +7,7 @@ use crate::rest::{Last, Rest};
 use crate::sessions::add_sessions;
 use mc_store::{Root, StoreTable};
 use std::alloc::Global;
-use zy_base::{Hold, NoMemory};
+use zy_base::{Hold, Holds, NoMemory};
 use zy_capture::Outputs;
 use zy_rx::FlowTable;
 
@@ -41,10 +41,26 @@ impl Gathered {
         } = last;
         let (pass, holds) = block.into_parts();
         store.join(&mut self.root, pass);
-        if self.holds.extend_from_slice(holds.items()).is_err() {
-            return Err(NoMemory);
+        if let Err(e) = self.add_holds(holds) {
+            drop(output);
+            drop(ends);
+            return Err(e);
         }
-        add_sessions(alloc, &mut self.outputs, conn, output, &ends)
+        let added = add_sessions(alloc, &mut self.outputs, conn, output, &ends);
+        drop(ends);
+        added
+    }
+
+    // Appends the holds of a connection.
+    fn add_holds(&mut self, holds: Holds) -> Result<(), NoMemory>
+        ensures ok { OnOk result (self.new.holds.items ≡ self.old.holds.items ++ holds) }
+        ensures root { self.new.root ≡ self.old.root }
+        ensures outputs { self.new.outputs ≡ self.old.outputs }
+    {
+        let added = self.holds.extend_from_slice(holds.items());
+        drop(holds);
+        added?;
+        Ok(())
     }
 
     /// Takes in what is left of all connections, by rising number, each from its home.
@@ -53,26 +69,23 @@ impl Gathered {
         alloc: Global,
         store: &StoreTable,
         count: u32,
-        rests: Vec<Rest>,
+        rests: &mut Vec<Rest>,
     ) -> Result<(), NoMemory>
-        requires some { 1 ≤ length rests.items }
-        requires cores { length rests.items ≤ 64 }
+        requires some { 1 ≤ length rests.old.items }
+        requires cores { length rests.old.items ≤ 64 }
         requires few { count ≤ connection_limit }
         requires root { self.old.root.table ≡ store.now.id }
-        requires there { (conn : _) → conn < count → IsThere store.now.id rests.items conn }
-        requires none { HasGathered self.old.outputs.version rests.items 0 self.old }
-        ensures ok { OnOk result (HasGathered self.old.outputs.version rests.items count self.new) }
+        requires there { (conn : _) → conn < count → IsThere store.now.id rests.old.items conn }
+        requires none { HasGathered self.old.outputs.version rests.old.items 0 self.old }
+        ensures ok { OnOk result (HasGathered self.old.outputs.version rests.old.items count self.new) }
         ensures table { OnOk result (self.new.root.table ≡ self.old.root.table) }
         ensures given { OnOk result (self.new.root.given ≡ self.old.root.given) }
     {
-        let mut rests = rests;
         let homes = FlowTable::new(rests.len() as u32);
         for conn in 0..count {
             let core = homes.home_of(conn) as usize;
             let last = rests[core].next();
-            if let Err(e) = self.take(alloc, store, conn, last) {
-                return Err(e);
-            }
+            self.take(alloc, store, conn, last)?;
         }
         Ok(())
     }

@@ -55,6 +55,7 @@ pub(crate) fn rests_of(alloc: Global, homes: Vec<Home>) -> Result<Vec<Rest>, NoM
     ensures keeps { OnOk result (AllByRecursion Keeps homes.items) }
 {
     let Ok(mut rests) = Vec::with_capacity(alloc, homes.len()) else {
+        drop(homes);
         return Err(NoMemory);
     };
     for home in homes {

@@ -33,9 +33,12 @@ pub(crate) fn add_sessions(
         return add(outputs, conn, output.into_bytes());
     }
     if ends.len() >= MOST {
+        drop(output);
         return Err(NoMemory);
     }
-    add_parts(alloc, outputs, conn, &output, ends)
+    let added = add_parts(alloc, outputs, conn, &output, ends);
+    drop(output);
+    added
 }
 
 // Adds the outputs of the next connection's sessions, of version 2.
@@ -55,14 +58,10 @@ fn add_parts(
 {
     let mut start = 0;
     for end in ends {
-        if let Err(e) = add_copy(alloc, outputs, conn, between(output, start, *end)) {
-            return Err(e);
-        }
+        add_copy(alloc, outputs, conn, between(output, start, *end))?;
         start = *end;
     }
-    if let Err(e) = add_copy(alloc, outputs, conn, behind(output, start)) {
-        return Err(e);
-    }
+    add_copy(alloc, outputs, conn, behind(output, start))?;
     Ok(())
 }
 
@@ -72,10 +71,8 @@ fn add_copy(alloc: Global, outputs: &mut Outputs, conn: u32, bytes: &[u8]) -> Re
     ensures version { outputs.new.version ≡ outputs.old.version }
     ensures ok { OnOk result (outputs.new ≡ with_output outputs.old conn bytes.now) }
 {
-    match Blob::copy_of(alloc, bytes) {
-        Ok(copy) => add(outputs, conn, copy),
-        Err(e) => Err(e),
-    }
+    let copy = Blob::copy_of(alloc, bytes)?;
+    add(outputs, conn, copy)
 }
 
 // Adds the bytes of the next session.
@@ -86,6 +83,9 @@ fn add(outputs: &mut Outputs, conn: u32, bytes: Blob) -> Result<(), NoMemory>
 {
     match outputs.add(conn, bytes) {
         Ok(()) => Ok(()),
-        Err((_, e)) => Err(e),
+        Err((bytes, e)) => {
+            drop(bytes);
+            Err(e)
+        }
     }
 }

@@ -43,7 +43,10 @@ pub fn take(alloc: Global, cores: Cores, shared: Shared, inlets: Inlets) -> Resu
 {
     let homes = match take_all(alloc, cores, inlets.into_vec()) {
         Ok(homes) => homes,
-        Err(e) => return Err(e),
+        Err(e) => {
+            drop(shared);
+            return Err(e);
+        }
     };
     let (_, store) = shared.into_parts();
     Ok(Taken { homes, store })
@@ -56,6 +59,8 @@ fn take_all(alloc: Global, cores: Cores, inlets: Vec<Inlet>) -> Result<Vec<Home>
     ensures shown { IfOk result (λ _. HaveShown inlets.items cores) }
 {
     let Ok(mut homes) = Vec::with_capacity(alloc, inlets.len()) else {
+        drop(cores);
+        drop(inlets);
         return Err(NoMemory);
     };
     let mut cores = cores;

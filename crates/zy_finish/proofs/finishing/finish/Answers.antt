@@ -12,15 +12,15 @@ take_all-requires-clause-there c conn within =
 
 pub journal_of-requires-clause-all : goal.journal_of-requires-clause-all
 journal_of-requires-clause-all c conn given =
-    ap (is_joined conn) c.in_default.ensures.ok.joined
-    ∙ joined_all c.in-Ok.rests.items c.args.count conn ((c.requires.root.given conn).0 (sym (ap (is_in conn) c.in_default.ensures.given) ∙ given))
+    ap (is_joined conn) c.in-Ok-take_all.ensures.ok.joined
+    ∙ joined_all c.in-Ok.rests.items c.args.count conn ((c.requires.root.given conn).0 (sym (ap (is_in conn) c.in-Ok-take_all.ensures.given) ∙ given))
 
 pub returns-in-Ok-journal_of : goal.returns-in-Ok-journal_of
 returns-in-Ok-journal_of c =
     let shards = c.shards-shards.ensures.value in
     let most = c.shards-shards.ensures.few in
     let few : c.args.store.shards ≤ 256 = omega arith in
-    let has = subst (λ v. HasGathered v c.in-Ok.rests.items c.args.count c.take_all.new.self) c.new-2.ensures.version c.in_default.ensures.ok in record {
+    let has = subst (λ v. HasGathered v c.in-Ok.rests.items c.args.count c.take_all.new.self) c.new-2.ensures.version c.in-Ok-take_all.ensures.ok in record {
       finished = is_finished c.args.store.id c.args.store.shards c.args.version c.args.count c.args.homes.items c.requires.homes c.in-Ok.ensures.keeps
           c.in-Ok.rests.items c.in-Ok.ensures.value (sym shards ∙ c.shards-shards.ensures.slots) few has.kept
           (record { journal = c.in-Ok-journal_of.journal; outputs = c.take_all.new.self.outputs })
