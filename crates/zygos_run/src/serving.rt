@@ -26,7 +26,8 @@ use zy_check_input::{parts_have_no_fault, there_is_one_part_fault};
 /// sessions to `sink`, with `--out both` behind the journal. `check` reads a capture, a journal and a
 /// replies file, and writes a line with the verdict on them. `gen` writes the capture of generated
 /// traffic. `self` makes that capture, serves it, checks what came, and writes a line with its
-/// numbers: that the check says yes is proved. The sink is finished once.
+/// numbers: that the check says yes is proved. `pcap` reads recorded packets to the end of the source,
+/// and writes the capture of those to one port. The sink is finished once.
 ///
 /// A line on an answer that is no success goes to `says`; a fault there changes nothing. `gate` is
 /// passed once for each command, when it is begun. Want of memory is free, and comes only before the
