@@ -15,10 +15,13 @@ byte_append first (x ∷ xs) ys at =
 
 -- ---- copies
 
+none_there : IsSome (let none : Option ℕ = None in none) → ⊥
+none_there is = cc
+
 covered_by : (was more rest : Option ℕ) → (IsSome more → IsSome was) → first_of was (first_of more rest) ≡ first_of was rest
 covered_by (Some b) more rest covered = refl
 covered_by None None rest covered = refl
-covered_by None (Some b) rest covered = absurd (covered tt)
+covered_by None (Some b) rest covered = absurd (none_there (covered refl))
 
 pub covered_same : (first packet : Packet) (before after : List Packet) → IsCovered first before packet → stream_of first (before ++ packet ∷ after) ≡ stream_of first (before ++ after)
 covered_same first packet before after covered =
@@ -26,9 +29,9 @@ covered_same first packet before after covered =
     (λ at. byte_append first before (packet ∷ after) at ∙ covered_by (byte_at first before at) (byte_of first packet at) (byte_at first after at) (covered at) ∙ sym (byte_append first before after at))
 
 some_first : (a b c : Option ℕ) → IsSome b → IsSome (first_of a (first_of b c))
-some_first (Some x) b c is = tt
-some_first None (Some y) c is = tt
-some_first None None c is = absurd is
+some_first (Some x) b c is = refl
+some_first None (Some y) c is = refl
+some_first None None c is = absurd (none_there is)
 
 -- a packet covers its copies
 copy_covered : (first packet : Packet) (before between : List Packet) → IsCovered first (before ++ packet ∷ between) packet

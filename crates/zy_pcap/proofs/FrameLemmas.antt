@@ -38,8 +38,8 @@ not_le a b less = grind (arith, nat_tests)
 one_byte : (p : Place) (byte : ℕ) → 0 < run_room p → move p byte ≡ Goes (grown_by p (byte ∷ []))
 one_byte p byte room =
     let is = framed_only p p.due refl room in
-    let open_still : is_full p ≡ false = rw (is.1.0, not_le file_limit p.at is.1.1.1) refl in
-    rw (open_still, is.1.0, below (length p.frame + 1) is.0 is.1.1.0) refl
+    let open_still : is_full p ≡ false = rw (is.1.0, not_le file_limit p.at is.1.2) refl in
+    rw (open_still, is.1.0, below (length p.frame + 1) is.0 is.1.1) refl
 
 -- ---- several
 

@@ -1,6 +1,6 @@
 -- Bytes that are kept in a row and in chunks: what is there after some were added, or went from chunks into the row.
 use Rattle.std.proofs.Common.{◌≡◌, ℕ, ◌+◌, ◌-◌, ◌/◌, ◌%◌, ◌<◌, ◌≤◌, List, [], ◌++◌, length, drop, get_or, refl, sym, ap, ◌∙◌, inl, inr, arith}
-use Rattle.std.specs.Prelude.{Option, Some, None, Result, Ok, Err, OnOk, OnErr, is_ok, if◌then◌else◌, ⊤, true, false, cond}
+use Rattle.std.specs.Prelude.{Option, Some, None, Result, Ok, Err, OnOk, OnErr, ⊤, true, false, cond}
 use Rattle.std.specs.BTreeMap.{BTreeMap, get, is_at}
 use Rattle.std.specs.Ordering.{nat_cmp}
 use Rattle.std.proofs.lemmas.Bool.{cases_lt, cases_eq}
@@ -125,7 +125,7 @@ pub same_err : {E : Type 0} (front : List ℕ) (old new : List (ℕ × Chunk)) (
 same_err front old new (Ok u) same = tt
 same_err front old new (Err e) same = same_added front old new same
 
-appended_as : (old new : Held) (bytes more : List ℕ) (from : ℕ) → from ≤ length old.front → length old.front < from + length bytes → old.chunks ≡ [] → new.chunks ≡ old.chunks
+pub appended_as : (old new : Held) (bytes more : List ℕ) (from : ℕ) → from ≤ length old.front → length old.front < from + length bytes → old.chunks ≡ [] → new.chunks ≡ old.chunks
     → more ≡ drop (length old.front - from) bytes → new.front ≡ old.front ++ more → HoldsBoth (byte_held old) (byte_held new) (covered bytes from)
 unfolding byte_held
 appended_as old new bytes more from next some alone same is grew = λ at.
@@ -133,11 +133,6 @@ appended_as old new bytes more from next some alone same is grew = λ at.
     let front_is : new.front ≡ old.front ++ drop (length old.front - from) bytes = grew ∙ ap (λ (l : List ℕ). old.front ++ l) is in
     let chunks_are : new.chunks ≡ [] = same ∙ alone in
     rw (front_is, chunks_are, alone) (both at)
-
-pub appended_ok : {E : Type 0} (old new : Held) (bytes more : List ℕ) (from : ℕ) (result : Result ⊤ E) → from ≤ length old.front → length old.front < from + length bytes → old.chunks ≡ [] → new.chunks ≡ old.chunks
-    → more ≡ drop (length old.front - from) bytes → new.front ≡ (if is_ok result then old.front ++ more else old.front) → OnOk result (HoldsBoth (byte_held old) (byte_held new) (covered bytes from))
-appended_ok old new bytes more from (Ok u) next some alone same is grew = appended_as old new bytes more from next some alone same is grew
-appended_ok old new bytes more from (Err e) next some alone same is grew = tt
 
 -- the same bytes, and then the same
 pub both_same : (old now new : ℕ → Option ℕ) (more : ℕ → Option ℕ) → HoldsBoth old now more → HoldsSame now new → HoldsBoth old new more

@@ -2,16 +2,16 @@
 use Rattle.std.specs.Prelude.{ℕ, zero, suc, ◌+◌, List, [], ◌∷◌, ◌++◌, flat_map, Option, None, Some}
 use Rattle.std.specs.Int.{to_be_bytes, w32}
 use Rattle.zy_capture.specs.declared.record.Record.TheVariants as Kinds
-use Rattle.zy_capture.specs.Capture.{magic, spelled}
+use Rattle.zy_capture.specs.Capture.{spelled}
 use Rattle.zy_capture.specs.Replies.{numbered_from}
 use Rattle.zy_pcap.specs.declared.kept_session.KeptSession.{KeptSession}
 use Rattle.zy_pcap.specs.declared.kept_flow.KeptFlow.{KeptFlow}
 use Rattle.zy_pcap.specs.Made.{session_records}
 use Rattle.zy_pcap.specs.Streams.{kept_stream}
 
--- the beginning of the capture, with its connection count
+-- the beginning of the capture: the magic of version 2, and the connection count
 unfoldable pub start_text : ℕ → List ℕ
-start_text count = magic 2 ++ to_be_bytes w32 count
+start_text count = 90 ∷ 89 ∷ 71 ∷ 67 ∷ 65 ∷ 80 ∷ 50 ∷ 10 ∷ to_be_bytes w32 count
 
 -- a close record
 unfoldable pub close_text : ℕ → List ℕ

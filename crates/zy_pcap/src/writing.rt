@@ -24,10 +24,11 @@ const STREAM_END: u32 = 1 << 31;
 pub fn write_flows<K: Sink>(sink: &mut K, flows: &Flows) -> Result<(), Failed>
     ensures writes { Writes K.holds K.faults sink.old sink.new result (capture_of flows.now) }
 {
+    let all = flows.kept();
     if let Err(failed) = write_start(sink, flows.count()) {
         return Err(failed);
     }
-    if let Err(failed) = write_connections(sink, flows.kept()) {
+    if let Err(failed) = write_connections(sink, all) {
         return Err(failed);
     }
     write_whole(sink, b"E")

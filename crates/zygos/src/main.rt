@@ -9,10 +9,10 @@ use std::process::ExitCode;
 use zy_base::{Blob, NoMemory, Ungated};
 use zygos_run::{StdSink, StdSource, serve, status};
 
-// The exit status where the words themselves, or the buffer, find no memory.
+// The exit status if there is no memory for the words themselves, or for the buffer.
 const OUT_OF_MEMORY: u8 = 6;
 
-// The bytes that standard output is given at once; longer pieces are not held back.
+// The size of the buffer of standard output; longer pieces are not held back.
 const BUFFER: usize = 65_536;
 
 fn main(rt: HostRuntime) -> ExitCode {
@@ -44,34 +44,43 @@ fn main(rt: HostRuntime) -> ExitCode {
 // The words after the program's name, as bytes.
 fn words<R: Env>(rt: &R, alloc: Global) -> Result<Vec<Blob>, NoMemory> {
     let mut words = Vec::new(alloc);
+    match add_words(rt, alloc, &mut words) {
+        Ok(()) => Ok(words),
+        Err(e) => {
+            drop(words);
+            Err(e)
+        }
+    }
+}
+
+fn add_words<R: Env>(rt: &R, alloc: Global, words: &mut Vec<Blob>) -> Result<(), NoMemory> {
     for i in 1..usize::MAX {
         match word(rt, alloc, i)? {
-            Some(word) => {
-                if words.push(word).is_err() {
-                    return Err(NoMemory);
-                }
-            }
+            Some(word) => words.push(word)?,
             None => break,
         }
     }
-    Ok(words)
+    Ok(())
 }
 
 // One word, by a buffer that doubles until the word fits.
 fn word<R: Env>(rt: &R, alloc: Global, i: usize) -> Result<Option<Blob>, NoMemory> {
     let mut size = 256usize;
     for _ in 0..usize::BITS {
-        let mut buffer = match vec![in alloc; 0u8; size] {
-            Ok(buffer) => buffer,
-            Err(_) => return Err(NoMemory),
-        };
+        let mut buffer = vec![in alloc; 0u8; size]?;
         match rt.arg(i, buffer.as_mut_slice()) {
             Ok(length) => {
                 buffer.truncate(length);
                 return Ok(Some(Blob::from_vec(buffer)));
             }
-            Err(FillError::NotPresent) => return Ok(None),
-            Err(FillError::TooLong) => size = size.saturating_add(size),
+            Err(FillError::NotPresent) => {
+                drop(buffer);
+                return Ok(None);
+            }
+            Err(FillError::TooLong) => {
+                drop(buffer);
+                size = size.saturating_add(size);
+            }
         }
     }
     Err(NoMemory)

@@ -5,4 +5,5 @@ mod ServedLemmas
 pub mod NumberLemmas
 pub mod CheckLemmas
 pub mod TestLemmas
-pub mod RefuseLemmas
+pub mod EndLemmas
+pub mod PacketLemmas

@@ -1,5 +1,5 @@
 -- What a run leaves of a capture that was fed whole is the served run of its bytes.
-use Rattle.std.proofs.Common.{◌≡◌, ℕ, List, refl, sym, ◌∙◌, ap, ap₂}
+use Rattle.std.proofs.Common.{◌≡◌, ℕ, List, refl, sym, ◌∙◌, ap, ap₂, subst}
 use Rattle.zy_capture.specs.declared.record.Record.{Record}
 use Rattle.zy_capture.specs.Outputs.{AllOutputs}
 use Rattle.zy_capture.specs.Verdict.{verdict}
@@ -9,13 +9,14 @@ use Rattle.zy_finish.specs.declared.finishing.Finished.{Finished}
 use Rattle.std.specs.Prelude.{Option, Ok}
 use Rattle.zy_capture.specs.Capture.{IsCapture}
 use Rattle.zy_rx.specs.declared.rx.Rx.{Rx}
-use Rattle.zy_home.specs.Home.{Homed}
 use Rattle.zy_feed.specs.declared.intake.Header.{Header}
 use Rattle.zy_feed.specs.Feeding.{HasFedAll}
 use Rattle.zy_finish.specs.Received.{AllSent}
-use Rattle.zy_finish.specs.Finish.{HaveReceived, IsFinished}
+use Rattle.zy_feed.specs.Reads.{InPieces, HasBegun}
+use Rattle.zy_finish.specs.Finish.{IsFinished}
 use Rattle.zygos_run.specs.Headline.{IsServed, outputs_of}
-use Rattle.zygos_run.specs.Ends.{RunsTo}
+use Rattle.zygos_run.specs.Seen.{side}
+use Rattle.zygos_run.specs.Runs.{RunsTo}
 
 pub served_of : (shards version count : ℕ) (records : List Record) (bytes : List ℕ) (done : Finished) → verdict bytes ≡ Good version count records → IsFinished shards version count records done
     → IsServed shards bytes done.journal done.outputs
@@ -30,11 +31,17 @@ served_of shards version count records bytes done good is = record {
   replies = ap₂ (λ v s. record { version = v; sessions = s }) is.version_is is.outputs;
 }
 
--- a capture that was fed whole to cores whose homes have received all of it
-pub runs_to : {S : Type 0} (rest : S → Option (List ℕ)) (faults : S → ℕ) (shards : ℕ) (source source' : S) (header : Header) (sents : List (List Rx)) (homes : List Homed) (done : Finished) → HasFedAll rest faults source source' header sents
-    → ((records : List Record) → AllSent sents records → HaveReceived homes records)
-    → ((records : List Record) → IsCapture header.version header.count records → HaveReceived homes records → IsFinished shards header.version header.count records done)
-    → RunsTo rest faults shards source source' (Ok done)
-runs_to rest faults shards source source' header sents homes done fed received finished =
-    let is = finished fed.records fed.lawful (received fed.records fed.sent) in
+-- a capture that was fed whole to cores, of which this is left
+pub runs_to : {S : Type 0} (rest : S → Option (List ℕ)) (faults : S → ℕ) (shards : ℕ) (source source' : S) (header : Header) (sents : List (List Rx)) (done : Finished)
+    → HasFedAll rest faults source source' header sents
+    → ((records : List Record) → IsCapture header.version header.count records → AllSent sents records → IsFinished shards header.version header.count records done)
+    → RunsTo shards (side rest faults source source') (Ok done)
+runs_to rest faults shards source source' header sents done fed finished =
+    let is = finished fed.records fed.lawful fed.sent in
     (fed.bytes, (fed.source, fed.end), served_of shards header.version header.count fed.records fed.bytes done fed.good is, is.lawful, is.journal)
+
+-- what has begun with these has begun with equals of them
+pub begun_as : {S : Type 0} (rest : S → Option (List ℕ)) (faults : S → ℕ) (first now : S) (intake intake' : InPieces) (header header' : Header) → HasBegun rest faults first now intake header
+    → intake' ≡ intake → header' ≡ header → HasBegun rest faults first now intake' header'
+begun_as rest faults first now intake intake' header header' begun same are =
+    subst (λ (h : Header). HasBegun rest faults first now intake' h) (sym are) (subst (λ (i : InPieces). HasBegun rest faults first now i header) (sym same) begun)

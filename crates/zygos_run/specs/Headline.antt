@@ -1,8 +1,7 @@
 -- The headline: what a served run is.
-use Rattle.std.specs.Prelude.{◌≡◌, ℕ, List, [], ◌++◌, Option, None, Some}
+use Rattle.std.specs.Prelude.{◌≡◌, ℕ, List, [], ◌++◌, None}
 use Rattle.zy_base.specs.declared.entry.Entry.{Entry}
 use Rattle.zy_base.specs.Order.{IsOrdered}
-use Rattle.zy_base.specs.Outside.{Grew, GrewByPrefix}
 use Rattle.zy_capture.specs.declared.record.Record.{Record}
 use Rattle.zy_capture.specs.Outputs.{AllOutputs}
 use Rattle.zy_capture.specs.Replies.{replies_bytes}
@@ -16,12 +15,13 @@ use Rattle.zy_run.specs.Output.{all_outputs}
 use Rattle.zy_run.specs.Spans.{Spans}
 use Rattle.zy_command_line.specs.declared.request.Out.{Out}
 use Rattle.zy_command_line.specs.declared.request.Out.TheVariants.{Replies, Both}
+use Rattle.zygos_run.specs.Seen.{Side, Takes, TakesPart}
 
--- the outputs of all connections of these records, by the replies that the entries tell
+-- the outputs of all connections of these records, by the replies in the entries
 abbrev pub outputs_of : ℕ → ℕ → List Record → List Entry → AllOutputs
 outputs_of version count records es = record { version = version; sessions = all_outputs count (streams_in records) es }
 
--- what stands before the replies: nothing, or the journal
+-- what is written before the replies: nothing, or the journal
 abbrev pub front : Out → Journal → List ℕ
 front Replies journal = []
 front Both journal = journal_bytes journal
@@ -30,7 +30,8 @@ front Both journal = journal_bytes journal
 abbrev pub written : Out → Journal → AllOutputs → List ℕ
 written out journal outputs = front out journal ++ replies_bytes outputs
 
--- the journal is that of a served run of the capture that these bytes are, on so many shards, and these are its outputs
+-- the journal is that of a served run of the capture that these bytes are, on this number of shards, and these are its
+-- outputs
 pub record IsServed (shards : ℕ) (bytes : List ℕ) (journal : Journal) (outputs : AllOutputs) : Type 0 where
   pub version : ℕ
   pub count : ℕ
@@ -47,16 +48,15 @@ pub record IsServed (shards : ℕ) (bytes : List ℕ) (journal : Journal) (outpu
   -- the outputs are exactly each session's replies in that order
   pub replies : outputs ≡ outputs_of version count records journal.entries
 
--- the same, and the sink grew by all that is written of it
-pub record IsWritten (shards : ℕ) (out : Out) (bytes : List ℕ) (journal : Journal)
-    (before after : Option (List ℕ)) : Type 0 where
+-- the same, and all that is expected of it was written
+pub record IsWritten (shards : ℕ) (out : Out) (bytes : List ℕ) (journal : Journal) (sink : Side) : Type 0 where
   pub outputs : AllOutputs
   pub served : IsServed shards bytes journal outputs
-  pub wrote : Grew before after (written out journal outputs)
+  pub wrote : Takes sink (written out journal outputs)
 
--- the same, and the sink grew by a first part of it
-pub record IsPartWritten (shards : ℕ) (out : Out) (bytes : List ℕ) (before after : Option (List ℕ)) : Type 0 where
+-- the same, and a prefix of it was written
+pub record IsPartWritten (shards : ℕ) (out : Out) (bytes : List ℕ) (sink : Side) : Type 0 where
   pub journal : Journal
   pub outputs : AllOutputs
   pub served : IsServed shards bytes journal outputs
-  pub wrote : GrewByPrefix before after (written out journal outputs)
+  pub wrote : TakesPart sink (written out journal outputs)

@@ -2,7 +2,11 @@ pub mod Answers
 pub mod Lines
 pub mod Said
 pub mod Numbers
+pub mod Seen
 pub mod Headline
+pub mod Packets
 pub mod Prepared
+pub mod Recorded
 pub mod Ends
 pub mod Served
+pub mod Runs

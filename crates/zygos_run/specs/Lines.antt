@@ -4,17 +4,26 @@ use Rattle.zy_base.specs.declared.file_fault.FileFault.{FileFault}
 use Rattle.zy_base.specs.declared.file_fault.FileFault.TheVariants as Files
 use Rattle.zy_capture.specs.declared.capture_fault.CaptureFault.{CaptureFault}
 use Rattle.zy_capture.specs.declared.capture_fault.CaptureFault.TheVariants.{BadMagic, ConnCount, BadTag, ConnRange, SegmentLength, Truncated, Trailing, TooLong}
+use Rattle.zy_pcap.specs.declared.pcap_fault.PcapFault.{PcapFault}
+use Rattle.zy_pcap.specs.declared.pcap_fault.PcapFault.TheVariants as Packets
 use Rattle.zy_check_input.specs.declared.stop.Refusal.{Refusal}
-use Rattle.zy_check_input.specs.declared.stop.Refusal.TheVariants.{Capture, Journal, Replies}
+use Rattle.zy_check_input.specs.declared.stop.Refusal.TheVariants.{Capture, Journal, Replies, Pcap}
 use Rattle.zy_check.specs.declared.verdict.Cause.{Cause}
 use Rattle.zy_check.specs.declared.verdict.Cause.TheVariants.{NotNext, WrongReply, Missing, WrongOutput, WrongHolds}
 use Rattle.zy_check.specs.declared.verdict.Verdict.{Verdict}
 use Rattle.zy_check.specs.declared.verdict.Verdict.TheVariants.{Yes, No}
 use Rattle.zy_run.specs.declared.summary.Summary.{Summary}
+use Rattle.zygos_run.specs.declared.lines.Piece.{Piece}
+use Rattle.zygos_run.specs.declared.lines.Piece.TheVariants.{Text, Number}
 use Rattle.zygos_run.specs.declared.answer.Answer.{Answer}
 use Rattle.zygos_run.specs.declared.answer.Answer.TheVariants.{Served, Checked, Made, Tested, Usage, Refused, ReadFault, WriteFault, OutOfMemory}
 
--- ---- numbers in a line
+-- ---- pieces of a line
+
+-- the bytes of a piece
+abbrev pub piece_text : Piece → List ℕ
+piece_text (Text text) = text.now
+piece_text (Number number) = decimal number
 
 -- a line with a number at its end
 abbrev pub line_with : List ℕ → ℕ → List ℕ
@@ -42,7 +51,7 @@ fault_text (Truncated at) = codes "zygos: capture: truncated at "
 fault_text (Trailing at) = codes "zygos: capture: trailing at "
 fault_text TooLong = codes "zygos: capture: too-long\n"
 
--- what stands between its two numbers, where it has two
+-- what is between its two numbers, where it has two
 abbrev pub fault_middle : CaptureFault → List ℕ
 fault_middle (BadTag at byte) = codes " byte "
 fault_middle fault = codes " number "
@@ -78,17 +87,38 @@ file_line text (Files.Form at) = line_with text at
 file_line text (Files.Truncated at) = line_with text at
 file_line text Files.TooLong = text
 
+-- the number of a fault of recorded packets
+abbrev pub pcap_number : PcapFault → ℕ
+pcap_number (Packets.Magic at) = 9
+pcap_number (Packets.Version major minor) = 10
+pcap_number (Packets.LinkType number) = 11
+pcap_number (Packets.RecordLength at number) = 12
+pcap_number (Packets.Ipv6 at) = 13
+pcap_number (Packets.Vlan at) = 14
+pcap_number (Packets.Fragment at) = 15
+pcap_number (Packets.Short at) = 16
+pcap_number (Packets.Missing at) = 17
+pcap_number (Packets.FlowCount at) = 18
+pcap_number (Packets.FlowLength at) = 19
+pcap_number (Packets.PcapTruncated at) = 20
+pcap_number Packets.PcapTooLong = 21
+
+-- how the line of a fault of recorded packets begins
+abbrev pub pcap_text : List ℕ
+pcap_text = codes "zygos: pcap: fault "
+
 -- the line of a refusal
 abbrev pub refusal_line : Refusal → List ℕ
 refusal_line (Capture fault) = fault_line fault
 refusal_line (Journal fault) = file_line (journal_text fault) fault
 refusal_line (Replies fault) = file_line (replies_text fault) fault
+refusal_line (Pcap fault) = line_with pcap_text (pcap_number fault)
 
 -- ---- what is said of an answer
 
 -- the line of an answer that is no refusal; of a command that was carried out nothing is said
 abbrev pub plain_line : Answer → List ℕ
-plain_line Usage = codes "zygos: usage: zygos run|check|gen|self [options]\n"
+plain_line Usage = codes "zygos: usage: zygos run|check|gen|self|pcap [options]\n"
 plain_line ReadFault = codes "zygos: reading failed\n"
 plain_line WriteFault = codes "zygos: writing failed\n"
 plain_line OutOfMemory = codes "zygos: out of memory\n"

@@ -1,18 +1,17 @@
--- What is so of the cores of a run before they are driven, and stays so. No public clause cites this module.
+-- What is so of the cores of a run before and after they are driven. No public clause cites this module.
 use Rattle.std.specs.Prelude.{◌≡◌, ℕ, ◌≤◌, List, length, Some, slice_get}
 use Rattle.atomic_table.specs.Seated.{TableId}
 use Rattle.zy_table.specs.Name.{name_of}
-use Rattle.mc_store.specs.Pass.{Rooted}
-use Rattle.zy_rx.specs.Ring.{Offering}
+use Rattle.zy_capture.specs.Capture.{connection_limit}
 use Rattle.zy_rx.specs.Feed.{rings_of, sent_by}
 use Rattle.zy_feed.specs.Feeding.{AreUnsent}
-use Rattle.zy_core.specs.Share.{Sharing}
-use Rattle.zy_core.specs.Core.{Identity}
-use Rattle.zy_core.specs.Drive.{AreCores, AreInlets}
+use Rattle.zy_core.specs.Drive.{AreCores, AreInlets, EachSettled, identities}
 use Rattle.mc_store.specs.Root.{IsRootOf}
 use Rattle.zy_setup.specs.Station.{Station, stations_in, rings_in}
+use Rattle.zygos_run.specs.declared.run.prepare.Prepared.{Prepared}
+use Rattle.zygos_run.specs.declared.run.drive.Ran.{Ran}
 
--- the home of this core, of so many, has its core's number, the count of connections and the store's label
+-- the home of this core, of this number of cores, has its core's number, the count of connections and the store's label
 pub record IsStation (store : TableId) (cores count core : ℕ) (s : Station) : Type 0 where
   pub core_is : s.core ≡ core
   pub cores_is : s.cores ≡ cores
@@ -25,14 +24,21 @@ AreStations store count stations =
     (core : ℕ) (s : Station) → slice_get stations core ≡ Some s → IsStation store (length stations) count core s
 
 -- the cores can be driven, and taken apart again
-pub record IsPrepared (count shards : ℕ) (shared : Sharing) (ids : List Identity) (inlets : List Offering)
-    (root : Rooted) : Type 0 where
-  pub cores : AreCores shared ids
-  pub feeds : AreInlets (rings_of inlets) ids
-  pub unsent : AreUnsent (sent_by inlets)
-  pub rings : rings_of inlets ≡ rings_in ids
-  pub stations : AreStations shared.store.id count (stations_in ids)
-  pub some : 1 ≤ length ids
-  pub few : length ids ≤ 64
-  pub shards_are : shared.store.shards ≡ shards
-  pub root_is : IsRootOf shared.store.id count root
+pub record IsPrepared (shards : ℕ) (p : Prepared) : Type 0 where
+  pub connections : p.header.count ≤ connection_limit
+  pub cores : AreCores p.shared (identities p.cores)
+  pub feeds : AreInlets (rings_of p.inlets) (identities p.cores)
+  pub unsent : AreUnsent (sent_by p.inlets)
+  pub rings : rings_of p.inlets ≡ rings_in (identities p.cores)
+  pub stations : AreStations p.shared.store.id p.header.count (stations_in (identities p.cores))
+  pub shards_are : p.shared.store.shards ≡ shards
+  pub root_is : IsRootOf p.shared.store.id p.header.count p.root
+
+-- the cores were driven until all are settled, and can be taken apart
+pub record IsDriven (r : Ran) : Type 0 where
+  pub connections : r.header.count ≤ connection_limit
+  pub cores : AreCores r.shared (identities r.cores)
+  pub settled : EachSettled r.cores
+  pub rings : rings_of r.inlets ≡ rings_in (identities r.cores)
+  pub stations : AreStations r.shared.store.id r.header.count (stations_in (identities r.cores))
+  pub root_is : IsRootOf r.shared.store.id r.header.count r.root

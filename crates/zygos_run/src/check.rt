@@ -1,8 +1,11 @@
 //! Checking a journal and a replies file against a capture.
-ghost use Rattle.std.specs.Prelude.{◌≡◌, ◌≤◌, IfOk};
+ghost use Rattle.std.specs.Prelude.{◌≡◌, ◌≤◌, Some};
 ghost use Rattle.zy_base.specs.Outside.{Writes};
 ghost use Rattle.zy_command_line.specs.Range.{AreShards};
-ghost use Rattle.zygos_run.specs.Ends.{CheckEnds, ChecksTo};
+ghost use Rattle.zy_command_line.specs.declared.request.Request.TheVariants as Requests;
+ghost use Rattle.zygos_run.specs.Seen.{side, seen};
+ghost use Rattle.zygos_run.specs.Ends.{Ends, LeavesSink};
+ghost use Rattle.zygos_run.specs.Runs.{ChecksTo};
 ghost use Rattle.zygos_run.specs.Lines.{verdict_line};
 
 use crate::answer::Answer;
@@ -10,7 +13,7 @@ use crate::lines::write_verdict;
 use std::alloc::Global;
 use zy_base::{Failed, Sink, Source};
 use zy_check::{Verdict, check};
-use zy_check_input::{Parts, Stop, read_parts};
+use zy_check_input::{Stop, read_parts};
 
 /// Reads a capture, a journal and a replies file, and writes the line of the verdict on them.
 pub(crate) fn check_input<S: Source, K: Sink>(
@@ -22,12 +25,14 @@ pub(crate) fn check_input<S: Source, K: Sink>(
     requires shards { AreShards shards }
     ensures reads { S.faults source.old ≤ S.faults source.new }
     ensures writes { K.faults sink.old ≤ K.faults sink.new }
-    ensures cause { CheckEnds S.rest S.faults K.holds K.faults shards source.old source.new sink.old sink.new result }
+    ensures ends { Ends (Some (Requests.Check shards))
+        (seen (side S.rest S.faults source.old source.new) (side K.holds K.faults sink.old sink.new)) result }
+    ensures sink_kept { LeavesSink result → sink.new ≡ sink.old }
 {
     match check_parts(alloc, shards, source) {
         Ok(verdict) => match write_line(sink, verdict) {
             Ok(()) => Answer::Checked(verdict),
-            Err(_) => Answer::WriteFault,
+            Err(Failed) => Answer::WriteFault,
         },
         Err(Stop::Refused(refusal)) => Answer::Refused(refusal),
         Err(Stop::ReadFault) => Answer::ReadFault,
@@ -39,25 +44,24 @@ pub(crate) fn check_input<S: Source, K: Sink>(
 fn check_parts<S: Source>(alloc: Global, shards: u32, source: &mut S) -> Result<Verdict, Stop>
     requires shards { AreShards shards }
     ensures reads { S.faults source.old ≤ S.faults source.new }
-    ensures ends { ChecksTo S.rest S.faults shards source.old source.new result }
+    ensures ends { ChecksTo shards (side S.rest S.faults source.old source.new) result }
 {
-    let Parts {
-        streams,
-        journal,
-        outputs,
-    } = read_parts(alloc, source)?;
-    match check(alloc, &streams, &journal, &outputs, shards) {
-        Ok(verdict) => Ok(verdict),
-        Err(_) => Err(Stop::NoMemory),
-    }
+    let parts = read_parts(alloc, source)?;
+    let checked = check(
+        alloc,
+        &parts.streams,
+        &parts.journal,
+        &parts.outputs,
+        shards,
+    );
+    drop(parts);
+    Ok(checked?)
 }
 
 // Writes the line of a verdict, and finishes.
 fn write_line<K: Sink>(sink: &mut K, verdict: Verdict) -> Result<(), Failed>
     ensures writes { Writes K.holds K.faults sink.old sink.new result (verdict_line verdict) }
 {
-    if let Err(failed) = write_verdict(sink, verdict) {
-        return Err(failed);
-    }
+    write_verdict(sink, verdict)?;
     sink.finish()
 }

@@ -1,11 +1,13 @@
 //! The command that the words ask for.
 ghost use Rattle.std.specs.Prelude.{◌≡◌, ◌≤◌};
 ghost use Rattle.zy_command_line.specs.Request.{request_of};
-ghost use Rattle.zygos_run.specs.Ends.{HasCause, ReadsNothing};
+ghost use Rattle.zygos_run.specs.Seen.{side, seen};
+ghost use Rattle.zygos_run.specs.Ends.{Ends, LeavesSink, ReadsNothing};
 
 use crate::answer::Answer;
 use crate::check::check_input;
 use crate::generate::make_traffic;
+use crate::packets::make_packets;
 use crate::run::serve_capture;
 use crate::self_test::test_traffic;
 use std::alloc::Global;
@@ -26,8 +28,9 @@ pub(crate) fn carry_out<R: Threads + Wait + Sync, S: Source, K: Sink, G: Gate + 
 ) -> Answer
     ensures reads { S.faults source.old ≤ S.faults source.new }
     ensures writes { K.faults sink.old ≤ K.faults sink.new }
-    ensures cause { HasCause S.rest S.faults K.holds K.faults
-        (request_of words.now) source.old source.new sink.old sink.new result }
+    ensures ends { Ends (request_of words.now)
+        (seen (side S.rest S.faults source.old source.new) (side K.holds K.faults sink.old sink.new)) result }
+    ensures sink_kept { LeavesSink result → sink.new ≡ sink.old }
     ensures source_kept { ReadsNothing (request_of words.now) → source.new ≡ source.old }
 {
     requests_are_in_their_ranges();
@@ -40,6 +43,7 @@ pub(crate) fn carry_out<R: Threads + Wait + Sync, S: Source, K: Sink, G: Gate + 
         Ok(Some(Request::SelfTest { traffic, run })) => {
             test_traffic(rt, alloc, traffic, run, sink, gate)
         }
+        Ok(Some(Request::Pcap { port })) => make_packets(alloc, port, source, sink),
         Ok(None) => Answer::Usage,
         Err(_) => Answer::OutOfMemory,
     }

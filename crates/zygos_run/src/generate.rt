@@ -1,9 +1,11 @@
 //! Making traffic.
-ghost use Rattle.std.specs.Prelude.{◌≡◌, ◌≤◌, IfOk};
+ghost use Rattle.std.specs.Prelude.{◌≡◌, ◌≤◌, Some, IfOk};
 ghost use Rattle.zy_base.specs.Outside.{Writes};
 ghost use Rattle.zy_gen.specs.Traffic.{IsTraffic};
 ghost use Rattle.zy_command_line.specs.Range.{IsMakeable};
-ghost use Rattle.zygos_run.specs.Ends.{GenEnds, traffic_bytes};
+ghost use Rattle.zy_command_line.specs.declared.request.Request.TheVariants as Requests;
+ghost use Rattle.zygos_run.specs.Seen.{Side, side, seen};
+ghost use Rattle.zygos_run.specs.Ends.{Ends, LeavesSink, traffic_bytes};
 
 use crate::answer::Answer;
 use std::alloc::Global;
@@ -15,13 +17,15 @@ use zy_gen::generate;
 pub(crate) fn make_traffic<K: Sink>(alloc: Global, traffic: Traffic, sink: &mut K) -> Answer
     requires makeable { IsMakeable traffic }
     ensures writes { K.faults sink.old ≤ K.faults sink.new }
-    ensures cause { GenEnds K.holds K.faults traffic sink.old sink.new result }
+    ensures ends { (source : Side) → Ends (Some (Requests.Gen traffic))
+        (seen source (side K.holds K.faults sink.old sink.new)) result }
+    ensures sink_kept { LeavesSink result → sink.new ≡ sink.old }
 {
     match capture_of(alloc, traffic) {
-        Err(_) => Answer::OutOfMemory,
+        Err(NoMemory) => Answer::OutOfMemory,
         Ok(capture) => match write_last(sink, capture.bytes()) {
             Ok(()) => Answer::Made,
-            Err(_) => Answer::WriteFault,
+            Err(Failed) => Answer::WriteFault,
         },
     }
 }
@@ -39,8 +43,6 @@ pub(crate) fn capture_of(alloc: Global, traffic: Traffic) -> Result<Blob, NoMemo
 fn write_last<K: Sink>(sink: &mut K, piece: &[u8]) -> Result<(), Failed>
     ensures writes { Writes K.holds K.faults sink.old sink.new result piece.now }
 {
-    if let Err(failed) = write_whole(sink, piece) {
-        return Err(failed);
-    }
+    write_whole(sink, piece)?;
     sink.finish()
 }

@@ -6,6 +6,7 @@ mod check;
 mod command;
 mod generate;
 mod lines;
+mod packets;
 mod run;
 mod saying;
 mod self_test;

@@ -1,63 +1,44 @@
-//! Lines with numbers in them, and the lines that a check and a test run write.
-ghost use Rattle.std.specs.Prelude.{◌≡◌};
+//! The writer of lines, and the lines that a check and a test run write.
+ghost use Rattle.std.specs.Prelude.{◌≡◌, flat_map};
 ghost use Rattle.zy_base.specs.Outside.{Writes};
-ghost use Rattle.zygos_run.specs.Lines.{line_with, line_with_two, line_with_three, output_line, cause_text, cause_line, verdict_line, summary_line};
+ghost use Rattle.zygos_run.specs.Lines.{piece_text, output_line, cause_text, cause_line, verdict_line, summary_line};
 
 use itoa::Buffer;
-use zy_base::{Failed, Sink, write_pieces, write_whole};
+use zy_base::{Failed, Sink, write_whole};
 use zy_check::{Cause, Verdict};
 use zy_run::Summary;
 
-/// Writes a line with a number at its end.
-pub(crate) fn write_number<K: Sink>(sink: &mut K, text: &[u8], number: u64) -> Result<(), Failed>
-    ensures writes { Writes K.holds K.faults sink.old sink.new result (line_with text.now number) }
-{
-    let mut buffer = Buffer::new();
-    let digits = buffer.format(number).as_bytes();
-    write_pieces(sink, &[text, digits, b"\n"])
+/// A piece of a line.
+#[derive(Clone, Copy)]
+pub(crate) enum Piece {
+    /// These bytes.
+    Text(&'static [u8]),
+    /// The decimal digits of a number.
+    Number(u64),
 }
 
-/// Writes a line with two numbers.
-pub(crate) fn write_two<K: Sink>(
-    sink: &mut K,
-    text: &[u8],
-    number: u64,
-    middle: &[u8],
-    other: u64,
-) -> Result<(), Failed>
-    ensures writes { Writes K.holds K.faults sink.old sink.new result (line_with_two text.now number middle.now other) }
+/// Writes the pieces of a line, one after the other.
+pub(crate) fn write_line<K: Sink>(sink: &mut K, pieces: &[Piece]) -> Result<(), Failed>
+    ensures writes { Writes K.holds K.faults sink.old sink.new result (flat_map piece_text pieces.now) }
 {
-    let mut buffer = Buffer::new();
-    let mut other_buffer = Buffer::new();
-    let digits = buffer.format(number).as_bytes();
-    let others = other_buffer.format(other).as_bytes();
-    write_pieces(sink, &[text, digits, middle, others, b"\n"])
+    for piece in pieces {
+        if let Err(failed) = write_piece(sink, *piece) {
+            return Err(failed);
+        }
+    }
+    Ok(())
 }
 
-// Writes a line with three numbers.
-fn write_three<'a, K: Sink>(
-    sink: &mut K,
-    text: &'a [u8],
-    first: u64,
-    middle: &'a [u8],
-    second: u64,
-    last: &'a [u8],
-    third: u64,
-    ending: &'a [u8],
-) -> Result<(), Failed>
-    ensures writes { Writes K.holds K.faults sink.old sink.new result
-        (line_with_three text.now first middle.now second last.now third ending.now) }
+fn write_piece<K: Sink>(sink: &mut K, piece: Piece) -> Result<(), Failed>
+    ensures writes { Writes K.holds K.faults sink.old sink.new result (piece_text piece) }
 {
-    let mut buffer = Buffer::new();
-    let mut second_buffer = Buffer::new();
-    let mut third_buffer = Buffer::new();
-    let digits = buffer.format(first).as_bytes();
-    let seconds = second_buffer.format(second).as_bytes();
-    let thirds = third_buffer.format(third).as_bytes();
-    write_pieces(
-        sink,
-        &[text, digits, middle, seconds, last, thirds, ending, b"\n"],
-    )
+    match piece {
+        Piece::Text(text) => write_whole(sink, text),
+        Piece::Number(number) => {
+            let mut buffer = Buffer::new();
+            write_whole(sink, buffer.format(number).as_bytes())
+        }
+    }
 }
 
 /// Writes the line of a verdict.
@@ -74,44 +55,48 @@ pub(crate) fn write_verdict<K: Sink>(sink: &mut K, verdict: Verdict) -> Result<(
 fn write_cause<K: Sink>(sink: &mut K, cause: Cause) -> Result<(), Failed>
     ensures writes { Writes K.holds K.faults sink.old sink.new result (cause_line cause) }
 {
-    let text = cause_text(cause);
+    let text = Piece::Text(cause_text(cause));
+    let end = Piece::Text(b"\n");
     match cause {
-        Cause::NotNext { entry } | Cause::WrongReply { entry } => write_number(sink, text, entry),
-        Cause::Missing { conn, index } => {
-            write_two(sink, text, conn as u64, b" command ", index)
+        Cause::NotNext { entry } | Cause::WrongReply { entry } => {
+            write_line(sink, &[text, Piece::Number(entry), end])
         }
-        Cause::WrongOutput { conn, session, at } => write_output(sink, text, conn, session, at),
-        Cause::WrongHolds { conn } => write_number(sink, text, conn as u64),
+        Cause::Missing { conn, index } => {
+            let (conn, index) = (Piece::Number(conn as u64), Piece::Number(index));
+            write_line(sink, &[text, conn, Piece::Text(b" command "), index, end])
+        }
+        Cause::WrongOutput { conn, session, at } => {
+            write_output(sink, cause_text(cause), conn, session, at)
+        }
+        Cause::WrongHolds { conn } => write_line(sink, &[text, Piece::Number(conn as u64), end]),
     }
 }
 
-// Writes the line of a wrong output, which begins so.
+// Writes the line of a wrong output, which begins with this text.
 fn write_output<K: Sink>(
     sink: &mut K,
-    text: &[u8],
+    text: &'static [u8],
     conn: u32,
     session: u32,
     at: u64,
 ) -> Result<(), Failed>
     ensures writes { Writes K.holds K.faults sink.old sink.new result (output_line text.now conn session at) }
 {
+    let text = Piece::Text(text);
+    let conn = Piece::Number(conn as u64);
+    let before = Piece::Text(b" at ");
+    let at = Piece::Number(at);
+    let end = Piece::Text(b"\n");
     if session == 0 {
-        write_two(sink, text, conn as u64, b" at ", at)
+        write_line(sink, &[text, conn, before, at, end])
     } else {
-        write_three(
-            sink,
-            text,
-            conn as u64,
-            b" session ",
-            session as u64,
-            b" at ",
-            at,
-            b"",
-        )
+        let named = Piece::Text(b" session ");
+        let session = Piece::Number(session as u64);
+        write_line(sink, &[text, conn, named, session, before, at, end])
     }
 }
 
-// How the line of a cause begins.
+// The beginning of the line of a cause.
 fn cause_text(cause: Cause) -> &'static [u8]
     ensures value { result.now ≡ cause_text cause }
 {
@@ -128,14 +113,14 @@ fn cause_text(cause: Cause) -> &'static [u8]
 pub(crate) fn write_summary<K: Sink>(sink: &mut K, summary: &Summary) -> Result<(), Failed>
     ensures writes { Writes K.holds K.faults sink.old sink.new result (summary_line summary.now) }
 {
-    write_three(
-        sink,
-        b"commands ",
-        summary.commands,
-        b" calls ",
-        summary.calls,
-        b" reply-bytes ",
-        summary.reply_bytes,
-        b" check yes",
-    )
+    let pieces = [
+        Piece::Text(b"commands "),
+        Piece::Number(summary.commands),
+        Piece::Text(b" calls "),
+        Piece::Number(summary.calls),
+        Piece::Text(b" reply-bytes "),
+        Piece::Number(summary.reply_bytes),
+        Piece::Text(b" check yes\n"),
+    ];
+    write_line(sink, &pieces)
 }

@@ -1,14 +1,17 @@
 //! Serving a capture, and writing what came.
-ghost use Rattle.std.specs.Prelude.{◌≡◌, ◌≤◌};
+ghost use Rattle.std.specs.Prelude.{◌≡◌, ◌≤◌, Some};
 ghost use Rattle.zy_base.specs.Outside.{Writes};
 ghost use Rattle.zy_capture.specs.Outputs.{AreOutputs};
 ghost use Rattle.zy_capture.specs.Replies.{replies_bytes};
 ghost use Rattle.zy_journal.specs.Journal.{IsJournal};
 ghost use Rattle.zy_command_line.specs.Range.{IsRunnable};
-ghost use Rattle.zygos_run.specs.Ends.{RunEnds};
+ghost use Rattle.zy_command_line.specs.declared.request.Request.TheVariants as Requests;
+ghost use Rattle.zygos_run.specs.Seen.{side, seen};
+ghost use Rattle.zygos_run.specs.Ends.{Ends, LeavesSink};
 ghost use Rattle.zygos_run.specs.Headline.{front, written};
 
 mod drive;
+mod prepare;
 pub(crate) mod serve;
 
 use crate::answer::Answer;
@@ -37,13 +40,14 @@ pub(crate) fn serve_capture<R: Threads + Wait + Sync, S: Source, K: Sink, G: Gat
     requires runnable { IsRunnable run }
     ensures reads { S.faults source.old ≤ S.faults source.new }
     ensures writes { K.faults sink.old ≤ K.faults sink.new }
-    ensures cause { RunEnds S.rest S.faults K.holds K.faults run.shards out source.old source.new sink.old sink.new
-        result }
+    ensures ends { Ends (Some (Requests.Run run out))
+        (seen (side S.rest S.faults source.old source.new) (side K.holds K.faults sink.old sink.new)) result }
+    ensures sink_kept { LeavesSink result → sink.new ≡ sink.old }
 {
     match run_capture(rt, alloc, run, source, gate) {
         Ok(done) => match write_all(sink, out, &done) {
             Ok(()) => Answer::Served(done.journal),
-            Err(_) => Answer::WriteFault,
+            Err(Failed) => Answer::WriteFault,
         },
         Err(Stop::Refused(fault)) => Answer::Refused(Refusal::Capture(fault)),
         Err(Stop::ReadFault) => Answer::ReadFault,
@@ -68,13 +72,11 @@ fn write_back<K: Sink>(sink: &mut K, outputs: &Outputs) -> Result<(), Failed>
     requires outputs { AreOutputs outputs.now }
     ensures writes { Writes K.holds K.faults sink.old sink.new result (replies_bytes outputs.now) }
 {
-    if let Err(failed) = write_replies(sink, outputs) {
-        return Err(failed);
-    }
+    write_replies(sink, outputs)?;
     sink.finish()
 }
 
-// Writes what stands before the replies.
+// Writes what comes before the replies.
 fn write_front<K: Sink>(sink: &mut K, out: Out, journal: &Journal) -> Result<(), Failed>
     requires journal { IsJournal journal.now }
     ensures writes { Writes K.holds K.faults sink.old sink.new result (front out journal.now) }

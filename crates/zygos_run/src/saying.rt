@@ -1,16 +1,17 @@
 //! The line that is said of an answer.
 ghost use Rattle.std.specs.Prelude.{◌≡◌};
 ghost use Rattle.zy_base.specs.Outside.{Writes};
-ghost use Rattle.zygos_run.specs.Lines.{line_of, plain_line, fault_line, fault_text, fault_middle, journal_text, replies_text, file_line};
+ghost use Rattle.zygos_run.specs.Lines.{line_of, plain_line, line_with, line_with_two, fault_line, fault_text, fault_middle, journal_text, replies_text, file_line, pcap_number};
 ghost use Rattle.zygos_run.specs.Said.{Said};
 
 use crate::answer::Answer;
-use crate::lines::{write_number, write_two};
+use crate::lines::{Piece, write_line};
 use zy_base::{Failed, FileFault, Sink, write_whole};
 use zy_capture::CaptureFault;
 use zy_check_input::Refusal;
+use zy_pcap::PcapFault;
 
-/// Says the line of the answer. That it fails changes nothing.
+/// Writes the line of the answer. A failure here is ignored.
 pub(crate) fn say<E: Sink>(says: &mut E, answer: &Answer)
     ensures said { Said (E.holds says.old) (E.holds says.new) (E.faults says.old) (E.faults says.new)
         (line_of answer.now) }
@@ -29,7 +30,31 @@ fn say_line<E: Sink>(says: &mut E, answer: &Answer) -> Result<(), Failed>
         Answer::Refused(Refusal::Replies(fault)) => {
             say_file_fault(says, replies_text(*fault), *fault)
         }
+        Answer::Refused(Refusal::Pcap(fault)) => {
+            say_number(says, b"zygos: pcap: fault ", pcap_number(*fault))
+        }
         _ => write_whole(says, plain_line(answer)),
+    }
+}
+
+// The number of a fault of recorded packets.
+fn pcap_number(fault: PcapFault) -> u64
+    ensures value { result ≡ pcap_number fault }
+{
+    match fault {
+        PcapFault::Magic { .. } => 9,
+        PcapFault::Version { .. } => 10,
+        PcapFault::LinkType { .. } => 11,
+        PcapFault::RecordLength { .. } => 12,
+        PcapFault::Ipv6 { .. } => 13,
+        PcapFault::Vlan { .. } => 14,
+        PcapFault::Fragment { .. } => 15,
+        PcapFault::Short { .. } => 16,
+        PcapFault::Missing { .. } => 17,
+        PcapFault::FlowCount { .. } => 18,
+        PcapFault::FlowLength { .. } => 19,
+        PcapFault::PcapTruncated { .. } => 20,
+        PcapFault::PcapTooLong => 21,
     }
 }
 
@@ -40,7 +65,7 @@ fn plain_line(answer: &Answer) -> &'static [u8]
     match answer {
         Answer::Served(_) | Answer::Checked(_) | Answer::Made | Answer::Tested(_, _) => b"",
         Answer::Refused(_) => b"",
-        Answer::Usage => b"zygos: usage: zygos run|check|gen|self [options]\n",
+        Answer::Usage => b"zygos: usage: zygos run|check|gen|self|pcap [options]\n",
         Answer::ReadFault => b"zygos: reading failed\n",
         Answer::WriteFault => b"zygos: writing failed\n",
         Answer::OutOfMemory => b"zygos: out of memory\n",
@@ -54,20 +79,49 @@ fn say_fault<E: Sink>(says: &mut E, fault: CaptureFault) -> Result<(), Failed>
     let text = fault_text(fault);
     let middle = fault_middle(fault);
     match fault {
-        CaptureFault::BadMagic { at } => write_number(says, text, at),
-        CaptureFault::ConnCount { number } => write_number(says, text, number as u64),
-        CaptureFault::BadTag { at, byte } => write_two(says, text, at, middle, byte as u64),
-        CaptureFault::ConnRange { at, number } => write_two(says, text, at, middle, number as u64),
+        CaptureFault::BadMagic { at } => say_number(says, text, at),
+        CaptureFault::ConnCount { number } => say_number(says, text, number as u64),
+        CaptureFault::BadTag { at, byte } => say_two(says, text, at, middle, byte as u64),
+        CaptureFault::ConnRange { at, number } => say_two(says, text, at, middle, number as u64),
         CaptureFault::SegmentLength { at, number } => {
-            write_two(says, text, at, middle, number as u64)
+            say_two(says, text, at, middle, number as u64)
         }
-        CaptureFault::Truncated { at } => write_number(says, text, at),
-        CaptureFault::Trailing { at } => write_number(says, text, at),
+        CaptureFault::Truncated { at } => say_number(says, text, at),
+        CaptureFault::Trailing { at } => say_number(says, text, at),
         CaptureFault::TooLong => write_whole(says, text),
     }
 }
 
-// How the line of a fault begins.
+// A line with a number.
+fn say_number<E: Sink>(says: &mut E, text: &'static [u8], number: u64) -> Result<(), Failed>
+    ensures writes { Writes E.holds E.faults says.old says.new result (line_with text.now number) }
+{
+    let pieces = [Piece::Text(text), Piece::Number(number), Piece::Text(b"\n")];
+    write_line(says, &pieces)
+}
+
+// A line with two numbers.
+fn say_two<E: Sink>(
+    says: &mut E,
+    text: &'static [u8],
+    number: u64,
+    middle: &'static [u8],
+    other: u64,
+) -> Result<(), Failed>
+    ensures writes { Writes E.holds E.faults says.old says.new result
+        (line_with_two text.now number middle.now other) }
+{
+    let pieces = [
+        Piece::Text(text),
+        Piece::Number(number),
+        Piece::Text(middle),
+        Piece::Number(other),
+        Piece::Text(b"\n"),
+    ];
+    write_line(says, &pieces)
+}
+
+// The beginning of the line of a fault of a capture.
 fn fault_text(fault: CaptureFault) -> &'static [u8]
     ensures value { result.now ≡ fault_text fault }
 {
@@ -83,7 +137,7 @@ fn fault_text(fault: CaptureFault) -> &'static [u8]
     }
 }
 
-// What stands between the two numbers of a line, where it has two.
+// What is between the two numbers of a line, where it has two.
 fn fault_middle(fault: CaptureFault) -> &'static [u8]
     ensures value { result.now ≡ fault_middle fault }
 {
@@ -93,17 +147,21 @@ fn fault_middle(fault: CaptureFault) -> &'static [u8]
     }
 }
 
-// The line of a fault of a journal or a replies file, which begins so.
-fn say_file_fault<E: Sink>(says: &mut E, text: &[u8], fault: FileFault) -> Result<(), Failed>
+// The line of a fault of a journal or a replies file, which begins with this text.
+fn say_file_fault<E: Sink>(
+    says: &mut E,
+    text: &'static [u8],
+    fault: FileFault,
+) -> Result<(), Failed>
     ensures writes { Writes E.holds E.faults says.old says.new result (file_line text.now fault) }
 {
     match fault {
-        FileFault::Form { at } | FileFault::Truncated { at } => write_number(says, text, at),
+        FileFault::Form { at } | FileFault::Truncated { at } => say_number(says, text, at),
         FileFault::TooLong => write_whole(says, text),
     }
 }
 
-// How the line of a fault of a journal begins.
+// The beginning of the line of a fault of a journal.
 fn journal_text(fault: FileFault) -> &'static [u8]
     ensures value { result.now ≡ journal_text fault }
 {
@@ -114,7 +172,7 @@ fn journal_text(fault: FileFault) -> &'static [u8]
     }
 }
 
-// How the line of a fault of a replies file begins.
+// The beginning of the line of a fault of a replies file.
 fn replies_text(fault: FileFault) -> &'static [u8]
     ensures value { result.now ≡ replies_text fault }
 {

@@ -1,12 +1,14 @@
 //! Test runs: generated traffic is served, and what came is checked.
-ghost use Rattle.std.specs.Prelude.{◌≡◌, ◌≤◌, ℕ, List, IfOk};
+ghost use Rattle.std.specs.Prelude.{◌≡◌, ◌≤◌, ℕ, List, Some, IfOk};
 ghost use Rattle.zy_base.specs.Outside.{Writes};
 ghost use Rattle.zy_capture.specs.declared.record.Record.{Record};
 ghost use Rattle.zy_capture.specs.Streams.{no_bytes, with_records};
 ghost use Rattle.zy_capture.specs.Verdict.{verdict};
 ghost use Rattle.zy_capture.specs.Verdict.Verdict.{Good};
 ghost use Rattle.zy_command_line.specs.Range.{IsMakeable, IsRunnable, AreShards};
-ghost use Rattle.zygos_run.specs.Ends.{SelfEnds, IsTested, traffic_bytes};
+ghost use Rattle.zy_command_line.specs.declared.request.Request.TheVariants as Requests;
+ghost use Rattle.zygos_run.specs.Seen.{Side, side, seen};
+ghost use Rattle.zygos_run.specs.Ends.{Ends, IsTested, LeavesSink, traffic_bytes};
 ghost use Rattle.zygos_run.specs.Headline.{IsServed};
 ghost use Rattle.zygos_run.specs.Lines.{summary_line};
 
@@ -43,13 +45,15 @@ pub(crate) fn test_traffic<R: Threads + Wait + Sync, K: Sink, G: Gate + Sync>(
     requires makeable { IsMakeable traffic }
     requires runnable { IsRunnable run }
     ensures writes { K.faults sink.old ≤ K.faults sink.new }
-    ensures cause { SelfEnds K.holds K.faults traffic run.shards sink.old sink.new result }
+    ensures ends { (source : Side) → Ends (Some (Requests.SelfTest traffic run))
+        (seen source (side K.holds K.faults sink.old sink.new)) result }
+    ensures sink_kept { LeavesSink result → sink.new ≡ sink.old }
 {
     match run_test(rt, alloc, traffic, run, gate) {
-        Err(_) => Answer::OutOfMemory,
+        Err(NoMemory) => Answer::OutOfMemory,
         Ok((journal, summary)) => match write_line(sink, &summary) {
             Ok(()) => Answer::Tested(journal, summary),
-            Err(_) => Answer::WriteFault,
+            Err(Failed) => Answer::WriteFault,
         },
     }
 }
@@ -137,8 +141,6 @@ fn certify(
 fn write_line<K: Sink>(sink: &mut K, summary: &Summary) -> Result<(), Failed>
     ensures writes { Writes K.holds K.faults sink.old sink.new result (summary_line summary.now) }
 {
-    if let Err(failed) = write_summary(sink, summary) {
-        return Err(failed);
-    }
+    write_summary(sink, summary)?;
     sink.finish()
 }

@@ -3,10 +3,11 @@ ghost use Rattle.std.specs.Prelude.{◌≡◌, ◌≤◌, None};
 ghost use Rattle.zy_base.specs.Outside.{Rose};
 ghost use Rattle.zy_command_line.specs.Request.{request_of};
 ghost use Rattle.zygos_run.specs.Lines.{line_of};
-ghost use Rattle.zygos_run.specs.Ends.{LeavesSink, ReadsNothing, asked_of};
-ghost use Rattle.zygos_run.specs.Served.{HasServed, HeadlineHolds, HasChecked, CheckHolds, HasMade, HasTested};
-ghost use Rattle.zygos_run.specs.Served.{HasPart, IsFaultOf, IsToldGood, IsToldBad, NoneRose};
-ghost use Rattle.zygos_run.specs.Served.{ReadsInput, IsDoneOr, IsRefusedOr, IsUsageOr};
+ghost use Rattle.zygos_run.specs.Seen.{side, seen, NoneRose};
+ghost use Rattle.zygos_run.specs.Ends.{HasServed, HasChecked, HasMade, HasTested, HasPart};
+ghost use Rattle.zygos_run.specs.Ends.{IsFaultOf, ReadsInput, ReadsNothing, LeavesSink};
+ghost use Rattle.zygos_run.specs.Served.{HeadlineHolds, CheckHolds, IsToldGood, IsToldBad};
+ghost use Rattle.zygos_run.specs.Served.{IsDoneOr, IsRefusedOr, IsUsageOr};
 ghost use Rattle.zygos_run.specs.Said.{Said};
 
 use crate::answer::Answer;
@@ -25,7 +26,8 @@ use zy_check_input::{parts_have_no_fault, there_is_one_part_fault};
 /// sessions to `sink`, with `--out both` behind the journal. `check` reads a capture, a journal and a
 /// replies file, and writes a line with the verdict on them. `gen` writes the capture of generated
 /// traffic. `self` makes that capture, serves it, checks what came, and writes a line with its
-/// numbers: that the check says yes is proved. The sink is finished once.
+/// numbers: that the check says yes is proved. `pcap` reads recorded packets to the end of the source,
+/// and writes the capture of those to one port. The sink is finished once.
 ///
 /// A line on an answer that is no success goes to `says`; a fault there changes nothing. `gate` is
 /// passed once for each command, when it is begun. Want of memory is free, and comes only before the
@@ -40,22 +42,20 @@ pub fn serve<R: Threads + Wait + Sync, S: Source, K: Sink, E: Sink, G: Gate + Sy
     gate: &G,
 ) -> Answer
     // The headline.
-    ensures headline { (j : _) → result ≡ Answer.Served j
-        → HeadlineHolds (asked_of words.now) (S.rest source.old) (S.rest source.new) (K.holds sink.old)
-        (K.holds sink.new) j }
-    ensures served { (j : _) → result ≡ Answer.Served j
-        → HasServed (asked_of words.now) (S.rest source.old) (S.rest source.new) (K.holds sink.old)
-        (K.holds sink.new) j }
+    ensures headline { (j : _) → result ≡ Answer.Served j → HeadlineHolds (request_of words.now)
+        (seen (side S.rest S.faults source.old source.new) (side K.holds K.faults sink.old sink.new)) j }
+    ensures served { (j : _) → result ≡ Answer.Served j → HasServed (request_of words.now)
+        (seen (side S.rest S.faults source.old source.new) (side K.holds K.faults sink.old sink.new)) j }
 
     // The other commands.
-    ensures verdict { (v : _) → result ≡ Answer.Checked v
-        → CheckHolds (request_of words.now) (S.rest source.old) (S.rest source.new) v }
-    ensures checked { (v : _) → result ≡ Answer.Checked v
-        → HasChecked (request_of words.now) (S.rest source.old) (S.rest source.new) (K.holds sink.old)
-        (K.holds sink.new) v }
-    ensures made { result ≡ Answer.Made → HasMade (request_of words.now) (K.holds sink.old) (K.holds sink.new) }
-    ensures tested { (j m : _) → result ≡ Answer.Tested j m
-        → HasTested (request_of words.now) (K.holds sink.old) (K.holds sink.new) j m }
+    ensures verdict { (v : _) → result ≡ Answer.Checked v → CheckHolds (request_of words.now)
+        (seen (side S.rest S.faults source.old source.new) (side K.holds K.faults sink.old sink.new)) v }
+    ensures checked { (v : _) → result ≡ Answer.Checked v → HasChecked (request_of words.now)
+        (seen (side S.rest S.faults source.old source.new) (side K.holds K.faults sink.old sink.new)) v }
+    ensures made { result ≡ Answer.Made → HasMade (request_of words.now)
+        (seen (side S.rest S.faults source.old source.new) (side K.holds K.faults sink.old sink.new)) }
+    ensures tested { (j m : _) → result ≡ Answer.Tested j m → HasTested (request_of words.now)
+        (seen (side S.rest S.faults source.old source.new) (side K.holds K.faults sink.old sink.new)) j m }
 
     // The other answers, each with its cause.
     ensures usage { result ≡ Answer.Usage → request_of words.now ≡ None }
@@ -65,15 +65,15 @@ pub fn serve<R: Threads + Wait + Sync, S: Source, K: Sink, E: Sink, G: Gate + Sy
     ensures read_fault { result ≡ Answer.ReadFault
         → ReadsInput (request_of words.now) × Rose (S.faults source.old) (S.faults source.new) }
     ensures write_fault { result ≡ Answer.WriteFault → Rose (K.faults sink.old) (K.faults sink.new) }
-    ensures write_part { result ≡ Answer.WriteFault
-        → HasPart (request_of words.now) (S.rest source.old) (S.rest source.new) (K.holds sink.old) (K.holds sink.new) }
+    ensures write_part { result ≡ Answer.WriteFault → HasPart (request_of words.now)
+        (seen (side S.rest S.faults source.old source.new) (side K.holds K.faults sink.old sink.new)) }
 
     // When the answer must come, unless memory runs out.
     ensures complete { IsToldGood (request_of words.now) (S.rest source.old)
-        → NoneRose (S.faults source.old) (S.faults source.new) (K.faults sink.old) (K.faults sink.new)
+        → NoneRose (seen (side S.rest S.faults source.old source.new) (side K.holds K.faults sink.old sink.new))
         → IsDoneOr (request_of words.now) result }
     ensures refuses { (r : _) → IsToldBad (request_of words.now) (S.rest source.old) r
-        → NoneRose (S.faults source.old) (S.faults source.new) (K.faults sink.old) (K.faults sink.new)
+        → NoneRose (seen (side S.rest S.faults source.old source.new) (side K.holds K.faults sink.old sink.new))
         → IsRefusedOr r result }
 
     // What stays.

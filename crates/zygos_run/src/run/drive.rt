@@ -1,13 +1,14 @@
 //! Driving the cores of a run while its capture is fed.
-ghost use Rattle.std.specs.Prelude.{◌≡◌, ◌≤◌, ℕ, IfOk, IfErr};
-ghost use Rattle.zy_capture.specs.declared.record.Record.{Record};
-ghost use Rattle.zy_feed.specs.declared.intake.Header.{Header};
+ghost use Rattle.std.specs.Prelude.{◌≡◌, ◌≤◌, IfOk, IfErr};
 ghost use Rattle.zy_feed.specs.Reads.{HasBegun, StopsBy};
-ghost use Rattle.zy_feed.specs.Feeding.{AreUnsent, HasFedAll};
+ghost use Rattle.zy_feed.specs.Feeding.{HasFedAll};
 ghost use Rattle.zy_rx.specs.Feed.{rings_of, sent_by};
 ghost use Rattle.zy_command_line.specs.Range.{IsRunnable};
 ghost use Rattle.zy_core.specs.Drive.{AreCores, AreInlets, EachSettled, IsSettled, IsBroken, identities, cores_of};
+ghost use Rattle.zygos_run.specs.Prepared.{IsPrepared, IsDriven};
 
+use crate::run::prepare::Prepared;
+use mc_store::Root;
 use std::alloc::Global;
 use std::sync::Wait;
 use std::thread::Threads;
@@ -15,16 +16,20 @@ use zy_base::{Gate, Source};
 use zy_command_line::Run;
 use zy_core::{Cores, Driven, Shared, drive, drive_ordered};
 use zy_feed::{
-    CaptureFeeder, Inlets, Intake, Stop, a_broken_feeder_has_its_cause,
+    CaptureFeeder, Header, Inlets, Stop, a_broken_feeder_has_its_cause,
     a_feeder_that_ended_has_offered_the_capture,
 };
 use zy_rx::Feeder;
 
-/// The cores of a run that are settled, and the inlets of their rings.
+/// The cores of a run that are settled, with what they shared, the inlets of their rings, the root of
+/// their store, and the head of the capture.
 #[derive(Drop)]
 pub(crate) struct Ran {
+    pub(crate) header: Header,
     pub(crate) cores: Cores,
+    pub(crate) shared: Shared,
     pub(crate) inlets: Inlets,
+    pub(crate) root: Root,
 }
 
 /// Feeds the capture to the cores, and drives them until all are settled.
@@ -33,43 +38,70 @@ pub(crate) fn drive_capture<R: Threads + Wait + Sync, S: Source, G: Gate + Sync>
     alloc: Global,
     run: Run,
     source: &mut S,
-    intake: Intake,
-    cores: Cores,
-    inlets: Inlets,
-    shared: &Shared,
+    prepared: Prepared,
     gate: &G,
 ) -> Result<Ran, Stop>
     requires runnable { IsRunnable run }
-    requires cores { AreCores shared.now (identities cores) }
-    requires inlets { AreInlets (rings_of inlets) (identities cores) }
-    requires unsent { AreUnsent (sent_by inlets) }
+    requires prepared { IsPrepared run.shards prepared }
 
     // The capture, and why it was read no further.
-    ensures fed { (first : S) (header : Header) → HasBegun S.rest S.faults first source.old intake header
-        → IfOk result (λ ran. HasFedAll S.rest S.faults first source.new header (sent_by ran.inlets)) }
-    ensures stopped { (first : S) (header : Header) → HasBegun S.rest S.faults first source.old intake header
+    ensures fed { (first : S) → HasBegun S.rest S.faults first source.old prepared.intake prepared.header
+        → IfOk result (λ ran. HasFedAll S.rest S.faults first source.new prepared.header (sent_by ran.inlets)) }
+    ensures stopped { (first : S) → HasBegun S.rest S.faults first source.old prepared.intake prepared.header
         → IfErr result (λ stop. StopsBy S.rest S.faults first source.new stop) }
-    ensures count { (first : S) (header : Header) → HasBegun S.rest S.faults first source.old intake header
+    ensures count { (first : S) → HasBegun S.rest S.faults first source.old prepared.intake prepared.header
         → S.faults first ≤ S.faults source.new }
 
     // The cores.
-    ensures settled { IfOk result (λ ran. EachSettled ran.cores) }
-    ensures same { IfOk result (λ ran. identities ran.cores ≡ identities cores) }
-    ensures rings { IfOk result (λ ran. rings_of ran.inlets ≡ rings_of inlets) }
+    ensures driven { IfOk result IsDriven }
+    ensures header { IfOk result (λ ran. ran.header ≡ prepared.header) }
+    ensures shards { IfOk result (λ ran. ran.shared.store.shards ≡ run.shards) }
 {
     a_feeder_that_ended_has_offered_the_capture::<S>();
     a_broken_feeder_has_its_cause::<S>();
+    let Prepared {
+        header,
+        intake,
+        cores,
+        shared,
+        inlets,
+        root,
+    } = prepared;
     let mut feeder = CaptureFeeder::new(source, intake, inlets);
-    let driven = drive_cores(rt, alloc, run, cores, shared, gate, &mut feeder);
+    let driven = drive_cores(rt, alloc, run, cores, &shared, gate, &mut feeder);
     let (source, inlets, stop) = feeder.into_parts();
     take_back(source);
     match driven {
-        Driven::Settled(cores) => Ok(Ran { cores, inlets }),
-        Driven::Broken(_) => match stop {
-            Some(stop) => Err(stop),
-            None => Err(Stop::NoMemory),
-        },
-        Driven::NoMemory(_) => Err(Stop::NoMemory),
+        Driven::Settled(cores) => Ok(Ran {
+            header,
+            cores,
+            shared,
+            inlets,
+            root,
+        }),
+        Driven::Broken(cores) => {
+            drop(Ran {
+                header,
+                cores,
+                shared,
+                inlets,
+                root,
+            });
+            match stop {
+                Some(stop) => Err(stop),
+                None => Err(Stop::NoMemory),
+            }
+        }
+        Driven::NoMemory(cores) => {
+            drop(Ran {
+                header,
+                cores,
+                shared,
+                inlets,
+                root,
+            });
+            Err(Stop::NoMemory)
+        }
     }
 }
 
@@ -100,7 +132,7 @@ pub(crate) fn drive_cores<R: Threads + Wait + Sync, F: Feeder, G: Gate + Sync>(
     }
 }
 
-// This use of a returned reference ties it to what was lent.
+// Does nothing. The call tells the prover that the reference handed back is the one that was lent.
 fn take_back<T>(x: &mut T)
     ensures same { x.new ≡ x.old }
 {}

@@ -1,24 +1,24 @@
 //! A run of a capture.
-ghost use Rattle.std.specs.Prelude.{◌≤◌, IfOk};
-ghost use Rattle.zy_core.specs.Drive.{identities};
+ghost use Rattle.std.specs.Prelude.{◌≡◌, ◌⊎◌, ◌≤◌, List, IfOk};
+ghost use Rattle.zy_capture.specs.declared.record.Record.{Record};
+ghost use Rattle.zy_capture.specs.Capture.{IsCapture};
+ghost use Rattle.zy_rx.specs.Feed.{sent_by};
 ghost use Rattle.zy_command_line.specs.Range.{IsRunnable};
-ghost use Rattle.zygos_run.specs.Ends.{RunsTo};
-ghost use Rattle.zygos_run.specs.Prepared.{IsPrepared};
+ghost use Rattle.zy_finish.specs.Received.{AllSent};
+ghost use Rattle.zy_finish.specs.Finish.{IsFinished};
+ghost use Rattle.zygos_run.specs.Seen.{side};
+ghost use Rattle.zygos_run.specs.Runs.{RunsTo};
+ghost use Rattle.zygos_run.specs.Prepared.{IsDriven};
 
 use crate::run::drive::{Ran, drive_capture};
-use mc_store::Root;
+use crate::run::prepare::prepare;
 use std::alloc::Global;
 use std::sync::Wait;
 use std::thread::Threads;
 use zy_base::{Gate, NoMemory, Source};
 use zy_command_line::Run;
-use zy_core::{Cores, Shared};
-use zy_feed::{Inlets, Intake, Stop};
+use zy_feed::{Intake, Stop};
 use zy_finish::{Finished, Taken, finish, take};
-use zy_setup::{Made, Started, make, start};
-
-// The most connections of a capture.
-const MOST_CONNECTIONS: u32 = 4096;
 
 /// Serves a capture on the cores that are asked for.
 pub(crate) fn run_capture<R: Threads + Wait + Sync, S: Source, G: Gate + Sync>(
@@ -30,80 +30,38 @@ pub(crate) fn run_capture<R: Threads + Wait + Sync, S: Source, G: Gate + Sync>(
 ) -> Result<Finished, Stop>
     requires runnable { IsRunnable run }
     ensures reads { S.faults source.old ≤ S.faults source.new }
-    ensures ends { RunsTo S.rest S.faults run.shards source.old source.new result }
+    ensures ends { RunsTo run.shards (side S.rest S.faults source.old source.new) result }
 {
-    let (intake, header) = match Intake::begin(alloc, source) {
-        Ok(begun) => begun,
-        Err(stop) => return Err(stop),
-    };
-    // A reader tells no higher count.
-    if header.count > MOST_CONNECTIONS {
-        return Err(Stop::NoMemory);
-    }
-    let Prepared {
+    let (intake, header) = Intake::begin(alloc, source)?;
+    let prepared = prepare(alloc, run, intake, header)?;
+    let ran = drive_capture(rt, alloc, run, source, prepared, gate)?;
+    let finished = finish_run(alloc, ran)?;
+    Ok(finished)
+}
+
+// Takes the cores of a run apart, and puts together what it leaves.
+fn finish_run(alloc: Global, ran: Ran) -> Result<Finished, NoMemory>
+    requires version { (ran.header.version ≡ 1) ⊎ (ran.header.version ≡ 2) }
+    requires driven { IsDriven ran }
+    ensures finished { IfOk result (λ finished. (records : List Record)
+        → IsCapture ran.header.version ran.header.count records → AllSent (sent_by ran.inlets) records
+        → IsFinished ran.shared.store.shards ran.header.version ran.header.count records finished) }
+{
+    let Ran {
+        header,
         cores,
         shared,
         inlets,
         root,
-    } = match prepare(alloc, run, header.count) {
-        Ok(prepared) => prepared,
-        Err(_) => return Err(Stop::NoMemory),
-    };
-    let Ran { cores, inlets } = match drive_capture(
-        rt, alloc, run, source, intake, cores, inlets, &shared, gate,
-    ) {
-        Ok(ran) => ran,
-        Err(stop) => return Err(stop),
-    };
-    let Taken { homes, store } = match take(alloc, cores, shared, inlets) {
+    } = ran;
+    let taken = match take(alloc, cores, shared, inlets) {
         Ok(taken) => taken,
-        Err(_) => return Err(Stop::NoMemory),
+        Err(e) => {
+            drop(root);
+            return Err(e);
+        }
     };
-    match finish(alloc, header.version, header.count, homes, store, root) {
-        Ok(finished) => Ok(finished),
-        Err(_) => Err(Stop::NoMemory),
-    }
-}
-
-// The cores of a run before they are driven, and the root of their store.
-#[derive(Drop)]
-pub(crate) struct Prepared {
-    pub(crate) cores: Cores,
-    pub(crate) shared: Shared,
-    pub(crate) inlets: Inlets,
-    pub(crate) root: Root,
-}
-
-// Makes the cores of a run.
-pub(crate) fn prepare(alloc: Global, run: Run, count: u32) -> Result<Prepared, NoMemory>
-    requires runnable { IsRunnable run }
-    requires connections { count ≤ 4096 }
-    ensures prepared { IfOk result (λ p. IsPrepared count run.shards p.shared (identities p.cores) p.inlets p.root) }
-{
-    let started = match start(alloc, count, run.cores, run.shards) {
-        Ok(started) => started,
-        Err(e) => return Err(e),
-    };
-    let Started {
-        homes,
-        rings,
-        passes,
-        store,
-        root,
-    } = started;
-    let made = match make(alloc, homes, rings, passes, store) {
-        Ok(made) => made,
-        Err(e) => return Err(e),
-    };
-    let Made {
-        cores,
-        shared,
-        inlets,
-    } = made;
-    Ok(Prepared {
-        cores,
-        shared,
-        inlets,
-        root,
-    })
+    let Taken { homes, store } = taken;
+    let finished = finish(alloc, header.version, header.count, homes, store, root)?;
+    Ok(finished)
 }

@@ -1,20 +1,24 @@
-use Rattle.std.proofs.Common.{◌<◌, length, arith}
-use Rattle.std.specs.Prelude.{None}
+use Rattle.std.proofs.Common.{◌<◌, length, subst, arith}
+use Rattle.std.specs.Prelude.{Option, Err}
+use Rattle.zy_base.specs.Outside.{Grew, Writes}
+use Rattle.zy_pcap.specs.declared.kept_flow.KeptFlow.{KeptFlow}
 use Rattle.zy_capture.proofs.NumberedLemmas.{numbered_failed, numbered_on}
-use Rattle.zy_pcap.specs.Texts.{kept_text, kept_connection}
+use Rattle.zy_pcap.specs.Texts.{kept_connection}
 use Rattle.zy_pcap.proofs.writing.write_connections.Goals as goal
 
 pub returns-in-Err : goal.returns-in-Err
 returns-in-Err g c =
     let within : c.loop-conn.conn < length c.args.flows.now = omega (arith, c.loop-conn-test.true) in
     record {
-      writes = numbered_failed g.K.Sink.holds g.K.Sink.faults c.args.sink.now c.loop-conn.sink c.write_connection.new.sink c.in-Err.failed kept_connection c.args.flows.now c.loop-conn.conn None within c.loop-conn.invariant.written c.loop-conn.invariant.count c.in-Err.ensures.writes;
+      writes = numbered_failed g.K.Sink.holds g.K.Sink.faults c.args.sink.now c.loop-conn.sink c.write_connection.new.sink c.in-Err.failed kept_connection c.args.flows.now c.loop-conn.conn c.index-flows-conn.result within c.loop-conn.invariant.written c.loop-conn.invariant.count
+          (subst (λ (o : Option KeptFlow). Writes g.K.Sink.holds g.K.Sink.faults c.loop-conn.sink c.write_connection.new.sink (Err c.in-Err.failed) (kept_connection c.loop-conn.conn o)) c.index-flows-conn.is c.in-Err.ensures.writes);
     }
 
 pub loop-conn-preserved : goal.loop-conn-preserved
 loop-conn-preserved g c =
     let within : c.loop-conn.conn < length c.args.flows.now = omega (arith, c.loop-conn-test.true) in
     record {
-      written = numbered_on (g.K.Sink.holds c.args.sink.now) (g.K.Sink.holds c.loop-conn.sink) (g.K.Sink.holds c.write_connection.new.sink) kept_connection c.args.flows.now c.loop-conn.conn None within c.loop-conn.invariant.written c.in_default.ensures.writes.whole;
+      written = numbered_on (g.K.Sink.holds c.args.sink.now) (g.K.Sink.holds c.loop-conn.sink) (g.K.Sink.holds c.write_connection.new.sink) kept_connection c.args.flows.now c.loop-conn.conn c.index-flows-conn.result within c.loop-conn.invariant.written
+          (subst (λ (o : Option KeptFlow). Grew (g.K.Sink.holds c.loop-conn.sink) (g.K.Sink.holds c.write_connection.new.sink) (kept_connection c.loop-conn.conn o)) c.index-flows-conn.is c.in_default.ensures.writes.whole);
       count = omega (arith, c.loop-conn.invariant.count, c.in_default.ensures.writes.count);
     }

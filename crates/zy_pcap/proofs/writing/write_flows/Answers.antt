@@ -10,8 +10,8 @@ use Rattle.zy_pcap.proofs.writing.write_flows.Goals as goal
 
 pub returns-in-Err : goal.returns-in-Err
 returns-in-Err g c =
-    let rest : List ℕ = numbered_from kept_connection 0 c.kept.result.now ++ 69 ∷ [] in
-    let whole : start_text c.count.result ++ rest ≡ capture_of c.args.flows.now = capture_written c.kept.result.now c.args.flows.now c.count.result c.kept.ensures.value c.count.ensures.value in
+    let rest : List ℕ = numbered_from kept_connection 0 c.kept-all.result.now ++ 69 ∷ [] in
+    let whole : start_text c.count.result ++ rest ≡ capture_of c.args.flows.now = capture_written c.kept-all.result.now c.args.flows.now c.count.result c.kept-all.ensures.value c.count.ensures.value in
     record {
       writes = subst (Writes g.K.Sink.holds g.K.Sink.faults c.args.sink.now c.write_start.new.sink (Err c.in-Err.failed)) whole
           (writes_no_more g.K.Sink.holds g.K.Sink.faults c.args.sink.now c.write_start.new.sink c.in-Err.failed (start_text c.count.result) rest c.in-Err.ensures.writes);
@@ -19,8 +19,8 @@ returns-in-Err g c =
 
 pub returns-in-Err-write_connections : goal.returns-in-Err-write_connections
 returns-in-Err-write_connections g c =
-    let body : List ℕ = numbered_from kept_connection 0 c.kept.result.now in
-    let whole : start_text c.count.result ++ (body ++ 69 ∷ []) ≡ capture_of c.args.flows.now = capture_written c.kept.result.now c.args.flows.now c.count.result c.kept.ensures.value c.count.ensures.value in
+    let body : List ℕ = numbered_from kept_connection 0 c.kept-all.result.now in
+    let whole : start_text c.count.result ++ (body ++ 69 ∷ []) ≡ capture_of c.args.flows.now = capture_written c.kept-all.result.now c.args.flows.now c.count.result c.kept-all.ensures.value c.count.ensures.value in
     record {
       writes = subst (Writes g.K.Sink.holds g.K.Sink.faults c.args.sink.now c.write_connections.new.sink (Err c.in-Err-write_connections.failed)) whole
           (writes_on g.K.Sink.holds g.K.Sink.faults c.args.sink.now c.write_start.new.sink c.write_connections.new.sink (Err c.in-Err-write_connections.failed) (start_text c.count.result) (body ++ 69 ∷ []) c.in_default.ensures.writes.whole c.in_default.ensures.writes.count
@@ -29,8 +29,8 @@ returns-in-Err-write_connections g c =
 
 pub returns : goal.returns
 returns g c =
-    let body : List ℕ = numbered_from kept_connection 0 c.kept.result.now in
-    let whole : start_text c.count.result ++ (body ++ 69 ∷ []) ≡ capture_of c.args.flows.now = capture_written c.kept.result.now c.args.flows.now c.count.result c.kept.ensures.value c.count.ensures.value in
+    let body : List ℕ = numbered_from kept_connection 0 c.kept-all.result.now in
+    let whole : start_text c.count.result ++ (body ++ 69 ∷ []) ≡ capture_of c.args.flows.now = capture_written c.kept-all.result.now c.args.flows.now c.count.result c.kept-all.ensures.value c.count.ensures.value in
     record {
       writes = subst (Writes g.K.Sink.holds g.K.Sink.faults c.args.sink.now c.write_whole.new.sink c.write_whole.result) whole
           (writes_on g.K.Sink.holds g.K.Sink.faults c.args.sink.now c.write_start.new.sink c.write_whole.new.sink c.write_whole.result (start_text c.count.result) (body ++ 69 ∷ []) c.in_default.ensures.writes.whole c.in_default.ensures.writes.count

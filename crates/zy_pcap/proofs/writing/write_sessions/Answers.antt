@@ -1,7 +1,4 @@
-use Rattle.std.proofs.Common.{◌≡◌, ◌<◌, length, get_or, subst, arith}
-use Rattle.std.specs.Prelude.{Err}
-use Rattle.zy_base.specs.Outside.{Grew, Writes}
-use Rattle.zy_pcap.specs.declared.kept_session.KeptSession.{KeptSession}
+use Rattle.std.proofs.Common.{◌<◌, length, arith}
 use Rattle.zy_capture.proofs.NumberedLemmas.{numbered_failed, numbered_on}
 use Rattle.zy_pcap.specs.Texts.{kept_text}
 use Rattle.zy_pcap.proofs.writing.write_sessions.Goals as goal
@@ -9,18 +6,14 @@ use Rattle.zy_pcap.proofs.writing.write_sessions.Goals as goal
 pub returns-in-Err : goal.returns-in-Err
 returns-in-Err g c =
     let within : c.loop-session.session < length c.args.sessions.now = omega (arith, c.loop-session-test.true) in
-    let here : c.index-sessions-session.result ≡ get_or c.args.sessions.now c.loop-session.session c.index-sessions-session.result = c.index-sessions-session.is in
     record {
-      writes = numbered_failed g.K.Sink.holds g.K.Sink.faults c.args.sink.now c.loop-session.sink c.write_session.new.sink c.in-Err.failed (kept_text c.args.conn) c.args.sessions.now c.loop-session.session c.index-sessions-session.result within c.loop-session.invariant.written c.loop-session.invariant.count
-          (subst (λ (s : KeptSession). Writes g.K.Sink.holds g.K.Sink.faults c.loop-session.sink c.write_session.new.sink (Err c.in-Err.failed) (kept_text c.args.conn c.loop-session.session s)) here c.in-Err.ensures.writes);
+      writes = numbered_failed g.K.Sink.holds g.K.Sink.faults c.args.sink.now c.loop-session.sink c.write_session.new.sink c.in-Err.failed (kept_text c.args.conn) c.args.sessions.now c.loop-session.session c.index-sessions-session.result within c.loop-session.invariant.written c.loop-session.invariant.count c.in-Err.ensures.writes;
     }
 
 pub loop-session-preserved : goal.loop-session-preserved
 loop-session-preserved g c =
     let within : c.loop-session.session < length c.args.sessions.now = omega (arith, c.loop-session-test.true) in
-    let here : c.index-sessions-session.result ≡ get_or c.args.sessions.now c.loop-session.session c.index-sessions-session.result = c.index-sessions-session.is in
     record {
-      written = numbered_on (g.K.Sink.holds c.args.sink.now) (g.K.Sink.holds c.loop-session.sink) (g.K.Sink.holds c.write_session.new.sink) (kept_text c.args.conn) c.args.sessions.now c.loop-session.session c.index-sessions-session.result within c.loop-session.invariant.written
-          (subst (λ (s : KeptSession). Grew (g.K.Sink.holds c.loop-session.sink) (g.K.Sink.holds c.write_session.new.sink) (kept_text c.args.conn c.loop-session.session s)) here c.in_default.ensures.writes.whole);
+      written = numbered_on (g.K.Sink.holds c.args.sink.now) (g.K.Sink.holds c.loop-session.sink) (g.K.Sink.holds c.write_session.new.sink) (kept_text c.args.conn) c.args.sessions.now c.loop-session.session c.index-sessions-session.result within c.loop-session.invariant.written c.in_default.ensures.writes.whole;
       count = omega (arith, c.loop-session.invariant.count, c.in_default.ensures.writes.count);
     }

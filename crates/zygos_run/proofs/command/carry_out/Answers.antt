@@ -29,3 +29,9 @@ pub test_traffic-requires-clause-runnable : goal.test_traffic-requires-clause-ru
 test_traffic-requires-clause-runnable g c κs within =
     c.requests_are_in_their_ranges.ensures.self_run c.args.words.now c.in-Ok-Some-SelfTest.traffic c.in-Ok-Some-SelfTest.run'
     (sym c.in-Ok-Some-SelfTest.ensures.value ∙ c.in-Ok-Some-SelfTest.field-0-is ∙ ap Some c.in-Ok-Some-SelfTest.field-0-0-is)
+
+pub make_packets-requires : goal.make_packets-requires
+make_packets-requires g c = record {
+  port = c.requests_are_in_their_ranges.ensures.port c.args.words.now c.in-Ok-Some-Pcap.port
+      (sym c.in-Ok-Some-Pcap.ensures.value ∙ c.in-Ok-Some-Pcap.field-0-is ∙ ap Some c.in-Ok-Some-Pcap.field-0-0-is);
+}

@@ -1,9 +1,32 @@
-use Rattle.std.proofs.Common.{refl}
+use Rattle.std.proofs.Common.{refl, subst}
 use Rattle.zy_command_line.specs.Request.{request_of}
-use Rattle.zygos_run.proofs.RefuseLemmas.{refuses}
+use Rattle.zygos_run.specs.Seen.{Seen, side, seen}
+use Rattle.zygos_run.specs.Ends.{Ends}
+use Rattle.zygos_run.proofs.EndLemmas.{headline_of, check_of, unlawful_of, done_of, refused_of}
 use Rattle.zygos_run.proofs.serving.serve.Goals as goal
+
+pub returns-clause-headline : goal.returns-clause-headline
+returns-clause-headline g c = λ j is.
+    let call : Seen = seen (side g.S.Source.rest g.S.Source.faults c.args.source.now c.carry_out-answer.new.source) (side g.K.Sink.holds g.K.Sink.faults c.args.sink.now c.carry_out-answer.new.sink) in
+    headline_of (request_of c.args.words.now) call j (subst (λ a. Ends (request_of c.args.words.now) call a) is c.carry_out-answer.ensures.ends)
+
+pub returns-clause-verdict : goal.returns-clause-verdict
+returns-clause-verdict g c = λ v is.
+    let call : Seen = seen (side g.S.Source.rest g.S.Source.faults c.args.source.now c.carry_out-answer.new.source) (side g.K.Sink.holds g.K.Sink.faults c.args.sink.now c.carry_out-answer.new.sink) in
+    check_of (request_of c.args.words.now) call v (subst (λ a. Ends (request_of c.args.words.now) call a) is c.carry_out-answer.ensures.ends)
+
+pub returns-clause-unlawful : goal.returns-clause-unlawful
+returns-clause-unlawful g c = λ none.
+    let call : Seen = seen (side g.S.Source.rest g.S.Source.faults c.args.source.now c.carry_out-answer.new.source) (side g.K.Sink.holds g.K.Sink.faults c.args.sink.now c.carry_out-answer.new.sink) in
+    unlawful_of call c.carry_out-answer.result (subst (λ r. Ends r call c.carry_out-answer.result) none c.carry_out-answer.ensures.ends)
+
+pub returns-clause-complete : goal.returns-clause-complete
+returns-clause-complete g c = λ good none.
+    let call : Seen = seen (side g.S.Source.rest g.S.Source.faults c.args.source.now c.carry_out-answer.new.source) (side g.K.Sink.holds g.K.Sink.faults c.args.sink.now c.carry_out-answer.new.sink) in
+    done_of (request_of c.args.words.now) call c.carry_out-answer.result good none c.carry_out-answer.ensures.ends
 
 pub returns-clause-refuses : goal.returns-clause-refuses
 returns-clause-refuses g c = λ r bad none.
-    refuses g.S.Source.rest g.S.Source.faults g.K.Sink.holds g.K.Sink.faults (request_of c.args.words.now) c.args.source.now c.carry_out-answer.new.source c.args.sink.now c.carry_out-answer.new.sink c.carry_out-answer.result
-    (g.S.Source.rest c.args.source.now) r c.parts_have_no_fault.ensures.none c.there_is_one_part_fault.ensures.same refl c.carry_out-answer.ensures.cause bad none
+    let call : Seen = seen (side g.S.Source.rest g.S.Source.faults c.args.source.now c.carry_out-answer.new.source) (side g.K.Sink.holds g.K.Sink.faults c.args.sink.now c.carry_out-answer.new.sink) in
+    refused_of (request_of c.args.words.now) call c.carry_out-answer.result (g.S.Source.rest c.args.source.now) r c.parts_have_no_fault.ensures.none c.there_is_one_part_fault.ensures.same
+    refl bad none c.carry_out-answer.ensures.ends

@@ -9,38 +9,38 @@ loop-at-init c = record { within = omega arith; port = refl; fed = piece_none c.
 
 pub loop-at-preserved : goal.loop-at-preserved
 loop-at-preserved c =
-    let place : ℕ = c.loop-at.at + c.take_run.result in
-    let within : place < length c.args.bytes.now = omega (arith, c.take_run.ensures.within, c.loop-at-test.true) in
-    let before : Feeds c.args.self.now c.take_run.new.self (take place c.args.bytes.now) = slice_on c.args.self.now c.loop-at.self c.take_run.new.self c.args.bytes.now c.loop-at.at c.take_run.result c.loop-at.invariant.fed c.take_run.ensures.fed in
+    let place : ℕ = c.loop-at.at + c.take_run-at.result in
+    let within : place < length c.args.bytes.now = omega (arith, c.take_run-at.ensures.within, c.loop-at-test.true) in
+    let before : Feeds c.args.self.now c.take_run-at.new.self (take place c.args.bytes.now) = slice_on c.args.self.now c.loop-at.self c.take_run-at.new.self c.args.bytes.now c.loop-at.at c.take_run-at.result c.loop-at.invariant.fed c.take_run-at.ensures.fed in
     record {
       within = omega (arith, within);
-      port = c.feed.ensures.port ∙ c.take_run.ensures.port ∙ c.loop-at.invariant.port;
-      fed = piece_more c.args.self.now c.take_run.new.self c.feed.new.self c.args.bytes.now place within before c.in_default.ensures.fed;
-      still = λ some. piece_meets c.args.self.now c.take_run.new.self c.args.bytes.now place None within (c.take_run.ensures.port ∙ c.loop-at.invariant.port) before c.in_default.ensures.exact;
+      port = c.feed.ensures.port ∙ c.take_run-at.ensures.port ∙ c.loop-at.invariant.port;
+      fed = piece_more c.args.self.now c.take_run-at.new.self c.feed.new.self c.args.bytes.now place within before c.in_default.ensures.fed;
+      still = λ some. piece_meets c.args.self.now c.take_run-at.new.self c.args.bytes.now place None within (c.take_run-at.ensures.port ∙ c.loop-at.invariant.port) before c.in_default.ensures.exact;
     }
 
 pub returns-in-Err-clause-within : goal.returns-in-Err-clause-within
 returns-in-Err-clause-within c =
-    let within : c.loop-at.at + c.take_run.result < length c.args.bytes.now = omega (arith, c.take_run.ensures.within, c.loop-at-test.true) in
-    rw (c.stopped.ensures.taken) (stop_within (c.loop-at.at + c.take_run.result) (length c.args.bytes.now) c.in-Err.refused within)
+    let within : c.loop-at.at + c.take_run-at.result < length c.args.bytes.now = omega (arith, c.take_run-at.ensures.within, c.loop-at-test.true) in
+    rw (c.stopped.ensures.taken) (stop_within (c.loop-at.at + c.take_run-at.result) (length c.args.bytes.now) c.in-Err.refused within)
 
 pub returns-in-Err-clause-fed : goal.returns-in-Err-clause-fed
 returns-in-Err-clause-fed c =
-    let place : ℕ = c.loop-at.at + c.take_run.result in
-    let within : place < length c.args.bytes.now = omega (arith, c.take_run.ensures.within, c.loop-at-test.true) in
-    let before : Feeds c.args.self.now c.take_run.new.self (take place c.args.bytes.now) = slice_on c.args.self.now c.loop-at.self c.take_run.new.self c.args.bytes.now c.loop-at.at c.take_run.result c.loop-at.invariant.fed c.take_run.ensures.fed in
-    rw (c.stopped.ensures.taken) (stop_fed c.args.self.now c.take_run.new.self c.feed.new.self c.args.bytes.now place c.in-Err.refused within before c.in-Err.ensures.fed)
+    let place : ℕ = c.loop-at.at + c.take_run-at.result in
+    let within : place < length c.args.bytes.now = omega (arith, c.take_run-at.ensures.within, c.loop-at-test.true) in
+    let before : Feeds c.args.self.now c.take_run-at.new.self (take place c.args.bytes.now) = slice_on c.args.self.now c.loop-at.self c.take_run-at.new.self c.args.bytes.now c.loop-at.at c.take_run-at.result c.loop-at.invariant.fed c.take_run-at.ensures.fed in
+    rw (c.stopped.ensures.taken) (stop_fed c.args.self.now c.take_run-at.new.self c.feed.new.self c.args.bytes.now place c.in-Err.refused within before c.in-Err.ensures.fed)
 
 pub returns-in-Err-clause-exact : goal.returns-in-Err-clause-exact
 returns-in-Err-clause-exact c =
-    let place : ℕ = c.loop-at.at + c.take_run.result in
-    let within : place < length c.args.bytes.now = omega (arith, c.take_run.ensures.within, c.loop-at-test.true) in
-    let before : Feeds c.args.self.now c.take_run.new.self (take place c.args.bytes.now) = slice_on c.args.self.now c.loop-at.self c.take_run.new.self c.args.bytes.now c.loop-at.at c.take_run.result c.loop-at.invariant.fed c.take_run.ensures.fed in
-    rw (c.stopped.ensures.taken, c.stopped.ensures.answer) (stop_told c.args.self.now c.take_run.new.self c.args.bytes.now place c.in-Err.refused within (c.take_run.ensures.port ∙ c.loop-at.invariant.port) before c.in-Err.ensures.exact)
+    let place : ℕ = c.loop-at.at + c.take_run-at.result in
+    let within : place < length c.args.bytes.now = omega (arith, c.take_run-at.ensures.within, c.loop-at-test.true) in
+    let before : Feeds c.args.self.now c.take_run-at.new.self (take place c.args.bytes.now) = slice_on c.args.self.now c.loop-at.self c.take_run-at.new.self c.args.bytes.now c.loop-at.at c.take_run-at.result c.loop-at.invariant.fed c.take_run-at.ensures.fed in
+    rw (c.stopped.ensures.taken, c.stopped.ensures.answer) (stop_told c.args.self.now c.take_run-at.new.self c.args.bytes.now place c.in-Err.refused within (c.take_run-at.ensures.port ∙ c.loop-at.invariant.port) before c.in-Err.ensures.exact)
 
 pub returns-in-Err-clause-lasts : goal.returns-in-Err-clause-lasts
 returns-in-Err-clause-lasts c =
-    let place : ℕ = c.loop-at.at + c.take_run.result in
-    let within : place < length c.args.bytes.now = omega (arith, c.take_run.ensures.within, c.loop-at-test.true) in
-    let before : Feeds c.args.self.now c.take_run.new.self (take place c.args.bytes.now) = slice_on c.args.self.now c.loop-at.self c.take_run.new.self c.args.bytes.now c.loop-at.at c.take_run.result c.loop-at.invariant.fed c.take_run.ensures.fed in
-    rw (c.stopped.ensures.taken, c.stopped.ensures.answer) (stop_lasts c.args.self.now c.take_run.new.self c.args.bytes.now place c.in-Err.refused within (c.take_run.ensures.port ∙ c.loop-at.invariant.port) before c.in-Err.ensures.lasts)
+    let place : ℕ = c.loop-at.at + c.take_run-at.result in
+    let within : place < length c.args.bytes.now = omega (arith, c.take_run-at.ensures.within, c.loop-at-test.true) in
+    let before : Feeds c.args.self.now c.take_run-at.new.self (take place c.args.bytes.now) = slice_on c.args.self.now c.loop-at.self c.take_run-at.new.self c.args.bytes.now c.loop-at.at c.take_run-at.result c.loop-at.invariant.fed c.take_run-at.ensures.fed in
+    rw (c.stopped.ensures.taken, c.stopped.ensures.answer) (stop_lasts c.args.self.now c.take_run-at.new.self c.args.bytes.now place c.in-Err.refused within (c.take_run-at.ensures.port ∙ c.loop-at.invariant.port) before c.in-Err.ensures.lasts)

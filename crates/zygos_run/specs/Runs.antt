@@ -1,0 +1,34 @@
+-- How running and checking end before anything is written. No public clause cites this module.
+use Rattle.std.specs.Prelude.{◌≡◌, ℕ, List, Result, Ok, Err, ⊤, IfSome}
+use Rattle.zy_capture.specs.declared.capture_fault.CaptureFault.{CaptureFault}
+use Rattle.zy_capture.specs.Outputs.{AreOutputs}
+use Rattle.zy_capture.specs.Verdict.{verdict}
+use Rattle.zy_capture.specs.Verdict.Verdict.{Bad}
+use Rattle.zy_journal.specs.Journal.{IsJournal}
+use Rattle.zy_read.specs.declared.stop.Stop.{Stop}
+use Rattle.zy_read.specs.declared.stop.Stop.TheVariants as Stops
+use Rattle.zy_check_input.specs.declared.stop.Refusal.{Refusal}
+use Rattle.zy_check_input.specs.Parts.{HasPartFault, ReadsAll}
+use Rattle.zy_check.specs.declared.verdict.Verdict.{Verdict as Certified}
+use Rattle.zy_finish.specs.declared.finishing.Finished.{Finished}
+use Rattle.zygos_run.specs.Seen.{Side, HasRisen, OfGiven}
+use Rattle.zygos_run.specs.Headline.{IsServed}
+use Rattle.zygos_run.specs.Ends.{IsChecked}
+
+-- it stopped for its cause: the bytes have this fault, where they are reported, or a read failed
+abbrev pub StopsFor : {F : Type 0} → (F → List ℕ → Type 0) → Side → Stop F → Type 0
+StopsFor HasFault source (Stops.Refused fault) = IfSome source.before (HasFault fault)
+StopsFor HasFault source Stops.ReadFault = HasRisen source
+StopsFor HasFault source Stops.NoMemory = ⊤
+
+-- a capture was served, or it stopped
+abbrev pub RunsTo : ℕ → Side → Result Finished (Stop CaptureFault) → Type 0
+RunsTo shards source (Ok done) =
+    (bytes : List ℕ) × ReadsAll source.before source.after bytes × IsServed shards bytes done.journal done.outputs
+    × AreOutputs done.outputs × IsJournal done.journal
+RunsTo shards source (Err stop) = StopsFor (λ fault bytes. verdict bytes ≡ Bad fault) source stop
+
+-- a check has its verdict, or it stopped
+abbrev pub ChecksTo : ℕ → Side → Result Certified (Stop Refusal) → Type 0
+ChecksTo shards source (Ok found) = OfGiven source (λ bytes. IsChecked shards bytes found)
+ChecksTo shards source (Err stop) = StopsFor (λ refusal bytes. HasPartFault bytes refusal) source stop
