@@ -1,4 +1,4 @@
-use Rattle.std.proofs.Common.{◌≡◌, ◌∷◌, ◌++◌, [], arith, ap, ◌∙◌, ℕ, ◌≤◌, ◌<◌, ◌+◌, ◌*◌}
+use Rattle.std.proofs.Common.{◌≡◌, arith, ◌≤◌, ◌<◌, ◌+◌, ◌*◌}
 use Rattle.zy_base.specs.Order.{last_stamp}
 use Rattle.zy_base.proofs.EntryLemmas.{AreAt-push, StampsRise-push, last_stamp-push}
 use Rattle.zygos_bench.proofs.JournalLemmas.{entries_on}
