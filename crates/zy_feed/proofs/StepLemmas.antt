@@ -1,7 +1,6 @@
 -- What each byte of a capture keeps: the version and the count once they were told, and the number of bytes read.
 use Rattle.std.proofs.Common.{◌≡◌, ℕ, ◌+◌, ◌<◌, ◌≤◌, true, false, List, [], ◌∷◌, ◌++◌, length, refl, sym, ◌∙◌, ap, subst, arith}
-use Rattle.std.specs.Prelude.{◌==◌, ◌&&◌, nat_lt, nat_le, Option, None, Some, ⊤}
-use Rattle.std.specs.List.{slice_index}
+use Rattle.std.specs.Prelude.{◌==◌, ◌&&◌, nat_lt, nat_le, Option, None, Some}
 use Rattle.std.specs.Int.{from_be_bytes, w32}
 use Rattle.std.proofs.lemmas.Bool.Decides.{nat_tests}
 use Rattle.zy_read.specs.declared.magic.MagicPart.{MagicPart}
@@ -12,7 +11,6 @@ use Rattle.zy_read.specs.Format.{Reading, read_on}
 use Rattle.zy_read.proofs.Feeding.{read_broken}
 use Rattle.zy_capture.specs.declared.record.Record.{Record}
 use Rattle.zy_capture.specs.declared.capture_fault.CaptureFault.{CaptureFault}
-use Rattle.zy_capture.specs.declared.capture_fault.CaptureFault.TheVariants.{BadMagic, ConnCount}
 use Rattle.zy_capture.specs.declared.due.Due.{Due}
 use Rattle.zy_capture.specs.declared.due.Due.TheVariants.{Magic, Count, Tag, Connection, Length, Payload, Closed, Nothing, Broken}
 use Rattle.zy_capture.specs.Capture.{letters, connection_limit, segment_limit, capture_limit}

@@ -16,7 +16,7 @@ use Rattle.zy_frame.specs.declared.step.Step.{Step}
 use Rattle.mc_parse.specs.Words.{line_limit}
 use Rattle.zy_frame.specs.Line.{IsShort, first_line, chomped, line_feed}
 use Rattle.zy_frame.specs.Frame.{frame_at}
-use Rattle.zy_frame.specs.Progress.{Awaited, IsAwaited, IsKeptBlock, IsLargeBlock, outcome_of, with_frames, ends_long, ends_frame, goes_on}
+use Rattle.zy_frame.specs.Progress.{IsAwaited, IsKeptBlock, IsLargeBlock, outcome_of, with_frames, ends_long, ends_frame, goes_on}
 use Rattle.zy_frame.specs.Steps.{awaited, progress_of, Goes, Closes, waiting}
 use Rattle.zy_frame.proofs.LineLemmas.{ended, spelled, first_line-append, first_line-append_none, first_line-ended}
 use Rattle.zy_frame.proofs.GoingOn.{in_long, long_ends, ends_long-begun_with, ends_frame-part, ends_frame-all, line_ends, quit_ends, block_begins, kept_block, large_block, ends_frame-same}
