@@ -1,7 +1,7 @@
 //! The writer of lines, and the lines that a check and a test run write.
 ghost use Rattle.std.specs.Prelude.{◌≡◌, flat_map};
 ghost use Rattle.zy_base.specs.Outside.{Writes};
-ghost use Rattle.zygos_run.specs.Lines.{piece_text, output_line, cause_text, cause_line, verdict_line, summary_line};
+ghost use Rattle.zygos_run.specs.Lines.{piece_text, line_with, line_with_two, output_line, cause_text, cause_line, verdict_line, summary_line};
 
 use itoa::Buffer;
 use zy_base::{Failed, Sink, write_whole};
@@ -41,6 +41,39 @@ fn write_piece<K: Sink>(sink: &mut K, piece: Piece) -> Result<(), Failed>
     }
 }
 
+/// Writes a line with a number at its end.
+pub(crate) fn write_number<K: Sink>(
+    sink: &mut K,
+    text: &'static [u8],
+    number: u64,
+) -> Result<(), Failed>
+    ensures writes { Writes K.holds K.faults sink.old sink.new result (line_with text.now number) }
+{
+    let pieces = [Piece::Text(text), Piece::Number(number), Piece::Text(b"\n")];
+    write_line(sink, &pieces)
+}
+
+/// Writes a line with two numbers.
+pub(crate) fn write_two<K: Sink>(
+    sink: &mut K,
+    text: &'static [u8],
+    number: u64,
+    middle: &'static [u8],
+    other: u64,
+) -> Result<(), Failed>
+    ensures writes { Writes K.holds K.faults sink.old sink.new result
+        (line_with_two text.now number middle.now other) }
+{
+    let pieces = [
+        Piece::Text(text),
+        Piece::Number(number),
+        Piece::Text(middle),
+        Piece::Number(other),
+        Piece::Text(b"\n"),
+    ];
+    write_line(sink, &pieces)
+}
+
 /// Writes the line of a verdict.
 pub(crate) fn write_verdict<K: Sink>(sink: &mut K, verdict: Verdict) -> Result<(), Failed>
     ensures writes { Writes K.holds K.faults sink.old sink.new result (verdict_line verdict) }
@@ -55,20 +88,14 @@ pub(crate) fn write_verdict<K: Sink>(sink: &mut K, verdict: Verdict) -> Result<(
 fn write_cause<K: Sink>(sink: &mut K, cause: Cause) -> Result<(), Failed>
     ensures writes { Writes K.holds K.faults sink.old sink.new result (cause_line cause) }
 {
-    let text = Piece::Text(cause_text(cause));
-    let end = Piece::Text(b"\n");
+    let text = cause_text(cause);
     match cause {
-        Cause::NotNext { entry } | Cause::WrongReply { entry } => {
-            write_line(sink, &[text, Piece::Number(entry), end])
-        }
+        Cause::NotNext { entry } | Cause::WrongReply { entry } => write_number(sink, text, entry),
         Cause::Missing { conn, index } => {
-            let (conn, index) = (Piece::Number(conn as u64), Piece::Number(index));
-            write_line(sink, &[text, conn, Piece::Text(b" command "), index, end])
+            write_two(sink, text, conn as u64, b" command ", index)
         }
-        Cause::WrongOutput { conn, session, at } => {
-            write_output(sink, cause_text(cause), conn, session, at)
-        }
-        Cause::WrongHolds { conn } => write_line(sink, &[text, Piece::Number(conn as u64), end]),
+        Cause::WrongOutput { conn, session, at } => write_output(sink, text, conn, session, at),
+        Cause::WrongHolds { conn } => write_number(sink, text, conn as u64),
     }
 }
 

@@ -1,11 +1,11 @@
 //! The line that is said of an answer.
 ghost use Rattle.std.specs.Prelude.{◌≡◌};
 ghost use Rattle.zy_base.specs.Outside.{Writes};
-ghost use Rattle.zygos_run.specs.Lines.{line_of, plain_line, line_with, line_with_two, fault_line, fault_text, fault_middle, journal_text, replies_text, file_line, pcap_number};
+ghost use Rattle.zygos_run.specs.Lines.{line_of, plain_line, fault_line, fault_text, fault_middle, journal_text, replies_text, file_line, pcap_number};
 ghost use Rattle.zygos_run.specs.Said.{Said};
 
 use crate::answer::Answer;
-use crate::lines::{Piece, write_line};
+use crate::lines::{write_number, write_two};
 use zy_base::{Failed, FileFault, Sink, write_whole};
 use zy_capture::CaptureFault;
 use zy_check_input::Refusal;
@@ -31,7 +31,7 @@ fn say_line<E: Sink>(says: &mut E, answer: &Answer) -> Result<(), Failed>
             say_file_fault(says, replies_text(*fault), *fault)
         }
         Answer::Refused(Refusal::Pcap(fault)) => {
-            say_number(says, b"zygos: pcap: fault ", pcap_number(*fault))
+            write_number(says, b"zygos: pcap: fault ", pcap_number(*fault))
         }
         _ => write_whole(says, plain_line(answer)),
     }
@@ -79,46 +79,17 @@ fn say_fault<E: Sink>(says: &mut E, fault: CaptureFault) -> Result<(), Failed>
     let text = fault_text(fault);
     let middle = fault_middle(fault);
     match fault {
-        CaptureFault::BadMagic { at } => say_number(says, text, at),
-        CaptureFault::ConnCount { number } => say_number(says, text, number as u64),
-        CaptureFault::BadTag { at, byte } => say_two(says, text, at, middle, byte as u64),
-        CaptureFault::ConnRange { at, number } => say_two(says, text, at, middle, number as u64),
+        CaptureFault::BadMagic { at } => write_number(says, text, at),
+        CaptureFault::ConnCount { number } => write_number(says, text, number as u64),
+        CaptureFault::BadTag { at, byte } => write_two(says, text, at, middle, byte as u64),
+        CaptureFault::ConnRange { at, number } => write_two(says, text, at, middle, number as u64),
         CaptureFault::SegmentLength { at, number } => {
-            say_two(says, text, at, middle, number as u64)
+            write_two(says, text, at, middle, number as u64)
         }
-        CaptureFault::Truncated { at } => say_number(says, text, at),
-        CaptureFault::Trailing { at } => say_number(says, text, at),
+        CaptureFault::Truncated { at } => write_number(says, text, at),
+        CaptureFault::Trailing { at } => write_number(says, text, at),
         CaptureFault::TooLong => write_whole(says, text),
     }
-}
-
-// A line with a number.
-fn say_number<E: Sink>(says: &mut E, text: &'static [u8], number: u64) -> Result<(), Failed>
-    ensures writes { Writes E.holds E.faults says.old says.new result (line_with text.now number) }
-{
-    let pieces = [Piece::Text(text), Piece::Number(number), Piece::Text(b"\n")];
-    write_line(says, &pieces)
-}
-
-// A line with two numbers.
-fn say_two<E: Sink>(
-    says: &mut E,
-    text: &'static [u8],
-    number: u64,
-    middle: &'static [u8],
-    other: u64,
-) -> Result<(), Failed>
-    ensures writes { Writes E.holds E.faults says.old says.new result
-        (line_with_two text.now number middle.now other) }
-{
-    let pieces = [
-        Piece::Text(text),
-        Piece::Number(number),
-        Piece::Text(middle),
-        Piece::Number(other),
-        Piece::Text(b"\n"),
-    ];
-    write_line(says, &pieces)
 }
 
 // The beginning of the line of a fault of a capture.
@@ -156,7 +127,7 @@ fn say_file_fault<E: Sink>(
     ensures writes { Writes E.holds E.faults says.old says.new result (file_line text.now fault) }
 {
     match fault {
-        FileFault::Form { at } | FileFault::Truncated { at } => say_number(says, text, at),
+        FileFault::Form { at } | FileFault::Truncated { at } => write_number(says, text, at),
         FileFault::TooLong => write_whole(says, text),
     }
 }

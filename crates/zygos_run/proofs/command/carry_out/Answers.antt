@@ -1,6 +1,8 @@
-use Rattle.std.proofs.Common.{◌≡◌, sym, ◌∙◌, ap, Some}
+use Rattle.std.proofs.Common.{◌≡◌, sym, ◌∙◌, ap, subst, Some}
 use Rattle.zy_command_line.specs.declared.request.Request.TheVariants as Requests
 use Rattle.zy_command_line.specs.Request.{request_of}
+use Rattle.zygos_run.specs.Seen.{Side, Seen, side, seen}
+use Rattle.zygos_run.specs.Ends.{Ends}
 use Rattle.zygos_run.proofs.command.carry_out.Goals as goal
 
 pub serve_capture-requires-clause-runnable : goal.serve_capture-requires-clause-runnable
@@ -35,3 +37,17 @@ make_packets-requires g c = record {
   port = c.requests_are_in_their_ranges.ensures.port c.args.words.now c.in-Ok-Some-Pcap.port
       (sym c.in-Ok-Some-Pcap.ensures.value ∙ c.in-Ok-Some-Pcap.field-0-is ∙ ap Some c.in-Ok-Some-Pcap.field-0-0-is);
 }
+
+pub returns-in-Ok-Some-Gen-clause-ends : goal.returns-in-Ok-Some-Gen-clause-ends
+returns-in-Ok-Some-Gen-clause-ends g c =
+    let source : Side = side g.S.Source.rest g.S.Source.faults c.args.source.now c.args.source.now in
+    let call : Seen = seen source (side g.K.Sink.holds g.K.Sink.faults c.args.sink.now c.make_traffic.new.sink) in
+    subst (λ r. Ends r call c.make_traffic.result) (sym (sym c.in-Ok-Some-Gen.ensures.value ∙ c.in-Ok-Some-Gen.field-0-is ∙ ap Some c.in-Ok-Some-Gen.field-0-0-is))
+    (c.make_traffic.ensures.ends source)
+
+pub returns-in-Ok-Some-SelfTest-clause-ends : goal.returns-in-Ok-Some-SelfTest-clause-ends
+returns-in-Ok-Some-SelfTest-clause-ends g c =
+    let source : Side = side g.S.Source.rest g.S.Source.faults c.args.source.now c.args.source.now in
+    let call : Seen = seen source (side g.K.Sink.holds g.K.Sink.faults c.args.sink.now c.test_traffic.new.sink) in
+    subst (λ r. Ends r call c.test_traffic.result) (sym (sym c.in-Ok-Some-SelfTest.ensures.value ∙ c.in-Ok-Some-SelfTest.field-0-is ∙ ap Some c.in-Ok-Some-SelfTest.field-0-0-is))
+    (c.test_traffic.ensures.ends source)

@@ -38,8 +38,8 @@ returns-in-Some-clause-count g c = λ first begins.
     let count : g.S.Source.faults first ≤ g.S.Source.faults h.source.now = counted g.S.Source.rest g.S.Source.faults first c.args.prepared.header c.args.source.now f.source.now h.source.now c.args.prepared.intake f.intake h.intake c.args.prepared.inlets f.inlets h.inlets f.stage h.stage begins c.requires.prepared.unsent c.new-feeder.ensures.now c.new-feeder.ensures.intake c.new-feeder.ensures.inlets c.new-feeder.ensures.stage c.drive_cores-driven.ensures.leads.1 in
     search rules
 
-pub returns-clause-count : goal.returns-clause-count
-returns-clause-count g c = λ first begins.
+pub returns-in-NoMemory-clause-count : goal.returns-in-NoMemory-clause-count
+returns-in-NoMemory-clause-count g c = λ first begins.
     let f = c.new-feeder.result in
     let h = c.drive_cores-driven.new.feeder in
     let count : g.S.Source.faults first ≤ g.S.Source.faults h.source.now = counted g.S.Source.rest g.S.Source.faults first c.args.prepared.header c.args.source.now f.source.now h.source.now c.args.prepared.intake f.intake h.intake c.args.prepared.inlets f.inlets h.inlets f.stage h.stage begins c.requires.prepared.unsent c.new-feeder.ensures.now c.new-feeder.ensures.intake c.new-feeder.ensures.inlets c.new-feeder.ensures.stage c.drive_cores-driven.ensures.leads.1 in
