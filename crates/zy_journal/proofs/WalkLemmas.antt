@@ -1,12 +1,14 @@
 -- What is left of histories that are walked.
-use Rattle.std.proofs.Common.{◌≡◌, ◌≢◌, ◌⊎◌, inl, inr, ℕ, zero, suc, ◌+◌, ◌<◌, ◌≤◌, true, List, [], ◌∷◌, drop, length, get_or, set, add-one, replicate, refl, sym, ◌∙◌, ap, subst, arith}
+use Rattle.std.proofs.Common.{◌≡◌, ◌≢◌, ◌⊎◌, inl, inr, ℕ, zero, suc, ◌+◌, ◌*◌, ◌/◌, ◌%◌, ◌<◌, ◌≤◌, true, List, [], ◌∷◌, drop, length, get_or, set, add-one, replicate, refl, sym, ◌∙◌, ap, subst, arith}
 use Rattle.std.specs.Prelude.{Option, None, Some}
+use Rattle.std.proofs.Math.Nat.{div-add-mod, mod-lt}
 use Rattle.std.proofs.lemmas.List.{get_or-set_same, get_or-set_other}
 use Rattle.std.proofs.lemmas.Bool.Decides.{nat_tests, eqb_tells}
 use Rattle.zy_base.specs.declared.entry.Entry.{Entry}
 use Rattle.zy_base.specs.Order.{history_of}
 use Rattle.zy_journal.specs.Merged.{is_earlier}
-use Rattle.zy_journal.specs.Walk.{rests_of, first_stamp, head_of, AreHeads, IsBest, IsLeast, IsTakenAt}
+use Rattle.zy_journal.specs.declared.heads.Head.{Head}
+use Rattle.zy_journal.specs.Walk.{rests_of, first_stamp, head_of, AreHeads, AreBests, IsFirstOf, IsBest, IsLeast, IsTakenAt}
 
 drop_none : (n : ℕ) → drop {A = Entry} n [] ≡ []
 drop_none zero = refl
@@ -149,24 +151,10 @@ heads_taken hs ns i n heads h head are room place is found shard = elim (eqb_tel
       ∙ ap first_stamp (rest_is hs ns shard ∙ ap (λ (m : ℕ). drop m (history_of hs shard)) (sym (get_or-set_other ns i shard (n + 1) 0 other.1)) ∙ sym (rest_is hs (set ns i (n + 1)) shard))
 ]
 
--- ---- the best so far
-
-below : (i n : ℕ) → i < n + 1 → i ≢ n → i < n
-below i n less not = elim (eqb_tells i n) [ inl same ↦ absurd (not same.1) | inr other ↦ grind (arith, nat_tests, less, other.0) ]
+-- ---- the first of the heads
 
 same_stamp : (a b : ℕ) → Some a ≡ Some b → a ≡ b
 same_stamp a b is = cc
-
--- a list without a first entry changes nothing
-pub best_same : (rests : List (List Entry)) (n : ℕ) (best : Option (ℕ × ℕ)) → head_of rests n ≡ None → IsBest rests n best → IsBest rests (n + 1) best
-best_same rests n None none best = λ i less. elim (eqb_tells i n) [ inl same ↦ rw same.1 none | inr other ↦ best i (below i n less other.1) ]
-best_same rests n (Some b) none best =
-    (best.0, λ i t less not is. elim (eqb_tells i n) [ inl same ↦ (let no : head_of rests i ≡ None = rw same.1 none in absurd (let o : Some t ≡ None = sym is ∙ no in cc)) | inr other ↦ best.1 i t (below i n less other.1) not is ], omega (arith, best.2))
-
--- the first of all is the best
-pub best_first : (rests : List (List Entry)) (n t : ℕ) → head_of rests n ≡ Some t → IsBest rests n None → IsBest rests (n + 1) (Some (n, t))
-best_first rests n t is best =
-    (is, λ i u less not there. absurd (let o : Some u ≡ None = sym there ∙ best i (below i n less not) in cc), omega arith)
 
 lower_first : (t u i n : ℕ) → t < u → is_earlier t n u i ≡ true
 lower_first t u i n less = grind (arith, nat_tests, less)
@@ -177,38 +165,134 @@ lower_on t n b at u i less is = grind (arith, nat_tests, less, is)
 not_lower : (b at u i : ℕ) → b ≤ u → at < i → is_earlier b at u i ≡ true
 not_lower b at u i le less = grind (arith, nat_tests, le, less)
 
--- one with a lower stamp than the best is the best
-pub best_new : (rests : List (List Entry)) (n t at first : ℕ) → head_of rests n ≡ Some t → t < first → IsBest rests n (Some (at, first)) → IsBest rests (n + 1) (Some (n, t))
-best_new rests n t at first is lower best = (
-  is,
-  λ i u less not there. elim (eqb_tells i at) [
-    | inl same ↦ (let u_is : first ≡ u = same_stamp first u (sym best.0 ∙ ap (head_of rests) (sym same.1) ∙ there) in subst (λ x. is_earlier t n x i ≡ true) u_is (lower_first t first i n lower))
-    | inr other ↦ lower_on t n first at u i lower (best.1 i u (below i n less not) other.1 there)
-  ],
-  omega arith,
-)
+not_higher : (b at u i : ℕ) → is_earlier b at u i ≡ true → b ≤ u
+not_higher b at u i is = grind (arith, nat_tests, is)
 
--- and else the best stays
-pub best_stays : (rests : List (List Entry)) (n t at first : ℕ) → head_of rests n ≡ Some t → first ≤ t → IsBest rests n (Some (at, first)) → IsBest rests (n + 1) (Some (at, first))
-best_stays rests n t at first is late best = (
-  best.0,
-  λ i u less not there. elim (eqb_tells i n) [
-    | inl same ↦ (
-        let u_is : t ≡ u = same_stamp t u (sym is ∙ ap (head_of rests) (sym same.1) ∙ there) in
-        not_lower first at u i (omega (arith, late, u_is)) (let place = same.1 in let within = best.2 in omega (arith, place, within)))
-    | inr other ↦ best.1 i u (below i n less other.1) not there
-  ],
-  omega (arith, best.2),
-)
+-- of one list
+pub one_none : (rests : List (List Entry)) (n : ℕ) → head_of rests n ≡ None → IsBest rests n (n + 1) None
+one_none rests n none shard low high = let same : shard ≡ n = omega (arith, low, high) in rw same none
+
+pub one_some : (rests : List (List Entry)) (n stamp : ℕ) → head_of rests n ≡ Some stamp → IsBest rests n (n + 1) (Some (record { shard = n; stamp = stamp }))
+one_some rests n stamp is = record { from = omega arith; to = omega arith; is = is; first = λ shard other low high not there. absurd (not (omega (arith, low, high))) }
+
+-- of none
+pub no_best : (rests : List (List Entry)) (n : ℕ) → IsBest rests n n None
+no_best rests n shard low high = absurd (omega (arith, low, high))
+
+module _ (rests : List (List Entry)) (low middle high : ℕ) (start : low ≤ middle) (within : middle ≤ high) where
+  -- where those behind are empty
+  pub first_alone : (before : Option Head) → IsBest rests low middle before → IsBest rests middle high None → IsBest rests low high before
+  first_alone None before behind = λ shard from to. elim (sides shard middle) [ inl inside ↦ before shard from inside | inr past ↦ behind shard past to ]
+  first_alone (Some head) before behind = record {
+    from = before.from;
+    to = let inside = before.to in omega (arith, inside, within);
+    is = before.is;
+    first = λ shard stamp from to not is. elim (sides shard middle) [
+      | inl inside ↦ before.first shard stamp from inside not is
+      | inr past ↦ absurd (let no : Some stamp ≡ None = sym is ∙ behind shard past to in cc)
+    ];
+  }
+
+  -- where those before are empty
+  pub first_behind : (next : Head) → IsBest rests low middle None → IsFirstOf rests middle high next → IsFirstOf rests low high next
+  first_behind next before behind = record {
+    from = let place = behind.from in omega (arith, place, start);
+    to = behind.to;
+    is = behind.is;
+    first = λ shard stamp from to not is. elim (sides shard middle) [
+      | inl inside ↦ absurd (let no : Some stamp ≡ None = sym is ∙ before shard from inside in cc)
+      | inr past ↦ behind.first shard stamp past to not is
+    ];
+  }
+
+  -- a lower stamp behind comes first
+  pub first_lower : (head next : Head) → next.stamp < head.stamp → IsFirstOf rests low middle head → IsFirstOf rests middle high next → IsFirstOf rests low high next
+  first_lower head next less before behind = record {
+    from = let place = behind.from in omega (arith, place, start);
+    to = behind.to;
+    is = behind.is;
+    first = λ shard stamp from to not is. elim (sides shard middle) [
+      | inl inside ↦ elim (eqb_tells shard head.shard) [
+        | inl same ↦
+            let stamp_is : head.stamp ≡ stamp = same_stamp head.stamp stamp (sym before.is ∙ ap (head_of rests) (sym same.1) ∙ is) in
+            subst (λ n. is_earlier next.stamp next.shard n shard ≡ true) stamp_is (lower_first next.stamp head.stamp shard next.shard less)
+        | inr other ↦ lower_on next.stamp next.shard head.stamp head.shard stamp shard less (before.first shard stamp from inside other.1 is)
+      ]
+      | inr past ↦ behind.first shard stamp past to not is
+    ];
+  }
+
+  -- and else the one before does
+  pub first_stays : (head next : Head) → head.stamp ≤ next.stamp → IsFirstOf rests low middle head → IsFirstOf rests middle high next → IsFirstOf rests low high head
+  first_stays head next le before behind =
+      let place = before.to in record {
+        from = before.from;
+        to = omega (arith, place, within);
+        is = before.is;
+        first = λ shard stamp from to not is. elim (sides shard middle) [
+          | inl inside ↦ before.first shard stamp from inside not is
+          | inr past ↦ elim (eqb_tells shard next.shard) [
+            | inl same ↦
+                let stamp_is : next.stamp ≡ stamp = same_stamp next.stamp stamp (sym behind.is ∙ ap (head_of rests) (sym same.1) ∙ is) in
+                not_lower head.stamp head.shard stamp shard (omega (arith, le, stamp_is)) (omega (arith, place, past))
+            | inr other ↦
+                let more : next.stamp ≤ stamp = not_higher next.stamp next.shard stamp shard (behind.first shard stamp past to other.1 is) in
+                not_lower head.stamp head.shard stamp shard (omega (arith, le, more)) (omega (arith, place, past))
+          ]
+        ];
+      }
+
+-- ---- of all lists
 
 -- where there is no best, no list has a first entry
-pub best_none : (rests : List (List Entry)) (n : ℕ) → ((i : ℕ) → n ≤ i → head_of rests i ≡ None) → IsBest rests n None → (i : ℕ) → head_of rests i ≡ None
-best_none rests n over best i = elim (sides i n) [ inl inside ↦ best i inside | inr outside ↦ over i outside ]
+pub best_none : (rests : List (List Entry)) (n : ℕ) → ((i : ℕ) → n ≤ i → head_of rests i ≡ None) → IsBest rests 0 n None → (i : ℕ) → head_of rests i ≡ None
+best_none rests n over best i = elim (sides i n) [ inl inside ↦ best i (omega arith) inside | inr outside ↦ over i outside ]
 
 -- the best of all comes next
-pub best_least : (rests : List (List Entry)) (n at first : ℕ) → ((i : ℕ) → n ≤ i → head_of rests i ≡ None) → IsBest rests n (Some (at, first)) → IsLeast rests at
-best_least rests n at first over best = record {
-  first = first;
-  is = best.0;
-  least = λ i t not is. elim (sides i n) [ inl inside ↦ best.1 i t inside not is | inr outside ↦ absurd (let o : Some t ≡ None = sym is ∙ over i outside in cc) ];
+pub best_least : (rests : List (List Entry)) (n : ℕ) (head : Head) → ((i : ℕ) → n ≤ i → head_of rests i ≡ None) → IsBest rests 0 n (Some head) → IsLeast rests head.shard
+best_least rests n head over best = record {
+  first = head.stamp;
+  is = best.is;
+  least = λ i t not is. elim (sides i n) [ inl inside ↦ best.first i t (omega arith) inside not is | inr outside ↦ absurd (let o : Some t ≡ None = sym is ∙ over i outside in cc) ];
 }
+
+-- lists that did not change have the same best
+best_kept : (old new : List (List Entry)) (low high : ℕ) (best : Option Head) → ((shard : ℕ) → low ≤ shard → shard < high → head_of new shard ≡ head_of old shard) → IsBest old low high best → IsBest new low high best
+best_kept old new low high None same best = λ shard from to. same shard from to ∙ best shard from to
+best_kept old new low high (Some head) same best = record {
+  from = best.from;
+  to = best.to;
+  is = same head.shard best.from best.to ∙ best.is;
+  first = λ shard stamp from to not is. best.first shard stamp from to not (sym (same shard from to) ∙ is);
+}
+
+-- where an entry was taken off a list, the best of its 16 is found anew
+pub bests_taken : (old new : List (List Entry)) (at group : ℕ) (e : Entry) (bests : List (Option Head)) (best : Option Head) → AreBests old bests → IsTakenAt at old new e → 16 * group ≤ at → at < 16 * group + 16 → group < length bests
+    → IsBest new (16 * group) (16 * group + 16) best → AreBests new (set bests group best)
+bests_taken old new at group e bests best are taken from to room is g within = elim (eqb_tells g group) [
+  | inl same ↦
+      subst (λ n. IsBest new (16 * n) (16 * n + 16) (get_or (set bests group best) n None)) (sym same.1)
+      (subst (IsBest new (16 * group) (16 * group + 16)) (sym (get_or-set_same bests group best None room)) is)
+  | inr other ↦
+      subst (IsBest new (16 * g) (16 * g + 16)) (sym (get_or-set_other bests group g best None other.1))
+      (best_kept old new (16 * g) (16 * g + 16) (get_or bests g None)
+      (λ shard low high. ap first_stamp (sym (taken.others shard (λ same. other.1 (omega (arith, low, high, from, to, same))))))
+      (are g within))
+]
+
+-- with the best of one more group
+pub one_group : (rests : List (List Entry)) (bests : List (Option Head)) (group : ℕ) (best : Option Head) → group < length bests → ((g : ℕ) → g < group → IsBest rests (16 * g) (16 * g + 16) (get_or bests g None)) → IsBest rests (16 * group) (16 * group + 16) best
+    → (g : ℕ) → g < group + 1 → IsBest rests (16 * g) (16 * g + 16) (get_or (set bests group best) g None)
+one_group rests bests group best room are is g less = elim (eqb_tells g group) [
+  | inl same ↦
+      subst (λ n. IsBest rests (16 * n) (16 * n + 16) (get_or (set bests group best) n None)) (sym same.1)
+      (subst (IsBest rests (16 * group) (16 * group + 16)) (sym (get_or-set_same bests group best None room)) is)
+  | inr other ↦
+      subst (IsBest rests (16 * g) (16 * g + 16)) (sym (get_or-set_other bests group g best None other.1)) (are g (grind (arith, nat_tests, less, other.0)))
+]
+
+-- the group of a list
+pub group_of : (shard : ℕ) → (16 * (shard / 16) ≤ shard) × (shard < 16 * (shard / 16) + 16)
+group_of shard =
+    let split : 16 * (shard / 16) + shard % 16 ≡ shard = div-add-mod shard 16 in
+    let less : shard % 16 < 16 = mod-lt shard (omega arith) in (omega (arith, split), omega (arith, split, less))

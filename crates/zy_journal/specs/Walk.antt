@@ -1,8 +1,9 @@
 -- What is left of histories that are walked, and which of their first entries comes next. No public clause cites this
 -- module.
-use Rattle.std.specs.Prelude.{◌≡◌, ◌≢◌, ℕ, ◌<◌, true, get_or, List, [], ◌∷◌, drop, Option, None, Some}
+use Rattle.std.specs.Prelude.{◌≡◌, ◌≢◌, ℕ, ◌+◌, ◌*◌, ◌<◌, ◌≤◌, true, get_or, List, [], ◌∷◌, drop, Option, None, Some}
 use Rattle.zy_base.specs.declared.entry.Entry.{Entry}
 use Rattle.zy_base.specs.Order.{history_of}
+use Rattle.zy_journal.specs.declared.heads.Head.{Head}
 use Rattle.zy_journal.specs.Merged.{is_earlier}
 
 -- the lists, each without this many of its first entries
@@ -24,17 +25,22 @@ head_of rests shard = first_stamp (history_of rests shard)
 abbrev pub AreHeads : List (List Entry) → List (Option ℕ) → Type 0
 AreHeads rests heads = (shard : ℕ) → get_or heads shard None ≡ head_of rests shard
 
--- the first entry of this list, which has this stamp, comes before those of all other lists below a limit
-abbrev pub IsFirstBelow : List (List Entry) → ℕ → ℕ → ℕ → Type 0
-IsFirstBelow rests limit at first =
-    (shard stamp : ℕ) → shard < limit → shard ≢ at → head_of rests shard ≡ Some stamp
-    → is_earlier first at stamp shard ≡ true
+-- of the lists from one up to another, this is the first entry that comes first
+pub record IsFirstOf (rests : List (List Entry)) (low high : ℕ) (head : Head) : Type 0 where
+  pub from : low ≤ head.shard
+  pub to : head.shard < high
+  pub is : head_of rests head.shard ≡ Some head.stamp
+  pub first : (shard stamp : ℕ) → low ≤ shard → shard < high → shard ≢ head.shard → head_of rests shard ≡ Some stamp
+      → is_earlier head.stamp head.shard stamp shard ≡ true
 
--- the list below a limit whose first entry comes first, with the stamp of that entry; none where all these are empty
-abbrev pub IsBest : List (List Entry) → ℕ → Option (ℕ × ℕ) → Type 0
-IsBest rests limit None = (shard : ℕ) → shard < limit → head_of rests shard ≡ None
-IsBest rests limit (Some best) =
-    (head_of rests best.0 ≡ Some best.1) × IsFirstBelow rests limit best.0 best.1 × (best.0 < limit)
+-- the first entry that comes first of these lists; none where all of them are empty
+abbrev pub IsBest : List (List Entry) → ℕ → ℕ → Option Head → Type 0
+IsBest rests low high None = (shard : ℕ) → low ≤ shard → shard < high → head_of rests shard ≡ None
+IsBest rests low high (Some head) = IsFirstOf rests low high head
+
+-- these are the first entries that come first, of each 16 lists
+abbrev pub AreBests : List (List Entry) → List (Option Head) → Type 0
+AreBests rests bests = (group : ℕ) → group < 16 → IsBest rests (16 * group) (16 * group + 16) (get_or bests group None)
 
 -- the first entry of this list comes next
 pub record IsLeast (rests : List (List Entry)) (at : ℕ) : Type 0 where

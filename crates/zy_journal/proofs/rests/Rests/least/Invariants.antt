@@ -1,14 +1,14 @@
-use Rattle.std.proofs.Common.{◌-◌, ◌≤◌}
+use Rattle.std.proofs.Common.{◌≡◌, ◌*◌, ◌-◌, ◌≤◌, length}
 use Rattle.zy_journal.specs.Walk.{IsBest}
 use Rattle.zy_journal.proofs.rests.Rests.least.Given as goal
 
--- the best of the lists so far
-abbrev pub invariant-loop-shard : goal.invariant-loop-shard
-invariant-loop-shard l = record {
-  best : IsBest l.self l.shard l.best;
-  within : l.shard ≤ l.count;
+-- the best of the groups so far
+abbrev pub invariant-loop-group : goal.invariant-loop-group
+invariant-loop-group l = record {
+  best : IsBest l.self 0 (16 * l.group) l.best;
+  within : l.group ≤ 16;
   few : l.count ≤ 256;
 }
 
-abbrev pub decreases-loop-shard : goal.decreases-loop-shard
-decreases-loop-shard l = l.count - l.shard
+abbrev pub decreases-loop-group : goal.decreases-loop-group
+decreases-loop-group l = 256 - 16 * l.group

@@ -1,6 +1,6 @@
 use Rattle.std.proofs.Common.{◌≡◌, length, ◌-◌, ◌≤◌}
 use Rattle.zy_journal.proofs.WalkLemmas.{AreHeadsBelow}
-use Rattle.zy_journal.proofs.rests.Rests.new.Given as goal
+use Rattle.zy_journal.proofs.heads.heads_of.Given as goal
 
 -- the heads of the lists so far
 abbrev pub invariant-loop-shard : goal.invariant-loop-shard
