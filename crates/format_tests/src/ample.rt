@@ -1,4 +1,4 @@
-//! Calls that can want memory and that no run of the program makes, with ample memory.
+//! Calls that may answer `NoMemory` and that no run of the program makes, with ample memory.
 use std::alloc::Global;
 use zy_base::{Entries, Histories};
 use zy_capture::RepliesReader;
@@ -24,7 +24,7 @@ fn a_history_is_added(rt: HostRuntime) {
     assert!(rt; adds(rt.alloc()));
 }
 
-// The outputs that a replies file gives, byte by byte, where none of its bytes is refused.
+// The outputs that a replies file gives, byte by byte, if none of its bytes is refused.
 fn outputs_given(reader: &mut RepliesReader, text: &[u8]) -> Option<u32> {
     let mut given = 0u32;
     for byte in text {

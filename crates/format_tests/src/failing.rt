@@ -16,7 +16,7 @@ fn only(alloc: Global, number: u64) -> Result<CallNumbers, NoMemory> {
     }
 }
 
-/// A source of these bytes that gives so many a read, of which the read of this number fails.
+/// A source of these bytes that gives at most `most` bytes a read, and whose read of this number fails.
 pub fn source_of(
     alloc: Global,
     bytes: &[u8],
@@ -35,7 +35,7 @@ pub fn source_of(
     }
 }
 
-/// A sink that takes so many bytes a call, of which the call of this number fails.
+/// A sink that takes at most `most` bytes a call, and whose call of this number fails.
 pub fn sink_of(alloc: Global, most: usize, number: u64) -> Result<MemSink, NoMemory>
     requires some { 1 ≤ most }
 {

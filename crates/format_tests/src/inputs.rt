@@ -1,4 +1,4 @@
-//! The input of a check, from sources of which a read fails.
+//! The input of a check, from sources one read of which fails.
 use crate::failing::source_of;
 use std::alloc::Global;
 use zy_base::{MemSource, NoMemory};
@@ -7,7 +7,7 @@ use zy_check_input::{Stop, read_parts, read_streams};
 // A capture of one segment, a journal without records, and a replies file: 42 bytes.
 const INPUT: &[u8] = b"ZYGCAP1\n\0\0\0\x01S\0\0\0\0\0\0\0\x02geEZYGJRN1\nEZYGREP1\nE";
 
-// Why the parts are read no further.
+// The reason why the parts are read no further.
 fn parts_stop(alloc: Global, source: &mut MemSource) -> Option<Stop> {
     match read_parts(alloc, source) {
         Ok(parts) => {
@@ -18,7 +18,7 @@ fn parts_stop(alloc: Global, source: &mut MemSource) -> Option<Stop> {
     }
 }
 
-// Ten bytes a read, of which the read of this number fails.
+// Ten bytes a read, and the read of this number fails.
 fn check_stop(alloc: Global, number: u64) -> Result<Option<Stop>, NoMemory> {
     let mut source = source_of(alloc, INPUT, 10, number)?;
     let stop = parts_stop(alloc, &mut source);
@@ -34,7 +34,7 @@ fn a_check_stops_at_the_read_that_fails(rt: HostRuntime) {
     assert!(rt; matches!(check_stop(rt.alloc(), 6), Ok(None)));
 }
 
-// Why the streams are read no further.
+// The reason why the streams are read no further.
 fn streams_stop(alloc: Global, source: &mut MemSource) -> Option<Stop> {
     match read_streams(alloc, source) {
         Ok(streams) => {
@@ -45,7 +45,7 @@ fn streams_stop(alloc: Global, source: &mut MemSource) -> Option<Stop> {
     }
 }
 
-// The same, where only the streams are read.
+// The same when only the streams are read.
 fn capture_stop(alloc: Global, number: u64) -> Result<Option<Stop>, NoMemory> {
     let mut source = source_of(alloc, INPUT, 10, number)?;
     let stop = streams_stop(alloc, &mut source);

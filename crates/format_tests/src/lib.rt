@@ -1,4 +1,4 @@
-//! Tests of the formats and of what reads and writes them, by their public calls.
+//! Tests of the formats and of their readers and writers, by public calls.
 #![tactic(auto)]
 
 #[cfg(test)]

@@ -32,7 +32,7 @@ fn one_output(alloc: Global) -> Result<Outputs, NoMemory> {
     }
 }
 
-// A sink took this of the replies, byte by byte, where its call of this number fails.
+// The bytes of the replies that a sink took, byte by byte, when its call of this number fails.
 fn replies_are(
     alloc: Global,
     outputs: &Outputs,
@@ -46,7 +46,7 @@ fn replies_are(
     Ok(took && is_whole == (text.len() == REPLIES.len()))
 }
 
-// Cut at the call that fails, and whole where that is the one behind the last byte.
+// Cut at the call that fails, and whole if that is the call after the last byte.
 fn replies_are_cut(alloc: Global, outputs: &Outputs) -> Result<bool, NoMemory> {
     let is_cut = replies_are(alloc, outputs, 16, &REPLIES[..16])?;
     let is_whole = replies_are(alloc, outputs, REPLIES.len() as u64, REPLIES)?;

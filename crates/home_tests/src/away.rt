@@ -1,4 +1,4 @@
-//! What comes to a home while another core has a block.
+//! What a home receives while another core has a block.
 ghost use Rattle.std.specs.Prelude.{◌≡◌, ◌+◌, ◌<◌, ◌≤◌, ◌^◌, length, false};
 ghost use Rattle.zy_table.specs.Name.{name_of};
 
@@ -11,14 +11,14 @@ use zy_base::Ungated;
 use zy_calls::Output;
 use zy_shuffle::Claim;
 
-// What comes first: a command and a part of one, and a command of a connection of nobody.
+// Received first: a command and a part of one, and a command of a connection of no core.
 const BEFORE: [Item; 2] = [
     Item::Text(0, 1, b"set a 0 0 1\r\nx\r\nget"),
     Item::Text(2, 1, b"get a\r\n"),
 ];
 
-// What comes while the block is away: more frames than its ring has room for, the end of the session,
-// a command of the next one, the end of all, and a command behind it.
+// Received while the block is away: more frames than its ring has room for, the end of the session,
+// a command of the next one, the end of all, and a command after it.
 const AWAY: [Item; 6] = [
     Item::Text(0, 1, b" a\r\n"),
     Item::Text(0, 200, b"version\r\n"),
@@ -57,7 +57,7 @@ fn steal_while(rt: &impl Abort, alloc: Global, setup: &mut Setup, items: &[Item]
     setup.ring.give_back(&mut setup.thief, place, block);
 }
 
-// Whether the first connection was sent what is due, in two sessions.
+// Whether the first connection was sent the expected texts, in two sessions.
 fn is_served(output: &Output, ends: &[u64]) -> bool {
     let bytes = output.bytes();
     output.count() == 203

@@ -1,4 +1,4 @@
-//! A home receives, while another thread holds the block.
+//! A home receives while another thread holds the block.
 ghost use Rattle.std.specs.Prelude.{◌≡◌, ◌≤◌, false};
 ghost use Rattle.zy_table.specs.Name.{name_of};
 ghost use Rattle.zy_conn.specs.Work.{mark_of};
@@ -18,7 +18,7 @@ use zy_shuffle::{Claim, Ring};
 
 const COMMAND: [Item; 1] = [Item::Text(0, 1, b"version\r\n")];
 
-// How many commands are received while the block is held.
+// The number of commands that are received while the block is held.
 const TIMES: u32 = 500;
 
 // Has the home receive commands.

@@ -1,4 +1,4 @@
-//! Tests of blocks and homes: what comes while a block is away or held by another thread.
+//! Tests of blocks and homes: what a home receives while a block is away or held by another thread.
 #![tactic(auto)]
 
 #[cfg(test)]

@@ -18,7 +18,7 @@ use zy_conn::{Block, EventInlet, HoldEnd};
 const STORED: &[u8] =
     b"set a 0 0 1 noreply\r\n1\r\nset b 0 0 1 noreply\r\n2\r\nset c 0 0 1 noreply\r\n3\r\n";
 
-// What is sent to one who gets all three.
+// The reply to a get of all three.
 const FOUND: &[u8] = b"VALUE a 0 1\r\n1\r\nVALUE b 0 1\r\n2\r\nVALUE c 0 1\r\n3\r\nEND\r\n";
 
 // Gets the item of key b.
@@ -63,7 +63,8 @@ fn offer_until<R: Wait + Abort>(
     inlet
 }
 
-// How many commands were answered, and how many texts are not those of one that gets all three items.
+// The number of commands that were answered, and the number of texts that are not the reply to a
+// get of all three items.
 #[derive(Clone, Copy)]
 struct Sent {
     count: u64,

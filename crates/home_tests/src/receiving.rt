@@ -1,4 +1,4 @@
-//! What comes to a home, and what it does until it is settled.
+//! What a home receives, and what it does until it is settled.
 ghost use Rattle.std.specs.Prelude.{◌≡◌, ◌+◌, ◌<◌, ◌≤◌, ◌^◌, length, false};
 ghost use Rattle.zy_table.specs.Name.{name_of};
 
@@ -12,10 +12,10 @@ use zy_home::Home;
 use zy_rx::Rx;
 use zy_shuffle::Ring;
 
-/// What comes to a home.
+/// What a home receives.
 #[derive(Clone, Copy)]
 pub(crate) enum Item {
-    /// So many times this text, as one segment of this connection.
+    /// This text, repeated this number of times, as one segment of this connection.
     Text(u32, usize, &'static [u8]),
     Close(u32),
     End,

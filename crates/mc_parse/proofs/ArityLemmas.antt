@@ -1,4 +1,4 @@
--- The last word of a list, and what follows a name with the word noreply behind it.
+-- The last word of a list, and what follows a name once the word noreply is added.
 use Rattle.std.proofs.Common.{◌≡◌, ℕ, zero, suc, ◌+◌, ◌<◌, ◌≤◌, Bool, true, false, not, ◌&&◌, if◌then◌else◌, List, [], ◌∷◌, ◌++◌, length, take, get_or, refl, ap, arith, length-append}
 use Rattle.std.specs.Prelude.{None, Some, codes}
 use Rattle.std.specs.Borrow.{Bor}
@@ -13,7 +13,7 @@ use Rattle.mc_parse.specs.Arity.{from_to, is_most, has_count, ends_in_noreply, b
 
 -- ---- the last word
 
--- the last word tells whether the words end in noreply
+-- the last word decides whether the words end in noreply
 pub ends-last : (words : List (Bor (List ℕ))) (at : ℕ) (d : Bor (List ℕ)) → at + 1 ≡ length words → is_noreply (get_or words at d).now ≡ ends_in_noreply (texts words)
 ends-last [] at d is = absurd (omega arith)
 ends-last (word ∷ []) zero d is = refl
@@ -56,7 +56,7 @@ ends-split (word ∷ next ∷ words) ends = ap (λ (rest : List (List ℕ)). wor
 
 -- ---- what follows a name
 
--- a count that may follow, with no noreply that lacks or silences
+-- the count may follow, and noreply is neither missing nor asked for
 pub record Unsilenced (least most : ℕ) (words : List (List ℕ)) : Type 0 where
   pub some : least ≤ length words
   pub room : length words < most
@@ -86,7 +86,7 @@ pub follows_by : (has lacks asks : Bool) (words front : List (List ℕ)) → has
     → (if has && not lacks then Some (following words asks) else None) ≡ Some (record { words = front; quiet = true })
 follows_by has lacks asks words front h l a is = rw (h, l, a) (ap (λ (ws : List (List ℕ)). Some (record { words = ws; quiet = true })) is)
 
--- behind so many words noreply asks for no answer
+-- after this number of words, noreply asks for no answer
 pub follows_silently : (least most : ℕ) (words : List (List ℕ)) → Unsilenced least most words
     → following_of (from_to least most) (words ++ noreply ∷ []) ≡ Some (record { words = words; quiet = true })
 follows_silently least most words is =

@@ -1,4 +1,4 @@
--- The keys and values of commands, and so of the calls that are due, are within their bounds.
+-- The keys and values of commands, and so of the expected calls, are within their bounds.
 use Rattle.std.specs.Prelude.{◌&&◌, if◌then◌else◌, filter, Option, None, Some, option_map, not}
 use Rattle.std.specs.List.{AllByRecursion, list_all, range_with_len}
 use Rattle.std.specs.Str.{bytes_eq}
@@ -32,7 +32,7 @@ both false b is = absurd (cc)
 
 -- ---- words
 
--- what is so of each word that a line has: a word has a byte
+-- a property of each word that a line has: it has a byte
 AreSome : List (List ℕ) → Type 0
 AreSome ws = list_all has_byte ws ≡ true
 
@@ -156,7 +156,7 @@ flush_found ws = zero_found flushes ws tt
 
 -- ---- the names
 
--- what is found of some names by a word
+-- the name that a word is, among some names, has this property
 among : {N : Type 0} → List ℕ → List (List ℕ × N) → Option N
 among word [] = None
 among word (x ∷ xs) = if bytes_eq word x.0 then Some x.1 else among word xs
@@ -228,17 +228,17 @@ refused_bound : (form : Form) → IsCommand (large_command_for form)
 refused_bound (faulty line) = tt
 refused_bound (asks ask quiet) = tt
 
--- the command of a line by itself is within its bounds
+-- the command of a line that needs nothing is within its bounds
 pub line_within : (line : List ℕ) → IsCommand (line_command line)
 unfolding line_command
 line_within line = alone_bound (line_form line) (line_keys line)
 
--- with a block within its bound
+-- so is the command of a line with a block within its bound
 pub block_within : (line block : List ℕ) → IsValue (value_of block) → IsCommand (block_command line block)
 unfolding block_command
 block_within line block small = ended_bound (line_form line) block (line_keys line) small
 
--- and with a block that is too large
+-- so is the command of a line with a block that is too large
 pub large_within : (line : List ℕ) → IsCommand (large_command line)
 unfolding large_command
 large_within line = refused_bound (line_form line)
@@ -253,7 +253,7 @@ flushes_within : (first count : ℕ) → AllByRecursion IsShardCall (map (on_sha
 flushes_within first zero = tt
 flushes_within first (suc count) = (tt, flushes_within (first + 1) count)
 
--- the calls of a command within its bounds are within theirs
+-- the calls of a command within its bounds are within their bounds
 pub calls_within : (shards : ℕ) (command : Command) → IsCommand command → AllByRecursion IsShardCall (calls_of shards command)
 calls_within shards (Store Verbs.Set key flags value quiet) is = (is, tt)
 calls_within shards (Store Verbs.Add key flags value quiet) is = (is, tt)
@@ -272,7 +272,7 @@ tagged_within : (n conn index part : ℕ) (calls : List ShardCall) → index < n
 tagged_within n conn index part [] within each = tt
 tagged_within n conn index part (call ∷ calls) within each = ((each.0, within), tagged_within n conn index (part + 1) calls within each.1)
 
--- and so are those that are due
+-- so are the expected calls
 pub due_from_within : (n shards conn index : ℕ) (commands : List Command) → index + length commands ≤ n → AllByRecursion IsCommand commands → AllByRecursion (IsDueWithin n) (due_from shards conn index commands)
 due_from_within n shards conn index [] within each = tt
 due_from_within n shards conn index (command ∷ commands) within each =

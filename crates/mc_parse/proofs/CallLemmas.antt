@@ -60,7 +60,8 @@ all_flushes P first (suc count) each =
     All-cons P (on_shard FlushCall first) (map (on_shard FlushCall) (range_with_len (first + 1) count)) (each first (omega arith) (omega arith))
     (all_flushes P (first + 1) count (λ shard low high. each shard (omega arith) (omega arith)))
 
--- what holds of each call on the shard of its key, and of a flush on each shard, holds of every call of a command
+-- what holds of each call on the shard of its key, and of a flush on each shard, holds of every
+-- call of a command
 pub all_calls : (P : ShardCall → Type 0) (shards : ℕ) → ((key : List ℕ) (call : Call) → key_of call ≡ Some key → P (at_key shards key call))
     → ((shard : ℕ) → shard < shards → P (on_shard FlushCall shard)) → (command : Command) → All P (calls_of shards command)
 all_calls P shards keyed flush (Store Set key flags value quiet) = one P (at_key shards key (SetCall key flags value)) (keyed key (SetCall key flags value) refl)
@@ -87,9 +88,9 @@ all_at_keys shards command = all_calls (IsAtKey shards) shards (at_its_key shard
 pub all_within : (shards : ℕ) (command : Command) → 1 ≤ shards → All (λ (c : ShardCall). c.shard < shards) (calls_of shards command)
 all_within shards command some = all_calls (λ (c : ShardCall). c.shard < shards) shards (λ key call is. omega arith) (λ shard within. within) command
 
--- ---- calls due
+-- ---- expected calls
 
--- the calls of further commands are due after those of the commands before them
+-- the calls of further commands are expected after those of the commands before them
 pub due_from-append : (shards connection index : ℕ) (front commands : List Command)
     → due_from shards connection index (front ++ commands) ≡ due_from shards connection index front ++ due_from shards connection (index + length front) commands
 due_from-append shards connection index [] commands =
@@ -110,14 +111,14 @@ due-append shards connection front commands =
     let at : 0 + length front ≡ length front = omega arith in
     due_from-append shards connection 0 front commands ∙ ap (λ (number : ℕ). due shards connection front ++ due_from shards connection number commands) at
 
--- one command more makes its calls due after those before it
+-- the calls of one further command are expected after those of the commands before it
 pub due-more : (shards connection : ℕ) (commands : List Command) (command : Command)
     → due shards connection (commands ++ command ∷ []) ≡ due shards connection commands ++ due_at shards connection (length commands) command
 due-more shards connection commands command =
     due-append shards connection commands (command ∷ [])
     ∙ ap (λ (last : List Due). due shards connection commands ++ last) (append-nil (due_at shards connection (length commands) command))
 
--- calls behind others of one command are tagged with the parts behind theirs
+-- the last calls of one command are tagged with the parts that come after those of its first calls
 pub tagged-append : (connection index part : ℕ) (front calls : List ShardCall)
     → tagged connection index part (front ++ calls) ≡ tagged connection index part front ++ tagged connection index (part + length front) calls
 tagged-append connection index part [] calls =
@@ -128,12 +129,12 @@ tagged-append connection index part (first ∷ front) calls =
     ap (λ (more : List Due). record { tag = tag_of connection index part; call = first } ∷ more)
     (tagged-append connection index (part + 1) front calls ∙ ap (λ (number : ℕ). tagged connection index (part + 1) front ++ tagged connection index number calls) at)
 
--- so many calls of one command are due
+-- the number of expected calls of one command
 pub length-tagged : (connection index part : ℕ) (calls : List ShardCall) → length (tagged connection index part calls) ≡ length calls
 length-tagged connection index part [] = refl
 length-tagged connection index part (call ∷ calls) = ap suc (length-tagged connection index (part + 1) calls)
 
--- ---- the shards of calls due
+-- ---- the shards of expected calls
 
 tagged_within : (shards connection index part : ℕ) (calls : List ShardCall) → All (IsOnShard shards) calls → All (IsDueOn shards) (tagged connection index part calls)
 tagged_within shards connection index part [] within = All-nil (IsDueOn shards)
@@ -147,16 +148,16 @@ due_from_within shards connection index (command ∷ commands) some =
     All-append (IsDueOn shards) (due_at shards connection index command) (due_from shards connection (index + 1) commands)
     (tagged_within shards connection index 0 (calls_of shards command) (all_within shards command some)) (due_from_within shards connection (index + 1) commands some)
 
--- every call due is on one of the shards
+-- every expected call is on one of the shards
 pub due_within : (shards connection : ℕ) (commands : List Command) → 1 ≤ shards → All (IsDueOn shards) (due shards connection commands)
 due_within shards connection commands some = due_from_within shards connection 0 commands some
 
 -- ---- entries
 
--- what further entries were asked stands behind what those before them were
+-- the calls of further entries come after those of the entries before them
 pub dues_of-append : (front entries : List Entry) → dues_of (front ++ entries) ≡ dues_of front ++ dues_of entries
 dues_of-append front entries = map-append due_of front entries
 
--- the same of one more entry
+-- the same of one further entry
 pub dues_of-more : (entries : List Entry) (entry : Entry) → dues_of (entries ++ entry ∷ []) ≡ dues_of entries ++ due_of entry ∷ []
 dues_of-more entries entry = map-append due_of entries (entry ∷ [])

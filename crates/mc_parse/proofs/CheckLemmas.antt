@@ -34,7 +34,7 @@ pub form_after-count : (name : Name) (words : List (List ℕ)) → HasBadCount n
 form_after-count name words bad =
     after_is name words None (none_by (has_count (arity_of name) (length words)) (lacks_noreply (arity_of name) words) words (is_silenced name words) bad)
 
--- no noreply where it must stand
+-- noreply is missing where it is required
 pub form_after-noreply : (name : Name) (words : List (List ℕ)) → LacksNoreply name words → form_after name words ≡ faulty Unknown
 form_after-noreply name words lacks =
     after_is name words None (lacking (has_count (arity_of name) (length words)) (lacks_noreply (arity_of name) words) words (is_silenced name words) lacks)
@@ -71,7 +71,7 @@ pub block-fault : (form : Form) (block : List ℕ) → IsBlockFor (need_for form
 block-fault (faulty line) block fits bad = absurd fits
 block-fault (asks ask quiet) block fits bad = rw bad refl
 
--- a value and the two bytes behind it
+-- a value and the two bytes after it
 pub block-value : (ask : Ask) (quiet : Bool) (value : List ℕ) → block_command_for (value ++ line_end) (asks ask quiet) ≡ value_command ask quiet value
 block-value ask quiet value =
     let size = length-append value line_end in

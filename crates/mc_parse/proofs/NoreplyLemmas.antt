@@ -1,4 +1,5 @@
--- A line with the word noreply behind it says the same but asks for no answer, and each line that asks for none is such a line.
+-- A line with the word noreply added says the same but asks for no answer, and each line that asks
+-- for none is such a line.
 use Rattle.std.proofs.Common.{◌≡◌, ℕ, suc, ◌<◌, ◌≤◌, Bool, true, false, not, ◌&&◌, if◌then◌else◌, List, [], ◌∷◌, ◌++◌, length, refl, sym, ap, ◌∙◌, arith, length-append}
 use Rattle.std.specs.Prelude.{Option, None, Some, option_map, nat_le, nat_lt}
 use Rattle.std.specs.List.{list_all}
@@ -26,9 +27,9 @@ use Rattle.mc_parse.specs.Noreply.{may_be_quiet, is_loud, is_quiet, silent, with
 use Rattle.mc_parse.proofs.WordLemmas.{words-parted, words-one}
 use Rattle.mc_parse.proofs.ArityLemmas.{noreply, is_the_word, ends-split, unsilenced, follows_silently, follows_by, both}
 
--- ---- what is said of an ask that was found or not
+-- ---- what is said of an ask, found or not
 
--- the checks of keys and numbers, with what they found
+-- the checks of keys and numbers, given what was found
 abbrev said : Bool → ErrorLine → Option Ask → Bool → Form
 said keys fault found quiet = check keys BadLine (find found fault (λ ask. asks ask quiet))
 
@@ -51,7 +52,7 @@ loud_is_not_quiet false fault found = refl
 loud_is_not_quiet true fault None = refl
 loud_is_not_quiet true fault (Some ask) = refl
 
--- what is found may be asked for without an answer
+-- what was found may be asked for without an answer
 abbrev may_all : Option Ask → Bool
 may_all None = true
 may_all (Some ask) = may_be_quiet ask
@@ -90,13 +91,13 @@ zero_may ask (zero ∷ []) may = go (is_zero zero)
     go false = refl
 zero_may ask (word ∷ next ∷ words) may = refl
 
--- a name with an arity from few to more words
+-- a name that takes between a minimum and a maximum number of words
 pub record MayEnd (name : Name) (least most : ℕ) : Type 0 where
   pub is : arity_of name ≡ from_to least most
   pub few : least < most
-  -- it asks for what may be asked for without an answer
+  -- what it asks for may be asked for without an answer
   pub may : (words : List (List ℕ)) → may_all (ask_of name words) ≡ true
-  -- noreply behind more words than must stand is no number
+  -- noreply after more words than are required is not a number
   pub other : (words : List (List ℕ)) → ends_in_noreply words ≡ true → least < length words → ask_of name words ≡ None
 
 store_may : (verb : Verb) (words : List (List ℕ)) → may_all (store_words verb words) ≡ true
@@ -191,9 +192,9 @@ flush_ends = record { is = refl; few = omega arith; may = λ words. zero_may flu
     other (zero ∷ []) ends more = no_zero flushes zero ends
     other (word ∷ next ∷ words) ends more = refl
 
--- ---- with noreply behind a line
+-- ---- noreply added to a line
 
--- the facts by which something is loud
+-- the facts by which a line asks for an answer
 record Counted (has lacks ends : Bool) : Type 0 where
   pub has_is : has ≡ true
   pub lacks_is : lacks ≡ false
@@ -253,17 +254,17 @@ silences_words : (line : List (List ℕ)) → is_loud (form_of line) ≡ true �
 silences_words [] loud = absurd (cc)
 silences_words (name ∷ words) loud = silences_found (name_of name) words loud
 
--- the words of a line with noreply behind it are its words and that one
+-- the words of a line with noreply added are its words and noreply
 words-noreply : (line : List ℕ) → words_of (with_noreply line) ≡ words_of line ++ noreply ∷ []
 words-noreply line = words-parted line noreply ∙ ap (λ (more : List (List ℕ)). words_of line ++ more) (words-one noreply refl)
 
--- a line with noreply behind it says the same without an answer
+-- a line with noreply added says the same without an answer
 pub form-noreply : (line : List ℕ) → is_loud (form_of (words_of line)) ≡ true → form_of (words_of (with_noreply line)) ≡ silent (form_of (words_of line))
 form-noreply line loud = ap form_of (words-noreply line) ∙ silences_words (words_of line) loud
 
 -- ---- a line that asks for no answer
 
--- words with noreply behind them say quietly what they say by themselves
+-- words with noreply added say quietly what they say without it
 record Silenced (form : List (List ℕ) → Form) (front all : List (List ℕ)) : Type 0 where
   pub ends : all ≡ front ++ noreply ∷ []
   pub loud : is_loud (form front) ≡ true
@@ -286,7 +287,8 @@ found_not_none keys fault found quiet none = sym (go keys) ∙ sym (ap (λ (f : 
     go true = refl
     go false = refl
 
--- a front to which noreply may be added, and which does not end in it where more words than must stand
+-- words to which noreply may be added, and which do not themselves end in it where more words than
+-- required follow
 front_counted : (least most : ℕ) (front : List (List ℕ)) → least ≤ length front → length front < most → (ends_in_noreply front ≡ true → least < length front → false ≡ true)
     → Counted (has_count (from_to least most) (length front)) (lacks_noreply (from_to least most) front) (asks_silence (from_to least most) front)
 front_counted least most front some room other =
@@ -364,7 +366,7 @@ quiet_words : (all : List (List ℕ)) → is_quiet (form_of all) ≡ true → (f
 quiet_words [] quiet = absurd (cc)
 quiet_words (word ∷ words) quiet = (word ∷ but_last words, quiet_found (name_of word) word words refl quiet)
 
--- a line that asks for no answer ends in noreply, and says the same without it but for that
+-- a line that asks for no answer ends in noreply, and without it says the same with an answer
 pub quiet_line : (line : List ℕ) → is_quiet (form_of (words_of line)) ≡ true → EndsInNoreply line
 quiet_line line quiet =
     let found = quiet_words (words_of line) quiet in
@@ -372,12 +374,12 @@ quiet_line line quiet =
 
 -- ---- commands
 
--- it needs the same
+-- the line needs the same
 pub silent-need : (form : Form) → need_for (silent form) ≡ need_for form
 silent-need (faulty line) = refl
 silent-need (asks ask quiet) = refl
 
--- by itself it is the same command, silenced
+-- without a block it is the same command, silenced
 pub silent-line : (form : Form) → is_loud form ≡ true → need_for form ≡ Nothing → command_for (silent form) ≡ silenced (command_for form)
 silent-line (faulty line) loud alone = absurd (cc)
 silent-line (asks (stores verb key flags bytes) quiet) loud alone = absurd (cc)

@@ -1,4 +1,5 @@
--- The calls of plain commands are steady, and about their keys; and what lines of plain commands mean.
+-- The calls of plain commands are steady and use their keys alone; and what lines of plain commands
+-- mean.
 use Rattle.std.proofs.Common.{◌≡◌, ℕ, ◌+◌, ◌<◌, true, false, List, [], ◌∷◌, ◌++◌, refl, sym, ap, ◌∙◌, arith}
 use Rattle.std.specs.Prelude.{map, All, Bool, if◌then◌else◌}
 use Rattle.std.specs.List.{AllByRecursion, Contains}
@@ -33,7 +34,7 @@ gets_keyed shards IsOwn (key ∷ keys) own = (
   gets_keyed shards IsOwn keys (λ k inside. own k (Contains-append_right (key ∷ []) keys k inside)),
 )
 
--- each call of a plain command is steady, and about one of its keys
+-- each call of a plain command is steady and uses one of its keys
 calls_keyed : (shards : ℕ) (IsOwn : List ℕ → Type 0) (command : Command) → IsPlain command → ((key : List ℕ) → Contains (keys_of command) key → IsOwn key)
     → AllByRecursion (IsKeyed shards IsOwn) (calls_of shards command)
 calls_keyed shards IsOwn (Store Set key flags value quiet) plain own = (record { key = key; named = refl; own = own key (first_in key []); place = refl; steady = tt }, tt)
@@ -50,7 +51,7 @@ calls_keyed shards IsOwn (Count key false amount quiet) plain own = (record { ke
 calls_keyed shards IsOwn (Flush quiet) plain own = absurd plain
 calls_keyed shards IsOwn command plain own = tt
 
--- ---- the calls due of a connection
+-- ---- the expected calls of a connection
 
 tagged_own : (shards count conn index part : ℕ) (keys : ℕ → List (List ℕ)) (calls : List ShardCall) → conn < count → AllByRecursion (IsKeyed shards (Contains (keys conn))) calls
     → AllByRecursion (IsDueOwn shards count keys) (tagged conn index part calls)
@@ -67,13 +68,13 @@ due_from_own shards count conn index keys (command ∷ commands) within plain ow
     (calls_keyed shards (Contains (keys conn)) command plain.0 (λ key inside. own key (Contains-append_left (keys_of command) (all_keys_of commands) key inside))))
     (due_from_own shards count conn (index + 1) keys commands within plain.1 (λ key inside. own key (Contains-append_right (keys_of command) (all_keys_of commands) key inside)))
 
--- the calls due of a connection whose commands are plain are steady, and about its keys
+-- the expected calls of a connection whose commands are plain are steady and use its keys
 pub due_own : (shards count conn : ℕ) (commands : ℕ → List Command) → conn < count → All IsPlain (commands conn)
     → AllByRecursion (IsDueOwn shards count (λ c. all_keys_of (commands c))) (due shards conn (commands conn))
 due_own shards count conn commands within plain =
     due_from_own shards count conn 0 (λ c. all_keys_of (commands c)) (commands conn) within (recursion_from_All IsPlain (commands conn) plain) (λ key inside. inside)
 
--- ---- calls due without their shards
+-- ---- expected calls without their shards
 
 gets_bare : (shards others conn index part : ℕ) (keys : List (List ℕ)) → map bare (tagged conn index part (map (get_at shards) keys)) ≡ map bare (tagged conn index part (map (get_at others) keys))
 gets_bare shards others conn index part [] = refl
@@ -93,13 +94,13 @@ due_from_bare shards others conn index (command ∷ commands) plain =
     ∙ ap (λ (l : List Due). map bare (due_at others conn index command) ++ l) (due_from_bare shards others conn (index + 1) commands plain.1)
     ∙ sym (map-append bare (due_at others conn index command) (due_from others conn (index + 1) commands))
 
--- but for shards the same calls are due of plain commands, whatever the number of shards
+-- apart from shards, plain commands have the same expected calls whatever the number of shards
 pub due_bare : (shards others conn : ℕ) (commands : List Command) → All IsPlain commands → map bare (due shards conn commands) ≡ map bare (due others conn commands)
 due_bare shards others conn commands plain = due_from_bare shards others conn 0 commands (recursion_from_All IsPlain commands plain)
 
 -- ---- what lines say
 
--- the command of a plain line by itself is plain, and calls its keys alone
+-- the command of a plain line without a block is plain, and calls its keys alone
 alone_own : (IsOwn : List ℕ → Type 0) (form : Form) → IsOwnForm IsOwn form → IsOwnCommand IsOwn (command_for form)
 alone_own IsOwn (faulty line) own = record { plain = tt; keys = tt }
 alone_own IsOwn (asks (exchanges key flags bytes unique) quiet) own = absurd own
@@ -132,12 +133,12 @@ pub line_own : (IsOwn : List ℕ → Type 0) (line : List ℕ) → IsOwnForm IsO
 unfolding line_command
 line_own IsOwn line own = alone_own IsOwn (line_form line) own
 
--- with its block, whatever that is
+-- so is the command of the line with its block, whatever the block is
 pub block_own : (IsOwn : List ℕ → Type 0) (line block : List ℕ) → IsOwnForm IsOwn (line_form line) → IsOwnCommand IsOwn (block_command line block)
 unfolding block_command
 block_own IsOwn line block own = ended_own IsOwn (line_form line) block own
 
--- and with a block that is too large
+-- so is that with a block that is too large
 pub large_own : (IsOwn : List ℕ → Type 0) (line : List ℕ) → IsOwnCommand IsOwn (large_command line)
 unfolding large_command
 large_own IsOwn line = refused_own IsOwn (line_form line)

@@ -1,4 +1,4 @@
--- Two calls due are the same or not.
+-- Two expected calls are equal or not.
 use Rattle.std.proofs.Common.{ℕ, refl}
 use mathlib.Core.HLevel.{×_discrete}
 use native.Mathlib.Decide.{ℕ_discrete}

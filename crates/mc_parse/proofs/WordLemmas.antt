@@ -1,4 +1,4 @@
--- What finding words byte by byte shows of the words of the whole text.
+-- What a search for words byte by byte shows of the words of the whole text.
 use Rattle.std.proofs.Common.{◌≡◌, ◌≢◌, ℕ, ◌+◌, ◌<◌, ◌≤◌, Bool, true, false, if◌then◌else◌, filter, List, [], ◌∷◌, ◌++◌, length, drop, take, get_or, refl, sym, ap, ◌∙◌, append_assoc, append-nil, length-take, subst, arith}
 use Rattle.std.specs.Prelude.{◌==◌}
 use Rattle.std.proofs.lemmas.Bool.Decides.{nat_tests}
@@ -55,7 +55,7 @@ put_all-more bytes byte (piece ∷ pieces) = ap (λ (p : List ℕ). p ∷ pieces
 pieces_of-other : (byte : ℕ) (bytes : List ℕ) → byte ≢ 32 → pieces_of (byte ∷ bytes) ≡ put_before byte (pieces_of bytes)
 pieces_of-other byte bytes other = grind (arith, nat_tests)
 
--- at the start no byte does
+-- at the start, no byte of the piece has been read
 pub word_begins : (text : List ℕ) → IsWordTo text 0
 word_begins text = record { is = put_all-none text }
 

@@ -3,13 +3,13 @@ use Rattle.std.specs.Prelude.{ℕ, Bool, true, false, not, ◌&&◌, ◌==◌, n
 use Rattle.mc_parse.specs.declared.arity.Arity.{Arity}
 use Rattle.mc_parse.specs.Words.{is_noreply}
 
--- ---- so many words
+-- ---- numbers of words
 
--- at least and at most so many words follow, and the last of the most is noreply
+-- between `least` and `most` words follow; where there are `most`, the last must be noreply
 abbrev pub from_to : ℕ → ℕ → Arity
 from_to least most = record { least = least; most = Some most; noreply = true }
 
--- so many words follow, or more, and none asks for no answer
+-- `least` words or more follow, and none of them asks for no answer
 abbrev pub at_least : ℕ → Arity
 at_least least = record { least = least; most = None; noreply = false }
 
@@ -17,19 +17,19 @@ at_least least = record { least = least; most = None; noreply = false }
 abbrev pub no_more : Arity
 no_more = record { least = 0; most = Some 0; noreply = false }
 
--- ---- the count of words
+-- ---- the number of words
 
--- a count is not above a limit, where there is one
+-- a number is not above a limit, where there is a limit
 abbrev pub is_within : Option ℕ → ℕ → Bool
 is_within None count = true
 is_within (Some most) count = nat_le count most
 
--- a count is the limit
+-- a number is the limit
 abbrev pub is_most : Option ℕ → ℕ → Bool
 is_most None count = false
 is_most (Some most) count = count == most
 
--- so many words may follow
+-- this number of words may follow
 abbrev pub has_count : Arity → ℕ → Bool
 has_count arity count = nat_le arity.least count && is_within arity.most count
 
@@ -47,29 +47,29 @@ but_last [] = []
 but_last (word ∷ []) = []
 but_last (word ∷ next ∷ words) = word ∷ but_last (next ∷ words)
 
--- as many words follow as may, and the last is not the noreply that it must be
+-- the largest allowed number of words follows, and the last is not noreply, as it must be
 abbrev pub lacks_noreply : Arity → List (List ℕ) → Bool
 lacks_noreply arity words =
     arity.noreply && is_most arity.most (length words) && not (ends_in_noreply words)
 
--- more words follow than must, and the last is noreply: no answer is asked for
+-- more words follow than are required, and the last is noreply: no answer is asked for
 abbrev pub asks_silence : Arity → List (List ℕ) → Bool
 asks_silence arity words =
     arity.noreply && nat_lt arity.least (length words) && ends_in_noreply words
 
 -- ---- what follows a name
 
--- the words that follow a name but for noreply, and whether that follows them
+-- the words that follow a name, without noreply, and whether noreply follows them
 pub record Following : Type 0 where
   pub words : List (List ℕ)
   pub quiet : Bool
 
--- the words, of which the last is noreply or not
+-- the words, and whether the last of them is noreply
 abbrev pub following : List (List ℕ) → Bool → Following
 following words true = record { words = but_last words; quiet = true }
 following words false = record { words = words; quiet = false }
 
--- what follows a name, where so many words may follow and the last of the most is noreply
+-- what follows a name, where the number of words is allowed and noreply is not missing
 abbrev pub following_of : Arity → List (List ℕ) → Option Following
 following_of arity words = if has_count arity (length words) && not (lacks_noreply arity words)
     then Some (following words (asks_silence arity words))

@@ -1,4 +1,4 @@
--- Which commands, and which calls that are due, are within their bounds.
+-- Which commands, and which expected calls, are within their bounds.
 use Rattle.std.specs.Prelude.{ℕ, ◌<◌}
 use Rattle.std.specs.List.{AllByRecursion}
 use Rattle.zy_base.specs.Bounds.{IsKey, IsValue, IsCall}
@@ -20,6 +20,6 @@ IsCommand command = Unit {0}
 abbrev pub IsShardCall : ShardCall → Type 0
 IsShardCall call = IsCall call.call
 
--- the call that is due is within its bounds, and one of so many commands
+-- the expected call is within its bounds, and belongs to one of `count` commands
 abbrev pub IsDueWithin : ℕ → Due → Type 0
 IsDueWithin commands due = IsCall due.call.call × (due.tag.index < commands)

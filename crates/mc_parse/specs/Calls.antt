@@ -1,4 +1,4 @@
--- The calls of a command, and the calls due of a connection (docs/PROFILE.md, "Calls").
+-- The calls of a command, and the expected calls of a connection (docs/PROFILE.md, "Calls").
 use Rattle.std.specs.Prelude.{◌≡◌, ℕ, ◌+◌, ◌<◌, length, Bool, true, false, List, [], ◌∷◌, ◌++◌, map, IfSome}
 use Rattle.std.specs.List.{range_with_len}
 use Rattle.zy_base.specs.declared.call.Call.{Call}
@@ -19,7 +19,7 @@ use Rattle.mc_parse.specs.declared.command.Command.TheVariants.{Store, Cas, Get,
 abbrev pub on_shard : Call → ℕ → ShardCall
 on_shard call shard = record { shard = shard; call = call }
 
--- a call on the shard of its key, of so many shards
+-- a call on the shard of its key, among `shards` shards
 abbrev pub at_key : ℕ → List ℕ → Call → ShardCall
 at_key shards key call = on_shard call (shard_of key shards)
 
@@ -48,7 +48,7 @@ get_calls shards keys = map (get_at shards) keys
 abbrev pub flush_calls : ℕ → List ShardCall
 flush_calls shards = map (on_shard FlushCall) (range_with_len 0 shards)
 
--- the calls of a command, in their order, on so many shards
+-- the calls of a command on `shards` shards, in their order
 abbrev pub calls_of : ℕ → Command → List ShardCall
 calls_of shards (Store verb key flags value quiet) =
     at_key shards key (stored_by verb key flags value) ∷ []
@@ -64,17 +64,17 @@ calls_of shards command = []
 abbrev pub IsAtKey : ℕ → ShardCall → Type 0
 IsAtKey shards call = IfSome (key_of call.call) (λ key. call.shard ≡ shard_of key shards)
 
--- a call is on one of so many shards
+-- the call is on one of `shards` shards
 abbrev pub IsOnShard : ℕ → ShardCall → Type 0
 IsOnShard shards call = call.shard < shards
 
--- the calls, without their shards
+-- the calls without their shards
 abbrev pub asked_by : List ShardCall → List Call
 asked_by calls = map (λ (call : ShardCall). call.call) calls
 
 -- ---- a connection's commands
 
--- a call that is due: whose it is, and the call with its shard
+-- an expected call: its tag, and the call with its shard
 pub record Due : Type 0 where
   pub tag : Tag
   pub call : ShardCall
@@ -90,39 +90,39 @@ tagged connection index part (call ∷ calls) =
     record { tag = tag_of connection index part; call = call }
     ∷ tagged connection index (part + 1) calls
 
--- the calls due of the command with this index
+-- the expected calls of the command with this index
 abbrev pub due_at : ℕ → ℕ → ℕ → Command → List Due
 due_at shards connection index command = tagged connection index 0 (calls_of shards command)
 
--- the calls due of commands, of which the first has this index
+-- the expected calls of commands, the first of which has this index
 abbrev pub due_from : ℕ → ℕ → ℕ → List Command → List Due
 due_from shards connection index [] = []
 due_from shards connection index (command ∷ commands) =
     due_at shards connection index command ++ due_from shards connection (index + 1) commands
 
--- the calls due of a connection's commands, in order of commands and then of parts
+-- the expected calls of a connection's commands, in the order of commands and then of parts
 abbrev pub due : ℕ → ℕ → List Command → List Due
 due shards connection commands = due_from shards connection 0 commands
 
--- what an entry was asked, as a call that is due
+-- the tag and the call of an entry, as an expected call
 abbrev pub due_of : Entry → Due
 due_of entry = record { tag = entry.tag; call = on_shard entry.call entry.shard }
 
--- what entries were asked
+-- the tags and calls of entries
 abbrev pub dues_of : List Entry → List Due
 dues_of entries = map due_of entries
 
--- a due call is on one of so many shards
+-- an expected call is on one of `shards` shards
 abbrev pub IsDueOn : ℕ → Due → Type 0
 IsDueOn shards due = IsOnShard shards due.call
 
--- the calls of commands are due after those of the commands before them
+-- the calls of further commands are expected after those of the commands before them
 abbrev pub FollowAll : ℕ → ℕ → List Command → List Command → Type 0
 FollowAll shards connection front commands =
     due shards connection (front ++ commands)
     ≡ due shards connection front ++ due_from shards connection (length front) commands
 
--- one command more makes its calls due after those of the commands before it
+-- the calls of one further command are expected after those of the commands before it
 abbrev pub FollowsAll : ℕ → ℕ → List Command → Command → Type 0
 FollowsAll shards connection commands command =
     due shards connection (commands ++ command ∷ [])

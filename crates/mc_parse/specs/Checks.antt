@@ -7,11 +7,11 @@ use Rattle.mc_parse.specs.Name.{arity_of}
 use Rattle.mc_parse.specs.Arity.{has_count, lacks_noreply, asks_silence, following}
 use Rattle.mc_parse.specs.Form.{Ask, is_key, keys_among, ask_of}
 
--- so many words may not follow the name
+-- the number of words is not one that may follow the name
 abbrev pub HasBadCount : Name → List (List ℕ) → Type 0
 HasBadCount name words = has_count (arity_of name) (length words) ≡ false
 
--- as many follow as may, and the last is not the noreply that it must be
+-- the largest allowed number of words follows, and the last is not noreply, as it must be
 abbrev pub LacksNoreply : Name → List (List ℕ) → Type 0
 LacksNoreply name words = lacks_noreply (arity_of name) words ≡ true
 
@@ -19,7 +19,7 @@ LacksNoreply name words = lacks_noreply (arity_of name) words ≡ true
 abbrev pub is_silenced : Name → List (List ℕ) → Bool
 is_silenced name words = asks_silence (arity_of name) words
 
--- the words but for the noreply behind them
+-- the words without the noreply at their end
 abbrev pub said_words : Name → List (List ℕ) → List (List ℕ)
 said_words name words = (following words (is_silenced name words)).words
 

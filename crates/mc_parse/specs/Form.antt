@@ -29,7 +29,7 @@ pub data Ask : Type 0 where
   deletes : List ℕ → Ask
   -- count the value of a key, up or down, by an amount
   counts : List ℕ → Bool → ℕ → Ask
-  -- tell the version
+  -- report the version
   tells_version : Ask
   -- set the verbosity
   sets_verbosity : Ask
@@ -45,7 +45,7 @@ pub data Form : Type 0 where
   -- it asks for this, quietly or not
   asks : Ask → Bool → Form
 
--- what is asked for, where the parts of a line are seen as texts
+-- what is asked for, with the parts of the line as texts
 abbrev pub ask_seen : SeenAsk → Ask
 ask_seen (Asked.Store verb key flags bytes) = stores verb key.now flags bytes
 ask_seen (Asked.Cas key flags bytes unique) = exchanges key.now flags bytes unique
@@ -88,7 +88,7 @@ abbrev pub sizes : Option ℕ → Option ℕ → Option Sizes
 sizes (Some flags) (Some bytes) = Some (record { flags = flags; bytes = bytes })
 sizes flags bytes = None
 
--- flags and bytes, where both are numbers below 2^32 and an exptime stands between them
+-- flags and bytes, where both are numbers below 2^32 and the word between them is an exptime
 abbrev pub sizes_of : List ℕ → List ℕ → List ℕ → Option Sizes
 sizes_of flags exptime bytes =
     if is_exptime exptime then sizes (small_number_of flags) (small_number_of bytes) else None
@@ -114,13 +114,13 @@ cas_words (key ∷ flags ∷ exptime ∷ bytes ∷ unique ∷ []) =
     cas_ask key (sizes_of flags exptime bytes) (number_of unique)
 cas_words words = None
 
--- something, where the word that may stand behind it is a zero
+-- this, where the word that may follow is a zero
 abbrev pub with_zero : Ask → List (List ℕ) → Option Ask
 with_zero ask [] = Some ask
 with_zero ask (zero ∷ []) = if is_zero zero then Some ask else None
 with_zero ask words = None
 
--- key, and a zero that may stand
+-- a key, and a zero that may follow it
 abbrev pub delete_words : List (List ℕ) → Option Ask
 delete_words (key ∷ words) = with_zero (deletes key) words
 delete_words words = None
@@ -154,12 +154,12 @@ number_fault name = BadLine
 
 -- ---- the checks in their order
 
--- a check that must pass, with its fault: what is said where it passes
+-- a check that must pass, its fault, and what the line says if it passes
 abbrev pub check : Bool → ErrorLine → Form → Form
 check true fault form = form
 check false fault form = faulty fault
 
--- something that must be found, with the fault where it is not: what is said of it
+-- a value that must be found, the fault if it is not, and what the line says of it
 abbrev pub find : {A : Type 0} → Option A → ErrorLine → (A → Form) → Form
 find (Some found) fault form = form found
 find None fault form = faulty fault
@@ -171,7 +171,8 @@ form_with name following =
     find (ask_of name following.words) (number_fault name) (λ ask.
     asks ask following.quiet))
 
--- what a name says with the words after it: first their count, and noreply where it must stand
+-- what a name says with the words after it: first their number is checked, and noreply where it is
+-- required
 abbrev pub form_after : Name → List (List ℕ) → Form
 form_after name words =
     find (following_of (arity_of name) words) Unknown (λ following. form_with name following)

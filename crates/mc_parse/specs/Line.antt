@@ -1,4 +1,4 @@
--- What the parts of a line that was read say. No public clause cites this module.
+-- What the parts of a parsed line say. No public clause cites this module.
 use Rattle.std.specs.Prelude.{ℕ, Bool, ◌==◌, List, map, filter, length, take, ⊤}
 use Rattle.std.specs.Borrow.{Bor}
 use Rattle.mc_parse.specs.declared.args.Args.{Args}
@@ -11,7 +11,7 @@ use Rattle.mc_parse.specs.Form.{Form, ask_seen, faulty, asks}
 
 -- ---- words
 
--- the texts that some words are
+-- words as texts
 abbrev pub texts : List (Bor (List ℕ)) → List (List ℕ)
 texts words = map (λ (word : Bor (List ℕ)). word.now) words
 
@@ -26,17 +26,17 @@ HasFew name = ⊤
 
 -- ---- names
 
--- a name is written with so many bytes
+-- the spelling of a name has this length
 abbrev pub has_length : ℕ → List ℕ × Name → Bool
 has_length count entry = length entry.0 == count
 
--- the names that are written with so many bytes
+-- the names whose spelling has this length
 abbrev pub names_of_length : ℕ → List (List ℕ × Name)
 names_of_length count = filter (has_length count) names
 
 -- ---- lines
 
--- what a line that was read says
+-- what a parsed line says
 abbrev pub form_seen : Line → Form
 form_seen (Fault line) = faulty line
 form_seen (Asks ask quiet) = asks (ask_seen ask) quiet

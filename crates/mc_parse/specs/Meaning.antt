@@ -30,7 +30,7 @@ IsBlockFor Nothing block = ⊥
 IsBlockFor (Block bytes) block = (bytes ≤ value_limit) × (length block ≡ bytes + 2)
 IsBlockFor Quit block = ⊥
 
--- a line with this need has a block of which the value is over the limit
+-- a line with this need has a block whose value is over the limit
 abbrev pub IsTooLarge : Need → Type 0
 IsTooLarge Nothing = ⊥
 IsTooLarge (Block bytes) = value_limit < bytes
@@ -42,7 +42,8 @@ IsTooLarge Quit = ⊥
 abbrev pub fault : ErrorLine → Command
 fault line = Fault line false
 
--- what is asked for by a line alone; what wants a block, or ends the connection, counts as unknown
+-- what a line that needs nothing asks for; a request that needs a block, or ends the connection,
+-- counts as unknown
 abbrev pub alone_command : Ask → Bool → Command
 alone_command (stores verb key flags bytes) quiet = fault Unknown
 alone_command (exchanges key flags bytes unique) quiet = fault Unknown
@@ -54,13 +55,13 @@ alone_command sets_verbosity quiet = Verbosity quiet
 alone_command flushes quiet = Flush quiet
 alone_command quits quiet = fault Unknown
 
--- what is asked for with a value; what wants none counts as unknown
+-- what is asked for with a value; a request that takes no value counts as unknown
 abbrev pub value_command : Ask → Bool → List ℕ → Command
 value_command (stores verb key flags bytes) quiet value = Store verb key flags value quiet
 value_command (exchanges key flags bytes unique) quiet value = Cas key flags unique value quiet
 value_command ask quiet value = fault Unknown
 
--- a line by itself
+-- a line that needs nothing
 abbrev pub command_for : Form → Command
 command_for (faulty line) = fault line
 command_for (asks ask quiet) = alone_command ask quiet
@@ -86,7 +87,7 @@ line_command line = command_for (line_form line)
 unfoldable pub block_command : List ℕ → List ℕ → Command
 block_command line block = block_command_for block (line_form line)
 
--- the command of a line with a block of which the value is over the limit
+-- the command of a line with a block whose value is over the limit
 unfoldable pub large_command : List ℕ → Command
 large_command line = large_command_for (line_form line)
 
@@ -96,7 +97,7 @@ long_command = fault LongLine
 
 -- ---- answers
 
--- a command but for its answer; a retrieval and the version always have one
+-- a command without its answer; a retrieval and the version always have one
 abbrev pub silenced : Command → Command
 silenced (Store verb key flags value quiet) = Store verb key flags value true
 silenced (Cas key flags unique value quiet) = Cas key flags unique value true

@@ -8,7 +8,7 @@ use Rattle.mc_parse.specs.Form.{Ask, gets, tells_version, quits, Form, form_of, 
 
 -- ---- lines
 
--- a line with one word more, which asks for no answer
+-- a line with one further word, by which it asks for no answer
 abbrev pub with_noreply : List ℕ → List ℕ
 with_noreply line = line ++ codes " noreply"
 
@@ -19,12 +19,12 @@ may_be_quiet tells_version = false
 may_be_quiet quits = false
 may_be_quiet ask = true
 
--- what a line says may be asked for without an answer, and is not
+-- what a line says may be asked for without an answer, but asks for one
 abbrev pub is_loud : Form → Bool
 is_loud (faulty line) = false
 is_loud (asks ask quiet) = may_be_quiet ask && not quiet
 
--- a line without a fault that may ask for no answer, and does not
+-- a line without a fault that may ask for no answer, but asks for one
 abbrev pub takes_noreply : List ℕ → Bool
 takes_noreply line = is_loud (line_form line)
 
@@ -41,7 +41,7 @@ silent (asks ask quiet) = asks ask true
 -- the words of a line end in noreply, and say quietly what those before it say
 pub record EndsInNoreply (line : List ℕ) : Type 0 where
   pub front : List (List ℕ)
-  -- they are those before it, and noreply
+  -- the words are those before it, and noreply
   pub ends : words line ≡ front ++ codes "noreply" ∷ []
   -- those before it say something that may be asked for without an answer
   pub loud : is_loud (form_of front) ≡ true
@@ -50,11 +50,11 @@ pub record EndsInNoreply (line : List ℕ) : Type 0 where
 
 -- ---- commands
 
--- with the word noreply behind it, a line means the same, but is quiet
+-- with the word noreply added, a line means the same, but is quiet
 pub record OnlyFallsSilent (line : List ℕ) : Type 0 where
   -- the same must come with it
   pub wants : need (with_noreply line) ≡ need line
-  -- a line by itself
+  -- the line without a block
   pub alone : need line ≡ Nothing → line_command (with_noreply line) ≡ silenced (line_command line)
   -- a line with its block
   pub with_its_block : (block : List ℕ) → IsBlockFor (need line) block

@@ -1,4 +1,5 @@
--- Which keys a command calls, and which commands are plain: they call keys alone, and tell or compare no unique.
+-- Which keys a command calls, and which commands are plain: they call keys alone, and show or
+-- compare no unique.
 use Rattle.std.specs.Prelude.{◌≡◌, ℕ, ◌<◌, true, false, List, [], ◌∷◌, flat_map, Some}
 use Rattle.std.specs.List.{AllByRecursion, Contains}
 use Rattle.zy_base.specs.Call.{key_of}
@@ -32,14 +33,14 @@ IsPlain (Cas key flags unique value quiet) = ⊥
 IsPlain (Flush quiet) = ⊥
 IsPlain command = Unit {0}
 
--- a command is plain, and calls keys with this property alone
+-- a command is plain, and each key that it calls has this property
 pub record IsOwnCommand (IsOwn : List ℕ → Type 0) (command : Command) : Type 0 where
   pub plain : IsPlain command
   pub keys : AllByRecursion IsOwn (keys_of command)
 
 -- ---- what lines say
 
--- what is asked for is plain, and about keys with this property alone
+-- what is asked for is plain, and each of its keys has this property
 abbrev pub IsOwnAsk : (List ℕ → Type 0) → Ask → Type 0
 IsOwnAsk IsOwn (stores verb key flags bytes) = IsOwn key
 IsOwnAsk IsOwn (exchanges key flags bytes unique) = ⊥
@@ -49,7 +50,7 @@ IsOwnAsk IsOwn (counts key up amount) = IsOwn key
 IsOwnAsk IsOwn flushes = ⊥
 IsOwnAsk IsOwn ask = Unit {0}
 
--- what a line says is plain, and about keys with this property alone
+-- what a line says is plain, and each of its keys has this property
 abbrev pub IsOwnForm : (List ℕ → Type 0) → Form → Type 0
 IsOwnForm IsOwn (faulty line) = Unit {0}
 IsOwnForm IsOwn (asks ask quiet) = IsOwnAsk IsOwn ask
@@ -64,11 +65,11 @@ pub record IsKeyed (shards : ℕ) (IsOwn : List ℕ → Type 0) (call : ShardCal
   pub place : call.shard ≡ shard_of key shards
   pub steady : IsSteady call.call
 
--- the call due is of one of so many connections, and about a key of its own
+-- the expected call belongs to one of `count` connections, and its key is one of that connection's
 pub record IsDueOwn (shards count : ℕ) (keys : ℕ → List (List ℕ)) (due : Due) : Type 0 where
   pub within : due.tag.conn < count
   pub keyed : IsKeyed shards (Contains (keys due.tag.conn)) due.call
 
--- a call due without its shard
+-- an expected call without its shard
 abbrev pub bare : Due → Due
 bare due = record { tag = due.tag; call = on_shard due.call.call 0 }

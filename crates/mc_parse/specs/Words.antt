@@ -24,7 +24,7 @@ abbrev pub has_byte : List ℕ → Bool
 has_byte [] = false
 has_byte (byte ∷ bytes) = true
 
--- a text of a byte at least, and of no space
+-- a text with at least one byte and no space
 abbrev pub is_word : List ℕ → Bool
 is_word text = has_byte text && list_all (λ byte. not (byte == space)) text
 

@@ -1,4 +1,4 @@
--- Worked lines, grouped by what they say, for most of which memcached's own answers were seen.
+-- Worked lines, grouped by what they say. memcached's own answers to most of them were seen.
 use Rattle.std.specs.Prelude.{◌≡◌, ℕ, true, false, List, [], ◌∷◌, ◌++◌, map, replicate, codes}
 use Rattle.mc_parse.specs.declared.command.Command.{Command}
 use Rattle.mc_parse.specs.declared.command.Command.TheVariants.{Store, Get}
@@ -17,7 +17,7 @@ use Rattle.mc_parse.specs.Need.{need}
 abbrev pub AllSay : Form → List (List ℕ) → Type 0
 AllSay form lines = map line_form lines ≡ map (λ line. form) lines
 
--- a line is a request by itself, and means this command
+-- a line needs nothing, and means this command
 abbrev pub Means : List ℕ → Command → Type 0
 Means line command = (need line ≡ Nothing) × (line_command line ≡ command)
 
@@ -25,7 +25,7 @@ Means line command = (need line ≡ Nothing) × (line_command line ≡ command)
 abbrev pub sets : ℕ → ℕ → Ask
 sets flags bytes = stores Set (codes "a") flags bytes
 
--- a key of so many bytes
+-- a key of `count` bytes
 abbrev pub long_key : ℕ → List ℕ
 long_key count = replicate count 107
 
@@ -43,7 +43,7 @@ lines_with_key key =
 
 -- ---- no command
 
--- no name, or none that is known: names are in small letters, and only a space ends them
+-- no name, or an unknown one: names are in small letters, and only a space ends them
 abbrev pub nameless_lines : List (List ℕ)
 nameless_lines =
     codes ""
@@ -58,7 +58,7 @@ nameless_lines =
     ∷ codes "foo noreply"
     ∷ []
 
--- commands of memcached that are none here
+-- commands of memcached that are not supported here
 abbrev pub other_commands : List (List ℕ)
 other_commands =
     codes "stats"
@@ -102,7 +102,7 @@ wordy_lines =
     ∷ codes "cas a 0 0 1 0 noreply x"
     ∷ []
 
--- another word where only noreply may stand, which is seen before a number is
+-- another word in the place of noreply, which is checked before numbers
 abbrev pub lines_without_noreply : List (List ℕ)
 lines_without_noreply =
     codes "delete a 0 x"
@@ -118,7 +118,7 @@ lines_without_noreply =
 
 -- ---- bad numbers
 
--- a number behind the key of a deletion that is not 0, or has over 20 digits
+-- a number after the key of a deletion that is not 0, or has over 20 digits
 abbrev pub bad_deletions : List (List ℕ)
 bad_deletions =
     codes "delete a noreply noreply"
@@ -144,7 +144,7 @@ bad_amounts =
     ∷ codes "decr a x"
     ∷ []
 
--- levels and delays that are none
+-- levels and delays that are not numbers
 abbrev pub bad_levels : List (List ℕ)
 bad_levels =
     codes "verbosity noreply"
@@ -160,7 +160,7 @@ bad_levels =
     ∷ codes "flush_all x noreply"
     ∷ []
 
--- flags that are no number below 2^32
+-- flags that are not a number below 2^32
 abbrev pub bad_flags : List (List ℕ)
 bad_flags =
     codes "set a x 0 1"
@@ -184,7 +184,7 @@ bad_exptimes =
     ∷ codes "set a 0 -00000000000000000001 1"
     ∷ []
 
--- lengths that are no number below 2^32
+-- lengths that are not a number below 2^32
 abbrev pub bad_lengths : List (List ℕ)
 bad_lengths =
     codes "set a 0 0 x"
@@ -199,7 +199,7 @@ bad_lengths =
     ∷ codes "set a 0 0 000000000000000000001"
     ∷ []
 
--- uniques that are no number below 2^64
+-- uniques that are not a number below 2^64
 abbrev pub bad_uniques : List (List ℕ)
 bad_uniques =
     codes "cas a 0 0 1 x"
@@ -211,7 +211,7 @@ bad_uniques =
 
 -- ---- lines that ask for the same
 
--- "a" is removed; a zero may stand behind it
+-- "a" is removed; a zero may follow it
 abbrev pub deletions_of_a : List (List ℕ)
 deletions_of_a =
     codes "delete a"
@@ -260,6 +260,6 @@ store_of verb = Store verb (codes "a") 3 (codes "v") false
 abbrev pub get_of_two : Command
 get_of_two = Get (codes "a" ∷ codes "b" ∷ []) false
 
--- the shards of a command's calls, of so many
+-- the shards of a command's calls, where there are `shards` shards
 abbrev pub shards_of : ℕ → Command → List ℕ
 shards_of count command = map (λ (call : ShardCall). call.shard) (calls_of count command)

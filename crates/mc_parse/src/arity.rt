@@ -5,7 +5,7 @@ ghost use Rattle.mc_parse.specs.Line.{texts};
 
 use crate::word::is_noreply;
 
-/// How many words may follow a name, and whether the last of the most is noreply.
+/// How many words may follow a name, and whether the last of the largest number must be noreply.
 #[derive(Clone, Copy)]
 pub(crate) struct Arity {
     pub(crate) least: usize,
@@ -15,7 +15,7 @@ pub(crate) struct Arity {
 }
 
 impl Arity {
-    /// Whether so many words may follow.
+    /// Whether this number of words may follow.
     pub(crate) fn has_count(&self, count: usize) -> bool
         ensures value { result ≡ has_count self.now count }
     {
@@ -26,14 +26,14 @@ impl Arity {
             }
     }
 
-    /// Whether as many words follow as may, and the last is not the noreply that it must be.
+    /// Whether the largest allowed number of words follows and the last is not noreply, as it must be.
     pub(crate) fn lacks_noreply(&self, words: &[&[u8]]) -> bool
         ensures value { result ≡ lacks_noreply self.now (texts words.now) }
     {
         self.noreply && self.most == Some(words.len()) && !ends_in_noreply(words)
     }
 
-    /// Whether more words follow than must, and the last is noreply.
+    /// Whether more words follow than are required, and the last is noreply.
     pub(crate) fn asks_silence(&self, words: &[&[u8]]) -> bool
         ensures value { result ≡ asks_silence self.now (texts words.now) }
     {
@@ -51,7 +51,7 @@ fn ends_in_noreply(words: &[&[u8]]) -> bool
     }
 }
 
-/// At least and at most so many words, and the last of the most is noreply.
+/// Between `least` and `most` words; where there are `most`, the last must be noreply.
 pub(crate) fn from_to(least: usize, most: usize) -> Arity
     ensures value { result ≡ from_to least most }
 {

@@ -43,7 +43,7 @@ pub(crate) enum Ask<'a> {
         up: bool,
         amount: u64,
     },
-    /// Tell the version.
+    /// Report the version.
     Version,
     /// Set the verbosity.
     Verbosity,
@@ -126,7 +126,7 @@ fn cas_ask(key: &[u8], sizes: Option<Sizes>, unique: Option<u64>) -> Option<Ask<
     }
 }
 
-// Flags and bytes, where the exptime between them is one.
+// Flags and bytes, where the word between them is an exptime.
 fn read_sizes(flags: &[u8], exptime: &[u8], bytes: &[u8]) -> Option<Sizes>
     ensures value { result ≡ sizes_of flags.now exptime.now bytes.now }
 {
@@ -139,7 +139,7 @@ fn read_sizes(flags: &[u8], exptime: &[u8], bytes: &[u8]) -> Option<Sizes>
     }
 }
 
-// Key, and a zero that may stand.
+// A key, and a zero that may follow it.
 fn read_delete<'a>(words: &[&'a [u8]]) -> Option<Ask<'a>>
     ensures value { option_map ask_seen result ≡ delete_words (texts words.now) }
 {
@@ -149,7 +149,7 @@ fn read_delete<'a>(words: &[&'a [u8]]) -> Option<Ask<'a>>
     }
 }
 
-// Something, where the word that may stand behind it is a zero.
+// The ask, where the word that may follow is a zero.
 fn read_zero<'a>(ask: Ask<'a>, words: &[&[u8]]) -> Option<Ask<'a>>
     ensures value { option_map ask_seen result ≡ with_zero (ask_seen ask.entry) (texts words.now) }
 {

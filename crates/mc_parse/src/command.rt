@@ -26,7 +26,7 @@ pub enum Command {
         value: Blob,
         quiet: bool,
     },
-    /// The items of the keys, with their uniques where these are asked for.
+    /// Gets the items of the keys, with their uniques where these are asked for.
     Get {
         keys: Keys,
         unique: bool,
@@ -43,9 +43,9 @@ pub enum Command {
         amount: u64,
         quiet: bool,
     },
-    /// The version's text.
+    /// Reports the text of the version.
     Version,
-    /// Nothing, but an answer.
+    /// Does nothing, but is answered.
     Verbosity {
         quiet: bool,
     },

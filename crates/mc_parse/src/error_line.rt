@@ -1,9 +1,9 @@
 //! The error lines that a command is answered with.
 
-/// The error line that a faulty line or block is answered with.
+/// The error line that answers a faulty line or block.
 #[derive(Clone, Copy, PartialEq, Eq)]
 pub enum ErrorLine {
-    /// No word, an unknown first word, or a wrong count of words.
+    /// No word, an unknown first word, or a wrong number of words.
     Unknown,
     /// A key that is too long, or a bad number.
     BadLine,

@@ -1,4 +1,4 @@
-//! The exptimes of a line, which are read and have no effect.
+//! The exptimes of a line, which are checked and have no effect.
 ghost use Rattle.std.specs.Prelude.{◌≡◌};
 ghost use Rattle.std.specs.Str.{all_ascii_digits};
 ghost use Rattle.mc_parse.specs.Number.{is_exptime, without_sign};

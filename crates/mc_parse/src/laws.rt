@@ -24,8 +24,8 @@ ghost use Rattle.mc_parse.specs.Bounds.{IsCommand, IsShardCall};
 ghost use Rattle.mc_parse.specs.Noreply.{takes_noreply, is_quiet, OnlyFallsSilent, EndsInNoreply};
 ghost use Rattle.mc_parse.specs.Worked.{AllSay, Means, sets, long_key, lines_with_key, forms_with_key, nameless_lines, other_commands, short_lines, wordy_lines, lines_without_noreply, bad_deletions, bad_amounts, bad_levels, bad_flags, bad_exptimes, bad_lengths, bad_uniques, deletions_of_a, sets_of_a, unended_blocks, store_of, get_of_two, shards_of};
 
-/// Words are the maximal runs of bytes other than a space: a space parts what is before it from
-/// what is after it, and a text without a space is one word, unless it is empty.
+/// Words are the maximal runs of bytes other than a space: a space separates what comes before it
+/// from what comes after it, and a text without a space is one word, unless it is empty.
 pub fn spaces_part_words()
     ensures empty { words [] ≡ [] }
     ensures parts { (front back : List ℕ)
@@ -34,20 +34,19 @@ pub fn spaces_part_words()
     ensures only { (line : List ℕ) → list_all is_word (words line) ≡ true }
 {}
 
-/// A line without a fault that may end in the word noreply means the same with that word behind it,
-/// but is quiet.
+/// A line without a fault to which the word noreply may be added means the same with it, but is quiet.
 pub fn noreply_only_silences()
     ensures value { (line : List ℕ) → takes_noreply line ≡ true → OnlyFallsSilent line }
 {}
 
-/// A line that asks for no answer ends in the word noreply, and means the same without it, but for
-/// that.
+/// A line that asks for no answer ends in the word noreply. Without that word it means the same,
+/// but asks for an answer.
 pub fn noreply_is_a_last_word()
     ensures value { (line : List ℕ) → is_quiet (line_form line) ≡ true → EndsInNoreply line }
 {}
 
-/// A line is checked in this order: its name, the count of the words after it, the noreply that
-/// must stand where there are most of them, its keys, its numbers.
+/// A line is checked in this order: its name, the number of words after it, the noreply that is
+/// required where their number is the largest allowed, its keys, its numbers.
 pub fn lines_are_checked_in_order()
     ensures empty { form_of [] ≡ faulty Errors.Unknown }
     ensures name { (name : List ℕ) (words : List (List ℕ)) → name_of name ≡ None
@@ -74,8 +73,9 @@ pub fn a_faulty_line_is_answered()
         → line_command line ≡ fault e }
 {}
 
-/// A value that is too large is a fault, whatever its block is; so is a block that is not ended.
-/// Any other block stores the value before its two last bytes. The fault is quiet as the line is.
+/// A value that is too large is a fault, whatever its block contains; so is a block that does not
+/// end in `\r\n`. Any other block stores the value before its two last bytes. The fault is quiet if
+/// the line is.
 pub fn a_block_is_its_value_and_two_bytes()
     ensures large { (line : List ℕ) → IsTooLarge (need line)
         → large_command line ≡ Command.Fault Errors.TooLarge (is_quiet (line_form line)) }
@@ -105,8 +105,8 @@ pub fn a_command_calls_its_keys()
         → filter_map key_of (asked_by (calls_of shards command)) ≡ keys_of command }
 {}
 
-/// The keys and the value of a command are within their bounds, and so are its calls: whatever the
-/// line, where the value of its block is within the limit.
+/// The keys and the value of a command are within their bounds, and so are its calls, whatever the
+/// line says, as long as the value of its block is within the limit.
 pub fn commands_are_within_their_bounds()
     ensures alone { (line : List ℕ) → IsCommand (line_command line) }
     ensures block { (line block : List ℕ) → IsValue (value_of block)
@@ -122,7 +122,7 @@ pub fn a_fault_has_no_calls()
         → calls_of n (Command.Fault line quiet) ≡ [] }
 {}
 
-/// The calls of further commands are due after those of the commands before them.
+/// The calls of further commands are expected after those of the commands before them.
 pub fn commands_are_due_in_order()
     ensures none { (shards connection : ℕ) → due shards connection [] ≡ [] }
     ensures more { (n c : ℕ) (commands : List Command) (last : Command)
@@ -132,7 +132,7 @@ pub fn commands_are_due_in_order()
         → All (IsDueOn n) (due n c commands) }
 {}
 
-/// What further entries were asked stands behind what the entries before them were.
+/// The calls of further entries come after those of the entries before them.
 pub fn entries_tell_what_was_due()
     ensures none { dues_of [] ≡ [] }
     ensures more { (entries : List Entry) (last : Entry)
@@ -141,8 +141,8 @@ pub fn entries_tell_what_was_due()
         → dues_of (front ++ entries) ≡ dues_of front ++ dues_of entries }
 {}
 
-/// Worked lines of no command: an unknown name, too few or too many words, another word where only
-/// noreply may stand.
+/// Worked lines of no command: an unknown name, too few or too many words, another word in the
+/// place of noreply.
 #[tactic(auto, unfolding(crate::specs::Words::words))]
 pub fn worked_lines_of_no_command()
     ensures nameless { AllSay (faulty Errors.Unknown) nameless_lines }
@@ -164,7 +164,7 @@ pub fn worked_lines_with_a_bad_number()
     ensures unique { AllSay (faulty Errors.BadLine) bad_uniques }
 {}
 
-/// Worked keys of 250 and of 251 bytes: a key is looked at after the count of words, and before the
+/// Worked keys of 250 and of 251 bytes: a key is checked after the number of words, and before the
 /// numbers.
 #[tactic(auto, unfolding(crate::specs::Words::words))]
 pub fn worked_keys()
@@ -273,7 +273,7 @@ pub fn worked_needs()
     ensures quit { need (codes "quit") ≡ Need.Quit }
 {}
 
-/// Worked commands of lines by themselves.
+/// Worked commands of lines without a block.
 #[tactic(auto, unfolding(crate::specs::Words::words, crate::specs::Need::need, crate::specs::Meaning::line_command))]
 pub fn worked_commands()
     ensures get { Means (codes "gets a b") (Command.Get (codes "a" ∷ codes "b" ∷ []) true) }
@@ -286,8 +286,7 @@ pub fn worked_commands()
     ensures fault { Means (codes "incr a x noreply") (Command.Fault Errors.BadDelta false) }
 {}
 
-/// Worked blocks: bytes of every kind are values, and only a carriage return and a line feed end
-/// them.
+/// Worked blocks: any bytes may be a value, and only a carriage return and a line feed end a block.
 #[tactic(auto, unfolding(crate::specs::Words::words, crate::specs::Meaning::block_command))]
 pub fn worked_blocks()
     ensures value { block_command (codes "append a 7 0 2 noreply") (codes "xy\r\n")

@@ -5,8 +5,8 @@ use crate::error_line::ErrorLine;
 /// What a line says.
 #[derive(Clone, Copy)]
 pub(crate) enum Line<'a> {
-    /// It has this fault.
+    /// The line has this fault.
     Fault(ErrorLine),
-    /// It asks for this, quietly or not.
+    /// The line asks for this, quietly or not.
     Asks { ask: Ask<'a>, quiet: bool },
 }

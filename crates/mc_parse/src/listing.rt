@@ -9,7 +9,7 @@ use crate::verb::Verb;
 use std::alloc::Global;
 use zy_base::{Blob, Call, NoMemory, shard_of};
 
-/// The calls of a command on so many shards, in their order.
+/// The calls of a command on `shards` shards, in their order.
 pub fn calls(alloc: Global, command: &Command, shards: u32) -> Result<Calls, NoMemory>
     requires some { 1 ≤ shards }
     requires limit { shards ≤ 256 }

@@ -15,9 +15,9 @@ use crate::word::next_word;
 pub enum Need {
     /// Nothing: the line is a request.
     Nothing,
-    /// A value of so many bytes, and two bytes that end it.
+    /// A value of `bytes` bytes, and two bytes that end it.
     Block { bytes: u32 },
-    /// Nothing comes after it: the line ends the connection.
+    /// Nothing: the line ends the connection.
     Quit,
 }
 
@@ -48,7 +48,7 @@ fn takes_more(name: Name) -> bool
     matches!(name, Name::Store { .. } | Name::Cas | Name::Quit)
 }
 
-// What a line that says this needs.
+// What a line with this meaning needs.
 fn need_for(line: Line<'_>) -> Need
     ensures value { result ≡ need_for (form_seen line.entry) }
 {

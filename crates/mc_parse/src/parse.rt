@@ -29,7 +29,7 @@ pub fn parse_line(alloc: Global, line: &[u8]) -> Result<Command, NoMemory>
 }
 
 /// The command of a line that needs a block, with its block: the value, and the two bytes that must
-/// end it. The value is taken over without a copy. After a refusal the block is handed back.
+/// end it. The value is moved and not copied. After a refusal the block is handed back.
 #[tactic(auto, unfolding(crate::specs::Meaning::block_command))]
 pub fn parse_block(alloc: Global, line: &[u8], block: Blob) -> Result<Command, (Blob, NoMemory)>
     requires within { length line.now ≤ line_limit }
@@ -40,8 +40,8 @@ pub fn parse_block(alloc: Global, line: &[u8], block: Blob) -> Result<Command, (
     block_command_for(alloc, read_line(line), block)
 }
 
-/// The command of a line that needs a block whose value is over the limit; what the block is does
-/// not count. Takes no memory.
+/// The command of a line that needs a block whose value is over the limit, whatever the block
+/// contains. Takes no memory.
 #[tactic(auto, unfolding(crate::specs::Meaning::large_command))]
 pub fn parse_large(line: &[u8]) -> Command
     requires within { length line.now ≤ line_limit }
@@ -51,7 +51,7 @@ pub fn parse_large(line: &[u8]) -> Command
     large_command_for(read_line(line))
 }
 
-// The command of a line that says this.
+// The command of a parsed line.
 fn command_for(alloc: Global, line: Line<'_>) -> Result<Command, NoMemory>
     ensures value { IfOk result (λ command. command ≡ command_for (form_seen line.entry)) }
 {
@@ -111,7 +111,7 @@ fn count_command(
     })
 }
 
-// The command of a line that says this, with its block, whose bytes the copies of the value share.
+// The command of a parsed line with its block. The copies of the value share the block's bytes.
 fn block_command_for(
     alloc: Global,
     line: Line<'_>,
@@ -188,7 +188,7 @@ fn value_command(
     }
 }
 
-// The command of a line that says this, with a block that is too large.
+// The command of a parsed line with a block that is too large.
 fn large_command_for(line: Line<'_>) -> Command
     ensures value { result ≡ large_command_for (form_seen line.entry) }
 {
@@ -205,7 +205,7 @@ fn fault(line: ErrorLine) -> Command
     Command::Fault { line, quiet: false }
 }
 
-// A fault of a block, which is quiet as its line is.
+// A fault of a block, which is quiet if its line is.
 fn block_fault(line: ErrorLine, quiet: bool) -> Command
     ensures value { result ≡ Command.Fault line quiet }
 {
@@ -220,7 +220,7 @@ fn is_ended(block: &Blob) -> bool
     &bytes[bytes.len().saturating_sub(2)..] == b"\r\n".as_slice()
 }
 
-// The value in a block, which is taken over.
+// The value in a block, moved out of it.
 fn value_of(mut block: Blob) -> Blob
     ensures value { result ≡ value_of block }
 {

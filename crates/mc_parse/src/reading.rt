@@ -72,7 +72,7 @@ fn read_few(name: Name, text: &[u8]) -> Line<'_>
     }
 }
 
-// So many words as may follow the name, noreply left out.
+// A number of words that may follow the name, with noreply left out.
 fn read_with<'a>(name: Name, words: &[&'a [u8]], quiet: bool) -> Line<'a>
     requires few { HasFew name }
     ensures value { form_seen result

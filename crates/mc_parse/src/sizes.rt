@@ -1,6 +1,6 @@
-//! The flags of an item, and the bytes of its value.
+//! The flags of an item, and the size of its value.
 
-/// The flags and the bytes of the value, as a storage line has them.
+/// The flags and the number of bytes of the value, as a storage line gives them.
 #[derive(Clone, Copy)]
 pub(crate) struct Sizes {
     pub(crate) flags: u32,

@@ -9,8 +9,8 @@ pub enum Verb {
     Add,
     /// Stores an item where the key has one.
     Replace,
-    /// Puts the value behind the one there.
+    /// Appends the value to the one there.
     Append,
-    /// Puts the value before the one there.
+    /// Prepends the value to the one there.
     Prepend,
 }

@@ -1,4 +1,4 @@
--- The texts of more commands, and with more entries.
+-- The texts of further commands, and of further entries.
 use Rattle.std.proofs.Common.{◌≡◌, ◌≢◌, ℕ, zero, suc, ◌+◌, ◌≤◌, List, [], ◌∷◌, ◌++◌, length, take, refl, sym, ap, ◌∙◌, arith}
 use Rattle.zy_base.specs.declared.call_reply.CallReply.{CallReply}
 use Rattle.zy_base.specs.declared.entry.Entry.{Entry}
@@ -8,7 +8,7 @@ use Rattle.mc_parse.specs.declared.command.Command.{Command}
 use Rattle.mc_reply.specs.Text.{text}
 use Rattle.mc_reply.specs.Texts.{texts_from, texts_of}
 
--- the texts of further commands stand behind those of the commands before them
+-- the texts of further commands come after those of the commands before them
 pub texts_from-append : (index : ℕ) (front commands : List Command) (entries : List Entry)
     → texts_from index (front ++ commands) entries ≡ texts_from index front entries ++ texts_from (index + length front) commands entries
 texts_from-append index [] commands entries =
@@ -26,7 +26,7 @@ texts_of-append front commands entries =
     let at : 0 + length front ≡ length front = omega arith in
     texts_from-append 0 front commands entries ∙ ap (λ (number : ℕ). texts_of front entries ++ texts_from number commands entries) at
 
--- one command more
+-- one further command
 pub texts_of-more : (commands : List Command) (last : Command) (entries : List Entry)
     → texts_of (commands ++ last ∷ []) entries ≡ texts_of commands entries ++ text last (replies_at (length commands) entries) ∷ []
 texts_of-more commands last entries = texts_of-append commands (last ∷ []) entries
@@ -36,7 +36,7 @@ pub length-texts_from : (index : ℕ) (commands : List Command) (entries : List 
 length-texts_from index [] entries = refl
 length-texts_from index (command ∷ commands) entries = ap suc (length-texts_from (index + 1) commands entries)
 
--- an entry of a later command changes no text of the first so many
+-- an entry of a later command changes none of the first `count` texts
 pub take-texts_from : (count index : ℕ) (commands : List Command) (entries : List Entry) (last : Entry) → index + count ≤ last.tag.index
     → take count (texts_from index commands (entries ++ last ∷ [])) ≡ take count (texts_from index commands entries)
 take-texts_from zero index commands entries last later = refl

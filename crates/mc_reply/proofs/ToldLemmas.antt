@@ -1,4 +1,4 @@
--- The texts of plain commands tell no unique.
+-- The texts of plain commands show no unique.
 use Rattle.std.proofs.Common.{◌≡◌, ℕ, ◌+◌, Bool, true, false, cond, List, [], ◌∷◌, ◌++◌, map, refl, ap, ◌∙◌}
 use Rattle.std.specs.Prelude.{◌==◌, filter, codes}
 use Rattle.std.specs.List.{AllByRecursion}
@@ -36,7 +36,7 @@ items-told (key ∷ keys) (reply ∷ replies) =
     ap (λ (item : List ℕ). item ++ items_text false keys (map told replies)) (item-told key reply)
     ∙ ap (λ (items : List ℕ). item_text false key reply ++ items) (items-told keys replies)
 
--- the text of a plain command is that with its replies' uniques left out
+-- the text of a plain command is the text of its replies without their uniques
 pub text-told : (command : Command) (replies : List CallReply) → IsPlain command → text command (map told replies) ≡ text command replies
 unfolding text
 text-told (Store verb key flags value quiet) replies plain = ap (unless quiet) (only_line-told replies)
@@ -59,7 +59,7 @@ replies_at-told index (e ∷ es) = go (e.tag.index == index) e (filter (λ x. x.
     go true e xs ys is = ap (λ (l : List CallReply). told e.reply ∷ l) is
     go false e xs ys is = is
 
--- the texts of plain commands are those with their entries' uniques left out
+-- the texts of plain commands are the texts of their entries without uniques
 pub texts-told : (index : ℕ) (commands : List Command) (es : List Entry) → AllByRecursion IsPlain commands → texts_from index commands (all_told es) ≡ texts_from index commands es
 texts-told index [] es plain = refl
 texts-told index (command ∷ commands) es plain =

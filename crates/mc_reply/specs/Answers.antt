@@ -1,4 +1,4 @@
--- Which replies a command may have got.
+-- Which replies a command may get.
 use Rattle.std.specs.Prelude.{ℕ, ◌≤◌, List, [], ◌∷◌, ⊤}
 use Rattle.zy_base.specs.declared.call_reply.CallReply.{CallReply}
 use Rattle.zy_base.specs.Kind.{MayAnswer}

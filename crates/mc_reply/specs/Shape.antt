@@ -1,4 +1,4 @@
--- How an answer is seen before it is written. No public clause cites this module.
+-- The form of an answer before it is written. No public clause cites this module.
 use Rattle.std.specs.Prelude.{ℕ, List, [], ◌∷◌, ⊤, decimal, codes, ◌++◌}
 use Rattle.mc_parse.specs.declared.command.Command.{Command}
 use Rattle.mc_parse.specs.declared.command.Command.TheVariants.{Get}
@@ -17,6 +17,6 @@ abbrev pub IsNoRetrieval : Command → Type 0
 IsNoRetrieval (Get keys unique) = ⊥
 IsNoRetrieval command = ⊤
 
--- what ends the line of an item, and its value as a line
+-- the end of an item's line, and its value as a line
 abbrev pub value_text : List ℕ → List ℕ
 value_text value = line_end ++ line value

@@ -10,7 +10,7 @@ use Rattle.mc_parse.specs.declared.command.Command.TheVariants.{Store, Cas, Get,
 
 -- ---- lines
 
--- what ends a line
+-- the bytes that end a line
 abbrev pub line_end : List ℕ
 line_end = codes "\r\n"
 
@@ -18,7 +18,7 @@ line_end = codes "\r\n"
 abbrev pub line : List ℕ → List ℕ
 line text = text ++ line_end
 
--- an object that is too large, as a value or joined
+-- an object that is too large, as one value or joined from two
 abbrev pub too_large : List ℕ
 too_large = codes "SERVER_ERROR object too large for cache"
 
@@ -61,18 +61,18 @@ head_text key flags value =
 abbrev pub unique_text : ℕ → List ℕ
 unique_text unique = codes " " ++ decimal unique
 
--- the first line of an item, with its unique where that is asked for
+-- the first line of an item, with its unique if uniques were asked for
 abbrev pub item_line : Bool → List ℕ → ℕ → ℕ → List ℕ → List ℕ
 item_line true key flags unique value = line (head_text key flags value ++ unique_text unique)
 item_line false key flags unique value = line (head_text key flags value)
 
--- what is told of a key: nothing for a miss, and two lines for an item
+-- the text of a key: nothing for a miss, and two lines for an item
 abbrev pub item_text : Bool → List ℕ → CallReply → List ℕ
 item_text asked key (Hit flags unique value) =
     item_line asked key flags unique value ++ line value
 item_text asked key reply = []
 
--- what is told of each key, in the order asked
+-- the texts of the keys, in the order asked
 abbrev pub items_text : Bool → List (List ℕ) → List CallReply → List ℕ
 items_text asked (key ∷ keys) (reply ∷ replies) =
     item_text asked key reply ++ items_text asked keys replies

@@ -5,7 +5,7 @@ use Rattle.zy_base.specs.Replies.{replies_at}
 use Rattle.mc_parse.specs.declared.command.Command.{Command}
 use Rattle.mc_reply.specs.Text.{text}
 
--- the texts of commands, of which the first has this index
+-- the texts of commands, the first of which has this index
 abbrev pub texts_from : ℕ → List Command → List Entry → List (List ℕ)
 texts_from index [] entries = []
 texts_from index (command ∷ commands) entries =

@@ -1,6 +1,6 @@
 //! Answers other than items.
 
-/// What a command other than a retrieval is answered with.
+/// The answer to a command other than a retrieval.
 #[derive(Clone, Copy)]
 pub(crate) enum Answer {
     /// Nothing, where no answer is asked for.

@@ -1,4 +1,4 @@
-//! What a command other than a retrieval is answered with.
+//! The answer to a command other than a retrieval.
 ghost use Rattle.std.specs.Prelude.{◌≡◌};
 ghost use Rattle.mc_reply.specs.Text.{text, unless, error_line, reply_line, only_line};
 ghost use Rattle.mc_reply.specs.Answers.{AnswerCommand};
@@ -36,7 +36,7 @@ fn unless(quiet: bool, answer: Answer) -> Answer
     if quiet { Answer::Nothing } else { answer }
 }
 
-// The answer of the one reply.
+// The answer of the only reply.
 fn only_answer(replies: &[CallReply]) -> Answer
     ensures value { answer_text result ≡ only_line replies.now }
 {

@@ -6,7 +6,7 @@ ghost use Rattle.mc_reply.specs.Shape.{value_text};
 use crate::lines::LINE_END;
 use zy_base::{Blob, CallReply, Reserved};
 
-/// Appends what is told of a key.
+/// Appends the text of a key.
 pub(crate) fn put_item(out: &mut Reserved, asked: bool, key: &Blob, reply: &CallReply)
     requires fits { length (item_text asked key.now reply.now) ≤ out.old.room }
     ensures value { out.new.bytes ≡ out.old.bytes ++ item_text asked key.now reply.now }
@@ -50,7 +50,7 @@ fn put_unique(out: &mut Reserved, unique: u64)
     out.append_number(unique);
 }
 
-// Appends what ends the line, and the value as a line.
+// Appends the end of the line, and the value as a line.
 fn put_value(out: &mut Reserved, value: &[u8])
     requires fits { length (value_text value.now) ≤ out.old.room }
     ensures value { out.new.bytes ≡ out.old.bytes ++ value_text value.now }

@@ -12,7 +12,7 @@ ghost use Rattle.mc_parse.specs.Plain.{IsPlain};
 ghost use Rattle.mc_reply.specs.Text.{text};
 ghost use Rattle.mc_reply.specs.Texts.{texts_from, texts_of};
 
-/// Worked answers, which are what the definition computes.
+/// Worked answers: what the definition computes.
 #[tactic(auto, unfolding(crate::specs::Text::text))]
 pub fn worked_answers()
     ensures stored { text (Command.Store Verbs.Set (codes "a") 0 (codes "x") false) (Replies.Stored ∷ [])
@@ -32,7 +32,7 @@ pub fn worked_answers()
         ≡ codes "SERVER_ERROR object too large for cache\r\n" }
 {}
 
-/// The line of each reply, worked: to the command that it answers.
+/// The line of each reply, worked, as the answer to a command that can get it.
 #[tactic(auto, unfolding(crate::specs::Text::text))]
 pub fn worked_lines()
     ensures not_stored { text (Command.Store Verbs.Add (codes "a") 0 (codes "x") false)
@@ -84,7 +84,7 @@ pub fn worked_limits()
         ≡ codes "0\r\n" }
 {}
 
-/// Each command has one text, the text of the replies that its own entries tell.
+/// Each command has one text, made from the replies in its own entries.
 pub fn each_command_has_one_text()
     ensures none { (entries : List Entry) → texts_of [] entries ≡ [] }
     ensures count { (commands : List Command) (entries : List Entry)
@@ -101,7 +101,7 @@ pub fn each_command_has_one_text()
         ≡ take count (texts_of commands entries) }
 {}
 
-/// The text of a plain command tells no unique of its replies.
+/// The text of a plain command shows no unique of its replies.
 pub fn a_plain_command_tells_no_unique()
     ensures value { (command : Command) (replies : List CallReply) → IsPlain command
         → text command (map told replies) ≡ text command replies }

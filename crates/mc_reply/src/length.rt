@@ -1,10 +1,10 @@
-//! How many bytes the text of a retrieval has.
+//! The number of bytes in the text of a retrieval.
 ghost use Rattle.std.specs.Prelude.{◌≡◌, ◌+◌, length, IfSome};
 ghost use Rattle.mc_reply.specs.Text.{item_text, items_text};
 
 use zy_base::{Blob, CallReply, digits_of};
 
-/// How many bytes are told of the keys; `None` where they are more than memory can hold.
+/// The number of bytes in the texts of the keys; `None` if it does not fit in a `usize`.
 pub(crate) fn items_length(asked: bool, keys: &[Blob], replies: &[CallReply]) -> Option<usize>
     requires same { length keys.now ≡ length replies.now }
     ensures value { IfSome result (λ n. n ≡ length (items_text asked keys.now replies.now)) }
@@ -22,7 +22,7 @@ pub(crate) fn items_length(asked: bool, keys: &[Blob], replies: &[CallReply]) ->
     Some(total)
 }
 
-// How many bytes are told of a key.
+// The number of bytes in the text of a key.
 fn item_length(asked: bool, key: &Blob, reply: &CallReply) -> Option<usize>
     ensures value { IfSome result (λ n. n ≡ length (item_text asked key.now reply.now)) }
 {

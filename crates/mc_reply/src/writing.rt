@@ -1,4 +1,4 @@
-//! Appends the text of a command.
+//! Appends the text that answers a command.
 ghost use Rattle.std.specs.Prelude.{◌≡◌, ◌≤◌, ◌+◌, ◌++◌, length, codes, decimal, OnOk, OnErr};
 ghost use Rattle.mc_reply.specs.Text.{text, line, items_text};
 ghost use Rattle.mc_reply.specs.Answers.{AnswerCommand};
@@ -13,8 +13,8 @@ use mc_parse::Command;
 use std::mem;
 use zy_base::{Blob, CallReply, NoMemory, Replies, Reserved, number_text};
 
-/// Appends the text of a command with its replies: nothing, where it asks for no answer. Want of
-/// memory is free.
+/// Appends the text that answers a command with these replies: nothing if it asks for no answer.
+/// May answer `NoMemory`.
 #[tactic(auto, unfolding(crate::specs::Text::text))]
 pub fn reply_text(out: &mut Blob, command: &Command, replies: &Replies) -> Result<(), NoMemory>
     requires answers { AnswerCommand command.now replies.now }
@@ -59,7 +59,7 @@ fn append_number(out: &mut Blob, number: u64) -> Result<(), NoMemory>
     }
 }
 
-// Appends the items that were found, and the end; room is taken once for all of them.
+// Appends the items that were found, and the end. Room for all of them is reserved once, at the start.
 fn append_items(
     out: &mut Blob,
     asked: bool,

@@ -1,4 +1,4 @@
--- What the calls on one key answer depends, uniques aside, on these calls and the flushes alone.
+-- The replies to the calls on one key, uniques aside, depend on these calls and the flushes alone.
 use Rattle.std.proofs.Common.{◌≡◌, ℕ, Bool, true, false, cond, List, [], ◌∷◌, ◌++◌, length, refl, sym, ap, ◌∙◌}
 use Rattle.std.specs.Prelude.{Option, None, Some, nat_lt, ◌==◌}
 use Rattle.std.specs.Ordering.{nat_cmp, is_eq}
@@ -22,19 +22,19 @@ use Rattle.mc_shard.specs.KeyReplies.{is_cas, AreWithoutCas, is_same, is_key, is
 abbrev plain_item : Item → Item
 plain_item item = record { flags = item.flags; value = item.value; unique = 0 }
 
--- what a key has, without the unique
+-- the item of a key, without the unique
 abbrev plain : Option Item → Option Item
 plain None = None
 plain (Some item) = Some (plain_item item)
 
--- what a key has after an effect on it, without the unique
+-- the item of a key after an effect on it, without the unique
 abbrev plain_after : Option Item → Effect → Option Item
 plain_after found keeps = found
 plain_after found (stores key flags value) = Some (record { flags = flags; value = value; unique = 0 })
 plain_after found (removes key) = None
 plain_after found empties = None
 
--- what the calls on one key answer, where the key has this at first
+-- the replies to the calls on one key, which has this item at first
 abbrev replies_from : Option Item → List Call → List CallReply
 replies_from found [] = []
 replies_from found (call ∷ calls) = (outcome_of call found).reply ∷ replies_from (plain_after found (outcome_of call found).effect) calls
@@ -138,7 +138,7 @@ other : {A : Type 0} (b : Bool) (x y : A) → b ≡ false → cond b x y ≡ y
 other true x y is = cc
 other false x y is = refl
 
--- what another key has stays
+-- the item of another key stays
 elsewhere : (shards number : ℕ) (state : State) (key : List ℕ) (on : Option (List ℕ)) (effect : Effect) → IsFor on effect → is_key key on ≡ false
     → get (state_with shards number state effect).items key ≡ get state.items key
 elsewhere shards number state key on keeps for is = refl
@@ -151,7 +151,7 @@ elsewhere shards number state key (Some on) (removes k) for is =
     get-remove nat_list_cmp_total state.items k key ∙ other (is_same key k) _ _ (ap (is_same key) for ∙ is)
 elsewhere shards number state key (Some on) empties for is = absurd for
 
--- what the key itself has
+-- the item of the key itself
 here : (shards number : ℕ) (state : State) (key : List ℕ) (on : Option (List ℕ)) (effect : Effect) → IsFor on effect → is_key key on ≡ true
     → plain (get (state_with shards number state effect).items key) ≡ plain_after (plain (get state.items key)) effect
 here shards number state key on keeps for is = refl
@@ -174,7 +174,7 @@ equal Greater is = cc
 same_item : (items : Items) (key other : List ℕ) → is_same key other ≡ true → get items other ≡ get items key
 same_item items key other is = ap (get items) (sym (slice_cmp-IsAntisymmetric nat_cmp-IsAntisymmetric key other (equal _ is)))
 
--- a call about the key finds what the key has, unless it looks for nothing
+-- the outcome of a call about the key, on the items, is its outcome on the item of the key
 finds : (items : Items) (key : List ℕ) (call : Call) → is_about key call ≡ true → outcome_on items call ≡ outcome_of call (get items key)
 finds items key (Get k) is = ap (outcome_of (Get k)) (same_item items key k is)
 finds items key (Set k flags value) is = ap (outcome_of (Set k flags value)) (same_item items key k is)
@@ -204,7 +204,7 @@ step shards number state key call rest calls true is no_cas more =
 step shards number state key call rest calls false is no_cas more =
     more ∙ ap (λ found. replies_from (plain found) calls) (elsewhere shards number state key (key_of call) (outcome_on state.items call).effect (effect_for call _) is)
 
--- the replies are those of the calls about the key, made on what the key has
+-- the replies are those of the calls on the key, made on the item of the key
 pub replies_alone : (shards number : ℕ) (state : State) (key : List ℕ) (calls : List Call) → AreWithoutCas calls
     → replies_about shards number state key calls ≡ replies_from (plain (get state.items key)) (calls_about key calls)
 replies_alone shards number state key [] no_cas = refl
@@ -212,7 +212,7 @@ replies_alone shards number state key (call ∷ calls) no_cas =
     step shards number state key call (replies_about shards number (state_after shards number state call) key calls) (calls_about key calls) (is_about key call) refl no_cas.0
     (replies_alone shards number (state_after shards number state call) key calls no_cas.1)
 
--- two lists with the same calls about a key have the same replies to these
+-- two lists with the same calls on a key have the same replies to them
 pub replies_agree : (shards number shards' number' : ℕ) (state : State) (key : List ℕ) (calls calls' : List Call) → AreWithoutCas calls → AreWithoutCas calls' → calls_about key calls ≡ calls_about key calls'
     → replies_about shards number state key calls ≡ replies_about shards' number' state key calls'
 replies_agree shards number shards' number' state key calls calls' no_cas no_cas' same =

@@ -1,4 +1,4 @@
--- The entries of an ordered map, as a finite map: lookups, and what a change at one key makes.
+-- The entries of an ordered map, as a finite map: lookups, and the effect of a change at one key.
 use Rattle.std.proofs.Common.{◌≡◌, ℕ, List, [], ◌∷◌, refl, sym, ap, subst, ◌∙◌}
 use Rattle.std.specs.Prelude.{Option, Some, None, cond, true, false}
 use Rattle.std.specs.declared.cmp.Ordering.{Ordering}
@@ -14,11 +14,11 @@ use Rattle.zy_base.specs.declared.item.Item.{Item}
 use Rattle.zy_base.specs.Key.{hash_of}
 use Rattle.mc_shard.specs.Contents.{hashed_cmp, hashed_total, items_in}
 
--- what the entries have at a key
+-- the item that the entries have at a key
 abbrev pub item_in : List (List ℕ × Item) → List ℕ → Option Item
 item_in entries key = lookup (is_at (hashed_cmp key)) entries
 
--- where keys differ, their hashes decide or they do
+-- keys that differ are ordered by their hashes, or by themselves where the hashes are equal
 differ_by : (hashes keys : Ordering) → is_eq keys ≡ false → is_eq (ordering_then hashes keys) ≡ false
 differ_by Less keys differ = refl
 differ_by Equal keys differ = differ
@@ -31,7 +31,7 @@ alike_by key q Equal same =
 alike_by key q Less same = differ_by (nat_cmp (hash_of key) (hash_of q)) (slice_cmp nat_cmp key q) (ap is_eq (sym same))
 alike_by key q Greater same = differ_by (nat_cmp (hash_of key) (hash_of q)) (slice_cmp nat_cmp key q) (ap is_eq (sym same))
 
--- the order by hashes finds the keys that the order of a dictionary finds
+-- the order by hashes finds the same keys as the order of a dictionary
 alike : (key q : List ℕ) → is_at (slice_cmp nat_cmp key) q ≡ is_at (hashed_cmp key) q
 alike key q = sym (alike_by key q (slice_cmp nat_cmp key q) refl)
 
@@ -40,21 +40,23 @@ find_lookup [] key = refl
 find_lookup (e ∷ es) key =
     ap (λ t. cond t (Some e.1) (find (slice_cmp nat_cmp) key es)) (alike key e.0) ∙ ap (cond (is_at (hashed_cmp key) e.0) (Some e.1)) (find_lookup es key)
 
--- what the map that the entries make has at a key
+-- the item at a key of the map made from the entries
 pub get-items_in : (entries : List (List ℕ × Item)) (key : List ℕ) → get (items_in entries) key ≡ item_in entries key
 get-items_in entries key = get-from_entries nat_list_cmp_total entries key ∙ find_lookup entries key
 
 same_key : (key q : List ℕ) (a b : Option Item) → cond (is_at (slice_cmp nat_cmp key) q) a b ≡ cond (is_at (slice_cmp nat_cmp q) key) a b
 same_key key q a b = ap (λ t. cond t a b) ((eq_by_cmp_equiv nat_list_cmp_total).symm key q)
 
--- entries that differ at one key, where the new ones have an item, make maps that differ so
+-- two lists of entries that differ at one key, where the new one has an item, make maps that differ
+-- at that key
 pub items_in-stored : (old new : List (List ℕ × Item)) (key : List ℕ) (item : Item)
     → ((q : List ℕ) → item_in new q ≡ cond (is_at (hashed_cmp key) q) (Some item) (item_in old q)) → items_in new ≡ insert (items_in old) key item
 items_in-stored old new key item is = same_map nat_list_cmp_total (slice_cmp-IsAntisymmetric nat_cmp-IsAntisymmetric) _ _ (λ q.
     get-items_in new q ∙ is q ∙ ap (λ t. cond t (Some item) (item_in old q)) (sym (alike key q)) ∙ ap (cond (is_at (slice_cmp nat_cmp key) q) (Some item)) (sym (get-items_in old q))
     ∙ same_key key q (Some item) (get (items_in old) q) ∙ sym (get-insert nat_list_cmp_total (items_in old) key item q))
 
--- entries that differ at one key, where the new ones have no item, make maps that differ so
+-- two lists of entries that differ at one key, where the new one has no item, make maps that differ
+-- at that key
 pub items_in-removed : (old new : List (List ℕ × Item)) (key : List ℕ)
     → ((q : List ℕ) → item_in new q ≡ cond (is_at (hashed_cmp key) q) None (item_in old q)) → items_in new ≡ remove (items_in old) key
 items_in-removed old new key is = same_map nat_list_cmp_total (slice_cmp-IsAntisymmetric nat_cmp-IsAntisymmetric) _ _ (λ q.

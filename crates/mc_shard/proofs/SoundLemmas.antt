@@ -1,4 +1,4 @@
--- A shard is sound after a call.
+-- A shard is still sound after a call.
 use Rattle.std.proofs.Common.{◌≡◌, ℕ, ◌<◌, List, [], ◌∷◌, ◌++◌, sym, ap, subst, ◌∙◌}
 use Rattle.std.specs.Prelude.{Option, Result, Ok, Err, IfOk, OnOk}
 use Rattle.zy_base.specs.declared.call.Call.{Call}
@@ -14,7 +14,7 @@ use Rattle.mc_shard.specs.declared.made.Made.{Made}
 use Rattle.mc_shard.specs.Shard.{Kept, state_of, entry_of, with_entry, state_past}
 use Rattle.mc_shard.specs.Contents.{IsSound}
 
--- what a shard is after a call, from what each step of the call gives
+-- the shard after a call, from what each step of the call gives
 pub IsSound-applied : (number shards last last' : ℕ) (contents contents' : State) (es es' : List Entry) (e : Entry) (key : Option (List ℕ)) (outcome : Outcome)
     → IsSound number shards last contents es
     → key ≡ key_of e.call
@@ -40,7 +40,7 @@ IsSound-applied number shards last last' contents contents' es es' e key outcome
       last_is = sym stamp ∙ sym (last_stamp-push 0 es e) ∙ ap (last_stamp 0) (sym longer);
     }
 
--- what a shard has after a call that was made, by the entry that was appended
+-- the shard after a call that was made, from the entry that was appended
 pub state_by : {E : Type 0} (old new : Kept) (tag : Tag) (call given : Call) (result : Result Made E)
     → IfOk result (λ made. new ≡ with_entry old (entry_of tag old.number given made.reply made.stamp)) → given ≡ call → OnOk result (state_of new ≡ state_past old call)
 state_by old new tag call given (Ok made) longer same =

@@ -1,4 +1,4 @@
--- The uniques that are given on one shard rise, and those of two shards differ.
+-- The uniques given on one shard rise, and those of two shards differ.
 use Rattle.std.proofs.Common.{◌≡◌, ℕ, ◌+◌, ◌%◌, ◌<◌, ◌≤◌, Bool, true, false, cond, List, [], ◌∷◌, ◌++◌, refl, sym, ap, subst, ◌∙◌, ⊎_elim, arith}
 use Rattle.std.specs.Prelude.{◌==◌}
 use Rattle.std.proofs.lemmas.Bool.{eqb-true, eqb-false, eq-eqb, ne_eqb}
@@ -15,9 +15,9 @@ use Rattle.zy_base.specs.Shard.{Items, State, empty_state, Effect, keeps, stores
 use Rattle.zy_base.specs.History.{IsLegal, IsLegalFrom, states_after}
 use Rattle.mc_shard.specs.Uniques.{unique_in, given_by, given, uniques_from, uniques_at, AreRising, IsIn}
 
--- ---- what is given
+-- ---- the uniques given
 
--- the unique that an effect gives, where the next is this one
+-- the unique that an effect gives, where the next one is this
 abbrev pub next_by : ℕ → Effect → List ℕ
 next_by unique keeps = []
 next_by unique (stores key flags value) = unique ∷ []
@@ -50,7 +50,7 @@ given_is_next shards states e = given_is shards e.shard (states e.shard) (outcom
 next_above : (shards number count : ℕ) → 1 ≤ shards → unique_of shards number (count + 1) < unique_of shards number (count + 1 + 1)
 next_above shards number count some = grind arith
 
--- what an effect gives, with what follows
+-- the unique that an effect gives comes before those that follow
 rise_after : (shards number before : ℕ) (state : State) (effect : Effect) (rest : List ℕ) → 1 ≤ shards → before < unique_of shards number (state.count + 1)
     → ((before' : ℕ) → before' < unique_of shards number ((state_with shards number state effect).count + 1) → AreRising before' rest)
     → AreRising before (next_by (unique_of shards number (state.count + 1)) effect ++ rest)
@@ -115,9 +115,9 @@ uniques_rise_from_empty shards number [] legal = tt
 uniques_rise_from_empty shards number (e ∷ es) legal =
     uniques_rise shards number number (λ _. empty_state) (e ∷ es) legal (first_above shards number (let below = legal.0 in omega arith))
 
--- ---- on two shards
+-- ---- two shards
 
--- a unique of the shard with this number, of so many
+-- a unique of the shard with this number, among `shards` shards
 pub record IsOf (shards number unique : ℕ) : Type 0 where
   pub within : number < shards
   pub count : ℕ
@@ -139,14 +139,14 @@ of_step shards number unique states e rest true is within more among =
     (subst (λ given. IsIn (given ++ rest) unique) (given_is_next shards states e) among))
 of_step shards number unique states e rest false is within more among = more among
 
--- what is given on a shard is a unique of that shard
+-- a unique that is given on a shard is one of that shard
 pub uniques_are_of : (shards number unique : ℕ) (states : ℕ → State) (es : List Entry) → IsLegalFrom shards states es → IsIn (uniques_from shards number states es) unique → IsOf shards number unique
 uniques_are_of shards number unique states [] legal among = absurd among
 uniques_are_of shards number unique states (e ∷ es) legal among =
     of_step shards number unique states e (uniques_from shards number (states_after shards states e) es) (e.shard == number) refl legal.0
     (uniques_are_of shards number unique (states_after shards states e) es legal.2) among
 
--- a unique is of one shard only
+-- a unique belongs to one shard only
 pub of_one_shard : (shards a b unique : ℕ) → IsOf shards a unique → IsOf shards b unique → a ≡ b
 of_one_shard shards a b unique x y =
     sym (number_in shards a x.count x.within) ∙ ap (λ n. n % shards) (sym x.is ∙ y.is) ∙ number_in shards b y.count y.within

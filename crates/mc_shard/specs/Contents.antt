@@ -1,4 +1,5 @@
--- What a shard has, and how that and its history belong together. No public clause cites this module.
+-- The contents of a shard, and how they and its history belong together. No public clause cites
+-- this module.
 use Rattle.std.specs.Prelude.{◌≡◌, ℕ, ◌<◌, ◌≤◌, ◌+◌, List, Option, None, Some, refl}
 use Rattle.std.specs.Coded.{Coded, code_by, coded×, coded_ℕ, coded_list}
 use Rattle.std.specs.declared.cmp.Ordering.{Ordering}
@@ -13,23 +14,24 @@ use Rattle.zy_base.specs.Shard.{Items, State, empty_state}
 use Rattle.zy_base.specs.History.{IsHistory, replayed}
 use Rattle.zy_base.specs.Order.{last_stamp}
 
--- the order of keys in the map: by their hashes, and keys of one hash as in a dictionary
+-- the order of keys in the map: by their hashes, and keys with the same hash as in a dictionary
 abbrev pub hashed_cmp : List ℕ → List ℕ → Ordering
 hashed_cmp a b = ordering_then (nat_cmp (hash_of a) (hash_of b)) (slice_cmp nat_cmp a b)
 
 pub hashed_total : IsTotalOrder hashed_cmp
 hashed_total = then_total (on_total hash_of nat_cmp_total) nat_list_cmp_total
 
--- the items that the entries make
+-- the items made from the entries
 abbrev pub items_in : List (List ℕ × Item) → Items
 items_in entries = from_entries entries
 
--- a shard with this item at the key of a call, and counted; a call without a key puts none
+-- a shard after this item was put at the key of a call, and counted; a call without a key puts none
 abbrev pub with_item : State → Option (List ℕ) → Item → State
 with_item state None item = state
 with_item state (Some key) item = record { items = insert state.items key item; count = state.count + 1 }
 
--- what every shard keeps: its items and its counter are what its history leaves, and the last stamp is the history's
+-- what every shard keeps: its items and its counter are those that its history leaves, and the last
+-- stamp is the history's
 pub record IsSound (number shards last : ℕ) (contents : State) (history : List Entry) : Type 0 where
   pub within : number < shards
   pub few : shards ≤ 256
@@ -37,7 +39,7 @@ pub record IsSound (number shards last : ℕ) (contents : State) (history : List
   pub contents_are : contents ≡ replayed shards number empty_state history
   pub last_is : last ≡ last_stamp 0 history
 
--- ---- codes, by which these may be the value of a type
+-- ---- codes, by which these may be values of a type
 
 -- an item is stored as its fields
 abbrev item_code : Coded Item

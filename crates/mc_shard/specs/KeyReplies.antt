@@ -1,4 +1,4 @@
--- What the calls on one key answer, uniques aside.
+-- The replies to the calls on one key, uniques aside.
 use Rattle.std.specs.Prelude.{◌≡◌, ℕ, Bool, true, false, if◌then◌else◌, List, [], ◌∷◌, Option, None, Some, filter}
 use Rattle.std.specs.Ordering.{nat_cmp, eq_by_cmp}
 use Rattle.std.specs.Cmp.Lexicographic.{slice_cmp}
@@ -41,7 +41,8 @@ abbrev pub without_unique : CallReply → CallReply
 without_unique (Hit flags unique value) = Hit flags 0 value
 without_unique reply = reply
 
--- what the calls on the key and the flushes answer, uniques aside, where all of these calls are made in turn
+-- the replies to the calls on the key and to the flushes, uniques aside, when all of these calls
+-- are made in turn
 abbrev pub replies_about : ℕ → ℕ → State → List ℕ → List Call → List CallReply
 replies_about shards number state key [] = []
 replies_about shards number state key (call ∷ calls) =

@@ -15,7 +15,7 @@ use Rattle.mc_shard.specs.KeyReplies.{AreWithoutCas, calls_about, replies_about}
 abbrev pub UniquesRise : Type 0
 UniquesRise = (shards number : ℕ) (es : List Entry) → IsLegal shards es → AreRising number (uniques_at shards number es)
 
--- in a legal list a unique is given on one shard only
+-- in a legal list no unique is given on two shards
 abbrev pub UniquesDiffer : Type 0
 UniquesDiffer =
     (shards a b unique : ℕ) (es : List Entry) → IsLegal shards es
@@ -23,7 +23,7 @@ UniquesDiffer =
 
 -- ---- one call
 
--- a call that does not answer that it stored changes nothing
+-- a call whose reply is not that it stored changes nothing
 abbrev pub KeepsUnlessStored : Call → Type 0
 KeepsUnlessStored call =
     (shards number : ℕ) (state : State) → reply_to state call ≢ Stored → state_after shards number state call ≡ state

@@ -1,4 +1,4 @@
--- What a shard without a history is to contracts: its number among so many, and what it has.
+-- The view of a shard without a history: its number, the number of shards, and its items and counter.
 use Rattle.std.specs.Prelude.{ℕ}
 use Rattle.zy_base.specs.declared.call.Call.{Call}
 use Rattle.zy_base.specs.Shard.{State, state_after}
@@ -11,7 +11,7 @@ pub record Replayed : Type 0 where
   -- its items and its counter
   pub state : State
 
--- the shard with this number, of so many, with these items and this counter
+-- shard `number` of `shards`, with these items and this counter
 abbrev pub replaying : ℕ → ℕ → State → Replayed
 replaying number shards state = record { number = number; shards = shards; state = state }
 

@@ -1,4 +1,4 @@
--- What a shard is to contracts: its number among so many, and the history of its calls.
+-- The view of a shard: its number, the number of shards, and the history of its calls.
 use Rattle.std.specs.Prelude.{ℕ, List, [], ◌∷◌, ◌++◌}
 use Rattle.zy_base.specs.declared.call.Call.{Call}
 use Rattle.zy_base.specs.declared.call_reply.CallReply.{CallReply}
@@ -13,14 +13,14 @@ pub record Kept : Type 0 where
   pub number : ℕ
   -- how many shards there are
   pub shards : ℕ
-  -- its calls with its answers, the oldest first
+  -- its calls with its replies, the oldest first
   pub history : List Entry
 
--- the shard with this number, of so many, with this history
+-- shard `number` of `shards`, with this history
 abbrev pub kept : ℕ → ℕ → List Entry → Kept
 kept number shards history = record { number = number; shards = shards; history = history }
 
--- its items and its counter: what its history leaves of an empty shard
+-- its items and its counter: those that its history leaves of an empty shard
 abbrev pub state_of : Kept → State
 state_of shard = replayed shard.shards shard.number empty_state shard.history
 
@@ -33,11 +33,11 @@ abbrev pub entry_of : Tag → ℕ → Call → CallReply → ℕ → Entry
 entry_of tag number call reply stamp =
     record { tag = tag; shard = number; call = call; reply = reply; stamp = stamp }
 
--- the shard with one more entry in its history
+-- the shard with one further entry in its history
 abbrev pub with_entry : Kept → Entry → Kept
 with_entry shard entry = kept shard.number shard.shards (shard.history ++ entry ∷ [])
 
--- what the shard answers to a call
+-- the reply of the shard to a call
 abbrev pub reply_of : Kept → Call → CallReply
 reply_of shard call = reply_to (state_of shard) call
 

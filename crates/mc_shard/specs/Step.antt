@@ -5,7 +5,7 @@ use Rattle.mc_shard.specs.declared.change.Change.{Change}
 use Rattle.mc_shard.specs.declared.change.Change.TheVariants.{Nothing, Put, Remove, Clear}
 use Rattle.mc_shard.specs.declared.change.Step.{Step}
 
--- the effect of a change by a call on this key, or on none
+-- the effect of a change made by a call on this key, or by a call without a key
 abbrev pub effect_in : Option (List ℕ) → Change → Effect
 effect_in key Nothing = keeps
 effect_in None (Put flags value) = keeps
@@ -18,6 +18,6 @@ effect_in key Clear = empties
 abbrev pub outcome_in : Option (List ℕ) → Step → Outcome
 outcome_in key step = record { reply = step.reply; effect = effect_in key step.change }
 
--- a step, unless memory was wanted, is this outcome of the table
+-- a step that was not refused memory is this outcome of the table
 abbrev pub Gives : {E : Type 0} → Option (List ℕ) → Result Step E → Outcome → Type 0
 Gives key result outcome = IfOk result (λ step. outcome_in key step ≡ outcome)

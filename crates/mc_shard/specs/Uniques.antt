@@ -6,12 +6,12 @@ use Rattle.zy_base.specs.declared.entry.Entry.{Entry}
 use Rattle.zy_base.specs.Shard.{Items, State, Effect, keeps, stores, removes, empties, empty_state, outcome_on, state_after}
 use Rattle.zy_base.specs.History.{states_after}
 
--- the unique of what is found
+-- the unique of the item that was found
 abbrev pub unique_in : Option Item → List ℕ
 unique_in None = []
 unique_in (Some item) = item.unique ∷ []
 
--- the unique that an effect gives: that which the key's item then has; only what is stored gets one
+-- the unique that an effect gives to the key's item; only an effect that stores gives one
 abbrev pub given_by : Items → Effect → List ℕ
 given_by after keeps = []
 given_by after (stores key flags value) = unique_in (get after key)
@@ -24,14 +24,15 @@ given shards states e =
     given_by (state_after shards e.shard (states e.shard) e.call).items
     (outcome_on (states e.shard).items e.call).effect
 
--- the uniques that the calls on one shard give, in the list's order, where the shards begin in these states
+-- the uniques that the calls on one shard give, in the list's order, from these states of the shards
 abbrev pub uniques_from : ℕ → ℕ → (ℕ → State) → List Entry → List ℕ
 uniques_from shards number states [] = []
 uniques_from shards number states (e ∷ es) =
     (if e.shard == number then given shards states e else [])
     ++ uniques_from shards number (states_after shards states e) es
 
--- the uniques that the calls on one shard give, in the list's order, where all shards are empty at first
+-- the uniques that the calls on one shard give, in the list's order, where all shards are empty at
+-- first
 abbrev pub uniques_at : ℕ → ℕ → List Entry → List ℕ
 uniques_at shards number es = uniques_from shards number (λ number. empty_state) es
 
@@ -40,7 +41,7 @@ abbrev pub AreRising : ℕ → List ℕ → Type 0
 AreRising before [] = Unit {0}
 AreRising before (x ∷ xs) = (before < x) × AreRising x xs
 
--- a number is one of a list
+-- a number is in a list
 abbrev pub IsIn : List ℕ → ℕ → Type 0
 IsIn [] x = ⊥
 IsIn (y ∷ ys) x = (x ≡ y) ⊎ IsIn ys x

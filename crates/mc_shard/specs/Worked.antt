@@ -1,4 +1,4 @@
--- Words of worked calls.
+-- Definitions for worked calls.
 use Rattle.std.specs.Prelude.{ℕ, List, Option, Some}
 use Rattle.zy_base.specs.declared.item.Item.{Item}
 use Rattle.zy_base.specs.declared.call_reply.CallReply.{CallReply}
@@ -8,6 +8,6 @@ use Rattle.zy_base.specs.Shard.{Effect, Outcome}
 abbrev pub item_of : List ℕ → Option Item
 item_of value = Some (record { flags = 7; value = value; unique = 19 })
 
--- what a call answers, and what it does
+-- the reply to a call, and its effect
 abbrev pub outcome : CallReply → Effect → Outcome
 outcome reply effect = record { reply = reply; effect = effect }

@@ -1,7 +1,7 @@
-//! What a call answers and changes, before it is done.
+//! The reply to a call and the change that it makes, before the change is made.
 use zy_base::{Blob, CallReply};
 
-/// What a call changes of the items, at its key.
+/// What a call changes in the items, at its key.
 #[derive(Drop)]
 pub enum Change {
     /// Nothing.
@@ -14,7 +14,7 @@ pub enum Change {
     Clear,
 }
 
-/// What a call answers and changes.
+/// The reply to a call, and the change that it makes.
 #[derive(Drop)]
 pub struct Step {
     pub reply: CallReply,

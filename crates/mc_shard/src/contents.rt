@@ -1,4 +1,4 @@
-//! The items of a shard with their counter, and what a call changes of them.
+//! The items of a shard with their counter, and the changes that calls make.
 ghost use Rattle.std.specs.Prelude.{◌≡◌, ◌+◌, ◌^◌, ◌<◌, ◌≤◌, OnOk, OnErr, option_copied};
 ghost use Rattle.std.specs.FinMap.{insert, remove, empty};
 ghost use Rattle.zy_base.specs.Shard.{item_at, empty_state, unique_of, state_with};
@@ -12,7 +12,7 @@ use std::collections::BTreeMap;
 use std::marker::Model;
 use zy_base::{Item, NoMemory};
 
-/// The items of a shard, and how many it ever stored. Contracts see it as both.
+/// The items of a shard, and how many items it ever stored. Contracts see it as both.
 #[derive(Drop)]
 pub struct Contents {
     items: BTreeMap<Hashed, Item>,
@@ -32,7 +32,7 @@ impl Model for Contents {
 }
 
 impl Contents {
-    /// No item was ever stored. Takes no memory.
+    /// Contents in which no item was ever stored. Takes no memory.
     pub fn new(alloc: Global) -> Contents
         ensures value { result ≡ empty_state }
     {
@@ -59,7 +59,7 @@ impl Contents {
         }
     }
 
-    /// Carries out what a call on this key changes, on the shard with this number, of so many.
+    /// Makes the change of a call on this key, on shard `number` of `shards`.
     pub fn carry_out(
         &mut self,
         number: u32,

@@ -79,7 +79,7 @@ impl PartialOrd for Hashed {
     }
 }
 
-// By the hashes, and keys of one hash in the order of a dictionary.
+// By their hashes, and keys with the same hash in the order of a dictionary.
 impl Ord for Hashed {
     ghost cmp = { hashed_cmp };
 

@@ -6,7 +6,7 @@ ghost use Rattle.zy_base.specs.declared.call_reply.CallReply.TheVariants as Repl
 ghost use Rattle.zy_base.specs.Shard.{outcome_of, stores, removes, empties, keeps};
 ghost use Rattle.mc_shard.specs.Worked.{item_of, outcome};
 
-/// Worked calls where the key has no item: what the table of calls computes.
+/// Worked calls on a key without an item: what the table of calls computes.
 pub fn worked_calls_without_an_item()
     ensures get { outcome_of (Calls.Get (codes "a")) None ≡ outcome Replies.Miss keeps }
     ensures add { outcome_of (Calls.Add (codes "a") 5 (codes "x")) None
@@ -19,7 +19,7 @@ pub fn worked_calls_without_an_item()
     ensures flush { outcome_of Calls.Flush None ≡ outcome Replies.Flushed empties }
 {}
 
-/// Worked calls where the key has an item with flags 7 and the unique 19: what the table of calls
+/// Worked calls on a key whose item has the flags 7 and the unique 19: what the table of calls
 /// computes.
 pub fn worked_calls_with_an_item()
     ensures get { outcome_of (Calls.Get (codes "a")) (item_of (codes "one"))
@@ -80,8 +80,8 @@ pub fn a_flush_empties_and_keeps_the_counter()
     ensures count { FlushKeepsCount }
 {}
 
-/// Where no call is a cas, what the calls on a key and the flushes answer, uniques aside, depends
-/// on these calls alone.
+/// In a list without a cas, the replies to the calls on a key and to the flushes, uniques aside,
+/// depend on these calls alone.
 pub fn a_key_depends_on_its_own_calls()
     ensures alone { KeyStandsAlone }
 {}

@@ -11,7 +11,7 @@ use std::alloc::Global;
 use std::marker::Model;
 use zy_base::{Call, CallReply, NoMemory};
 
-// The most items that a shard ever stores.
+// The largest number of items that a shard ever stores.
 const MOST: u64 = 1 << 52;
 
 /// A shard of the store without a history, on which calls are made again. Contracts see it as its
@@ -40,7 +40,7 @@ impl Model for Replay {
 }
 
 impl Replay {
-    /// The shard with this number, of so many, on which no call was made. Takes no memory.
+    /// Shard `number` of `shards`, before any call. Takes no memory.
     pub fn new(alloc: Global, number: u32, shards: u32) -> Replay
         requires within { number < shards }
         requires few { shards ≤ 256 }
@@ -54,8 +54,8 @@ impl Replay {
         }
     }
 
-    /// Makes a call, and answers its reply. After a refusal the shard is as it was. Want of memory
-    /// is free; it comes where 2^52 items were stored.
+    /// Makes a call and returns its reply. May answer `NoMemory`, and does once 2^52 items were
+    /// stored; after that the shard is as it was.
     pub fn answer(&mut self, call: &Call) -> Result<CallReply, NoMemory>
         ensures reply { IfOk result (λ reply. reply ≡ reply_to self.old.state call.now) }
         ensures ok { OnOk result (self.new ≡ state_replayed self.old call.now) }
@@ -92,7 +92,7 @@ impl Replay {
     }
 }
 
-// Puts the value of a step where its copies share its bytes.
+// Has the copies of a step's value share its bytes.
 fn share(step: &mut Step) -> Result<(), NoMemory>
     ensures value { step.new ≡ step.old }
 {

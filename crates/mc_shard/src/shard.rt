@@ -13,9 +13,9 @@ use std::alloc::Global;
 use std::marker::Model;
 use zy_base::{Call, Entries, Entry, NoMemory, Tag};
 
-/// A shard of the store: items by their keys, how many were ever stored, and the history of all
-/// calls on it. Contracts see it as its number, the number of shards, and the history, of which its
-/// items and its counter are the replay.
+/// A shard of the store: items by their keys, how many items were ever stored, and the history of
+/// all calls on it. Contracts see it as its number, the number of shards, and the history; its
+/// items and its counter are the replay of the history.
 #[derive(Drop)]
 pub struct Shard {
     number: u32,
@@ -37,7 +37,7 @@ impl Model for Shard {
 }
 
 impl Shard {
-    /// The shard with this number, of so many, on which no call was made. Takes no memory.
+    /// Shard `number` of `shards`, before any call. Takes no memory.
     pub fn new(alloc: Global, number: u32, shards: u32) -> Shard
         requires within { number < shards }
         requires few { shards ≤ 256 }
@@ -68,7 +68,7 @@ impl Shard {
         self.history.as_slice()
     }
 
-    /// The list of its entries, moved. Takes no memory.
+    /// The list of its entries, moved and not copied. Takes no memory.
     pub fn into_history(self) -> Entries
         ensures value { result ≡ self.history }
         ensures sound { IsHistory self.shards self.number result }
@@ -146,7 +146,7 @@ impl Shard {
         }
     }
 
-    // The same for a call whose bytes are shared, so that no copy here takes memory.
+    // The same for a call whose bytes are shared, so that no copy here allocates.
     fn make_shared(
         &mut self,
         tag: Tag,

@@ -1,4 +1,4 @@
-//! What each call answers and changes, where its key has no item and where it has one.
+//! The reply and the change of each call, on a key without an item and on a key with one.
 ghost use Rattle.std.specs.Prelude.{◌≡◌, ℕ, List, ◌++◌, None, Some, option_copied, decimal, OnOk};
 ghost use Rattle.zy_base.specs.declared.call_reply.CallReply.TheVariants.{Hit};
 ghost use Rattle.zy_base.specs.Call.{key_of};
@@ -10,7 +10,7 @@ use crate::change::{Change, Step};
 use std::alloc::Global;
 use zy_base::{Blob, Call, CallReply, Item, NoMemory, VALUE_LIMIT, number_text, read_number};
 
-/// What a call answers and changes, where its key has this item or none.
+/// The reply and the change of a call, where its key has this item or none.
 pub fn step_of(alloc: Global, call: &Call, found: Option<&Item>) -> Result<Step, NoMemory>
     ensures value { Gives (key_of call.now) result (table.outcome_of call.now (option_copied found.entry)) }
 {
@@ -20,7 +20,7 @@ pub fn step_of(alloc: Global, call: &Call, found: Option<&Item>) -> Result<Step,
     }
 }
 
-// What a call answers and changes where its key has no item.
+// The reply and the change of a call whose key has no item.
 fn step_without(call: &Call) -> Result<Step, NoMemory>
     ensures value { Gives (key_of call.now) result (table.outcome_of call.now None) }
 {
@@ -39,7 +39,7 @@ fn step_without(call: &Call) -> Result<Step, NoMemory>
     }
 }
 
-// What a call answers and changes where its key has this item.
+// The reply and the change of a call whose key has this item.
 fn step_with(alloc: Global, call: &Call, item: &Item) -> Result<Step, NoMemory>
     ensures value { Gives (key_of call.now) result (table.outcome_of call.now (Some item.now)) }
 {
@@ -63,7 +63,7 @@ fn step_with(alloc: Global, call: &Call, item: &Item) -> Result<Step, NoMemory>
     }
 }
 
-// An answer, and nothing changes.
+// A reply, and no change.
 fn reply_alone(reply: CallReply) -> Step
     ensures value { result ≡ record { reply = reply; change = Change.Nothing } }
 {
@@ -73,7 +73,7 @@ fn reply_alone(reply: CallReply) -> Step
     }
 }
 
-// The item is answered.
+// The reply is the item.
 fn hit(item: &Item) -> Result<Step, NoMemory>
     ensures value { (key : List ℕ) → Gives (Some key) result
         (table.answers (Hit item.now.flags item.now.unique item.now.value)) }
@@ -97,7 +97,7 @@ fn put(flags: u32, value: &Blob) -> Result<Step, NoMemory>
     })
 }
 
-// The value that two values make is put with the item's flags, where it is not too large.
+// The value joined from two values is put with the item's flags, unless it is too large.
 fn join(item: &Item, front: &Blob, back: &Blob) -> Result<Step, NoMemory>
     ensures value { (key : List ℕ) → Gives (Some key) result (table.joined key item.now (front.now ++ back.now)) }
 {
@@ -126,7 +126,7 @@ fn lengthen(value: &mut Blob, back: &Blob) -> Result<(), NoMemory>
     value.share()
 }
 
-// The item is exchanged where it has the unique that the caller saw.
+// The item is replaced if it has the unique that the caller saw.
 fn exchange(item: &Item, flags: u32, unique: u64, value: &Blob) -> Result<Step, NoMemory>
     ensures value { (key : List ℕ) → Gives (Some key) result (table.exchanged key item.now flags unique value.now) }
 {

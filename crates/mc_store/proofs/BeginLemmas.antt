@@ -76,7 +76,7 @@ opens ws xs wide zeros shards long = record {
     first zero v e = subst (Knows (λ _. []) (λ _. free) (λ _. []) (λ _. 0) (length (map some xs)) 0) (some-injective _ _ e) (refl, (λ _ _. (refl, refl)), λ _ _. refl)
     first (suc j) v e = absurd (some-ne-none v (sym e))
 
--- the same at the values that the code has
+-- the same, stated at the values that the code has
 pub opens_as : (n : ℕ) (ws : List ℕ) (xs : List Kept) → ws ≡ replicate n 0 → xs ≡ empties n n → StoreRule (opening ws xs (Root [] []))
 opens_as n ws xs w x =
     subst (λ (l : List ℕ). StoreRule (opening l xs (Root [] []))) (sym w)

@@ -1,4 +1,4 @@
--- The same at the values that the code has.
+-- The lemmas on a call, stated at the values that the code has.
 use Rattle.std.proofs.Common.{◌≡◌, ℕ, ◌+◌, ◌/◌, ◌%◌, ◌^◌, ◌<◌, List, [], ◌∷◌, ◌++◌, length, eqb, refl, sym, ap, ◌∙◌, subst, arith, length-append}
 use Rattle.std.specs.Prelude as std
 use mathlib.Core.Option.{none}
@@ -33,7 +33,7 @@ taken_is c k n even me sh t is = sym (ap (first_or sh) is) ∙ ap (λ (m : Seate
 handed : (c k n even : ℕ) (me me' : Seated) (sh : Kept) (t : HasTaken c k n even me) → me' ≡ (me.0, (k, sh) ∷ rest me.1) → me' ≡ (Pass c (mine_at me) (std.Some (k, t.0)) (trace_at me), (k, sh) ∷ [])
 handed c k n even me me' sh t is = is ∙ ap (λ (m : Seated). (m.0, (k, sh) ∷ rest m.1)) t.2
 
--- the shard comes back with one more entry
+-- the shard comes back with one further entry
 pub puts_call_as : (n id c k even seen : ℕ) (me me' : Seated) (sh sh' : Kept) (e : Entry) → HasTaken c k n even me → me.1 ≡ (k, sh) ∷ rest me.1 → me' ≡ (me.0, (k, sh') ∷ rest me.1)
     → sh' ≡ with_entry sh e → e.tag.conn ≡ c → e.shard ≡ sh.number → e.stamp ≡ std.max (last_stamp 0 sh.history) seen + 1 → seen ≡ last_stamp 0 (mine_at me) → IsHistory sh'.shards sh'.number sh'.history → length (mine_at me) < 2 ^ 40
     → Allows StoreRule n id me' k (λ _. even + 2) (λ _ m. has_put_back me' m)

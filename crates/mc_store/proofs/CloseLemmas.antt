@@ -1,4 +1,4 @@
--- What is known of the shards when every pass was joined.
+-- What is known of the shards once every pass was joined.
 use Rattle.std.proofs.Common.{◌≡◌, ℕ, zero, suc, ◌^◌, ◌<◌, ◌≤◌, List, [], ◌∷◌, length, Bool, true, false, refl, sym, ap, ◌∙◌, subst, arith}
 use mathlib.Core.Option.{Option, some, some-injective, some-ne-none}
 use native.Mathlib.Decide.{dec_lt}
@@ -25,12 +25,12 @@ use Rattle.mc_store.specs.Closing.{AreClosed, history_in}
 use Rattle.mc_store.proofs.MoveLemmas.{St}
 use Rattle.mc_store.proofs.PassLemmas.{root_is}
 
--- where no pass is out, a shard lies in its slot
+-- while no pass is out, a shard is in its slot
 free_all : (m : ℕ) (homes : List (Option Kept)) (seats : ℕ → ℕ) (k : ℕ) (es : List Entry) (p : Place) → ((c : ℕ) → seats c ≡ 0) → Lies m homes seats k es p → get_elem? homes k ≡ some (some (kept k m es))
 free_all m homes seats k es free gone h = h
 free_all m homes seats k es (away c) gone h = let g = gone c in absurd (omega arith)
 
--- where each that was given was joined, none is out
+-- once each pass that was given was joined, none is out
 none_out : (a b : Bool) → (a ≡ true → b ≡ true) → (a && not b) ≡ false
 none_out true true h = refl
 none_out true false h = let f = h refl in cc
@@ -46,16 +46,16 @@ history_at [] k x e = absurd (some-ne-none x (sym e))
 history_at (y ∷ ys) zero x e = ap history_in (some-injective y x e)
 history_at (y ∷ ys) (suc k) x e = history_at ys k x e
 
--- there are as many histories as shards
+-- there is a history for each shard
 length-histories : (xs : List Kept) → length (map history_in xs) ≡ length xs
 length-histories [] = refl
 length-histories (x ∷ xs) = ap suc (length-histories xs)
 
--- nothing was called on a shard that is not there
+-- no call was made on a shard that does not exist
 no_history : (n k : ℕ) → IsHistory n k []
 no_history n k = record { replay = tt; place = tt; stamps = tt }
 
--- every pass was joined, so every shard is free, and the histories are what the rule says of them
+-- every pass was joined, so every shard is free, and the histories are as the rule says
 pub closes : (ws : List ℕ) (xs : List Kept) (id : ℕ) (given : List ℕ) (joined : Joined) → ((c : ℕ) → is_in c given ≡ true → is_joined c joined ≡ true)
     → Final (Seen StoreRule id (Root given joined)) ws xs → AreClosed (length xs) joined (map history_in xs)
 closes ws xs id given joined all (s, seen, words, long, final) =
@@ -82,7 +82,7 @@ closes ws xs id given joined all (s, seen, words, long, final) =
       rise = λ c. subst (StampsRise 0) (done c).1 (r.each_connection c).rises;
     }
 
--- the same at the values that the code has
+-- the same, stated at the values that the code has
 pub closes_as : (n id : ℕ) (ws : List ℕ) (xs : List Kept) (ys : List (List Entry)) (views : List View) (v : View) (given : List ℕ) (joined : Joined) → IsRoot views → views ≡ v ∷ [] → given_in views ≡ given → joined_in views ≡ joined
     → ((c : ℕ) → is_in c given ≡ true → is_joined c joined ≡ true) → Final (Seen StoreRule id v) ws xs → length xs ≡ n → ys ≡ map history_in xs → AreClosed n joined ys
 closes_as n id ws xs ys views v given joined is one same_given same_joined all final long whole =

@@ -1,4 +1,4 @@
--- A shard that a pass has has_tried is given back, with one more entry or as it was.
+-- A shard that a pass has taken is given back, with one further entry or as it was.
 use Rattle.std.proofs.Common.{◌≡◌, ℕ, ◌+◌, ◌*◌, ◌^◌, ◌<◌, ◌≤◌, List, [], ◌∷◌, ◌++◌, length, get_or, set, refl, sym, ap, ◌∙◌, subst, arith, length-set, length-append, get_or-set_same}
 use Rattle.std.specs.Prelude as std
 use mathlib.Core.Option.{some}
@@ -31,7 +31,7 @@ pub record Fits (n c k : ℕ) (es mine : List Entry) (e : Entry) : Type 0 where
 is_away : (n : ℕ) (p : Place) (c w : ℕ) → w ≡ word_of n p → p ≡ away c → w ≡ 2 * n + 1
 is_away n p c w e is = e ∙ ap (word_of n) is
 
--- the shard comes back with one more entry
+-- the shard comes back with one further entry
 pub puts_call : (n id c k new : ℕ) (es mine : List Entry) (t : Trace) (e : Entry) (cs : List (ℕ × Kept)) → new ≡ 2 * (length es + 1) → length mine < 2 ^ 40 → Fits n c k es mine e
     → Allows StoreRule n id (Pass c mine (std.Some (k, es)) t, (k, kept k n (es ++ e ∷ [])) ∷ cs) k (λ _. new) (λ _ m. has_put_back (Pass c mine (std.Some (k, es)) t, (k, kept k n (es ++ e ∷ [])) ∷ cs) m)
 puts_call n id c k new es mine t e cs is less fits s r wide at _ =

@@ -1,4 +1,4 @@
--- What stays of the store's rule when the pass of one connection makes a step at one shard.
+-- The parts of the store's rule that stay when the pass of one connection makes a step at one shard.
 use Rattle.std.proofs.Common.{◌≡◌, ◌≢◌, ℕ, suc, ◌+◌, ◌^◌, ◌<◌, ◌≤◌, List, length, set, sym, ap, ◌∙◌, subst, ⊎_elim, le_trans, arith, length-set, get_or-set_other}
 use Rattle.std.specs.Prelude as std
 use mathlib.Core.Option.{Option, some}
@@ -26,7 +26,8 @@ lies_else : (n : ℕ) (homes homes' : List (Option Kept)) (seats : ℕ → ℕ) 
 lies_else n homes homes' seats k es free e h = e ∙ h
 lies_else n homes homes' seats k es (away c) e h = h
 
--- A step of the pass of c at shard k. The shard's history and place and the pass's calls change, and no others
+-- A step of the pass of `c` at shard `k`. The history and the place of that shard and the calls of
+-- that pass change, and no others
 module _ (s : St) (r : StoreRule s) (c k : ℕ) (es' mine' : List Entry) (p' : Place) where
   abbrev Others : Type 0
   Others = (d : ℕ) → r.places k ≡ away d → d ≡ c

@@ -1,4 +1,4 @@
--- A pass is given by the root, and joined with it again.
+-- The root gives a pass, and takes it in again.
 use Rattle.std.proofs.Common.{◌≡◌, ◌≢◌, ℕ, zero, suc, ◌<◌, List, [], ◌∷◌, length, set, Bool, true, false, refl, sym, ap, ◌∙◌, subst, ⊎_elim, arith, length-set}
 use Rattle.std.specs.Prelude as std
 use mathlib.Core.Option.{Option, some}
@@ -34,11 +34,11 @@ not_joined c (x ∷ xs) h = go (c == x.0) h (not_joined c xs)
     go true e rest = cc
     go false e rest = rest e
 
--- a connection that is not given is neither out nor joined
+-- a connection whose pass was not given is neither out nor joined
 not_out : (c : ℕ) (given : List ℕ) (joined : Joined) → is_in c given ≡ false → is_out c given joined ≡ false
 not_out c given joined h = ap (λ b. b && not (is_joined c joined)) h
 
--- a shard lies as before where another connection's seat changes
+-- a shard stays in its place when another connection's seat changes
 lies_put : (m : ℕ) (homes : List (Option Kept)) (seats : ℕ → ℕ) (c n k : ℕ) (es : List Entry) (p : Place) → ((d : ℕ) → p ≡ away d → d ≢ c) → Lies m homes seats k es p → Lies m homes (put seats c n) k es p
 lies_put m homes seats c n k es free ne h = h
 lies_put m homes seats c n k es (away d) ne h = subst (λ (m : ℕ). 0 < m) (sym (put_else seats c n d (ne d refl))) h
@@ -61,18 +61,18 @@ module _ (s : St) (r : StoreRule s) where
   seated c n j (Root given joined) other ne h = absurd (other h.0)
   seated c n j (Pass d mine held t) other ne h = (put_else r.seats c n d (λ e. ne (sym (ap r.seats e) ∙ h.0)) ∙ h.0, h.1, h.2, h.3)
 
--- what is neither is not the second
+-- what is neither of two is not the second
 or_right : (a b : Bool) → (a || b) ≡ false → b ≡ false
 or_right true b e = cc
 or_right false b e = e
 
--- what is given and not out was joined
+-- a pass that was given and is not out was joined
 out_there : (a b : Bool) → (a && not b) ≡ false → a ≡ true → b ≡ true
 out_there true true e h = refl
 out_there true false e h = cc
 out_there false b e h = cc
 
--- c is given now, so it is out where it was not joined
+-- the pass of `c` was now given, so it is out unless it was joined
 is_fresh : (c : ℕ) (given : List ℕ) (joined : Joined) → is_joined c joined ≡ false → is_out c (c ∷ given) joined ≡ false → ⊥
 is_fresh c given joined new out = let a = out_there (is_in c (c ∷ given)) (is_joined c joined) out (ap (λ b. b || is_in c given) (eq-eqb c c refl)) in cc
 
@@ -184,7 +184,7 @@ joins id other c given joined mine t s r at apart there =
       sums = r.sums;
     }
 
--- where a shard is away, just one seat has it, and knows its history
+-- where a shard is away, exactly one seat has it, and knows its history
 pub one_holder : (s : St) (r : StoreRule s) (k c : ℕ) → k < length s.homes → r.places k ≡ away c → (j : ℕ) × (mine : List Entry) × (t : Trace) × (get_elem? s.views j ≡ some (Pass c mine (std.Some (k, r.histories k)) t))
 one_holder s r k c near is = go (r.seats c) refl
   where
@@ -200,7 +200,7 @@ one_holder s r k c near is = go (r.seats c) refl
     go zero e = absurd (all_home s r c e k is)
     go (suc j) e = let old = r.live c j e in from j old.0 old.1 old.2 (r.each_seat j (Pass c (r.calls c) old.0 old.1) old.2).3
 
--- ---- the same at the values that the code has
+-- ---- the same, stated at the values that the code has
 
 -- the view of a root's badge
 pub root_is : (views : List View) (v : View) → IsRoot views → views ≡ v ∷ [] → v ≡ Root (given_in views) (joined_in views)

@@ -24,11 +24,11 @@ use Rattle.mc_store.specs.Steps.{Seated, traced, loads, exchanges, has_looked, h
 use Rattle.mc_store.proofs.HalfLemmas.{halves_set, halves_at}
 use Rattle.mc_store.proofs.MoveLemmas.{St, moved}
 
--- the step with the word w, after which `told` holds
+-- the step at the word `w`, after which `told` holds of the seat
 abbrev pub Goes : St → ℕ → ℕ → Seated → (Seated → Type 0) → ℕ → Type 0
 Goes s k id me told w = (v : View) × (a : Act Kept) × Valid s.homes me.1 a × StoreRule (stepped s k w id me.1 v a) × told (v, carried_after me.1 a)
 
--- a trace is nothing to the rule
+-- the rule does not depend on a trace
 knows_traced : (histories : ℕ → List Entry) (places : ℕ → Place) (calls : ℕ → List Entry) (seats : ℕ → ℕ) (n j : ℕ) (f : Trace → Trace) (v : View) → Knows histories places calls seats n j v → Knows histories places calls seats n j (traced f v)
 knows_traced histories places calls seats n j f Spent h = h
 knows_traced histories places calls seats n j f (Root given joined) h = h

@@ -1,4 +1,5 @@
--- What a try of a call answers, and when. Each answer rests on the numbers of the steps of this very try.
+-- The answers of a try of a call, and their causes. Each cause is a fact about the steps of this
+-- very try.
 use Rattle.std.specs.Prelude.{◌≡◌, ◌≢◌, ◌⊎◌, ℕ, ◌%◌, ◌<◌, ◌≤◌, ⊤, Result, Ok, Err}
 use Rattle.zy_base.specs.declared.entry.Entry.{Entry}
 use Rattle.zy_base.specs.declared.entry.Tag.{Tag}
@@ -12,13 +13,13 @@ use Rattle.mc_store.specs.declared.store.view.Trace.{Trace}
 
 -- ---- the answers
 
--- of the entry, where the call was made
+-- a fact about the entry, if the call was made
 abbrev pub IfReply : {E : Type 0} → Result Got E → (Entry → Type 0) → Type 0
 IfReply (Ok (Reply entry)) holds = holds entry
 IfReply (Ok (Busy shard loaded found)) holds = ⊤
 IfReply (Err e) holds = ⊤
 
--- of the shard, the word loaded and the word found, where another pass had the shard
+-- a fact about the shard, the word loaded and the word found, if another pass had the shard
 abbrev pub IfBusy : {E : Type 0} → Result Got E → (ℕ → ℕ → ℕ → Type 0) → Type 0
 IfBusy (Ok (Reply entry)) holds = ⊤
 IfBusy (Ok (Busy shard loaded found)) holds = holds shard loaded found
@@ -44,7 +45,7 @@ pub record IsOfCall (tag : Tag) (shard : ℕ) (call : Call) (entry : Entry) : Ty
 
 -- ---- their causes
 
--- after the steps before, this number was loaded from the word of this shard
+-- after the earlier steps, this number was loaded from the word of this shard
 pub record Loaded (shard loaded : ℕ) (before after : Trace) : Type 0 where
   pub word : after.load.word ≡ shard
   pub value : after.load.value ≡ loaded
@@ -62,7 +63,7 @@ pub record Exchanged (shard found : ℕ) (after : Trace) : Type 0 where
 abbrev pub WasFree : ℕ → Trace → Trace → Type 0
 WasFree shard before after = (word : ℕ) × (word % 2 ≡ 0) × Loaded shard word before after × Exchanged shard word after
 
--- the word that was loaded was odd, or the exchange found another word than it
+-- the word that was loaded was odd, or the exchange found another word
 abbrev pub WasTaken : ℕ → ℕ → ℕ → Trace → Type 0
 WasTaken shard loaded found after =
     ((loaded % 2 ≡ 1) × (found ≡ loaded)) ⊎ ((loaded % 2 ≡ 0) × (found ≢ loaded) × Exchanged shard found after)

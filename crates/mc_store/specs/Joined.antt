@@ -1,4 +1,4 @@
--- The passes of connections that a root gave, and that were joined with it.
+-- The passes of connections that a root gave and took in again.
 use Rattle.std.specs.Prelude.{ℕ, List, [], ◌∷◌, Bool, false, ◌||◌, ◌&&◌, not, ◌==◌, cond}
 use Rattle.zy_base.specs.declared.entry.Entry.{Entry}
 use Rattle.zy_table.specs.Member.{is_in}
@@ -12,7 +12,7 @@ abbrev pub is_joined : ℕ → Joined → Bool
 is_joined conn [] = false
 is_joined conn (x ∷ xs) = (conn == x.0) || is_joined conn xs
 
--- the calls of a connection whose pass was joined, and none of another
+-- the calls of a connection whose pass was joined; the empty list for any other
 abbrev pub calls_of : ℕ → Joined → List Entry
 calls_of conn [] = []
 calls_of conn (x ∷ xs) = cond (conn == x.0) x.1 (calls_of conn xs)

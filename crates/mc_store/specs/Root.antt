@@ -1,4 +1,4 @@
--- A root that gave the passes of the connections below a number.
+-- A root that gave the passes of all connections below a number.
 use Rattle.std.specs.Prelude.{◌≡◌, ◌↔◌, ℕ, ◌<◌, [], true}
 use Rattle.atomic_table.specs.Seated.{TableId}
 use Rattle.zy_table.specs.Member.{is_in}

@@ -1,4 +1,4 @@
--- What each step on the table tells its seat.
+-- What a seat learns from each step on the table.
 -- No public clause cites this module.
 use Rattle.std.specs.Prelude.{◌≡◌, ◌≢◌, ℕ, ◌+◌, ◌*◌, ◌^◌, ◌<◌, List, [], ◌∷◌, ◌++◌, length, drop, Some, None}
 use Rattle.atomic_table.specs.Table.{Me, Step, rest}
@@ -48,7 +48,7 @@ traced f Spent = Spent
 
 -- ---- a load, and an exchange
 
--- a load is noted
+-- a load is noted in the trace
 abbrev pub has_looked : Step Kept → Seated → ℕ → Seated → Type 0
 has_looked step before found after = after ≡ (traced (loads step.word found) before.0, before.1)
 
@@ -58,7 +58,7 @@ holding shard history (Pass conn mine taken trace) = Pass conn mine (Some (shard
 holding shard history (Root given joined) = Root given joined
 holding shard history Spent = Spent
 
--- one more call can be made on a shard, by a pass with these calls
+-- a further call can be made on a shard, by a pass with these calls
 pub record IsReady (shard : Kept) (mine : List Entry) : Type 0 where
   pub short : length shard.history < 2 ^ 52
   pub last : last_stamp 0 shard.history < 2 ^ 60
@@ -76,13 +76,14 @@ HasWon step before found after =
     ))
     × IsReady (kept step.word step.slots history) (mine_of before.0)
 
--- an exchange took the shard, or it is noted
+-- an exchange took the shard, or it is noted in the trace
 abbrev pub has_tried : Step Kept → Seated → ℕ → Seated → Type 0
 has_tried step before found after =
     (found ≡ step.first → HasWon step before found after)
     × (found ≢ step.first → after ≡ (traced (exchanges step.word found) before.0, before.1))
 
--- the pass of a connection has taken a shard, of so many, whose even word counts its calls
+-- the pass of a connection has taken a shard of a store with `shards` shards; the even word counts
+-- the shard's calls
 abbrev pub HasTaken : ℕ → ℕ → ℕ → ℕ → Seated → Type 0
 HasTaken conn shard shards even me =
     (history : List Entry)
@@ -92,7 +93,7 @@ HasTaken conn shard shards even me =
 
 -- ---- the store that gives a shard back
 
--- the calls that the shard has had since it was taken join the pass's
+-- the calls that the shard has had since it was taken are appended to those of the pass
 abbrev pub settled : View → List (ℕ × Kept) → View
 settled (Pass conn mine (Some x) trace) (y ∷ ys) = Pass conn (mine ++ drop (length x.1) y.1.history) None (stores trace)
 settled (Pass conn mine (Some x) trace) [] = Pass conn mine (Some x) trace
@@ -104,17 +105,17 @@ settled Spent ys = Spent
 abbrev pub has_put_back : Seated → Seated → Type 0
 has_put_back before after = after ≡ (settled before.0 before.1, rest before.1)
 
--- the pass has made its call, which is the last one now
+-- the pass has made its call, which is now its last
 abbrev pub HasMade : ℕ → Seated → Seated → Entry → Type 0
 HasMade conn before after entry = after ≡ (passing conn (mine_at before ++ entry ∷ []) (stores (trace_at before)), [])
 
--- the pass has given the shard back, and made no call
+-- the pass has given the shard back, and has made no call
 abbrev pub HasGivenUp : ℕ → Seated → Seated → Type 0
 HasGivenUp conn before after = after ≡ (passing conn (mine_at before) (stores (trace_at before)), [])
 
 -- ---- passes
 
--- the root with the calls of a pass that is taken in
+-- the root with the calls of a pass that was joined
 abbrev pub taken_in : View → View → View
 taken_in (Root given joined) (Pass conn mine taken trace) = Root given ((conn, mine) ∷ joined)
 taken_in (Root given joined) (Root given' joined') = Root given joined
@@ -122,7 +123,7 @@ taken_in (Root given joined) Spent = Root given joined
 taken_in (Pass conn mine taken trace) other = Pass conn mine taken trace
 taken_in Spent other = Spent
 
--- the root with a connection whose pass is given
+-- the root with a connection whose pass was given
 abbrev pub gave : ℕ → View → View
 gave conn (Root given joined) = Root (conn ∷ given) joined
 gave conn (Pass other mine taken trace) = Pass other mine taken trace

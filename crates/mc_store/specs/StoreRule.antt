@@ -23,36 +23,37 @@ pub data Place : Type 0 where
   free : Place
   away : ℕ → Place
 
--- the word of a shard with so many entries
+-- the word of a shard with `count` entries
 abbrev pub word_of : ℕ → Place → ℕ
 word_of count free = 2 * count
 word_of count (away conn) = 2 * count + 1
 
--- the number of entries that all words show
+-- the sum of the numbers of entries in all words
 abbrev pub halves : List ℕ → ℕ
 halves [] = 0
 halves (word ∷ words) = word / 2 + halves words
 
--- a free shard lies in its slot, with its history; one that is away is with a connection whose pass is out
+-- a free shard is in its slot, with its history; one that is away is with a connection whose pass
+-- is out
 module _ (shards : ℕ) (slots : List (Option Kept)) (seats : ℕ → ℕ) (shard : ℕ) (history : List Entry) where
   abbrev pub Lies : Place → Type 0
   Lies free = get_elem? slots shard ≡ some (some (kept shard shards history))
   Lies (away conn) = 0 < seats conn
 
--- one shard of so many, with its history, at its place
+-- one of `shards` shards, with its history, at its place
 pub record ShardIs (shards : ℕ) (words : List ℕ) (slots : List (Option Kept)) (seats : ℕ → ℕ) (shard : ℕ)
     (history : List Entry) (place : Place) : Type 0 where
-  -- its word is 2 k where it is free with k entries, and 2 k + 1 where it is away
+  -- its word is 2 k if it is free with k entries, and 2 k + 1 if it is away
   pub shows : slice_index words shard ≡ word_of (length history) place
   pub lies : Lies shards slots seats shard history place
-  -- its replies are those of a replay, its entries name it, and its stamps rise
+  -- its replies are those of a replay, each entry names the shard, and stamps rise
   pub sound : IsHistory shards shard history
   -- no stamp is above the number of all entries
   pub last : last_stamp 0 history ≤ halves words
 
 -- ---- a connection
 
--- one connection, with its calls, where there are so many entries in all
+-- one connection, with its calls, where all histories together have `entries` entries
 pub record ConnectionIs (entries : ℕ) (histories : ℕ → List Entry) (conn : ℕ) (mine : List Entry) : Type 0 where
   -- its entries in each history are its calls at that shard, in their order
   pub own_at : (shard : ℕ) → of_connection conn (histories shard) ≡ at_shard shard mine

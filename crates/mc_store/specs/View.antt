@@ -67,7 +67,7 @@ joined_in [] = []
 abbrev pub IsRoot : List View → Type 0
 IsRoot views = views ≡ Root (given_in views) (joined_in views) ∷ []
 
--- the badge is that of a pass of this connection, with so many calls, of which the last has this stamp
+-- the badge is that of a pass of this connection, with `count` calls, the last of which has this stamp
 pub record IsPass (conn count last : ℕ) (views : List View) : Type 0 where
   pub is : views ≡ passing conn (calls_in views) (trace_in views) ∷ []
   pub count_is : count ≡ length (calls_in views)

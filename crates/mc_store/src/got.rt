@@ -1,12 +1,13 @@
-//! What a call on the store answers.
+//! The answer of a try of a call.
 use zy_base::Entry;
 
-/// What one try of a call gave.
+/// The answer of one try of a call.
 #[derive(Drop)]
 pub enum Got {
-    /// The call was made. This is its entry, which the pass and the shard's history have too.
+    /// The call was made. This is its entry, which the pass and the shard's history now have too.
     Reply(Entry),
-    /// The call was not made: another pass had the shard. The word of the shard that was loaded, and
-    /// the one that was found in its place; where the loaded one was odd, it is both.
+    /// The call was not made, since another pass had the shard: the word of the shard that was
+    /// loaded, and the word that the exchange found in its place. If the loaded word was odd, there
+    /// was no exchange, and both are that word.
     Busy { shard: u32, loaded: u64, found: u64 },
 }

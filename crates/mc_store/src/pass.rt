@@ -5,8 +5,9 @@ use crate::store::view::View;
 use atomic_table::Badge;
 use std::marker::Model;
 
-/// The leave to make the calls of one connection. It has no part of the table, so it may travel with
-/// its connection. Contracts see the table, the connection, and its calls so far with their replies.
+/// The right to make the calls of one connection. It has no part of the table, so it may travel
+/// with its connection. Contracts see the table, the connection, and its calls so far with their
+/// replies.
 #[derive(Drop)]
 pub struct Pass {
     pub(crate) conn: u32,

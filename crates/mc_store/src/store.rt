@@ -33,7 +33,7 @@ use std::mem;
 use view::{Rule, View};
 use zy_base::{Call, Entry, Histories, NoMemory, Tag};
 
-/// The shards of a store. Contracts see which table it is, and how many shards it has.
+/// The shards of a store. Contracts see which table it is, and the number of its shards.
 #[derive(Drop)]
 pub struct StoreTable {
     table: Table<Shard, View, (), Rule, Global>,
@@ -54,7 +54,8 @@ impl Model for StoreTable {
 }
 
 impl StoreTable {
-    /// A store of so many empty shards, 1 to 256, and its root.
+    /// A store of `shards` empty shards, 1 to 256, and its root. After a refusal there is nothing
+    /// to hand back.
     pub fn new(alloc: Global, shards: u32) -> Result<(StoreTable, Root), NoMemory>
         requires some { 1 ≤ shards }
         requires few { shards ≤ 256 }
@@ -101,8 +102,8 @@ impl StoreTable {
         self.shards
     }
 
-    /// The pass of a connection below 4,096 that this root gave none before. It has no calls. After a
-    /// refusal nothing was given.
+    /// The pass of a connection below 4,096 to which this root gave none before. The pass has no
+    /// calls. After a refusal it counts as not given.
     pub fn split(&self, root: &mut Root, conn: u32) -> Result<Pass, NoMemory>
         requires table { root.old.table ≡ self.now.id }
         requires within { conn < 4096 }
@@ -253,7 +254,7 @@ impl StoreTable {
         }
     }
 
-    /// Takes a pass in again, with its calls.
+    /// Joins a pass: takes it in again, with its calls.
     pub fn join(&self, root: &mut Root, pass: Pass)
         requires table { root.old.table ≡ self.now.id }
         requires pass { pass.table ≡ root.old.table }
@@ -272,7 +273,7 @@ impl StoreTable {
         root.badge = seat.into_badge();
     }
 
-    /// The histories of the shards, where every pass that was given was joined. They are moved, and
+    /// The histories of the shards, once every pass that was given was joined. They are moved, and
     /// not copied. After a refusal store and root are handed back.
     pub fn close(self, root: Root) -> Result<Histories, (StoreTable, Root)>
         requires table { root.table ≡ self.id }
@@ -301,7 +302,7 @@ impl StoreTable {
     }
 }
 
-// So many shards, on which no call was made.
+// The shards below `shards`, on which no call was made.
 fn empty_shards(alloc: Global, shards: u32) -> Result<Vec<Shard>, NoMemory>
     requires few { shards ≤ 256 }
     ensures value { IfOk result (λ made. made.items ≡ empties shards shards) }

@@ -23,8 +23,8 @@ const THREE: &[u8] =
 
 const THIRD: u64 = 48;
 
-// The exit status of a run, and how many bytes were written, where they are the first of the replies
-// of the first capture.
+// The exit status of a run, and the number of bytes that were written, if they are the first bytes
+// of the replies of the first capture.
 #[derive(Clone, Copy)]
 struct End {
     status: u8,
@@ -54,7 +54,7 @@ fn end_of<R: Threads + Wait + Abort + Sync>(
     End { status, written }
 }
 
-// Whether a run of the first capture ends as it should where this read fails.
+// Whether a run of the first capture ends as it should when this read fails.
 fn is_ended_by_read<R: Threads + Wait + Abort + Sync>(rt: &R, alloc: Global, call: u64) -> bool {
     let end = end_of(rt, alloc, &[b"run"], FIRST, Failing::Read(call));
     if call < READS {
@@ -71,7 +71,8 @@ fn a_read_that_fails_ends_the_run(rt: HostRuntime) {
     }
 }
 
-// Whether a run of the first capture ends as it should where this write fails; the last is to finish.
+// Whether a run of the first capture ends as it should when this write fails; the last call is to
+// finish.
 fn is_ended_by_write<R: Threads + Wait + Abort + Sync>(rt: &R, alloc: Global, call: u64) -> bool {
     let end = end_of(rt, alloc, &[b"run"], FIRST, Failing::Write(call));
     if call <= WRITES {

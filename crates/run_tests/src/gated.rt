@@ -62,7 +62,7 @@ fn append(rt: &impl Abort, bytes: &mut Blob, head: &[u8]) {
 
 const WORDS: [&[u8]; 3] = [b"run", b"--cores=2", b"--threads=2"];
 
-// Whether two threads hold commands of both at once, and the gate was passed as the holds say.
+// Whether two threads hold commands of both at once, and the gate was passed as often as the holds say.
 fn has_met<R: Threads + Wait + Abort + Sync>(rt: &R, alloc: Global) -> bool {
     let capture = many_commands(rt, alloc);
     let mut given = Given::new(rt, alloc, &WORDS, capture, Failing::None, true);

@@ -11,7 +11,7 @@ use zygos_run::{Answer, serve, status};
 // The number of a call that no run makes.
 const NEVER: u64 = 1_000_000;
 
-// The most bytes that are kept of what is written.
+// The largest number of bytes that are kept of what is written.
 const ROOM: usize = 65_536;
 
 /// Which call fails.
@@ -38,7 +38,7 @@ impl Failing {
     }
 }
 
-/// What a call of `serve` gets.
+/// The arguments of a call of `serve`.
 #[derive(Drop)]
 pub(crate) struct Given {
     words: Vec<Blob>,
@@ -69,7 +69,7 @@ fn only(rt: &impl Abort, alloc: Global, number: u64) -> CallNumbers {
     numbers
 }
 
-// A sink that takes so many bytes a call, and fails at this one.
+// A sink that takes at most `most` bytes a call, and fails at this call.
 fn sink(rt: &impl Abort, alloc: Global, most: usize, call: u64) -> MemSink {
     assert!(rt; most >= 1);
     let failing = only(rt, alloc, call);
@@ -77,8 +77,8 @@ fn sink(rt: &impl Abort, alloc: Global, most: usize, call: u64) -> MemSink {
 }
 
 impl Given {
-    /// These words, a source that gives the capture byte by byte, a sink that takes one byte a call,
-    /// and a gate that holds commands or doesn't.
+    /// These words, a source that gives the capture byte by byte, a sink that takes one byte a
+    /// call, and a gate that holds commands or does not.
     pub(crate) fn new(
         rt: &impl Abort,
         alloc: Global,
@@ -141,7 +141,7 @@ impl Given {
         self.gate.has_met()
     }
 
-    /// How many bytes were written, where they are a first part of these.
+    /// The number of bytes that were written, if they are a prefix of these.
     pub(crate) fn part_of(&self, whole: &[u8]) -> Option<usize> {
         match self.sink.bytes() {
             Some(written) if whole.starts_with(written) => Some(written.len()),

@@ -1,9 +1,9 @@
-//! What a test takes for granted: memory, and that what it saw is right.
+//! What a test relies on: memory, and that what it saw is right.
 ghost use Rattle.std.specs.Prelude.{◌≡◌, Ok, true};
 
 use std::process::Abort;
 
-/// What a call gave; the test ends where it found no memory.
+/// The result of a call; the test ends if memory was refused.
 pub(crate) fn sure<T, E>(rt: &impl Abort, made: Result<T, E>) -> T
     ensures value { made ≡ Ok result }
 {
@@ -13,7 +13,7 @@ pub(crate) fn sure<T, E>(rt: &impl Abort, made: Result<T, E>) -> T
     }
 }
 
-/// Ends the test where what it saw is not right.
+/// Ends the test if what it saw is not right.
 pub(crate) fn must(rt: &impl Abort, is_right: bool)
     ensures value { is_right ≡ true }
 {

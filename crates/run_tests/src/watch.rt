@@ -5,19 +5,19 @@ use std::process::Abort;
 use std::sync::atomic::{AtomicBool, AtomicU64, Ordering};
 use zy_base::{Gate, Hold};
 
-// The cores and connections that are told apart; all others have one place behind theirs.
+// The cores and connections that are counted one by one; all others share one place after theirs.
 const CORES: u32 = 2;
 
 const CONNS: u32 = 7;
 
 const PLACES: usize = 15;
 
-// The most turns for which a command is held.
+// The largest number of turns for which a command is held.
 const TURNS: u32 = 20_000_000;
 
-/// Counts how often it was passed, by core and connection. One that holds commands holds each whose
-/// index is a multiple of 64, until one of connection 0 and one of another connection were held at
-/// once, or for so many turns.
+/// Counts how often it was passed, by core and connection. A gate that holds commands holds each
+/// whose index is a multiple of 64, until one of connection 0 and one of another connection were
+/// held at once, or for `TURNS` turns.
 #[derive(Drop)]
 pub(crate) struct Watch {
     counts: Vec<AtomicU64>,

@@ -1,4 +1,4 @@
-//! Calls that take memory and that no run of the program makes: each succeeds where memory is ample.
+//! Calls that allocate and that no run of the program makes: each succeeds when memory is ample.
 use crate::judging::{judge, no_memory};
 use crate::places::{new_ring, publish_below};
 use mc_store::StoreTable;

@@ -16,7 +16,8 @@ use zy_base::{Blob, Call, Entry, Histories, Tag};
 
 const CALLS: u64 = 1_000;
 
-// Makes so many calls on the one shard. Where the shard was busy, or memory wanting, the call is tried again.
+// Makes `CALLS` calls on the one shard. If the shard was busy, or memory was refused, the call is
+// tried again.
 fn make_calls<R: Wait>(rt: &R, store: &StoreTable, pass: &mut Pass, call: &Call)
     requires table { pass.old.table ≡ store.now.id }
     requires one { store.now.shards ≡ 1 }
@@ -103,7 +104,7 @@ fn pass_of<R: Abort>(rt: &R, store: &StoreTable, root: &mut Root, conn: u32) -> 
     }
 }
 
-// Serves two threads, and takes their passes in again.
+// Serves two threads, and joins their passes.
 fn serve_two<R: Threads + Wait + Abort + Sync>(
     rt: &R,
     alloc: Global,
@@ -135,7 +136,7 @@ fn are_in_order(history: &[Entry]) -> bool {
     next[0] == CALLS && next[1] == CALLS
 }
 
-// A store with so many shards, and its root.
+// A store with `shards` shards, and its root.
 fn new_store<R: Abort>(rt: &R, alloc: Global, shards: u32) -> (StoreTable, Root)
     requires some { 1 ≤ shards }
     requires few { shards ≤ 256 }

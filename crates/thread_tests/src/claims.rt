@@ -11,7 +11,7 @@ use zy_shuffle::{Claim, CorePass, HomePass, Ring};
 // How often each place was claimed.
 type Seen = [u32; 128];
 
-// Claims until the queue is empty. Each place is noted, where its block is its own, and given back.
+// Claims until the queue is empty. Each place is noted if its block is its own, and given back.
 fn claim_all<R: Wait>(rt: &R, ring: &Ring<Block>, mut pass: CorePass<Block>) -> Seen
     requires within { pass.table ≡ ring.now.id }
     requires empty { pass.hand ≡ [] }
@@ -26,7 +26,7 @@ fn claim_all<R: Wait>(rt: &R, ring: &Ring<Block>, mut pass: CorePass<Block>) -> 
     seen
 }
 
-// Claims once, and answers whether more may come.
+// Claims once, and returns whether there may be further places.
 fn claim_once(ring: &Ring<Block>, pass: &mut CorePass<Block>, seen: &mut Seen) -> bool
     requires within { pass.old.table ≡ ring.now.id }
     requires empty { pass.old.hand ≡ [] }
@@ -44,7 +44,7 @@ fn claim_once(ring: &Ring<Block>, pass: &mut CorePass<Block>, seen: &mut Seen) -
     }
 }
 
-// Notes the place, where the block is its own.
+// Notes the place, if its block is its own.
 fn note(seen: &mut Seen, place: u32, block: &Block) {
     if block.number != place {
         return;

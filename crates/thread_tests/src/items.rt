@@ -8,7 +8,7 @@ use zy_rx::{Inlet, Outlet, Rx, both_ends, ring};
 
 const ITEMS: u32 = 100_000;
 
-// Offers so many items, each until it is taken over.
+// Offers `items` items, each until it is accepted.
 fn offer_all<R: Wait>(rt: &R, mut inlet: Inlet, items: u32) -> Inlet
     ensures kept { result.ring ≡ inlet.ring }
 {
@@ -29,7 +29,7 @@ fn offer_all<R: Wait>(rt: &R, mut inlet: Inlet, items: u32) -> Inlet
     inlet
 }
 
-// Takes so many items, and counts those that are not the next ones.
+// Takes `items` items, and counts those that are not the next ones.
 fn take_all<R: Wait>(rt: &R, mut outlet: Outlet, items: u32) -> (Outlet, u32)
     ensures kept { result.0.ring ≡ outlet.ring }
 {

@@ -1,12 +1,12 @@
-//! What ends a test that fails.
+//! How a test that fails is ended.
 use std::process::Abort;
 
-/// Ends the run, since memory was wanted.
+/// Ends the run, since memory was refused.
 pub(crate) fn no_memory<R: Abort>(rt: &R) -> ! {
     panic!(rt; "no memory")
 }
 
-/// Ends the run where this does not hold.
+/// Ends the run if this does not hold.
 pub(crate) fn judge<R: Abort>(rt: &R, holds: bool, what: &str) {
     assert!(rt; holds, "{what}");
 }

@@ -1,4 +1,4 @@
-//! Tests of what threads share: the store, rings, thieves and control words, over real threads.
+//! Tests of what threads share: the store, rings, thieves and control words, on real threads.
 #![tactic(auto)]
 
 #[cfg(test)]

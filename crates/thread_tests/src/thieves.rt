@@ -31,7 +31,7 @@ fn push_ring<R: Abort>(rt: &R, rings: &mut Rings<Block>, ring: Ring<Block>)
     };
 }
 
-// Adds the rings of two cores, of which the second has no place, and answers the home of the first.
+// Adds the rings of two cores, the second of which has no place, and returns the home of the first.
 fn push_both<R: Abort>(rt: &R, alloc: Global, rings: &mut Rings<Block>) -> HomePass<Block>
     requires none { rings.old ≡ [] }
     ensures count { length rings.new ≡ 2 }
@@ -89,7 +89,7 @@ fn pair_on<R: Abort>(
     (one, two)
 }
 
-// Publishes each place that comes back, for so many rounds, and tells the thieves to stop.
+// Publishes each place that comes back, for `ROUNDS` rounds, and then asks the thieves to stop.
 fn tend<R: Wait>(
     rt: &R,
     ring: &Ring<Block>,
@@ -117,7 +117,8 @@ fn tend<R: Wait>(
     home
 }
 
-// Steals and gives back, until nothing comes any more, and counts the blocks that are of another place.
+// Steals and gives back until there are no further places, and counts the blocks that are of
+// another place.
 fn rob<R: Wait>(rt: &R, rings: &Rings<Block>, mut passes: Passes<Block>, stop: &AtomicBool) -> u32
     requires count { length rings.now ≡ 2 }
     requires within { ArePasses rings.now passes × (passes.core ≡ 1) }

@@ -182,7 +182,7 @@ pub IsOrdered-parts : (before : Option Entry) (xs ys : List Entry) → IsOrdered
 IsOrdered-parts before [] ys ordered = (tt, ordered)
 IsOrdered-parts before (x ∷ xs) ys ordered = let rest = IsOrdered-parts (Some x) xs ys ordered.1 in ((ordered.0, rest.0), rest.1)
 
--- what is in order behind an entry is in order
+-- entries that are in order after an entry are in order
 pub IsOrdered-alone : (before : Option Entry) (es : List Entry) → IsOrdered before es → IsOrdered None es
 IsOrdered-alone before [] ordered = tt
 IsOrdered-alone before (e ∷ es) ordered = (tt, ordered.1)

@@ -11,12 +11,12 @@ use Rattle.zy_base.specs.History.{IsReplay, IsLegal, AreHistories}
 use Rattle.zy_base.proofs.EntryLemmas.{at_shard-here, at_shard-other}
 use Rattle.zy_base.proofs.LegalLemmas.{legal_whole}
 
--- an entry stands before each of a list
+-- an entry comes before each entry of a list
 abbrev pub IsBeforeAll : Entry → List Entry → Type 0
 IsBeforeAll x [] = Unit {0}
 IsBeforeAll x (y ∷ ys) = IsBefore x y × IsBeforeAll x ys
 
--- each entry stands before all that follow it
+-- each entry comes before all that follow it
 abbrev pub IsSorted : List Entry → Type 0
 IsSorted [] = Unit {0}
 IsSorted (x ∷ xs) = IsBeforeAll x xs × IsSorted xs
@@ -52,7 +52,7 @@ sorted_by_stamp before (x ∷ y ∷ ys) stamps =
     let rest = sorted_by_stamp x.stamp (y ∷ ys) stamps.1 in let next : IsBefore x y = inl stamps.1.0 in ((next, before_all_through x y ys next rest.0), rest)
 
 module _ (p : Entry → Bool) where
-  -- the first that passes a test stands behind what stands before all
+  -- the first entry that passes a test comes after an entry that is before all
   first_passes : (x y : Entry) (ys rest : List Entry) → IsBeforeAll y ys → filter p ys ≡ x ∷ rest → IsBefore y x
   first_passes x y [] rest before is = absurd (cc)
   first_passes x y (z ∷ zs) rest before is = go (p z) is (first_passes x y zs rest before.1)

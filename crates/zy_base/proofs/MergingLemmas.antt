@@ -10,7 +10,7 @@ use Rattle.zy_base.proofs.EntryLemmas.{at_shard-here, at_shard-other}
 
 -- ---- one entry
 
--- an entry stands before another one or behind it, unless stamp and shard are the same
+-- an entry comes before another one or after it, unless stamp and shard are the same
 before_or_behind : (x y : Entry) → IsBefore x y ⊎ (IsBefore y x ⊎ ((x.stamp ≡ y.stamp) × (x.shard ≡ y.shard)))
 before_or_behind x y = ⊎_elim
     (λ (lower : x.stamp < y.stamp). inl (inl lower))
@@ -50,7 +50,7 @@ behind_first e y ys zs apart same shard = dite (ℕ_discrete y.shard shard)
 above : (e y : Entry) (ys : List Entry) → StampsRise e.stamp (at_shard e.shard (y ∷ ys)) → e.shard ≡ y.shard → e.stamp < y.stamp
 above e y ys stamps same = (subst (StampsRise e.stamp) (at_shard-here e.shard y ys (sym same)) stamps).0
 
--- so what doesn't stand behind it is at another shard
+-- so an entry that does not come after it is at another shard
 apart : (e y : Entry) → (e.shard ≡ y.shard → e.stamp < y.stamp) → IsBefore y e ⊎ ((e.stamp ≡ y.stamp) × (e.shard ≡ y.shard)) → e.shard ≢ y.shard
 apart e y higher rest same = ⊎_elim
     (λ (first : IsBefore y e). ⊎_elim

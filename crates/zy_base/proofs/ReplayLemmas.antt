@@ -59,7 +59,7 @@ counts_calls shards number es = let most = count_by shards number empty_state es
 
 -- ---- all shards
 
--- a legal list stays legal with an entry whose reply is that of its shard's part
+-- a legal list stays legal when an entry is appended whose reply is that of its shard's part
 pub IsLegal-push : (shards : ℕ) (es : List Entry) (e : Entry) → IsLegal shards es → e.shard < shards
     → e.reply ≡ reply_to (replayed shards e.shard empty_state (at_shard e.shard es)) e.call → IsLegal shards (es ++ e ∷ [])
 IsLegal-push shards es e legal within reply =
@@ -70,7 +70,7 @@ IsLegal-push shards es e legal within reply =
     (subst (λ s. e.reply ≡ reply_to (replayed shards s empty_state (at_shard s es)) e.call) is reply)))
     (λ other. subst (IsReplay shards shard empty_state) (sym (at_shard-push_other shard es e other)) (legal_parts shards (λ number. empty_state) es legal shard)))
 
--- the first part of a legal list is legal
+-- a prefix of a legal list is legal
 pub IsLegal-front : (shards : ℕ) (xs ys : List Entry) → IsLegal shards (xs ++ ys) → IsLegal shards xs
 IsLegal-front shards xs ys legal =
     legal_whole shards (λ number. empty_state) xs (AreBelow-parts shards xs ys (legal_below shards (λ number. empty_state) (xs ++ ys) legal)).0

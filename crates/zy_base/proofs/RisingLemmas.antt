@@ -1,4 +1,4 @@
--- Numbers that rise, with one more above the last.
+-- Numbers that rise, with one further number above the last.
 use Rattle.std.proofs.Common.{◌≡◌, ℕ, zero, suc, ◌+◌, ◌<◌, List, [], ◌∷◌, ◌++◌, sym, subst, arith}
 use Rattle.std.specs.Prelude.{None, IfSome}
 use Rattle.std.specs.List.{slice_index, last_or}

@@ -12,7 +12,7 @@ use Rattle.zy_base.specs.declared.call_reply.CallReply.TheVariants.{Hit, Number}
 use Rattle.zy_base.specs.Call.{key_of}
 use Rattle.zy_base.specs.Code.{kind_of, call_of, call_code, call_flags, call_number, call_value, hit_code, number_code, reply_code, reply_flags, reply_number, reply_value, plain_reply}
 
--- what is read back from a code is told apart where codes are
+-- values that are read back from codes can be compared if the codes can
 pub told_by : {A B : Type 0} (code : A → B) (read : B → A) → ((a : A) → read (code a) ≡ a) → Discrete B → Discrete A
 told_by {A} {B} code read back tells a b = go (tells (code a) (code b))
   where

@@ -10,7 +10,7 @@ module _ {A : Type 0} where
   slice_get-set (x ∷ xs) zero a within = refl
   slice_get-set (x ∷ xs) (suc i) a within = slice_get-set xs i a (omega arith)
 
-  -- and nothing else
+  -- nothing else is there
   pub slice_get-set_is : (xs : List A) (i : ℕ) (a b : A) → slice_get (set xs i a) i ≡ Some b → a ≡ b
   slice_get-set_is [] i a b is = cc
   slice_get-set_is (x ∷ xs) zero a b is = cc
@@ -24,13 +24,13 @@ module _ {A : Type 0} where
   slice_get-set_other (x ∷ xs) (suc i) zero a other = refl
   slice_get-set_other (x ∷ xs) (suc i) (suc j) a other = slice_get-set_other xs i j a (λ same. other (ap suc same))
 
-  -- to put what is there changes nothing
+  -- putting an element where it already is changes nothing
   pub set-same : (xs : List A) (i : ℕ) (a : A) → slice_get xs i ≡ Some a → set xs i a ≡ xs
   set-same [] i a is = refl
   set-same (x ∷ xs) zero a is = let same : x ≡ a = cc in ap (λ y. y ∷ xs) (sym same)
   set-same (x ∷ xs) (suc i) a is = ap (λ l. x ∷ l) (set-same xs i a is)
 
-  -- what is put twice is put once
+  -- of two changes at one place, the second remains
   pub set-set : (xs : List A) (i : ℕ) (a b : A) → set (set xs i a) i b ≡ set xs i b
   set-set [] i a b = refl
   set-set (x ∷ xs) zero a b = refl

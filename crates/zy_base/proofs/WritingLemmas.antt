@@ -21,7 +21,7 @@ grew_on None (Some between) (Some after) x y first second = absurd first
 grew_on (Some before) (Some between) (Some after) x y first second =
     second ∙ ap (λ (held : List ℕ). held ++ y) first ∙ append_assoc before x y
 
--- one more write of a piece, of which some bytes were taken before
+-- one further write of a piece, some bytes of which were taken before
 pub grew_piece : (a b c : Option (List ℕ)) (piece : List ℕ) (at n : ℕ) → Grew a b (take at piece) → Grew b c (take n (take (length piece - at) (drop at piece))) → Grew a c (take (at + n) piece)
 grew_piece a b c piece at n first second =
     let joined : take at piece ++ take n (take (length piece - at) (drop at piece)) ≡ take (at + n) piece =
@@ -74,7 +74,7 @@ writes_on holds faults old between new (Err e) x y first le second = record {
   cause = rose_later (faults old) (faults between) (faults new) le second.cause;
 }
 
--- two texts of which the first failed
+-- two texts, the first of which failed
 pub writes_no_more : {K E : Type 0} (holds : K → Option (List ℕ)) (faults : K → ℕ) (old new : K) (e : E) (x y : List ℕ) → Writes holds faults old new (Err e) x → Writes holds faults old new (Err e) (x ++ y)
 writes_no_more holds faults old new e x y first = record {
   whole = tt;

@@ -3,13 +3,13 @@ use Rattle.std.specs.Prelude.{ℕ, ◌≤◌, List, length, take, ⊤}
 use Rattle.zy_base.specs.declared.storage.Storage.{Storage}
 use Rattle.zy_base.specs.declared.storage.Storage.TheVariants.{Short, Own, Shared}
 
--- the bytes that are kept: in place, in a vector, or the first of a vector with more owners
+-- the bytes that are kept: in place, in a vector, or the first bytes of a vector with several owners
 abbrev pub bytes_of : Storage → List ℕ
 bytes_of (Short short) = short
 bytes_of (Own bytes) = bytes.items
 bytes_of (Shared block len) = take len block.value.items
 
--- no more bytes are shared than there are
+-- the bytes used are not more than the vector has
 abbrev pub IsWithin : Storage → Type 0
 IsWithin (Short short) = ⊤
 IsWithin (Own bytes) = ⊤

@@ -39,7 +39,7 @@ abbrev pub IsReply : CallReply → Type 0
 IsReply (Hit flags unique value) = IsValue value
 IsReply reply = Unit {0}
 
--- the call of an entry is within its bounds, and one of so many commands
+-- the call of an entry is within its bounds, and belongs to one of `commands` commands
 abbrev pub IsCallWithin : ℕ → Entry → Type 0
 IsCallWithin commands e = IsCall e.call × (e.tag.index < commands)
 

@@ -18,7 +18,7 @@ abbrev pub replayed : ℕ → ℕ → State → List Entry → State
 replayed shards number state [] = state
 replayed shards number state (e ∷ es) = replayed shards number (state_after shards number state e.call) es
 
--- the history is one of the shard with this number, of so many
+-- the history is one of shard `number` of `shards`
 pub record IsHistory (shards number : ℕ) (history : List Entry) : Type 0 where
   -- each reply is that of the replay
   pub replay : IsReplay shards number empty_state history
@@ -34,18 +34,19 @@ abbrev pub states_after : ℕ → (ℕ → State) → Entry → ℕ → State
 states_after shards states e number =
     if number == e.shard then state_after shards e.shard (states e.shard) e.call else states number
 
--- each entry's shard is one of so many, and its reply is that of its call, where the entries before it left that shard
+-- each entry's shard is one of `shards` shards, and its reply is the one that this shard gives
+-- after the entries before it
 abbrev pub IsLegalFrom : ℕ → (ℕ → State) → List Entry → Type 0
 IsLegalFrom shards states [] = Unit {0}
 IsLegalFrom shards states (e ∷ es) =
     (e.shard < shards) × (e.reply ≡ reply_to (states e.shard) e.call)
     × IsLegalFrom shards (states_after shards states e) es
 
--- the entries are those of one run of calls on so many shards, which were empty at first
+-- the entries are those of one run of calls on `shards` shards, which are empty at first
 abbrev pub IsLegal : ℕ → List Entry → Type 0
 IsLegal shards es = IsLegalFrom shards (λ number. empty_state) es
 
--- the histories are those of so many shards
+-- the histories are those of `shards` shards
 pub record AreHistories (shards : ℕ) (histories : List (List Entry)) : Type 0 where
   -- there is one for each shard
   pub count : length histories ≡ shards

@@ -10,6 +10,6 @@ hash_after hash (byte ∷ bytes) = hash_after ((bit_xor hash byte * 16777619) % 
 abbrev pub hash_of : List ℕ → ℕ
 hash_of bytes = hash_after 2166136261 bytes
 
--- the number of a key's shard, of so many shards
+-- the number of a key's shard, among `shards` shards
 abbrev pub shard_of : List ℕ → ℕ → ℕ
 shard_of key shards = hash_of key % shards

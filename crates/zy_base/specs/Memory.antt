@@ -41,11 +41,12 @@ pub record Keeping : Type 0 where
 abbrev pub is_failing : List ℕ → ℕ → Bool
 is_failing failing call = list_any (λ n. n == call) failing
 
--- a count after one more, which stands still at its last value
+-- a count plus one, which stays at its largest value
 abbrev pub one_more : ℕ → ℕ
 one_more count = min (count + 1) (2 ^ 64 - 1)
 
--- the bytes held after a piece was taken: a piece that doesn't fit is not kept, and then nothing is told
+-- the bytes held after a piece was taken: a piece that does not fit is not kept, and then the bytes
+-- are no longer known
 abbrev pub held_after : Option (List ℕ) → ℕ → List ℕ → Option (List ℕ)
 held_after None room piece = None
 held_after (Some held) room piece = if nat_le (length held + length piece) room then Some (held ++ piece) else None

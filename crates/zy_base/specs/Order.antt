@@ -16,12 +16,12 @@ abbrev pub AreAt : ℕ → List Entry → Type 0
 AreAt shard [] = Unit {0}
 AreAt shard (e ∷ es) = (e.shard ≡ shard) × AreAt shard es
 
--- every entry's shard is one of so many
+-- the shard of each entry is one of `shards` shards
 abbrev pub AreBelow : ℕ → List Entry → Type 0
 AreBelow shards [] = Unit {0}
 AreBelow shards (e ∷ es) = (e.shard < shards) × AreBelow shards es
 
--- the entries of one of several lists, and none where there is no such list
+-- the entries of the list at this place; none if there is no such list
 abbrev pub history_of : List (List Entry) → ℕ → List Entry
 history_of histories shard = unwrap_or (slice_get histories shard) []
 
@@ -44,16 +44,17 @@ abbrev pub AreStampsBelow : ℕ → List Entry → Type 0
 AreStampsBelow limit [] = Unit {0}
 AreStampsBelow limit (e ∷ es) = (e.stamp < limit) × AreStampsBelow limit es
 
--- an entry stands before another: its stamp is lower, or the stamps are equal and its shard is lower
+-- an entry comes before another: its stamp is lower, or the stamps are equal and its shard is lower
 abbrev pub IsBefore : Entry → Entry → Type 0
 IsBefore x y = (x.stamp < y.stamp) ⊎ ((x.stamp ≡ y.stamp) × (x.shard < y.shard))
 
--- an entry stands behind the one before, where there is one
+-- an entry comes after the one before, if there is one
 abbrev pub IsBehind : Option Entry → Entry → Type 0
 IsBehind None e = Unit {0}
 IsBehind (Some before) e = IsBefore before e
 
--- the entries stand in order of stamp and, where stamps are equal, of shard, behind the one before
+-- the entries are in the order of stamps and, where stamps are equal, of shards, and come after the
+-- one before
 abbrev pub IsOrdered : Option Entry → List Entry → Type 0
 IsOrdered before [] = Unit {0}
 IsOrdered before (e ∷ es) = IsBehind before e × IsOrdered (Some e) es

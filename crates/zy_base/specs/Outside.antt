@@ -1,17 +1,17 @@
 -- What a source gives, what a sink takes, and when they fail.
 use Rattle.std.specs.Prelude.{◌≡◌, ◌⊎◌, ℕ, ◌-◌, ◌^◌, ◌<◌, ◌≤◌, List, [], ◌++◌, length, take, ⊤, Option, None, Some, Result, MatchResult, OnOk, OnErr}
 
--- the count of faults rose, or stands at its last value
+-- the count of faults rose, or is at its largest value
 abbrev pub Rose : ℕ → ℕ → Type 0
 Rose before after = (before < after) ⊎ (2 ^ 64 - 1 ≤ after)
 
--- where the bytes held are told afterwards, they were told before, and grew by these
+-- if the bytes held are known afterwards, they were known before, and these were appended
 abbrev pub Grew : Option (List ℕ) → Option (List ℕ) → List ℕ → Type 0
 Grew before None bytes = ⊤
 Grew None (Some after) bytes = ⊥
 Grew (Some before) (Some after) bytes = after ≡ before ++ bytes
 
--- the same, by some first of these bytes
+-- the same, with a prefix of these bytes
 abbrev pub GrewByPrefix : Option (List ℕ) → Option (List ℕ) → List ℕ → Type 0
 GrewByPrefix before after bytes = (n : ℕ) × (n ≤ length bytes) × Grew before after (take n bytes)
 
@@ -24,12 +24,12 @@ WriteGrew before after result from =
 abbrev pub TakesSome : {E : Type 0} → Result ℕ E → List ℕ → Type 0
 TakesSome result from = MatchResult result (λ n. (n ≤ length from) × (0 < length from → 0 < n)) (λ _. ⊤)
 
--- what is told now, by an object that told something at first
+-- the bytes that are known now, or none if none were known at first
 abbrev pub told_since : Option (List ℕ) → Option (List ℕ) → Option (List ℕ)
 told_since None now = None
 told_since (Some first) now = now
 
--- a call that writes a text wrote it whole, or failed after some first part of it
+-- a call that writes a text wrote the whole text, or failed after a prefix of it
 pub record Writes {K E : Type 0} (holds : K → Option (List ℕ)) (faults : K → ℕ) (old new : K) (result : Result ⊤ E)
     (text : List ℕ) : Type 0 where
   -- at `Ok` the sink grew by the text
@@ -38,5 +38,5 @@ pub record Writes {K E : Type 0} (holds : K → Option (List ℕ)) (faults : K �
   pub part : OnErr result (GrewByPrefix (holds old) (holds new) text)
   -- the count of faults didn't fall
   pub count : faults old ≤ faults new
-  -- `Err` comes only where the count rose, or stands at its last value
+  -- a call answers `Err` only if the count rose, or is at its largest value
   pub cause : OnErr result (Rose (faults old) (faults new))

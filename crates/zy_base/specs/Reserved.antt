@@ -1,7 +1,7 @@
--- Byte strings with room for more.
+-- Byte strings with reserved room.
 use Rattle.std.specs.Prelude.{ℕ, List}
 
--- the bytes, and for how many more there is room
+-- the bytes, and the number of further bytes for which there is room
 pub record Roomy : Type 0 where
   pub bytes : List ℕ
   pub room : ℕ

@@ -29,7 +29,7 @@ pub record State : Type 0 where
 abbrev pub empty_state : State
 empty_state = record { items = empty; count = 0 }
 
--- the unique of the item that a shard stores with this count, of so many shards
+-- the unique of the item that shard `number` of `shards` stores with this count
 abbrev pub unique_of : ℕ → ℕ → ℕ → ℕ
 unique_of shards number count = shards * count + number
 
@@ -115,7 +115,7 @@ item_at items (Some key) = get items key
 abbrev pub outcome_on : Items → Call → Outcome
 outcome_on items call = outcome_of call (item_at items (key_of call))
 
--- the shard after an effect: what is stored counts up, and nothing else does
+-- the shard after an effect: only what is stored raises the counter
 abbrev pub state_with : ℕ → ℕ → State → Effect → State
 state_with shards number state keeps = state
 state_with shards number state (stores key flags value) =
@@ -128,6 +128,6 @@ state_with shards number state empties = record { items = empty; count = state.c
 abbrev pub reply_to : State → Call → CallReply
 reply_to state call = (outcome_on state.items call).reply
 
--- the shard with this number, of so many, after a call
+-- shard `number` of `shards` after a call
 abbrev pub state_after : ℕ → ℕ → State → Call → State
 state_after shards number state call = state_with shards number state (outcome_on state.items call).effect

@@ -1,4 +1,4 @@
--- Items, replies and entries as they are seen without uniques, shards and stamps.
+-- Items, replies and entries without uniques, shards and stamps.
 use Rattle.std.specs.Prelude.{◌≡◌, ℕ, List, map, if◌then◌else◌, Option, None, Some}
 use Rattle.std.specs.Ordering.{nat_cmp, eq_by_cmp}
 use Rattle.std.specs.Cmp.Lexicographic.{slice_cmp}
@@ -37,13 +37,14 @@ seen_at key state = seen (get state.items key)
 
 -- ---- calls and effects
 
--- the reply to the call does not depend on a unique, but for the unique that it tells, and its effect is at one key
+-- the reply to the call does not depend on a unique, except for the unique that it shows, and its
+-- effect is at one key
 abbrev pub IsSteady : Call → Type 0
 IsSteady (Cas key flags unique value) = ⊥
 IsSteady Flush = ⊥
 IsSteady call = Unit {0}
 
--- what is seen at a key after an effect, where this was seen before it
+-- the item at a key after an effect, without its unique, from that before it
 abbrev pub seen_after : Effect → List ℕ → Option Item → Option Item
 seen_after keeps key found = found
 seen_after (stores at flags value) key found =

@@ -6,7 +6,7 @@ use Rattle.zy_base.specs.declared.call_reply.CallReply.{CallReply}
 use Rattle.zy_base.specs.declared.call_reply.CallReply.TheVariants as Replies
 use Rattle.zy_base.specs.Shard.{State, empty_state, reply_to, state_after}
 
--- what the shard with this number, of so many, answers to calls from a state on
+-- the replies of shard `number` of `shards` to calls, from a state on
 abbrev pub answers_from : ℕ → ℕ → State → List Call → List CallReply
 answers_from shards number state [] = []
 answers_from shards number state (call ∷ calls) =
@@ -18,7 +18,7 @@ answers calls = answers_from 16 12 empty_state calls
 
 -- ---- items and their uniques
 
--- an item is stored, and exchanged where its unique is told
+-- an item is stored, and then exchanged by its unique
 abbrev pub exchanges : List Call
 exchanges =
     Calls.Get (codes "a")
@@ -30,7 +30,7 @@ exchanges =
     ∷ Calls.Get (codes "a")
     ∷ []
 
--- what is answered to them
+-- the replies to these
 abbrev pub exchanged : List CallReply
 exchanged =
     Replies.Miss
@@ -44,7 +44,7 @@ exchanged =
 
 -- ---- values that are joined and replaced
 
--- an item is wanted, and then one is there
+-- a call needs an item, and then there is one
 abbrev pub joins : List Call
 joins =
     Calls.Replace (codes "b") 0 (codes "x")
@@ -59,7 +59,7 @@ joins =
     ∷ Calls.Get (codes "b")
     ∷ []
 
--- what is answered to them
+-- the replies to these
 abbrev pub joined : List CallReply
 joined =
     Replies.NotStored
@@ -76,7 +76,8 @@ joined =
 
 -- ---- numbers
 
--- values are counted up past the greatest number, up from padded digits, down to 0, and where they are no number
+-- values are counted up past the largest number, up from padded digits, down to 0; and values that
+-- are no number
 abbrev pub counts : List Call
 counts =
     Calls.Incr (codes "c") 1
@@ -91,7 +92,7 @@ counts =
     ∷ Calls.Decr (codes "d") 5
     ∷ []
 
--- what is answered to them
+-- the replies to these
 abbrev pub counted : List CallReply
 counted =
     Replies.NotFound
@@ -122,7 +123,7 @@ removals =
     ∷ Calls.Get (codes "a")
     ∷ []
 
--- what is answered to them
+-- the replies to these
 abbrev pub removed : List CallReply
 removed =
     Replies.NotFound

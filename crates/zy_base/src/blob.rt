@@ -56,7 +56,7 @@ impl Blob {
         }
     }
 
-    /// The bytes of a vector, which it takes over. Takes no memory.
+    /// The bytes of a vector, which is moved and not copied. Takes no memory.
     pub fn from_vec(bytes: Vec<u8>) -> Blob
         ensures value { result ≡ bytes.items }
     {
@@ -133,14 +133,14 @@ impl Blob {
         }
     }
 
-    /// Cuts the end off, so that so many bytes are left at most. Takes no memory.
+    /// Cuts the end off, so that at most `len` bytes are left. Takes no memory.
     pub fn truncate(&mut self, len: usize)
         ensures value { self.new ≡ take len self.old }
     {
         self.storage.truncate(len);
     }
 
-    /// Takes the bytes out, with room for so many more at least, and leaves none.
+    /// Takes the bytes out, with room for at least `more` further bytes, and leaves none.
     pub fn reserve(&mut self, more: usize) -> Result<Reserved, NoMemory>
         ensures value { IfOk result (λ reserved. reserved.bytes ≡ self.old) }
         ensures room { IfOk result (λ reserved. more ≤ reserved.room) }
@@ -208,7 +208,7 @@ impl PartialOrd for Blob {
     }
 }
 
-// Byte strings stand in the order of a dictionary.
+// Byte strings are ordered as in a dictionary.
 impl Ord for Blob {
     ghost cmp = { slice_cmp nat_cmp };
 

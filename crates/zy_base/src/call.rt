@@ -33,7 +33,7 @@ pub enum Call {
         flags: u32,
         value: Blob,
     },
-    /// Puts the value behind the one there.
+    /// Appends the value to the one there.
     Append {
         key: Blob,
         value: Blob,

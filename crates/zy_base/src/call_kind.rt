@@ -24,7 +24,7 @@ pub enum CallKind {
 /// The greatest code of a call.
 pub const LAST_CALL_CODE: u8 = 11;
 
-/// Which fields a kind of call has. In a file they stand in this order.
+/// Which fields a kind of call has. In a file they are in this order.
 #[derive(Clone, Copy)]
 pub struct CallFields {
     pub key: bool,

@@ -19,7 +19,7 @@ pub enum CallReply {
     },
     /// An item was stored.
     Stored,
-    /// The key has an item where none is wanted, or none where one is.
+    /// The key has an item where the call needs none, or none where it needs one.
     NotStored,
     /// The item there has another unique.
     Exists,

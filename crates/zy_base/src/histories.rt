@@ -39,7 +39,7 @@ impl Histories {
         }
     }
 
-    /// The histories of a vector, which it takes over. Takes no memory.
+    /// The histories of a vector, which is moved and not copied. Takes no memory.
     pub fn from_vec(lists: Vec<Entries>) -> Histories
         requires few { length lists.items ≤ shard_limit }
         requires shards { AreByShard lists.items }

@@ -30,7 +30,7 @@ impl<T> Items<T> {
         }
     }
 
-    /// The list of a vector, which it takes over. Takes no memory.
+    /// The list of a vector, which is moved and not copied. Takes no memory.
     pub fn from_vec(items: Vec<T>) -> Items<T>
         ensures value { result ≡ items.items }
     {

@@ -2,7 +2,7 @@
 ghost use Rattle.std.specs.Prelude.{◌≡◌, ◌<◌, ◌≤◌};
 ghost use Rattle.zy_base.specs.Key as keys;
 
-/// The number of a key's shard, of so many shards: its 32-bit FNV-1a hash, modulo their number.
+/// The number of a key's shard, among `shards` shards: its 32-bit FNV-1a hash, modulo `shards`.
 pub fn shard_of(key: &[u8], shards: u32) -> u32
     requires some { 1 ≤ shards }
     ensures value { result ≡ keys.shard_of key.now shards }

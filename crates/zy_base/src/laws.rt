@@ -100,8 +100,8 @@ pub fn replies_are_within_their_bounds()
         → AllByRecursion (λ (e : Entry). IsReply e.reply) es }
 {}
 
-/// Shards that have the same at a call's key, but for uniques, answer a steady call alike, but for
-/// the unique that is told.
+/// If shards have the same at a call's key, apart from uniques, they give a steady call the same
+/// reply, apart from the unique that it shows.
 pub fn steady_calls_tell_no_other_unique()
     ensures reply { (state other : State) (call : Call) (key : List ℕ) → IsSteady call
         → key_of call ≡ Some key → seen_at key state ≡ seen_at key other
@@ -118,8 +118,8 @@ pub fn a_list_is_legal_shard_by_shard()
         → ((shard : ℕ) → IsReplay shards shard empty_state (at_shard shard es)) → IsLegal shards es }
 {}
 
-/// A list with one more entry is legal exactly where the list is, and the entry's shard is one of
-/// those that there are and answers the call so.
+/// A list with one further entry is legal exactly where the list is, and the entry's shard exists
+/// and gives this reply to the call.
 pub fn a_legal_list_grows_by_a_reply()
     ensures more { (shards : ℕ) (es : List Entry) (e : Entry) → IsLegal shards es → e.shard < shards
         → e.reply ≡ reply_to (replayed shards e.shard empty_state (at_shard e.shard es)) e.call
@@ -154,7 +154,7 @@ pub fn two_entries_are_merged_by_stamp_and_shard()
         → IsMergeOf ((x ∷ []) ∷ (y ∷ []) ∷ []) (x ∷ y ∷ []) }
 {}
 
-/// The merged list of the histories of so many shards is legal, with their stamps.
+/// The merged list of the histories of `shards` shards is legal, and its stamps are theirs.
 pub fn a_merge_of_histories_is_legal()
     ensures legal { (shards : ℕ) (histories : List (List Entry)) (es : List Entry)
         → AreHistories shards histories → IsMergeOf histories es → IsLegal shards es }

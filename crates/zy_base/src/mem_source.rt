@@ -38,7 +38,7 @@ impl Model for MemSource {
 }
 
 impl MemSource {
-    /// Gives these bytes, at most so many a call, and fails at exactly the calls with these numbers,
+    /// Gives these bytes, at most `most` a call, and fails at exactly the calls with these numbers,
     /// counted from 0. Takes no memory.
     pub fn new(bytes: Blob, most: usize, failing: CallNumbers) -> MemSource
         requires some { 1 ≤ most }
@@ -96,7 +96,7 @@ impl Source for MemSource {
     }
 }
 
-// Copies some first bytes, as many as fit and at most so many, and answers how many.
+// Copies the first bytes: the number that fits, at most `most`. Returns that number.
 pub(crate) fn give(from: &[u8], most: usize, into: &mut [u8]) -> usize
     ensures count { result ≡ min (length into.old) (min most (length from.now)) }
     ensures given { take result into.new ≡ take result from.now }

@@ -5,7 +5,7 @@ ghost use Rattle.zy_base.specs.Outside.{Rose, Grew, WriteGrew, TakesSome};
 
 use std::alloc::{AllocError, AllocFailed};
 
-/// Memory was wanted and not found.
+/// An allocation was refused.
 #[derive(Clone, Copy, PartialEq, Eq)]
 pub struct NoMemory;
 
@@ -31,16 +31,16 @@ pub struct Failed;
 
 /// Gives bytes.
 pub trait Source {
-    // The bytes that are still to come, where the source tells them.
+    // The bytes that are still to come, if the source makes them known.
     ghost rest: { Self → Option (List ℕ) };
 
     // How often a read failed.
     ghost faults: { Self → ℕ };
 
-    /// Reads some next bytes into the buffer, and answers how many; the buffer's other bytes are
-    /// free. A read of 0 into a buffer that is not empty is the end of the input.
+    /// Reads the next bytes into the buffer, and returns their number; the rest of the buffer may
+    /// have any bytes. A read of 0 bytes into a buffer that is not empty is the end of the input.
     ///
-    /// `Failed` comes only where the count of faults rose, or stands at its last value.
+    /// Answers `Failed` only if the count of faults rose, or is at its largest value.
     fn read(&mut self, into: &mut [u8]) -> Result<usize, Failed>
         ensures bound { IfOk result (λ n. n ≤ length into.new) }
         ensures bytes { ReadConsumes (rest self.old) (rest self.new) result into.new }
@@ -50,29 +50,32 @@ pub trait Source {
 
 /// Takes bytes.
 pub trait Sink {
-    // The bytes taken so far, where the sink tells them.
+    // The bytes taken so far, if the sink makes them known.
     ghost holds: { Self → Option (List ℕ) };
 
     // How often a write or a finish failed.
     ghost faults: { Self → ℕ };
 
-    /// Takes some first bytes of a piece, at least one of a piece that is not empty, and answers how many.
+    /// Takes the first bytes of a piece, at least one if the piece is not empty, and returns their
+    /// number.
     ///
-    /// `Failed` comes only where the count of faults rose, or stands at its last value; then nothing was taken.
+    /// Answers `Failed` only if the count of faults rose, or is at its largest value; then nothing
+    /// was taken.
     fn write(&mut self, from: &[u8]) -> Result<usize, Failed>
         ensures bound { TakesSome result from.now }
         ensures bytes { WriteGrew (holds self.old) (holds self.new) result from.now }
         ensures count { faults self.old ≤ faults self.new }
         ensures cause { OnErr result (Rose (faults self.old) (faults self.new)) };
 
-    /// Sees that all that was taken has gone where it goes. It takes no byte, also where it fails.
+    /// Makes sure that all that was taken has reached its destination. It takes no byte, even if it
+    /// fails.
     fn finish(&mut self) -> Result<(), Failed>
         ensures bytes { Grew (holds self.old) (holds self.new) [] }
         ensures count { faults self.old ≤ faults self.new }
         ensures cause { OnErr result (Rose (faults self.old) (faults self.new)) };
 }
 
-/// Is passed once for each command, when the command is begun. It says nothing.
+/// A gate is passed once for each command, when the command is begun. It has no contract.
 pub trait Gate {
     /// Lets the command with this index of this connection, on this core, pass.
     fn pass(&self, core: u32, conn: u32, index: u64);

@@ -1,12 +1,12 @@
-//! Byte strings with room for more.
+//! Byte strings with reserved room.
 ghost use Rattle.std.specs.Prelude.{◌≡◌, ◌≤◌, ◌+◌, ◌++◌, length, decimal};
 
 use crate::blob::Blob;
 use itoa::Buffer;
 use std::marker::Model;
 
-/// A byte string with room for more bytes, which are then appended without a refusal. Contracts see it
-/// as its bytes, and for how many more there is room.
+/// A byte string with room for further bytes, which are then appended without a refusal. Contracts
+/// see it as its bytes, and the number of further bytes for which there is room.
 #[derive(Drop)]
 pub struct Reserved {
     pub(crate) bytes: Vec<u8>,

@@ -62,7 +62,7 @@ impl Short {
         self.len = end;
     }
 
-    // Cuts the end off, so that so many bytes are left at most.
+    // Cuts the end off, so that at most `len` bytes are left.
     pub(crate) fn truncate(&mut self, len: usize)
         ensures value { self.new ≡ take len self.old }
     {

@@ -14,7 +14,7 @@ pub(crate) enum Storage {
     Short(Short),
     // In a vector of its own.
     Own(Vec<u8>),
-    // The first bytes of a vector that may have more owners.
+    // The first `len` bytes of a vector that may have several owners.
     Shared { block: Arc<Vec<u8>>, len: usize },
 }
 
@@ -47,7 +47,7 @@ impl Storage {
         }
     }
 
-    // Cuts the end off, so that so many bytes are left at most.
+    // Cuts the end off, so that at most `len` bytes are left.
     pub(crate) fn truncate(&mut self, len: usize)
         requires within { IsWithin self.old }
         ensures value { bytes_of self.new ≡ take len (bytes_of self.old) }
@@ -79,7 +79,7 @@ pub(crate) fn copied(alloc: Global, bytes: &[u8]) -> Result<Storage, NoMemory>
     }
 }
 
-// Bytes and then more, in a new vector.
+// Two byte strings joined, in a new vector.
 pub(crate) fn joined(alloc: Global, front: &[u8], back: &[u8]) -> Result<Storage, NoMemory>
     ensures value { IfOk result (λ copy. bytes_of copy ≡ front.now ++ back.now) }
     ensures within { IfOk result (λ copy. IsWithin copy) }
@@ -91,7 +91,7 @@ pub(crate) fn joined(alloc: Global, front: &[u8], back: &[u8]) -> Result<Storage
     Ok(Storage::Own(bytes))
 }
 
-// A copy of bytes in a vector, with room for so many more.
+// A copy of bytes in a vector, with room for `more` further bytes.
 pub(crate) fn with_room(alloc: Global, bytes: &[u8], more: usize) -> Result<Vec<u8>, NoMemory>
     ensures value { IfOk result (λ copy. copy.items ≡ bytes.now) }
     ensures room { IfOk result (λ copy. vec_len copy + more ≤ vec_capacity copy) }
@@ -105,7 +105,7 @@ pub(crate) fn with_room(alloc: Global, bytes: &[u8], more: usize) -> Result<Vec<
     }
 }
 
-// The bytes of a vector, for more owners. After a refusal they have the one owner.
+// The bytes of a vector, so that it may have several owners. After a refusal it has one owner still.
 pub(crate) fn shared(alloc: Global, bytes: Vec<u8>) -> Result<Storage, Storage>
     ensures ok { IfOk result (λ kept. IsWithin kept × (bytes_of kept ≡ bytes.items)) }
     ensures err { IfErr result (λ kept. IsWithin kept × (bytes_of kept ≡ bytes.items)) }

@@ -7,8 +7,8 @@ use crate::outside::{Failed, NoMemory, Sink};
 use std::alloc::Global;
 use std::marker::Model;
 
-/// A sink in memory, which never fails. A piece that doesn't fit into what is left of its room is taken
-/// and not kept, and from then on the sink doesn't tell its bytes.
+/// A sink in memory, which never fails. A piece that does not fit into the room that is left is
+/// taken and not kept, and from then on the bytes of the sink are not known.
 #[derive(Drop)]
 pub struct SureSink {
     bytes: Vec<u8>,
@@ -28,7 +28,7 @@ impl Model for SureSink {
 }
 
 impl SureSink {
-    /// Keeps at most so many bytes, for which the room is reserved here.
+    /// Keeps at most `room` bytes; the room for them is reserved here.
     pub fn new(alloc: Global, room: usize) -> Result<SureSink, NoMemory>
         ensures value { IfOk result (λ sink. sink ≡ record { holds = Some []; room = room }) }
     {

@@ -1,4 +1,4 @@
--- Texts one after another in one row of bytes: their join, some first of them, and more of them.
+-- Texts one after another in one row of bytes: all of them joined, the first of them, and further ones.
 use Rattle.std.proofs.Common.{◌≡◌, ℕ, zero, suc, ◌+◌, ◌-◌, ◌<◌, ◌≤◌, List, [], ◌∷◌, ◌++◌, length, take, drop, get_or, refl, sym, ap, ◌∙◌, subst, arith, length-append}
 use Rattle.std.specs.List.{concat}
 use Rattle.std.proofs.lemmas.List.{append-nil, take-append-drop, take-append-le, drop-append-le, drop-drop, drop_all, take_all, length-drop}
@@ -19,12 +19,12 @@ Rise-at start (end ∷ ends) last zero d rise within = (rise.0, Rise-le end ends
 Rise-at start (end ∷ ends) last (suc at) d rise within =
     let more = Rise-at end ends last at d rise.1 (omega arith) in (omega (arith, rise.0, more.0), more.1)
 
--- places further on rise from a place further on
+-- places shifted by a number rise from a shifted place
 pub Rise-further : (count start : ℕ) (ends : List ℕ) (last : ℕ) → Rise start ends last → Rise (count + start) (further count ends) (count + last)
 Rise-further count start [] last rise = ap (λ n. count + n) rise
 Rise-further count start (end ∷ ends) last rise = (omega (arith, rise.0), Rise-further count end ends last rise.1)
 
--- places that end where others begin
+-- places that rise to where others begin rise on with those
 pub Rise-append : (start : ℕ) (front : List ℕ) (middle : ℕ) (ends : List ℕ) (last : ℕ) → Rise start front middle → Rise middle ends last → Rise start (front ++ ends) last
 Rise-append start [] middle ends last one two = rw one two
 Rise-append start (end ∷ front) middle ends last one two = (one.0, Rise-append end front middle ends last one.1 two)
@@ -62,7 +62,7 @@ concat-take bytes start (end ∷ ends) (suc at) d rise within =
     ∙ sym (take-add (end - start) (place - end) (drop start bytes))
     ∙ ap (λ n. take n (drop start bytes)) (sym sum)
 
--- behind other bytes the texts are the same
+-- after other bytes the texts are the same
 behind : (front bytes : List ℕ) (start : ℕ) (ends : List ℕ) → texts_from (front ++ bytes) (length front + start) (further (length front) ends) ≡ texts_from bytes start ends
 behind front bytes start [] = refl
 behind front bytes start (end ∷ ends) =
@@ -76,7 +76,7 @@ before bytes more start end low high =
     ap (λ (rest : List ℕ). take (end - start) rest) (drop-append-le start bytes more (omega arith))
     ∙ take-append-le (end - start) (drop start bytes) more (omega (arith, length-drop start bytes))
 
--- the texts of joined bytes are those of the first and then those of the second
+-- the texts of joined bytes are those of the first part and then those of the second
 pub texts_from-append : (front bytes : List ℕ) (start : ℕ) (fronts ends : List ℕ) → Rise start fronts (length front)
     → texts_from (front ++ bytes) start (fronts ++ further (length front) ends) ≡ texts_from front start fronts ++ texts_from bytes 0 ends
 texts_from-append front bytes start [] ends rise =
@@ -86,9 +86,9 @@ texts_from-append front bytes start (end ∷ fronts) ends rise =
     ap (λ (rest : List (List ℕ)). take (end - start) (drop start (front ++ bytes)) ∷ rest) (texts_from-append front bytes end fronts ends rise.1)
     ∙ ap (λ (text : List ℕ). text ∷ (texts_from front end fronts ++ texts_from bytes 0 ends)) (before front bytes start end rise.0 (Rise-le end fronts (length front) rise.1))
 
--- ---- one text more, and the texts of another list
+-- ---- one further text, and the texts of another list
 
--- a row of bytes with its ends, after a change that made these texts
+-- a row of bytes with the ends of its texts, which are these
 pub record Holds (bytes ends : List ℕ) (texts : List (List ℕ)) : Type 0 where
   pub rise : Rise 0 ends (length bytes)
   pub texts_are : texts_from bytes 0 ends ≡ texts
@@ -107,13 +107,13 @@ joined front bytes fronts ends one two =
     rise_at : (a b : ℕ) (ends : List ℕ) (last : ℕ) → a ≡ b → Rise a ends last → Rise b ends last
     rise_at a b ends last is rise = subst (λ n. Rise n ends last) is rise
 
--- the texts of another list behind those of one
+-- the texts of another list after those of one
 pub joined_as : (front bytes fronts ends all places : List ℕ) → Rise 0 fronts (length front) → Rise 0 ends (length bytes)
     → all ≡ front ++ bytes → places ≡ fronts ++ further (length front) ends
     → Holds all places (texts_from front 0 fronts ++ texts_from bytes 0 ends)
 joined_as front bytes fronts ends all places one two is at = rw (is, at) (joined front bytes fronts ends one two)
 
--- a text behind them
+-- one text after them
 pub pushed_as : (front text fronts all places : List ℕ) (last : ℕ) → Rise 0 fronts (length front)
     → all ≡ front ++ text → places ≡ fronts ++ last ∷ [] → last ≡ length all
     → Holds all places (texts_from front 0 fronts ++ text ∷ [])

@@ -1,7 +1,7 @@
 -- The system calls of one hold.
 use Rattle.std.specs.Prelude.{ℕ, List, [], ◌∷◌, ◌++◌}
 
--- the texts to send, in order, and how many commands of the connection are finished
+-- the texts to send, in order, and the number of finished commands of the connection
 pub record Batch : Type 0 where
   pub texts : List (List ℕ)
   pub finished : ℕ
@@ -10,10 +10,10 @@ pub record Batch : Type 0 where
 abbrev pub no_text : ℕ → Batch
 no_text finished = record { texts = []; finished = finished }
 
--- one text more
+-- with one further text
 abbrev pub with_text : Batch → List ℕ → Batch
 with_text batch text = record { texts = batch.texts ++ text ∷ []; finished = batch.finished }
 
--- another number of finished commands
+-- with another number of finished commands
 abbrev pub with_finished : Batch → ℕ → Batch
 with_finished batch finished = record { texts = batch.texts; finished = finished }

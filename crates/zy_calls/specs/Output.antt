@@ -3,22 +3,22 @@ use Rattle.std.specs.Prelude.{ℕ, List, [], ◌∷◌, ◌++◌, take}
 use Rattle.std.specs.List.{concat}
 use Rattle.zy_calls.specs.Batch.{Batch}
 
--- the connection, its texts in order, and how many of its commands are finished
+-- the connection, its texts in order, and the number of its finished commands
 pub record Output : Type 0 where
   pub conn : ℕ
   pub texts : List (List ℕ)
   pub finished : ℕ
 
--- nothing was carried out yet
+-- the output before any batch
 abbrev pub nothing_sent : ℕ → Output
 nothing_sent conn = record { conn = conn; texts = []; finished = 0 }
 
--- with a batch carried out
+-- the output after a batch
 abbrev pub with_batch : Output → Batch → Output
 with_batch output batch =
     record { conn = output.conn; texts = output.texts ++ batch.texts; finished = batch.finished }
 
--- with batches carried out, one after another
+-- the output after batches, one after another
 abbrev pub with_batches : Output → List Batch → Output
 with_batches output [] = output
 with_batches output (batch ∷ batches) = with_batches (with_batch output batch) batches
@@ -28,6 +28,6 @@ abbrev pub texts_sent : List Batch → List (List ℕ)
 texts_sent [] = []
 texts_sent (batch ∷ batches) = batch.texts ++ texts_sent batches
 
--- the bytes of the first so many texts
+-- the bytes of the first `count` texts
 abbrev pub bytes_upto : Output → ℕ → List ℕ
 bytes_upto output count = concat (take count output.texts)

@@ -8,7 +8,7 @@ use std::alloc::Global;
 use std::marker::Model;
 use zy_base::{Blob, NoMemory};
 
-/// The texts that a hold sends, and how many commands of the connection are finished after it.
+/// The texts that a hold sends, and the number of finished commands of the connection after it.
 /// Contracts see it as the list of its texts and that number.
 #[derive(Drop)]
 pub struct Batch {
@@ -25,7 +25,7 @@ impl Model for Batch {
 }
 
 impl Batch {
-    /// No text. Takes no memory.
+    /// A batch without a text. Takes no memory.
     pub fn new(alloc: Global, finished: u64) -> Batch
         ensures value { result ≡ no_text finished }
     {
@@ -67,7 +67,7 @@ impl Batch {
         self.texts.push_by(writer)
     }
 
-    /// Sets how many commands are finished.
+    /// Sets the number of finished commands.
     pub fn set_finished(&mut self, finished: u64)
         ensures value { self.new ≡ with_finished self.old finished }
     {
@@ -81,7 +81,7 @@ impl Batch {
         self.texts.count() as u64
     }
 
-    /// How many commands are finished.
+    /// The number of finished commands.
     pub fn finished(&self) -> u64
         ensures value { result ≡ self.now.finished }
     {

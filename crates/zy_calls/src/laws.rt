@@ -5,8 +5,8 @@ ghost use Rattle.zy_calls.specs.Batch.{Batch};
 ghost use Rattle.zy_calls.specs.Output.{Output, nothing_sent, with_batch, with_batches, texts_sent, bytes_upto};
 ghost use Rattle.zy_calls.specs.Worked.{worked};
 
-/// The texts of an output are those of all batches that were carried out, in order, and so are its
-/// bytes.
+/// The texts of an output are those of all batches that were carried out, in order; and its bytes
+/// are the bytes of these texts.
 pub fn texts_are_sent_in_order()
     ensures texts { (output : Output) (batches : List Batch)
         → (with_batches output batches).texts ≡ output.texts ++ texts_sent batches }
@@ -14,13 +14,13 @@ pub fn texts_are_sent_in_order()
         → concat (with_batches (nothing_sent conn) batches).texts ≡ concat (texts_sent batches) }
 {}
 
-/// The first texts of an output stay what they are when a batch is carried out.
+/// The first texts of an output stay the same when a batch is carried out.
 pub fn first_texts_stay()
     ensures stays { (output : Output) (batch : Batch) (count : ℕ) → count ≤ length output.texts
         → bytes_upto (with_batch output batch) count ≡ bytes_upto output count }
 {}
 
-/// A worked output: what the definitions compute of the texts of three holds.
+/// A worked output: what the definitions compute from the texts of three holds.
 pub fn the_worked_output_has_its_bytes()
     ensures conn { worked.conn ≡ 7 }
     ensures finished { worked.finished ≡ 5 }

@@ -9,7 +9,7 @@ use std::alloc::Global;
 use std::marker::Model;
 use zy_base::{Blob, NoMemory};
 
-/// What a connection was sent, and how many of its commands are finished. Contracts see it as its
+/// What a connection was sent, and the number of its finished commands. Contracts see it as its
 /// connection, the list of its texts, and that number.
 #[derive(Drop)]
 pub struct Output {
@@ -27,7 +27,7 @@ impl Model for Output {
 }
 
 impl Output {
-    /// Nothing, of a connection. Takes no memory.
+    /// The output of a connection to which nothing was sent. Takes no memory.
     pub fn new(alloc: Global, conn: u32) -> Output
         ensures value { result ≡ nothing_sent conn }
     {
@@ -38,8 +38,8 @@ impl Output {
         }
     }
 
-    /// Appends the texts of a batch, and sets the number of finished commands to its own; after a
-    /// refusal the batch is handed back. The first batch is taken over without a copy.
+    /// Appends the texts of a batch, and sets the number of finished commands to the batch's. After
+    /// a refusal the batch is handed back. The first batch is moved and not copied.
     pub fn carry_out(&mut self, batch: Batch) -> Result<(), (Batch, NoMemory)>
         ensures ok { OnOk result (self.new ≡ with_batch self.old batch) }
         ensures err { OnErr result (self.new ≡ self.old) }
@@ -69,7 +69,7 @@ impl Output {
         self.texts.count() as u64
     }
 
-    /// How many commands are finished.
+    /// The number of finished commands.
     pub fn finished(&self) -> u64
         ensures value { result ≡ self.now.finished }
     {
@@ -83,7 +83,7 @@ impl Output {
         self.texts.bytes()
     }
 
-    /// The first so many texts, joined. Takes no memory.
+    /// The first `count` texts, joined. Takes no memory.
     pub fn upto(&self, count: u64) -> &[u8]
         requires within { count ≤ length self.now.texts }
         ensures value { result.now ≡ bytes_upto self.now count }

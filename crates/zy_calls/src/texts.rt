@@ -10,7 +10,7 @@ use std::marker::Model;
 use std::mem;
 use zy_base::{Blob, NoMemory};
 
-/// A list of texts, which is their bytes and where each ends. Contracts see it as the list.
+/// A list of texts, kept as their bytes and the place where each ends. Contracts see it as the list.
 #[derive(Drop)]
 pub(crate) struct Texts {
     bytes: Blob,
@@ -29,7 +29,7 @@ impl Model for Texts {
 }
 
 impl Texts {
-    /// No text. Takes no memory.
+    /// The list without a text. Takes no memory.
     pub(crate) fn new(alloc: Global) -> Texts
         ensures value { result ≡ [] }
     {
@@ -109,7 +109,7 @@ impl Texts {
         self.bytes.bytes()
     }
 
-    /// The bytes of the first so many texts.
+    /// The bytes of the first `count` texts.
     pub(crate) fn upto(&self, count: usize) -> &[u8]
         requires within { count ≤ length self.now }
         ensures value { result.now ≡ concat (take count self.now) }
@@ -128,7 +128,7 @@ impl Texts {
     }
 }
 
-// Appends places, each so many bytes further on.
+// Appends places, each greater by `start`.
 fn append_further(ends: &mut Vec<usize>, start: usize, others: &[usize])
     requires room { vec_len ends.old + length others.now ≤ vec_capacity ends.old }
     requires fits { AreWithin start others.now }

@@ -1,4 +1,4 @@
--- One more at the end: a record of the streams, and an output of the outputs.
+-- A further record of the streams, and a further output of the outputs.
 use Rattle.std.proofs.Common.{◌≡◌, ◌⊎◌, inl, inr, ℕ, zero, suc, ◌+◌, List, [], ◌∷◌, ◌++◌, length, set, get_or, refl, sym, ◌∙◌, ap, subst, arith, append_assoc}
 use Rattle.std.specs.Prelude.{◌==◌, false}
 use Rattle.std.specs.List.{AllByRecursion, slice_set}
@@ -92,7 +92,8 @@ sessions_are version conn before zero ((first ∷ sessions) ∷ next ∷ connect
 sessions_are version conn before (suc i) ((first ∷ sessions) ∷ connections) all last =
     sessions_past conn 0 before first sessions (all_items (conn + 1) connections) ∙ sessions_are version (conn + 1) (0 + length (first ∷ sessions)) i connections all.1 (omega (arith, last))
 
--- the session that an output of this connection has when it is added: the first of the next connection, or one more of the last
+-- the session that an output of this connection has when it is added: the first of the next
+-- connection, or the next of the last one
 abbrev pub IsAdded : List (List (List ℕ)) → ℕ → ℕ → Type 0
 IsAdded sessions conn session =
     ((conn ≡ length sessions) × (session ≡ 0)) ⊎ ((conn + 1 ≡ length sessions) × (session ≡ length (sessions_of sessions conn)))

@@ -1,4 +1,4 @@
--- The bounds of what is due.
+-- The bounds of what is expected.
 use Rattle.std.proofs.Common.{ℕ, List, [], arith}
 use Rattle.zy_capture.specs.declared.due.Due.{Due}
 use Rattle.zy_capture.specs.declared.due.Due.TheVariants.{Magic, Payload}

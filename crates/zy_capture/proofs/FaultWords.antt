@@ -14,7 +14,8 @@ pub record IsCut (text : List ℕ) (at : ℕ) : Type 0 where
   pub no_fault : fault_of text ≡ None
   pub no_capture : is_good (verdict text) ≡ false
 
--- a byte follows as many as a capture may have, and these end before the end byte
+-- the text has a further byte after the largest number that a capture may have, and these do not
+-- reach the end byte
 pub record IsOverlong (text : List ℕ) : Type 0 where
   pub front : List ℕ
   pub byte : ℕ

@@ -1,4 +1,4 @@
--- What is told where the bytes fed of a capture end.
+-- What a reader of captures answers where the bytes fed end.
 use Rattle.std.proofs.Common.{◌≡◌, ℕ, List, ap}
 use Rattle.zy_read.specs.Format.{Reading}
 use Rattle.zy_read.specs.Standing.{StandsAs}

@@ -37,7 +37,7 @@ numbered_failed holds faults old between new e text xs i d within front count he
     subst (Writes holds faults old new (Err e)) (numbered_split text 0 xs (suc i) (omega (arith, within)))
     (writes_no_more holds faults old new e (numbered_from text 0 (take (suc i) xs)) (numbered_from text (0 + suc i) (drop (suc i) xs)) (subst (Writes holds faults old new (Err e)) (sym upto) so_far))
 
--- one text more was written whole
+-- one further text was written whole
 pub numbered_on : {X : Type 0} (a b c : Option (List ℕ)) (text : ℕ → X → List ℕ) (xs : List X) (i : ℕ) (d : X) → i < length xs
     → Grew a b (numbered_from text 0 (take i xs)) → Grew b c (text i (get_or xs i d)) → Grew a c (numbered_from text 0 (take (i + 1) xs))
 numbered_on a b c text xs i d within front here =

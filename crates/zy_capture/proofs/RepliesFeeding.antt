@@ -1,4 +1,4 @@
--- What is told where the bytes fed of a replies file end.
+-- What a reader of replies files answers where the bytes fed end.
 use Rattle.std.proofs.Common.{◌≡◌, ℕ, List, ap}
 use Rattle.zy_read.specs.Format.{Reading}
 use Rattle.zy_read.specs.Standing.{StandsAs}

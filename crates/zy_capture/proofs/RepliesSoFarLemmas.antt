@@ -1,4 +1,5 @@
--- The outputs of a replies text without a fault so far are those of a replies file whose version was told.
+-- The outputs of a replies text without a fault so far are those of a replies file whose version
+-- was read.
 use Rattle.std.proofs.Common.{◌≡◌, ◌≢◌, ◌⊎◌, inl, inr, ℕ, List, [], refl, ◌∙◌, ap, arith}
 use Rattle.std.specs.Prelude.{None, Some}
 use Rattle.zy_read.specs.Format.{Reading, reading_of, verdict_on, fault_met, given_by}
@@ -20,7 +21,7 @@ known_version : (version : ℕ) → (version ≡ 1) ⊎ (version ≡ 2) → vers
 known_version version (inl one) = rw one refl
 known_version version (inr two) = rw two refl
 
--- a replies file tells its version and its outputs
+-- the version and the outputs of a replies file are read
 pub record Tells (text : List ℕ) (version : ℕ) (items : List SessionBytes) : Type 0 where
   pub version_is : version_of text ≡ Some version
   pub outputs_are : outputs_of text ≡ items

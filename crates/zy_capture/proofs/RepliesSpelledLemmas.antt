@@ -50,11 +50,11 @@ read_byte p byte more room =
 
 -- ---- numbers
 
--- a number of four bytes is due, and judged so
+-- a number of four bytes is expected, and judged in this way
 abbrev IsFour : RepliesDue → (Progress → ℕ → Step) → Type 0
 IsFour due judged = (p : Progress) (byte : ℕ) → taken due p byte ≡ four due judged p byte
 
--- a number of eight bytes is due, and judged so
+-- a number of eight bytes is expected, and judged in this way
 abbrev IsEight : RepliesDue → (Progress → ℕ → Step) → Type 0
 IsEight due judged = (p : Progress) (byte : ℕ) → taken due p byte ≡ eight due judged p byte
 

@@ -39,7 +39,7 @@ sessions_after sessions (item ∷ items) = sessions_after (item.session + 1) ite
 abbrev pub front : Progress → List SessionBytes → List ℕ
 front p given = magic p.version ++ flat_map (spelled p.version) given
 
--- the bytes that lead to where this is due
+-- the bytes up to the place where this is expected
 abbrev pub bytes_of : RepliesDue → Progress → List SessionBytes → List ℕ
 bytes_of (Magic part) p given = magic_before part letters p.at
 bytes_of Tag p given = front p given
@@ -76,7 +76,7 @@ MayCome p conn = (conn < connection_limit) × ((conn ≡ p.connections) ⊎ ((p.
 abbrev pub IsDue : Progress → ℕ → ℕ → Type 0
 IsDue p conn number = IsNext p.version p.connections p.sessions conn number × AreNumbers conn number
 
--- what holds where this is due
+-- what holds where this is expected
 abbrev pub IsSoFar : RepliesDue → Progress → List SessionBytes → Type 0
 IsSoFar (Magic part) p given = IsFirst p given × IsInMagic part p.at × IsKnown part
 IsSoFar Tag p given = Keeps p given
@@ -149,11 +149,11 @@ session_due version connections sessions conn n (inr last) is =
 abbrev Leads : List SessionBytes → List ℕ → ℕ → Step → Type 0
 Leads given text byte s = IsReadTo s.next.due s.next (given ++ option_to_list s.gave) (text ++ byte ∷ [])
 
--- no output more
+-- no further output
 stays : (due : RepliesDue) (p : Progress) (given : List SessionBytes) (text : List ℕ) → IsReadTo due p given text → IsReadTo due p (given ++ []) text
 stays due p given text read = subst (λ (l : List SessionBytes). IsReadTo due p l text) (sym (append-nil given)) read
 
--- one output more
+-- one further output
 front_on : (p : Progress) (given : List SessionBytes) (item : SessionBytes) → front p given ++ spelled p.version item ≡ front p (given ++ item ∷ [])
 front_on p given item =
     let all : flat_map (spelled p.version) given ++ spelled p.version item ≡ flat_map (spelled p.version) (given ++ item ∷ []) =
@@ -175,7 +175,7 @@ order_on version connections sessions [] item ordered next numbers = (next, numb
 order_on version connections sessions (first ∷ given) item ordered next numbers =
     (ordered.0, ordered.1, order_on version (first.conn + 1) (first.session + 1) given item ordered.2 next numbers)
 
--- after the record of a session that was due
+-- after the record of a session that was expected
 kept_on : (p : Progress) (given : List SessionBytes) (conn number : ℕ) (bytes : List ℕ) → Keeps p given → IsDue p conn number
     → Keeps (gives p conn number bytes).next (given ++ record { conn = conn; session = number; bytes = bytes } ∷ [])
 kept_on p given conn number bytes keeps due =
@@ -226,7 +226,7 @@ from_magic part p given text byte room parts =
 
 -- ---- records
 
--- the same records, at a place where something else is due
+-- the same records, at a place where something else is expected
 keeps_at : (p q : Progress) (given : List SessionBytes) → q.version ≡ p.version → q.connections ≡ p.connections → q.sessions ≡ p.sessions → Keeps p given → Keeps q given
 keeps_at p q given version connections sessions keeps = record {
   known = subst IsVersion (sym version) keeps.known;

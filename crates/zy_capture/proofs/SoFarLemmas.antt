@@ -1,4 +1,5 @@
--- The records of a text without a fault so far are those of a capture whose version and count were told.
+-- The records of a text without a fault so far are those of a capture whose version and count were
+-- read.
 use Rattle.std.proofs.Common.{◌≡◌, ◌≢◌, ◌⊎◌, inl, inr, ℕ, ◌+◌, ◌*◌, ◌^◌, ◌<◌, ◌≤◌, List, [], ◌∷◌, ◌++◌, length, refl, sym, ◌∙◌, ap, subst, arith, length-append}
 use Rattle.std.specs.Prelude.{None, Some, flat_map, ◌==◌}
 use Rattle.std.specs.Int.{to_be_bytes, w32}
@@ -27,7 +28,7 @@ known_version : (version : ℕ) → (version ≡ 1) ⊎ (version ≡ 2) → vers
 known_version version (inl one) = rw one refl
 known_version version (inr two) = rw two refl
 
--- a capture tells its version, its count and its records
+-- the version, the count and the records of a capture are read
 pub record Tells (text : List ℕ) (version count : ℕ) (items : List Record) : Type 0 where
   pub version_is : version_of text ≡ Some version
   pub count_is : count_of text ≡ Some count

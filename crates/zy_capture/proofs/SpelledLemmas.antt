@@ -48,7 +48,7 @@ read_byte p byte more room =
 
 -- ---- numbers
 
--- a number of four bytes is due
+-- a number of four bytes is expected
 abbrev pub IsNumber : Due → Type 0
 IsNumber due = (p : Progress) (byte : ℕ) → taken due p byte ≡ number due p byte
 

@@ -1,4 +1,4 @@
--- The version and the count that a text tells are those that it begins with.
+-- The version and the count that are read of a text are those with which it begins.
 use Rattle.std.proofs.Common.{◌≡◌, ◌≢◌, ◌⊎◌, inl, inr, ℕ, ◌+◌, ◌<◌, true, false, List, [], ◌∷◌, ◌++◌, length, take, refl, sym, ◌∙◌, ap, subst, arith, append_assoc}
 use Rattle.std.specs.Prelude.{◌==◌, ◌&&◌, nat_lt, None, Some, ⊤}
 use Rattle.std.specs.List.{slice_index}
@@ -27,12 +27,12 @@ use Rattle.zy_capture.proofs.SpelledLemmas.{at_place, goes_on, halfway, read_byt
 
 -- ---- what stays
 
--- the version was read where this is due
+-- the version was read where this is expected
 abbrev IsPast : Due → Type 0
 IsPast (Magic part) = ⊥
 IsPast due = ⊤
 
--- the count was read where this is due
+-- the count was read where this is expected
 abbrev pub IsPastCount : Due → Type 0
 IsPastCount (Magic part) = ⊥
 IsPastCount Count = ⊥
@@ -105,7 +105,7 @@ past_count (Broken (BadMagic at)) count past = absurd past
 past_count (Broken (ConnCount number)) count past = absurd past
 past_count due count past = refl
 
--- ---- what a text begins with is told
+-- ---- what a text begins with is read
 
 known_version : (version : ℕ) → (version ≡ 1) ⊎ (version ≡ 2) → version_in version ≡ Some version
 known_version version (inl one) = rw one refl
@@ -129,13 +129,13 @@ count_told text count begins =
     let kept = count_kept begins.rest q tt in
     ap (λ (r : Reading Progress Record). count_in r.last.due r.last.count) reads ∙ past_count (read_from q begins.rest).last.due (read_from q begins.rest).last.count kept.1 ∙ ap (λ (k : ℕ). Some k) kept.0
 
--- ---- what is told is what a text begins with
+-- ---- what is read is what a text begins with
 
 -- the place after some letters
 abbrev letters_at : ℕ → Progress
 letters_at at = at_place (Magic Letters) 0 0 at
 
--- nothing is told after a refusal in the magic
+-- nothing is read after a refusal in the magic
 refused_none : (p : Progress) (fault : CaptureFault) (more : List ℕ) (version : ℕ) → p.version ≡ 0 → (goes_on (refuses p fault) more).last.version ≡ version → version ≡ 0
 refused_none p fault more version none is =
     sym is ∙ ap (λ (r : Reading Progress Record). r.last.version) (read_broken captures lasting (refuses p fault).next fault more refl) ∙ none

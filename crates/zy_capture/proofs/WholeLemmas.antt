@@ -30,7 +30,7 @@ use Rattle.zy_capture.proofs.ByteLemmas.{bytes_on, byte_at, both_true, positive,
 abbrev pub front : Progress → List Record → List ℕ
 front p given = magic p.version ++ to_be_bytes w32 p.count ++ flat_map spelled given
 
--- the bytes that lead to where this is due
+-- the bytes up to the place where this is expected
 abbrev pub bytes_of : Due → Progress → List Record → List ℕ
 bytes_of (Magic part) p given = magic_before part letters p.at
 bytes_of Count p given = magic p.version ++ p.field
@@ -46,7 +46,7 @@ bytes_of (Broken fault) p given = []
 abbrev pub IsField : List ℕ → Type 0
 IsField field = (length field ≤ 3) × AreBytes field
 
--- what holds where this is due
+-- what holds where this is expected
 abbrev pub IsSoFar : Due → Progress → List Record → Type 0
 IsSoFar (Magic part) p given = IsInMagic part p.at × IsKnown part × (given ≡ [])
 IsSoFar Count p given = IsVersion p.version × (given ≡ []) × IsField p.field
@@ -77,11 +77,11 @@ IsReadTo due p given text = Parts due p given text
 abbrev pub Leads : List Record → List ℕ → ℕ → Step → Type 0
 Leads given text byte s = IsReadTo s.next.due s.next (given ++ option_to_list s.gave) (text ++ byte ∷ [])
 
--- no record more
+-- no further record
 stays : (due : Due) (p : Progress) (given : List Record) (text : List ℕ) → IsReadTo due p given text → IsReadTo due p (given ++ []) text
 stays due p given text read = subst (λ (l : List Record). IsReadTo due p l text) (sym (append-nil given)) read
 
--- one record more
+-- one further record
 front_on : (p : Progress) (given : List Record) (item : Record) → front p given ++ spelled item ≡ front p (given ++ item ∷ [])
 front_on p given item =
     let all : flat_map spelled given ++ spelled item ≡ flat_map spelled (given ++ item ∷ []) = ap (λ (l : List ℕ). flat_map spelled given ++ l) (sym (append-nil (spelled item))) ∙ sym (flat_map-append spelled given (item ∷ [])) in

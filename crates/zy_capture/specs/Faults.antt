@@ -21,7 +21,8 @@ pub record BeginsMagic (bytes : List ℕ) : Type 0 where
 abbrev pub front_text : ℕ → ℕ → List Record → List ℕ
 front_text version count items = magic version ++ to_be_bytes w32 count ++ flat_map spelled items
 
--- a text goes on so after the records of a capture, which have so many bytes with what is before them
+-- a text goes on with `tail` after the records of a capture, which have `at` bytes with what comes
+-- before them
 pub record GoesOn (text : List ℕ) (version count : ℕ) (items : List Record) (at : ℕ) (tail : List ℕ) : Type 0 where
   pub valid : IsCapture version count items
   pub whole : text ≡ front_text version count items ++ tail
@@ -49,7 +50,7 @@ pub record IsCountOver (text : List ℕ) (number : ℕ) : Type 0 where
   pub over : connection_limit < number
   pub fits : number < 2 ^ 32
 
--- the byte where a record or the end is due is neither tag, nor the end
+-- where a record or the end is expected, there is this byte, which is neither a tag nor the end
 pub record IsBadTag (text : List ℕ) (at byte : ℕ) : Type 0 where
   pub version : ℕ
   pub count : ℕ
@@ -114,7 +115,7 @@ IsWrong text (Trailing at) = IsTrailing text at
 IsWrong text (Truncated at) = ⊥
 IsWrong text TooLong = ⊥
 
--- the text is no capture, but nothing in it is wrong, and it has at most as many bytes as a capture may have
+-- the text is no capture, but nothing in it is wrong, and it is not longer than a capture may be
 pub record IsBegun (text : List ℕ) : Type 0 where
   pub short : length text ≤ capture_limit
   pub no_capture : (version count : ℕ) (items : List Record) → Spells text version count items → ⊥
@@ -125,7 +126,8 @@ pub record IsTruncated (text : List ℕ) (at : ℕ) : Type 0 where
   pub place : at ≡ length text
   pub begun : IsBegun text
 
--- a byte follows as many as a capture may have, and these end before the end byte
+-- the text has a further byte after the largest number that a capture may have, and these do not
+-- reach the end byte
 pub record IsTooLong (text : List ℕ) : Type 0 where
   pub front : List ℕ
   pub byte : ℕ

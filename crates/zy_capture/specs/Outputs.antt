@@ -11,20 +11,21 @@ pub record AllOutputs : Type 0 where
   -- the outputs of each connection's sessions
   pub sessions : List (List (List ℕ))
 
--- an output of this connection may come next: that of the next connection or, in version 2, one more of the last one
+-- an output of this connection may come next: that of the next connection or, in version 2, a
+-- further one of the last connection
 abbrev pub MayAdd : AllOutputs → ℕ → Type 0
 MayAdd outputs conn =
     ((conn ≡ length outputs.sessions) × (conn < connection_limit))
     ⊎ ((outputs.version ≡ 2) × (conn + 1 ≡ length outputs.sessions)
     × (length (sessions_of outputs.sessions conn) < 2 ^ 31))
 
--- the sessions with one output more, of the next connection or of one that is there
+-- the sessions with one further output, of the next connection or of an existing one
 abbrev pub with_session : List (List (List ℕ)) → ℕ → List ℕ → List (List (List ℕ))
 with_session sessions conn bytes =
     if conn == length sessions then sessions ++ (bytes ∷ []) ∷ []
     else slice_set sessions conn (sessions_of sessions conn ++ bytes ∷ [])
 
--- the outputs with one more
+-- the outputs with one further output
 abbrev pub with_output : AllOutputs → ℕ → List ℕ → AllOutputs
 with_output outputs conn bytes = record outputs { sessions = with_session outputs.sessions conn bytes }
 

@@ -71,8 +71,8 @@ items_of outputs = all_items 0 outputs.sessions
 abbrev pub replies_limit : ℕ
 replies_limit = 2 ^ 63 - 1
 
--- this session comes after so many connections, of which the last has so many sessions: it is the first one of the next
--- connection or, in version 2, the next one of the last connection
+-- this session comes after `connections` connections, the last of which has `sessions` sessions: it
+-- is the first one of the next connection or, in version 2, the next one of the last connection
 abbrev pub IsNext : ℕ → ℕ → ℕ → ℕ → ℕ → Type 0
 IsNext version connections sessions conn session =
     ((conn ≡ connections) × (session ≡ 0)) ⊎ ((version ≡ 2) × (conn + 1 ≡ connections) × (session ≡ sessions))

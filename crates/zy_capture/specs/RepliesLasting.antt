@@ -9,7 +9,7 @@ use Rattle.zy_capture.specs.declared.replies_due.RepliesDue.TheVariants.{Broken}
 use Rattle.zy_capture.specs.RepliesSteps.{Progress, step}
 use Rattle.zy_capture.specs.RepliesVerdict.{replies, ended, fault_in}
 
--- where a fault was met, it is what is due
+-- where a fault was met, that fault is what is expected
 pub is_broken : (due : RepliesDue) (fault : FileFault) → fault_in due ≡ Some fault → due ≡ Broken fault
 is_broken (Broken found) fault is = one_met Broken found fault is
 is_broken due fault is = absurd (none_met fault is)

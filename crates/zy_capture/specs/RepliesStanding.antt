@@ -1,4 +1,4 @@
--- Which bytes brought a reader of replies files to where it is, and what its answers mean.
+-- The bytes that brought a reader of replies files to where it is, and the meaning of its answers.
 use Rattle.std.specs.Prelude.{Option, ◌≡◌, ℕ, ◌<◌, List, length, Result, Ok, Err, ⊤}
 use Rattle.zy_base.specs.declared.file_fault.FileFault.{FileFault}
 use Rattle.zy_read.specs.declared.not_taken.NotTaken.{NotTaken}
@@ -33,7 +33,8 @@ IsOfOutput p byte = ((conn session size : ℕ) × (p.due ≡ Output conn session
 
 -- ---- for the reader alone
 
--- an answer and a new state are those of a step; want of memory changes nothing, and comes only at a byte of an output
+-- an answer and a new state are those of a step; `NoMemory` changes nothing, and is answered only
+-- at a byte of an output
 abbrev pub Takes : Step → Progress → Progress → ℕ → Result (Option SessionBytes) (NotTaken FileFault) → Type 0
 Takes step old new byte result = Follows replies IsOfOutput step old new byte result
 

@@ -1,5 +1,5 @@
--- What each byte of a replies file does, by what is due where it stands: the table of docs/FORMATS.md, "Replies". A
--- number is judged at its last byte.
+-- The step at each byte of a replies file, by what is expected there: the table of docs/FORMATS.md,
+-- "Replies". A number is judged at its last byte.
 use Rattle.std.specs.Prelude.{ℕ, ◌+◌, ◌-◌, ◌^◌, ◌==◌, ◌&&◌, ◌||◌, nat_lt, nat_le, if◌then◌else◌, Bool, true, false, List, [], ◌∷◌, ◌++◌, length, None, Some}
 use Rattle.std.specs.Int.{from_be_bytes, w32, w64}
 use Rattle.zy_base.specs.declared.file_fault.FileFault.{FileFault}
@@ -19,11 +19,11 @@ use Rattle.zy_capture.specs.Replies.{letters, replies_limit}
 
 -- where a text was read up to some byte
 pub record Progress : Type 0 where
-  -- what is due there
+  -- what is expected there
   pub due : RepliesDue
-  -- the bytes read of the number that is due
+  -- the bytes read so far of the expected number
   pub field : List ℕ
-  -- the bytes read of the output that is due
+  -- the bytes read so far of the expected output
   pub payload : List ℕ
   -- the version, or 0 before the magic was read
   pub version : ℕ
@@ -44,7 +44,7 @@ Step = Reads.Step Progress SessionBytes
 
 -- ---- what a byte may do
 
--- the byte is the last one of its part, and this is due after it
+-- the byte is the last one of its part, and this is expected after it
 abbrev pub goes : Progress → RepliesDue → Step
 goes p due = record { next = record p { due = due; field = []; at = p.at + 1 }; gave = None }
 
@@ -78,11 +78,11 @@ abbrev pub grows : Progress → RepliesDue → ℕ → Step
 grows p due byte =
     record { next = record p { due = due; payload = p.payload ++ byte ∷ []; at = p.at + 1 }; gave = None }
 
--- where bytes of an output lead, of which none is its last one
+-- the place after bytes of an output, none of which is its last
 abbrev pub grown_by : Progress → List ℕ → Progress
 grown_by p bytes = record p { payload = p.payload ++ bytes; at = p.at + length bytes }
 
--- ---- what a byte does, by what is due
+-- ---- the step at a byte, by what is expected
 
 -- where a byte of the magic leads
 abbrev pub after_magic : Progress → MagicStep → Step
@@ -99,7 +99,7 @@ abbrev pub may_come : Progress → ℕ → Bool
 may_come p conn =
     nat_lt conn connection_limit && (conn == p.connections || (p.version == 2 && conn + 1 == p.connections))
 
--- the session that is due of a connection
+-- the next session of a connection
 abbrev pub due_session : Progress → ℕ → ℕ
 due_session p conn = if conn == p.connections then 0 else p.sessions
 
@@ -136,7 +136,7 @@ output conn session size p byte =
     if nat_lt (length p.payload + 1) size then grows p (Output conn session size) byte
     else gives p conn session (p.payload ++ byte ∷ [])
 
--- a byte, where this is due
+-- the step at a byte, where this is expected
 abbrev pub taken : RepliesDue → Progress → ℕ → Step
 taken (Magic part) p byte = after_magic p (magic_step part letters p.at byte)
 taken Tag p byte = tag p byte

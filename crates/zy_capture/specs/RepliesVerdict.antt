@@ -1,5 +1,6 @@
--- What a whole text is as a replies file: the outputs that it spells, or its first fault. A text is read from its first
--- byte to its last. That it is good exactly where it is a spelling is a law in src/laws.rt.
+-- The verdict on a whole text as a replies file: the outputs that it spells, or its first fault. A
+-- text is read from its first byte to its last. That it is good exactly where it is a spelling is a
+-- law in src/laws.rt.
 use Rattle.std.specs.Prelude.{ℕ, ◌==◌, if◌then◌else◌, Bool, true, false, List, Option, None, Some}
 use Rattle.zy_base.specs.declared.file_fault.FileFault.{FileFault}
 use Rattle.zy_base.specs.declared.file_fault.FileFault.TheVariants.{Truncated}
@@ -22,7 +23,7 @@ ended Nothing p given = Good p.version given
 ended (Broken fault) p given = Bad fault
 ended due p given = Bad (Truncated p.at)
 
--- the fault that was met where this is due; that a text ends is none
+-- the fault that was met, where this is expected; the end of the text is not a fault here
 abbrev pub fault_in : RepliesDue → Option FileFault
 fault_in (Broken fault) = Some fault
 fault_in due = None

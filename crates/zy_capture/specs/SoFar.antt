@@ -1,5 +1,4 @@
--- What a text has told and given so far: its version and its count, and what it gave where it has no fault and gave
--- something.
+-- The version, the count and the records of a text so far, if it has no fault and gave a record.
 use Rattle.std.specs.Prelude.{◌≡◌, ◌⊎◌, ℕ, ◌*◌, ◌^◌, ◌<◌, ◌≤◌, List, ◌++◌, length, Some}
 use Rattle.std.specs.Int.{to_be_bytes, w32}
 use Rattle.zy_capture.specs.Capture.{magic, connection_limit, IsCapture}
@@ -8,7 +7,7 @@ use Rattle.zy_capture.specs.Verdict.{version_of, count_of, records_of}
 use Rattle.zy_capture.specs.Replies.{IsRepliesFile}
 use Rattle.zy_capture.specs.RepliesVerdict as Replies
 
--- the version and the count were told, the records are those of a capture, and few of them are closes
+-- the version and the count were read, the records are those of a capture, and few of them are closes
 pub record IsCaptureSoFar (text : List ℕ) : Type 0 where
   pub version : ℕ
   pub count : ℕ
@@ -33,7 +32,7 @@ pub record BeginsWithCount (text : List ℕ) (count : ℕ) : Type 0 where
   pub few : count ≤ connection_limit
   pub whole : text ≡ magic version ++ (to_be_bytes w32 count ++ rest)
 
--- the version was told, and the outputs are those of a replies file
+-- the version was read, and the outputs are those of a replies file
 pub record IsRepliesSoFar (text : List ℕ) : Type 0 where
   pub version : ℕ
   pub version_is : Replies.version_of text ≡ Some version

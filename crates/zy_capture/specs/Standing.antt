@@ -1,4 +1,4 @@
--- Which bytes brought a reader of captures to where it is, and what its answers mean.
+-- The bytes that brought a reader of captures to where it is, and the meaning of its answers.
 use Rattle.std.specs.Prelude.{Option, ◌≡◌, ℕ, ◌<◌, ◌≤◌, List, ◌∷◌, [], ◌++◌, length, Result, Ok, Err, ⊤}
 use Rattle.std.specs.Int.{from_be_bytes, w32}
 use Rattle.zy_read.specs.declared.not_taken.NotTaken.{NotTaken}
@@ -37,7 +37,8 @@ pub record IsLengthEnd (p : Progress) (byte : ℕ) : Type 0 where
 
 -- ---- for the reader alone
 
--- an answer and a new state are those of a step; want of memory changes nothing, and comes only at the end of a length
+-- an answer and a new state are those of a step; `NoMemory` changes nothing, and is answered only
+-- at the end of a length
 abbrev pub Takes : Step → Progress → Progress → ℕ → Result (Option Record) (NotTaken CaptureFault) → Type 0
 Takes step old new byte result = Follows captures IsLengthEnd step old new byte result
 

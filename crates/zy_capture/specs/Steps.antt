@@ -1,5 +1,5 @@
--- What each byte of a capture does, by what is due where it stands: the table of docs/FORMATS.md, "Capture". A number
--- is judged at its last byte.
+-- The step at each byte of a capture, by what is expected there: the table of docs/FORMATS.md,
+-- "Capture". A number is judged at its last byte.
 use Rattle.std.specs.Prelude.{ℕ, ◌+◌, ◌-◌, ◌==◌, ◌&&◌, nat_lt, nat_le, if◌then◌else◌, Bool, true, false, List, [], ◌∷◌, ◌++◌, length, None, Some}
 use Rattle.std.specs.Int.{from_be_bytes, w32}
 use Rattle.zy_read.specs.Format as Reads
@@ -19,11 +19,11 @@ use Rattle.zy_capture.specs.Capture.{letters, connection_limit, segment_limit, c
 
 -- where a text was read up to some byte
 pub record Progress : Type 0 where
-  -- what is due there
+  -- what is expected there
   pub due : Due
-  -- the bytes read of the number that is due
+  -- the bytes read so far of the expected number
   pub field : List ℕ
-  -- the bytes read of the segment that is due
+  -- the bytes read so far of the expected segment
   pub payload : List ℕ
   -- the version, or 0 before the magic was read
   pub version : ℕ
@@ -42,7 +42,7 @@ Step = Reads.Step Progress Record
 
 -- ---- what a byte may do
 
--- the byte is the last one of its part, and this is due after it
+-- the byte is the last one of its part, and this is expected after it
 abbrev pub goes : Progress → Due → Step
 goes p due = record { next = record p { due = due; field = []; at = p.at + 1 }; gave = None }
 
@@ -67,7 +67,7 @@ abbrev pub grows : Progress → Due → ℕ → Step
 grows p due byte =
     record { next = record p { due = due; payload = p.payload ++ byte ∷ []; at = p.at + 1 }; gave = None }
 
--- where bytes of a segment lead, of which none is its last one
+-- the place after bytes of a segment, none of which is its last
 abbrev pub grown_by : Progress → List ℕ → Progress
 grown_by p bytes = record p { payload = p.payload ++ bytes; at = p.at + length bytes }
 
@@ -75,7 +75,7 @@ grown_by p bytes = record p { payload = p.payload ++ bytes; at = p.at + length b
 abbrev pub headed : Progress → ℕ → List ℕ → Progress
 headed p conn bytes = record p { due = Length conn; field = bytes; at = p.at + 8 }
 
--- ---- what a byte does, by what is due
+-- ---- the step at a byte, by what is expected
 
 -- where a byte of the magic leads
 abbrev pub after_magic : Progress → MagicStep → Step
@@ -95,7 +95,7 @@ tag p byte =
 abbrev pub place : Progress → ℕ
 place p = p.at - 3
 
--- the whole number that was due
+-- the expected number, once it is whole
 abbrev pub judged : Due → Progress → ℕ → Step
 judged Count p number =
     if nat_lt connection_limit number then refuses p (ConnCount number) else goes (record p { count = number }) Tag
@@ -120,7 +120,7 @@ segment conn size p byte =
     if nat_lt (length p.payload + 1) size then grows p (Payload conn size) byte
     else gives p (Kinds.Segment (record { conn = conn; bytes = p.payload ++ byte ∷ [] }))
 
--- a byte, where this is due
+-- the step at a byte, where this is expected
 abbrev pub taken : Due → Progress → ℕ → Step
 taken (Magic part) p byte = after_magic p (magic_step part letters p.at byte)
 taken Tag p byte = tag p byte

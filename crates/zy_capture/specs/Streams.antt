@@ -12,8 +12,8 @@ closes conn [] = 0
 closes conn (Kinds.Segment s ∷ items) = closes conn items
 closes conn (Kinds.Close other ∷ items) = if other == conn then closes conn items + 1 else closes conn items
 
--- the bytes, joined in order, of those segments of a connection that have so many close records of it before them,
--- where some were before the first
+-- the bytes, joined in order, of those segments of a connection that come after exactly `session`
+-- close records of it, `before` of which came before the first record
 abbrev pub stream_after : ℕ → ℕ → ℕ → List Record → List ℕ
 stream_after before conn session [] = []
 stream_after before conn session (Kinds.Segment s ∷ items) =
@@ -22,8 +22,8 @@ stream_after before conn session (Kinds.Segment s ∷ items) =
 stream_after before conn session (Kinds.Close other ∷ items) =
     if other == conn then stream_after (before + 1) conn session items else stream_after before conn session items
 
--- the bytes, joined in order, of those segments of a connection that have exactly so many close records of it before
--- them
+-- the bytes, joined in order, of those segments of a connection that come after exactly `session`
+-- close records of it
 abbrev pub stream : ℕ → ℕ → List Record → List ℕ
 stream conn session items = stream_after 0 conn session items
 
@@ -33,7 +33,7 @@ stream conn session items = stream_after 0 conn session items
 abbrev pub sessions_of : List (List (List ℕ)) → ℕ → List (List ℕ)
 sessions_of connections conn = slice_index_or connections conn []
 
--- each of so many connections has one session, which is empty
+-- each of `count` connections has one session, which is empty
 abbrev pub no_bytes : ℕ → List (List (List ℕ))
 no_bytes count = replicate count ([] ∷ [])
 

@@ -1,6 +1,6 @@
--- What a whole text is: the capture that it spells, or its first fault. A text is read from its first byte to its last.
--- That it is good exactly where it is a spelling, and bad exactly where it has a fault of specs/Faults.antt, are laws
--- in src/laws.rt.
+-- The verdict on a whole text: the capture that it spells, or its first fault. A text is read from
+-- its first byte to its last. That it is good exactly where it is a spelling, and bad exactly where
+-- it has a fault of specs/Faults.antt, are laws in src/laws.rt.
 use Rattle.std.specs.Prelude.{ℕ, ◌==◌, if◌then◌else◌, Bool, true, false, List, Option, None, Some}
 use Rattle.zy_read.specs.Format.{Format, Reading, read_on, reading_of, given_by, fault_met, verdict_on}
 use Rattle.zy_capture.specs.declared.record.Record.{Record}
@@ -23,7 +23,7 @@ ended Nothing p given = Good p.version p.count given
 ended (Broken fault) p given = Bad fault
 ended due p given = Bad (Truncated p.at)
 
--- the fault that was met where this is due; that a text ends is none
+-- the fault that was met, where this is expected; the end of the text is not a fault here
 abbrev pub fault_in : Due → Option CaptureFault
 fault_in (Broken fault) = Some fault
 fault_in due = None

@@ -12,7 +12,7 @@ use Rattle.zy_capture.specs.Outputs.{AllOutputs}
 
 -- ---- captures
 
--- three segments of two connections, of which one is empty
+-- three segments of two connections, one of which is empty
 abbrev pub segments : List Record
 segments =
     Kinds.Segment (record { conn = 1; bytes = codes "abc" })
@@ -38,8 +38,8 @@ sessions =
 abbrev pub sessions_text : List ℕ
 sessions_text = codes "ZYGCAP2\n\0\0\0\u{2}S\0\0\0\0\0\0\0\u{2}abC\0\0\0\0C\0\0\0\u{1}S\0\0\0\0\0\0\0\u{1}cE"
 
--- the fault that a text meets which stands behind so many bytes of a capture of version 2 with one connection, where a
--- record is due
+-- the fault that a text meets after the first `at` bytes of a capture of version 2 with one
+-- connection, where a record is expected
 abbrev pub met_behind : ℕ → List ℕ → Option CaptureFault
 met_behind at text =
     Captures.fault_in (Captures.read_from (record {
@@ -70,7 +70,8 @@ abbrev pub session_outputs_text : List ℕ
 session_outputs_text =
     codes "ZYGREP2\nR\0\0\0\0\0\0\0\0\0\0\0\0\0\0\0\u{2}okR\0\0\0\0\0\0\0\u{1}\0\0\0\0\0\0\0\0R\0\0\0\u{1}\0\0\0\0\0\0\0\0\0\0\0\u{1}xE"
 
--- the fault that a text meets which stands behind so many bytes of a replies file of version 1, where a record is due
+-- the fault that a text meets after the first `at` bytes of a replies file of version 1, where a
+-- record is expected
 abbrev pub met_behind_replies : ℕ → List ℕ → Option FileFault
 met_behind_replies at text =
     Replies.fault_in (Replies.read_from (record {

@@ -9,7 +9,7 @@ pub enum CaptureFault {
     BadMagic { at: u64 },
     /// The connection count is over 4,096.
     ConnCount { number: u32 },
-    /// The byte where a record or the end is due is no tag of this version.
+    /// The byte where a record or the end is expected is not a tag of this version.
     BadTag { at: u64, byte: u8 },
     /// The connection of a record is not below the count; the place is that of the field.
     ConnRange { at: u64, number: u32 },

@@ -1,9 +1,9 @@
-//! What is due next in a capture.
+//! What is expected next in a capture.
 
 use crate::capture_fault::CaptureFault;
 use zy_read::MagicPart;
 
-/// What is due next.
+/// What is expected next.
 #[derive(Clone, Copy)]
 pub(crate) enum Due {
     /// This part of the magic.

@@ -39,7 +39,7 @@ pub fn a_capture_is_bad_exactly_where_it_has_a_fault()
         → verdict text ≡ Bad fault ↔ HasFault text fault }
 {}
 
-/// What a good capture tells while it is read is what it spells.
+/// While a good capture is read, its version, its count and its records are those that it spells.
 pub fn a_good_capture_tells_its_parts()
     ensures version { (text : List ℕ) (version count : ℕ) (items : List Record) → AreBytes text
         → verdict text ≡ Good version count items → version_of text ≡ Some version }
@@ -49,9 +49,9 @@ pub fn a_good_capture_tells_its_parts()
         → verdict text ≡ Good version count items → records_of text ≡ items }
 {}
 
-/// The version that a text tells is that of the magic with which it begins, and none where it
-/// begins with none. Where it begins with a magic and a count that is not too large, the count is
-/// told.
+/// The version that is read of a text is that of the magic with which it begins, and none if it
+/// begins with no magic. If it begins with a magic and a count that is not too large, that count is
+/// read.
 pub fn the_version_and_the_count_are_told()
     ensures version { (text : List ℕ) (version : ℕ)
         → version_of text ≡ Some version ↔ BeginsWithMagic text version }
@@ -60,7 +60,7 @@ pub fn the_version_and_the_count_are_told()
 {}
 
 /// The records of a text without a fault so far are those of a capture whose version and count were
-/// told: each connection is below the count, and a connection has fewer than 2^31 closes.
+/// read: each connection is below the count, and a connection has fewer than 2^31 closes.
 pub fn the_records_of_a_capture_so_far_are_lawful()
     ensures lawful { (text : List ℕ) → AreBytes text → fault_of text ≡ None
         → records_of text ≢ [] → IsCaptureSoFar text }
@@ -92,8 +92,8 @@ pub fn how_a_capture_is_cut_does_not_matter()
 
 // ---- streams
 
-/// The sessions of a connection to whose streams records were added are as many as its close
-/// records and one more, and each session holds its stream.
+/// A connection to whose streams records were added has one session more than close records, and
+/// each session holds its stream.
 pub fn each_session_holds_its_stream()
     ensures connections { (count : ℕ) (items : List Record)
         → length (with_records (no_bytes count) items) ≡ count }
@@ -121,7 +121,7 @@ pub fn a_replies_file_is_good_exactly_where_it_is_a_spelling()
         ↔ SpellsReplies text version items }
 {}
 
-/// What a good replies file tells while it is read is what it spells.
+/// While a good replies file is read, its version and its outputs are those that it spells.
 pub fn a_good_replies_file_tells_its_parts()
     ensures version { (text : List ℕ) (version : ℕ) (items : List SessionBytes) → AreBytes text
         → Replies.verdict text ≡ Replies.Verdict.Good version items
@@ -131,7 +131,7 @@ pub fn a_good_replies_file_tells_its_parts()
         → Replies.outputs_of text ≡ items }
 {}
 
-/// The outputs of a text without a fault so far are those of a replies file whose version was told.
+/// The outputs of a text without a fault so far are those of a replies file whose version was read.
 pub fn the_outputs_of_a_replies_file_so_far_are_lawful()
     ensures lawful { (text : List ℕ) → AreBytes text → Replies.fault_of text ≡ None
         → Replies.outputs_of text ≢ [] → IsRepliesSoFar text }
@@ -183,8 +183,8 @@ pub fn outputs_that_are_read_can_be_added()
         → items_of (with_output outputs item.conn item.bytes) ≡ items_of outputs ++ item ∷ [] }
 {}
 
-/// What is written of outputs is a good replies file of their version, which gives each session's
-/// output again, where it is not too long.
+/// The text written for outputs is a good replies file of their version, which gives each session's
+/// output again, unless it is too long.
 pub fn written_replies_are_read_again()
     ensures again { (outputs : AllOutputs) → AreOutputs outputs
         → length (replies_bytes outputs) ≤ replies_limit
@@ -192,7 +192,7 @@ pub fn written_replies_are_read_again()
         ≡ Replies.Verdict.Good outputs.version (items_of outputs) }
 {}
 
-// ---- worked files, in which a character stands for the byte of its code
+// ---- worked files, in which each character is the byte of its code
 
 /// Worked captures, and the streams of their connections.
 #[tactic(auto, unfolding(zy_read::specs::Format::verdict_on, zy_read::specs::Format::reading_of, zy_read::specs::Format::read_on))]
@@ -243,7 +243,7 @@ pub fn worked_records()
     ensures last { Worked.met_behind 4294967294 (codes "EE") ≡ Some (Faults.Trailing 4294967295) }
 {}
 
-/// Worked replies files, and what is written of outputs.
+/// Worked replies files, and the texts written for outputs.
 #[tactic(auto, unfolding(zy_read::specs::Format::verdict_on, zy_read::specs::Format::reading_of, zy_read::specs::Format::read_on))]
 pub fn worked_replies()
     ensures none { Replies.verdict (codes "ZYGREP1\nE") ≡ Replies.Verdict.Good 1 [] }

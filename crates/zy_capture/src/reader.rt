@@ -66,27 +66,28 @@ impl Reader {
         }
     }
 
-    /// Takes the next byte, and gives the record that it ends: a close record at its last byte, and
-    /// a segment at its last byte, which of an empty one is the last byte of its length.
+    /// Takes the next byte, and gives the record that it ends. A close record ends at its last
+    /// byte; a segment ends at its last byte, or, if it is empty, at the last byte of its length.
     ///
-    /// After a fault each call answers that same fault. Want of memory is free, at the last byte of
-    /// a length alone.
+    /// After a fault each call answers that same fault. `NoMemory` is possible only at the last
+    /// byte of a length.
     pub fn feed(&mut self, byte: u8) -> Result<Option<Record>, FeedFault>
         ensures fed { FeedsAs captures self.old self.new (byte ∷ []) result }
         ensures exact { TellsFault captures self.old (byte ∷ []) result }
         ensures lasts { TellsLasting captures self.old (byte ∷ []) result }
 
-        // Want of memory.
+        // A refused allocation.
         ensures kept { result ≡ Err NoMemory → self.new ≡ self.old }
         ensures memory { result ≡ Err NoMemory → IsLengthEnd self.old byte }
     {
         feed(self, byte)
     }
 
-    /// Takes bytes up to the first record that they end or the first fault, and all of them where
-    /// there is none. That one comes at the last byte taken, as `feed` would give it.
+    /// Takes bytes up to and including the one that ends the first record or is the first fault, or
+    /// all of them if there is none. The answer is the one that `feed` gives to that last byte.
     ///
-    /// Where memory is wanted, the bytes before the one that wants it are taken; `feed` says when.
+    /// After `NoMemory` the bytes before the one that needs memory are taken; `feed` says when that
+    /// is possible.
     pub fn feed_piece(&mut self, bytes: &[u8]) -> Fed<Record, CaptureFault>
         requires some { 0 < length bytes.now }
         ensures within { result.taken ≤ length bytes.now }

@@ -1,9 +1,9 @@
-//! What is due next in a replies file.
+//! What is expected next in a replies file.
 
 use zy_base::FileFault;
 use zy_read::MagicPart;
 
-/// What is due next.
+/// What is expected next.
 #[derive(Clone, Copy)]
 pub(crate) enum RepliesDue {
     /// This part of the magic.

@@ -68,27 +68,28 @@ impl RepliesReader {
         }
     }
 
-    /// Takes the next byte, and gives the output that it ends: at its last byte, which of an empty
-    /// one is the last byte of its length.
+    /// Takes the next byte, and gives the output that it ends: at its last byte, or, if it is
+    /// empty, at the last byte of its length.
     ///
-    /// After a fault each call answers that same fault. Want of memory is free, at the bytes of an
-    /// output alone.
+    /// After a fault each call answers that same fault. `NoMemory` is possible only at the bytes of
+    /// an output.
     pub fn feed(&mut self, byte: u8) -> Result<Option<SessionBytes>, FileFeed>
         ensures fed { FeedsAs replies self.old self.new (byte ∷ []) result }
         ensures exact { TellsFault replies self.old (byte ∷ []) result }
         ensures lasts { TellsLasting replies self.old (byte ∷ []) result }
 
-        // Want of memory.
+        // A refused allocation.
         ensures kept { result ≡ Err NoMemory → self.new ≡ self.old }
         ensures memory { result ≡ Err NoMemory → IsOfOutput self.old byte }
     {
         feed(self, byte)
     }
 
-    /// Takes bytes up to the first output that they end or the first fault, and all of them where
-    /// there is none. That one comes at the last byte taken, as `feed` would give it.
+    /// Takes bytes up to and including the one that ends the first output or is the first fault, or
+    /// all of them if there is none. The answer is the one that `feed` gives to that last byte.
     ///
-    /// Where memory is wanted, the bytes before the one that wants it are taken; `feed` says when.
+    /// After `NoMemory` the bytes before the one that needs memory are taken; `feed` says when that
+    /// is possible.
     pub fn feed_piece(&mut self, bytes: &[u8]) -> Fed<SessionBytes, FileFault>
         requires some { 0 < length bytes.now }
         ensures within { result.taken ≤ length bytes.now }

@@ -8,8 +8,7 @@ use std::marker::Model;
 use std::mem;
 use zy_base::{Blob, NoMemory};
 
-/// The bytes of a connection's sessions, of which the last one may grow. Contracts see it as their
-/// list.
+/// The bytes of a connection's sessions, the last of which may grow. Contracts see it as their list.
 #[derive(Drop)]
 pub(crate) struct Sessions {
     before: Vec<Blob>,

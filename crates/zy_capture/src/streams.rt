@@ -30,7 +30,7 @@ impl Model for Streams {
 }
 
 impl Streams {
-    /// Each of so many connections has one session, which is empty.
+    /// Each of `count` connections has one session, which is empty.
     pub fn new(alloc: Global, count: u32) -> Result<Streams, NoMemory>
         requires limit { count ≤ connection_limit }
         ensures value { IfOk result (λ streams. streams ≡ no_bytes count) }

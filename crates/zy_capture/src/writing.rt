@@ -9,7 +9,7 @@ use zy_base::{Failed, Sink, write_pieces, write_whole};
 
 /// Writes the replies file of the outputs, in their version. Takes no memory.
 ///
-/// `Failed` comes only where the sink's count of faults rose, or stands at its last value; then the
+/// Answers `Failed` only if the sink's count of faults rose, or is at its largest value; then the
 /// sink has grown by a prefix of that text.
 pub fn write_replies<K: Sink>(sink: &mut K, outputs: &Outputs) -> Result<(), Failed>
     ensures writes { Writes K.holds K.faults sink.old sink.new result (replies_bytes outputs.now) }

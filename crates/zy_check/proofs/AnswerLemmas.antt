@@ -53,9 +53,9 @@ replies_all conn index part (e ∷ es) (call ∷ calls) is =
     let tail : dues_of es ≡ tagged conn index (part + 1) calls = cc in
     replies_at-here index e es (ap (λ (d : Due). d.tag.index) head) ∙ ap (λ (l : List CallReply). e.reply ∷ l) (replies_all conn index (part + 1) es calls tail)
 
--- ---- one reply more
+-- ---- one further reply
 
--- the replies of so many entries from a place on, and then one more
+-- the replies of entries from a place on, and then one further reply
 pub replies_more : (own : List Entry) (from : ℕ) (e : Entry) (replies : List CallReply) (reply : CallReply) → slice_get own (from + length replies) ≡ Some e → reply ≡ e.reply
     → replies ≡ map reply_in (take (length replies) (drop from own)) → replies ++ reply ∷ [] ≡ map reply_in (take (length replies + 1) (drop from own))
 replies_more own from e replies reply is same are =

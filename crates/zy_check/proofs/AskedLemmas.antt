@@ -14,7 +14,7 @@ use Rattle.mc_reply.specs.Answers.{AnswerEach}
 use Rattle.zy_check.specs.Begun.{IsKept}
 use Rattle.zy_check.proofs.DueLemmas.{tagged_at}
 
--- an entry is the call at a place where it is this call
+-- an entry is the call at a place exactly if it is this call
 pub due_exact : (conn index part : ℕ) (calls : List ShardCall) (call : ShardCall) (e : Entry) (b : Bool) → slice_get calls part ≡ Some call
     → (b ≡ true ↔ due_of e ≡ record { tag = tag_of conn index part; call = call }) → (b ≡ true ↔ slice_get (tagged conn index 0 calls) part ≡ Some (due_of e))
 due_exact conn index part calls call e b is exact =
@@ -25,7 +25,7 @@ due_exact conn index part calls call e b is exact =
       (λ same. let both : Some (due_of e) ≡ Some (record { tag = tag_of conn index part; call = call }) = sym same ∙ there in exact.1 (cc)),
     )
 
--- and none is where there is no call
+-- no entry is a call where there is no call
 pub due_past : (conn index part : ℕ) (calls : List ShardCall) (e : Entry) → length calls ≤ part → (false ≡ true ↔ slice_get (tagged conn index 0 calls) part ≡ Some (due_of e))
 due_past conn index part calls e past =
     let size = length-tagged conn index 0 calls in
@@ -34,7 +34,7 @@ due_past conn index part calls e past =
       (λ same. let both : None ≡ Some (due_of e) = sym none ∙ same in absurd (cc)),
     )
 
--- one reply more
+-- one further reply
 each_more : (calls : List ShardCall) (replies : List CallReply) (reply : CallReply) → length replies < length calls → ((call : ShardCall) → slice_get calls (length replies) ≡ Some call → MayAnswer call.call reply)
     → AnswerEach (take (length replies) calls) replies → AnswerEach (take (length replies + 1) calls) (replies ++ reply ∷ [])
 each_more [] replies reply few kind each = absurd (omega arith)

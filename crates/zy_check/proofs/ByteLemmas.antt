@@ -26,7 +26,7 @@ agreeing_at (x ∷ xs) (y ∷ ys) (suc at) same few short differs =
 
 -- ---- longer texts
 
--- no more agree than there are
+-- the bytes that agree are not more than there are
 pub agreeing_few : (xs ys : List ℕ) → (agreeing xs ys ≤ length xs) × (agreeing xs ys ≤ length ys)
 agreeing_few [] ys = (omega arith, omega arith)
 agreeing_few (x ∷ xs) [] = (omega arith, omega arith)
@@ -42,7 +42,7 @@ pub agreeing_self : (xs : List ℕ) → agreeing xs xs ≡ length xs
 agreeing_self [] = refl
 agreeing_self (x ∷ xs) = same_first x xs xs ∙ ap suc (agreeing_self xs)
 
--- where not all bytes of the second text agree, what stands behind it does not matter
+-- if not all bytes of the second text agree, the bytes after it do not matter
 pub agreeing_short : (xs ys zs : List ℕ) → agreeing xs ys < length ys → agreeing xs (ys ++ zs) ≡ agreeing xs ys
 agreeing_short [] ys zs short = refl
 agreeing_short (x ∷ xs) [] zs short = absurd (omega arith)
@@ -64,14 +64,14 @@ agreeing_all (x ∷ xs) (y ∷ ys) all =
       | inr other ↦ (let more : length (y ∷ ys) ≤ 0 = subst (λ (b : Bool). length (y ∷ ys) ≤ (if b then suc (agreeing xs ys) else 0)) other.0 all in absurd (omega arith))
     ]
 
--- the bytes behind a common front
+-- the bytes after a common front
 pub agreeing_behind : (front xs ys : List ℕ) → agreeing (front ++ xs) (front ++ ys) ≡ length front + agreeing xs ys
 agreeing_behind [] xs ys = let none : 0 + agreeing xs ys ≡ agreeing xs ys = omega arith in sym none
 agreeing_behind (x ∷ front) xs ys =
     let on : suc (length front + agreeing xs ys) ≡ length (x ∷ front) + agreeing xs ys = omega arith in
     same_first x (front ++ xs) (front ++ ys) ∙ ap suc (agreeing_behind front xs ys) ∙ on
 
--- texts of which not all bytes agree are not the same
+-- texts not all of whose bytes agree are not the same
 pub agreeing_differs : (xs ys : List ℕ) → agreeing xs ys < length ys → xs ≢ ys
 agreeing_differs xs ys less same =
     let all : agreeing xs ys ≡ length ys = ap (λ (l : List ℕ). agreeing l ys) same ∙ agreeing_self ys in

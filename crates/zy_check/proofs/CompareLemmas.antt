@@ -1,4 +1,4 @@
--- What was made of an output, and what was found.
+-- The text made for an output, and the output that was found.
 use Rattle.std.proofs.Common.{◌≡◌, ℕ, ◌+◌, ◌<◌, ◌≤◌, List, [], ◌∷◌, ◌++◌, length, take, drop, Option, None, Some, refl, sym, ap, ◌∙◌, arith}
 use Rattle.std.proofs.lemmas.List.{append-nil, append_assoc, length-append, length-take-le, length-drop, take_all, take-append-drop}
 use Rattle.zy_check.specs.Cause.{agreeing}
@@ -11,7 +11,7 @@ pub first_none : (found : Option (List ℕ)) → HasFirst found [] 0
 first_none None = (refl, refl)
 first_none (Some found) = (omega arith, refl)
 
--- ---- a text more
+-- ---- one further text
 
 -- there is no output
 pub added_lacks : (session : ℕ) (first made : List ℕ) (at : ℕ) → HasFirst None first at → AddedTo None session made at (Some (record { session = session; at = at }))
@@ -59,7 +59,7 @@ pub ended_lacks : (session : ℕ) (made : List ℕ) (at : ℕ) → HasFirst None
 ended_lacks session made at first = (refl, ((λ same. absurd (cc)), sym first.1))
 
 module _ (found made : List ℕ) (at : ℕ) (first : HasFirst (Some found) made at) where
-  -- nothing more was found
+  -- nothing further was found
   pub ended_same : (session : ℕ) → length found ≤ at → EndedWith (Some found) session made 0 None
   ended_same session end = (ap (λ (l : List ℕ). Some l) (sym (take_all at found end) ∙ first.1), refl)
 

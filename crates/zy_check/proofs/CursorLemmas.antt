@@ -47,7 +47,7 @@ fed_on p q before after at end stream rising within stands appends given has =
           ∙ ap (λ (l : List Command). given ++ l) (sym (map-append command_of before more.given) ∙ ap (map command_of) (sym more.appended));
     }
 
--- one command more
+-- one further command
 pub given_more : (c : Cursor) (stream : List ℕ) (frame : FrameKind) (rest : List FrameKind) (command : Command) (given : List Command) → c.frames ≡ frame ∷ rest → command ≡ command_of frame
     → HasGiven c stream given → HasGiven (record c { frames = rest }) stream (given ++ command ∷ [])
 given_more c stream frame rest command given first is has = record {

@@ -1,4 +1,4 @@
--- The calls due of commands, and what entries were asked.
+-- The expected calls of commands, and the calls of entries.
 use Rattle.std.specs.List.{slice_get}
 use Rattle.std.proofs.Common.{◌≡◌, ℕ, zero, suc, ◌+◌, ◌<◌, List, [], ◌∷◌, ◌++◌, length, take, drop, get_or, Option, None, Some, sym, ap, ◌∙◌, arith}
 use Rattle.std.proofs.lemmas.List.{append_assoc, take-append-drop, drop_more}
@@ -26,7 +26,7 @@ tagged_at conn index first (suc k) (x ∷ xs) call is =
 pub asked_at : (own : List Entry) (k : ℕ) (e : Entry) → slice_get own k ≡ Some e → slice_get (dues_of own) k ≡ Some (due_of e)
 asked_at own k e is = slice_get-map due_of own k ∙ ap (λ (o : Option Entry). elim o [ None ↦ None | Some x ↦ Some (due_of x) ]) is
 
--- the commands of sessions before one, of that one, and of those behind it
+-- the commands of the sessions before one, of that one, and of those after it
 pub commands_split : (session : ℕ) (streams : List (List ℕ)) → session < length streams
     → commands_over streams ≡ (commands_over (take session streams) ++ commands_of (get_or streams session [])) ++ commands_over (drop (session + 1) streams)
 commands_split session streams within =

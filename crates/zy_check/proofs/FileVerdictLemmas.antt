@@ -1,4 +1,4 @@
--- What is given of a capture's records is a run's exactly where the journal and the outputs are.
+-- What is given for a capture's records is a run's exactly where the journal and the outputs are.
 use Rattle.std.specs.List.{AllByRecursion}
 use Rattle.std.proofs.Common.{◌≡◌, ℕ, zero, suc, ◌<◌, ◌≤◌, List, [], ◌∷◌, length, sym, ap, ◌∙◌, subst, arith}
 use Rattle.std.proofs.lemmas.List.FromFn.{fill_by_all, length-map-range_with_len, get_or-map-range_with_len}

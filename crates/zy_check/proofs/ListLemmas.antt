@@ -25,7 +25,7 @@ module _ {A : Type 0} where
   there (x ∷ xs) zero within = (x, refl)
   there (x ∷ xs) (suc k) within = there xs k (omega arith)
 
-  -- the elements of two lists, one behind the other
+  -- the elements of two lists, one after the other
   pub get_append : (xs ys : List A) (k : ℕ) → k < length xs → slice_get (xs ++ ys) k ≡ slice_get xs k
   get_append [] ys k within = absurd (omega arith)
   get_append (x ∷ xs) ys zero within = refl
@@ -43,7 +43,7 @@ module _ {A : Type 0} where
   get_drop (suc n) [] k = refl
   get_drop (suc n) (x ∷ xs) k = let on : suc n + k ≡ suc (n + k) = omega arith in get_drop n xs k ∙ sym (ap (slice_get (x ∷ xs)) on)
 
-  -- one element more
+  -- one further element
   pub take_one : (xs : List A) (k : ℕ) (x : A) → slice_get xs k ≡ Some x → take (k + 1) xs ≡ take k xs ++ x ∷ []
   take_one [] k x is = absurd (cc)
   take_one (y ∷ ys) zero x is = let same : y ≡ x = cc in ap (λ (z : A). z ∷ []) same

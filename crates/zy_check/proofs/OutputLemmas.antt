@@ -1,4 +1,4 @@
--- The outputs that were given, and those that are due.
+-- The outputs that were given, and the expected ones.
 use Rattle.std.specs.List.{slice_index_or}
 use Rattle.std.proofs.Common.{◌≡◌, inl, inr, ℕ, ◌+◌, ◌<◌, ◌≤◌, List, [], length, None, Some, sym, ap, ◌∙◌, subst, arith}
 use Rattle.std.proofs.lemmas.List.{get_or_past}
@@ -36,11 +36,11 @@ module _ (g : Given) (conn session : ℕ) where
   found_past : length outputs ≤ session → found_output g conn session ≡ None
   found_past past = slice_get_past outputs session past
 
-  -- there is no output, and none is due
+  -- there is no output, and none is expected
   pub no_output : length streams ≤ session → length outputs ≤ session → IsOutput g conn session
   no_output none lacks = found_past lacks ∙ sym (due_past none)
 
-  -- there is one, and none is due
+  -- there is an output, and none is expected
   pub more_output : length streams ≤ session → session < length outputs → ((s : ℕ) → s < session → IsOutput g conn s) → IsDiffering g conn session 0
   more_output past more first = record {
     first = first;
@@ -50,13 +50,13 @@ module _ (g : Given) (conn session : ℕ) where
 
 -- ---- the sessions of a connection
 
--- an output more is the one that is due
+-- one further output is the expected one
 pub outputs_more : (g : Given) (conn session : ℕ) → ((s : ℕ) → s < session → IsOutput g conn s) → IsOutput g conn session → (s : ℕ) → s < session + 1 → IsOutput g conn s
 outputs_more g conn session first last s below = dite (ℕ_discrete session s)
     (λ same. subst (IsOutput g conn) same last)
     (λ other. first s (omega arith))
 
--- there are no more
+-- there are no further outputs
 pub outputs_whole : (g : Given) (conn count : ℕ) → ((s : ℕ) → s < count → IsOutput g conn s) → length (sessions_of g.streams conn) ≤ count → length (sessions_of g.outputs conn) ≤ count
     → (s : ℕ) → IsOutput g conn s
 outputs_whole g conn count first none lacks s = dite (dec_lt s count)
@@ -65,7 +65,7 @@ outputs_whole g conn count first none lacks s = dite (dec_lt s count)
 
 -- ---- all connections
 
--- a connection's outputs are those that are due
+-- a connection's outputs are the expected ones
 pub connections_more : (g : Given) (conn : ℕ) → ((c s : ℕ) → c < conn → IsOutput g c s) → FoundDiffering g conn None → (c s : ℕ) → c < conn + 1 → IsOutput g c s
 connections_more g conn first here c s below = dite (ℕ_discrete conn c)
     (λ same. subst (λ (n : ℕ). IsOutput g n s) same (here s))
@@ -93,7 +93,7 @@ pub connection_more : (g : Given) (conn : ℕ) → IsComplete g → ((c s : ℕ)
 connection_more g conn complete first past more =
     output_wrong g conn 0 0 complete first (more_output g conn 0 (no_sessions g.streams conn past) more (λ s below. absurd (omega arith)))
 
--- there is none
+-- there is no further connection
 pub connections_all : (g : Given) (conn : ℕ) → ((c s : ℕ) → c < conn → IsOutput g c s) → length g.streams ≤ conn → length g.outputs ≤ conn → (c s : ℕ) → IsOutput g c s
 connections_all g conn first past none c s = dite (dec_lt c conn)
     (λ low. first c s low)

@@ -1,4 +1,4 @@
--- Where all entries are right: what was asked is what is due.
+-- When all entries are right, the calls of the entries are the expected calls.
 use Rattle.std.specs.List.{slice_get}
 use Rattle.std.proofs.Common.{◌≡◌, ℕ, ◌<◌, ◌≤◌, List, [], length, sym, ap, subst, arith}
 use Rattle.std.proofs.lemmas.List.{take_all, length-map, get_or_past}
@@ -15,18 +15,18 @@ use Rattle.zy_check.proofs.ListLemmas.{same_lists}
 
 -- ---- what was asked
 
--- each call that was asked is the one that is due
+-- the call of each entry is the expected one
 pub right_all : (g : Given) (conn j : ℕ) → AreRight g → j < length (of_connection conn g.entries)
     → slice_get (dues_of (of_connection conn g.entries)) j ≡ slice_get (due_in g conn) j
 right_all g conn j right within =
     let all = take_all (length g.entries) g.entries (omega arith) in
     right_so_far g (length g.entries) conn j right (subst (λ (l : List Entry). j < length (of_connection conn l)) (sym all) within)
 
--- a connection that is not there has no call due
+-- a connection that does not exist has no expected call
 none_due : (g : Given) (conn : ℕ) → length g.streams ≤ conn → due_in g conn ≡ []
 none_due g conn past = ap (λ (sessions : List (List ℕ)). due g.shards conn (commands_over sessions)) (get_or_past g.streams conn [] past)
 
--- no call due is without an entry, where that is so of all connections that are there
+-- each expected call has an entry, if that is so for all connections that exist
 pub whole_all : (g : Given) → AreRight g → ((c : ℕ) → c < length g.streams → IsWhole g c) → IsComplete g
 whole_all g right first = record {
   right = right;
@@ -37,7 +37,7 @@ whole_all g right first = record {
 
 -- ---- where all is complete
 
--- what was asked is what is due
+-- the calls of the entries are the expected calls
 pub asked_all : (g : Given) (conn : ℕ) → IsComplete g → dues_of (of_connection conn g.entries) ≡ due_in g conn
 asked_all g conn complete =
     let size = length-map (of_connection conn g.entries) due_of in

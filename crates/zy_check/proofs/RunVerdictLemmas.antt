@@ -44,7 +44,7 @@ held_none count conn (h ∷ hs) are past =
       | inr other ↦ rw other.0 (held_none count conn hs are.1 past)
     ]
 
--- no call due
+-- no expected call
 pub whole_past : (g : Given) (conn : ℕ) → length g.streams ≤ conn → IsWhole g conn
 whole_past g conn past =
     let none : length (due_in g conn) ≡ 0 =
@@ -59,7 +59,7 @@ connection_at count (x ∷ xs) (suc at) e are is = connection_at count xs at e a
 
 -- ---- the entries
 
--- an entry of a legal list is answered as its shard stands then
+-- an entry of a legal list has the reply that its shard gives at that point
 answered_in : (shards : ℕ) (es : List Entry) (at : ℕ) (e : Entry) → IsLegal shards es → slice_get es at ≡ Some e
     → e.reply ≡ reply_to (replayed shards e.shard empty_state (at_shard e.shard (take at es))) e.call
 answered_in shards es at e legal is =

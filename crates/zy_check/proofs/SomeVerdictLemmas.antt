@@ -26,14 +26,14 @@ use Rattle.zy_check.proofs.RunVerdictLemmas.{element_at, no_sessions, held_none,
 
 -- ---- the first of several numbers
 
--- the first number below a limit of which something is not so
+-- the first number below a limit that does not have a property
 record FirstNot (P : ℕ → Type 0) (limit : ℕ) : Type 0 where
   at : ℕ
   below : at < limit
   fails : P at → ⊥
   before : (k : ℕ) → k < at → P k
 
--- it is so of all numbers below a limit, or there is a first of which it is not
+-- all numbers below a limit have the property, or there is a first that does not
 first_not : (P : ℕ → Type 0) → ((k : ℕ) → Dec (P k)) → (limit : ℕ) → FirstNot P limit ⊎ ((k : ℕ) → k < limit → P k)
 first_not P tells zero = inr (λ k below. absurd (omega arith))
 first_not P tells (suc limit) = next (first_not P tells limit) (tells limit)
@@ -53,7 +53,7 @@ within_reach limit [] most = tt
 within_reach limit (h ∷ hs) most = (omega arith, within_reach limit hs (omega arith))
 
 module _ (g : Given) where
-  -- ---- what is so or not
+  -- ---- what can be decided
 
   next_told : (at : ℕ) → Dec (IsNextAt g at)
   next_told at = each (slice_get g.entries at)

@@ -32,7 +32,7 @@ use Rattle.zy_check.proofs.RightLemmas.{whole_all}
 use Rattle.zy_check.proofs.TrackLemmas.{next_due, answered, made_all, count_all, compared_all}
 use Rattle.zy_check.proofs.WalkLemmas.{take_next, own_here}
 
--- ---- a connection that stands where the calls of its entries before a place were made
+-- ---- a connection after the calls of its entries before a place
 
 -- what was asked of it so far
 abbrev pub made_before : Given → ℕ → ℕ → List Due
@@ -74,7 +74,7 @@ next_exact g at e t so within has call exact = go t.begun refl call
       (λ next. (exact b is).1 (next_due_in g at e t b has is few next)),
     )
 
--- and it is the next call of what is begun
+-- it is the next call of the command in progress
 pub next_in : (e : Entry) (tracks : List Track) (t : Track) (so : Bool) → e.tag.conn < length tracks → IsAtCall t.begun
     → ((b : Begun) → t.begun ≡ Some b → (so ≡ true ↔ slice_get (due_at b.shards e.tag.conn t.commands b.command) (length b.replies) ≡ Some (due_of e))) → so ≡ true → IsNextIn (slice_set tracks e.tag.conn t) e
 next_in e tracks t so within call exact y =
@@ -107,7 +107,7 @@ end_not_next g at e t has end next =
 -- ---- one connection of all
 
 module _ (g : Given) (at : ℕ) (tracks : List Track) (tracked : AreTracked g at tracks) where
-  -- a connection goes on where the same calls were made
+  -- a connection goes on after the same calls
   tracked_set : (conn : ℕ) (old new : Track) → slice_get tracks conn ≡ Some old → ((made : List Due) → HasMade g conn old made → HasMade g conn new made) → AreTracked g at (slice_set tracks conn new)
   tracked_set conn old new found kept =
       let within = slice_get_within tracks conn old found in record {
@@ -124,11 +124,11 @@ module _ (g : Given) (at : ℕ) (tracks : List Track) (tracked : AreTracked g at
   pub tracked_at : (conn : ℕ) (read new : Track) → conn < length tracks → ((made : List Due) → HasMade g conn (get_or tracks conn read) made → HasMade g conn new made) → AreTracked g at (slice_set tracks conn new)
   tracked_at conn read new within kept = tracked_set conn (get_or tracks conn read) new (slice_get-get_or tracks conn read within) kept
 
-  -- and it stands where these calls were made
+  -- it is after these calls
   pub has_made : (conn : ℕ) (read new : Track) → conn < length tracks → ((made : List Due) → HasMade g conn (get_or tracks conn read) made → HasMade g conn new made) → HasMade g conn new (made_before g at conn)
   has_made conn read new within kept = kept (made_before g at conn) (tracked.each conn (get_or tracks conn read) (slice_get-get_or tracks conn read within))
 
-  -- one entry more was made
+  -- one further entry was made
   pub tracked_on : (e : Entry) (new : Track) → slice_get g.entries at ≡ Some e → e.tag.conn < length tracks → HasMade g e.tag.conn new (made_before g at e.tag.conn ++ due_of e ∷ []) → AreTracked g (at + 1) (slice_set tracks e.tag.conn new)
   tracked_on e new is within has =
       let more : made_before g (at + 1) e.tag.conn ≡ made_before g at e.tag.conn ++ due_of e ∷ [] =
@@ -207,7 +207,7 @@ call_missing g conn t right first has at = go t.begun has at
           is_of = refl;
         }
 
--- one more is at its end
+-- one further connection is at its end
 pub ends_more : (g : Given) (tracks : List Track) (conn : ℕ) (new : Track) → conn < length tracks → ((c : ℕ) (t : Track) → c < conn → slice_get tracks c ≡ Some t → IsAtEnd g c t) → IsAtEnd g conn new
     → (c : ℕ) (t : Track) → c < conn + 1 → slice_get (slice_set tracks conn new) c ≡ Some t → IsAtEnd g c t
 ends_more g tracks conn new within ends end c t below is = dite (ℕ_discrete c conn)
@@ -237,11 +237,11 @@ all_ended g tracks right tracked ends = (
     has : (c : ℕ) (t : Track) → slice_get tracks c ≡ Some t → HasMade g c t (dues_of (of_connection c g.entries))
     has c t is = subst (HasMade g c t) (all_before g c) (tracked.each c t is)
 
--- and so many commands are done as there are
+-- as many commands are done as there are
 pub ended_count : (g : Given) (tracks : List Track) (conn : ℕ) (t : Track) → AreEnded g tracks → slice_get tracks conn ≡ Some t → t.commands ≡ length (commands_held g.streams conn)
 ended_count g tracks conn t are is = let has = are.each conn t is in (ended_as g conn t (dues_of (of_connection conn g.entries)) has.0 has.1).1
 
--- and where no output was found to be another, each is the one that is due
+-- if no output was found to differ, each is the expected one
 pub end_outputs : (g : Given) (conn : ℕ) (t : Track) (made : List Due) → HasMade g conn t made → IsAtEnd g conn t → IsComplete g → t.compared.differing ≡ None → (s : ℕ) → s < length (sessions_of g.streams conn) → IsOutput g conn s
 end_outputs g conn t made has end complete none s below =
     let h : Stands g conn t.session t.cursor None t.commands t.compared made = subst (λ (o : Option Begun). Stands g conn t.session t.cursor o t.commands t.compared made) end.0 has in

@@ -68,7 +68,7 @@ begins g conn session cursor next commands compared made command gave h = record
 
 -- ---- sessions
 
--- behind the last session there is no command
+-- after the last session there is no command
 no_commands : (g : Given) (conn session : ℕ) → length (sessions_of g.streams conn) ≤ session → commands_of (stream_of g conn session) ≡ []
 no_commands g conn session past = ap commands_of (get_or_past (sessions_of g.streams conn) session [] past) ∙ ap (map command_of) frames_of_nil
 
@@ -83,7 +83,7 @@ session_there g conn session cursor done command has = dite (dec_lt session (len
     let more = length-append done (command ∷ []) in
     absurd (omega arith))
 
--- the texts of commands, and those behind them
+-- the texts of commands, and of those after them
 made_append : (index : ℕ) (done later : List Command) (own : List Entry) → made_of index (done ++ later) own ≡ made_of index done own ++ made_of (index + length done) later own
 made_append index done later own =
     ap (λ (l : List (List ℕ)). concat l) (texts_from-append index done later own) ∙ concat-append (texts_from index done own) (texts_from (index + length done) later own)
@@ -92,7 +92,8 @@ made_more : (index : ℕ) (done : List Command) (command : Command) (own : List 
 made_more index done command own =
     made_append index done (command ∷ []) own ∙ ap (λ (l : List ℕ). made_of index done own ++ l) (append-nil (text command (replies_at (index + length done) own)))
 
--- where all these commands of a session were given, and those behind it are any, those of the connection are
+-- if all these commands of a session were given, and those after it are any, those of the
+-- connection are
 whole_from : (g : Given) (conn session : ℕ) (given later : List Command) → session < length (sessions_of g.streams conn) → commands_of (stream_of g conn session) ≡ given ++ later
     → commands_held g.streams conn ≡ commands_past g conn session ++ (given ++ (later ++ commands_over (drop (session + 1) (sessions_of g.streams conn))))
 whole_from g conn session given later there is =
@@ -113,7 +114,7 @@ module _ (g : Given) (conn session : ℕ) (cursor : Cursor) (b : Begun) (command
   abbrev done : List Command
   done = h.done ++ b.command ∷ []
 
-  -- the commands of the session behind it, and all behind it
+  -- the commands of the session after it, and all after that
   abbrev later : List Command
   later = (given_first cursor (stream_of g conn session) done h.given).0
 
@@ -316,7 +317,7 @@ module _ (g : Given) (conn session : ℕ) (cursor : Cursor) (commands : ℕ) (co
       ap (λ (l : List Command). commands_past g conn session ++ l) none_done ∙ append-nil (commands_past g conn session)
       ∙ ap commands_over (take_all session (sessions_of g.streams conn) end)
 
-  -- every call due was made
+  -- each expected call was made
   pub made_all : made ≡ due_in g conn
   made_all = h.calls ∙ append-nil (due g.shards conn (commands_past g conn session ++ h.done)) ∙ ap (due g.shards conn) all_past
 

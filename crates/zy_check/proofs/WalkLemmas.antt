@@ -1,4 +1,4 @@
--- Walking through the entries: what is next, and how connections and shards stand.
+-- Going through the entries: the next call, and the state of connections and shards.
 use Rattle.std.specs.Prelude.{All, IfSome}
 use Rattle.std.specs.List.{slice_get, slice_set}
 use Rattle.std.proofs.Common.{◌≡◌, ◌≢◌, ℕ, zero, suc, ◌+◌, ◌<◌, ◌≤◌, List, [], ◌∷◌, ◌++◌, length, take, drop, Option, Some, refl, sym, ap, ◌∙◌, subst, arith}
@@ -42,7 +42,7 @@ none_left [] (suc at) none within = absurd (omega (arith, within))
 none_left (x ∷ es) zero none within = absurd (cc)
 none_left (x ∷ es) (suc at) none within = ap suc (none_left es at none (omega (arith, within)))
 
--- ---- one entry more
+-- ---- one further entry
 
 pub take_next : (es : List Entry) (at : ℕ) (e : Entry) → slice_get es at ≡ Some e → take (at + 1) es ≡ take at es ++ e ∷ []
 take_next es at e is =
@@ -58,7 +58,7 @@ own_here conn (x ∷ xs) (suc at) e is mine = dite (ℕ_discrete x.tag.conn conn
     (λ here. (λ i. slice_get (of_connection-here conn x xs here i) (length (of_connection-here conn x (take at xs) here i))) ∙ own_here conn xs at e is mine)
     (λ other. (λ i. slice_get (of_connection-other conn x xs other i) (length (of_connection-other conn x (take at xs) other i))) ∙ own_here conn xs at e is mine)
 
--- an entry of a connection, with so many of the connection's before it, at a place below another
+-- an entry of a connection, the `j`-th of its connection, at a place below another
 pub record IsOwn (conn : ℕ) (es : List Entry) (at j : ℕ) : Type 0 where
   pub place : ℕ
   pub entry : Entry
@@ -90,7 +90,7 @@ own_past conn x xs at j other own = record {
   before = ap (λ (l : List Entry). length l) (of_connection-other conn x (take own.place xs) other) ∙ own.before;
 }
 
--- each of the first entries of a connection stands somewhere
+-- each of the first entries of a connection is at some place
 pub own_there : (conn : ℕ) (es : List Entry) (at j : ℕ) → j < length (of_connection conn (take at es)) → IsOwn conn es at j
 own_there conn es zero j within = absurd (omega arith)
 own_there conn [] (suc at) j within = absurd (omega arith)
@@ -107,7 +107,7 @@ own_there conn (x ∷ xs) (suc at) (suc j) within = dite (ℕ_discrete x.tag.con
     let size = ap (λ (l : List Entry). length l) (of_connection-other conn x (take at xs) other) in
     own_past conn x xs at (suc j) other (own_there conn xs at (suc j) (omega arith)))
 
--- ---- what is next
+-- ---- the next call
 
 all_at : {A : Type 0} (P : A → Type 0) (xs : List A) (k : ℕ) (x : A) → All P xs → slice_get xs k ≡ Some x → P x
 all_at P [] k x all is = absurd (cc)
@@ -119,7 +119,7 @@ pub next_within : (g : Given) (before : List Entry) (e : Entry) → 1 ≤ g.shar
 next_within g before e some next =
     all_at (IsDueOn g.shards) (due_in g e.tag.conn) (length (of_connection e.tag.conn before)) (due_of e) (due_within g.shards e.tag.conn (commands_held g.streams e.tag.conn) some) next.call
 
--- where all before are right, what was asked so far is what is due
+-- if all entries before are right, their calls are the expected ones
 pub right_so_far : (g : Given) (at conn j : ℕ) → AreRightBelow g at → j < length (of_connection conn (take at g.entries)) → slice_get (dues_of (of_connection conn g.entries)) j ≡ slice_get (due_in g conn) j
 right_so_far g at conn j right within =
     let own = own_there conn g.entries at j within in

@@ -67,7 +67,7 @@ all_of_connections : (count : ℕ) (es : List Entry) → ((at : ℕ) (e : Entry)
 all_of_connections count [] each = tt
 all_of_connections count (e ∷ es) each = (each 0 e refl, all_of_connections count es (λ at x is. each (suc at) x is))
 
--- the entries of a connection are its calls due
+-- the entries of a connection are its expected calls
 all_calls : (g : Given) → IsComplete g → (conn : ℕ) → dues_of (of_connection conn g.entries) ≡ due_in g conn
 all_calls g complete conn =
     let own = of_connection conn g.entries in

@@ -6,7 +6,7 @@ use Rattle.mc_parse.specs.declared.shard_call.ShardCall.{ShardCall}
 use Rattle.mc_parse.specs.Calls.{calls_of}
 use Rattle.mc_reply.specs.Answers.{AnswerEach}
 
--- a command on so many shards, and the replies to its first calls
+-- a command on `shards` shards, and the replies to its first calls
 pub record Begun : Type 0 where
   pub command : Command
   pub shards : ℕ

@@ -25,7 +25,8 @@ pub record IsWrongReply (g : Given) (at : ℕ) : Type 0 where
 
 -- ---- calls
 
--- this is the first connection with a call due that has no entry, and the first of these calls is of this command
+-- this is the first connection with an expected call that has no entry, and the first of these
+-- calls is of this command
 pub record IsMissing (g : Given) (conn index : ℕ) : Type 0 where
   pub right : AreRight g
   pub first : (c : ℕ) → c < conn → IsWhole g c
@@ -33,7 +34,7 @@ pub record IsMissing (g : Given) (conn index : ℕ) : Type 0 where
   pub is_due : slice_get (due_in g conn) (length (of_connection conn g.entries)) ≡ Some call
   pub is_of : call.tag.index ≡ index
 
--- every entry is right, and every call due has one
+-- each entry is right, and each expected call has one
 pub record IsComplete (g : Given) : Type 0 where
   pub right : AreRight g
   pub whole : (conn : ℕ) → IsWhole g conn
@@ -56,7 +57,7 @@ agreeing_in (Some found) (Some due) = agreeing found due
 abbrev pub ComesBefore : ℕ → ℕ → ℕ → ℕ → Type 0
 ComesBefore c s conn session = (c < conn) ⊎ ((c ≡ conn) × (s < session))
 
--- this is the first session whose output is not the one that is due, and so many of its first bytes are
+-- this is the first session whose output is not the expected one, and `at` first bytes agree
 pub record IsWrongOutput (g : Given) (conn session at : ℕ) : Type 0 where
   pub complete : IsComplete g
   pub first : (c s : ℕ) → ComesBefore c s conn session → IsOutput g c s
@@ -80,7 +81,7 @@ pub record IsRight (g : Given) : Type 0 where
   pub outputs : (conn session : ℕ) → IsOutput g conn session
   pub holds : (conn : ℕ) → IsHeld g conn
 
--- what is so where this is the verdict
+-- the definition of each verdict
 abbrev pub HasVerdict : Given → Verdict → Type 0
 HasVerdict g Yes = IsRight g
 HasVerdict g (No (NotNext entry)) = IsNotNext g entry

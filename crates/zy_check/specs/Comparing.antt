@@ -4,22 +4,22 @@ use Rattle.zy_check.specs.declared.compared.Compared.{Compared}
 use Rattle.zy_check.specs.declared.compared.Differing.{Differing}
 use Rattle.zy_check.specs.Cause.{agreeing_in}
 
--- what was made of an output so far is so many first bytes of what was found
+-- the text made so far for an output is the first `at` bytes of the output that was found
 abbrev pub HasFirst : Option (List ℕ) → List ℕ → ℕ → Type 0
 HasFirst None made at = (made ≡ []) × (at ≡ 0)
 HasFirst (Some found) made at = (at ≤ length found) × (take at found ≡ made)
 
--- what was found is another output than the one that is due, and so many first bytes agree
+-- the output that was found is not the expected one, and `at` first bytes agree
 abbrev pub IsOther : Option (List ℕ) → List ℕ → ℕ → Type 0
 IsOther found due at = (found ≢ Some due) × (agreeing_in found (Some due) ≡ at)
 
--- this was made so far and is found, or the output is another, whatever is made behind it
+-- this was made so far and is found, or the output differs, whatever is made after it
 abbrev pub AddedTo : Option (List ℕ) → ℕ → List ℕ → ℕ → Option Differing → Type 0
 AddedTo found session made at None = HasFirst found made at
 AddedTo found session made at (Some d) =
     (d.session ≡ session) × ((behind : List ℕ) → IsOther found (made ++ behind) d.at)
 
--- a text more of an output is compared
+-- a further text of an output is compared
 pub record Adds (found : Option (List ℕ)) (session : ℕ) (text : List ℕ) (before after : Compared) : Type 0 where
   pub kept : (d : Differing) → before.differing ≡ Some d → after ≡ before
   pub added : before.differing ≡ None → (made : List ℕ) → HasFirst found made before.at

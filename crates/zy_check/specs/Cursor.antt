@@ -18,7 +18,7 @@ pub record HasGiven (cursor : Cursor) (stream : List ℕ) (given : List Command)
   pub stands : StandsFor cursor.framer (take cursor.at stream)
   pub all : commands_of (take cursor.at stream) ≡ given ++ map command_of cursor.frames
 
--- one command more was given, or all are
+-- one further command was given, or all are
 abbrev pub GaveNext : Cursor → Cursor → List ℕ → Option Command → Type 0
 GaveNext before after stream None =
     (given : List Command) → HasGiven before stream given → commands_of stream ≡ given

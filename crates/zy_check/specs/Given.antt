@@ -14,8 +14,8 @@ use Rattle.zy_run.specs.Commands.{commands_held}
 use Rattle.zy_run.specs.Output.{outputs_of}
 use Rattle.zy_run.specs.Spans.{held_of}
 
--- how many shards there are, the streams of all connections' sessions, a journal's entries and holds, and the outputs
--- of all connections' sessions
+-- the number of shards, the streams of all connections' sessions, a journal's entries and holds,
+-- and the outputs of all connections' sessions
 pub record Given : Type 0 where
   pub shards : ℕ
   pub streams : List (List (List ℕ))
@@ -23,7 +23,7 @@ pub record Given : Type 0 where
   pub holds : List Hold
   pub outputs : List (List (List ℕ))
 
--- streams, a journal and outputs, on so many shards
+-- streams, a journal and outputs, on `shards` shards
 abbrev pub given : ℕ → List (List (List ℕ)) → Journal → AllOutputs → Given
 given shards streams journal outputs =
     record {
@@ -36,18 +36,18 @@ given shards streams journal outputs =
 
 -- ---- entries
 
--- the calls due of a connection
+-- the expected calls of a connection
 abbrev pub due_in : Given → ℕ → List Due
 due_in g conn = due g.shards conn (commands_held g.streams conn)
 
--- an entry is the next call of its connection, where these entries stand before it
+-- an entry is the next call of its connection, after these entries
 pub record IsNext (g : Given) (before : List Entry) (e : Entry) : Type 0 where
-  -- there is that connection
+  -- the connection exists
   pub connection : e.tag.conn < length g.streams
-  -- and of its calls due the entry is the first that no entry before it is
+  -- the entry is the first of its expected calls for which there is no entry yet
   pub call : slice_get (due_in g e.tag.conn) (length (of_connection e.tag.conn before)) ≡ Some (due_of e)
 
--- an entry is answered as its shard stands after these entries
+-- an entry has the reply that its shard gives after these entries
 abbrev pub IsAnswered : Given → List Entry → Entry → Type 0
 IsAnswered g before e =
     e.reply ≡ reply_to (replayed g.shards e.shard empty_state (at_shard e.shard before)) e.call
@@ -56,40 +56,41 @@ IsAnswered g before e =
 abbrev pub IsNextAt : Given → ℕ → Type 0
 IsNextAt g at = IfSome (slice_get g.entries at) (IsNext g (take at g.entries))
 
--- the entry at a place is answered as its shard stands then
+-- the entry at a place has the reply that its shard gives at that point
 abbrev pub IsAnsweredAt : Given → ℕ → Type 0
 IsAnsweredAt g at = IfSome (slice_get g.entries at) (IsAnswered g (take at g.entries))
 
--- every entry before a place is the next call, and answered as its shard stands then
+-- each entry before a place is the next call, and has the reply that its shard gives at that point
 abbrev pub AreRightBelow : Given → ℕ → Type 0
 AreRightBelow g at = (k : ℕ) → k < at → IsNextAt g k × IsAnsweredAt g k
 
--- every entry is the next call, and answered as its shard stands then
+-- each entry is the next call, and has the reply that its shard gives at that point
 abbrev pub AreRight : Given → Type 0
 AreRight g = AreRightBelow g (length g.entries)
 
 -- ---- calls
 
--- no call due of a connection is without an entry
+-- each expected call of a connection has an entry
 abbrev pub IsWhole : Given → ℕ → Type 0
 IsWhole g conn = length (due_in g conn) ≤ length (of_connection conn g.entries)
 
 -- ---- outputs
 
--- the output of a session that was given, where there is one
+-- the output of a session that was given, if there is one
 abbrev pub found_output : Given → ℕ → ℕ → Option (List ℕ)
 found_output g conn session = slice_get (sessions_of g.outputs conn) session
 
--- the output of a session that is due, where there is one
+-- the expected output of a session, if there is one
 abbrev pub due_output : Given → ℕ → ℕ → Option (List ℕ)
 due_output g conn session = slice_get (outputs_of conn (sessions_of g.streams conn) g.entries) session
 
--- the output of a session is the one that is due, and none where none is due
+-- the output of a session is the expected one, or there is none and none is expected
 abbrev pub IsOutput : Given → ℕ → ℕ → Type 0
 IsOutput g conn session = found_output g conn session ≡ due_output g conn session
 
 -- ---- holds
 
--- the holds of a connection add up to the number of its commands, which is 0 where there is no such connection
+-- the holds of a connection add up to the number of its commands, which is 0 if there is no such
+-- connection
 abbrev pub IsHeld : Given → ℕ → Type 0
 IsHeld g conn = held_of conn g.holds ≡ length (commands_held g.streams conn)

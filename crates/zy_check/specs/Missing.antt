@@ -10,13 +10,13 @@ use Rattle.zy_check.specs.Given.{Given}
 use Rattle.zy_check.specs.Cause.{IsComplete, HasVerdict}
 use Rattle.zy_check.specs.Track.{HasMade, IsAtEnd}
 
--- each connection stands at its end, where the calls of its entries were made
+-- each connection is at its end, after the calls of its entries
 pub record AreEnded (g : Given) (tracks : List Track) : Type 0 where
   pub count : length tracks ≡ length g.streams
   pub each : (conn : ℕ) (t : Track) → slice_get tracks conn ≡ Some t
       → HasMade g conn t (dues_of (of_connection conn g.entries)) × IsAtEnd g conn t
 
--- every call due has an entry, and each connection stands at its end, or this is the first cause
+-- each expected call has an entry, and each connection is at its end, or this is the first cause
 abbrev pub FoundMissing : Given → List Track → Option Cause → Type 0
 FoundMissing g tracks None = IsComplete g × AreEnded g tracks
 FoundMissing g tracks (Some cause) = HasVerdict g (No cause)

@@ -19,7 +19,8 @@ pub record IsOfRun (g : Given) : Type 0 where
   -- and the holds span the commands
   pub holds : Spans g.holds (length g.streams) (commands_held g.streams)
 
--- a journal and outputs are those of a run of the commands of these records, which are of so many connections
+-- a journal and outputs are those of a run of the commands of these records, which belong to
+-- `count` connections
 pub record AreOfRun (shards count : ℕ) (records : List Record) (journal : Journal) (outputs : AllOutputs) : Type 0 where
   pub run : IsRun shards journal.entries count (commands_in records)
   pub replies : outputs.sessions ≡ all_outputs count (streams_in records) journal.entries

@@ -1,5 +1,5 @@
--- Where a connection stands: which of its calls were made, and its outputs as far as they were compared. No public
--- clause cites this module.
+-- The state of a connection: which of its calls were made, and how far its outputs were compared.
+-- No public clause cites this module.
 use Rattle.std.specs.Prelude.{◌≡◌, ℕ, ◌<◌, ◌≤◌, List, [], ◌∷◌, ◌++◌, length, take, drop, map, Option, None, Some, ⊤}
 use Rattle.std.specs.List.{concat, slice_index_or}
 use Rattle.zy_base.specs.declared.call_reply.CallReply.{CallReply}
@@ -32,7 +32,7 @@ abbrev pub answered_in : ℕ → ℕ → ℕ → Option Begun → List Due
 answered_in shards conn index None = []
 answered_in shards conn index (Some b) = take (length b.replies) (due_at shards conn index b.command)
 
--- it is on so many shards
+-- it is on `shards` shards
 abbrev pub IsOn : ℕ → Option Begun → Type 0
 IsOn shards None = ⊤
 IsOn shards (Some b) = b.shards ≡ shards
@@ -52,7 +52,7 @@ abbrev pub IsDone : Option Begun → Type 0
 IsDone None = ⊤
 IsDone (Some b) = length (asked_in b) ≡ length b.replies
 
--- with one reply more
+-- with one further reply
 abbrev pub with_reply : Option Begun → CallReply → Option Begun
 with_reply None reply = None
 with_reply (Some b) reply = Some (record b { replies = b.replies ++ reply ∷ [] })
@@ -76,8 +76,9 @@ abbrev pub made_in : Given → ℕ → ℕ → List Command → List ℕ
 made_in g conn session done =
     made_of (length (commands_past g conn session)) done (of_connection conn g.entries)
 
--- the outputs of the sessions before this one are those that are due, and the texts of these commands of it are the
--- first bytes of its output; or a session's output is another, and it is the first
+-- the outputs of the sessions before this one are the expected ones, and the texts of these
+-- commands of it are the first bytes of its output; or a session's output differs, and it is the
+-- first
 abbrev pub AreCompared : Given → ℕ → ℕ → List Command → ℕ → Option Differing → Type 0
 AreCompared g conn session done at None =
     ((s : ℕ) → s < session → IsOutput g conn s) × HasFirst (found_output g conn session) (made_in g conn session done) at
@@ -90,8 +91,8 @@ pub record AreWritten (g : Given) (conn session : ℕ) (done : List Command) (be
       (length (due g.shards conn (commands_past g conn session ++ done))) begun
   pub outputs : AreCompared g conn session done compared.at compared.differing
 
--- a connection at a place of a session, with this command begun, so many commands done, and its outputs compared so
--- far, where these calls were made
+-- a connection at a place of a session, with this command in progress, `commands` commands done,
+-- and its outputs compared so far, after these calls were made
 pub record Stands (g : Given) (conn session : ℕ) (cursor : Cursor) (begun : Option Begun) (commands : ℕ)
     (compared : Compared) (made : List Due) : Type 0 where
   -- the commands of the session that are done
@@ -104,10 +105,10 @@ pub record Stands (g : Given) (conn session : ℕ) (cursor : Cursor) (begun : Op
       ≡ due g.shards conn (commands_past g conn session ++ done) ++ answered_in g.shards conn commands begun
   pub written : IsComplete g → AreWritten g conn session done begun compared
 
--- a connection of what is given stands where these calls were made
+-- the state of a connection of what is given, after these calls were made
 abbrev pub HasMade : Given → ℕ → Track → List Due → Type 0
 HasMade g conn t made = Stands g conn t.session t.cursor t.begun t.commands t.compared made
 
--- it has no session more to read
+-- it has no further session to read
 abbrev pub IsAtEnd : Given → ℕ → Track → Type 0
 IsAtEnd g conn t = (t.begun ≡ None) × (length (sessions_of g.streams conn) ≤ t.session)

@@ -15,19 +15,20 @@ use Rattle.zy_check.specs.Begun.{Begun, asked_in}
 use Rattle.zy_check.specs.Track.{HasMade}
 use Rattle.zy_check.specs.Cause.{HasVerdict}
 
--- each connection stands where the calls of its entries before a place were made
+-- each connection is in the state after the calls of its entries before a place
 pub record AreTracked (g : Given) (at : ℕ) (tracks : List Track) : Type 0 where
   pub count : length tracks ≡ length g.streams
   pub each : (conn : ℕ) (t : Track) → slice_get tracks conn ≡ Some t
       → HasMade g conn t (dues_of (of_connection conn (take at g.entries)))
 
--- so many shards after the calls of entries
+-- `shards` shards after the calls of entries
 pub record AreReplayed (shards : ℕ) (es : List Entry) (states : List Replayed) : Type 0 where
   pub count : length states ≡ shards
   pub each : (s : ℕ) → s < shards → slice_get states s
       ≡ Some (replaying s shards (replayed shards s empty_state (at_shard s es)))
 
--- connections and shards stand before the entry at a place, and every entry before it is right
+-- connections and shards are in the state before the entry at a place, and each entry before it is
+-- right
 pub record AreAt (g : Given) (at : ℕ) (tracks : List Track) (states : List Replayed) : Type 0 where
   pub some : 1 ≤ g.shards
   pub tracked : AreTracked g at tracks
@@ -45,12 +46,13 @@ pub record IsNextIn (tracks : List Track) (e : Entry) : Type 0 where
   pub within : e.tag.conn < length tracks
   pub due : (t : Track) → slice_get tracks e.tag.conn ≡ Some t → IsDueIn t.begun t.commands e
 
--- the entry at a place is right, and connections and shards stand behind it, or this is the first cause
+-- the entry at a place is right, and connections and shards are in the state after it, or this is
+-- the first cause
 abbrev pub FoundAt : Given → ℕ → List Track → List Replayed → Option Cause → Type 0
 FoundAt g at tracks states None = AreAt g (at + 1) tracks states
 FoundAt g at tracks states (Some cause) = HasVerdict g (No cause)
 
--- every entry is right, and each connection stands behind its last, or this is the first cause
+-- each entry is right, and each connection is in the state after its last, or this is the first cause
 abbrev pub FoundWrong : Given → List Track → Option Cause → Type 0
 FoundWrong g tracks None = AreRight g × AreTracked g (length g.entries) tracks
 FoundWrong g tracks (Some cause) = HasVerdict g (No cause)

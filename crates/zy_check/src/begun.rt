@@ -33,7 +33,7 @@ impl Model for Begun {
 }
 
 impl Begun {
-    /// A command of which no call is answered.
+    /// A command, before any of its calls was answered.
     pub fn new(alloc: Global, command: Command, shards: u32) -> Result<Begun, NoMemory>
         requires some { 1 ≤ shards }
         requires limit { shards ≤ 256 }

@@ -17,9 +17,9 @@ use zy_base::NoMemory;
 use zy_capture::{Outputs, Streams};
 use zy_journal::Journal;
 
-/// Whether a journal and outputs are those of a run of these streams on so many shards, and the
-/// first cause where they are not. Want of memory is free; a connection whose commands or holds do
-/// not fit in 64 bits wants more than there is.
+/// Whether a journal and outputs are those of a run of these streams on `shards` shards, and the
+/// first cause if they are not. May answer `NoMemory`, and does if the commands or the holds of a
+/// connection do not fit in 64 bits.
 pub fn check(
     alloc: Global,
     streams: &Streams,
@@ -46,7 +46,7 @@ pub fn check(
     }
 }
 
-// So many connections at the start of their first sessions.
+// `count` connections at the start of their first sessions.
 fn at_start(alloc: Global, count: u32) -> Result<Vec<Track>, NoMemory>
     ensures none { IfOk result (λ tracks. (g : Given) → length g.streams ≡ count
         → AreTracked g 0 tracks.items) }
@@ -60,8 +60,8 @@ fn at_start(alloc: Global, count: u32) -> Result<Vec<Track>, NoMemory>
     Ok(tracks)
 }
 
-// The first cause among the entries and the calls that have none, where there is one. Where there is
-// none, each connection stands at its end.
+// The first cause among the entries and the calls without an entry, if there is one. If there is
+// none, each connection is at its end.
 fn first_of_calls(
     alloc: Global,
     files: &Files,

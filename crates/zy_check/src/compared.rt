@@ -4,7 +4,7 @@ ghost use Rattle.zy_check.specs.Comparing.{Adds, Ends};
 
 use crate::bytes::agreeing;
 
-/// A session whose output is another than the one that is due, and how many first bytes agree.
+/// A session whose output is not the expected one, and the number of first bytes that agree.
 #[derive(Clone, Copy)]
 pub struct Differing {
     pub session: u32,
@@ -57,7 +57,7 @@ impl Compared {
         }
     }
 
-    // The output of this session is another, behind the bytes that agree.
+    // The output of this session differs after the bytes that agree.
     fn differ(&mut self, session: u32)
         ensures value { self.new ≡ record self.old {
           differing = Some (record { session = session; at = self.old.at });

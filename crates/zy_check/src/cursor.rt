@@ -44,7 +44,7 @@ impl Cursor {
         }
     }
 
-    /// The next command of the stream, which is the same in all calls; `None` behind the last one.
+    /// The next command of the stream, which is the same in all calls; `None` after the last one.
     pub fn next(&mut self, stream: &[u8]) -> Result<Option<Command>, NoMemory>
         ensures gave { IfOk result (GaveNext self.old self.new stream.now) }
     {

@@ -9,7 +9,7 @@ use zy_base::Hold;
 use zy_capture::{Outputs, Streams};
 use zy_journal::{Journal, Walk};
 
-/// The streams, the journal and the outputs that are checked, on so many shards.
+/// The streams, the journal and the outputs that are checked, on `shards` shards.
 #[derive(Drop)]
 pub struct Files<'a> {
     streams: &'a Streams,
@@ -30,7 +30,7 @@ impl<'a> Model for Files<'a> {
 }
 
 impl<'a> Files<'a> {
-    /// These, on so many shards.
+    /// These, on `shards` shards.
     pub fn new(
         streams: &'a Streams,
         journal: &'a Journal,

@@ -26,14 +26,14 @@ pub fn there_is_one_verdict()
 
 // ---- runs
 
-/// Where what is given is a run's, the verdict is yes, and no other is.
+/// If what is given is a run's, the verdict is yes, and no other is.
 pub fn a_run_is_right()
     ensures right { (g : Given) → IsOfRun g → HasVerdict g Yes }
     ensures only { (g : Given) (v : Verdict) → IsOfRun g → HasVerdict g v → v ≡ Yes }
 {}
 
-/// Where the verdict is yes, what is given is a run's: of holds this is said where they stand by
-/// rising connection and each counts a command.
+/// If the verdict is yes, what is given is a run's; for holds this is stated if they are in the
+/// order of connections and each counts a command.
 pub fn yes_means_a_run()
     ensures run { (g : Given) → 1 ≤ g.shards → HasVerdict g Yes
         → IsRun g.shards g.entries (length g.streams) (commands_held g.streams) }

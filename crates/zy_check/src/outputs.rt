@@ -1,4 +1,4 @@
-//! The first output that is another than the one that is due.
+//! The first output that is not the expected one.
 ghost use Rattle.std.specs.Prelude.{◌<◌, length};
 ghost use Rattle.zy_base.specs.Order.{of_connection};
 ghost use Rattle.mc_parse.specs.Calls.{dues_of};
@@ -12,7 +12,7 @@ use crate::files::Files;
 use crate::track::Track;
 use crate::verdict::Cause;
 
-/// The cause at the first session whose output is not the one that is due, where there is one.
+/// The cause at the first session whose output is not the expected one, if there is one.
 pub fn first_output(files: &Files, tracks: &[Track]) -> Option<Cause>
     requires complete { IsComplete files.now }
     requires ended { AreEnded files.now tracks.now }
@@ -35,7 +35,7 @@ pub fn first_output(files: &Files, tracks: &[Track]) -> Option<Cause>
     None
 }
 
-// The first session of a connection whose output is not the one that is due, where there is one.
+// The first session of a connection whose output is not the expected one, if there is one.
 fn first_differing(files: &Files, track: &Track, conn: u32) -> Option<Differing>
     requires within { conn < length files.now.streams }
     requires complete { IsComplete files.now }

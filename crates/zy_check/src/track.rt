@@ -1,4 +1,4 @@
-//! Where a connection stands.
+//! The state of a connection.
 ghost use Rattle.std.specs.Prelude.{◌≡◌, ◌↔◌, ◌+◌, ◌^◌, ◌<◌, ◌≤◌, ℕ, true, false};
 ghost use Rattle.std.specs.Prelude.{List, [], length, None, Some, IfOk, OnOk, OnErr};
 ghost use Rattle.std.specs.List.{slice_get};
@@ -21,7 +21,7 @@ use std::mem;
 use zy_base::{CallReply, Entry, NoMemory};
 
 /// A connection's place in its streams: the session that is read and the place in it, the command
-/// that is begun, how many stand before it, and its outputs as far as they were compared.
+/// in progress, the number of commands before it, and how far its outputs were compared.
 #[derive(Drop)]
 pub struct Track {
     alloc: Global,
@@ -57,15 +57,15 @@ impl Track {
         self.commands
     }
 
-    /// The first session whose output is another, among those that were read.
+    /// The first session whose output differs, among those that were read.
     pub fn differing(&self) -> Option<Differing>
         ensures value { result ≡ self.now.compared.differing }
     {
         self.compared.differing
     }
 
-    /// Goes on to the next call that has no entry, and tells whether there is one. The texts of the
-    /// commands before it are compared.
+    /// Goes on to the next call that has no entry, and returns whether there is one. The texts of
+    /// the commands before it are compared.
     pub fn go_on(&mut self, files: &Files, conn: u32) -> Result<bool, NoMemory>
         requires within { conn < length files.now.streams }
         ensures kept { OnOk result ((made : List Due) → HasMade files.now conn self.old made
@@ -145,7 +145,7 @@ impl Track {
         Ok(())
     }
 
-    // Begins the next command or, where the session has none, the next session. Tells whether there
+    // Begins the next command or, if the session has none, the next session. Returns whether there
     // is one.
     fn begin(&mut self, files: &Files, conn: u32) -> Result<bool, NoMemory>
         requires within { conn < length files.now.streams }

@@ -19,7 +19,7 @@ pub enum Cause {
     WrongReply { entry: u64 },
     /// The command with this index, of this connection, has a call without an entry.
     Missing { conn: u32, index: u64 },
-    /// The output of this session is another than the run's: so many first bytes agree.
+    /// The output of this session is not the run's: the first `at` bytes agree.
     WrongOutput { conn: u32, session: u32, at: u64 },
     /// The holds of this connection do not add up to the number of its commands.
     WrongHolds { conn: u32 },

@@ -13,8 +13,8 @@ use mc_shard::Replay;
 use std::alloc::Global;
 use zy_base::{Entry, NoMemory};
 
-/// The cause at the first entry that is not right, where there is one. Where there is none, each
-/// connection stands behind its last entry.
+/// The cause at the first entry that is not right, if there is one. If there is none, each
+/// connection is after its last entry.
 pub fn first_wrong(
     alloc: Global,
     files: &Files,
@@ -59,7 +59,7 @@ fn wrong_at(
     Ok(None)
 }
 
-// Whether an entry is the next call of its connection, which goes on to that call.
+// Whether an entry is the next call of its connection. The connection goes on to that call.
 fn is_next(files: &Files, tracks: &mut [Track], entry: &Entry) -> Result<bool, NoMemory>
     requires same { length tracks.old ≡ length files.now.streams }
     ensures kept { OnOk result ((at : ℕ) → AreTracked files.now at tracks.old
@@ -89,7 +89,7 @@ fn answers(state: &mut Replay, entry: &Entry) -> Result<bool, NoMemory>
     Ok(entry.reply == reply)
 }
 
-// So many shards on which no call was made.
+// `shards` shards on which no call was made.
 fn empty_shards(alloc: Global, shards: u32) -> Result<Vec<Replay>, NoMemory>
     requires limit { shards ≤ 256 }
     ensures none { IfOk result (λ states. AreReplayed shards [] states.items) }

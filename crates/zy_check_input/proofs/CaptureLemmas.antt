@@ -43,7 +43,7 @@ end_read due p given good = cc
 closes : (p : Progress) (given : List Record) (byte : ℕ) → is_good (ended p.due p given) ≡ true → (fault : CaptureFault) × (fault_in (step p byte).next.due ≡ Some fault)
 closes p given byte good = let is : p.due ≡ Nothing = end_read p.due p given good in (Trailing p.at, rw is refl)
 
--- a byte behind a capture is a fault
+-- a byte after a capture is a fault
 pub once : EndsOnce captures is_good
 once = record { lasting = lasting; closes = closes; bad = λ fault. refl }
 
@@ -118,20 +118,20 @@ fault_within part q bytes piece more answer fault is stands goes_on within feeds
 
 -- ---- what is kept
 
--- a record more
+-- one further record
 pub record_kept : (old new : List (List (List ℕ))) (item : Record) (given : List Record) (answer : Result ⊤ Outside.NoMemory) → OnOk answer (new ≡ with_record old item) → KeepsStreams (Some old) given → OnOk answer (KeepsStreams (Some new) (given ++ item ∷ []))
 record_kept old new item given (Ok done) added kept =
     (kept.0, added ∙ ap (λ (l : List (List (List ℕ))). with_record l item) kept.1 ∙ sym (records_on (no_bytes kept.0) given item))
 record_kept old new item given (Err e) added kept = tt
 
--- whether the capture goes on
+-- whether the capture goes on or is whole
 pub goes_on_or_done : (part : CapturePart) (given : List Record) (bytes : List ℕ) (done : Bool) → StandsFor part.reader given bytes → fault_of bytes ≡ None → KeepsStreams part.streams given → done ≡ is_good (verdict bytes) → Takes capture_kind part bytes (Ok done)
 goes_on_or_done part given bytes false reader clean kept is = (record { given = given; reader = reader; kept = kept }, (clean, sym is))
 goes_on_or_done part given bytes true reader clean kept is = (record { given = given; reader = reader; kept = kept }, sym is)
 
 -- ---- the end
 
--- the count of a whole capture was told
+-- the count of a whole capture was read
 due_counts : (due : Due) (p : Progress) (given : List Record) (version count : ℕ) → ended due p given ≡ Good version count given → count_in due p.count ≡ Some count
 due_counts Nothing p given version count is = cc
 due_counts (Broken fault) p given version count is = cc

@@ -52,11 +52,11 @@ journals_differ text first second one two = let is : Journals.Verdict.Bad first 
 replies_differ : (text : List ℕ) (first second : FileFault) → Replies.verdict text ≡ Replies.Verdict.Bad first → Replies.verdict text ≡ Replies.Verdict.Bad second → first ≡ second
 replies_differ text first second one two = let is : Replies.Verdict.Bad first ≡ Replies.Verdict.Bad second = sym one ∙ two in cc
 
--- a fault of the capture is none of a later part
+-- a fault of the capture is not one of a later part
 not_later : (text front back : List ℕ) (fault : CaptureFault) → HasCaptureFault text fault → text ≡ front ++ back → IsCapture front → ⊥
 not_later text front back fault has is whole = has.none front back is whole
 
--- a fault of the journal is none of the replies file
+-- a fault of the journal is not one of the replies file
 not_last : (text : List ℕ) (fault other : FileFault) → HasJournalFault text fault → HasRepliesFault text other → ⊥
 not_last text fault other has later =
     has.none later.journal_text later.rest (after_capture text has.capture_text has.rest later.capture_text (later.journal_text ++ later.rest) has.whole later.whole has.of_capture later.of_capture) later.of_journal

@@ -1,4 +1,4 @@
--- Formats in which a byte behind a whole text is a fault: of the first parts of a text at most one is whole.
+-- Formats in which a byte after a whole text is a fault: at most one prefix of a text is whole.
 use Rattle.std.proofs.Common.{◌≡◌, ◌⊎◌, inl, inr, ⊎_elim, ℕ, Bool, true, false, List, [], ◌∷◌, ◌++◌, refl, sym, ◌∙◌, ap, subst, append_assoc}
 use Rattle.std.specs.Prelude.{Option, None, Some, option_to_list}
 use Rattle.std.proofs.lemmas.List.{append-nil, append_cancel_left}
@@ -7,7 +7,7 @@ use Rattle.zy_read.specs.Standing.{StandsAs, Feeds, MeetsFault}
 use Rattle.zy_read.proofs.Feeding.{read_more, fed_step, verdict_here, fault_here, fault_stays, fault_lasts}
 use Rattle.zy_check_input.specs.Reading.{GoesOn, IsWhole, HasNoWhole}
 
--- the first fault counts, a byte behind a whole text is a fault, and a text with a fault is not whole
+-- the first fault counts, a byte after a whole text is a fault, and a text with a fault is not whole
 pub record EndsOnce {P G F V : Type 0} (format : Format P G F V) (good : V → Bool) : Type 0 where
   pub lasting : IsLasting format
   pub closes : (p : P) (given : List G) (byte : ℕ) → good (format.ended p given) ≡ true → (fault : F) × (format.fault_in (format.step p byte).next ≡ Some fault)
@@ -19,11 +19,11 @@ pub record EndsOnce {P G F V : Type 0} (format : Format P G F V) (good : V → B
 pub bad_not_whole : {P G F V : Type 0} (format : Format P G F V) (good : V → Bool) (once : EndsOnce format good) (text : List ℕ) (fault : F) → verdict_on format text ≡ format.bad fault → IsWhole format good text → ⊥
 bad_not_whole format good once text fault is whole = let no : good (format.bad fault) ≡ true = ap good (sym is) ∙ whole in let not : good (format.bad fault) ≡ false = once.bad fault in cc
 
--- a text in which a fault was met is not whole, nor is a longer one
+-- a text in which a fault was met is not whole, and neither is a longer one
 pub met_not_whole : {P G F V : Type 0} (format : Format P G F V) (good : V → Bool) (once : EndsOnce format good) (text more : List ℕ) (fault : F) → fault_met format text ≡ Some fault → IsWhole format good (text ++ more) → ⊥
 met_not_whole format good once text more fault met whole = bad_not_whole format good once (text ++ more) fault (fault_lasts format once.lasting text more fault met) whole
 
--- behind a whole text a fault is met
+-- after a whole text a fault is met
 pub whole_closes : {P G F V : Type 0} (format : Format P G F V) (good : V → Bool) (once : EndsOnce format good) (text more : List ℕ) (byte : ℕ) → IsWhole format good text → (fault : F) × (fault_met format (text ++ byte ∷ more) ≡ Some fault)
 unfolding StandsAs verdict_on
 whole_closes {P} {G} {F} format good once text more byte whole =
@@ -39,9 +39,9 @@ no_longer format good once text more byte whole longer =
     let closed = whole_closes format good once text more byte whole in
     met_not_whole format good once (text ++ byte ∷ more) [] closed.0 closed.1 (subst (λ (l : List ℕ). IsWhole format good l) (sym (append-nil (text ++ byte ∷ more))) longer)
 
--- ---- first parts of one text
+-- ---- prefixes of one text
 
--- of two first parts of a text one is a first part of the other
+-- of two prefixes of a text one is a prefix of the other
 pub two_firsts : (a x c y : List ℕ) → a ++ x ≡ c ++ y → ((d : List ℕ) × (c ≡ a ++ d)) ⊎ ((d : List ℕ) × (a ≡ c ++ d))
 two_firsts [] x c y is = inl (c, refl)
 two_firsts (n ∷ a) x [] y is = inr (n ∷ a, refl)
@@ -54,7 +54,7 @@ two_firsts (n ∷ a) x (m ∷ c) y is =
     go same (inl longer) = let is : c ≡ a ++ longer.0 = longer.1 in inl (longer.0, cc)
     go same (inr longer) = let is : a ≡ c ++ longer.0 = longer.1 in inr (longer.0, cc)
 
--- a first part that is whole is the only one
+-- a prefix that is whole is the only one
 same_first : {P G F V : Type 0} (format : Format P G F V) (good : V → Bool) (once : EndsOnce format good) (a d c : List ℕ) → c ≡ a ++ d → IsWhole format good a → IsWhole format good c → a ≡ c
 same_first format good once a [] c is first second = sym (is ∙ append-nil a)
 same_first format good once a (byte ∷ more) c is first second = absurd (no_longer format good once a more byte first (subst (λ (l : List ℕ). IsWhole format good l) is second))
@@ -73,7 +73,7 @@ one_rest format good once a x c y is first second =
 
 -- ---- a text that goes on
 
--- a text without a fault, which is not whole, has no first part that is
+-- a text without a fault, which is not whole, has no prefix that is
 pub none_yet : {P G F V : Type 0} (format : Format P G F V) (good : V → Bool) (once : EndsOnce format good) (text : List ℕ) → GoesOn format good text → HasNoWhole format good text
 none_yet format good once text goes_on front [] is whole = let not : good (verdict_on format text) ≡ false = goes_on.1 in let yes : good (verdict_on format text) ≡ true = subst (λ (l : List ℕ). IsWhole format good l) (sym (is ∙ append-nil front)) whole in cc
 none_yet format good once text goes_on front (byte ∷ more) is whole =
@@ -83,7 +83,7 @@ none_yet format good once text goes_on front (byte ∷ more) is whole =
 
 -- ---- a text with a fault
 
--- nor has a longer text with a fault, whatever follows, where none of the first parts between the two is whole
+-- neither has a longer text with a fault, whatever follows, if no prefix between the two is whole
 none_later : {P G F V : Type 0} (format : Format P G F V) (good : V → Bool) (once : EndsOnce format good) (text taken more : List ℕ) (fault : F) → GoesOn format good text → fault_met format (text ++ taken) ≡ Some fault
     → ((d e : List ℕ) → taken ≡ d ++ e → IsWhole format good (text ++ d) → ⊥) → HasNoWhole format good ((text ++ taken) ++ more)
 none_later format good once text taken more fault goes_on met between front back is whole = go (two_firsts text (taken ++ more) front back whole_is)
@@ -105,7 +105,7 @@ none_later format good once text taken more fault goes_on met between front back
 
 -- ---- a byte that is fed
 
--- between a text and one byte more there is none
+-- between a text and one further byte there is no prefix
 no_whole_byte : {P G F V : Type 0} (format : Format P G F V) (good : V → Bool) (once : EndsOnce format good) (text d e : List ℕ) (byte : ℕ) (fault : F) → GoesOn format good text → fault_met format (text ++ byte ∷ []) ≡ Some fault
     → byte ∷ [] ≡ d ++ e → IsWhole format good (text ++ d) → ⊥
 no_whole_byte format good once text [] e byte fault goes_on met is whole = none_yet format good once text goes_on (text ++ []) [] (sym (append-nil (text ++ []) ∙ append-nil text)) whole

@@ -1,4 +1,4 @@
--- A byte behind a journal is a fault, and its end is told by the byte that ends it.
+-- A byte after a journal is a fault, and the byte that ends a journal reports its end.
 use Rattle.std.proofs.Common.{◌≡◌, inl, ℕ, ◌+◌, ◌-◌, ◌==◌, Bool, true, false, true≢false, List, [], ◌∷◌, ◌++◌, length, refl, sym, ◌∙◌, ap, subst}
 use Rattle.std.specs.Prelude.{nat_lt, if◌then◌else◌, Option, Some, None, Result, Ok, Err, ⊤}
 use Rattle.std.specs.Int.{from_be_bytes, w32, w64}
@@ -43,7 +43,7 @@ end_read due p good = cc
 closes : (p : Progress) (given : List ⊤) (byte : ℕ) → is_good (ended p.due p) ≡ true → (fault : FileFault) × (fault_in (step p byte).next.due ≡ Some fault)
 closes p given byte good = let is : p.due ≡ Nothing = end_read p.due p good in (Form p.at, rw is refl)
 
--- a byte behind a journal is a fault
+-- a byte after a journal is a fault
 pub once : EndsOnce journals is_good
 once = record { lasting = lasting; closes = closes; bad = λ fault. refl }
 
@@ -126,7 +126,7 @@ taken_ends (Broken fault) p byte here = λ none is. cc
 step_ends : (p : Progress) (byte : ℕ) → EndsNothing (step p byte)
 step_ends p byte = either EndsNothing (is_full p) (refuses p TooLong) (taken p.due p byte) (λ none is. cc) (taken_ends p.due p byte refl)
 
--- a journal's end is told by the byte that leads to it
+-- the byte that leads to a journal's end reports it
 abbrev pub IsOpen : Progress → Type 0
 IsOpen p = p.due ≡ Nothing → ⊥
 
@@ -136,7 +136,7 @@ stays = record {
   goes = λ p byte unread none. inl (step_ends p byte none);
 }
 
--- where a journal goes on its end was not read
+-- while a journal goes on, its end was not read
 pub open_here : (p : Progress) (given : List ⊤) (text : List ℕ) → StandsForJournal p given text → GoesOn journals is_good text → IsOpen p
 open_here p given text stands goes_on is =
     let here : verdict text ≡ ended p.due p = verdict_here journals p given text stands in
@@ -152,7 +152,7 @@ fault_in_piece part q bytes piece more answer fault is stands goes_on feeds tell
     let met : MeetsFault journals part.reader piece (Some fault) = subst (λ (a : Result (Option ⊤) (NotTaken FileFault)). TellsFault journals part.reader piece a) is tells in
     piece_fault journals is_good once IsOpen stays part.reader q stands.given bytes piece more fault stands.reader (open_here part.reader stands.given bytes stands.reader goes_on) goes_on fed met
 
--- whether the journal goes on
+-- whether the journal goes on or is whole
 pub goes_on_or_done : (part : JournalPart) (given : List ⊤) (bytes : List ℕ) (done : Bool) → StandsForJournal part.reader given bytes → fault_of bytes ≡ None → done ≡ is_good (verdict bytes) → Takes journal_kind part bytes (Ok done)
 goes_on_or_done part given bytes false reader clean is = (record { given = given; reader = reader }, (clean, sym is))
 goes_on_or_done part given bytes true reader clean is = (record { given = given; reader = reader }, sym is)

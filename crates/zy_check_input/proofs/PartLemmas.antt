@@ -10,20 +10,20 @@ use Rattle.zy_read.specs.Piece.{HasGiven, IsOver}
 use Rattle.zy_read.proofs.SourceLemmas.{told_first, told_all}
 use Rattle.zy_check_input.specs.Reading.{Kind, HasStopped, HasFaultBehind, Takes, EndsWhole, EndsCut, Advances, Reads}
 
--- ---- some bytes more
+-- ---- further bytes
 
--- the bytes of the part and then the others, behind what came before
+-- the bytes of the part and then the others, after what came before
 regrouped : (before bytes left more : List ℕ) → ((before ++ bytes) ++ left) ++ more ≡ before ++ (bytes ++ (left ++ more))
 regrouped before bytes left more = append_assoc (before ++ bytes) left more ∙ append_assoc before bytes (left ++ more)
 
--- first bytes of what is left of the piece are the next of the part
+-- the first bytes of the rest of the piece are the next bytes of the part
 taken_from : (before bytes left : List ℕ) (count : ℕ) → (before ++ bytes) ++ left ≡ (before ++ (bytes ++ take count left)) ++ drop count left
 taken_from before bytes left count =
     ap (λ (l : List ℕ). (before ++ bytes) ++ l) (sym (take-append-drop count left))
     ∙ sym (append_assoc (before ++ bytes) (take count left) (drop count left))
     ∙ ap (λ (l : List ℕ). l ++ drop count left) (append_assoc before bytes (take count left))
 
--- some bytes more of a part
+-- further bytes of a part
 given_on : {S : Type 0} (rest : S → Option (List ℕ)) (faults : S → ℕ) (first now : S) (left before bytes : List ℕ) (count : ℕ) → HasGiven rest faults first now left (before ++ bytes)
     → HasGiven rest faults first now (drop count left) (before ++ (bytes ++ take count left))
 given_on rest faults first now left before bytes count given = record {

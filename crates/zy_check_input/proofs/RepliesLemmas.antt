@@ -31,7 +31,7 @@ once = record { lasting = lasting; closes = λ p given byte good. cc; bad = λ f
 
 -- ---- what is kept
 
--- an output more
+-- one further output
 pub output_kept : (old new : AllOutputs) (item : SessionBytes) (given : List SessionBytes) (answer : Result ⊤ Outside.NoMemory) → OnOk answer (new ≡ with_output old item.conn item.bytes) → OnOk answer (ComesNext old.sessions item.conn item.session)
     → KeepsOutputs (Some old) given → OnOk answer (KeepsOutputs (Some new) (given ++ item ∷ []))
 output_kept old new item given (Ok done) added next kept =
@@ -40,7 +40,7 @@ output_kept old new item given (Err e) added next kept = tt
 
 -- ---- the end
 
--- the version of a whole replies file was told
+-- the version of a whole replies file was read
 version_is : (found told : ℕ) → version_in found ≡ Some told → found ≡ told
 version_is found told is = elim (found == 0) as (λ t. (found == 0) ≡ t → found ≡ told) [
   | true ↦ λ zero_is. let none : version_in found ≡ None = rw zero_is refl in cc

@@ -1,4 +1,4 @@
--- The three parts of an input, one behind the other.
+-- The three parts of an input, one after the other.
 use Rattle.std.proofs.Common.{◌≡◌, ◌⊎◌, inl, inr, ℕ, List, [], ◌++◌, refl, sym, ◌∙◌, ap, subst, arith, append_assoc}
 use Rattle.std.specs.Prelude.{Option, None, Some, IfSome, Result, Ok, Err}
 use Rattle.std.specs.Io.KnownBytes.{Consumes}
@@ -126,7 +126,7 @@ stopped_in_replies rest faults first now bytes more NoMemory good journal stops 
 
 -- ---- all parts
 
--- the source is at its end behind the replies file
+-- the source is at its end after the replies file
 over : {S : Type 0} (rest : S → Option (List ℕ)) (faults : S → ℕ) (first now : S) (left before : List ℕ) (outputs : AllOutputs) (has : HasRead replies_kind rest faults first now left before outputs) → IsOver (rest now) left
 over rest faults first now left before outputs has = go has.end
   where

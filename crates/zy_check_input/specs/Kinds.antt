@@ -23,7 +23,7 @@ use Rattle.zy_check_input.specs.Reading.{Kind, GoesOn}
 
 -- ---- captures
 
--- the streams are those of the records; before the count was read there is none
+-- the streams are those of the records; before the count was read there is no record
 abbrev pub KeepsStreams : Option (List (List (List ℕ))) → List Record → Type 0
 KeepsStreams None given = given ≡ []
 KeepsStreams (Some streams) given = (count : ℕ) × (streams ≡ with_records (no_bytes count) given)
@@ -71,12 +71,13 @@ journal_kind = record {
 
 -- ---- replies files, which end with the source
 
--- the outputs are those that were given; before the version was read there is none
+-- the outputs are those that were given; before the version was read there is no output
 abbrev pub KeepsOutputs : Option AllOutputs → List SessionBytes → Type 0
 KeepsOutputs None given = given ≡ []
 KeepsOutputs (Some outputs) given = items_of outputs ≡ given
 
--- the output of this session comes next: it is the first one of the next connection, or one more of the last one
+-- the output of this session comes next: it is the first one of the next connection, or the next
+-- one of the last connection
 abbrev pub ComesNext : List (List (List ℕ)) → ℕ → ℕ → Type 0
 ComesNext sessions conn session =
     ((conn ≡ length sessions) × (session ≡ 0))

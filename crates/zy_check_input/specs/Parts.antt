@@ -1,5 +1,5 @@
--- The input of the command check: a capture, a journal and a replies file, one behind the other. Each part ends where
--- it ends by itself, and the first fault of the input counts.
+-- The input of the command check: a capture, a journal and a replies file, one after the other. The
+-- end of each part is known from its own bytes, and the first fault of the input counts.
 use Rattle.std.specs.Prelude.{◌≡◌, ℕ, true, List, ◌++◌, Option, Result, Ok, Err, IfSome, ⊤}
 use Rattle.std.specs.Io.KnownBytes.{Consumes, IsAtEnd}
 use Rattle.zy_base.specs.declared.file_fault.FileFault.{FileFault}
@@ -50,11 +50,11 @@ pub record AreParts (text : List ℕ) (streams : List (List (List ℕ))) (journa
 
 -- ---- faults
 
--- no first part of the text is a capture
+-- no prefix of the text is a capture
 abbrev pub HasNoCapture : List ℕ → Type 0
 HasNoCapture text = (front back : List ℕ) → text ≡ front ++ back → ¬ IsCapture front
 
--- no first part of the text is a journal
+-- no prefix of the text is a journal
 abbrev pub HasNoJournal : List ℕ → Type 0
 HasNoJournal text = (front back : List ℕ) → text ≡ front ++ back → ¬ IsJournal front
 
@@ -91,12 +91,12 @@ HasPartFault text (Pcap fault) = ⊥
 
 -- ---- reading
 
--- the source gave these bytes, where it tells them, and is at its end
+-- the source held these bytes, if that is known, and is at its end
 abbrev pub ReadsAll : Option (List ℕ) → Option (List ℕ) → List ℕ → Type 0
 ReadsAll before after bytes = Consumes before after bytes × IsAtEnd after
 
--- the parts are those of all that the source gave; or its text has this fault, or its count of faults rose, or stands
--- at its last value; want of memory is free
+-- the parts are those of all that the source gave; or its text has this fault; or its count of
+-- faults rose, or is at its largest value; `NoMemory` needs no cause
 abbrev pub HasReadParts : {S : Type 0} → (S → Option (List ℕ)) → (S → ℕ) → S → S → Result Parts (Stop Refusal) → Type 0
 HasReadParts rest faults first now (Ok parts) =
     (text : List ℕ) × ReadsAll (rest first) (rest now) text × AreParts text parts.streams parts.journal parts.outputs
@@ -105,8 +105,8 @@ HasReadParts rest faults first now (Err (Refused refusal)) = IfSome (rest first)
 HasReadParts rest faults first now (Err ReadFault) = Rose (faults first) (faults now)
 HasReadParts rest faults first now (Err NoMemory) = ⊤
 
--- the source gave a capture with these streams, and may have given some bytes behind it; where all that it told is a
--- capture, it is this one
+-- the source gave a capture with these streams, and may have given some bytes after it; if all that
+-- it held is a capture, it is this one
 pub record HasGivenStreams (before after : Option (List ℕ)) (streams : List (List (List ℕ))) : Type 0 where
   pub text : List ℕ
   pub behind : List ℕ
@@ -114,8 +114,8 @@ pub record HasGivenStreams (before after : Option (List ℕ)) (streams : List (L
   pub are : HasStreams text streams
   pub all : IfSome before (λ told. IsCapture told → told ≡ text)
 
--- the streams are those of the capture that the source gave; or it has this fault, or the source's count of faults
--- rose, or stands at its last value; want of memory is free
+-- the streams are those of the capture that the source gave; or it has this fault; or the source's
+-- count of faults rose, or is at its largest value; `NoMemory` needs no cause
 abbrev pub HasReadStreams : {S : Type 0} → (S → Option (List ℕ)) → (S → ℕ) → S → S
     → Result (List (List (List ℕ))) (Stop Refusal) → Type 0
 HasReadStreams rest faults first now (Ok streams) = HasGivenStreams (rest first) (rest now) streams

@@ -1,4 +1,4 @@
--- What a part makes of the bytes that were read of a source. No public clause cites this module.
+-- A part, by the bytes that were read of a source. No public clause cites this module.
 use Rattle.std.specs.Prelude.{◌≡◌, ◌⊎◌, ℕ, ◌<◌, Bool, true, false, List, ◌++◌, length, Option, None, Result, Ok, Err, IfSome, ⊤}
 use Rattle.zy_base.specs.Outside.{Rose}
 use Rattle.zy_read.specs.declared.stop.Stop.{Stop}
@@ -22,8 +22,8 @@ pub record Kind (P T : Type 0) : Type 1 where
   -- the text has this fault, and doesn't begin with a whole part
   pub faulty : List ℕ → Refusal → Type 0
 
--- where bytes that are taken lead: the part goes on or is whole, or has a fault whatever follows; want of memory is
--- free
+-- after the bytes that were taken, the part goes on or is whole, or has a fault whatever follows;
+-- `NoMemory` needs no cause
 abbrev pub Takes : {P T : Type 0} → Kind P T → P → List ℕ → Result Bool (Stop Refusal) → Type 0
 Takes kind now bytes (Ok false) = kind.stands now bytes × kind.goes_on bytes
 Takes kind now bytes (Ok true) = kind.stands now bytes × kind.whole bytes
@@ -31,14 +31,14 @@ Takes kind now bytes (Err (Refused refusal)) = (more : List ℕ) → kind.faulty
 Takes kind now bytes (Err ReadFault) = ⊥
 Takes kind now bytes (Err NoMemory) = ⊤
 
--- what a whole part gives; want of memory is free
+-- what a whole part gives; `NoMemory` needs no cause
 abbrev pub EndsWhole : {P T : Type 0} → Kind P T → List ℕ → Result T (Stop Refusal) → Type 0
 EndsWhole kind bytes (Ok gave) = kind.gives gave bytes
 EndsWhole kind bytes (Err (Refused refusal)) = ⊥
 EndsWhole kind bytes (Err ReadFault) = ⊥
 EndsWhole kind bytes (Err NoMemory) = ⊤
 
--- what a part gives where the input ends; want of memory is free
+-- what a part gives when the input ends; `NoMemory` needs no cause
 abbrev pub EndsCut : {P T : Type 0} → Kind P T → List ℕ → Result T (Stop Refusal) → Type 0
 EndsCut kind bytes (Ok gave) = kind.gives gave bytes
 EndsCut kind bytes (Err (Refused refusal)) = kind.faulty bytes refusal
@@ -53,22 +53,22 @@ pub record HasFaultBehind {P T : Type 0} (kind : Kind P T) (before text : List �
   pub whole : text ≡ before ++ rest
   pub faulty : kind.faulty rest refusal
 
--- the cause of each stop in a part: the fault is one that a part of this kind may have, and that of what the source
--- told
+-- the cause of each stop in a part: the fault is one that a part of this kind may have, and that of
+-- the source's text, if that is known
 abbrev pub StopsBy : {P T S : Type 0} → Kind P T → (S → Option (List ℕ)) → (S → ℕ) → S → S → List ℕ → Stop Refusal → Type 0
 StopsBy kind rest faults first now before (Refused refusal) =
     ((text : List ℕ) × kind.faulty text refusal) × IfSome (rest first) (λ text. HasFaultBehind kind before text refusal)
 StopsBy kind rest faults first now before ReadFault = Rose (faults first) (faults now)
 StopsBy kind rest faults first now before NoMemory = ⊤
 
--- the reader stands for these bytes of the part, which goes on
+-- the reader was fed these bytes of the part, which goes on
 pub record IsReading {P T S : Type 0} (kind : Kind P T) (rest : S → Option (List ℕ)) (faults : S → ℕ) (first now : S)
     (left before bytes : List ℕ) (reader : P) : Type 0 where
   pub given : HasGiven rest faults first now left (before ++ bytes)
   pub stands : kind.stands reader bytes
   pub goes_on : kind.goes_on bytes
 
--- the reader stands for all bytes of the part, or of the source
+-- the reader was fed all bytes of the part, or of the source
 pub record HasStopped {P T S : Type 0} (kind : Kind P T) (rest : S → Option (List ℕ)) (faults : S → ℕ) (first now : S)
     (left before : List ℕ) (reader : P) : Type 0 where
   pub bytes : List ℕ
@@ -76,7 +76,7 @@ pub record HasStopped {P T S : Type 0} (kind : Kind P T) (rest : S → Option (L
   pub stands : kind.stands reader bytes
   pub end : kind.whole bytes ⊎ (kind.goes_on bytes × IsOver (rest now) left)
 
--- the part goes on after some bytes more, or is read no further
+-- the part goes on after further bytes, or is read no further
 abbrev pub Advances : {P T S : Type 0} → Kind P T → (S → Option (List ℕ)) → (S → ℕ) → S → S → List ℕ → List ℕ → List ℕ
     → P → Result Bool (Stop Refusal) → Type 0
 Advances kind rest faults first now left before bytes reader (Ok false) =
@@ -91,7 +91,7 @@ abbrev pub Feeds : {P T S : Type 0} → Kind P T → (S → Option (List ℕ)) �
 Feeds kind rest faults first now left before reader (Ok done) = HasStopped kind rest faults first now left before reader
 Feeds kind rest faults first now left before reader (Err stop) = StopsBy kind rest faults first now before stop
 
--- the source gave a part behind what it gave before: one that is whole, or all that is left of it
+-- after what it gave before, the source gave a part: a whole one, or all that is left of the source
 pub record HasRead {P T S : Type 0} (kind : Kind P T) (rest : S → Option (List ℕ)) (faults : S → ℕ) (first now : S)
     (left before : List ℕ) (gave : T) : Type 0 where
   pub bytes : List ℕ
@@ -115,6 +115,6 @@ IsWhole format good text = good (verdict_on format text) ≡ true
 abbrev pub GoesOn : {P G F V : Type 0} → Format P G F V → (V → Bool) → List ℕ → Type 0
 GoesOn format good text = (fault_met format text ≡ None) × (good (verdict_on format text) ≡ false)
 
--- no first part of the text is whole
+-- no prefix of the text is whole
 abbrev pub HasNoWhole : {P G F V : Type 0} → Format P G F V → (V → Bool) → List ℕ → Type 0
 HasNoWhole format good text = (front back : List ℕ) → text ≡ front ++ back → ¬ IsWhole format good front

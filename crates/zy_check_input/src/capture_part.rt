@@ -1,4 +1,4 @@
-//! Reading the capture, whose records go into streams.
+//! Reading the capture, whose records are added to streams.
 ghost use Rattle.std.specs.Prelude.{◌≡◌, ◌<◌, ◌≤◌, ◌^◌, ◌++◌, ◌∷◌, [], ℕ, List, length, take, true, None, Some, Ok, IfOk, IfErr, OnOk, option_to_list};
 ghost use Rattle.zy_capture.specs.declared.record.Record.{Record};
 ghost use Rattle.zy_capture.specs.Standing.{StandsFor};
@@ -161,13 +161,13 @@ impl Part for CapturePart {
         }
         match streams {
             Some(streams) => checked(streams, reader.count()),
-            // A capture that is whole has told its count.
+            // The count of a capture that is whole was read.
             None => Err(Stop::NoMemory),
         }
     }
 }
 
-// The streams, where they are as many as the count. Those of a whole capture are.
+// The streams, if their number is the count, as for a whole capture it is.
 fn checked(streams: Streams, count: Option<u32>) -> Result<Streams, Stop>
     ensures value { IfOk result (λ same. (same ≡ streams) × (count ≡ Some (length streams))) }
     ensures memory { IfErr result (λ stop. stop ≡ Stops.NoMemory) }

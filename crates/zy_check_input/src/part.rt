@@ -21,7 +21,7 @@ pub(crate) trait Part: Drop {
     // What its bytes mean.
     ghost kind: { Kind Self Self.Gives };
 
-    // Takes some first bytes of those that come next, none of them behind the end of the part.
+    // Takes the first of the next bytes, but none after the end of the part.
     fn take(&mut self, next: &[u8]) -> Taken
         requires some { 0 < length next.now }
         ensures within { result.count ≤ length next.now }
@@ -73,11 +73,11 @@ fn feed_all<P: Part, S: Source>(
             Err(stop) => return Err(stop),
         }
     }
-    // No part has so many bytes.
+    // No part has this many bytes.
     Err(Stop::NoMemory)
 }
 
-// Feeds the reader some bytes. Gives whether there is nothing more to feed.
+// Feeds the reader some bytes. Returns whether there is nothing further to feed.
 fn advance<P: Part, S: Source>(
     part: &mut P,
     pieces: &mut Pieces,

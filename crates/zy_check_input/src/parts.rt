@@ -24,7 +24,7 @@ pub struct Parts {
     pub outputs: Outputs,
 }
 
-/// Reads a capture, a journal and a replies file, one behind the other, to the end of the source.
+/// Reads a capture, a journal and a replies file, one after the other, to the end of the source.
 pub fn read_parts<S: Source>(alloc: Global, source: &mut S) -> Result<Parts, Stop>
     ensures parts { HasReadParts S.rest S.faults source.old source.new result }
     ensures count { S.faults source.old ≤ S.faults source.new }
@@ -52,8 +52,8 @@ pub fn read_parts<S: Source>(alloc: Global, source: &mut S) -> Result<Parts, Sto
     })
 }
 
-/// Reads a capture, and gives its streams. The source may give up to 64 KiB behind it, which are let
-/// go.
+/// Reads a capture, and gives its streams. The source may give up to 64 KiB after the capture,
+/// which are dropped.
 pub fn read_streams<S: Source>(alloc: Global, source: &mut S) -> Result<Streams, Stop>
     ensures streams { HasReadStreams S.rest S.faults source.old source.new result }
     ensures count { S.faults source.old ≤ S.faults source.new }

@@ -127,13 +127,13 @@ impl Part for RepliesPart {
         }
         match outputs {
             Some(outputs) => checked(outputs, reader.version()),
-            // A replies file that is whole has told its version.
+            // The version of a replies file that is whole was read.
             None => Err(Stop::NoMemory),
         }
     }
 }
 
-// The outputs, where they have this version. Those of a whole replies file have it.
+// The outputs, if they have this version, as those of a whole replies file do.
 fn checked(outputs: Outputs, version: Option<u32>) -> Result<Outputs, Stop>
     ensures value { IfOk result (λ same. (same ≡ outputs) × (version ≡ Some outputs.version)) }
     ensures lawful { AreOutputs outputs }

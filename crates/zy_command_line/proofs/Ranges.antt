@@ -14,7 +14,7 @@ use Rattle.zy_command_line.specs.declared.verb.Verb.TheVariants as Verbs
 use Rattle.zy_command_line.specs.Request.{in_range, number_in, number_or, cores_of, threads_of, order_of, shards_of, port_of, out_of, run_on, run_of, traffic_of, traffic_within, seed_of, conns_of, commands_of, run_by, self_by, asked_by, asked_with, verb_named, names_of, request_of}
 use Rattle.zy_command_line.specs.Range.{IsRunnable, AreShards, IsPort, IsMakeable}
 
--- a number, where there is one, is from one to another
+-- a number, if it is given, is in its range
 abbrev IsFrom : ℕ → ℕ → Option ℕ → Type 0
 IsFrom low high None = Unit {0}
 IsFrom low high (Some n) = (low ≤ n) × (n ≤ high)
@@ -41,7 +41,7 @@ given low high default (Some word) above below = short low high (number_of word)
 
 -- ---- a run
 
--- what is found of a run is runnable
+-- a run that words ask for is in its ranges
 abbrev IsFine : Option Run → Type 0
 IsFine None = Unit {0}
 IsFine (Some run) = IsRunnable run
@@ -72,7 +72,7 @@ run_fine options = cored options (cores_of options) (given 1 64 4 (value_of (cod
 
 -- ---- traffic
 
--- what is found of traffic can be made
+-- traffic that words ask for can be made
 abbrev IsMade : Option Traffic → Type 0
 IsMade None = Unit {0}
 IsMade (Some traffic) = IsMakeable traffic
@@ -103,7 +103,7 @@ traffic_fine options =
 
 -- ---- a request
 
--- the values of what is found of a request are in their ranges
+-- the values of a request that words ask for are in their ranges
 abbrev AsksFine : Option Request → Type 0
 AsksFine None = Unit {0}
 AsksFine (Some (Requests.Run run out)) = IsRunnable run

@@ -1,4 +1,4 @@
--- The rows that the parser keeps, and its rules, by the names of options.
+-- The rows that the parser keeps, and its rules, in terms of the names of options.
 use Rattle.std.proofs.Common.{◌≡◌, ◌<◌, ◌+◌, ℕ, suc, arith, List, [], ◌∷◌, ◌++◌, map, take, length, get_or, refl, sym, ◌∙◌, ap, Bool, true, false, Bor}
 use Rattle.std.proofs.Math.Seq.{take-suc}
 use Rattle.std.proofs.lemmas.List.{map-append}
@@ -87,7 +87,7 @@ or_swap true false = refl
 or_swap false true = refl
 or_swap false false = refl
 
--- a row that is not there is put at the end
+-- a row that is not there yet is put at the end
 at_end_by : (id : Text) (change : Row → List Row) (missing : List Row) (r : Row) (rows : List Row) (test : Bool) → (test || has_row id rows) ≡ false
     → at_row id change missing rows ≡ rows ++ missing → (if test then change r ++ rows else r ∷ at_row id change missing rows) ≡ r ∷ (rows ++ missing)
 at_end_by id change missing r rows true none later = cc
@@ -109,7 +109,7 @@ rows_used name value rows fresh =
     ap (λ (l : List Row). with_values name (reading_by (plain_rule name)) CommandLine (value ∷ []) l) kept
     ∙ at_end name (more_values CommandLine (value ∷ [])) (row_of_option name value ∷ []) rows fresh
 
--- there is a row of each option that was used, and of no other
+-- there is a row for each option that was used, and for no other
 abbrev pub SameUse : List Row → List Text → Type 0
 SameUse rows names = (name : Text) → has_row name rows ≡ is_among names name
 
@@ -128,7 +128,7 @@ pub no_defaults : (names : List Text) (rows : List Row) → fold with_default ro
 no_defaults [] rows = refl
 no_defaults (n ∷ names) rows = defaults_by n names rows (has_row n rows) (no_defaults names rows)
 
--- the value of an option is that of its row
+-- the value of an option is that in its row
 value_by : (id : Text) (option : Text × Text) (options : Options) (test : Bool) → first_of id (rows_for options) ≡ value_of id options
     → option_and_then (λ (r : Row). slice_get r.values 0) (if test then Some (row_of_option option.0 option.1) else find (λ (r : Row). bytes_eq r.id id) (rows_for options))
     ≡ (if test then Some option.1 else value_of id options)
@@ -139,7 +139,7 @@ pub value_is : (id : Text) (options : Options) → first_of id (rows_for options
 value_is id [] = refl
 value_is id (option ∷ options) = value_by id option options (bytes_eq option.0 id) (value_is id options)
 
--- a command with one option more
+-- a command with one further option
 pub one_more : (command : Text) (names : List (Bor Text)) (i : ℕ) (d : Bor Text) → i < length names
     → with_rule (app_with command (map option_rule (map (λ n. n.now) (take i names)))) (option_rule (get_or names i d).now)
     ≡ app_with command (map option_rule (map (λ n. n.now) (take (i + 1) names)))

@@ -1,4 +1,4 @@
--- The words that the parser takes are those that spell options, and it keeps what they spell.
+-- The words that the parser accepts are those that spell options, and it keeps what they spell.
 use Rattle.std.proofs.Common.{◌≡◌, List, [], ◌∷◌, ◌++◌, refl, sym, ◌∙◌, ap, ap₂, append_assoc, Bool, true, false}
 use Rattle.std.specs.Prelude.{Option, Some, None, ◌&&◌, not, is_some, if◌then◌else◌, option_and_then}
 use Rattle.std.proofs.lemmas.List.{append-nil}
@@ -11,7 +11,8 @@ use Rattle.zy_command_line.specs.Splitting.{row_of_option, rows_for}
 use Rattle.zy_command_line.proofs.Rows.{SameUse, same_use, rows_used}
 use Rattle.zy_command_line.proofs.Turns.{Fails, IsWord, held, standing, turn_by, walk_by, faults, end_rows, faults_turn, rows_turn, S, stray, unknown, one_word, repeated, alone, missing, given, settled_turn, settled_again, end_waits, end_again, end_given}
 
--- the words have a fault exactly where they spell nothing, and else leave the rows of what they spell
+-- the words have a fault exactly where they spell no options; otherwise they leave the rows of the
+-- options that they spell
 abbrev pub Outcome : Kinds → List Row → List Row → Option Options → Type 0
 Outcome ks after before None = Fails ks
 Outcome ks after before (Some options) = (ks ≡ []) × (after ≡ before ++ rows_for options)
@@ -19,7 +20,7 @@ Outcome ks after before (Some options) = (ks ≡ []) × (after ≡ before ++ row
 moved : (rows : List Row) (r : Row) (more : List Row) → (rows ++ r ∷ []) ++ more ≡ rows ++ r ∷ more
 moved rows r more = append_assoc rows (r ∷ []) more
 
--- an option was spelled before
+-- an option was spelled before the others
 first : (ks : Kinds) (after rows : List Row) (name text : Text) (o : Option Options) → Outcome ks after (rows ++ row_of_option name text ∷ []) o → Outcome ks after rows (with_first name text o)
 first ks after rows name text None out = out
 first ks after rows name text (Some options) out = (out.0, out.1 ∙ moved rows (row_of_option name text) (rows_for options))
@@ -34,11 +35,11 @@ module _ (command : Text) (names : List Text) where
   abbrev at : List Row → Option (Text × List Text) → Waiting → Walk
   at rows pending waiting = standing (held rows pending) waiting
 
-  -- a turn with a fault
+  -- a turn that has a fault
   stops : (h : Held) (waiting : Waiting) (w : Text) (ws : List Text) (rows : List Row) → IsWord w → Fails (turn_by (S command names) (long_of w) w h waiting) → At (standing h waiting) (w ∷ ws) rows None
   stops h waiting w ws rows is f = rw (faults_turn (S command names) h waiting w ws is) (fails_first _ _ f)
 
-  -- a turn without one
+  -- a turn that has no fault
   passes : (h : Held) (waiting : Waiting) (w : Text) (ws : List Text) (rows : List Row) (o : Option Options) (next : Walk) → IsWord w
       → turn_by (S command names) (long_of w) w h waiting ≡ [] → walk_by (S command names) (long_of w) w h waiting ≡ next → At next ws rows o → At (standing h waiting) (w ∷ ws) rows o
   passes h waiting w ws rows o next is none to out =
@@ -48,7 +49,8 @@ module _ (command : Text) (names : List Text) where
       rows_turn (S command names) h waiting w ws is ∙ ap (λ (m : Walk). end_rows (S command names) m ws) to in
       rw (all, end) out
 
-  -- what the words come to, from each state: none waits; an option waits for its value; one has it; and the last two where it was used before
+  -- the outcome of the words from each state: no option waits; an option waits for its value; an
+  -- option has it; and the last two for an option that was used before
   pub record Reads (words : List Text) : Type 0 where
     pub start : (rows : List Row) (before : List Text) → SameUse rows before → At (at rows None idle) words rows (options_from names before None words)
     pub waits : (rows : List Row) (before : List Text) (id : Text) → SameUse rows before → is_among names id ≡ true → has_row id rows ≡ false
@@ -119,7 +121,7 @@ module _ (command : Text) (names : List Text) where
 
   -- ---- an option has its value
 
-  -- the state in which it has its value is as good as the one in which it was used
+  -- an option that has its value is as good as one that was used
   as_used : (w : Text) (ws : List Text) (rows : List Row) (id text name : Text) (more : Option Text) (o : Option Options) → IsWord w → long_of w ≡ Some (name, more)
       → is_among names id ≡ true → has_row id rows ≡ false → is_among names name ≡ true
       → At (at (rows ++ row_of_option id text ∷ []) None idle) (w ∷ ws) (rows ++ row_of_option id text ∷ []) o

@@ -1,4 +1,4 @@
--- A command with such options is split exactly where its words spell options.
+-- A command with these options is split exactly where its words spell options.
 use Rattle.std.proofs.Common.{inl, inr, ◌≡◌, List, [], ◌∷◌, map, refl, sym, ◌∙◌, ap, subst, Bool, true, false}
 use Rattle.std.specs.Prelude.{Option, Some, None, ◌&&◌, ◌||◌, not, is_some, if◌then◌else◌}
 use Rattle.std.specs.List.{list_any, list_all}
@@ -20,7 +20,7 @@ use Rattle.zy_command_line.proofs.Rows.{filled_names, no_defaults, value_is, sim
 use Rattle.zy_command_line.proofs.Turns.{IsWord, word_is, S, faults, end_rows}
 use Rattle.zy_command_line.proofs.Spelling.{Outcome, AreWords, reads}
 
--- ---- the faults are those of the walk alone
+-- ---- only the walk finds faults
 
 abbrev built_app : Text → List Rule → App
 built_app command rules = record { top = shape_with command rules; subs = [] }
@@ -88,7 +88,7 @@ pub spelled : (command : Text) (names words : List Text) → list_all is_plain w
 spelled command names words plain =
     rw (fault_is command names words, rows_are command names words) ((reads command names words (words_are command names words plain)).start [] [] (λ name. refl))
 
--- the options are those that the words spell
+-- the options found are those that the words spell
 spelled_of : (command : Text) (names words : List Text) → list_all is_plain words ≡ true
     → Outcome (fault_of (app_named command names) words) (matches_of (app_named command names) words) [] (options_of names words)
 spelled_of command names words plain = rw plain (spelled command names words plain)
@@ -97,7 +97,7 @@ found_by : (o : Option Options) (ks : Kinds) (after : List Row) (m : ArgMatches)
 found_by None ks after m out none rows = let bad : ks ≡ out.kind ∷ out.others = out.is in cc
 found_by (Some options) ks after m out none rows = rows ∙ out.1
 
--- where nothing is wrong with the words, the parser found what they spell
+-- if the words have no fault, the parser found what they spell
 pub found_all : (command : Text) (names words : List Text) (m : ArgMatches) → list_all is_plain words ≡ true → fault_of (app_named command names) words ≡ []
     → rows_of (found_of m) ≡ matches_of (app_named command names) words → SplitsTo (options_of names words) (Some m)
 found_all command names words m plain none rows = found_by (options_of names words) _ _ m (spelled_of command names words plain) none rows
@@ -106,7 +106,7 @@ refused_by : (o : Option Options) (ks : Kinds) (after : List Row) (k : ErrorKind
 refused_by None ks after k out among = tt
 refused_by (Some options) ks after k out among = let bad : IsAmong k [] = rw out.0 at among in absurd bad
 
--- where something is wrong with the words, they spell nothing
+-- if the words have a fault, they spell no options
 pub found_none : (command : Text) (names words : List Text) (k : ErrorKind) → list_all is_plain words ≡ true → IsAmong k (fault_of (app_named command names) words) → SplitsTo (options_of names words) None
 found_none command names words k plain among = refused_by (options_of names words) _ _ k (spelled_of command names words plain) among
 
@@ -114,7 +114,7 @@ found_none command names words k plain among = refused_by (options_of names word
 pub value_found : (m : ArgMatches) (options : Options) (name : Text) → HasOptions options m → first_value (found_of m) name ≡ value_of name options
 value_found m options name has = first_value-rows (found_of m) name ∙ ap (first_of name) has ∙ value_is name options
 
--- ---- the same of a command that was built
+-- ---- the same for a command that was built
 
 pub found_all_at : (a : App) (command : Text) (names words : List Text) (m : ArgMatches) → a ≡ app_named command names → list_all is_plain words ≡ true
     → (is_simple_and_free a ≡ true → fault_of a words ≡ []) → HasMatchesOf a words m → SplitsTo (options_of names words) (Some m)

@@ -1,4 +1,4 @@
--- What the parser's walk makes of one word: a fault, or a step to another state.
+-- The parser's walk at one word: a fault, or a step to another state.
 use Rattle.std.proofs.Common.{◌≡◌, List, [], ◌∷◌, map, refl, ◌∙◌, ap, ap₂, subst, Bool, true, false}
 use Rattle.std.specs.Prelude.{Option, Some, None, ◌&&◌, ◌||◌, not, is_some, fold}
 use Rattle.std.specs.Str.{bytes_eq}
@@ -20,7 +20,7 @@ held rows pending = record { rows = rows; pending = pending; skip = 0 }
 abbrev pub standing : Held → Waiting → Walk
 standing h waiting = record { held = h; waiting = waiting; position = 1; is_trailing = false; stopped = None }
 
--- some fault, whatever comes after it
+-- a fault, whatever comes after it
 pub record Fails (ks : Kinds) : Type 0 where
   pub kind : ErrorKind
   pub others : Kinds
@@ -31,7 +31,7 @@ pub record Fails (ks : Kinds) : Type 0 where
 abbrev dashes : Text
 dashes = 45 ∷ 45 ∷ []
 
--- a word that is an option where it begins with a hyphen
+-- a word that is an option if it begins with a hyphen
 pub record IsWord (word : Text) : Type 0 where
   pub apart : bytes_eq word dashes ≡ false
   pub no_flags : long_of word ≡ None → short_of word ≡ None
@@ -40,7 +40,7 @@ both : (a b : Bool) → (a && b) ≡ true → b ≡ true
 both true b e = e
 both false b e = cc
 
--- an option, or no hyphen in front
+-- it is an option, or does not begin with a hyphen
 hyphen_told : (option hyphen : Bool) → (option || not hyphen) ≡ true → option ≡ false → hyphen ≡ false
 hyphen_told true h e off = cc
 hyphen_told false true e off = cc
@@ -67,13 +67,13 @@ word_is word plain =
 
 -- ---- one turn
 
--- the fault of one turn, by what the word looks like
+-- the fault of one turn, by the form of the word
 abbrev pub turn_by : Shape → Option (Text × Option Text) → Text → Held → Waiting → Kinds
 turn_by s lo word h waiting =
     let met = long_or_other s.rules waiting word lo h in
     or_else (flag_word_fault s.rules s.args_override_self lo word h) (step_fault s 1 met.0 met.1)
 
--- where one turn leads, by what the word looks like
+-- the state after one turn, by the form of the word
 abbrev pub walk_by : Shape → Option (Text × Option Text) → Text → Held → Waiting → Walk
 walk_by s lo word h waiting =
     let met = long_or_other s.rules waiting word lo h in
@@ -92,7 +92,7 @@ walked_is s h Waiting.positional word apart = rw apart refl
 
 -- ---- all words
 
--- the faults from some state on
+-- the faults from a state on
 abbrev pub faults : Shape → Walk → List Text → Kinds
 faults s w words = or_else (walk_fault s [] w words) (settle_fault s.rules false (fold (walked s.rules []) w words).held)
 
@@ -123,11 +123,11 @@ module _ (command : Text) (names : List Text) where
   abbrev pub S : Shape
   S = shape_with command (map plain_rule names)
 
-  -- a word that is no option, where no option waits
+  -- a word that is not an option, where no option waits
   pub stray : (word : Text) (rows : List Row) (pending : Option (Text × List Text)) → short_of word ≡ None → Fails (turn_by S None word (held rows pending) idle)
   stray word rows pending plain = record { kind = kind.UnknownArgument; others = []; is = rw (plain, by_index names 1) refl }
 
-  -- an option that there is not
+  -- an option that does not exist
   pub unknown : (h : Held) (waiting : Waiting) (word name : Text) (text : Option Text) → is_among names name ≡ false → Fails (turn_by S (Some (name, text)) word h waiting)
   unknown h waiting word name text strange = record { kind = kind.UnknownArgument; others = []; is = rw (by_long names name, strange) refl }
 
@@ -160,7 +160,7 @@ module _ (command : Text) (names : List Text) where
   given rows id word waits plain =
       let same : bytes_eq id id ≡ true = (bytes_eq-Decides id id).1 refl in (rw plain refl, rw (plain, by_id names id, waits, same) refl)
 
-  -- an option that has its value is as good as used
+  -- an option that has its value is as good as one that was used
   pub settled_turn : (rows : List Row) (id text word name : Text) (more : Option Text) → is_among names id ≡ true → has_row id rows ≡ false → is_among names name ≡ true
       → (turn_by S (Some (name, more)) word (held rows (Some (id, text ∷ []))) idle ≡ turn_by S (Some (name, more)) word (held (used (plain_rule id) (text ∷ []) rows) None) idle)
       × (walk_by S (Some (name, more)) word (held rows (Some (id, text ∷ []))) idle ≡ walk_by S (Some (name, more)) word (held (used (plain_rule id) (text ∷ []) rows) None) idle)

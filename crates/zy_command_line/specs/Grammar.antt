@@ -23,11 +23,11 @@ abbrev pub has_hyphen : Word → Bool
 has_hyphen [] = false
 has_hyphen (byte ∷ bytes) = byte == 45
 
--- the word is `--name` or `--name=value`, with at least one byte after the hyphens
+-- a word that is `--name` or `--name=value`, with at least one byte after the hyphens
 abbrev pub is_option : Word → Bool
 is_option word = is_some (long_of word)
 
--- the word is ASCII text, and an option where it begins with a hyphen
+-- the word is ASCII text, and an option if it begins with a hyphen
 abbrev pub is_plain : Word → Bool
 is_plain word = is_ascii word && (is_option word || not (has_hyphen word))
 
@@ -37,21 +37,23 @@ is_among names name = list_any (λ n. bytes_eq n name) names
 
 -- ---- all words
 
--- an option and its value stand before the others
+-- an option and its value are put before the others
 abbrev pub with_first : Word → Word → Option Options → Option Options
 with_first name value options = option_map (λ others. (name, value) ∷ others) options
 
--- a value: it is no option
+-- a word is the value of an option; a word that is an option is none
 abbrev pub value_then : Bool → Word → Word → Option Options → Option Options
 value_then true name word others = None
 value_then false name word others = with_first name word others
 
--- an option, and what the words after it spell where its value stands in its own word, or in the next one
+-- an option, and the options of the words after it, whether its value is in its own word or in the
+-- next one
 abbrev pub option_then : Word → Option Word → Option Options → Option Options → Option Options
 option_then name (Some value) others waiting = with_first name value others
 option_then name None others waiting = waiting
 
--- the options that the words spell, where these names may be used, those were, and this one waits for its value
+-- the options that the words spell, where these names are allowed, these were used, and this one
+-- waits for its value
 unfoldable pub options_from : List Word → List Word → Option Word → List Word → Option Options
 options_from names used None [] = Some []
 options_from names used (Some name) [] = None
@@ -65,7 +67,7 @@ options_from names used (Some name) (word ∷ words) =
 abbrev pub options_of : List Word → List Word → Option Options
 options_of names words = if list_all is_plain words then options_from names [] None words else None
 
--- the value of an option, where it was given
+-- the value of an option, if it was given
 abbrev pub value_of : Word → Options → Option Word
 value_of name [] = None
 value_of name (option ∷ options) = if bytes_eq option.0 name then Some option.1 else value_of name options

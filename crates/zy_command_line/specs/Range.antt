@@ -20,7 +20,8 @@ AreShards shards = (1 ≤ shards) × (shards ≤ 256)
 abbrev pub IsPort : ℕ → Type 0
 IsPort port = (1 ≤ port) × (port ≤ 65535)
 
--- traffic has 1 to 4,096 connections, and 1 to 1,000,000 commands in all, as many of each connection
+-- traffic has 1 to 4,096 connections, each with the same number of commands, and 1 to 1,000,000
+-- commands in all
 pub record IsMakeable (traffic : Traffic) : Type 0 where
   pub some_connections : 1 ≤ traffic.conns
   pub few_connections : traffic.conns ≤ 4096

@@ -1,4 +1,4 @@
--- What lawful words ask for: a command, and the values of its options, where they are in their ranges.
+-- What lawful words ask for: a command, and the values of its options, if they are in their ranges.
 use Rattle.std.specs.Prelude.{ℕ, ◌&&◌, ◌==◌, ◌*◌, nat_le, min, List, [], ◌∷◌, length, codes, Option, None, Some, if◌then◌else◌, option_and_then, option_map}
 use Rattle.std.specs.Str.{bytes_eq}
 use Rattle.zy_base.specs.Number.{number_of}
@@ -14,7 +14,7 @@ use Rattle.zy_command_line.specs.declared.request.Request.TheVariants as Request
 
 -- ---- values
 
--- the number is from one to another
+-- the number is in this range
 abbrev pub in_range : ℕ → ℕ → ℕ → Option ℕ
 in_range low high number = if nat_le low number && nat_le number high then Some number else None
 
@@ -22,7 +22,7 @@ in_range low high number = if nat_le low number && nat_le number high then Some 
 abbrev pub number_in : ℕ → ℕ → Word → Option ℕ
 number_in low high word = if nat_le (length word) 10 then option_and_then (in_range low high) (number_of word) else None
 
--- the value of a number option, or its default where it is not given
+-- the value of a number option, or its default if it is not given
 abbrev pub number_or : ℕ → ℕ → ℕ → Option Word → Option ℕ
 number_or low high default None = Some default
 number_or low high default (Some word) = number_in low high word
@@ -33,16 +33,16 @@ number_or low high default (Some word) = number_in low high word
 abbrev pub cores_of : Options → Option ℕ
 cores_of options = number_or 1 64 4 (value_of (codes "cores") options)
 
--- the number of threads, 1 to 64; more than the cores count as the cores
+-- the number of threads, 1 to 64; a number above that of the cores means the number of cores
 abbrev pub threads_of : ℕ → Options → Option ℕ
 threads_of cores options = option_map (min cores) (number_or 1 64 cores (value_of (codes "threads") options))
 
--- an order of turns was drawn by a number: only one thread can keep to it
+-- the order of turns is drawn by a number, which only one thread can follow
 abbrev pub order_by : ℕ → Option ℕ → Option (Option ℕ)
 order_by threads None = None
 order_by threads (Some number) = if threads == 1 then Some (Some number) else None
 
--- the number of the order of turns, where one is given
+-- the number that draws the order of turns, if one is given
 abbrev pub order_from : ℕ → Option Word → Option (Option ℕ)
 order_from threads None = Some None
 order_from threads (Some word) = order_by threads (number_in 0 4294967295 word)
@@ -58,7 +58,7 @@ shards_of options = number_or 1 256 16 (value_of (codes "shards") options)
 abbrev pub port_of : Options → Option ℕ
 port_of options = number_or 1 65535 11211 (value_of (codes "port") options)
 
--- what is written, by its name
+-- what is written, by name
 abbrev pub out_named : Word → Option Out
 out_named word = if bytes_eq word (codes "replies") then Some Replies
     else (if bytes_eq word (codes "both") then Some Both else None)
@@ -85,7 +85,7 @@ commands_of options = number_or 1 1000000 100 (value_of (codes "commands") optio
 
 -- ---- options that go together
 
--- the options of a run, with so many threads
+-- the options of a run with `threads` threads
 abbrev pub run_on : ℕ → ℕ → Options → Option Run
 run_on cores threads options = option_and_then (λ order. option_map (λ shards.
     record { cores = cores; threads = threads; order = order; shards = shards }) (shards_of options))
@@ -129,7 +129,7 @@ names_of Verbs.Pcap = codes "port" ∷ []
 abbrev pub run_by : Options → Option Request
 run_by options = option_and_then (λ run. option_map (Requests.Run run) (out_of options)) (run_of options)
 
--- make a capture, serve it, and check what came
+-- make a capture, serve it, and check the result
 abbrev pub self_by : Options → Option Request
 self_by options =
     option_and_then (λ traffic. option_map (Requests.SelfTest traffic) (run_of options)) (traffic_of options)
@@ -146,7 +146,8 @@ asked_by Verbs.Pcap options = option_map Requests.Pcap (port_of options)
 abbrev pub asked_with : List Word → Verb → Option Request
 asked_with words verb = option_and_then (asked_by verb) (options_of (names_of verb) words)
 
--- what the words ask for: the first is the command, the others are its options; nothing where they are not lawful
+-- what the words ask for: the first is the command, the others are its options; `None` if they are
+-- not lawful
 abbrev pub request_of : List Word → Option Request
 request_of [] = None
 request_of (word ∷ words) = option_and_then (asked_with words) (verb_named word)

@@ -1,4 +1,5 @@
--- How the argument parser `clap` sees a command whose options each take one value. No public clause cites this module.
+-- The view that the argument parser `clap` has of a command whose options each take one value. No
+-- public clause cites this module.
 use Rattle.std.specs.Prelude.{◌≡◌, List, [], ◌∷◌, map, Option, Some, None, true, ⊤}
 use Rattle.clap.specs.Walk.{Row, Rule, Text, reading_by, rows_of}
 use Rattle.clap.specs.Matches.{found_of}
@@ -12,11 +13,11 @@ use Rattle.zy_command_line.specs.Grammar.{Options}
 abbrev pub option_rule : Text → Rule
 option_rule name = record (new_rule name) { long = Some name; action = Some Set }
 
--- the option, with what the parser fills in
+-- the option, with the parts that the parser fills in
 abbrev pub plain_rule : Text → Rule
 plain_rule name = filled (option_rule name)
 
--- a command with these options, and no word for itself, for help or for a version
+-- a command with these options, that expects no word for its own name, and has no options for help or a version
 abbrev pub app_with : Text → List Rule → App
 app_with command rules = record {
   top = record (new_shape command) {
@@ -54,7 +55,7 @@ row_of_option name value =
       reading = reading_by (plain_rule name);
     }
 
--- what it keeps of all of them
+-- what the parser keeps of all options
 abbrev pub rows_for : Options → List Row
 rows_for options = map (λ option. row_of_option option.0 option.1) options
 
@@ -64,7 +65,7 @@ rows_for options = map (λ option. row_of_option option.0 option.1) options
 abbrev pub HasOptions : Options → ArgMatches → Type 0
 HasOptions options matches = rows_of (found_of matches) ≡ rows_for options
 
--- there are matches exactly where options were spelled, and they have their values
+-- there are matches exactly if the words spell options, and the matches have the values of these
 abbrev pub SplitsTo : Option Options → Option ArgMatches → Type 0
 SplitsTo None None = ⊤
 SplitsTo (Some options) (Some matches) = HasOptions options matches

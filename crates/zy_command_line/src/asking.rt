@@ -14,7 +14,7 @@ use clap::ArgMatches;
 use std::alloc::Global;
 use zy_base::{Blob, NoMemory};
 
-/// What the words after the program's name ask for; `None` where they are not lawful.
+/// What the words after the program's name ask for; `None` if they are not lawful.
 pub fn request_of(alloc: Global, words: &[Blob]) -> Result<Option<Request>, NoMemory>
     ensures value { IfOk result (λ request. request ≡ request_of words.now) }
 {
@@ -78,7 +78,7 @@ fn self_by(given: &ArgMatches<'_>) -> Option<Request>
     Some(Request::SelfTest { traffic, run })
 }
 
-// The words as texts; `None` where one of them is no plain word.
+// The words as texts; `None` if one of them is not plain.
 #[tactic(auto, using(crate::proofs::Taken::joined_more, crate::proofs::Taken::plain_more, crate::proofs::Taken::not_plain))]
 fn texts<'a>(alloc: Global, words: &'a [Blob]) -> Result<Option<Vec<&'a str>>, NoMemory>
     ensures some { IfOk result (λ o. MatchOption o (list_all is_plain words.now ≡ false)

@@ -81,7 +81,7 @@ fn order(given: &ArgMatches<'_>, threads: u32) -> Option<Option<u32>>
     order_from(threads, value(given, "order"))
 }
 
-// An order of turns is kept by one thread alone.
+// Only one thread can follow an order of turns.
 fn order_from(threads: u32, word: Option<&str>) -> Option<Option<u32>>
     ensures value { result ≡ order_from threads (option_map (λ s. s.now) word.entry) }
 {
@@ -94,7 +94,7 @@ fn order_from(threads: u32, word: Option<&str>) -> Option<Option<u32>>
     }
 }
 
-/// What traffic is made.
+/// The traffic to make.
 pub(crate) fn traffic(given: &ArgMatches<'_>) -> Option<Traffic>
     ensures value { (options : Options) → HasOptions options given.now → result ≡ traffic_of options }
 {

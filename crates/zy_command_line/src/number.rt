@@ -17,7 +17,7 @@ pub(crate) fn number_in(low: u32, high: u32, word: &str) -> Option<u32>
     }
 }
 
-/// The number, or its default where the option is not given.
+/// The number, or its default if the option is not given.
 pub(crate) fn number_or(low: u32, high: u32, default: u32, word: Option<&str>) -> Option<u32>
     ensures value { result ≡ number_or low high default (option_map (λ s. s.now) word.entry) }
 {

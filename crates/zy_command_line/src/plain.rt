@@ -1,10 +1,10 @@
-//! Words that may stand after a command: ASCII text, and options where they begin with a hyphen.
+//! Words that are allowed after a command: ASCII text, and options if they begin with a hyphen.
 ghost use Rattle.std.specs.Prelude.{◌≡◌, true, false, MatchOption};
 ghost use Rattle.zy_command_line.specs.Grammar.{is_ascii, is_option, has_hyphen, is_plain};
 
 use std::str;
 
-/// The word as text, where it is plain.
+/// The word as text, if it is plain.
 #[tactic(auto, using(crate::proofs::Ascii::ascii_is_text))]
 pub(crate) fn plain_text(word: &[u8]) -> Option<&str>
     ensures value { MatchOption result (is_plain word.now ≡ false) (λ text. (text.now ≡ word.now)

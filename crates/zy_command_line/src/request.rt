@@ -5,13 +5,13 @@
 pub enum Request {
     /// Serve a capture.
     Run { run: Run, out: Out },
-    /// Check a journal and a replies file against a capture, at so many shards.
+    /// Check a journal and a replies file against a capture, on `shards` shards.
     Check { shards: u32 },
     /// Make a capture.
     Gen { traffic: Traffic },
     /// Make a capture of recorded packets to this port, 1 to 65,535.
     Pcap { port: u16 },
-    /// Make a capture, serve it, and check what came.
+    /// Make a capture, serve it, and check the result.
     SelfTest { traffic: Traffic, run: Run },
 }
 
@@ -22,16 +22,16 @@ pub struct Run {
     pub cores: u32,
     /// The number of threads, 1 to the number of cores.
     pub threads: u32,
-    /// The number by which the order of turns is drawn; without it, cores take turns by number.
+    /// The number that draws the order of turns; without it, cores take turns by their numbers.
     pub order: Option<u32>,
     /// The number of shards, 1 to 256.
     pub shards: u32,
 }
 
-/// Traffic that is made from a number.
+/// Traffic made from a number.
 #[derive(Clone, Copy, PartialEq, Eq)]
 pub struct Traffic {
-    /// The number that it is made from.
+    /// The number from which it is made.
     pub number: u32,
     /// The number of connections, 1 to 4,096.
     pub conns: u32,

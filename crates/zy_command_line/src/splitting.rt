@@ -10,7 +10,7 @@ use clap::{Arg, ArgAction, ArgMatches, Command};
 use std::alloc::Global;
 use zy_base::NoMemory;
 
-/// The options with these names that the words spell; `None` where they spell none.
+/// The options, with these names, that the words spell; `None` if they spell none.
 pub(crate) fn split<'a>(
     alloc: Global,
     command: &'a str,
@@ -48,7 +48,7 @@ fn command_with<'a>(
     Ok(command)
 }
 
-// A command without options, which knows no word for itself, for help or for a version.
+// A command without options, that expects no word for its own name, and has none for help or a version.
 fn plain_command<'a>(alloc: Global, name: &'a str) -> Command<'a>
     ensures value { app_of result ≡ app_with name.now [] }
 {
@@ -66,7 +66,7 @@ fn option_with<'a>(alloc: Global, name: &'a str) -> Arg<'a>
     Arg::new(alloc, name).long(name).action(ArgAction::Set)
 }
 
-/// The value of an option, where it was given.
+/// The value of an option, if it was given.
 #[tactic(auto, using(crate::proofs::Split::value_found))]
 pub(crate) fn value<'a>(matches: &ArgMatches<'a>, name: &str) -> Option<&'a str>
     ensures value { (options : Options) → HasOptions options matches.now

@@ -1,4 +1,4 @@
--- One hold more.
+-- One further hold.
 use Rattle.std.proofs.Common.{◌≡◌, ℕ, ◌+◌, List, [], ◌∷◌, ◌++◌, sym, ap, ◌∙◌, subst, arith}
 use Rattle.zy_base.specs.declared.hold.Hold.{Hold}
 use Rattle.zy_base.specs.Held.{held_in}
@@ -12,7 +12,7 @@ each-push : (connection : ℕ) (holds : List Hold) (hold : Hold) → EachIsHold 
 each-push connection [] hold each is = (is, tt)
 each-push connection (x ∷ xs) hold each is = (each.0, each-push connection xs hold each.1 is)
 
--- a hold more of a connection with so many more finished commands
+-- one further hold of a connection, and the number of its finished commands grows by the hold's
 pub holds_more : (conn conn' n n' : ℕ) (holds holds' : List Hold) (hold : Hold) → AreHolds conn n holds → conn' ≡ conn → holds' ≡ holds ++ hold ∷ [] → n' ≡ n + hold.count
     → IsHold conn' hold → AreHolds conn' n' holds'
 holds_more conn conn' n n' holds holds' hold k same is more one =

@@ -1,4 +1,4 @@
--- What a connection's work keeps, at each of its steps.
+-- What a connection's work keeps at each of its steps.
 use Rattle.std.proofs.Common.{◌≡◌, ◌≢◌, ℕ, zero, suc, ◌+◌, ◌≤◌, ◌^◌, List, [], ◌∷◌, ◌++◌, length, take, Some, slice_get, refl, sym, ap, ◌∙◌, subst, arith, append_assoc, append-nil, length-append}
 use Rattle.std.proofs.lemmas.List.{take-append-le, take_all, length-take-le, length-map, map-append}
 use Rattle.std.proofs.lemmas.Option.{slice_get_within}
@@ -27,13 +27,13 @@ use Rattle.zy_conn.specs.Step.{IsPart}
 
 -- ---- lists
 
--- one more of the first
+-- the first `count + 1` are the first `count` and the next one
 pub take_get : {A : Type 0} (count : ℕ) (xs : List A) (x : A) → slice_get xs count ≡ Some x → take (suc count) xs ≡ take count xs ++ x ∷ []
 take_get count [] x there = cc
 take_get zero (y ∷ ys) x there = cc
 take_get (suc count) (y ∷ ys) x there = ap (λ l. y ∷ l) (take_get count ys x there)
 
--- one more call has got its reply
+-- one further call got its reply
 AnswerEach-push : (calls : List ShardCall) (replies : List CallReply) (call : ShardCall) (reply : CallReply) → AnswerEach calls replies → MayAnswer call.call reply
     → AnswerEach (calls ++ call ∷ []) (replies ++ reply ∷ [])
 AnswerEach-push [] [] call reply each kind = (kind, tt)
@@ -41,11 +41,11 @@ AnswerEach-push [] (r ∷ replies) call reply each kind = absurd each
 AnswerEach-push (c ∷ calls) [] call reply each kind = absurd each
 AnswerEach-push (c ∷ calls) (r ∷ replies) call reply each kind = (each.0, AnswerEach-push calls replies call reply each.1 kind)
 
--- a frame more is a command more
+-- a further frame is a further command
 commands_more : (frames : List FrameKind) (frame : FrameKind) → commands_of_frames (frames ++ frame ∷ []) ≡ commands_of_frames frames ++ command_of frame ∷ []
 commands_more frames frame = map-append command_of frames (frame ∷ [])
 
--- and changes no text of those before it
+-- it changes no text of the commands before it
 texts_more : (count : ℕ) (commands : List Command) (command : Command) (entries : List Entry) → count ≤ length commands
     → take count (texts_of (commands ++ command ∷ []) entries) ≡ take count (texts_of commands entries)
 texts_more count commands command entries within =
@@ -79,7 +79,7 @@ kept_new_as p r taken known batch slots none t is =
 -- ---- steps
 
 module _ (w : Worked) (k : Kept w) where
-  -- a look
+  -- a look at the ring
   pub kept_looks : (known : List FrameKind) (trace : Trace) → Kept (record w { known = known; trace = trace })
   kept_looks known trace = record {
     slots = k.slots;
@@ -113,7 +113,7 @@ module _ (w : Worked) (k : Kept w) where
     room = k.room;
   }
 
-  -- with nothing begun, the commands of all frames taken are finished
+  -- when no command is in progress, the commands of all frames taken are finished
   pub done_idle : w.begun ≡ idle → commands_of_frames w.taken ≡ k.done
   done_idle e = k.frames ∙ ap (λ s. k.done ++ command_begun s) e ∙ append-nil k.done
 
@@ -155,7 +155,7 @@ module _ (w : Worked) (k : Kept w) where
     pub going_on : IsGoingOn w.table.slots command calls replies
     going_on = subst (IsBegun w.table.slots) e k.begun
 
-    -- a call of it is made
+    -- a call of the command is made
     pub texts_call : (entry : Entry) (start : Start) (trace : Trace) → entry.tag.index ≡ w.finished
         → texts_taken (record w { begun = start; calls = w.calls ++ entry ∷ []; trace = trace }) ≡ texts_taken w
     texts_call entry start trace tag = let shown = k.shown in take-texts_of w.shown (commands_of_frames w.taken) w.calls entry (omega arith)
@@ -201,7 +201,7 @@ module _ (w : Worked) (k : Kept w) where
           room = k.room;
         }
 
-    -- it is finished
+    -- the command is finished
     pub kept_finishes : length calls ≤ length replies
         → Kept (record w { begun = idle; finished = w.finished + 1; batch = w.batch ++ text command replies ∷ [] })
     kept_finishes whole =

@@ -26,7 +26,7 @@ done_texts offered w h =
 pub done_count : (offered : List FrameKind) (w : Worked) → HasDone offered w → w.finished ≡ length offered
 done_count offered w h = sym (finished_idle w h.kept h.none) ∙ length-map w.taken command_of ∙ ap length h.all
 
--- no more commands are finished than frames were taken
+-- the number of finished commands is at most that of frames taken
 finished_taken : (w : Worked) → Kept w → w.finished ≤ length (texts_all w)
 finished_taken w k =
     let long = length-texts_from 0 (commands_of_frames w.taken) w.calls in

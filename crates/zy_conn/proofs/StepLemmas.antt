@@ -1,4 +1,4 @@
--- What each step keeps, at values that are known by equations.
+-- What each step keeps, for values that are given by equations.
 use Rattle.std.proofs.Common.{◌≡◌, ◌≢◌, inl, ℕ, ◌+◌, ◌<◌, ◌≤◌, ◌^◌, List, [], ◌∷◌, ◌++◌, length, Some, Result, Ok, Err, MatchResult, IfOk, slice_get, refl, sym, ap, ◌∙◌, subst, arith, length-append}
 use Rattle.std.specs.Prelude.{All, IsSome}
 use Rattle.std.proofs.lemmas.Option.{slice_get_within}
@@ -41,7 +41,7 @@ module _ (p : Passed) (r r' : RingName) (taken taken' known known' : List FrameK
 
 -- ---- a call is made, or not
 
--- what a call leaves of the work
+-- the work after the next call
 pub record IsMade {E : Type 0} (a b : Worked) (made : Result Made E) : Type 0 where
   pub kept : Kept b
   pub goes : Goes a b
@@ -106,7 +106,7 @@ module _ (p q : Passed) (r : RingName) (taken known : List FrameKind) (s : Start
           to = ap calls_left e ∙ (omega (arith, ap length h.5));
         }
 
-    -- the same, of what the step sees
+    -- the same, stated of the values that the step has
     pub is_made_as : {E : Type 0} (made : Result Made E) (index : ℕ) (listed : List ShardCall) (s' : Start) → index ≡ f → listed ≡ calls → s' ≡ going command calls replies'
         → MatchResult made (Makes index listed replies p replies' q) (λ _. (q.calls ≡ p.calls) × (replies' ≡ replies))
         → IsMade (worked p r taken known s f sh b) (worked q r taken known s' f sh b) made
@@ -147,7 +147,7 @@ found_earlier a b w shard loaded found le h = record {
   };
 }
 
--- where fewer than 64 commands were finished, the hold ends as the work stops
+-- if fewer than 64 commands were finished, the hold ends for the reason for which the work stops
 pub stops_held : (a b c : Worked) (end : HoldEnd) → a.trace.steps ≤ b.trace.steps → c.finished < a.finished + 64 → StopsBy b c end → HeldTo a c end
 stops_held a b c Drained le few h = h
 stops_held a b c Limit le few h = absurd h
@@ -158,7 +158,7 @@ stops_held a b c (Busy shard loaded found) le few h = found_earlier a.trace b.tr
 pub goes_on : (a b c : Worked) → Goes a b → Goes b c → Goes a c
 goes_on a b c x y = let u = x.steps in let v = y.steps in record { table = y.table ∙ x.table; mark = y.mark ∙ x.mark; steps = omega arith }
 
--- where the work stops after a step that went on, it stops from before that step
+-- a work that stops after a step that went on stops for the same reason from before that step
 pub stops_on : (a b c : Worked) (end : HoldEnd) → a.trace.steps ≤ b.trace.steps → StopsBy b c end → StopsBy a c end
 stops_on a b c Drained le h = h
 stops_on a b c Limit le h = absurd h

@@ -1,4 +1,4 @@
--- What contracts see of a connection's block.
+-- The view of a connection's block.
 use Rattle.std.specs.Prelude.{List}
 use Rattle.zy_base.specs.declared.hold.Hold.{Hold}
 use Rattle.zy_conn.specs.Work.{Worked}

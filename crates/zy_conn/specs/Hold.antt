@@ -1,4 +1,4 @@
--- Holds: which of them a connection can have, what a hold records, and why it ends.
+-- Holds: which holds a connection can have, what a hold records, and why it ends.
 use Rattle.std.specs.Prelude.{◌≡◌, ◌≢◌, ◌⊎◌, ℕ, ◌+◌, ◌-◌, ◌<◌, ◌≤◌, ◌^◌, List, [], ◌∷◌, ◌++◌, length, Option, None, Some, IsSome, slice_get}
 use Rattle.zy_base.specs.declared.hold.Hold.{Hold}
 use Rattle.zy_base.specs.Held.{held_in}
@@ -24,19 +24,19 @@ abbrev pub EachIsHold : ℕ → List Hold → Type 0
 EachIsHold connection [] = Unit {0}
 EachIsHold connection (hold ∷ holds) = IsHold connection hold × EachIsHold connection holds
 
--- the holds of a connection with so many finished commands
+-- the holds of a connection with `finished` finished commands
 pub record AreHolds (connection finished : ℕ) (holds : List Hold) : Type 0 where
   pub each : EachIsHold connection holds
   pub all : held_in holds ≡ finished
 
 -- ---- what a hold records
 
--- a hold of a connection, by a core, in which so many commands were finished
+-- a hold of a connection by a core, in which `count` commands were finished
 abbrev pub hold_by : ℕ → ℕ → ℕ → Hold
 hold_by core connection count = record { core = core; conn = connection; count = count }
 
--- where commands were finished there is one hold more, which says by which core, of which connection and how many;
--- else the holds stay as they were
+-- if commands were finished, there is one further hold, with the core, the connection and their
+-- number; otherwise the holds stay as they were
 pub record IsRecorded (core : ℕ) (before after : Blocked) : Type 0 where
   pub none : after.work.finished ≡ before.work.finished → after.holds ≡ before.holds
   pub one : before.work.finished < after.work.finished
@@ -44,27 +44,27 @@ pub record IsRecorded (core : ℕ) (before after : Blocked) : Type 0 where
 
 -- ---- why a hold ends
 
--- the next call of what is begun, where one is left to make
+-- the next call of the command in progress, if one is left to make
 abbrev pub call_due : Start → Option ShardCall
 call_due idle = None
 call_due (raw frame) = None
 call_due (going command calls replies) = slice_get calls (length replies)
 
--- a call is due, and the pass has made the most that it can
+-- a call is left to make, but the pass has made as many as it can
 abbrev pub IsCallSpent : Worked → Type 0
 IsCallSpent work = IsSome (call_due work.begun) × (2 ^ 40 ≤ length work.calls)
 
--- a command is due, and the most that are counted are finished
+-- a command is left to begin, but as many as can be counted are finished
 abbrev pub IsCommandSpent : Worked → Type 0
 IsCommandSpent work = (work.begun ≡ idle) × (work.known ≢ []) × (work.finished ≡ 2 ^ 40)
 
--- the call that is due found its shard busy, by numbers that were loaded after these steps
+-- the next call found its shard busy: these numbers were loaded after the steps of `before`
 pub record FoundBusy (before : Trace) (work : Worked) (shard loaded found : ℕ) : Type 0 where
   pub asked : ShardCall
   pub asked_is : call_due work.begun ≡ Some asked
   pub busy : WasBusy asked.shard before work.trace shard loaded found
 
--- why a hold ended, of the work before it and after it
+-- why a hold ended, in terms of the work before it and after it
 abbrev pub HeldTo : Worked → Worked → HoldEnd → Type 0
 HeldTo before after Drained = (after.begun ≡ idle) × (after.known ≡ [])
 HeldTo before after Limit = (after.finished ≡ before.finished + 64) × (after.known ≢ [])

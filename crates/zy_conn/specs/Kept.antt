@@ -1,5 +1,5 @@
--- What a connection's work keeps: that the commands of the frames taken were done in order, each
--- call due made once, and each text written once.
+-- What a connection's work keeps: the commands of the frames taken are carried out in order, each
+-- expected call is made once, and each text is written once.
 use Rattle.std.specs.Prelude.{◌≡◌, ℕ, ◌<◌, ◌≤◌, ◌^◌, List, [], ◌∷◌, ◌++◌, length, take}
 use Rattle.zy_base.specs.declared.call_reply.CallReply.{CallReply}
 use Rattle.zy_base.specs.Kind.{AreAnswers}
@@ -12,22 +12,22 @@ use Rattle.zy_frame.specs.declared.frame_kind.FrameKind.{FrameKind}
 use Rattle.zy_frame.specs.Frame.{command_of}
 use Rattle.zy_conn.specs.Work.{Start, idle, raw, going, Worked, commands_of_frames, texts_all, texts_taken}
 
--- ---- the command that is begun
+-- ---- the command in progress
 
--- the command that is begun, where one is
+-- the command in progress, if there is one
 abbrev pub command_begun : Start → List Command
 command_begun idle = []
 command_begun (raw frame) = command_of frame ∷ []
 command_begun (going command calls replies) = command ∷ []
 
--- the calls that were made of the command that is begun
+-- the calls that were made of the command in progress
 abbrev pub dues_begun : ℕ → ℕ → Start → List Due
 dues_begun connection index idle = []
 dues_begun connection index (raw frame) = []
 dues_begun connection index (going command calls replies) =
     tagged connection index 0 (take (length replies) calls)
 
--- the replies that the command that is begun has got
+-- the replies so far to the command in progress
 abbrev pub replies_begun : Start → List CallReply
 replies_begun idle = []
 replies_begun (raw frame) = []
@@ -41,7 +41,7 @@ pub record IsGoingOn (shards : ℕ) (command : Command) (calls : List ShardCall)
   pub few : length replies ≤ length calls
   pub answers : AnswerEach (take (length replies) calls) replies
 
--- what is begun goes on, where it has its calls
+-- if the command in progress has its calls, they and the replies are its own
 abbrev pub IsBegun : ℕ → Start → Type 0
 IsBegun shards idle = Unit {0}
 IsBegun shards (raw frame) = Unit {0}
@@ -52,25 +52,26 @@ IsBegun shards (going command calls replies) = IsGoingOn shards command calls re
 pub record Kept (work : Worked) : Type 0 where
   -- the event ring has 64 slots
   pub slots : work.ring.capacity ≡ 64
-  -- the frames taken are those of the finished commands, and then that of the command that is begun
+  -- the frames taken are those of the finished commands, and then that of the command in progress
   pub done : List Command
   pub frames : commands_of_frames work.taken ≡ done ++ command_begun work.begun
   pub count : length done ≡ work.finished
-  -- the calls made are those due of the finished commands, and then the first of the command that is begun
+  -- the calls made are the expected calls of the finished commands, and then the first of the
+  -- command in progress
   pub dues : dues_of work.calls ≡ due work.table.slots work.conn done ++ dues_begun work.conn work.finished work.begun
-  -- each got a reply of a kind that its call may get
+  -- each call got a reply of a kind that it may get
   pub kinds : AreAnswers work.calls
-  -- the command that is begun has the replies of its own calls
+  -- the command in progress has the replies of its own calls
   pub begun : IsBegun work.table.slots work.begun
   pub now : replies_at work.finished work.calls ≡ replies_begun work.begun
   pub later : (index : ℕ) → work.finished < index → replies_at index work.calls ≡ []
-  -- the texts ever taken and those that wait are those of the finished commands
+  -- the texts ever taken, followed by those that wait, are the texts of the finished commands
   pub texts : texts_taken work ++ work.batch ≡ take work.finished (texts_all work)
   pub shown : work.shown ≤ work.finished
-  -- no more frames are taken than commands can be counted
+  -- the number of frames taken is at most the number of commands that can be counted
   pub room : length work.taken ≤ 2 ^ 40
 
--- each frame that was offered was taken, and nothing is begun
+-- each frame that was offered was taken, and no command is in progress
 pub record HasDone (offered : List FrameKind) (work : Worked) : Type 0 where
   pub kept : Kept work
   pub none : work.begun ≡ idle

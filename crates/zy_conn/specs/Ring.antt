@@ -1,4 +1,4 @@
--- What contracts see of the end of an event ring that frames are offered to.
+-- The view of the end of an event ring to which frames are offered.
 use Rattle.zy_rx.specs.Ring.{RingInlet}
 use Rattle.zy_frame.specs.declared.frame_kind.FrameKind.{FrameKind}
 

@@ -1,4 +1,4 @@
--- The steps by which a connection's work goes on. No public clause cites this module.
+-- The steps of a connection's work. No public clause cites this module.
 use Rattle.std.specs.Prelude.{◌≡◌, ◌⊎◌, ℕ, ◌+◌, ◌-◌, ◌≤◌, ◌^◌, List, [], ◌∷◌, ◌++◌, length, Some, slice_get}
 use Rattle.zy_base.specs.declared.call_reply.CallReply.{CallReply}
 use Rattle.zy_base.specs.declared.entry.Entry.{Entry}
@@ -15,7 +15,7 @@ use Rattle.zy_conn.specs.declared.calling.Made.TheVariants.{Call, Done, Stopped}
 use Rattle.zy_conn.specs.Work.{Start, idle, raw, going, Worked, mark_of}
 use Rattle.zy_conn.specs.Hold.{IsCallSpent, IsCommandSpent, FoundBusy}
 
--- ---- what is begun
+-- ---- the command in progress
 
 -- the command of what is begun is known, with its calls
 abbrev pub IsGoing : Start → Type 0
@@ -29,13 +29,13 @@ IsWhole idle = ⊥
 IsWhole (raw frame) = ⊥
 IsWhole (going command calls replies) = length calls ≤ length replies
 
--- the text of the command that is begun, with the replies so far
+-- the text of the command in progress, from the replies so far
 abbrev pub text_begun : Start → List ℕ
 text_begun idle = []
 text_begun (raw frame) = []
 text_begun (going command calls replies) = text command replies
 
--- how many calls are left of what is begun
+-- the number of calls that are left to the command in progress
 abbrev pub calls_left : Start → ℕ
 calls_left idle = 0
 calls_left (raw frame) = 0
@@ -71,7 +71,7 @@ module _ (index : ℕ) (asked : ShardCall) (replies : List CallReply) (before : 
   MakesThis Done = ⊥
   MakesThis (Stopped end) = CallStopsBy asked before after end × (after.calls ≡ before.calls) × (replies' ≡ replies)
 
--- what came of the next of these calls, of the replies and the pass before and after it
+-- the effect of the next of these calls on the replies and the pass
 module _ (index : ℕ) (calls : List ShardCall) (replies : List CallReply) (before : Passed) (replies' : List CallReply)
     (after : Passed) where
   abbrev pub Makes : Made → Type 0
@@ -84,7 +84,7 @@ module _ (index : ℕ) (calls : List ShardCall) (replies : List CallReply) (befo
 
 -- ---- the work
 
--- what stays, whatever is done
+-- what every step keeps
 pub record Goes (before after : Worked) : Type 0 where
   pub table : after.table ≡ before.table
   pub mark : mark_of after ≡ mark_of before
@@ -97,7 +97,7 @@ StopsBy before after Limit = ⊥
 StopsBy before after Spent = IsCallSpent after ⊎ IsCommandSpent after
 StopsBy before after (Busy shard loaded found) = FoundBusy before.trace after shard loaded found
 
--- what came of the next call of what is begun
+-- the effect of the next call of the command in progress
 abbrev pub MadeFrom : Worked → Worked → Made → Type 0
 MadeFrom before after Call = calls_left before.begun ≡ calls_left after.begun + 1
 MadeFrom before after Done = IsWhole after.begun

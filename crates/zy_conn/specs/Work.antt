@@ -1,5 +1,5 @@
--- What contracts see of a connection's work: its pass, its events, the command that is begun, and
--- the texts of those that are finished.
+-- The view of a connection's work: its pass, its events, the command in progress, and the texts of
+-- finished commands.
 use Rattle.std.specs.Prelude.{ℕ, Bool, true, false, ◌||◌, nat_lt, List, map, take, length}
 use Rattle.atomic_table.specs.Seated.{TableId}
 use Rattle.zy_base.specs.declared.call_reply.CallReply.{CallReply}
@@ -16,7 +16,7 @@ use Rattle.zy_rx.specs.Ring.{RingName}
 use Rattle.zy_conn.specs.declared.begun.Begun.{Begun}
 use Rattle.zy_conn.specs.declared.begun.Begun.TheVariants.{Nothing, Raw, Going}
 
--- ---- the command that is begun
+-- ---- the command in progress
 
 -- nothing is begun; or a frame that was taken, or its command with its calls and the replies so far
 pub data Start : Type 0 where
@@ -30,7 +30,7 @@ start_of shards Nothing replies = idle
 start_of shards (Raw frame) replies = raw frame
 start_of shards (Going command) replies = going command (calls_of shards command) replies
 
--- something is begun
+-- a command is in progress
 abbrev pub is_begun : Start → Bool
 is_begun idle = false
 is_begun (raw frame) = true
@@ -38,8 +38,9 @@ is_begun (going command calls replies) = true
 
 -- ---- the work
 
--- a connection with its store and event ring, the frames taken and those known, what is begun, how many commands are
--- finished and for how many the texts were taken, the texts that wait, and the calls of its pass
+-- a connection with its store and event ring, the frames taken and those known, the command in
+-- progress, the number of finished commands and the number of those whose texts were taken, the
+-- texts that wait, and the calls of its pass
 pub record Worked : Type 0 where
   pub conn : ℕ
   pub table : TableId
@@ -69,7 +70,7 @@ worked pass ring taken known begun finished shown batch = record {
   trace = pass.trace;
 }
 
--- a command is begun, or a frame is known
+-- a command is in progress, or a frame is known
 abbrev pub has_event : Worked → Bool
 has_event work = is_begun work.begun || nat_lt 0 (length work.known)
 
@@ -93,6 +94,6 @@ texts_taken work = take work.shown (texts_all work)
 abbrev pub Mark : Type 0
 Mark = ℕ × (RingName × List (List ℕ))
 
--- the mark of a connection's work, which the taking of a batch alone changes
+-- the mark of a connection's work; only the taking of a batch changes it
 abbrev pub mark_of : Worked → Mark
 mark_of work = (work.conn, (work.ring, texts_taken work))

@@ -1,11 +1,12 @@
-//! The command that is begun.
+//! The command in progress.
 ghost use Rattle.std.specs.Prelude.{◌≡◌};
 
 use mc_parse::Command;
 use std::mem;
 use zy_frame::Frame;
 
-/// What is begun. A step that finds no memory leaves it where it was, so that a later one goes on.
+/// The command in progress. A step that is refused memory leaves it as it was, so that a later one
+/// goes on.
 #[derive(Drop)]
 pub(crate) enum Begun {
     Nothing,
@@ -16,7 +17,7 @@ pub(crate) enum Begun {
 }
 
 impl Begun {
-    /// Puts another in its place. What was there is let go.
+    /// Puts another in its place, and drops the old one.
     pub(crate) fn put(&mut self, begun: Begun)
         ensures value { self.new ≡ begun }
     {

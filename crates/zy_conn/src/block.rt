@@ -17,7 +17,7 @@ use zy_base::{Gate, Hold, Holds, NoMemory};
 use zy_calls::Batch;
 use zy_shuffle::Marked;
 
-/// What travels with a connection: its pass on the store, its events, the command that is begun, the
+/// What travels with a connection: its pass on the store, its events, the command in progress, the
 /// texts that wait, and its holds. Contracts see it as its work and the list of its holds.
 #[derive(Drop)]
 pub struct Block {
@@ -87,15 +87,15 @@ impl Block {
         self.work.finished()
     }
 
-    /// Whether a command is begun or a frame is known.
+    /// Whether a command is in progress or a frame is known.
     pub fn has_event(&self) -> bool
         ensures value { result ≡ has_event self.now.work }
     {
         self.work.has_event()
     }
 
-    /// Shows each end of the event ring what the other did, on the thread that has both. After it the
-    /// block knows every frame, and the inlet every free slot.
+    /// Shows each end of the event ring what the other did; the calling thread has both. After it
+    /// the block knows every frame, and the inlet every free slot.
     pub fn meet(&mut self, inlet: &mut EventInlet)
         requires ring { inlet.old.ring ≡ self.old.work.ring }
         ensures block { self.new ≡ record self.old { work = record self.old.work { known = self.new.work.known } } }
@@ -106,7 +106,8 @@ impl Block {
         self.work.meet(inlet)
     }
 
-    /// The texts that wait, with the number of finished commands; none is left. Takes no memory.
+    /// Takes the texts that wait, with the number of finished commands; no text is left. Takes no
+    /// memory.
     pub fn take_batch(&mut self) -> Batch
         ensures batch { (result.texts ≡ self.old.work.batch) × (result.finished ≡ self.old.work.finished) }
         ensures block { self.new ≡ record self.old {
@@ -120,9 +121,9 @@ impl Block {
         self.work.take_batch()
     }
 
-    /// Carries out commands from the front. A hold that finished some is recorded; the room for that
-    /// is taken first. After a refusal the calls that were made stay made, and a further hold goes on
-    /// from there.
+    /// Carries out commands in order, at most 64. A hold that finished commands is recorded; the
+    /// room for the record is reserved first. After a refusal the calls that were made stay made,
+    /// and a further hold goes on from there.
     pub fn hold<G: Gate>(
         &mut self,
         store: &StoreTable,
@@ -132,7 +133,7 @@ impl Block {
         requires table { self.old.work.table ≡ store.now.id }
         requires core { core < 64 }
 
-        // Why it ends, and what it recorded.
+        // Why it ends, and what is recorded.
         ensures end { IfOk result (HeldTo self.old.work self.new.work) }
         ensures holds { IsRecorded core self.old self.new }
 
@@ -153,7 +154,7 @@ impl Block {
         end
     }
 
-    /// The pass and the holds, and what the block kept. Takes no memory.
+    /// The pass and the holds, with what the block has kept. Takes no memory.
     pub fn into_parts(self) -> (Pass, Holds)
         ensures pass { result.0 ≡ passed self.work.table self.work.conn self.work.calls self.work.trace }
         ensures holds { result.1 ≡ self.holds }

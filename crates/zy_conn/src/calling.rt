@@ -8,22 +8,22 @@ use mc_parse::{Command, ShardCall, call_at};
 use mc_store::{Pass, StoreTable, Tried};
 use zy_base::{CallReply, NoMemory, Tag};
 
-// The most calls, and the most commands, of a connection.
+// The largest number of calls, and of commands, of a connection.
 pub(crate) const MOST: u64 = 1 << 40;
 
-/// What came of the next call of a command.
+/// The result of the next call of a command.
 #[derive(Drop)]
 pub(crate) enum Made {
-    /// It was made.
+    /// The call was made.
     Call,
-    /// None is left to make.
+    /// No call is left to make.
     Done,
-    /// It was not made.
+    /// The call was not made.
     Stopped(HoldEnd),
 }
 
-/// Makes the next call of a command, of which the first have got these replies. The room for its
-/// reply is taken first. After a refusal it was not made.
+/// Makes the next call of a command; the calls before it got these replies. The room for its reply
+/// is reserved first. After a refusal the call was not made.
 pub(crate) fn next_call(
     pass: &mut Pass,
     store: &StoreTable,

@@ -1,4 +1,4 @@
-//! Carrying commands out in one hold.
+//! Carrying out commands in one hold.
 ghost use Rattle.std.specs.Prelude.{◌≡◌, ◌+◌, ◌≤◌, IfOk};
 ghost use Rattle.zy_conn.specs.Hold.{HeldTo};
 ghost use Rattle.zy_conn.specs.Step.{Goes};
@@ -8,10 +8,10 @@ use crate::work::Work;
 use mc_store::StoreTable;
 use zy_base::{Gate, NoMemory};
 
-// The most commands of one hold.
+// The largest number of commands of one hold.
 const LIMIT: u32 = 64;
 
-/// Carries out commands from the front, at most 64, and says how many were finished.
+/// Carries out commands in order, at most 64, and returns how many were finished, and why it ended.
 pub(crate) fn carry_out<G: Gate>(
     work: &mut Work,
     store: &StoreTable,

@@ -6,9 +6,9 @@ ghost use Rattle.zy_frame.specs.declared.frame_kind.FrameKind.{FrameKind};
 ghost use Rattle.zy_conn.specs.Work.{Worked, commands_of_frames, texts_taken};
 ghost use Rattle.zy_conn.specs.Kept.{Kept, HasDone};
 
-/// Where every frame that was offered was taken and nothing is begun, the calls made are those due of
-/// all commands, and the texts taken and those that wait are the texts of all of them, each with the
-/// replies of its own calls.
+/// Once every frame that was offered was taken and no command is in progress, the calls made are
+/// the expected calls of all commands, and the texts taken followed by those that wait are the
+/// texts of all of them, each from the replies of its own calls.
 pub fn all_commands_are_done()
     ensures calls { (offered : List FrameKind) (work : Worked) → HasDone offered work
         → dues_of work.calls ≡ due work.table.slots work.conn (commands_of_frames offered) }

@@ -1,4 +1,5 @@
-//! A connection's block: its pass on the store, its events, the command that is begun, its batch and its holds.
+//! A connection's block: its pass on the store, its events, the command in progress, its batch and
+//! its holds.
 #![tactic(auto)]
 
 mod answer;

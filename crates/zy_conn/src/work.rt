@@ -1,4 +1,4 @@
-//! A connection's work: all of a block but its holds.
+//! A connection's work: all of a block except its holds.
 ghost use Rattle.std.specs.Prelude.{◌≡◌, ◌≢◌, ◌+◌, ◌≤◌, [], ◌++◌, length, IfOk, IfErr, MatchBool};
 ghost use Rattle.mc_store.specs.Pass.{passed};
 ghost use Rattle.zy_rx.specs.Ring.{offering};
@@ -25,17 +25,18 @@ pub type EventInlet = RingInlet<Frame>;
 // The slots of an event ring.
 const EVENTS: usize = 64;
 
-/// All of a block but its holds. Contracts see its pass, the frames taken from its event ring and
-/// those known, what is begun, how many commands are finished, and the texts that wait.
+/// All of a block except its holds. Contracts see its pass, the frames taken from its event ring
+/// and those known, the command in progress, the number of finished commands, and the texts that
+/// wait.
 #[derive(Drop)]
 pub(crate) struct Work {
     alloc: Global,
     pass: Pass,
     frames: RingOutlet<Frame>,
     begun: Begun,
-    // The replies so far of a command with its calls; its room is used again.
+    // The replies so far to a command with its calls; the list is used again for each command.
     replies: Vec<CallReply>,
-    // For how many commands the texts were taken.
+    // The number of commands whose texts were taken.
     shown: u64,
     batch: Batch,
 }
@@ -54,8 +55,8 @@ impl Model for Work {
 }
 
 impl Work {
-    /// The work of a pass without calls: no frame was offered, and nothing is begun. After a refusal
-    /// the pass is handed back.
+    /// The work of a pass without calls: no frame was offered, and no command is in progress. After
+    /// a refusal the pass is handed back.
     pub(crate) fn new(alloc: Global, pass: Pass) -> Result<(Work, EventInlet), (Pass, NoMemory)>
         requires empty { pass.calls ≡ [] }
         ensures work { IfOk result (λ made. made.0 ≡ worked pass made.1.ring [] [] idle 0 0 []) }
@@ -93,7 +94,7 @@ impl Work {
         self.batch.finished()
     }
 
-    /// Whether a command is begun or a frame is known.
+    /// Whether a command is in progress or a frame is known.
     pub(crate) fn has_event(&self) -> bool
         ensures value { result ≡ has_event self.now }
     {
@@ -114,7 +115,7 @@ impl Work {
         both_ends(inlet, &mut self.frames);
     }
 
-    /// Looks for frames, and says whether one is known.
+    /// Looks for frames, and returns whether one is known.
     pub(crate) fn looks(&mut self) -> bool
         ensures work { self.new ≡ record self.old { known = self.new.known } }
         ensures known { MatchBool result (self.new.known ≢ []) (self.new.known ≡ []) }
@@ -122,7 +123,7 @@ impl Work {
         !self.frames.is_empty()
     }
 
-    /// The texts that wait, with the number of finished commands; none is left.
+    /// Takes the texts that wait, with the number of finished commands; no text is left.
     pub(crate) fn take_batch(&mut self) -> Batch
         ensures batch { (result.texts ≡ self.old.batch) × (result.finished ≡ self.old.finished) }
         ensures work { self.new ≡ record self.old { shown = self.old.finished; batch = [] } }
@@ -133,7 +134,7 @@ impl Work {
         mem::replace(&mut self.batch, Batch::new(self.alloc, finished))
     }
 
-    /// The pass, and what the work kept.
+    /// The pass, with what the work has kept.
     pub(crate) fn into_pass(self) -> Pass
         ensures pass { result ≡ passed self.table self.conn self.calls self.trace }
         ensures kept { Kept self }

@@ -1,4 +1,4 @@
--- How many seats there are of each kind, after one was changed or one came.
+-- The number of seats of each kind, after one was changed or added.
 use Rattle.std.proofs.Common.{◌≡◌, ℕ, zero, suc, ◌+◌, ◌<◌, ◌≤◌, List, [], ◌∷◌, ◌++◌, set, true, false, sym, ap, arith}
 use mathlib.Core.Option.{some, some-injective, some-ne-none}
 use lib.ListN.{get_elem?}
@@ -19,7 +19,7 @@ cores_set [] j v w e = absurd (some-ne-none v (sym e))
 cores_set (x ∷ xs) zero v w e = let is = ap (λ (y : View). is_one y.role) (some-injective x v e) in omega arith
 cores_set (x ∷ xs) (suc j) v w e = let r = cores_set xs j v w e in omega arith
 
--- one seat came
+-- one seat was added
 pub counted_end : (vs : List View) (v : View) → counted_in (vs ++ v ∷ []) ≡ counted_in vs + has_one v.role
 counted_end [] v = omega arith
 counted_end (x ∷ xs) v = let r = counted_end xs v in omega arith
@@ -45,7 +45,7 @@ one_less (Core number true) is = absurd (cc)
 one_less (Core number false) is = omega arith
 one_less Watcher is = absurd is
 
--- a core that has not counted itself is missing
+-- while a core has not counted itself, the count is below the number of cores
 pub missing : (vs : List View) (j : ℕ) (v : View) → get_elem? vs j ≡ some v → IsUncounted v.role → counted_in vs < cores_in vs
 missing [] j v e is = absurd (some-ne-none v (sym e))
 missing (x ∷ xs) zero v e is =

@@ -29,13 +29,13 @@ opens n lt = record { wide = refl; done = refl; few = omega arith; fits = lt; ea
 
 -- ---- what other seats know
 
--- a role is so of other seats as well, where there are as many cores
+-- a role stays true when other seats change, as long as the number of seats given to cores stays
 role_same : (vs ws : List View) (j : ℕ) (r : Role) → cores_in ws ≡ cores_in vs → IsRole vs j r → IsRole ws j r
 role_same vs ws j (Root given) e k = (k.0, k.1 ∙ sym e)
 role_same vs ws j (Core number has) e k = tt
 role_same vs ws j Watcher e k = tt
 
--- a seat knows the same where done has not fallen and no bit of stop was cleared
+-- what a seat knows stays true, as done has not fallen and no bit of stop was cleared
 knows_same : (words words' : List ℕ) (vs ws : List View) (n j : ℕ) (v : View) → get_or words 0 0 ≤ get_or words' 0 0 → Covers (get_or words 1 0) (get_or words' 1 0) → cores_in ws ≡ cores_in vs → Knows words vs n j v → Knows words' ws n j v
 knows_same words words' vs ws n j v more covers e k = record {
   cores_are = k.cores_are;
@@ -44,7 +44,7 @@ knows_same words words' vs ws n j v more covers e k = record {
   role = role_same vs ws j v.role e k.role;
 }
 
--- ---- a step of one seat, which leaves its kind
+-- ---- a step of one seat that keeps its kind
 
 -- what the words and the seat after a step must be
 record Stepped (n : ℕ) (s : State ℕ View) (words : List ℕ) (id : ℕ) (v w : View) : Type 0 where
@@ -68,7 +68,7 @@ stepped n s words id v w r t = record {
       (at_set s.views id j w x e);
 }
 
--- a load of one of the two words, after which the seat knows more
+-- a load of one of the two words, after which the seat knows the value found
 seen : (n : ℕ) (s : State ℕ View) (i id : ℕ) (v : View) (t : Trace) → ControlRule n s → get_elem? s.views id ≡ some v → t.done.value ≤ get_or s.words 0 0 → Covers t.stop.value (get_or s.words 1 0)
     → ControlRule n (record { words = set s.words i (get_or s.words i 0); homes = s.homes; views = set s.views id (view v.role v.cores t) })
 seen n s i id v t r at done stop =
@@ -88,14 +88,14 @@ seen n s i id v t r at done stop =
 
 -- ---- the steps
 
--- a core that has counted itself has one more
+-- a core that counts itself adds one to the number of those that did
 counted_one : (r : Role) → IsUncounted r → has_one (counted r) ≡ has_one r + 1
 counted_one (Root given) is = absurd is
 counted_one (Core number true) is = absurd (cc)
 counted_one (Core number false) is = refl
 counted_one Watcher is = absurd is
 
--- and is the same core
+-- and it is still the same core
 counted_kind : (r : Role) → is_one (counted r) ≡ is_one r
 counted_kind (Root given) = refl
 counted_kind (Core number has) = refl
@@ -209,9 +209,9 @@ stops_allowed n slots id mask v s r wide at low =
       (refl, λ j h. or_covers y mask j (k.stop_seen j h)),
     )
 
--- ---- seats that come
+-- ---- seats that are added
 
--- a seat that came, and knows what is so
+-- a seat was added whose knowledge is true
 came : (n : ℕ) (s : State ℕ View) (v : View) → ControlRule n s → has_one v.role ≡ 0 → is_one v.role ≡ 0 → ((j : ℕ) → Knows s.words (s.views ++ v ∷ []) n j v) → ControlRule n (record { words = s.words; homes = s.homes; views = s.views ++ v ∷ [] })
 came n s v r none other knows =
     let a = counted_end s.views v in let b = cores_end s.views v in let d = r.done in let f = r.few in record {

@@ -1,4 +1,4 @@
--- The steps at a seat that is known by its parts.
+-- The steps at a seat whose parts are known.
 use Rattle.std.proofs.Common.{◌≡◌, ℕ, ◌+◌, ◌%◌, ◌^◌, ◌<◌, [], sym, subst}
 use Rattle.std.specs.Int.Bits.{bit_or}
 use Rattle.atomic_table.specs.Table.{Allows, Splits}

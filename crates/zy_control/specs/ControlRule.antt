@@ -1,4 +1,4 @@
--- The rule of the control words: what is so between any two steps.
+-- The rule of the control words, which holds between any two steps.
 use Rattle.std.specs.Prelude.{◌≡◌, ℕ, ◌+◌, ◌^◌, ◌<◌, ◌≤◌, List, [], ◌∷◌, length, true, false, slice_index}
 use mathlib.Core.Option.{some}
 use lib.ListN.{get_elem?}
@@ -8,8 +8,8 @@ use Rattle.zy_control.specs.declared.view.Role.TheVariants.{Root, Core, Watcher}
 use Rattle.zy_control.specs.declared.view.View.{View}
 use Rattle.zy_control.specs.View.{Covers}
 
--- 1 for a core that has counted itself, 0 for every other seat: so only the seats of cores count themselves, and each
--- once
+-- 1 for a core that has counted itself, 0 for every other seat: so only the seats of cores count
+-- themselves, and each does so once
 abbrev pub has_one : Role → ℕ
 has_one (Root given) = 0
 has_one (Core number true) = 1
@@ -22,42 +22,42 @@ is_one (Root given) = 0
 is_one (Core number counted) = 1
 is_one Watcher = 0
 
--- how many seats have counted themselves
+-- the number of seats that have counted themselves
 abbrev pub counted_in : List View → ℕ
 counted_in [] = 0
 counted_in (v ∷ vs) = has_one v.role + counted_in vs
 
--- how many seats are of cores
+-- the number of seats of cores
 abbrev pub cores_in : List View → ℕ
 cores_in [] = 0
 cores_in (v ∷ vs) = is_one v.role + cores_in vs
 
--- seat 0 is the root, and it knows how many seats it gave to cores
+-- seat 0 is the root, and it knows the number of seats that it gave to cores
 abbrev pub IsRole : List View → ℕ → Role → Type 0
 IsRole vs j (Root given) = (j ≡ 0) × (given ≡ cores_in vs)
 IsRole vs j (Core number counted) = Unit {0}
 IsRole vs j Watcher = Unit {0}
 
--- what is so of the view of seat j
+-- what seat j knows is true
 pub record Knows (words : List ℕ) (vs : List View) (cores j : ℕ) (v : View) : Type 0 where
-  -- it knows how many cores there are
+  -- it knows the number of cores
   pub cores_are : v.cores ≡ cores
-  -- done is at least what it saw: done never falls
+  -- done is at least the value that the seat saw: done never falls
   pub done_seen : v.trace.done.value ≤ slice_index words 0
-  -- a bit of stop that it saw set is set: none is ever cleared
+  -- a bit of stop that the seat saw set is still set: none is ever cleared
   pub stop_seen : Covers v.trace.stop.value (slice_index words 1)
-  -- and what it knows by its role
+  -- what it knows by its role is true
   pub role : IsRole vs j v.role
 
--- the rule, where there are so many cores
+-- the rule, where there are `cores` cores
 pub record ControlRule (cores : ℕ) (s : State ℕ View) : Type 0 where
   -- the words are done and stop
   pub wide : length s.words ≡ 2
   -- done is the number of the seats that have counted themselves
   pub done : slice_index s.words 0 ≡ counted_in s.views
-  -- at most as many seats are given to cores as there are cores
+  -- the number of seats given to cores is at most the number of cores
   pub few : cores_in s.views ≤ cores
-  -- and these are few enough for a word
+  -- the number of cores fits in a word
   pub fits : cores < 2 ^ 64
-  -- what each seat knows is so
+  -- what each seat knows is true
   pub each : (j : ℕ) (v : View) → get_elem? s.views j ≡ some v → Knows s.words s.views cores j v

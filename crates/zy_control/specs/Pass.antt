@@ -1,4 +1,4 @@
--- What contracts see of the control words and of the passes on them.
+-- The views of the control words and of the passes on them.
 use Rattle.std.specs.Prelude.{ℕ}
 use Rattle.atomic_table.specs.Seated.{TableId}
 use Rattle.zy_control.specs.declared.view.Trace.{Trace}
@@ -6,7 +6,7 @@ use Rattle.zy_control.specs.declared.view.Role.{Role}
 use Rattle.zy_control.specs.declared.view.Role.TheVariants.{Watcher}
 use Rattle.zy_control.specs.View.{untraced, done_step, stop_step, counted}
 
--- the control words: which table they are, and how many cores there are
+-- the control words: which table they are, and the number of cores
 pub record Controlled : Type 0 where
   pub id : TableId
   pub cores : ℕ
@@ -14,7 +14,7 @@ pub record Controlled : Type 0 where
 abbrev pub controlled : TableId → ℕ → Controlled
 controlled id cores = record { id = id; cores = cores }
 
--- a root: its table, how many seats it gave, and how many cores there are
+-- a root: its table, the number of seats that it gave, and the number of cores
 pub record Rooted : Type 0 where
   pub table : TableId
   pub given : ℕ
@@ -23,7 +23,7 @@ pub record Rooted : Type 0 where
 abbrev pub rooted : TableId → ℕ → ℕ → Rooted
 rooted table given cores = record { table = table; given = given; cores = cores }
 
--- a pass: its table, its role, how many cores there are, and what it has seen
+-- a pass: its table, its role, the number of cores, and what it has seen
 pub record Held : Type 0 where
   pub table : TableId
   pub role : Role
@@ -39,7 +39,7 @@ held table role cores trace = record { table = table; role = role; cores = cores
 abbrev pub watching : Controlled → ℕ → Held
 watching c found = held c.id Watcher c.cores (stop_step found untraced)
 
--- the pass of a core that has counted itself, after which done was this
+-- the pass of a core that has counted itself; after that step done had this value
 abbrev pub counting : ℕ → Held → Held
 counting value p = held p.table (counted p.role) p.cores (done_step value p.trace)
 

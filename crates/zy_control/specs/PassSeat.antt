@@ -1,4 +1,4 @@
--- What is so of the seats of roots and passes between two calls. No public clause cites this module.
+-- The seats of roots and passes between two calls. No public clause cites this module.
 use Rattle.std.specs.Prelude.{◌≡◌, ℕ, [], Bool, false}
 use Rattle.zy_control.specs.declared.view.Role.{Role}
 use Rattle.zy_control.specs.declared.view.Role.TheVariants.{Root, Core, Watcher}
@@ -8,7 +8,8 @@ use Rattle.zy_control.specs.Step.{Seated}
 abbrev pub IsRootSeat : ℕ → ℕ → Seated → Type 0
 IsRootSeat given cores m = (m.1 ≡ []) × (m.0.role ≡ Root given) × (m.0.cores ≡ cores)
 
--- the role is that of a watcher or of the core with this number, and this says whether it has counted itself
+-- the role is that of a watcher, or of the core with this number, and `has` says whether it has
+-- counted itself
 abbrev pub IsPassRole : ℕ → Bool → Role → Type 0
 IsPassRole number has (Root given) = ⊥
 IsPassRole number has (Core n counted) = (number ≡ n) × (has ≡ counted)

@@ -1,11 +1,11 @@
--- What each kind of step on the control words tells its seat. No public clause cites this module.
+-- What a seat learns from each kind of step on the control words. No public clause cites this module.
 use Rattle.std.specs.Prelude.{◌≡◌, ℕ, ◌+◌, ◌≤◌, [], bit_or}
 use Rattle.atomic_table.specs.Table.{Me}
 use Rattle.zy_control.specs.declared.view.Role.TheVariants.{Watcher}
 use Rattle.zy_control.specs.declared.view.View.{View}
 use Rattle.zy_control.specs.View.{view, untraced, done_step, stop_step, counted, Covers, MustHaveCounted}
 
--- a seat's view, and the slots that it has taken, which are none
+-- a seat's view, and the slots that it has taken: none
 abbrev pub Seated : Type 0
 Seated = Me ℕ View
 
@@ -13,12 +13,12 @@ Seated = Me ℕ View
 abbrev pub counts : Seated → ℕ → Seated → Type 0
 counts m r n = n ≡ (view (counted m.0.role) m.0.cores (done_step (r + 1) m.0.trace), m.1)
 
--- done was loaded: where it is the number of cores, this core has counted itself
+-- done was loaded: if it is the number of cores, this core has counted itself
 abbrev pub sees_done : Seated → ℕ → Seated → Type 0
 sees_done m r n = (n ≡ (view m.0.role m.0.cores (done_step r m.0.trace), m.1)) × (m.0.trace.done.value ≤ r)
     × (r ≡ m.0.cores → MustHaveCounted m.0.role)
 
--- stop was loaded: what was set is set
+-- stop was loaded: the bits found set are set
 abbrev pub sees_stop : Seated → ℕ → Seated → Type 0
 sees_stop m r n = (n ≡ (view m.0.role m.0.cores (stop_step r m.0.trace), m.1)) × Covers m.0.trace.stop.value r
 
@@ -27,6 +27,6 @@ abbrev pub stops : ℕ → Seated → ℕ → Seated → Type 0
 stops mask m r n = (n ≡ (view m.0.role m.0.cores (stop_step (bit_or r mask) m.0.trace), m.1))
     × Covers m.0.trace.stop.value (bit_or r mask)
 
--- a watcher came, whose first load of stop found this
+-- a watcher's seat was added, and its first load of stop found this
 abbrev pub enters : Seated → ℕ → Seated → Type 0
 enters first r n = n ≡ (view Watcher first.0.cores (stop_step r untraced), [])

@@ -1,4 +1,4 @@
--- What the seats at the control words know, and what each kind of step changes in it.
+-- What the seats at the control words know, and how each kind of step changes it.
 use Rattle.std.specs.Prelude.{◌≡◌, ℕ, ◌+◌, Bool, true, false}
 use Rattle.std.specs.Int.{bit_at}
 use Rattle.zy_control.specs.declared.view.Sight.{Sight}
@@ -9,13 +9,13 @@ use Rattle.zy_control.specs.declared.view.View.{View}
 
 -- ---- roles
 
--- how many seats the root gave
+-- the number of seats that the root gave
 abbrev pub given_by : Role → ℕ
 given_by (Root given) = given
 given_by (Core number counted) = 0
 given_by Watcher = 0
 
--- the number of the core; no other seat has one
+-- the number of the core; 0 for any other seat
 abbrev pub number_of : Role → ℕ
 number_of (Root given) = 0
 number_of (Core number counted) = number
@@ -33,13 +33,13 @@ IsUncounted (Root given) = ⊥
 IsUncounted (Core number counted) = counted ≡ false
 IsUncounted Watcher = ⊥
 
--- the seat, where it is of a core, has counted itself
+-- the seat has counted itself if it is of a core
 abbrev pub MustHaveCounted : Role → Type 0
 MustHaveCounted (Root given) = Unit {0}
 MustHaveCounted (Core number counted) = counted ≡ true
 MustHaveCounted Watcher = Unit {0}
 
--- what a core is once it has counted itself
+-- a core after it has counted itself
 abbrev pub counted : Role → Role
 counted (Root given) = Root given
 counted (Core number has) = Core number true
@@ -55,11 +55,11 @@ sight value step = record { value = value; step = step }
 abbrev pub untraced : Trace
 untraced = record { steps = 0; done = sight 0 0; stop = sight 0 0 }
 
--- a step on done, after which it held this
+-- a step on done, after which it had this value
 abbrev pub done_step : ℕ → Trace → Trace
 done_step value t = record t { steps = t.steps + 1; done = sight value (t.steps + 1) }
 
--- a step on stop, after which it held this
+-- a step on stop, after which it had this value
 abbrev pub stop_step : ℕ → Trace → Trace
 stop_step value t = record t { steps = t.steps + 1; stop = sight value (t.steps + 1) }
 
@@ -85,6 +85,6 @@ gave_one Watcher = Watcher
 abbrev pub gave : View → View
 gave v = view (gave_one v.role) v.cores v.trace
 
--- which is that of the next core
+-- the seat given, which is that of the next core
 abbrev pub newcomer : View → View
 newcomer v = view (Core (given_by v.role) false) v.cores untraced

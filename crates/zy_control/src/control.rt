@@ -17,7 +17,7 @@ const DONE: usize = 0;
 
 const STOP: usize = 1;
 
-// The rule of the control words: what is so between any two steps.
+// The rule of the control words, which holds between any two steps.
 pub(crate) struct Rule;
 
 impl TableRule<u8, View, u64> for Rule {
@@ -29,7 +29,7 @@ impl TableRule<u8, View, u64> for Rule {
     ghost first = { root_view };
 }
 
-/// The words done and stop. Contracts see which table they are, and how many cores there are.
+/// The words done and stop. Contracts see which table they are, and the number of cores.
 #[derive(Drop)]
 pub struct Control {
     table: Table<u8, View, u64, Rule, Global>,
@@ -48,7 +48,7 @@ impl Model for Control {
 }
 
 impl Control {
-    /// The words of so many cores, of which none is done, and their root.
+    /// The words of `cores` cores, of which none is done, and their root.
     pub fn new(alloc: Global, cores: u64) -> Result<(Control, ControlRoot), NoMemory>
         ensures cores { IfOk result (λ made. made.0.cores ≡ cores) }
         ensures root { IfOk result (λ made. made.1 ≡ rooted made.0.id 0 cores) }
@@ -86,8 +86,8 @@ impl Control {
         })
     }
 
-    /// A pass of a watcher, which never counts itself: it is made by its first load of stop, and says
-    /// whether the cores are to stop.
+    /// A pass of a watcher, which never counts itself, and whether the cores are to stop. The pass
+    /// is made by its first load of stop.
     pub fn watch(&self) -> (ControlPass, bool)
         ensures value { result.0 ≡ watching self.now result.0.trace.stop.value }
         ensures stop { result.1 ≡ not (result.0.trace.stop.value == 0) }
@@ -115,7 +115,7 @@ impl Control {
         pass.counted = true;
     }
 
-    /// Whether all cores have counted themselves, as one load of done tells. Then this core has.
+    /// Whether all cores have counted themselves, by one load of done. If so, this core is among them.
     pub fn is_done(&self, pass: &mut ControlPass) -> bool
         requires table { pass.old.table ≡ self.now.id }
         ensures value { result ≡ (pass.new.trace.done.value == pass.old.cores) }
@@ -127,7 +127,7 @@ impl Control {
         done == pass.cores
     }
 
-    /// Tells all cores to stop: bit 0 of stop is set.
+    /// Asks all cores to stop: bit 0 of stop is set.
     pub fn stop(&self, pass: &mut ControlPass)
         requires table { pass.old.table ≡ self.now.id }
         ensures pass { pass.new ≡ seeing_stop pass.new.trace.stop.value pass.old }
@@ -137,7 +137,7 @@ impl Control {
         self.table.shared.fetch_or::<Stops>(&mut pass.seat, STOP, 1);
     }
 
-    /// Whether the cores are to stop, as one load of stop tells.
+    /// Whether the cores are to stop, by one load of stop.
     pub fn is_stopped(&self, pass: &mut ControlPass) -> bool
         requires table { pass.old.table ≡ self.now.id }
         ensures value { result ≡ not (pass.new.trace.stop.value == 0) }

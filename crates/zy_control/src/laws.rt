@@ -7,7 +7,7 @@ ghost use Rattle.zy_control.specs.declared.view.View.{View};
 ghost use Rattle.zy_control.specs.View.{MustHaveCounted};
 ghost use Rattle.zy_control.specs.ControlRule.{ControlRule};
 
-/// Where done is the number of cores, each seat of a core has counted itself.
+/// When done is the number of cores, each seat of a core has counted itself.
 #[tactic(auto, using(crate::proofs::MoveLemmas::where_all_counted))]
 pub fn all_cores_have_counted_themselves_where_done_says_so()
     ensures value { (cores : ℕ) (s : State ℕ View) (j : ℕ) (v : View) → ControlRule cores s

@@ -1,4 +1,5 @@
-//! The control words that the cores of a run share: how many of them are done, and whether they are to stop.
+//! The control words that the cores of a run share: the number of cores that are done, and whether
+//! all are to stop.
 #![tactic(auto)]
 
 mod control;

@@ -6,8 +6,8 @@ use crate::view::View;
 use atomic_table::Seat;
 use std::marker::Model;
 
-/// The right to give each core its pass. Contracts see how many it gave, and how many cores there
-/// are.
+/// The right to give each core its pass. Contracts see the number of passes that it gave, and the
+/// number of cores.
 #[derive(Drop)]
 pub struct ControlRoot {
     pub(crate) seat: Seat<u8, View>,
@@ -26,8 +26,8 @@ impl Model for ControlRoot {
     ghost invariant = { λ r. IsRootSeat r.given r.cores r.seat.me };
 }
 
-/// The right of a core, or of a watcher, to make steps. Contracts see its role, how many cores there
-/// are, and what it has seen.
+/// The right of a core, or of a watcher, to make steps. Contracts see its role, the number of
+/// cores, and what it has seen.
 #[derive(Drop)]
 pub struct ControlPass {
     pub(crate) seat: Seat<u8, View>,

@@ -26,14 +26,14 @@ module _ {X : Type 0} where
   empty_each P [] e = tt
   empty_each P (g ∷ gs) e = (subst (Each P) (sym e.0) (λ i x at. absurd (cc)), empty_each P gs e.1)
 
-  -- what is so of each that is dealt is so of each in the groups
+  -- what holds of each member that is dealt holds of each member of the groups
   pub dealt_each : (P : X → Type 0) (gs : List (List X)) (xs : List X) → Deals gs xs → Each P xs → EachOfAll P gs
   dealt_each P gs [] d all = empty_each P gs d
   dealt_each P gs (x ∷ xs) d all =
       let r = each_last P d.1 d.0 (dealt_each P (d.1 ++ d.0 ∷ []) xs d.3 (λ i y at. all (suc i) y at)) in
       subst (EachOfAll P) (sym d.2) (each_more P x d.0 (all 0 x refl) r.1, r.0)
 
-  -- what is so of each in the groups is so of each that is gathered
+  -- what holds of each member of the groups holds of each that is gathered
   pub gathered_each : (P : X → Type 0) (n : ℕ) (gs : List (List X)) → EachOfAll P gs → Each P (gathered n gs)
   gathered_each P zero gs h i x at = absurd (cc)
   gathered_each P (suc n) [] h i x at = absurd (cc)
@@ -128,12 +128,12 @@ module _ {X : Type 0} where
 
   -- ---- groups that are made
 
-  -- one more that has room
+  -- one further group that has room
   pub room_last : (n : ℕ) (gs : List (Vec X Global)) (g : Vec X Global) → HaveRoom n gs → vec_len g + n ≤ vec_capacity g → HaveRoom n (gs ++ g ∷ [])
   room_last n [] g room has = (has, tt)
   room_last n (x ∷ xs) g room has = (room.0, room_last n xs g room.1 has)
 
-  -- one more that is empty
+  -- one further group that is empty
   pub empty_last : (gs : List (Vec X Global)) (g : Vec X Global) → AreEmpty (lists_of gs) → g.items ≡ [] → AreEmpty (lists_of (gs ++ g ∷ []))
   empty_last [] g all is = (is, tt)
   empty_last (x ∷ xs) g all is = (all.0, empty_last xs g all.1 is)

@@ -63,19 +63,19 @@ all_settled (g ∷ gs) all = (all.0, all_settled gs all.1)
 pub gather_settled : (n : ℕ) (gs : List (Vec Core Global)) (back : List Cored) → AllSettled gs → back ≡ gathered n (lists_of gs) → EachSettled back
 gather_settled n gs back all is = subst EachSettled (sym is) (gathered_each (λ (c : Cored). is_settled c.home ≡ true) n (lists_of gs) (all_settled gs all))
 
--- one more group of settled cores
+-- one further group of settled cores
 pub settled_last : (gs : List (Vec Core Global)) (g : Vec Core Global) → AllSettled gs → EachSettled g.items → AllSettled (gs ++ g ∷ [])
 settled_last [] g all here = (here, tt)
 settled_last (x ∷ xs) g all here = (all.0, settled_last xs g all.1 here)
 
 -- ---- groups that come back
 
--- what stays of one more group
+-- what stays of one further group
 pub groups_last : (gs : List (Vec Core Global)) (g : Vec Core Global) → all_of_groups (gs ++ g ∷ []) ≡ all_of_groups gs ++ identities g.items ∷ []
 groups_last [] g = refl
 groups_last (x ∷ xs) g = ap (λ l. identities x.items ∷ l) (groups_last xs g)
 
--- the first of a list is taken, and what it measures is put behind others
+-- the first of a list is taken, and its image is put after others
 pub taken_on : {X Y : Type 0} (f : X → Y) (bs : List Y) (xs : List X) (x : X) (ys : List X) (y : Y) → 0 < length xs → x ≡ get_or xs 0 x → ys ≡ remove xs 0 → y ≡ f x → (bs ++ y ∷ []) ++ map f ys ≡ bs ++ map f xs
 taken_on f bs [] x ys y some first rest is = absurd (omega arith)
 taken_on f bs (z ∷ zs) x ys y some first rest is =

@@ -16,8 +16,8 @@ use Rattle.zy_core.specs.Share.{Sharing}
 
 -- ---- values
 
--- a core: its home, who it is as a thief with its passes on the other rings, the end of its receive ring, its pass on
--- the control words, and how many turns it has taken
+-- a core: its home, its view as a thief with its passes on the other rings, the end of its receive
+-- ring, its pass on the control words, and the number of its turns
 pub record Cored : Type 0 where
   pub home : Homed
   pub thief : Thief
@@ -39,7 +39,7 @@ pub record AreOfOne (home : Homed) (thief : Thief) (passes : PassList Blocked) :
   pub passes_core : passes.core ≡ home.core
   pub passes_count : length passes.items + 1 ≡ home.cores
 
--- what is so of each core between two turns
+-- the rule that each core keeps between two turns
 pub record CoreKeeps (c : Cored) : Type 0 where
   pub core : c.home.core < c.home.cores
   pub cores : c.home.cores ≤ 64
@@ -57,9 +57,9 @@ pub record CoreKeeps (c : Cored) : Type 0 where
 
 -- ---- what stays
 
--- what no turn changes of a core: its number, of how many, the connections that are its own, its ring with that
--- ring's label, the tables of its passes with what is in their hands, the end of its receive ring, and its control
--- words
+-- the parts of a core that no turn changes: its number, the number of cores, its own connections,
+-- its ring with the ring's label, the tables of its passes with what is in their hands, the end of
+-- its receive ring, and its control words
 pub record Identity : Type 0 where
   pub core : ℕ
   pub cores : ℕ

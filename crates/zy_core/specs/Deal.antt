@@ -19,7 +19,7 @@ module _ {X : Type 0} where
   Deals groups (x ∷ xs) =
       (group : List X) × (others : List (List X)) × (groups ≡ (x ∷ group) ∷ others) × Deals (others ++ group ∷ []) xs
 
-  -- what is taken so in so many steps
+  -- the first n members that are taken in this way
   abbrev pub gathered : ℕ → List (List X) → List X
   gathered zero groups = []
   gathered (suc n) [] = []
@@ -33,18 +33,18 @@ module _ {X : Type 0} where
     pub was : before ≡ (x ∷ group) ∷ others
     pub is : after ≡ others ++ group ∷ []
 
-  -- and where there is none
+  -- there is no member to take
   abbrev pub HasNoFirst : List (List X) → Type 0
   HasNoFirst [] = Unit {0}
   HasNoFirst ([] ∷ groups) = Unit {0}
   HasNoFirst ((x ∷ group) ∷ groups) = ⊥
 
-  -- each group has room for n more
+  -- each group has room for n further members
   abbrev pub HaveRoom : ℕ → List (Vec X Global) → Type 0
   HaveRoom n [] = Unit {0}
   HaveRoom n (group ∷ groups) = (vec_len group + n ≤ vec_capacity group) × HaveRoom n groups
 
-  -- this is so of each member of a list
+  -- each member of a list has this property
   abbrev pub Each : (X → Type 0) → List X → Type 0
   Each P xs = (i : ℕ) (x : X) → slice_get xs i ≡ Some x → P x
 

@@ -11,7 +11,7 @@ use Rattle.zy_core.specs.Core.{Cored, Identity, identity_of, Fits}
 abbrev pub identities : List Cored → List Identity
 identities cores = map identity_of cores
 
--- each is a core of what is shared
+-- each is a core of the shared parts
 unfoldable pub EachFits : Sharing → List Identity → Type 0
 EachFits shared ids = (i : ℕ) (d : Identity) → slice_get ids i ≡ Some d → Fits shared d
 

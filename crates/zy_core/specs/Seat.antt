@@ -20,7 +20,7 @@ all_of_seats seats = map seat_identities seats
 abbrev pub all_of_groups : List (Vec Core Global) → List (List Identity)
 all_of_groups groups = map (λ (g : Vec Core Global). identities g.items) groups
 
--- each core of each is one of what is shared
+-- each core of each group is one of the shared parts
 abbrev pub AllFit : Sharing → List (List Identity) → Type 0
 AllFit shared [] = ⊤
 AllFit shared (ids ∷ rest) = EachFits shared ids × AllFit shared rest

@@ -1,4 +1,4 @@
--- What a core's one steal in a turn comes to.
+-- The steal of a core in a turn.
 use Rattle.std.specs.Prelude.{ℕ, List, Option, Some, None}
 use Rattle.zy_home.specs.Idle.{mark_in}
 use Rattle.zy_home.specs.Place.{label_in}

@@ -12,6 +12,6 @@ pub record Kin (h h' : Homed) : Type 0 where
   pub label : h'.pass.label ≡ h.pass.label
   pub out : h'.pass.out ≡ h.pass.out
 
--- where each block is in the hand, it stays there, and no memory is wanted
+-- where each block is in the hand, it stays there, and no memory is refused
 abbrev pub IsStill : Homed → Homed → Type 0
 IsStill h h' = all_here h.blocks ≡ true → (h'.blocks ≡ h.blocks) × (h'.refused ≡ h.refused)

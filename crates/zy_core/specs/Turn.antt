@@ -1,4 +1,4 @@
--- What a turn of a core comes to: its steps, and its answer.
+-- A turn of a core: its steps, and its answer.
 use Rattle.std.specs.Prelude.{◌≡◌, ◌⊎◌, ℕ, ◌+◌, ◌<◌, ◌≤◌, List, [], length, Bool, true, false, Option, Some, None}
 use Rattle.zy_rx.specs.Ring.{Taking}
 use Rattle.zy_conn.specs.declared.hold_end.HoldEnd.{HoldEnd}
@@ -16,7 +16,8 @@ use Rattle.zy_core.specs.Core.{Cored}
 
 -- ---- the steps
 
--- items were received: some, at most 64, and fewer only where no more was known after the last look
+-- items were received: at least one, at most 64, and fewer than 64 only if no further item was
+-- known after the last look
 pub record Receives (before after : Taking) : Type 0 where
   pub some : length before.taken < length after.taken
   pub most : length after.taken ≤ length before.taken + 64

@@ -8,6 +8,6 @@ pub enum Driven {
     Settled(Cores),
     /// The feeder is broken.
     Broken(Cores),
-    /// Memory was wanted.
+    /// An allocation was refused.
     NoMemory(Cores),
 }

@@ -5,8 +5,8 @@ ghost use Rattle.zy_rx.specs.Feed.{rings_of};
 use std::sync::Wait;
 use zy_rx::{Fed, Feeder};
 
-// Steps of a feeder that has not ended, until an item is handed back. Says whether it has ended, and
-// nothing where it is broken.
+// Makes steps of a feeder that has not ended, until an item is handed back. Returns whether it has
+// ended, and `None` if it is broken.
 pub(crate) fn feed<R: Wait, F: Feeder>(rt: &R, feeder: &mut F, is_ended: bool) -> Option<bool>
     requires ended { is_ended ≡ true → F.ended feeder.old }
     requires fresh { is_ended ≡ false → ¬ F.ended feeder.old × ¬ F.broken feeder.old }

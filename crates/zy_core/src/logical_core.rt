@@ -74,8 +74,8 @@ impl Core {
         }
     }
 
-    /// A turn: items are received, blocks are collected, one block is claimed, and where none was one
-    /// is stolen. After want of memory no block of another core is in the core's hand.
+    /// A turn: items are received, blocks are collected, one block is claimed, and if there was
+    /// none, one is stolen. After `NoMemory` no block of another core is in the core's hand.
     pub fn turn<G: Gate>(&mut self, shared: &Shared, gate: &G) -> Result<Turn, NoMemory>
         requires fits { Fits shared.now (identity_of self.old) }
         requires few { self.old.turns < 2 ^ 48 }
@@ -122,7 +122,7 @@ impl Core {
         feeder.meet(self.number, &mut self.outlet);
     }
 
-    // The core counts itself where it is settled and has not done so.
+    // The core counts itself if it is settled and has not done so yet.
     pub(crate) fn note(&mut self, shared: &Shared)
         requires fits { Fits shared.now (identity_of self.old) }
         ensures same { identity_of self.new ≡ identity_of self.old }

@@ -19,9 +19,9 @@ use zy_base::{Gate, NoMemory};
 use zy_rx::Feeder;
 
 /// Drives the cores on the caller's thread: the feeder offers items until one is handed back or all
-/// are offered, then each core takes a turn, and so on until all is settled. A round begins with core
-/// 0, or with the next draw of the order, and goes on by number. Each core meets the feeder before its
-/// turn. The call may wait.
+/// are offered, then each core takes a turn, and so on until all is settled. A round begins with
+/// core 0, or with the next draw of the order, and goes on by number. Each core meets the feeder
+/// before its turn. The call may wait.
 pub fn drive_ordered<R: Wait, F: Feeder, G: Gate>(
     rt: &R,
     cores: Cores,

@@ -8,7 +8,7 @@ use crate::shared::Shared;
 use crate::turn::Turn;
 use zy_base::{Gate, NoMemory};
 
-// A core takes no more turns than this.
+// The largest number of turns of a core.
 const MOST: u64 = 1 << 48;
 
 // A turn of one core, where it may take one. Says whether it worked.

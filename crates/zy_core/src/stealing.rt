@@ -9,8 +9,8 @@ use zy_base::{Gate, NoMemory};
 use zy_conn::Block;
 use zy_steal::{Looks, Passes, Rings, Stolen, Victims};
 
-// Steals once. A block that was taken is held and given back, also where its hold wanted memory;
-// where none was taken, the looks at the other cores are the answer.
+// Steals once. A block that was taken is held and given back, even if its hold was refused memory;
+// if none was taken, the looks at the other cores are the answer.
 pub(crate) fn steal_once<G: Gate>(
     victims: &mut Victims,
     passes: &mut Passes<Block>,

@@ -44,8 +44,8 @@ pub(crate) fn receive_all(
     Ok(true)
 }
 
-// Collects and settles blocks until none is there, or there were as many as the home has places. Says
-// whether there was one.
+// Collects and settles blocks until there is none, or as many were collected as the home has
+// places. Returns whether there was one.
 pub(crate) fn collect_all(home: &mut Home, ring: &Ring<Block>) -> Result<bool, NoMemory>
     requires table { home.old.pass.table ≡ ring.now.id }
     requires few { home.old.pass.count < 2 ^ 62 }
@@ -65,7 +65,7 @@ pub(crate) fn collect_all(home: &mut Home, ring: &Ring<Block>) -> Result<bool, N
     Ok(true)
 }
 
-// Collects and settles further blocks, until none is there, or there were as many as these places.
+// Collects and settles further blocks, until there is none, or `places` were collected.
 fn collect_more(home: &mut Home, ring: &Ring<Block>, places: u32) -> Result<(), NoMemory>
     requires table { home.old.pass.table ≡ ring.now.id }
     requires few { home.old.pass.count ≤ 2 ^ 62 }

@@ -30,9 +30,9 @@ use std::thread::Threads;
 use zy_base::Gate;
 use zy_rx::Feeder;
 
-/// Drives the cores on threads while the caller feeds them: thread `t` of so many has the cores `i`
-/// with `i` modulo that number `t`. The cores whose thread is refused are driven by the caller. The
-/// call may wait.
+/// Drives the cores on `threads` threads while the caller feeds them: thread `t` has the cores `i`
+/// with `i` modulo `threads` equal to `t`. The caller drives the cores whose thread was refused.
+/// The call may wait.
 pub fn drive<R: Threads + Wait + Sync, F: Feeder, G: Gate + Sync>(
     rt: &R,
     alloc: Global,

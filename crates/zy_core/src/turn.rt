@@ -1,4 +1,4 @@
-//! What a turn came to.
+//! The answer of a turn.
 ghost use Rattle.std.specs.Prelude.{◌≡◌, ◌||◌};
 ghost use Rattle.zy_home.specs.Home.{is_settled};
 ghost use Rattle.zy_core.specs.Turn.{answer};
@@ -6,15 +6,15 @@ ghost use Rattle.zy_core.specs.Turn.{answer};
 use zy_home::Home;
 use zy_steal::{Look, Looks};
 
-/// What a turn of a core came to.
+/// The answer of a turn of a core.
 #[derive(Drop)]
 pub enum Turn {
     /// An item was received, or a block was collected, claimed or stolen.
     Worked,
-    /// Nothing was, and the core is not settled: its own claim found this, and those at the others
-    /// that.
+    /// The turn found nothing to do, and the core is not settled. `own` says why its own claim took
+    /// nothing, and `looks` why each claim at another core did.
     Idle { own: Look, looks: Looks },
-    /// Nothing was, and the core is settled.
+    /// The turn found nothing to do, and the core is settled.
     Settled { looks: Looks },
 }
 

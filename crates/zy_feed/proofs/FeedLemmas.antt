@@ -1,4 +1,4 @@
--- What a step of a feeder does to what it stands for.
+-- The effect of a feeder's step on what it has read and sent.
 use Rattle.std.proofs.Common.{◌≡◌, ◌≢◌, ◌⊎◌, inl, inr, ℕ, ◌+◌, ◌<◌, ◌≤◌, Bool, true, false, List, [], ◌∷◌, ◌++◌, length, set, refl, sym, ◌∙◌, ap, subst, arith, length-set}
 use Rattle.std.specs.Prelude.{◌==◌, nat_lt, Option, None, Some, slice_get, Result, Ok, Err}
 use Rattle.std.proofs.lemmas.List.{append-nil, length-map}
@@ -29,7 +29,7 @@ kept_here cores core item is = rw is refl
 kept_else : (cores core : ℕ) (item : Rx) → (home_in cores item == core) ≡ false → kept_for cores core item ≡ []
 kept_else cores core item is = rw is refl
 
--- the item of a record more is for its home alone
+-- the item of a further record is for its home alone
 routed_by : (cores core : ℕ) (records : List Record) (last : Record) (here : Bool) → (home_in cores (item_of last) == core) ≡ here
     → ((home_in cores (item_of last) == core) ≡ true → items_for cores core (records ++ last ∷ []) ≡ items_for cores core records ++ item_of last ∷ [])
     → ((home_in cores (item_of last) == core) ≡ false → items_for cores core (records ++ last ∷ []) ≡ items_for cores core records)
@@ -44,7 +44,7 @@ routed cores core records (Kinds.Segment s) =
 routed cores core records (Kinds.Close conn) =
     routed_by cores core records (Kinds.Close conn) (home_of cores conn == core) refl (items_for-push cores core records (Kinds.Close conn)) (items_for-push_other cores core records (Kinds.Close conn))
 
--- ---- one core was sent one item more
+-- ---- one core was sent one further item
 
 -- what a core was sent, after one was sent something new
 sent_after : (sents : List (List Rx)) (core home : ℕ) (new sent : List Rx) → slice_get (set sents home new) core ≡ Some sent
@@ -65,7 +65,7 @@ same_test a b is = grind (arith, nat_tests)
 other_test : (a b : ℕ) → a ≢ b → (a == b) ≡ false
 other_test a b is = grind (arith, nat_tests)
 
--- the cores are as many as the inlets
+-- there is a core for each inlet
 cores_are : (inlets : List Offering) → length (sent_by inlets) ≡ length inlets
 cores_are inlets = length-map inlets (λ (i : Offering). i.sent)
 
@@ -123,7 +123,7 @@ cut_stops rest faults old now p q inlets result stop is count cuts first records
 
 -- ---- an item is offered
 
--- a feeder that stands for the same records and bytes with other inlets and in another stage
+-- a feeder that has read the same records and bytes, with other inlets and in another stage
 onward : {S : Type 0} (rest : S → Option (List ℕ)) (faults : S → ℕ) (first : S) (g : Feeding S) (records : List Record) (bytes : List ℕ) → Stands rest faults first g records bytes
     → (more : List Record) × ((fed : List ℕ) × Stands rest faults first g (records ++ more) (bytes ++ fed))
 onward rest faults first g records bytes stands = ([], ([], rw (append-nil records, append-nil bytes) stands))

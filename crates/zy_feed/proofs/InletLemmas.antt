@@ -27,7 +27,7 @@ map_at f [] i x is = cc
 map_at f (y ∷ xs) zero x is = let same : y ≡ x = cc in ap (λ z. Some (f z)) same
 map_at f (y ∷ xs) (suc i) x is = map_at f xs i x is
 
--- one inlet changed, and f cannot tell
+-- one inlet changed in a way that `f` does not see
 same_mapped : {B : Type 0} (f : Offering → B) (inlets : List Offering) (core : ℕ) (old new : Offering) → slice_get inlets core ≡ Some old → f new ≡ f old → map f (set inlets core new) ≡ map f inlets
 same_mapped f inlets core old new at same =
     map-set f inlets core new ∙ ap (λ z. set (map f inlets) core z) same ∙ set-same (map f inlets) core (f old) (map_at f inlets core old at)

@@ -25,21 +25,21 @@ use Rattle.zy_capture.proofs.ByteLemmas.{chosen}
 use Rattle.zy_capture.proofs.TellLemmas.{IsPastCount}
 use Rattle.zy_feed.proofs.StepLemmas.{Stays, step_gave, text_stays}
 
--- ---- what is lawful where this is due
+-- ---- what is lawful, by what is expected
 
 -- the version is known, and the count not too large
 record IsBegun (p : Progress) : Type 0 where
   known : IsVersion p.version
   few : p.count ≤ connection_limit
 
--- a segment that is due is one of the capture
+-- an expected segment is one of the capture
 record IsSegment (conn size : ℕ) (p : Progress) : Type 0 where
   begun : IsBegun p
   conn_few : conn < p.count
   size_few : size ≤ segment_limit
   more : length p.payload < size
 
--- a close record is due in version 2 alone
+-- a close record is expected in version 2 alone
 record IsClose (p : Progress) : Type 0 where
   begun : IsBegun p
   two : p.version ≡ 2
@@ -54,18 +54,18 @@ IsSound Closed p = IsClose p
 IsSound (Broken fault) p = ⊤
 IsSound due p = IsBegun p
 
--- how many bytes were read of the close record that is due
+-- the number of bytes that were read of the expected close record
 abbrev spent_on : Due → Progress → ℕ
 spent_on Closed p = 1 + length p.field
 spent_on due p = 0
 
--- what a byte does to what is lawful, where this is due
+-- the effect of a byte on what is lawful, where this is expected
 record Goes (due : Due) (p : Progress) (s : Step) : Type 0 where
   sound : IsSound s.next.due s.next
   gave : (r : Record) → s.gave ≡ Some r → IsRecordOf p.version p.count r
   spent : (conn : ℕ) → 5 * closes conn (option_to_list s.gave) + spent_on s.next.due s.next ≤ 1 + spent_on due p
 
--- the byte ends no record, and a further byte of a close record is due at most after it
+-- the byte ends no record, and after it at most one further byte of a close record was read
 goes_plain : (due : Due) (p next : Progress) → IsSound next.due next → spent_on next.due next ≤ 1 + spent_on due p → Goes due p (record { next = next; gave = None })
 goes_plain due p next sound spent = record { sound = sound; gave = λ r e. cc; spent = λ conn. omega (arith, spent) }
 
@@ -108,7 +108,7 @@ second_of : (a b : Bool) → (a && b) ≡ true → b ≡ true
 second_of true b is = is
 second_of false b is = cc
 
--- ---- a byte, by what is due
+-- ---- a byte, by what is expected
 
 magic_goes : (part : MagicPart) (p : Progress) (s : MagicStep) → StaysKnown s → Goes (Magic part) p (after_magic p s)
 magic_goes part p (Next next) known = goes_plain (Magic part) p _ known (omega arith)
@@ -206,7 +206,7 @@ text_spent conn (byte ∷ text) p sound =
     let on = text_spent conn text (stepped p byte) (goes_step p byte sound).sound in
     omega (arith, one, on, closes_on conn (step p byte).gave (read_from (stepped p byte) text).given)
 
--- a version that was told is 1 or 2
+-- a version that was read is 1 or 2
 known_at : (due : Due) (p : Progress) → fault_in due ≡ None → IsPastCount due → IsSound due p → IsVersion p.version
 known_at Tag p clean past sound = sound.known
 known_at Connection p clean past sound = sound.known

@@ -1,4 +1,4 @@
--- What is left of a piece of which some first bytes were taken.
+-- The rest of a piece, the first bytes of which were taken.
 use Rattle.std.proofs.Common.{◌≡◌, ℕ, ◌<◌, ◌≤◌, List, ◌++◌, length, take, drop, take-take, length-take, sym, ◌∙◌, ap, arith}
 use Rattle.std.specs.Prelude.{Option, Result, Ok}
 use Rattle.std.proofs.lemmas.List.{length-take-le, take-append-drop}
@@ -10,7 +10,7 @@ use Rattle.zy_capture.specs.Steps.{Progress}
 use Rattle.zy_capture.specs.Verdict.{captures}
 use Rattle.zy_feed.specs.Reads.{in_pieces, TakesFirst}
 
--- the reader took some first bytes of what is left of the piece
+-- the reader took the first bytes of the rest of the piece
 pub piece_taken : (most n taken : ℕ) (old new : Progress) (left bytes : List ℕ) (answer : Result (Option Record) (NotTaken CaptureFault)) → bytes ≡ take n left → n ≤ most → taken ≤ length bytes
     → ((gave : Option Record) → answer ≡ Ok gave → 0 < taken)
     → Feeds captures old new (take taken bytes) (given_in answer) → TellsFault captures old (take taken bytes) answer → TellsLasting captures old (take taken bytes) answer

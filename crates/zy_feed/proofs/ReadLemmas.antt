@@ -29,7 +29,7 @@ use Rattle.zy_feed.proofs.LawfulLemmas.{known_version, lawful_records}
 use Rattle.zy_capture.proofs.TellLemmas.{IsPastCount, past_count}
 use Rattle.zy_feed.proofs.StepLemmas.{Stays, step_gave, text_stays, text_short}
 
--- ---- one answer more
+-- ---- one further answer
 
 -- what was read after the source gave the next piece
 pub given_more : {S : Type 0} (rest : S → Option (List ℕ)) (faults : S → ℕ) (first old now : S) (p q : Intake) (records : List Record) (bytes : List ℕ) → q.reader ≡ p.reader → HasRead rest faults first old p records bytes
@@ -83,7 +83,7 @@ pub has_few : {S : Type 0} (rest : S → Option (List ℕ)) (faults : S → ℕ)
 unfolding fault_met reading_of
 has_few rest faults first now p records bytes has = omega (arith, text_short bytes start (omega arith) has.clean)
 
--- so no stop needs a cause after so many
+-- so after this many bytes no stop needs a cause
 pub too_long : {S : Type 0} (rest : S → Option (List ℕ)) (faults : S → ℕ) (first now : S) (p : Intake) (records : List Record) (bytes more : List ℕ) (n : ℕ) (stop : Stop CaptureFault) → 18446744073709551615 ≤ n → n ≤ length more → HasRead rest faults first now p records (bytes ++ more) → StopsBy rest faults first now stop
 too_long rest faults first now p records bytes more n stop over within has = absurd (omega (arith, over, within, length-append bytes more, has_few rest faults first now p records (bytes ++ more) has))
 
@@ -106,7 +106,7 @@ told_version : (version : ℕ) → (version ≡ 1) ⊎ (version ≡ 2) → versi
 told_version version (inl one) = rw one refl
 told_version version (inr two) = rw two refl
 
--- after the count, version and count are told
+-- after the count, version and count are known
 past_told : (p : Progress) (given : List Record) (b : List ℕ) → StandsFor p given b → fault_of b ≡ None → IsPastCount p.due → TellsHeader b (record { version = p.version; count = p.count })
 unfolding fault_met reading_of StandsAs
 past_told p given b stands clean past =
@@ -147,7 +147,7 @@ pub end_absurd : {S : Type 0} (rest : S → Option (List ℕ)) (faults : S → �
 end_absurd rest faults first now q bytes none all =
     not_early q.reader [] bytes all.reads.reader all.reads.clean (subst IsPastCount (sym (whole_due q.reader [] bytes all.reads.reader all.good)) tt) none
 
--- what was told stays
+-- what was read stays
 pub told_stays : (text more : List ℕ) (header : Header) → TellsHeader text header → TellsHeader (text ++ more) header
 unfolding version_of count_of reading_of StandsAs
 told_stays text more header told =
@@ -160,7 +160,7 @@ told_stays text more header told =
     let count : count_of (text ++ more) ≡ Some header.count = ap (λ (q : Progress). count_in q.due q.count) last ∙ past_count (read_from r.last more).last.due (read_from r.last more).last.count stays.1.1 ∙ ap (λ (n : ℕ). Some n) (stays.1.0 ∙ counts.1) in
     (version, count)
 
--- a capture has the version and the count that it told
+-- a capture has the version and the count that were read
 header_is : (p : Progress) (given : List Record) (b : List ℕ) (header : Header) → StandsFor p given b → p.due ≡ Nothing → TellsHeader b header → (p.version ≡ header.version) × (p.count ≡ header.count)
 header_is p given b header stands due told =
     let version : p.version ≡ header.version = version_is p.version header.version (sym (version_here p given b stands) ∙ told.0) in

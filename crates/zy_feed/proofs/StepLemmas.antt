@@ -1,4 +1,5 @@
--- What each byte of a capture keeps: the version and the count once they were told, and the number of bytes read.
+-- What each byte of a capture keeps: the version and the count once they were read, and the number
+-- of bytes read.
 use Rattle.std.proofs.Common.{◌≡◌, ℕ, ◌+◌, ◌<◌, ◌≤◌, true, false, List, [], ◌∷◌, ◌++◌, length, refl, sym, ◌∙◌, ap, subst, arith}
 use Rattle.std.specs.Prelude.{◌==◌, ◌&&◌, nat_lt, nat_le, Option, None, Some}
 use Rattle.std.specs.Int.{from_be_bytes, w32}
@@ -24,7 +25,7 @@ use Rattle.zy_capture.specs.Lasting.{lasting}
 abbrev pub Stays : Progress → Progress → Type 0
 Stays p q = (q.version ≡ p.version) × ((q.count ≡ p.count) × IsPastCount q.due)
 
--- what a byte keeps, where this is due
+-- what a byte keeps, where this is expected
 record Keeps (due : Due) (p : Progress) (s : Step) : Type 0 where
   goes : fault_in s.next.due ≡ None → (s.next.at ≡ p.at + 1) × (is_open due ≡ true)
   stays : IsPastCount due → Stays p s.next
@@ -124,7 +125,7 @@ clean_before text p clean = go (fault_in p.due) refl
         let last : (read_from p text).last ≡ p = ap (λ (r : Reading Progress Record). r.last) (read_broken captures lasting p fault text is) in
         let same : fault_in (read_from p text).last.due ≡ fault_in p.due = ap (λ (q : Progress). fault_in q.due) last in cc
 
--- a text without a fault has at most so many bytes
+-- a text without a fault has at most `capture_limit` bytes
 pub text_short : (text : List ℕ) (p : Progress) → p.at ≤ capture_limit → fault_in (read_from p text).last.due ≡ None → p.at + length text ≤ capture_limit
 unfolding read_on
 text_short [] p within clean = omega (arith, within)

@@ -24,7 +24,8 @@ use Rattle.zy_feed.specs.Reads.{Intake, HasRead, HasReadAll, StopsBy}
 
 -- ---- inlets
 
--- the core that an item is for, of so many; the end is for every core, and is counted to the first
+-- the one of `cores` cores for which an item is; the end is for every core, and is counted for the
+-- first
 abbrev pub home_in : ℕ → Rx → ℕ
 home_in cores (Segment conn bytes) = home_of cores conn
 home_in cores (Close conn) = home_of cores conn
@@ -38,7 +39,7 @@ pub record OffersTo (core : ℕ) (item : Rx) (before after : List Offering) : Ty
 
 -- ---- a feeder
 
--- its source, its capture in pieces, what each core was sent, and where it is
+-- a feeder: its source, its capture in pieces, what each core was sent, and its stage
 pub record Feeding (S : Type 0) : Type 0 where
   pub source : S
   pub intake : Intake
@@ -55,7 +56,7 @@ state_of f = feeding f.source.now f.intake f.inlets f.stage
 abbrev pub in_stage : {S : Type 0} → CaptureFeeder S → Stage → Feeding S
 in_stage f stage = feeding f.source.now f.intake f.inlets stage
 
--- what it broke by; none where it is not broken
+-- the reason why it broke; none if it is not broken
 abbrev pub stop_in : Stage → Option (Stop CaptureFault)
 stop_in (Broken stop) = Some stop
 stop_in stage = None
@@ -65,11 +66,11 @@ abbrev pub IsBroken : Stage → Type 0
 IsBroken (Broken stop) = ⊤
 IsBroken stage = ⊥
 
--- the end, where it was offered to this core: that is so of the cores below the next one
+-- the end, if it was offered to this core: it was to the cores below the next one
 abbrev pub end_before : ℕ → ℕ → List Rx
 end_before core next = if nat_lt core next then End ∷ [] else []
 
--- the item, where it is for this core
+-- the item, if it is for this core
 abbrev pub kept_for : ℕ → ℕ → Rx → List Rx
 kept_for cores core item = if home_in cores item == core then item ∷ [] else []
 
@@ -92,8 +93,8 @@ pub record HasStopped {S : Type 0} (rest : S → Option (List ℕ)) (faults : S 
   pub cause : StopsBy rest faults first now stop
   pub count : faults first ≤ faults now
 
--- what it has read, by where it is: these records of these bytes, the whole capture from the end of its records on,
--- or it stopped
+-- what it has read, by its stage: these records in these bytes, the whole capture once its records
+-- have ended, or it stopped
 abbrev pub IsReadTo : {S : Type 0} → (S → Option (List ℕ)) → (S → ℕ) → S → S → Intake → Stage → List Record → List ℕ
     → Type 0
 IsReadTo rest faults first now intake Cutting records bytes = HasRead rest faults first now intake records bytes
@@ -109,13 +110,13 @@ pub record Stands {S : Type 0} (rest : S → Option (List ℕ)) (faults : S → 
   pub read : IsReadTo rest faults first f.source f.intake f.stage records bytes
   pub sent : AreSent f.sents f.stage records
 
--- the later one has cut further records of further bytes, whatever the earlier one stands for
+-- the later feeder has cut further records from further bytes, whatever the earlier one has read
 abbrev pub Leads : {S : Type 0} → (S → Option (List ℕ)) → (S → ℕ) → Feeding S → Feeding S → Type 0
 Leads {S} rest faults f g =
     (first : S) (records : List Record) (bytes : List ℕ) → Stands rest faults first f records bytes
     → (more : List Record) × ((fed : List ℕ) × Stands rest faults first g (records ++ more) (bytes ++ fed))
 
--- what a step's answer says of inlets and stage
+-- what a step's answer means for inlets and stage
 pub record StepsTo (before after : List Offering) (stage : Stage) (fed : Fed) : Type 0 where
   pub offered : fed ≡ Answers.Offered → HasOffered before after
   pub kept : fed ≢ Answers.Offered → sent_by after ≡ sent_by before
@@ -130,8 +131,8 @@ pub record StepsTo (before after : List Offering) (stage : Stage) (fed : Fed) : 
 abbrev pub AreUnsent : List (List Rx) → Type 0
 AreUnsent sents = (core : ℕ) (sent : List Rx) → slice_get sents core ≡ Some sent → sent ≡ []
 
--- the source told a capture with this version and count and came to its end, and each core was sent the items of its
--- records that are for it, and then the end
+-- the source held a capture with this version and count and came to its end, and each core was sent
+-- the items of its records that are for it, followed by the end
 pub record HasFedAll {S : Type 0} (rest : S → Option (List ℕ)) (faults : S → ℕ) (first now : S) (header : Header)
     (sents : List (List Rx)) : Type 0 where
   pub records : List Record

@@ -33,8 +33,8 @@ in_pieces reader left = record { reader = reader; left = left }
 abbrev pub IsFresh : Intake → Type 0
 IsFresh intake = StandsFor intake.reader [] [] × (intake.left ≡ [])
 
--- these records were cut of these bytes, in which no fault was met; since a source was the first one it gave these
--- bytes, and then what is left of the piece
+-- these records were cut from these bytes, in which no fault was met; since the state `first`, a
+-- source gave these bytes, followed by those left of the piece
 pub record HasRead {S : Type 0} (rest : S → Option (List ℕ)) (faults : S → ℕ) (first now : S) (intake : Intake)
     (records : List Record) (bytes : List ℕ) : Type 0 where
   pub reader : StandsFor intake.reader records bytes
@@ -49,8 +49,8 @@ pub record HasReadAll {S : Type 0} (rest : S → Option (List ℕ)) (faults : S 
   pub none : intake.left ≡ []
   pub end : IsAtEnd (rest now)
 
--- the cause of each stop: the fault is the verdict on all that the source told at first, or its count of faults rose,
--- or stands at its last value; want of memory is free
+-- the cause of each stop: the fault is the verdict on all that the source held at first, if that is
+-- known; or its count of faults rose, or is at its largest value; `NoMemory` needs no cause
 abbrev pub StopsBy : {S : Type 0} → (S → Option (List ℕ)) → (S → ℕ) → S → S → Stop CaptureFault → Type 0
 StopsBy rest faults first now (Refused fault) = IfSome (rest first) (λ text. verdict text ≡ Bad fault)
 StopsBy rest faults first now ReadFault = Rose (faults first) (faults now)
@@ -58,22 +58,22 @@ StopsBy rest faults first now NoMemory = ⊤
 
 -- ---- the magic and the count
 
--- the bytes tell this version and this count
+-- this version and this count are read from the bytes
 abbrev pub TellsHeader : List ℕ → Header → Type 0
 TellsHeader bytes header = (version_of bytes ≡ Some header.version) × (count_of bytes ≡ Some header.count)
 
--- the bytes don't tell them yet
+-- they cannot be read from the bytes yet
 abbrev pub TellsNoHeader : List ℕ → Type 0
 TellsNoHeader bytes = (version_of bytes ≡ None) ⊎ (count_of bytes ≡ None)
 
--- no record was cut yet, and version and count were told
+-- no record was cut yet, and version and count were read
 pub record HasBegun {S : Type 0} (rest : S → Option (List ℕ)) (faults : S → ℕ) (first now : S) (intake : Intake)
     (header : Header) : Type 0 where
   pub bytes : List ℕ
   pub reads : HasRead rest faults first now intake [] bytes
   pub told : TellsHeader bytes header
 
--- ---- a record more
+-- ---- one further record
 
 -- a record was cut, or the capture came to its end, or it is read no further
 abbrev pub Cuts : {S : Type 0} → (S → Option (List ℕ)) → (S → ℕ) → S → S → Intake → List Record → List ℕ
@@ -86,7 +86,7 @@ Cuts rest faults first now intake records bytes (Err stop) = StopsBy rest faults
 
 -- ---- for the intake alone
 
--- the reader took some first bytes of what was left, at most so many, and this is its answer
+-- the reader took the first bytes of the rest of the piece, at most `most`, and this is its answer
 pub record TakesFirst (most : ℕ) (old new : Intake)
     (answer : Result (Option Record) (NotTaken CaptureFault)) : Type 0 where
   pub fed : List ℕ

@@ -43,7 +43,7 @@ impl<'s, S: Source> CaptureFeeder<'s, S> {
         }
     }
 
-    /// The source, the inlets, and what the feeder broke by where it is broken. Takes no memory.
+    /// The source, the inlets, and the reason why the feeder broke, if it is broken. Takes no memory.
     pub fn into_parts(self) -> (&'s mut S, Inlets, Option<Stop>)
         ensures source { result.0.ghost_name ≡ self.entry.source.ghost_name }
         ensures now { result.0.now ≡ self.entry.source.now }
@@ -63,7 +63,7 @@ impl<'s, S: Source> CaptureFeeder<'s, S> {
         (source, inlets, stop)
     }
 
-    // Cuts the next record and offers it; where there is none, the end to the first core.
+    // Cuts the next record and offers it; if there is none, offers the end to the first core.
     fn cut(&mut self) -> Fed
         ensures source { self.new.source.ghost_name ≡ self.old.source.ghost_name }
         ensures steps { StepsTo self.old.inlets self.new.inlets self.new.stage result }
@@ -80,7 +80,7 @@ impl<'s, S: Source> CaptureFeeder<'s, S> {
         }
     }
 
-    // Offers an item to the core that it is for, and keeps it where it is handed back.
+    // Offers an item to the core for which it is, and keeps it if it is handed back.
     fn deliver(&mut self, item: Rx) -> Fed
         ensures source { self.new.source.ghost_name ≡ self.old.source.ghost_name }
         ensures steps { StepsTo self.old.inlets self.new.inlets self.new.stage result }

@@ -95,7 +95,7 @@ impl Inlets {
         self.items[core as usize].offer(item)
     }
 
-    // Offers the end to this core. Gives whether it was taken over.
+    // Offers the end to this core. Returns whether it was accepted.
     pub(crate) fn offer_end(&mut self, core: u32) -> bool
         requires within { core < length self.old }
         ensures ok { result ≡ true → OffersTo core End self.old self.new }

@@ -38,14 +38,14 @@ impl Model for Intake {
     ghost view = { λ i. in_pieces i.reader i.pieces };
 }
 
-// What came of some bytes.
+// The result of some bytes.
 #[derive(Drop)]
 pub(crate) enum Came {
     // They end a record.
     Record(Record),
     // They end none.
     Nothing,
-    // There are none, and the capture is whole.
+    // There are no bytes, and the capture is whole.
     End,
 }
 
@@ -101,7 +101,7 @@ impl Intake {
                 Err(stop) => return Err(stop),
             }
         }
-        // No capture has so many bytes.
+        // No capture has this many bytes.
         unreachable!()
     }
 
@@ -121,8 +121,8 @@ impl Intake {
         }
     }
 
-    /// Cuts the next record, for which it reads as many pieces as are wanted; `None` where the
-    /// capture is whole.
+    /// Cuts the next record, for which it reads as many pieces as it needs; `None` if the capture
+    /// is whole.
     pub fn cut<S: Source>(&mut self, source: &mut S) -> Result<Option<Record>, Stop>
         ensures value { (first : S) (records : List Record) (bytes : List ℕ)
             → HasRead S.rest S.faults first source.old self.old records bytes
@@ -137,11 +137,11 @@ impl Intake {
                 Err(stop) => return Err(stop),
             }
         }
-        // No capture has so many bytes.
+        // No capture has this many bytes.
         Err(Stop::Refused(CaptureFault::TooLong))
     }
 
-    // Feeds the reader some next bytes, at most so many, and reads the next piece before where
+    // Feeds the reader the next bytes, at most `most`; before that it reads the next piece if
     // nothing is left of this one.
     fn advance<S: Source>(&mut self, source: &mut S, most: usize) -> Result<Came, Stop>
         requires some { 0 < most }
@@ -157,7 +157,7 @@ impl Intake {
         }
     }
 
-    // Feeds the reader some first bytes of what is left of the piece, at most so many.
+    // Feeds the reader the first bytes of the rest of the piece, at most `most`.
     fn feed(&mut self, most: usize) -> Result<Option<Record>, FeedFault>
         requires some { (0 < most) × (0 < length self.old.left) }
         ensures value { TakesFirst most self.old self.new result }

@@ -10,8 +10,8 @@ ghost use Rattle.zy_feed.specs.Feeding.{Feeding, stop_in, AreUnsent, HasFedAll, 
 use zy_base::Source;
 
 /// A feeder of a capture that was begun, whose inlets were fresh, and that has ended: the source
-/// told a capture with the version and the count that were told first, it is at its end, and each
-/// core was sent the items of the records that are for it, and then the end.
+/// held a capture with the version and the count that were read first, it is at its end, and each
+/// core was sent the items of the records that are for it, followed by the end.
 pub fn a_feeder_that_ended_has_offered_the_capture<S: Source>()
     ensures all { (first : S) (header : Header) (f g : Feeding S)
         → HasBegun S.rest S.faults first f.source f.intake header → AreUnsent f.sents
@@ -19,8 +19,8 @@ pub fn a_feeder_that_ended_has_offered_the_capture<S: Source>()
         → HasFedAll S.rest S.faults first g.source header g.sents }
 {}
 
-/// One that has broken has its cause: the fault is the verdict on all that the source told before
-/// the first read, or its count of faults rose since, or stands at its last value.
+/// A feeder that has broken has its cause: the fault is the verdict on all that the source held
+/// before the first read, or the source's count of faults rose since, or is at its largest value.
 pub fn a_broken_feeder_has_its_cause<S: Source>()
     ensures cause { (first : S) (header : Header) (f g : Feeding S) (stop : Stop CaptureFault)
         → HasBegun S.rest S.faults first f.source f.intake header → AreUnsent f.sents

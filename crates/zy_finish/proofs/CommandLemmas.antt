@@ -20,7 +20,8 @@ entries_due : (n : ℕ) (es : List Entry) → AllByRecursion (IsDueWithin n) (du
 entries_due n [] each = tt
 entries_due n (e ∷ es) each = (each.0, entries_due n es each.1)
 
--- the calls of entries that are those due of these streams' commands are within their bounds
+-- if the calls of entries are the expected ones of these streams' commands, they are within their
+-- bounds
 pub entries_within : (n shards conn : ℕ) (streams : List (List ℕ)) (es : List Entry) → dues_of es ≡ due shards conn (commands_over streams)
     → length (commands_over streams) ≤ n → AllByRecursion (IsCallWithin n) es
 entries_within n shards conn streams es are few =

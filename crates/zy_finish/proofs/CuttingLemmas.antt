@@ -14,11 +14,12 @@ use Rattle.zy_run.specs.Commands.{commands_over}
 use Rattle.zy_run.specs.Output.{commands_before, output, outputs_of}
 use Rattle.zy_finish.specs.Left.{ends_from, ends_of, bytes_between, cut_from, cut_at}
 
--- there are as many commands as frames
+-- there is a command for each frame
 counted : (stream : List ℕ) → length (frames_of stream) ≡ length (commands_of stream)
 counted stream = sym (length-map (frames_of stream) command_of)
 
--- the outputs of sessions, one after another, of which the first has so many commands before it
+-- the outputs of sessions, one after another, where the first session has this number of commands
+-- before it
 outputs_from : ℕ → List (List ℕ) → List Entry → List (List ℕ)
 outputs_from before [] calls = []
 outputs_from before (stream ∷ streams) calls =
@@ -79,8 +80,8 @@ cut_is_outputs conn (stream ∷ streams) es some =
 
 -- ---- the same ends, as they are counted while sessions close
 
--- a function that counts the frames at the end of each of several streams gives the ends of the sessions that have these
--- streams, where one more is open
+-- a function that counts the frames at the end of each of several streams gives the ends of the
+-- sessions that have these streams, where one further session is open
 pub ends_counted : (ends : ℕ → List (List ℕ) → List ℕ) → ((before : ℕ) → ends before [] ≡ [])
     → ((before : ℕ) (stream : List ℕ) (streams : List (List ℕ)) → ends before (stream ∷ streams) ≡ (before + length (frames_of stream)) ∷ ends (before + length (frames_of stream)) streams)
     → (before : ℕ) (closed : List (List ℕ)) (current : List ℕ) → ends before closed ≡ ends_from before (closed ++ current ∷ [])

@@ -159,7 +159,7 @@ module _ (store : TableId) (version count : ℕ) (homes : List Homed) (over : Ar
         let few = over.connections in
         subst (AllByRecursion IsHold) (sym holds_same) (holds_within conn h.block.work.conn h.block.holds k.holds.each conn_same (omega arith))
 
-    -- its commands are no more than can be counted
+    -- its commands are not more than can be counted
     pub few_commands : length (commands_in records conn) ≤ 2 ^ 40
     few_commands =
         let done : commands_of_frames h.block.work.taken ≡ k.work.done = k.work.frames ∙ ap (λ (x : Start). k.work.done ++ command_begun x) h.idle.begun ∙ append-nil k.work.done in
@@ -218,7 +218,7 @@ module _ (store : TableId) (shards version count : ℕ) (homes : List Homed) (ov
       (all_holds_within IsHold (λ conn. (left_of version rests conn).holds) 0 count
       (λ conn least within. are_holds store version count homes over keeps rests are kept records capture received conn (omega arith)))
 
-  -- what is left is that of a run
+  -- the result is that of a run
   pub is_finished : IsFinished shards version count records f
   is_finished = record {
     run = run;

@@ -24,7 +24,7 @@ use Rattle.zy_finish.specs.Part.{session_ends}
 use Rattle.zy_finish.specs.Rest.{place_of, rest_past, AreTaken, blocks_left, ends_left, block_of, end_of, calls_in, holds_in, texts_in, ends_in, left_of, joined_to, IsThere, IsKept, TakesIn, HasGathered}
 use Rattle.zy_finish.proofs.PlaceLemmas.{drop_at_get, range_next, below_here, below_other}
 
--- ---- one connection more
+-- ---- one further connection
 
 pub all_holds-next : (n : ℕ) (left : ℕ → Left) → all_holds (n + 1) left ≡ all_holds n left ++ (left n).holds
 all_holds-next n left =
@@ -38,7 +38,7 @@ all_sent-next n left =
 -- ---- taking a connection from its home
 
 module _ (store : TableId) (rests : List Rest) (conn : ℕ) (there : IsThere store rests conn) where
-  -- what stands at a connection's place
+  -- the block at a connection's place
   pub block_is : block_of rests conn ≡ Some there.block
   block_is = ap (λ o. slice_get (blocks_left o) (place_of (length rests) conn)) there.home ∙ there.block_there
 

@@ -1,4 +1,5 @@
--- The holds of connections, those of each behind those before it, span their commands.
+-- The holds of connections, those of each after those of the connections before it, span their
+-- commands.
 use Rattle.std.specs.Prelude.{flat_map}
 use Rattle.std.specs.List.{range_with_len}
 use Rattle.std.proofs.Common.{◌≡◌, inl, inr, ℕ, zero, suc, ◌+◌, ◌<◌, ◌≤◌, List, [], ◌∷◌, ◌++◌, length, refl, sym, ap, ◌∙◌, arith}
@@ -96,7 +97,7 @@ module _ (holds : ℕ → List Hold) where
       let later = held_all conn (from + 1) count (λ c low high. each c (omega arith) (omega arith)) (omega arith) (omega arith) in
       omega (arith, held_of-append conn (holds from) (holds_from (from + 1) count)))
 
--- the holds of so many connections span their commands
+-- the holds of the first `count` connections span their commands
 pub spans : (count : ℕ) (holds : ℕ → List Hold) (commands : ℕ → List Command)
     → ((conn : ℕ) → conn < count → AreOf conn (holds conn)) → ((conn : ℕ) → conn < count → held_in (holds conn) ≡ length (commands conn))
     → Spans (flat_map holds (range_with_len 0 count)) count commands

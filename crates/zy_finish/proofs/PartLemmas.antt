@@ -22,7 +22,7 @@ module _ (before : List (List (List ℕ))) where
   sessions_last : (parts : List (List ℕ)) → sessions_of (before ++ parts ∷ []) (length before) ≡ parts
   sessions_last parts = get_or-append_seam before parts [] []
 
-  -- one output more
+  -- one further output
   with_more : (parts : List (List ℕ)) (x : List ℕ) → with_session (added before parts) (length before) x ≡ added before (parts ++ x ∷ [])
   with_more [] x = chosen (length before == length before) _ _ (eq-eqb (length before) (length before) refl)
   with_more (part ∷ parts) x =
@@ -83,7 +83,7 @@ module _ (before : List (List (List ℕ))) (ends : List ℕ) (texts : List (List
       (subst (λ l. HasAdded before (cut_at ends texts) i (cut_from start l texts) outputs.sessions) (drop_more ends i 0 within) has))
       (ap (λ (o : AllOutputs). o.sessions) done ∙ ap (λ n. with_session outputs.sessions n bytes) first)
 
-  -- what is behind the last end
+  -- the texts after the last end
   pub last_added : (i start conn : ℕ) (outputs outputs' : AllOutputs) (bytes : List ℕ) → length ends ≤ i → conn ≡ length before
       → HasAdded before (cut_at ends texts) i (cut_from start (drop i ends) texts) outputs.sessions
       → bytes ≡ concat (drop start texts) → outputs' ≡ with_output outputs conn bytes

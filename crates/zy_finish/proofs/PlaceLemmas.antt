@@ -1,4 +1,4 @@
--- The places of connections at their homes, and what stands at a place of a list.
+-- The places of connections at their homes, and the member at a place of a list.
 use Rattle.std.specs.List.{range_with_len}
 use Rattle.std.proofs.Common.{◌≡◌, ◌≢◌, ℕ, zero, suc, ◌+◌, ◌<◌, List, [], ◌∷◌, ◌++◌, length, drop, Some, slice_get, refl, sym, ap, ◌∙◌, subst, arith, length-append}
 use mathlib.Core.Logic.{dite}
@@ -16,7 +16,7 @@ get_front [] ys i x e = absurd (cc)
 get_front (y ∷ xs) ys zero x e = e
 get_front (y ∷ xs) ys (suc i) x e = get_front xs ys i x e
 
--- what is behind a place
+-- the members from a place on
 pub drop_at_get : {A : Type 0} (p : ℕ) (xs : List A) (x : A) → slice_get xs p ≡ Some x → drop p xs ≡ x ∷ drop (p + 1) xs
 drop_at_get zero [] x e = absurd (cc)
 drop_at_get zero (y ∷ xs) x e = let is : y ≡ x = cc in ap (λ z. z ∷ xs) is
@@ -26,14 +26,14 @@ drop_at_get (suc p) (y ∷ xs) x e =
 
 -- ---- numbers from one on
 
--- one number more
+-- one further number
 range_more : (a n : ℕ) → range_with_len a (suc n) ≡ range_with_len a n ++ (a + n) ∷ []
 range_more a zero = let same : a ≡ a + 0 = omega arith in ap (λ (k : ℕ). k ∷ []) same
 range_more a (suc n) =
     let same : a + 1 + n ≡ a + suc n = omega arith in
     ap (λ (l : List ℕ). a ∷ l) (range_more (a + 1) n ∙ ap (λ (k : ℕ). range_with_len (a + 1) n ++ k ∷ []) same)
 
--- one number more, from the first one
+-- one further number, from 0 on
 pub range_next : (n : ℕ) → range_with_len 0 (n + 1) ≡ range_with_len 0 n ++ n ∷ []
 range_next n =
     let on : n + 1 ≡ suc n = omega arith in
@@ -43,7 +43,7 @@ range_next n =
 -- ---- connections
 
 module _ (core cores n : ℕ) where
-  -- one connection more is one place more at its home
+  -- one further connection is one further place at its home
   pub below_here : home_of cores n ≡ core → count_below cores core (n + 1) ≡ count_below cores core n + 1
   below_here is = let size = length-append (own_conns core cores n) (n ∷ []) in ap (λ (l : List ℕ). length l) (own-here core cores n is) ∙ size
 

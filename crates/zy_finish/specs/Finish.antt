@@ -17,7 +17,7 @@ abbrev pub HaveReceived : List Homed → List Record → Type 0
 HaveReceived homes records = (core : ℕ) (h : Homed) → slice_get homes core ≡ Some h
     → HomeStands h (offered_to h.cores h.core records)
 
--- what a run on so many shards leaves of the records of a capture
+-- the result of a run on `shards` shards of the records of a capture
 pub record IsFinished (shards version count : ℕ) (records : List Record) (finished : Finished) : Type 0 where
   -- the journal's entries are one legal run of the commands of all connections
   pub run : IsRun shards finished.journal.entries count (commands_in records)

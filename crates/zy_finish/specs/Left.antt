@@ -1,4 +1,4 @@
--- What is left of a connection when all of it is served.
+-- A connection, when all of it is served.
 use Rattle.std.specs.Prelude.{◌≡◌, ℕ, ◌+◌, ◌-◌, List, [], ◌∷◌, length, take, drop}
 use Rattle.std.specs.List.{concat}
 use Rattle.zy_base.specs.declared.entry.Entry.{Entry}
@@ -11,8 +11,8 @@ use Rattle.zy_run.specs.Commands.{commands_over}
 
 -- ---- the ends of sessions
 
--- how many commands a connection with these streams has at the end of each of its sessions but the last, which is open,
--- where so many come before them
+-- the number of commands that a connection with these streams has at the end of each of its
+-- sessions but the last, which is open, after `before` commands
 abbrev pub ends_from : ℕ → List (List ℕ) → List ℕ
 ends_from before [] = []
 ends_from before (stream ∷ []) = []
@@ -45,8 +45,8 @@ AreOf conn (h ∷ hs) = (h.conn ≡ conn) × AreOf conn hs
 
 -- ---- a connection
 
--- what is left of a connection: the texts that it was sent, the number of them at the end of each closed session, and
--- its holds
+-- a connection at the end: the texts that it was sent, the number of them at the end of each closed
+-- session, and its holds
 pub record Left : Type 0 where
   pub texts : List (List ℕ)
   pub ends : List ℕ
@@ -54,13 +54,13 @@ pub record Left : Type 0 where
 
 -- all of a connection with these streams was served, by these calls
 pub record IsCarriedOut (shards conn : ℕ) (streams : List (List ℕ)) (calls : List Entry) (left : Left) : Type 0 where
-  -- the calls are its calls due, each once and in order
+  -- the calls are its expected calls, each once and in order
   pub calls_are : dues_of calls ≡ due shards conn (commands_over streams)
-  -- it was sent the texts of its commands, each with the replies of its own calls
+  -- it was sent the texts of its commands, each from the replies of its own calls
   pub texts_are : left.texts ≡ texts_of (commands_over streams) calls
   -- its sessions ended where their streams do
   pub ends_are : left.ends ≡ ends_of streams
-  -- its holds are of no other connection
+  -- its holds belong to no other connection
   pub holds_are : AreOf conn left.holds
   -- and their counts add up to the number of its commands
   pub held : held_in left.holds ≡ length (commands_over streams)

@@ -1,11 +1,12 @@
--- What is so of the homes of all cores when all is served.
+-- The homes of all cores, when all is served.
 use Rattle.std.specs.Prelude.{◌≡◌, ℕ, ◌≤◌, List, length, true, Some, slice_get}
 use Rattle.atomic_table.specs.Seated.{TableId}
 use Rattle.zy_table.specs.Name.{name_of}
 use Rattle.zy_capture.specs.Capture.{connection_limit}
 use Rattle.zy_home.specs.Home.{Homed, is_settled}
 
--- the home of this core, of so many, with this count of connections is settled, and its ring has the store as its label
+-- the home of core `core` of `cores`, with `count` connections in all, is settled, and its ring has
+-- the store as its label
 pub record IsOver (store : TableId) (cores count core : ℕ) (h : Homed) : Type 0 where
   pub core_is : h.core ≡ core
   pub cores_is : h.cores ≡ cores

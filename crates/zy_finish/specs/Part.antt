@@ -5,12 +5,12 @@ use Rattle.std.specs.Prelude.{◌≡◌, ℕ, ◌==◌, if◌then◌else◌, Lis
 abbrev pub session_ends : ℕ → List ℕ → List ℕ
 session_ends version ends = if version == 1 then [] else ends
 
--- the sessions with some outputs of one connection more
+-- the sessions with some outputs of one further connection
 abbrev pub added : List (List (List ℕ)) → List (List ℕ) → List (List (List ℕ))
 added sessions [] = sessions
 added sessions (part ∷ parts) = sessions ++ (part ∷ parts) ∷ []
 
--- so many outputs of one connection were added, and these are left to add
+-- `count` outputs of one connection were added, and `left` is left to add
 pub record HasAdded (before : List (List (List ℕ))) (all : List (List ℕ)) (count : ℕ) (left : List (List ℕ))
     (sessions : List (List (List ℕ))) : Type 0 where
   pub parts : List (List ℕ)

@@ -1,4 +1,5 @@
--- What is left of each home while connections are taken from it, one after another. No public clause cites this module.
+-- The blocks and outputs of each home while connections are taken from it, one after another. No
+-- public clause cites this module.
 use Rattle.std.specs.Prelude.{◌≡◌, ℕ, zero, suc, ◌<◌, List, [], ◌∷◌, ◌++◌, length, map, drop, Option, None, Some, slice_get, option_map}
 use Rattle.atomic_table.specs.Seated.{TableId}
 use Rattle.zy_base.specs.declared.entry.Entry.{Entry}
@@ -22,11 +23,11 @@ use Rattle.zy_finish.specs.Part.{session_ends}
 
 -- ---- homes
 
--- what is left of a home that nothing was taken from
+-- the rest of a home before anything is taken from it
 abbrev pub rest_of : Homed → Rest
 rest_of h = record { blocks = blocks_in h.blocks; ends = map ended_of h.links }
 
--- how many connections below this one are a core's, of so many
+-- the number of connections below this one that belong to one of `cores` cores
 abbrev pub count_below : ℕ → ℕ → ℕ → ℕ
 count_below cores core conn = length (own_conns core cores conn)
 
@@ -34,7 +35,7 @@ count_below cores core conn = length (own_conns core cores conn)
 abbrev pub place_of : ℕ → ℕ → ℕ
 place_of cores conn = count_below cores (home_of cores conn) conn
 
--- what is left of a home when its connections below this one were taken
+-- the rest of a home after its connections below this one were taken
 abbrev pub rest_past : ℕ → ℕ → ℕ → Rest → Rest
 rest_past cores conn core rest = record {
   blocks = drop (count_below cores core conn) rest.blocks;
@@ -48,7 +49,7 @@ AreTaken rests conn now =
 
 -- ---- connections
 
--- the blocks that are left of a home, and none where there is no such home
+-- the blocks that are left of a home; none if there is no such home
 abbrev pub blocks_left : Option Rest → List Blocked
 blocks_left None = []
 blocks_left (Some rest) = rest.blocks
@@ -58,7 +59,7 @@ abbrev pub ends_left : Option Rest → List Ended
 ends_left None = []
 ends_left (Some rest) = rest.ends
 
--- what is left of the home of a connection
+-- the rest of the home of a connection
 abbrev pub rest_at : List Rest → ℕ → Option Rest
 rest_at rests conn = slice_get rests (home_of (length rests) conn)
 
@@ -111,7 +112,7 @@ pub record IsThere (store : TableId) (rests : List Rest) (conn : ℕ) : Type 0 w
 
 -- ---- what is gathered
 
--- what is so of a block that was taken apart
+-- the rule of a block that was taken apart
 pub record IsKept (block : Blocked) : Type 0 where
   pub work : Kept block.work
   pub holds : AreHolds block.work.conn block.work.finished block.holds
@@ -125,7 +126,7 @@ joined_to rests (suc conn) = (conn, calls_in (block_of rests conn)) ∷ joined_t
 abbrev pub sent_of : ℕ → Last → List (List ℕ)
 sent_of version last = cut_at (session_ends version last.ends.items) last.output.texts
 
--- what is left of a connection was taken in
+-- the block and the output of a connection were gathered
 pub record TakesIn (last : Last) (g g' : Gathered) : Type 0 where
   pub table : g'.root.table ≡ g.root.table
   pub given : g'.root.given ≡ g.root.given
@@ -135,7 +136,7 @@ pub record TakesIn (last : Last) (g g' : Gathered) : Type 0 where
   pub sessions : g'.outputs.sessions ≡ g.outputs.sessions ++ sent_of g.outputs.version last ∷ []
   pub kept : IsKept last.block
 
--- what is left of the connections below this one was taken in
+-- the blocks and the outputs of the connections below this one were gathered
 pub record HasGathered (version : ℕ) (rests : List Rest) (conn : ℕ) (g : Gathered) : Type 0 where
   pub joined : g.root.joined ≡ joined_to rests conn
   pub holds : g.holds.items ≡ all_holds conn (left_of version rests)

@@ -1,4 +1,4 @@
--- What is left of all connections when the store is closed.
+-- All connections, when the store is closed.
 use Rattle.std.specs.Prelude.{◌≡◌, ℕ, ◌<◌, ◌≤◌, List, [], map, flat_map}
 use Rattle.std.specs.List.{range_with_len}
 use Rattle.zy_base.specs.declared.entry.Entry.{Entry}
@@ -10,15 +10,16 @@ use Rattle.mc_store.specs.Closing.{AreClosed}
 use Rattle.zy_run.specs.Commands.{streams_in}
 use Rattle.zy_finish.specs.Left.{Left, IsCarriedOut, cut_at}
 
--- the holds of so many connections, those of each behind those before it
+-- the holds of the first `count` connections, those of each after those of the connections before it
 abbrev pub all_holds : ℕ → (ℕ → Left) → List Hold
 all_holds count left = flat_map (λ conn. (left conn).holds) (range_with_len 0 count)
 
--- what so many connections were sent, cut at the ends of their sessions
+-- the texts that the first `count` connections were sent, cut at the ends of their sessions
 abbrev pub all_sent : ℕ → (ℕ → Left) → List (List (List ℕ))
 all_sent count left = map (λ conn. cut_at (left conn).ends (left conn).texts) (range_with_len 0 count)
 
--- all that these records have of so many connections was served, the store is closed, and its histories are merged
+-- all that these records have of the first `count` connections was served, the store is closed, and
+-- its histories are merged
 pub record AreServed (shards count : ℕ) (records : List Record) (left : ℕ → Left) (joined : Joined)
     (es : List Entry) : Type 0 where
   pub histories : List (List Entry)

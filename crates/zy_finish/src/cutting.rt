@@ -5,7 +5,7 @@ ghost use Rattle.zy_finish.specs.Left.{bytes_between};
 
 use zy_calls::Output;
 
-// The first so many texts, joined; all of them where there are fewer.
+// The first `count` texts, joined; all of them if there are fewer.
 fn first(output: &Output, count: u64) -> &[u8]
     ensures value { result.now ≡ concat (take count output.now.texts) }
 {

@@ -26,10 +26,10 @@ pub struct Finished {
 }
 
 /// Takes the homes of all cores apart when all is served: joins the passes of all connections with
-/// the root, closes the store, merges its histories with the holds, and cuts the outputs at the ends
-/// of the sessions.
+/// the root, closes the store, merges its histories with the holds, and cuts the outputs at the
+/// ends of the sessions.
 ///
-/// `Err` is want of memory, or that a connection has more than 2^31 sessions.
+/// `Err` means `NoMemory`; it is also the answer if a connection has more than 2^31 sessions.
 pub fn finish(
     alloc: Global,
     version: u32,

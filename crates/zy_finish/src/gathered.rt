@@ -20,7 +20,7 @@ pub(crate) struct Gathered {
 }
 
 impl Gathered {
-    // Takes in what is left of the next connection.
+    // Gathers the block and the output of the next connection.
     fn take(
         &mut self,
         alloc: Global,
@@ -63,7 +63,7 @@ impl Gathered {
         Ok(())
     }
 
-    /// Takes in what is left of all connections, by rising number, each from its home.
+    /// Gathers the blocks and the outputs of all connections, by rising number, each from its home.
     pub(crate) fn take_all(
         &mut self,
         alloc: Global,

@@ -1,4 +1,4 @@
-//! Laws of what is left when all is served: each is the contract of a function without a body.
+//! Laws of the result when all is served: each is the contract of a function without a body.
 ghost use Rattle.std.specs.Prelude.{◌≡◌, ℕ, ◌<◌, ◌≤◌, true, List, ◌++◌, length, take, drop, None};
 ghost use Rattle.std.specs.List.{concat};
 ghost use Rattle.zy_base.specs.declared.entry.Entry.{Entry};
@@ -16,8 +16,8 @@ ghost use Rattle.zy_run.specs.Spans.{Spans};
 ghost use Rattle.zy_finish.specs.Left.{Left, cut_at, bytes_between, ends_of};
 ghost use Rattle.zy_finish.specs.Served.{AreServed, all_holds, all_sent};
 
-/// A connection whose home is given all that it is offered receives the streams of its sessions
-/// among the records, and then the end.
+/// A connection whose home receives all that it is offered receives the streams of its sessions
+/// among the records, followed by the end.
 pub fn a_connection_receives_its_streams()
     ensures streams { (cores core conn : ℕ) (records : List Record) → home_of cores conn ≡ core
         → streams_of (sessions_of conn (offered_to cores core records)) ≡ streams_in records conn }

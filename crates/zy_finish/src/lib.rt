@@ -1,4 +1,4 @@
-//! What is left when all is served: the homes of the cores, and the journal and the outputs of a run.
+//! The result when all is served: the homes of the cores, and the journal and the outputs of a run.
 #![tactic(auto)]
 
 mod cutting;

@@ -1,4 +1,4 @@
-//! What is left of homes.
+//! The rests of homes.
 ghost use Rattle.std.specs.Prelude.{◌≡◌, ◌≢◌, [], ◌∷◌, map, IfOk, OnOk};
 ghost use Rattle.std.specs.List.{AllByRecursion};
 ghost use Rattle.zy_home.specs.End.{ended};
@@ -11,7 +11,7 @@ use zy_calls::Output;
 use zy_conn::Block;
 use zy_home::{Blocks, Ends, Home};
 
-/// What is left of a home: the blocks and the outputs of its connections that were not taken yet, by
+/// The rest of a home: the blocks and the outputs of its connections that were not taken yet, by
 /// rising number.
 #[derive(Drop)]
 pub(crate) struct Rest {
@@ -19,7 +19,7 @@ pub(crate) struct Rest {
     pub(crate) ends: Ends,
 }
 
-/// What is left of a connection: its block, its output, and the ends of its closed sessions.
+/// A connection at the end: its block, its output, and the ends of its closed sessions.
 #[derive(Drop)]
 pub(crate) struct Last {
     pub(crate) block: Block,
@@ -49,7 +49,7 @@ impl Rest {
     }
 }
 
-/// What is left of homes, and what each kept.
+/// The rests of homes, with what each home kept.
 pub(crate) fn rests_of(alloc: Global, homes: Vec<Home>) -> Result<Vec<Rest>, NoMemory>
     ensures value { IfOk result (λ rests. rests.items ≡ map rest_of homes.items) }
     ensures keeps { OnOk result (AllByRecursion Keeps homes.items) }

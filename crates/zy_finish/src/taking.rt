@@ -16,17 +16,17 @@ use zy_feed::Inlets;
 use zy_home::Home;
 use zy_rx::{Inlet, both_ends};
 
-/// What is left of the cores of a run: their homes, in their order, and the store.
+/// What the cores of a run leave: their homes, in their order, and the store.
 #[derive(Drop)]
 pub struct Taken {
     pub homes: Vec<Home>,
     pub store: StoreTable,
 }
 
-/// Takes each core apart, and shows each end of its receive ring what the other did. Where each core
-/// is settled and was sent all that it is offered of a capture, its home has received just that.
+/// Takes each core apart, and shows each end of its receive ring what the other did. If each core
+/// is settled and was sent all that it is offered of a capture, its home has received exactly that.
 ///
-/// `Err` is want of memory.
+/// `Err` means `NoMemory`.
 pub fn take(alloc: Global, cores: Cores, shared: Shared, inlets: Inlets) -> Result<Taken, NoMemory>
     requires cores { AreCores shared (identities cores) }
     requires rings { rings_of inlets ≡ rings_in (identities cores) }

@@ -1,4 +1,5 @@
--- What several steps give together, and what feeding a piece means for all that a framer stands for.
+-- The frames that several steps give together, and what feeding a piece means for every stream that
+-- may have brought a framer to where it is.
 use Rattle.std.proofs.Common.{◌≡◌, ℕ, ◌+◌, ◌≤◌, false, List, [], ◌++◌, length, drop, refl, sym, ap, ◌∙◌, subst, append_assoc}
 use Rattle.std.specs.Prelude.{option_to_list}
 use Rattle.std.proofs.lemmas.Bool.{lt-ltb}
@@ -16,7 +17,7 @@ use Rattle.zy_frame.proofs.GoingOn.{outcome_of-unended}
 with_frames-append : (given more : List FrameKind) (o : Outcome) → with_frames given (with_frames more o) ≡ with_frames (given ++ more) o
 with_frames-append given more o = ap (λ (l : List FrameKind). record { frames = l; quit = o.quit }) (sym (append_assoc given more o.frames))
 
--- ---- with no byte more
+-- ---- with no further byte
 
 -- no frame comes
 pub at_rest : (framer : Progress) → Keeps framer → goes_on framer [] ≡ record { frames = []; quit = is_quit framer }
@@ -45,7 +46,7 @@ gives_step old bytes step before after goes appended = record { keeps = goes.kee
 pub gives_nothing : (framer : Progress) (frames : List FrameKind) (bytes : List ℕ) → Keeps framer → Gives framer framer frames frames bytes 0
 gives_nothing framer frames bytes keeps = record { keeps = keeps; given = []; appended = sym (append-nil frames); on = λ more. refl }
 
--- a step more
+-- one further step
 pub gives_more : (old middle new : Progress) (before between after : List FrameKind) (bytes : List ℕ) (at taken : ℕ)
     → Gives old middle before between bytes at → Gives middle new between after (drop at bytes) taken → Gives old new before after bytes (at + taken)
 gives_more old middle new before between after bytes at taken one two = record {
@@ -85,7 +86,7 @@ whole : (old new : Progress) (before after : List FrameKind) (fed piece : List �
 whole old new before after fed piece t stands more =
     joined_on old fed piece more stands ∙ ap (with_frames (frames_of fed)) (t.on more) ∙ with_frames-append (frames_of fed) t.given (goes_on new more)
 
--- the frames appended are those due
+-- the frames appended are the expected ones
 due : (old new : Progress) (before after : List FrameKind) (fed piece : List ℕ) (t : Taken old new before after piece)
     → ((rest : List ℕ) → outcome_of (fed ++ rest) ≡ with_frames (frames_of fed) (goes_on old rest))
     → frames_of (fed ++ piece) ≡ frames_of fed ++ t.given
@@ -97,7 +98,7 @@ pub appends : (old new : Progress) (before after : List FrameKind) (fed piece : 
 unfolding StandsFor
 appends old new before after fed piece t stands = record { given = t.given; appended = t.appended; due = due old new before after fed piece t stands }
 
--- the framer stands for the stream with the piece
+-- the framer is where the stream followed by the piece brings it
 pub stands_on : (old new : Progress) (before after : List FrameKind) (fed piece : List ℕ) → Taken old new before after piece → StandsFor old fed → StandsFor new (fed ++ piece)
 unfolding StandsFor
 stands_on old new before after fed piece t stands more =
@@ -128,7 +129,7 @@ taken_behind_quit : (frames : List FrameKind) (piece : List ℕ) → Taken behin
 unfolding goes_on
 taken_behind_quit frames piece = record { keeps = tt; given = []; appended = sym (append-nil frames); on = λ more. refl }
 
--- behind a quit line
+-- after a quit line
 pub taken_quit : (framer : Progress) (frames : List FrameKind) (piece : List ℕ) → framer ≡ behind_quit → Taken framer framer frames frames piece
 taken_quit framer frames piece is = subst (λ (s : Progress). Taken s s frames frames piece) (sym is) (taken_behind_quit frames piece)
 
@@ -143,7 +144,7 @@ not_quit (Large wanted) other = refl
 not_quit Quit other = absurd (other refl)
 not_quit Refused other = refl
 
--- a framer that is behind a quit line is in that state
+-- a framer that is after a quit line is in that state
 pub quit_state : (state : State) → progress_of state ≡ behind_quit → state ≡ Quit
 quit_state (Line kept) is = absurd (cc)
 quit_state Long is = absurd (cc)
@@ -152,7 +153,7 @@ quit_state (Large wanted) is = absurd (cc)
 quit_state Quit is = refl
 quit_state Refused is = absurd (cc)
 
--- so is one that wanted memory
+-- so is one that was refused memory
 pub refused_state : (state : State) → progress_of state ≡ without_memory → state ≡ Refused
 refused_state (Line kept) is = absurd (cc)
 refused_state Long is = absurd (cc)

@@ -1,4 +1,4 @@
--- What a framer gives in each state when bytes follow, and what StandsFor makes of it.
+-- The frames that a framer gives in each state when bytes follow, and what this means for StandsFor.
 use Rattle.std.proofs.Common.{◌≡◌, ℕ, zero, suc, ◌+◌, ◌-◌, ◌<◌, ◌≤◌, true, false, List, [], ◌∷◌, ◌++◌, length, take, drop, map, refl, sym, ap, ◌∙◌, arith, append_assoc, length-append}
 use Rattle.std.specs.Prelude.{Option, None, Some, nat_lt, if◌then◌else◌, Bool, is_none}
 use Rattle.std.proofs.lemmas.Bool.{lt-leb, lt-ltb, le-ltb, ltb-true, ltb-false}
@@ -66,7 +66,7 @@ in_long_by text more (Some e) is none long =
     ap (λ (x : List ℕ). outcome_of (text ++ x)) s.text_is ∙ ap outcome_of (sym (append_assoc text e.line (line_feed ∷ e.after)))
     ∙ long_ends (text ++ e.line) e.after (first_line-append_none text e.line none s.no_feed) longer
 
--- so many bytes without a line feed have come
+-- a line has grown too long without a line feed
 pub in_long : (text more : List ℕ) → first_line text ≡ None → line_limit < length text → outcome_of (text ++ more) ≡ ends_long (first_line more)
 in_long text more none long = in_long_by text more (first_line more) refl none long
 
@@ -76,7 +76,7 @@ ends_long-begun_with text (Some e) = refl
 
 -- ---- frames that lack bytes
 
--- whether a part of the bytes that are lacking comes to all of them, by the other part
+-- whether one part of the missing bytes, together with the other, is all of them
 test_by : (test : Bool) (left : ℕ) (bytes more : List ℕ) → nat_lt (length more) left ≡ test → nat_lt (length (bytes ++ more)) (length bytes + left) ≡ test
 test_by true left bytes more is =
     let few : length more < left = ltb-true (length more) left is in
@@ -178,7 +178,7 @@ is_line_frame line s is = record {
   of_text = sym (ap frame_in (first_line-ended line [] s.no_feed) ∙ frame_is line [] Needs.Nothing s.short is);
 }
 
--- so many bytes, none of them a line feed
+-- `count` bytes, none of which is a line feed
 zeros : (count : ℕ) → List ℕ
 zeros zero = []
 zeros (suc count) = 0 ∷ zeros count

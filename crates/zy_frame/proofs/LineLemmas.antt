@@ -7,7 +7,7 @@ use Rattle.zy_frame.specs.Line.{Ended, first_line, begun_by, line_feed}
 abbrev pub ended : List ℕ → List ℕ → Ended
 ended line after = record { line = line; after = after }
 
--- the text stands in front of the line
+-- the text is put in front of the line
 abbrev pub begun_with : List ℕ → Option Ended → Option Ended
 begun_with text None = None
 begun_with text (Some e) = Some (ended (text ++ e.line) e.after)
@@ -37,7 +37,7 @@ begins-by false byte bytes same is = record { other = same; none = begun_by-none
 begins : (byte : ℕ) (bytes : List ℕ) → first_line (byte ∷ bytes) ≡ None → Begins byte bytes
 begins byte bytes is = begins-by (byte == line_feed) byte bytes refl is
 
--- a text without a line feed stands in front of a line
+-- a text without a line feed is put in front of a line
 pub first_line-append : (text more : List ℕ) → first_line text ≡ None → first_line (text ++ more) ≡ begun_with text (first_line more)
 first_line-append [] more none = sym (begun_with-nil (first_line more))
 first_line-append (byte ∷ bytes) more none =

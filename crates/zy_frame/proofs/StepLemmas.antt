@@ -33,7 +33,7 @@ is_short-nil = record { no_feed = refl; short = omega arith }
 
 -- ---- in a line
 
--- it goes on
+-- the line goes on
 pub line_grows : (kept bytes : List ℕ) → IsShort kept → 0 < length bytes → first_line bytes ≡ None → length kept + length bytes ≤ line_limit
     → Goes (Line kept) bytes (step (Line (kept ++ bytes)) (length bytes) None)
 unfolding goes_on
@@ -227,7 +227,7 @@ large_over line bytes size left keeps all = record {
   on = λ more. ends_frame-all left (λ rest. Kinds.Large (chomped line)) bytes more all;
 }
 
--- ---- behind a quit line
+-- ---- after a quit line
 
 pub quit_stays : (bytes : List ℕ) → 0 < length bytes → Goes Quit bytes (step Quit (length bytes) None)
 unfolding goes_on

@@ -54,7 +54,7 @@ cut_after cut stream None = record { pieces = []; rest = stream }
 cut_after cut stream (Some piece) =
     record { pieces = piece.text ∷ (cut piece.rest).pieces; rest = (cut piece.rest).rest }
 
--- at most so many frame texts are cut off
+-- at most `count` frame texts are cut off
 abbrev pub cut_within : ℕ → List ℕ → Cut
 cut_within zero stream = record { pieces = []; rest = stream }
 cut_within (suc count) stream = cut_after (cut_within count) stream (first_piece stream)
@@ -74,7 +74,7 @@ frames_of stream = map frame_of (cut_of stream).pieces
 abbrev pub commands_of : List ℕ → List Command
 commands_of stream = map command_of (frames_of stream)
 
--- a quit line and its line feed stand first
+-- a quit line and its line feed come first
 pub record BeginsWithQuit (text : List ℕ) : Type 0 where
   pub line : List ℕ
   pub after : List ℕ

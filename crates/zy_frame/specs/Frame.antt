@@ -1,4 +1,4 @@
--- Frames: which bytes of a stream make one, and what it stands for (docs/PROFILE.md, "Lines and
+-- Frames: the bytes of a stream that make a frame, and its meaning (docs/PROFILE.md, "Lines and
 -- words" and "Commands").
 use Rattle.std.specs.Prelude.{◌≡◌, ℕ, ◌+◌, ◌<◌, nat_lt, if◌then◌else◌, List, [], ◌∷◌, ◌++◌, length, Option, None, Some, MatchOption}
 use Rattle.zy_base.specs.Shard.{value_limit}
@@ -65,7 +65,7 @@ pub record IsBlockText (text : List ℕ) : Type 0 where
 -- ---- the frame of a frame text
 
 -- the frame of a line with this need, its carriage return dropped, and of the bytes after its line
--- feed; a quit line has none, which any value may stand for
+-- feed; a quit line has no frame, so any value does
 abbrev pub frame_by : Need → List ℕ → List ℕ → FrameKind
 frame_by Needs.Nothing line after = Line line
 frame_by (Needs.Block bytes) line after =

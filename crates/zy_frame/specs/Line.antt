@@ -6,7 +6,7 @@ use Rattle.mc_parse.specs.Words.{line_limit}
 abbrev pub line_feed : ℕ
 line_feed = 10
 
--- the byte that is dropped where it stands right before a line's end
+-- the byte that is dropped if it comes right before the end of a line
 abbrev pub carriage_return : ℕ
 carriage_return = 13
 
@@ -15,7 +15,7 @@ pub record Ended : Type 0 where
   pub line : List ℕ
   pub after : List ℕ
 
--- one more byte stands in front of the line
+-- one further byte is put in front of the line
 abbrev pub begun_by : ℕ → Option Ended → Option Ended
 begun_by byte None = None
 begun_by byte (Some ended) = Some (record { line = byte ∷ ended.line; after = ended.after })
@@ -33,7 +33,7 @@ chomped [] = []
 chomped (byte ∷ []) = if byte == carriage_return then [] else byte ∷ []
 chomped (byte ∷ next ∷ bytes) = byte ∷ chomped (next ∷ bytes)
 
--- no line feed stands in the line, and it is not too long
+-- the line has no line feed, and is not too long
 pub record IsShort (line : List ℕ) : Type 0 where
   pub no_feed : first_line line ≡ None
   pub short : length line ≤ line_limit

@@ -10,9 +10,9 @@ use Rattle.zy_frame.specs.Cut.{frames_of, meets_quit}
 
 -- ---- what a framer is in the middle of
 
--- a storage line whose block is to come: the line with the carriage return at its end, where it
--- has one, the size of the value that it announces, and how many bytes of its block are still to
--- come
+-- a storage line whose block is to come: the line with the carriage return at its end, if it has
+-- one, the size of the value that it announces, and the number of bytes of its block that are still
+-- to come
 pub record Awaited : Type 0 where
   pub line : List ℕ
   pub size : ℕ
@@ -30,7 +30,7 @@ pub data Progress : Type 0 where
   in_large_block : Awaited → Progress
   -- what follows a quit line
   behind_quit : Progress
-  -- what follows after memory was wanted and not found
+  -- what follows after a refused allocation
   without_memory : Progress
 
 -- the line takes a block of this size, of which some bytes are still to come
@@ -39,13 +39,14 @@ pub record IsAwaited (block : Awaited) : Type 0 where
   pub sized : need (chomped block.line) ≡ Needs.Block block.size
   pub some : 0 < block.left
 
--- a block that is kept: it is not too large, and its bytes so far are those that do not lack
+-- a block that is kept: it is not too large, and its bytes so far are all but those that are still
+-- to come
 pub record IsKeptBlock (awaited : Awaited) (block : List ℕ) : Type 0 where
   pub awaits : IsAwaited awaited
   pub small : awaited.size ≤ value_limit
   pub all : length block + awaited.left ≡ awaited.size + 2
 
--- a block that is not
+-- a block that is not kept
 pub record IsLargeBlock (awaited : Awaited) : Type 0 where
   pub awaits : IsAwaited awaited
   pub large : value_limit < awaited.size
@@ -73,7 +74,7 @@ is_quit progress = false
 abbrev pub IsQuit : Progress → Type 0
 IsQuit framer = framer ≡ behind_quit
 
--- memory was wanted and not found
+-- an allocation was refused
 abbrev pub IsRefused : Progress → Type 0
 IsRefused framer = framer ≡ without_memory
 
@@ -103,7 +104,7 @@ abbrev pub ends_long : Option Ended → Outcome
 ends_long None = no_outcome
 ends_long (Some ended) = with_frames (Kinds.Long ∷ []) (outcome_of ended.after)
 
--- in a frame that lacks so many bytes
+-- in a frame that lacks `left` bytes
 abbrev pub ends_frame : ℕ → (List ℕ → FrameKind) → List ℕ → Outcome
 ends_frame left kind bytes = if nat_lt (length bytes) left
     then no_outcome

@@ -8,8 +8,7 @@ use mc_parse::{Command, ErrorLine, parse_block, parse_large, parse_line};
 use std::alloc::Global;
 use zy_base::NoMemory;
 
-/// The command of a frame. A block is taken over without a copy. After a refusal the frame is
-/// handed back.
+/// The command of a frame. A block is moved and not copied. After a refusal the frame is handed back.
 pub fn meaning(alloc: Global, frame: Frame) -> Result<Command, (Frame, NoMemory)>
     ensures value { IfOk result (λ command. command ≡ command_of frame) }
     ensures returned { IfErr result (λ e. e.0 ≡ frame) }

@@ -3,8 +3,8 @@ ghost use Rattle.std.specs.Prelude.{◌≡◌, IfOk};
 
 use zy_base::{Blob, NoMemory};
 
-/// What a frame is. A line stands without its line feed and without one carriage return before
-/// that.
+/// The kind of a frame, with its bytes. A line comes without its line feed and without one carriage
+/// return before that.
 #[derive(Drop)]
 pub enum FrameKind {
     /// A line that takes no block.

@@ -47,11 +47,10 @@ impl Framer {
         }
     }
 
-    /// Takes the next piece of the stream, and appends the frames that the stream now has beyond
-    /// those that it had.
+    /// Takes the next piece of the stream, and appends the frames by which the stream has grown.
     ///
-    /// Want of memory is free. After it the first of those frames were appended, and every later
-    /// call answers it and appends nothing.
+    /// May answer `NoMemory`. Then the first of those frames were appended, and every later call
+    /// answers `NoMemory` too and appends nothing.
     pub fn feed(&mut self, piece: &[u8], frames: &mut Frames) -> Result<(), NoMemory>
         // For every stream that may have brought the framer here.
         ensures fed { OnOk result ((fed : List ℕ) → StandsFor self.old fed
@@ -59,12 +58,12 @@ impl Framer {
         ensures due { OnOk result ((fed : List ℕ) → StandsFor self.old fed
             → Appends fed piece.now frames.old frames.new) }
 
-        // Behind a quit line.
+        // After a quit line.
         ensures quit { IsQuit self.old → result ≡ Ok tt }
         ensures lasts { IsQuit self.old → IsQuit self.new }
         ensures none { IsQuit self.old → frames.new ≡ frames.old }
 
-        // When memory was wanted, and after that.
+        // At a refused allocation, and after it.
         ensures first { OnErr result ((fed : List ℕ) → StandsFor self.old fed
             → AppendsFirst fed piece.now frames.old frames.new) }
         ensures refused { OnErr result (IsRefused self.new) }
@@ -110,7 +109,7 @@ impl Framer {
         }
     }
 
-    /// Whether a quit line was met: then no frame comes any more.
+    /// Whether a quit line was met: then no further frame comes.
     pub fn is_quit(&self) -> bool
         ensures value { result ≡ is_quit self.now }
         ensures exact { (fed : List ℕ) → StandsFor self.now fed → result ≡ meets_quit fed }

@@ -23,7 +23,7 @@ pub(crate) fn at_start(alloc: Global) -> State
     }
 }
 
-// In a line that so many bytes have come of.
+// In a line of which the bytes `kept` have come.
 pub(crate) fn step_in_line(alloc: Global, kept: Blob, bytes: &[u8]) -> Result<Step, NoMemory>
     requires short { IsShort kept }
     requires some { 0 < length bytes.now }
@@ -35,7 +35,7 @@ pub(crate) fn step_in_line(alloc: Global, kept: Blob, bytes: &[u8]) -> Result<St
     }
 }
 
-// The line goes on behind the bytes.
+// The line goes on after the bytes.
 fn grow_line(mut kept: Blob, bytes: &[u8]) -> Result<Step, NoMemory>
     requires short { IsShort kept }
     requires some { 0 < length bytes.now }

@@ -27,7 +27,7 @@ pub(crate) fn chomp(line: &[u8]) -> &[u8]
     &line[..last]
 }
 
-// The same, of a line that is taken over. Takes no memory.
+// The same for a line that is moved. Takes no memory.
 pub(crate) fn chomp_kept(mut line: Blob) -> Blob
     ensures value { result ≡ chomped line }
 {

@@ -16,6 +16,6 @@ pub(crate) enum State {
     Large { wanted: Wanted },
     // What follows a quit line.
     Quit,
-    // What follows after memory was wanted and not found.
+    // What follows after a refused allocation.
     Refused,
 }

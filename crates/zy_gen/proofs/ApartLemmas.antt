@@ -1,4 +1,4 @@
--- Generated traffic is apart.
+-- The connections of generated traffic are apart.
 use Rattle.std.proofs.Common.{◌≡◌, ℕ, ◌+◌, ◌<◌, ◌≤◌, List, [], ◌∷◌, ◌++◌, length, map, sym, ap, ◌∙◌, subst, arith, append-nil, zero, suc, ◌*◌}
 use Rattle.std.specs.Prelude.{flat_map}
 use Rattle.std.specs.List.{AllByRecursion, Contains, range_with_len, sum_by}
@@ -72,12 +72,12 @@ module _ (number connections commands conn : ℕ) (is : IsTraffic number connect
       ap (λ n. flat_map commands_of (map (λ session. stream conn session records) (range_with_len 0 (n + 1)))) (closes-none conn records gives.segments)
       ∙ append-nil (commands_of (stream conn 0 records)) ∙ commands_are conn (stream conn 0 records) gives.texts few gives.whole gives.each
 
-  -- the commands of a connection of generated traffic are plain, and about its own keys
+  -- the commands of a connection of generated traffic are plain, and use its own keys
   own_commands : AllByRecursion (IsOwnCommand (IsKeyOf conn)) (commands_in (records_of number connections commands) conn)
   unfolding records
   own_commands = subst (AllByRecursion (IsOwnCommand (IsKeyOf conn))) (sym commands_is) (texts_own conn gives.texts few gives.each)
 
-  -- and as many as were asked for
+  -- their number is the one that was asked for
   pub length-commands : length (commands_in (records_of number connections commands) conn) ≡ commands
   unfolding records
   length-commands = ap length commands_is ∙ length-map gives.texts (λ text. command_of (frame_of text)) ∙ gives.count
@@ -112,7 +112,7 @@ traffic_apart number connections commands is =
           key-conn conn other one.item two.item (omega arith) (omega arith) (sym one.is ∙ two.is);
     }
 
--- ---- how many commands
+-- ---- the number of commands
 
 counted : (f : ℕ → ℕ) (first n k : ℕ) → ((c : ℕ) → first ≤ c → c < first + n → f c ≡ k) → sum_by f (range_with_len first n) ≡ n * k
 counted f first zero k each = omega arith
@@ -123,7 +123,7 @@ counted f first (suc n) k each =
     let more : suc n * k ≡ n * k + k = suc-mul n k in
     omega arith
 
--- all connections have so many times as many as one
+-- all connections together have `connections * commands` commands
 pub traffic_count : (number connections commands : ℕ) → IsTraffic number connections commands → count_of_commands connections (commands_in (records_of number connections commands)) ≡ connections * commands
 traffic_count number connections commands is =
     counted (λ conn. length (commands_in (records_of number connections commands) conn)) 0 connections commands (λ conn low high. length-commands number connections commands conn is (omega arith))

@@ -15,7 +15,7 @@ rest : List ℕ → List ℕ
 rest [] = []
 rest (byte ∷ bytes) = bytes
 
--- what stands before the first colon of a text is told by the text
+-- a text determines what comes before its first colon
 before_colon : (xs ys us vs : List ℕ) → AllByRecursion (λ byte. byte < 58) xs → AllByRecursion (λ byte. byte < 58) ys → xs ++ 58 ∷ us ≡ ys ++ 58 ∷ vs → xs ≡ ys
 unfolding rest
 before_colon [] [] us vs low lows is = refl
@@ -26,7 +26,7 @@ before_colon (x ∷ xs) [] us vs low lows is =
 before_colon (x ∷ xs) (y ∷ ys) us vs low lows is =
     ap (λ (byte : ℕ). byte ∷ xs) (ap (λ (l : List ℕ). get_or l 0 0) is) ∙ ap (λ (l : List ℕ). y ∷ l) (before_colon xs ys us vs low.1 lows.1 (ap rest is))
 
--- a key tells its connection
+-- a key determines its connection
 pub key-conn : (conn other item another : ℕ) → conn < 2 ^ 64 → other < 2 ^ 64 → key conn item ≡ key other another → conn ≡ other
 unfolding key rest
 key-conn conn other item another small low is =

@@ -28,7 +28,7 @@ quiet_few : (quiet : Bool) → length (quiet_word quiet) ≤ 8
 quiet_few true = omega arith
 quiet_few false = omega arith
 
--- a key with what stands before and after it
+-- a key with bytes before and after it
 around : (before after : List ℕ) (connection item : ℕ) → connection < 4096 → length (before ++ (key connection item ++ after)) ≤ length before + (8 + length after)
 around before after connection item few =
     omega (arith, key_few connection item few, length-append before (key connection item ++ after), length-append (key connection item) after)

@@ -1,4 +1,4 @@
--- Each request of generated traffic says something of its connection's own.
+-- Each request of generated traffic asks for something at its own connection's keys.
 use Rattle.std.proofs.Common.{◌≡◌, ℕ, zero, suc, ◌+◌, ◌%◌, ◌^◌, ◌<◌, ◌≤◌, Bool, true, false, List, [], ◌∷◌, ◌++◌, length, refl, sym, ap, ◌∙◌, arith, append_assoc, append-nil, length-append}
 use Rattle.std.specs.Prelude.{◌&&◌, None, Some, if◌then◌else◌, option_map, codes, decimal}
 use Rattle.std.specs.List.{AllByRecursion, list_all}
@@ -48,7 +48,7 @@ asks_sizes verb k flags exptime bytes f b lasting is_flags is_bytes =
     ap (λ t. option_map (store_ask verb k) (if t then sizes (small_number_of flags) (small_number_of bytes) else None)) lasting
     ∙ ap (λ n. option_map (store_ask verb k) (sizes n (small_number_of bytes))) is_flags ∙ ap (λ n. option_map (store_ask verb k) (sizes (Some f) n)) is_bytes
 
--- what follows a word that stores, with sizes that are numbers
+-- the end of a line that stores, with sizes that are numbers
 checked : (verb : Verb) (k flags exptime bytes : List ℕ) (f b : ℕ) (quiet : Bool) → is_key k ≡ true → is_exptime exptime ≡ true → small_number_of flags ≡ Some f → small_number_of bytes ≡ Some b
     → check (is_key k && true) Errors.BadLine (find (option_map (store_ask verb k) (if is_exptime exptime then sizes (small_number_of flags) (small_number_of bytes) else None)) Errors.BadLine (λ ask. asks ask quiet))
     ≡ asks (stores verb k f b) quiet
@@ -260,7 +260,7 @@ says_many conn item few = record {
   own = (refl, own-keys conn item 50);
 }
 
--- each request of a connection says something of its own
+-- each request of a connection asks for something at the connection's own keys
 pub says : (conn item : ℕ) (request : Request) → conn < 4096 → IsSmall request → Says conn (request_text conn item request)
 says conn item Get few small = says_get conn item few
 says conn item GetMany few small = says_many conn item few

@@ -1,4 +1,5 @@
--- What a text that says something of a connection's own is: a frame text, and its command.
+-- A text that asks for something at a connection's own keys is a frame text, and its command is
+-- about them.
 use Rattle.std.proofs.Common.{◌≡◌, ℕ, ◌+◌, ◌≤◌, Bool, List, [], ◌∷◌, ◌++◌, length, sym, ap, ◌∙◌, subst, arith, length-append}
 use Rattle.std.specs.Prelude.{None}
 use Rattle.mc_parse.specs.Form.{Ask, asks, form_of, line_form}
@@ -15,7 +16,7 @@ use Rattle.zy_gen.proofs.SolidLemmas.{each-append, words-spoken, in_line-spoken,
 
 -- ---- what is asked for
 
--- the command of what is asked for is plain, and about keys of the connection
+-- the command of what is asked for is plain, and its keys are the connection's
 own_by : (conn : ℕ) (ask : Ask) (quiet : Bool) (line after : List ℕ) → line_form line ≡ asks ask quiet → IsOwnAsk (IsKeyOf conn) ask → IsOwnCommand (IsKeyOf conn) (command_of (frame_by (ask_need ask) line after))
 own_by conn ask quiet line after form own = frame_own (IsKeyOf conn) (ask_need ask) line after (subst (IsOwnForm (IsKeyOf conn)) (sym form) own)
 
@@ -52,6 +53,6 @@ module _ (conn : ℕ) (text : List ℕ) (says : Says conn text) (few : length te
       ap frame_of says.text_is ∙ ap frame_in (first_line-ended (line ++ 13 ∷ []) says.after none) ∙ frame_is (line ++ 13 ∷ []) says.after (ask_need says.ask) short need_is
       ∙ ap (λ (l : List ℕ). frame_by (ask_need says.ask) l says.after) (chomped-return line)
 
-  -- and its command is plain, and about keys of the connection
+  -- its command is plain, and its keys are the connection's
   pub said_own : IsOwnCommand (IsKeyOf conn) (command_of (frame_of text))
   said_own = subst (λ kind. IsOwnCommand (IsKeyOf conn) (command_of kind)) (sym framed) (own_by conn says.ask says.quiet line says.after form_is says.own)

@@ -1,4 +1,4 @@
--- Words and lines that have no space and no line feed where they must not, and the keys of connections.
+-- Words without a space, and lines without a line feed; and the keys of connections.
 use Rattle.std.proofs.Common.{◌≡◌, ℕ, ◌+◌, ◌%◌, ◌^◌, ◌<◌, ◌≤◌, true, List, [], ◌∷◌, ◌++◌, refl, ap, ◌∙◌, ne_eqb, arith}
 use Rattle.std.specs.Prelude.{◌==◌, ◌&&◌, not, Some, None, codes, decimal, if◌then◌else◌}
 use Rattle.std.specs.List.{AllByRecursion, list_all}
@@ -42,7 +42,7 @@ word_is : (text : List ℕ) → IsSolidWord text → is_word text ≡ true
 word_is [] solid = absurd (let some = solid.some in omega arith)
 word_is (byte ∷ bytes) solid = all_other (byte ∷ bytes) solid.solid
 
--- the words of a line are those that were spoken
+-- the words of a line made from words are these words
 pub words-spoken : (word : List ℕ) (more : List (List ℕ)) → AllByRecursion IsSolidWord (word ∷ more) → words (spoken word more) ≡ word ∷ more
 words-spoken word [] solid = words-one word (word_is word solid.0)
 words-spoken word (next ∷ more) solid =

@@ -1,4 +1,4 @@
--- What each iteration of the loops that write adds.
+-- What each iteration of the loops that write appends.
 use Rattle.std.proofs.Common.{◌≡◌, ℕ, suc, ◌+◌, ◌-◌, ◌%◌, ◌<◌, ◌≤◌, List, [], ◌∷◌, ◌++◌, take, drop, refl, sym, ◌∙◌, ap, arith, append_assoc}
 use Rattle.std.specs.Prelude.{flat_map}
 use Rattle.std.proofs.lemmas.List.{append-nil}
@@ -14,7 +14,7 @@ keys_next : (connection item left : ℕ) → keys connection item (suc left) ≡
 unfolding keys
 keys_next connection item left = refl
 
--- one key more
+-- one further key
 pub keys_step : (out total : List ℕ) (connection item i count : ℕ) → i < count → out ++ keys connection (item + i) (count - i) ≡ total
     → (out ++ (32 ∷ (key connection (item + i) ++ []))) ++ keys connection (item + (i + 1)) (count - (i + 1)) ≡ total
 keys_step out total connection item i count within is =
@@ -48,7 +48,7 @@ block_next : (letter left : ℕ) → block letter (suc left) ≡ (97 + letter % 
 unfolding block
 block_next letter left = refl
 
--- one letter more
+-- one further letter
 pub block_step : (out total : List ℕ) (letter i size : ℕ) → i < size → out ++ block (letter + i) (size - i) ≡ total
     → (out ++ (97 + (letter + i) % 26) ∷ []) ++ block (letter + (i + 1)) (size - (i + 1)) ≡ total
 block_step out total letter i size within is =
@@ -79,7 +79,7 @@ round_next : (connection left : ℕ) (words : Lcg) → one_round connection (suc
 unfolding one_round
 round_next connection left words = refl
 
--- one command more
+-- one further command
 pub round_step : (out total : List ℕ) (connection count : ℕ) (words : Lcg) → connection < count → out ++ flat_map spelled (one_round connection (count - connection) words).items ≡ total
     → (out ++ flat_map spelled (one_command connection words).items) ++ flat_map spelled (one_round (connection + 1) (count - (connection + 1)) (one_command connection words).left).items ≡ total
 round_step out total connection count words within is =
@@ -119,7 +119,7 @@ rounds_next : (connections left : ℕ) (words : Lcg) → rounds connections (suc
 unfolding rounds
 rounds_next connections left words = refl
 
--- one round more
+-- one further round
 pub rounds_step : (out total : List ℕ) (connections i count : ℕ) (words : Lcg) → i < count → out ++ flat_map spelled (rounds connections (count - i) words).items ≡ total
     → (out ++ flat_map spelled (one_round 0 connections words).items) ++ flat_map spelled (rounds connections (count - (i + 1)) (one_round 0 connections words).left).items ≡ total
 rounds_step out total connections i count words within is =

@@ -1,4 +1,4 @@
--- The stream of each connection of generated traffic is requests of its own, one after another.
+-- The stream of each connection of generated traffic is its own requests, one after another.
 use Rattle.std.proofs.Common.{◌≡◌, ℕ, zero, suc, ◌+◌, ◌<◌, ◌≤◌, Bool, true, false, cond, List, [], ◌∷◌, ◌++◌, length, take, drop, take-append-drop, refl, sym, ap, ◌∙◌, append_assoc, append-nil, length-append, subst, eq-eqb, ne_eqb, arith}
 use Rattle.std.specs.Prelude.{◌==◌, ◌&&◌}
 use mathlib.Core.Logic.{dite}
@@ -75,7 +75,7 @@ gives-own conn connection words is =
       each = (record { item = drawn.command.item; request = drawn.command.request; small = command_small words; is = ap (λ c. text_of c drawn.command) is }, tt);
     }
 
--- a command of another
+-- a command of another connection
 gives-other : (conn connection : ℕ) (words : Lcg) → (connection ≡ conn → ⊥) → Gives conn 0 (one_command connection words).items
 unfolding one_command
 gives-other conn connection words other =
@@ -112,6 +112,6 @@ rounds-all conn connections (suc count) words within =
     (gives-append conn 1 count (one_round 0 connections words).items (rounds connections count (one_round 0 connections words).left).items
     (round-one conn 0 connections words (omega arith) (omega arith)) (rounds-all conn connections count (one_round 0 connections words).left within))
 
--- each connection's stream is as many requests of its own as were asked for
+-- each connection's stream is `commands` requests of its own
 pub gives-traffic : (conn number connections commands : ℕ) → conn < connections → Gives conn commands (records_of number connections commands)
 gives-traffic conn number connections commands within = rounds-all conn connections commands (words_of number) within

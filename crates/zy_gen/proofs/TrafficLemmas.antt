@@ -17,7 +17,7 @@ drawn_below : (below : ℕ) (words : Lcg) → 0 < below → (draw below words).v
 unfolding draw
 drawn_below below words some = omega (arith, some)
 
--- a fact of both ways that a test may go
+-- what holds in both cases of a test
 either : {S : Type 0} (P : S → Type 0) (test : Bool) (x y : S) → P x → P y → P (if test then x else y)
 either P test x y first second = elim test as (λ (t : Bool). P (if t then x else y)) [ true ↦ first | false ↦ second ]
 
@@ -29,7 +29,7 @@ request_small kind words =
     let P : DrawnRequest → Type 0 = λ (d : DrawnRequest). IsSmall d.request in
     either P (nat_lt kind 8) _ _ tt (either P (kind == 8) _ _ tt (either P (nat_lt kind 11) _ _ (set_small false words) (either P (kind == 11) _ _ (set_small true words) (either P (kind == 12) _ _ tt (either P (kind == 13) _ _ tt (either P (kind == 14) _ _ tt tt))))))
 
--- flags and blocks of a command that is drawn are small
+-- the flags and the block of a command that is drawn are small
 pub command_small : (words : Lcg) → IsSmall (draw_command words).command.request
 command_small words = request_small (draw 16 words).value (draw 64 (draw 16 words).left).left
 
@@ -39,7 +39,7 @@ all_on : (P : Record → Type 0) (xs ys : List Record) → AllByRecursion P xs �
 all_on P [] ys first second = second
 all_on P (x ∷ xs) ys first second = (first.0, all_on P xs ys first.1 second)
 
--- some segments are lawful, and have at most so many bytes
+-- some segments are lawful, and have at most `most` bytes together
 record AreFew (connections most : ℕ) (items : List Record) : Type 0 where
   lawful : AllByRecursion (IsRecordOf 1 connections) items
   few : length (flat_map spelled items) ≤ most

@@ -17,11 +17,11 @@ text_is : request_text 0 9 Get ≡ codes "get k0:9\r\n"
 unfolding request_text
 text_is = rw key_is refl
 
--- the words after the kind and the key
+-- the words that are left after the kind and the key
 left : Lcg
 left = (draw_command (words_of 42)).left
 
--- the command, with any bytes
+-- the command, whatever its bytes
 with_bytes : List ℕ → Made
 with_bytes bytes = record { items = cut 0 bytes (draw (length bytes + 1) left).value; left = (draw (length bytes + 1) left).left }
 

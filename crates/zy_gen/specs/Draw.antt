@@ -9,7 +9,7 @@ use Rattle.zy_gen.specs.declared.request.Command.{Command}
 
 -- ---- words
 
--- the words of a number
+-- the words for a number
 abbrev pub words_of : ℕ → Lcg
 words_of number = started 64 multiplier_64 number (increment_of 64 54)
 
@@ -54,7 +54,7 @@ draw_request kind words =
     else if kind == 12 then plain SetTen words else if kind == 13 then plain Incr words
     else if kind == 14 then plain Append words else plain Delete words
 
--- a command: its kind, its key's number, and what its kind draws
+-- a command: its kind, the number of its key, and what its kind draws
 abbrev pub draw_command : Lcg → DrawnCommand
 draw_command words =
     let kind = draw 16 words in

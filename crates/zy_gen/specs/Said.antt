@@ -14,20 +14,20 @@ use Rattle.zy_gen.specs.Traffic.{key, request_text, IsSmall}
 
 -- ---- bytes
 
--- no byte is a space or below one
+-- each byte is above that of a space
 abbrev pub IsSolid : List ℕ → Type 0
 IsSolid text = AllByRecursion (λ byte. 33 ≤ byte) text
 
--- no byte is a line feed or below one
+-- each byte is above that of a line feed
 abbrev pub IsInLine : List ℕ → Type 0
 IsInLine text = AllByRecursion (λ byte. 11 ≤ byte) text
 
--- a text of a byte at least, of which none is a space or below one
+-- a text of at least one byte, each above that of a space
 pub record IsSolidWord (text : List ℕ) : Type 0 where
   pub some : 0 < length text
   pub solid : IsSolid text
 
--- words with a space between each two
+-- words with one space between each two
 abbrev pub spoken : List ℕ → List (List ℕ) → List ℕ
 spoken word [] = word
 spoken word (next ∷ words) = word ++ 32 ∷ spoken next words
@@ -41,7 +41,8 @@ pub record IsKeyOf (conn : ℕ) (text : List ℕ) : Type 0 where
 
 -- ---- texts
 
--- a text is a line of words that ask for something of the connection's own, and what belongs to it
+-- a text is a line of words that ask for something at the connection's own keys, and the block that
+-- belongs to it
 pub record Says (conn : ℕ) (text : List ℕ) : Type 0 where
   pub name : List ℕ
   pub words : List (List ℕ)
@@ -69,7 +70,7 @@ AreSegments [] = Unit {0}
 AreSegments (Kinds.Segment s ∷ items) = AreSegments items
 AreSegments (Kinds.Close conn ∷ items) = ⊥
 
--- records are segments, and those of a connection join to so many requests of its own
+-- records are segments, and those of a connection join to `n` requests of its own
 pub record Gives (conn n : ℕ) (items : List Record) : Type 0 where
   pub segments : AreSegments items
   pub texts : List (List ℕ)

@@ -17,12 +17,12 @@ use Rattle.zy_gen.specs.Draw.{words_of, draw, draw_command}
 unfoldable pub key : ℕ → ℕ → List ℕ
 key connection item = codes "k" ++ (decimal connection ++ (codes ":" ++ decimal (item % 64)))
 
--- some keys of a connection, from a number on, each behind a space
+-- `count` keys of a connection, from a number on, each after a space
 unfoldable pub keys : ℕ → ℕ → ℕ → List ℕ
 keys connection item zero = []
 keys connection item (suc count) = codes " " ++ (key connection item ++ keys connection (item + 1) count)
 
--- a block: letters from one on, `a` behind `z`
+-- a block of `count` letters, from one on; `a` comes after `z`
 unfoldable pub block : ℕ → ℕ → List ℕ
 block letter zero = []
 block letter (suc count) = (97 + letter % 26) ∷ block (letter + 1) count
@@ -51,7 +51,7 @@ request_text connection item Delete = codes "delete " ++ (key connection item ++
 abbrev pub text_of : ℕ → Command → List ℕ
 text_of connection command = request_text connection command.item command.request
 
--- flags and blocks are as small as they are drawn
+-- flags and blocks are as small as those that are drawn
 abbrev pub IsSmall : Request → Type 0
 IsSmall (Set flags size quiet) = (flags < 65536) × (size < 256)
 IsSmall request = Unit {0}
@@ -71,11 +71,11 @@ behind items made = record { items = items ++ made.items; left = made.left }
 abbrev pub segment : ℕ → List ℕ → Record
 segment connection bytes = Kinds.Segment (record { conn = connection; bytes = bytes })
 
--- some bytes in two segments, of which the first has so many
+-- some bytes in two segments, the first of which has `at` bytes
 abbrev pub cut : ℕ → List ℕ → ℕ → List Record
 cut connection bytes at = segment connection (take at bytes) ∷ segment connection (drop at bytes) ∷ []
 
--- one command of a connection, in two segments that are cut where a draw says
+-- one command of a connection, in two segments that are cut at a place that is drawn
 unfoldable pub one_command : ℕ → Lcg → Made
 one_command connection words =
     let drawn = draw_command words in
@@ -83,13 +83,13 @@ one_command connection words =
     let at = draw (length bytes + 1) drawn.left in
     record { items = cut connection bytes at.value; left = at.left }
 
--- one command of each of so many connections, from one on
+-- one command of each of `count` connections, from one on
 unfoldable pub one_round : ℕ → ℕ → Lcg → Made
 one_round connection zero words = record { items = []; left = words }
 one_round connection (suc count) words = behind (one_command connection words).items
     (one_round (connection + 1) count (one_command connection words).left)
 
--- so many rounds
+-- `count` rounds
 unfoldable pub rounds : ℕ → ℕ → Lcg → Made
 rounds connections zero words = record { items = []; left = words }
 rounds connections (suc count) words =
@@ -97,11 +97,12 @@ rounds connections (suc count) words =
 
 -- ---- the capture
 
--- how a capture of so many connections begins
+-- the beginning of a capture of `connections` connections
 abbrev pub head : ℕ → List ℕ
 head connections = magic 1 ++ to_be_bytes w32 connections
 
--- the segments of the traffic of a number, so many connections, and so many commands of each
+-- the segments of the traffic made from a number, with `commands` commands of each of `connections`
+-- connections
 abbrev pub records_of : ℕ → ℕ → ℕ → List Record
 records_of number connections commands = (rounds connections commands (words_of number)).items
 
@@ -109,7 +110,7 @@ records_of number connections commands = (rounds connections commands (words_of 
 abbrev pub gen_bytes : ℕ → ℕ → ℕ → List ℕ
 gen_bytes number connections commands = spelling 1 connections (records_of number connections commands)
 
--- what may be asked for: 1 to 4,096 connections, and at most 1,000,000 commands in all
+-- the arguments allowed: 1 to 4,096 connections, and at most 1,000,000 commands in all
 pub record IsTraffic (number connections commands : ℕ) : Type 0 where
   pub number_fits : number < 2 ^ 32
   pub some_connections : 0 < connections

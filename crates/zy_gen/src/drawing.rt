@@ -1,4 +1,4 @@
-//! What is drawn for a command.
+//! The draws of a command.
 ghost use Rattle.std.specs.Prelude.{◌≡◌, ◌<◌};
 ghost use Rattle.zy_gen.specs.Draw.{draw, draw_command, draw_request, draw_set};
 ghost use Rattle.zy_gen.specs.Traffic.{IsSmall};
@@ -31,7 +31,7 @@ pub(crate) fn draw_command(words: &mut Lcg64Xsh32) -> Command
     Command { item, request }
 }
 
-// The request of a kind, with what it draws.
+// The request of a kind, with the draws that it needs.
 fn draw_request(words: &mut Lcg64Xsh32, kind: u32) -> Request
     ensures value { result ≡ (draw_request kind words.old).request }
     ensures left { words.new ≡ (draw_request kind words.old).left }

@@ -12,8 +12,7 @@ ghost use Rattle.zy_run.specs.Summary.{count_of_commands, summary, summary_of_ru
 ghost use Rattle.zy_gen.specs.Traffic.{gen_bytes, records_of, IsTraffic};
 ghost use Rattle.zy_gen.specs.Worked.{worked_bytes};
 
-/// Generated traffic is a good capture of version 1, with its count of connections and its
-/// segments.
+/// Generated traffic is a good capture of version 1, with its number of connections and its segments.
 pub fn generated_traffic_is_a_good_capture()
     ensures spells { (number connections commands : ℕ) → IsTraffic number connections commands
         → Spells (gen_bytes number connections commands) 1 connections
@@ -28,8 +27,8 @@ pub fn the_worked_capture_has_its_bytes()
     ensures value { gen_bytes 42 1 1 ≡ worked_bytes }
 {}
 
-/// Each connection of generated traffic has as many commands as were asked for, and all together
-/// have so many times as many.
+/// Each connection of generated traffic has `commands` commands, and all of them together have
+/// `connections * commands`.
 pub fn generated_traffic_has_its_commands()
     ensures each { (number connections commands conn : ℕ) → IsTraffic number connections commands
         → conn < connections
@@ -39,8 +38,8 @@ pub fn generated_traffic_has_its_commands()
         ≡ connections * commands }
 {}
 
-/// The commands of generated traffic do not meet: no key is called by two connections, and none is
-/// `gets`, `cas` or `flush_all`.
+/// The connections of generated traffic are apart: no key is called by two of them, and no command
+/// is `gets`, `cas` or `flush_all`.
 pub fn generated_traffic_is_apart()
     ensures value { (number connections commands : ℕ) → IsTraffic number connections commands
         → AreApart connections (commands_in (records_of number connections commands)) }

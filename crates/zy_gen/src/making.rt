@@ -10,8 +10,9 @@ use rand_pcg::Lcg64Xsh32;
 use std::alloc::Global;
 use zy_base::{Blob, NoMemory};
 
-/// The capture of a number: so many connections, each with so many commands, that go round by
-/// connection. Each command comes in two segments, of which either may be empty.
+/// The capture made from this number: `conns` connections with `commands` commands each, one
+/// command of each connection in turn. Each command comes in two segments, either of which may be
+/// empty.
 pub fn generate(alloc: Global, number: u32, conns: u32, commands: u32) -> Result<Blob, NoMemory>
     requires traffic { IsTraffic number conns commands }
     ensures value { IfOk result (λ made. made ≡ gen_bytes number conns commands) }
@@ -25,7 +26,7 @@ pub fn generate(alloc: Global, number: u32, conns: u32, commands: u32) -> Result
     Ok(out)
 }
 
-// Appends the magic and the count.
+// Appends the magic and the number of connections.
 fn append_head(out: &mut Blob, conns: u32) -> Result<(), NoMemory>
     ensures ok { OnOk result (out.new ≡ out.old ++ head conns) }
 {
@@ -33,7 +34,7 @@ fn append_head(out: &mut Blob, conns: u32) -> Result<(), NoMemory>
     out.append(&conns.to_be_bytes())
 }
 
-// Appends the segments of so many rounds.
+// Appends the segments of `commands` rounds.
 fn append_rounds(
     out: &mut Blob,
     line: &mut Blob,
@@ -89,7 +90,7 @@ fn append_command(
     append_segment(out, conn, &bytes[at..])
 }
 
-// Leaves the bytes of the next command of a connection in the line.
+// Writes the bytes of the next command of a connection into `line`.
 #[tactic(auto, using(crate::proofs::LengthLemmas::text_few))]
 fn draw_text(line: &mut Blob, words: &mut Lcg64Xsh32, conn: u32) -> Result<(), NoMemory>
     requires few { conn < 4096 }

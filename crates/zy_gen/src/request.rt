@@ -1,13 +1,13 @@
 //! What a generated command asks for.
 
-/// What a command asks for, beside its key.
+/// What a command asks for, besides its key.
 #[derive(Clone, Copy, PartialEq, Eq)]
 pub enum Request {
     /// `get` of the key.
     Get,
     /// `get` of 50 keys, this one first.
     GetMany,
-    /// `set` with these flags and a block of so many bytes; quiet with `noreply`.
+    /// `set` with these flags and a block of `size` bytes; quiet with `noreply`.
     Set { flags: u32, size: u32, quiet: bool },
     /// `set` of the value 10.
     SetTen,

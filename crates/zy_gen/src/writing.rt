@@ -37,7 +37,7 @@ fn append_key(out: &mut Blob, conn: u32, item: u32) -> Result<(), NoMemory>
     number_text(out, u64::from(item % 64))
 }
 
-// Appends a key with what stands before and after it.
+// Appends a key with bytes before and after it.
 fn append_with_key(
     out: &mut Blob,
     before: &[u8],
@@ -63,7 +63,7 @@ fn append_many(out: &mut Blob, conn: u32, item: u32) -> Result<(), NoMemory>
     out.append(b"\r\n")
 }
 
-// Appends some keys, each behind a space.
+// Appends `count` keys, each after a space.
 fn append_keys(out: &mut Blob, conn: u32, item: u32, count: u32) -> Result<(), NoMemory>
     requires few { (item < 64) × (count ≤ 50) }
     ensures ok { OnOk result (out.new ≡ out.old ++ keys conn item count) }
@@ -95,7 +95,7 @@ fn append_set(
     append_rest(out, item, size, quiet)
 }
 
-// Appends what follows the size of a `set`.
+// Appends the part of a `set` after its size.
 fn append_rest(out: &mut Blob, item: u32, size: u32, quiet: bool) -> Result<(), NoMemory>
     requires few { (item < 64) × (size < 256) }
     ensures ok { OnOk result (out.new ≡

@@ -14,7 +14,7 @@ length-blocks_in [] = omega arith
 length-blocks_in (None ∷ xs) = let h = length-blocks_in xs in omega arith
 length-blocks_in (Some b ∷ xs) = let h = length-blocks_in xs in omega arith
 
--- what is so of each block in a slot is so of each of the blocks
+-- what holds of each block in a slot holds of each of the blocks
 pub each_block : (P : Blocked → Type 0) (xs : List (Option Blocked)) → ((p : ℕ) (b : Blocked) → slice_get xs p ≡ Some (Some b) → P b) → AllByRecursion P (blocks_in xs)
 each_block P [] each = tt
 each_block P (None ∷ xs) each = each_block P xs (λ p b e. each (suc p) b e)

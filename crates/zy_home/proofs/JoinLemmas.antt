@@ -116,7 +116,7 @@ module _ (h : Homed) (w : Held Blocked) (n p : ℕ) (b : Blocked) (k : Keeps h) 
         label = j.labelled ∙ sym (ap (λ (v : Held Blocked). v.label) j.is);
       }
 
--- two parts of a call, of which the first publishes nothing
+-- two parts of a call, the first of which publishes nothing
 pub same_on : (a b c : Homed) → SameHome a b → b.pass.count ≡ a.pass.count → SameHome b c → SameHome a c
 same_on a b c s e t = record {
   core = t.core ∙ s.core;

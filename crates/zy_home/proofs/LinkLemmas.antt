@@ -42,7 +42,7 @@ ends_from-push before (stream ∷ streams) last =
     (ends_from-push (before + length (frames_of stream)) streams last
     ∙ ap (λ n. ends_from (before + length (frames_of stream)) streams ++ n ∷ []) at)
 
--- ---- what the connection stands for
+-- ---- what the connection may have received
 
 module _ (l m : Link) (s : Sessions) (h : LinkStands l s) where
   -- bytes were cut: `front` is the frame that was handed back, if any

@@ -1,4 +1,4 @@
--- That a home which is made of its parts keeps its rule, and has received nothing.
+-- A home that is made of its parts keeps its rule, and has received nothing.
 use Rattle.std.specs.Prelude.{map, option_map, take}
 use Rattle.std.specs.List.{AllByRecursion}
 use Rattle.std.proofs.Common.{◌≡◌, ℕ, zero, suc, ◌+◌, ◌<◌, ◌≤◌, List, [], ◌∷◌, ◌++◌, length, Bool, true, false, Option, Some, None, slice_get, refl, sym, ap, ◌∙◌, subst, arith}
@@ -66,7 +66,7 @@ fresh_at (c ∷ bs) (i ∷ is) (m ∷ ls) zero b l f eb el =
 fresh_at (c ∷ bs) (i ∷ is) (m ∷ ls) (suc p) b l f eb el =
     let r = fresh_at bs is ls p b l f.1 eb el in record { inlet = r.inlet; there = r.there; fresh = r.fresh }
 
--- a link more
+-- one further link
 pub fresh_push : (bs : List Blocked) (is : List EventInlet) (ls : List Link) (b : Blocked) (i : EventInlet) (l : Link) → AreFresh bs is ls → IsFresh b.work.conn i l → AreFresh (bs ++ b ∷ []) (is ++ i ∷ []) (ls ++ l ∷ [])
 fresh_push [] [] [] b i l f g = (g, tt)
 fresh_push [] [] (m ∷ ls) b i l f g = absurd f
@@ -77,7 +77,7 @@ fresh_push (c ∷ bs) (j ∷ is) (m ∷ ls) b i l f g = (f.0, fresh_push bs is l
 
 -- ---- the home
 
--- a new block is idle and has the mark that is due
+-- a new block is idle and has the expected mark
 new_at : (label : Name) (pass : Held Blocked) (p : ℕ) (b : Blocked) (i : EventInlet) (l : Link) → IsNew label b → IsFresh b.work.conn i l → i.ring ≡ b.work.ring → i.sent ≡ [] → IsAt pass p l (Some b)
 new_at label pass p b i l n f ring unused =
     let shown : take b.work.shown (texts_all b.work) ≡ [] = ap (λ k. take k (texts_all b.work)) n.shown in
@@ -103,7 +103,7 @@ module _ (core cores count : ℕ) (pass : Held Blocked) (blocks : List Blocked) 
   pub made_conns : conns_in links ≡ own_conns core cores count
   made_conns = fresh_conns blocks inlets links fresh ∙ ap conns_of_blocks is_blocks ∙ fits.conns
 
-  -- there are as many links as blocks
+  -- there is a link for each block
   long : length links ≡ length blocks
   long = sym (length-map links conn_of) ∙ ap (λ (l : List ℕ). length l) (fresh_conns blocks inlets links fresh) ∙ length-map blocks (λ (b : Blocked). b.work.conn)
 

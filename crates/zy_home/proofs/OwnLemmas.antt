@@ -84,7 +84,7 @@ module _ (links : List Link) (rises : IsRising (conns_in links)) (conn middle : 
       (λ lt. let r = rises middle at (conn_of l) (conn_of x) (conn_at links middle l there) (conn_at links at x e) lt in omega arith)
       (λ no. let same : at ≡ middle = omega arith in let is : Some x ≡ Some l = sym e ∙ ap (slice_get links) same ∙ there in let one : x ≡ l = cc in let two = ap conn_of one in omega arith)
 
--- ---- one connection more
+-- ---- one further connection
 
 range-last : (a n : ℕ) → range_with_len a (n + 1) ≡ range_with_len a n ++ (a + n) ∷ []
 range-last a n = let more : n + 1 ≡ suc n = omega arith in ap (range_with_len a) more ∙ go a n

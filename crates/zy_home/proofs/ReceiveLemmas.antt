@@ -51,7 +51,7 @@ takes_other c conn s (Segment other bytes) e ne = one_other (with_bytes bytes) o
 takes_other c conn s (Close other) e ne = one_other with_close other c s (λ same. ne (cc))
 takes_other c conn s End e ne = absurd (cc)
 
--- behind the end nothing changes
+-- after the end nothing changes
 takes_behind : (c : ℕ) (s : Sessions) (item : Rx) → s.ended ≡ true → takes_in c s item ≡ s
 takes_behind c s (Segment conn bytes) e = ap (λ b. if b then s else if conn == c then with_bytes bytes s else s) e
 takes_behind c s (Close conn) e = ap (λ b. if b then s else if conn == c then with_close s else s) e
@@ -73,7 +73,7 @@ is_for c (Segment conn bytes) e = cc
 is_for c (Close conn) e = cc
 is_for c End e = absurd (cc)
 
--- the end is no item of a connection
+-- an item that belongs to no connection is the end
 pub is_the_end : (item : Rx) → item_conn item ≡ None → item ≡ End
 is_the_end (Segment conn bytes) e = absurd (cc)
 is_the_end (Close conn) e = absurd (cc)
@@ -97,7 +97,7 @@ link_own h k p l e = own_is h.core h.cores h.count p (conn_of l) (ap (λ ns. sli
 pub apart : (h : Homed) → Keeps h → (p q : ℕ) (l m : Link) → slice_get h.links p ≡ Some l → slice_get h.links q ≡ Some m → conn_of l ≡ conn_of m → p ≡ q
 apart h k p q l m = rising_apart h.links (λ p q a b ea eb. own_rises h.core h.cores h.count p q a b (ap (λ ns. slice_get ns p) (sym k.conns) ∙ ea) (ap (λ ns. slice_get ns q) (sym k.conns) ∙ eb)) p q l m
 
--- ---- what the home stands for
+-- ---- what the home may have received
 
 -- the item is of no connection of the home
 pub more_none : (h : Homed) (conn : ℕ) (item : Rx) → item_conn item ≡ Some conn → ((p : ℕ) (l : Link) → slice_get h.links p ≡ Some l → conn_of l ≢ conn) → StandsMore h item h
@@ -106,7 +106,7 @@ more_none h conn item is none items s = record {
   links = λ p l e. subst (LinkStands l) (sym (push (conn_of l) items item ∙ takes_other (conn_of l) conn (sessions_of (conn_of l) items) item is (none p l e))) (s.links p l e);
 }
 
--- the item comes behind the end
+-- the item comes after the end
 pub more_behind : (h : Homed) (item : Rx) → h.ended ≡ true → StandsMore h item h
 more_behind h item e items s =
     let same : (c : ℕ) → sessions_of c (items ++ item ∷ []) ≡ sessions_of c items = λ c. push c items item ∙ takes_behind c (sessions_of c items) item (s.ended c ∙ e) in record {
@@ -133,11 +133,11 @@ more_at h p x l m w r t k live item own takes items s =
 
 -- ---- what was done
 
--- the item comes to no place
+-- the item is for no place
 pub forwards_none : (h h' : Homed) (item : Rx) → ((p : ℕ) → ComesTo h p item → ⊥) → Forwards h h' item
 forwards_none h h' item none = record { here = λ p b comes at. absurd (none p comes); away = λ p comes at. absurd (none p comes) }
 
--- it comes to a place where it was taken in
+-- it is for a place, where it was received
 module _ (h : Homed) (k : Keeps h) (p : ℕ) (x : Option Blocked) (l m : Link) (w : Held Blocked) (r : Bool) (item : Rx) (there : slice_get h.links p ≡ Some l) (conn : conn_of m ≡ conn_of l) (own : IsFor (conn_of l) item) where
   place_is : (q : ℕ) → ComesTo h q item → q ≡ p
   place_is q c = apart h k q p c.link l c.there there (let one = for_is (conn_of c.link) item c.own in let two = for_is (conn_of l) item own in cc)
@@ -159,7 +159,7 @@ module _ (h : Homed) (k : Keeps h) (p : ℕ) (x : Option Blocked) (l m : Link) (
 
 -- ---- whole steps
 
--- what the taking in of an item comes to
+-- the result of receiving an item
 pub record Received (h h' : Homed) (item : Rx) : Type 0 where
   pub keeps : Keeps h'
   pub same : SameHome h h'
@@ -167,7 +167,7 @@ pub record Received (h h' : Homed) (item : Rx) : Type 0 where
   pub forwards : Forwards h h' item
 
 module _ (h : Homed) (k : Keeps h) (p : ℕ) (item : Rx) (comes : ComesTo h p item) (l m : Link) (w : Held Blocked) (x0 x : Option Blocked) (slot : x0 ≡ get_or h.blocks p x0) (at : l ≡ get_or h.links p l) where
-  -- the item is for the connection that stands there
+  -- the item is for the connection at this place
   pub comes_own : IsFor (conn_of l) item
   comes_own = subst (λ (z : Link). IsFor (conn_of z) item) (sym (fed_link h k p comes.link l m w x0 x comes.there slot at)) comes.own
 

@@ -145,7 +145,7 @@ same_hand h p m w x None r e s = record { pass = s.0; blocks = filled-set h.bloc
 
 -- ---- whole steps
 
--- what a step at one place comes to
+-- the result of a step at one place
 pub record Stepped (h h' : Homed) (l m : Link) : Type 0 where
   pub keeps : Keeps h'
   pub same : SameHome h h'
@@ -159,7 +159,7 @@ module _ (h : Homed) (k : Keeps h) (p : ℕ) (b : Blocked) (o : IsOut h p b) (l 
   pub out_there : slice_get h.links p ≡ Some l
   out_there = get_at h.links p l l (get_below h.links p o.link o.there) at
 
-  -- the block has what its connection is due
+  -- the block has the mark that its connection expects
   pub out_due : IsDue h.pass p l b
   out_due = let e : Some o.link ≡ Some l = sym o.there ∙ out_there in let is : o.link ≡ l = cc in record { hand = o.hand; mark = o.mark ∙ ap due_mark is; label = o.label }
 

@@ -1,4 +1,4 @@
--- What a home keeps and stands for, after a step at one of its places.
+-- What a home keeps, and what it may have received, after a step at one of its places.
 use Rattle.std.specs.Prelude.{map}
 use Rattle.std.proofs.Common.{◌≡◌, ◌≢◌, ℕ, zero, suc, ◌+◌, ◌<◌, ◌≤◌, List, [], ◌∷◌, ◌++◌, length, set, Bool, true, false, Option, Some, None, slice_get, refl, sym, ap, ◌∙◌, subst, arith, length-set}
 use mathlib.Core.Logic.{dite}
@@ -20,7 +20,7 @@ conns-set [] p l m e same = refl
 conns-set (y ∷ ys) zero l m e same = let is : y ≡ l = cc in ap (λ c. c ∷ conns_in ys) (same ∙ ap conn_of (sym is))
 conns-set (y ∷ ys) (suc p) l m e same = ap (λ l. conn_of y ∷ l) (conns-set ys p l m e same)
 
--- what is so of another place
+-- what holds of another place
 pub at_else : (v w : Held Blocked) (q : ℕ) (l : Link) (x : Option Blocked) → is_in q w.hand ≡ is_in q v.hand → marked mark_in q w.kept ≡ marked mark_in q v.kept → IsAt v q l x → IsAt w q l x
 at_else v w q l None hand kept k = λ out. kept ∙ k (sym hand ∙ out)
 at_else v w q l (Some b) hand kept k = k
@@ -64,7 +64,7 @@ module _ (h : Homed) (p : ℕ) (x : Option Blocked) (l m : Link) (w : Held Block
     once = t.pass.once;
   }
 
-  -- the connection stands for what it stood for
+  -- the connection may have received what it may have received before
   pub turned_stands : StandsOn l m → StandsHome h (turned h p x m w r)
   turned_stands f items s = record {
     ended = s.ended;
@@ -74,7 +74,7 @@ module _ (h : Homed) (p : ℕ) (x : Option Blocked) (l m : Link) (w : Held Block
         (λ ne. s.links q n (sym (get_set_else h.links p q m ne) ∙ e));
   }
 
-  -- the connection stands for more, and every other for what it stood for
+  -- the connection may have received one further item, and every other what it may have received before
   pub turned_more : ((q o : ℕ) (a b : Link) → slice_get h.links q ≡ Some a → slice_get h.links o ≡ Some b → conn_of a ≡ conn_of b → q ≡ o)
       → (items more : List Rx) → HomeStands h items → ((c : ℕ) → (sessions_of c more).ended ≡ (sessions_of c items).ended)
       → (LinkStands l (sessions_of (conn_of l) items) → LinkStands m (sessions_of (conn_of l) more))

@@ -1,4 +1,4 @@
--- What is left of a home at the end: its blocks, and the outputs of its connections.
+-- What a home hands out at the end: its blocks, and the outputs of its connections.
 use Rattle.std.specs.Prelude.{◌≡◌, ℕ, List, [], ◌∷◌, Option, Some, None}
 use Rattle.zy_calls.specs.Output.{Output}
 use Rattle.zy_table.specs.declared.name.Name.{Name}
@@ -12,7 +12,7 @@ blocks_in [] = []
 blocks_in (None ∷ slots) = blocks_in slots
 blocks_in (Some block ∷ slots) = block ∷ blocks_in slots
 
--- what is left of a connection: its output, and the ends of its sessions
+-- the end of a connection: its output, and the ends of its sessions
 pub record Ended : Type 0 where
   pub output : Output
   pub ends : List ℕ
@@ -21,7 +21,7 @@ pub record Ended : Type 0 where
 abbrev pub ended : Output → List ℕ → Ended
 ended output ends = record { output = output; ends = ends }
 
--- what is left of a connection that is no longer served
+-- the end of a connection that is no longer served
 abbrev pub ended_of : Link → Ended
 ended_of l = ended l.output l.ends
 

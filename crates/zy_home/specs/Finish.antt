@@ -1,4 +1,4 @@
--- What is so of a connection at the end, when all that it received was carried out.
+-- A connection at the end, when all that it received was carried out.
 use Rattle.std.specs.Prelude.{◌≡◌, ℕ, ◌+◌, ◌-◌, List, [], ◌∷◌, length, take, drop, flat_map}
 use Rattle.zy_base.specs.declared.entry.Entry.{Entry}
 use Rattle.mc_parse.specs.declared.command.Command.{Command}
@@ -13,9 +13,10 @@ use Rattle.zy_home.specs.Link.{ends_from}
 abbrev pub commands_received : Sessions → List Command
 commands_received s = flat_map commands_of (streams_of s)
 
--- the end of a connection that received these sessions, with its calls on so many shards, its output, and the ends of
--- its sessions: each call due was made, in order; the output has the texts of all commands, each with the replies of
--- its own calls; all commands are finished; and each closed session ends behind its commands
+-- the end of a connection that received these sessions, with its calls on `shards` shards, its
+-- output, and the ends of its sessions: each expected call was made, in order; the output has the
+-- texts of all commands, each from the replies of its own calls; all commands are finished; and
+-- each closed session ends after its commands
 pub record ConnEnd (shards : ℕ) (calls : List Entry) (s : Sessions) (output : Output) (ends : List ℕ) : Type 0 where
   pub dues : dues_of calls ≡ due shards output.conn (commands_received s)
   pub texts : output.texts ≡ texts_of (commands_received s) calls
@@ -24,7 +25,8 @@ pub record ConnEnd (shards : ℕ) (calls : List Entry) (s : Sessions) (output : 
 
 -- ---- the outputs of sessions
 
--- the texts of each of these sessions, of which the first command has this index, with the replies of these entries
+-- the texts of each of these sessions, where the first command has this index, from the replies of
+-- these entries
 abbrev pub outputs_from : ℕ → List (List ℕ) → List Entry → List (List (List ℕ))
 outputs_from index [] entries = []
 outputs_from index (stream ∷ streams) entries =

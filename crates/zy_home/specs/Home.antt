@@ -13,9 +13,9 @@ use Rattle.zy_home.specs.Own.{own_conns}
 
 -- ---- values
 
--- a home: its core, of how many, and the count of all connections; its pass; for each of its connections, by rising
--- number, the block where it is in the home's hand, and what the home keeps beside it; whether the end was received;
--- and whether memory was refused
+-- a home: its core, the number of cores, and the number of all connections; its pass; for each of
+-- its connections, by rising number, the block if it is in the home's hand, and what the home keeps
+-- besides the block; whether the end was received; and whether memory was refused
 pub record Homed : Type 0 where
   pub core : ℕ
   pub cores : ℕ
@@ -52,7 +52,7 @@ pub record IsMade (core cores count : ℕ) (pass : Held Blocked) (blocks : List 
 
 -- ---- the rule
 
--- what is so of a connection's block: in the hand it is idle and has the mark that is due; away from it the pass
+-- a connection's block: in the hand it is idle and has the expected mark; away from it the pass
 -- keeps this mark for its place
 abbrev pub IsAt : Held Blocked → ℕ → Link → Option Blocked → Type 0
 IsAt pass place link (Some block) = (mark_in block ≡ due_mark link) × IsIdle block.work link
@@ -63,7 +63,7 @@ IsAt pass place link None =
 abbrev pub IsHere : Held Blocked → ℕ → Blocked → Type 0
 IsHere pass place block = (is_in place pass.hand ≡ true) × (name_of block.work.table ≡ pass.label)
 
--- what is so of each home
+-- the rule that each home keeps
 pub record Keeps (h : Homed) : Type 0 where
   pub core : h.core < h.cores
   pub cores : h.cores ≤ 64

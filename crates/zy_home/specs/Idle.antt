@@ -1,4 +1,4 @@
--- When a connection's block is idle, and the mark that is due for it.
+-- When a connection's block is idle, and the mark that is expected of it.
 use Rattle.std.specs.Prelude.{◌≡◌, []}
 use Rattle.zy_conn.specs.Work.{Mark, Worked, idle, mark_of}
 use Rattle.zy_conn.specs.Block.{Blocked}
@@ -13,8 +13,8 @@ mark_in block = mark_of block.work
 abbrev pub due_mark : Link → Mark
 due_mark l = (conn_of l, (l.inlet.ring, l.output.texts))
 
--- the block has no event, no begun command and no pending text, it has taken all that was offered, and no frame waits
--- for it; the output has its number of finished commands
+-- the block has no event, no command in progress and no pending text, it has taken all that was
+-- offered, and no frame waits for it; the output has the block's number of finished commands
 pub record IsIdle (work : Worked) (l : Link) : Type 0 where
   pub begun : work.begun ≡ idle
   pub known : work.known ≡ []

@@ -31,14 +31,15 @@ conn_of l = l.output.conn
 abbrev pub frames_in : Sessions → List FrameKind
 frames_in s = flat_map frames_of (streams_of s)
 
--- the number of frames up to the end of each of these streams, where so many came before
+-- the number of frames up to the end of each of these streams, after `before` frames
 abbrev pub ends_from : ℕ → List (List ℕ) → List ℕ
 ends_from before [] = []
 ends_from before (stream ∷ streams) =
     (before + length (frames_of stream)) ∷ ends_from (before + length (frames_of stream)) streams
 
--- the connection may have received these sessions: its framer stands for the open one, the frames offered and then
--- those that wait are those of all sessions, and each closed session ends behind the frames cut up to then
+-- the connection may have received these sessions: its framer has read the open one; the frames
+-- offered, followed by those that wait, are the frames of all sessions; and each closed session
+-- ends after the frames cut up to its end
 pub record LinkStands (l : Link) (s : Sessions) : Type 0 where
   pub framer : StandsFor l.framer s.current
   pub frames : l.inlet.sent ++ l.waiting ≡ frames_in s

@@ -1,11 +1,11 @@
--- Which connections are a home's.
+-- The connections of a home.
 use Rattle.std.specs.Prelude.{◌≡◌, ◌≢◌, ℕ, ◌<◌, ◌==◌, List, Bool, true, false, Option, None, Some, filter, slice_get}
 use Rattle.std.specs.List.{range_with_len}
 use Rattle.zy_rx.specs.declared.rx.Rx.{Rx}
 use Rattle.zy_rx.specs.declared.rx.Rx.TheVariants.{Segment, Close, End}
 use Rattle.zy_rx.specs.Flow.{home_of}
 
--- the connections below a count whose home is this core, of so many cores, in rising order
+-- the connections below `count` whose home is this one of `cores` cores, in rising order
 abbrev pub own_conns : ℕ → ℕ → ℕ → List ℕ
 own_conns core cores count = filter (λ conn. home_of cores conn == core) (range_with_len 0 count)
 
@@ -25,7 +25,7 @@ is_end (Segment conn bytes) = false
 is_end (Close conn) = false
 is_end End = true
 
--- an item is of a connection that is none of those
+-- an item belongs to a connection that is not one of those
 abbrev pub IsOfOthers : ℕ → ℕ → ℕ → Rx → Type 0
 IsOfOthers core cores count (Segment conn bytes) = IsOwn core cores count conn → ⊥
 IsOfOthers core cores count (Close conn) = IsOwn core cores count conn → ⊥

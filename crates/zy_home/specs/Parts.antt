@@ -1,4 +1,4 @@
--- The parts that a home is made of.
+-- The parts of which a home is made.
 use Rattle.std.specs.Prelude.{◌≡◌, ℕ, List, [], ◌∷◌, length, map, Option, Some, None}
 use Rattle.std.specs.List.{AllByRecursion}
 use Rattle.zy_rx.specs.Ring.{RingName}

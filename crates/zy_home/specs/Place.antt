@@ -23,8 +23,8 @@ label_in block = name_of block.work.table
 
 -- ---- settling
 
--- the block of a place is with the caller, who may settle it: the place is in the home's hand, and the block has the
--- mark and the label that are due
+-- the block of a place is with the caller, who may settle it: the place is in the home's hand, and
+-- the block has the expected mark and the label
 pub record IsOut (h : Homed) (place : ℕ) (block : Blocked) : Type 0 where
   pub link : Link
   pub there : slice_get h.links place ≡ Some link
@@ -32,8 +32,8 @@ pub record IsOut (h : Homed) (place : ℕ) (block : Blocked) : Type 0 where
   pub mark : mark_in block ≡ due_mark link
   pub label : label_in block ≡ h.pass.label
 
--- a block was settled at a place: it was published where it then has an event, and it stays in the home's hand where
--- it has none. A frame waits only where the ring is full
+-- a block was settled at a place: it was published if it then has an event, and stays in the home's
+-- hand otherwise. A frame waits only if the ring is full
 pub record Settles (place : ℕ) (h h' : Homed) : Type 0 where
   pub block : Blocked
   pub event : has_event block.work ≡ true
@@ -66,7 +66,8 @@ pub record StaysIn (places : ℕ) (h h' : Homed) : Type 0 where
 
 -- ---- answers
 
--- a block was collected and settled; or the ring's collect took nothing, for its cause, and nothing else changed
+-- a block was collected and settled; or the ring's collect took nothing, with its cause, and
+-- nothing else changed
 abbrev pub CollectsTo : ℕ → Homed → Homed → Bool → Type 0
 CollectsTo places h h' true = (place : ℕ) × (block : Blocked) × (pass : Held Blocked)
     × Collected mark_in label_in places h.pass pass (Some (place, block))
@@ -74,8 +75,8 @@ CollectsTo places h h' true = (place : ℕ) × (block : Blocked) × (pass : Held
 CollectsTo places h h' false =
     Collected mark_in label_in places h.pass h'.pass None × (h' ≡ with_pass h h'.pass)
 
--- a block was claimed, held to this end and settled; or the home's claim took nothing, for its cause, and nothing
--- else changed
+-- a block was claimed, held to this end and settled; or the home's claim took nothing, with its
+-- cause, and nothing else changed
 abbrev pub OwnsTo : ℕ → Homed → Homed → Own → Type 0
 OwnsTo places h h' (Took held) = (place : ℕ) × (block : Blocked) × (pass : Held Blocked)
     × Claimed mark_in label_in places h.pass pass (Claims.Took place block)
@@ -95,8 +96,8 @@ pub record ComesTo (h : Homed) (place : ℕ) (item : Rx) : Type 0 where
   pub there : slice_get h.links place ≡ Some link
   pub own : IsFor (conn_of link) item
 
--- where an item came for the connection at a place, its block was settled where it is in the hand; where it is away
--- nothing was published, and a frame waits only where no slot of the ring is known to be free
+-- an item came for the connection at a place. If its block is in the hand, it was settled. If it is
+-- away, nothing was published, and a frame waits only if no slot of the ring is known to be free
 pub record Forwards (h h' : Homed) (item : Rx) : Type 0 where
   pub here : (place : ℕ) (block : Blocked) → ComesTo h place item
       → slice_get h.blocks place ≡ Some (Some block) → Settles place h h'

@@ -7,8 +7,9 @@ use Rattle.zy_home.specs.Finish.{ConnEnd}
 use Rattle.zy_home.specs.End.{Ended, HasLabel}
 use Rattle.zy_table.specs.declared.name.Name.{Name}
 
--- what is handed out of a connection that received these sessions: its block, which has the label, and its output
--- with the ends of its sessions; the block's work is kept, and so the connection is finished
+-- what a home hands out for a connection that received these sessions: its block, which has the
+-- label, and its output with the ends of its sessions; the block's work is kept, and so the
+-- connection is finished
 pub record IsFinished (label : Name) (received : ℕ → Sessions) (block : Blocked) (end : Ended) : Type 0 where
   pub conn : block.work.conn ≡ end.output.conn
   pub labelled : HasLabel label block

@@ -20,7 +20,7 @@ pub record IsDue (pass : Held Blocked) (place : ℕ) (link : Link) (block : Bloc
   pub mark : mark_in block ≡ due_mark link
   pub label : label_in block ≡ pass.label
 
--- a block was settled: it was published where it has an event, and lies in its slot, idle, where it has none
+-- a block was settled: it was published if it has an event, and otherwise is in its slot, idle
 pub record IsSettled (place : ℕ) (link' : Link) (pass pass' : Held Blocked) (slot' : Option Blocked) : Type 0 where
   pub block : Blocked
   pub mark : mark_in block ≡ due_mark link'
@@ -31,20 +31,20 @@ pub record IsSettled (place : ℕ) (link' : Link) (pass pass' : Held Blocked) (s
       → (pass' ≡ pass) × (slot' ≡ Some block) × IsIdle block.work link'
   pub behind : WaitsBehind link' block
 
--- memory was refused, and the block lies in its slot
+-- memory was refused, and the block is in its slot
 pub record IsPutBack (pass pass' : Held Blocked) (slot' : Option Blocked) : Type 0 where
   pub block : Blocked
   pub label : label_in block ≡ pass.label
   pub pass_is : pass' ≡ pass
   pub slot_is : slot' ≡ Some block
 
--- what is so of a place in a home that is not refused
+-- the rule of a place in a home that was not refused memory
 pub record IsPlace (pass : Held Blocked) (place : ℕ) (link : Link) (slot : Option Blocked) : Type 0 where
   pub here : (block : Blocked) → slot ≡ Some block → IsHere pass place block
   pub at : IsAt pass place link slot
 
--- an item was taken in where the block is in its slot: it was settled; and where it is away: nothing was published,
--- what waits was offered, and the same mark is due
+-- an item was received. If the block is in its slot, it was settled; if it is away, nothing was
+-- published, the frames that wait were offered, and the expected mark is the same
 abbrev pub IsFed : ℕ → Link → Link → Held Blocked → Held Blocked → Option Blocked → Option Blocked → Type 0
 IsFed place link link' pass pass' (Some block) slot' = IsSettled place link' pass pass' slot'
 IsFed place link link' pass pass' None slot' =

@@ -1,4 +1,4 @@
-//! What is left of connections at the end.
+//! The ends of connections.
 ghost use Rattle.std.specs.Prelude.{◌≡◌, [], ◌∷◌, map, IfSome, IfNone};
 ghost use Rattle.zy_home.specs.End.{ended_of, ended};
 
@@ -7,8 +7,8 @@ use std::collections::VecDeque;
 use std::marker::Model;
 use zy_calls::Output;
 
-/// What is left of a home's connections. Contracts see the list of their outputs with the ends of
-/// their closed sessions, by rising connection.
+/// The ends of a home's connections. Contracts see the list of their outputs with the ends of their
+/// closed sessions, by rising number of connection.
 #[derive(Drop)]
 pub struct Ends {
     links: VecDeque<Link>,
@@ -24,7 +24,7 @@ impl Model for Ends {
 }
 
 impl Ends {
-    // What is left of these connections. Takes no memory.
+    // The ends of these connections. Takes no memory.
     pub(crate) fn of(links: Vec<Link>) -> Ends
         ensures value { result ≡ map ended_of links.items }
     {

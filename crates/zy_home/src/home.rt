@@ -16,16 +16,16 @@ use zy_conn::Block;
 use zy_shuffle::HomePass;
 
 /// The home of a core's connections: for each its inlet, framer, session ends, waiting frames and
-/// output, and its block where that is in the home's hand. Contracts see it as `Homed`.
+/// output, and its block if that is in the home's hand. Contracts see it as `Homed`.
 #[derive(Drop)]
 pub struct Home {
     core: u32,
     cores: u32,
     count: u32,
     pass: HomePass<Block>,
-    // By place: the block of the connection, where it is in the hand.
+    // By place: the block of the connection, if it is in the hand.
     blocks: Vec<Option<Block>>,
-    // By place, which is by rising number: the connection.
+    // By place, and so by rising number: the connection.
     links: Vec<Link>,
     ended: bool,
     refused: bool,
@@ -76,7 +76,7 @@ impl Home {
         self.refused
     }
 
-    /// The pass, the blocks in the home's hand, and what is left of the connections. Takes no memory.
+    /// The pass, the blocks in the home's hand, and the ends of the connections. Takes no memory.
     pub fn into_outputs(self) -> (HomePass<Block>, Blocks, Ends)
         ensures pass { result.0 ≡ self.pass }
         ensures blocks { result.1 ≡ blocks_in self.blocks }

@@ -16,8 +16,8 @@ ghost use Rattle.zy_home.specs.End.{Ended, blocks_in, ended_of};
 ghost use Rattle.zy_home.specs.Home.{Homed, HomeStands, Keeps, is_settled};
 ghost use Rattle.zy_home.specs.Settled.{AreFinished};
 
-/// A connection whose block is idle has finished what it received: each call due was made in order,
-/// its output has the text of each command, and its sessions end behind their commands.
+/// A connection whose block is idle has finished what it received: each expected call was made in
+/// order, its output has the text of each command, and its sessions end after their commands.
 pub fn an_idle_connection_is_finished()
     ensures value { (block : Blocked) (l : Link) (s : Sessions) → Kept block.work
         → IsIdle block.work l → mark_in block ≡ due_mark l → LinkStands l s
@@ -32,7 +32,7 @@ pub fn texts_are_cut_at_the_ends_of_sessions()
         ≡ outputs_from 0 (streams_of s) entries }
 {}
 
-/// The connections of a core, by one connection more.
+/// The connections of a core, when the number of connections grows by one.
 pub fn own_connections_come_in_turn()
     ensures none { (core cores : ℕ) → own_conns core cores 0 ≡ [] }
     ensures own { (core cores count : ℕ) → home_of cores count ≡ core
@@ -42,7 +42,7 @@ pub fn own_connections_come_in_turn()
 {}
 
 /// A settled home hands out the block and the output of each of its connections, by rising number,
-/// and each has finished what it received, by any items that the home stands for.
+/// and each has finished what it received, for any items that the home may have received.
 pub fn a_settled_home_is_finished()
     ensures conns { (h : Homed) → Keeps h
         → map (λ (end : Ended). end.output.conn) (map ended_of h.links)

@@ -15,8 +15,8 @@ use zy_conn::{Block, EventInlet};
 use zy_frame::{Frame, Framer, Frames};
 use zy_rx::Rx;
 
-/// What a home keeps of a connection beside its block: the end of its event ring that frames are
-/// offered to, its framer, the frames that wait, the ends of its closed sessions, and its output.
+/// What a home keeps of a connection besides its block: the end of its event ring to which frames
+/// are offered, its framer, the frames that wait, the ends of its closed sessions, and its output.
 #[derive(Drop)]
 pub struct Link {
     alloc: Global,
@@ -70,7 +70,7 @@ impl Link {
         self.output.conn()
     }
 
-    /// Takes in an item of this connection: the bytes of a segment are cut, and the new frames
+    /// Receives an item of this connection: the bytes of a segment are cut, and the new frames
     /// wait; a close ends the session, and a new one begins.
     pub fn receive(&mut self, item: &Rx) -> Result<(), NoMemory>
         requires own { IsFor (conn_of self.old) item.now }
@@ -129,7 +129,7 @@ impl Link {
     }
 
     /// Settles the connection's block: carries its batch out, shows it and the inlet what the other
-    /// did, offers the frames that wait, and says whether the block then has an event. Where it has
+    /// did, offers the frames that wait, and returns whether the block then has an event. If it has
     /// none, it is idle.
     pub fn settle(&mut self, block: &mut Block) -> Result<bool, NoMemory>
         requires mark { mark_in block.old ≡ due_mark self.old }

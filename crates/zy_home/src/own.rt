@@ -1,7 +1,7 @@
-//! What a claim from a home's own queue came to.
+//! The result of a claim from a home's own queue.
 use zy_conn::HoldEnd;
 
-/// What a claim from the home's own queue came to.
+/// The result of a claim from the home's own queue.
 #[derive(Drop)]
 pub enum Own {
     /// A block was taken, held to this end, and settled.

@@ -1,4 +1,4 @@
-//! What a home is made of.
+//! The parts of which a home is made.
 use crate::blocks::Blocks;
 use zy_base::Queue;
 use zy_conn::{Block, EventInlet};
@@ -7,8 +7,8 @@ use zy_shuffle::HomePass;
 /// Ends of event rings.
 pub type Inlets = Queue<EventInlet>;
 
-/// What a home is made of: its pass on its ring, the blocks of its connections by rising number, and
-/// their inlets in the same order.
+/// The parts of which a home is made: its pass on its ring, the blocks of its connections by rising
+/// number, and their inlets in the same order.
 #[derive(Drop)]
 pub struct HomeParts {
     pub pass: HomePass<Block>,

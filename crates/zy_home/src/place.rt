@@ -23,7 +23,7 @@ pub(crate) fn conn_in(item: &Rx) -> Option<u32>
     }
 }
 
-// The place of a connection, by halves of what is left.
+// The place of a connection, found by halving.
 pub(crate) fn place_of(links: &[Link], conn: u32) -> Option<usize>
     requires rising { IsRising (conns_in links.now) }
     ensures some { IfSome result (λ at. (l : Link) × (slice_get links.now at ≡ Some l) × (conn_of l ≡ conn)) }
@@ -53,7 +53,7 @@ pub(crate) fn put(slot: &mut Option<Block>, block: Option<Block>)
     drop(mem::replace(slot, block));
 }
 
-// Settles a block: it is published where it then has an event, and else lies in its slot.
+// Settles a block: it is published if it then has an event, and otherwise is put into its slot.
 pub(crate) fn settle_at(
     ring: &Ring<Block>,
     pass: &mut HomePass<Block>,
@@ -88,8 +88,8 @@ pub(crate) fn settle_at(
     }
 }
 
-// Takes in an item for the connection. Its block is settled where it is in its slot; where it is
-// away, what waits is offered.
+// Receives an item for the connection. Its block is settled if it is in its slot; if it is away,
+// the frames that wait are offered.
 pub(crate) fn feed_at(
     ring: &Ring<Block>,
     pass: &mut HomePass<Block>,

@@ -84,7 +84,7 @@ pub record IsHold (h : Hold) : Type 0 where
   pub some_commands : 0 < h.count
   pub few_commands : h.count ≤ hold_limit
 
--- the holds stand by rising connection, from this one on
+-- the holds are in the order of connections, from this one on
 abbrev pub AreByConnection : ℕ → List Hold → Type 0
 AreByConnection connection [] = Unit {0}
 AreByConnection connection (h ∷ hs) = (connection ≤ h.conn) × AreByConnection h.conn hs

@@ -5,7 +5,7 @@ ghost use Rattle.zy_base.specs.Order.{StampsRise, IsOrdered};
 ghost use Rattle.zy_journal.specs.Journal.{journal_bytes};
 ghost use Rattle.zy_journal.specs.Worked.{worked, worked_bytes};
 
-/// A history along which stamps rise is in order, as `merge` wants it.
+/// A history along which stamps rise is in order, as `merge` requires.
 pub fn rising_histories_are_in_order()
     ensures ordered { (before : ℕ) (es : List Entry) → StampsRise before es → IsOrdered None es }
 {}

@@ -14,7 +14,7 @@ use zy_base::{Blob, Call, CallReply, Entry, Failed, Hold, Sink, write_pieces, wr
 
 /// Writes a journal whose numbers, keys and values are within the format's bounds. Takes no memory.
 ///
-/// `Failed` comes only where the sink's count of faults rose, or stands at its last value; then the
+/// Answers `Failed` only if the sink's count of faults rose, or is at its largest value; then the
 /// sink has grown by a prefix of that text.
 pub fn write_journal<K: Sink>(sink: &mut K, journal: &Journal) -> Result<(), Failed>
     requires fits { IsJournal journal.now }

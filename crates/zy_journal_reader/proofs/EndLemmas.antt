@@ -33,7 +33,7 @@ pub record Ends (due : Due) (p : Progress) (t text : List ℕ) : Type 0 where
   pub kept : Kept p.entries p.holds p.past
   pub known : Known due p.past p.draft p.holds
 
--- a field of which the last byte was read
+-- a field whose last byte was read
 pub ended_by : {due : Due} {p : Progress} {t text c : List ℕ} → Ends due p t text → before due p.draft ++ t ≡ c → text ≡ front p.entries p.holds ++ (c ++ [])
 ended_by {due} {p} {t} {text} {c} ends same = joined text (front p.entries p.holds) (before due p.draft) t c ends.bytes same
 

@@ -59,7 +59,7 @@ key_goes p d key is =
     (one_byte p p d (record d { size = length key }) KeyLength (Bytes Key) (length key) (λ at. between (length key) 1 250 is.0 is.1) (λ at. refl))
     (all_bytes p p (record d { size = length key }) (record d { key = key; size = 0 }) Key (at_flags (fields_of d.kind)) key refl is.0 (λ k l. refl))
 
--- nothing more
+-- no further byte
 pub nothing_more : {p q : Progress} {d e : Draft} {due next : Due} (s : List ℕ) → Goes p d due s q e next → Goes p d due (s ++ []) q e next
 nothing_more {p} {q} {d} {e} {due} {next} s goes = subst (λ (l : List ℕ). Goes p d due l q e next) (sym (append-nil s)) goes
 

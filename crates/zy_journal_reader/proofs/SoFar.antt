@@ -30,7 +30,7 @@ front es hs = magic ++ (flat_map entry_text es ++ flat_map hold_text hs)
 abbrev pub head : Draft → List ℕ
 head d = 74 ∷ (to_be_bytes w64 d.stamp ++ (to_be_bytes w32 d.shard ++ (to_be_bytes w32 d.conn ++ (to_be_bytes w64 d.index ++ to_be_bytes w32 d.part))))
 
--- the bytes of the record that stand before what is due
+-- the bytes of the record before what is expected
 abbrev pub before : Due → Draft → List ℕ
 before (Byte CallCode) d = head d
 before (Byte KeyLength) d = head d ++ code_of d.kind ∷ []
@@ -55,12 +55,12 @@ before (Bytes Value) d = head d ++ (to_value d ++ to_be_bytes w32 d.size)
 before (Bytes FoundValue) d = head d ++ (call_text (call_in d) ++ hit_code ∷ (to_be_bytes w32 d.found_flags ++ (to_be_bytes w64 d.found_unique ++ to_be_bytes w32 d.size)))
 before due d = []
 
--- the bytes of what is due that were read
+-- the bytes that were read of what is expected
 abbrev pub pending : Due → Progress → List ℕ
 pending (Bytes field) p = p.payload
 pending due p = p.field
 
--- the bytes that lead to where this is due
+-- the bytes up to the place where this is expected
 abbrev pub bytes_of : Due → Progress → List ℕ
 bytes_of (Byte Magic) p = take p.at magic
 bytes_of Nothing p = front p.entries p.holds ++ 69 ∷ []
@@ -102,7 +102,7 @@ CallKnown past d hs = HeadKnown past d hs × IsCall (call_in d) × FitsCall (cal
 abbrev pub FoundKnown : Past → Draft → List Hold → Type 0
 FoundKnown past d hs = CallKnown past d hs × (d.found_flags < 2 ^ 32) × (d.found_unique < 2 ^ 64)
 
--- what is known where this is due
+-- what is known where this is expected
 abbrev pub Known : Due → Past → Draft → List Hold → Type 0
 Known (Byte CallCode) past d hs = HeadKnown past d hs
 Known (Byte KeyLength) past d hs = HeadKnown past d hs × ((fields_in d).key ≡ true)
@@ -131,7 +131,7 @@ Known due past d hs = ⊤
 abbrev pub IsField : ℕ → List ℕ → Type 0
 IsField most field = (length field ≤ most) × AreBytes field
 
--- what is known of the bytes of what is due
+-- what is known of the bytes of what is expected
 abbrev pub FieldKnown : Due → Progress → Type 0
 FieldKnown (Byte Magic) p = (p.at < 8) × (p.entries ≡ []) × (p.holds ≡ [])
 FieldKnown (Byte field) p = p.field ≡ []

@@ -62,7 +62,7 @@ head_goes p e none is fits comes =
     (both index part (eight_bytes p p d3 d4 Index (Number Part) e.tag.index (omega (arith, is.few_commands)) (λ at f. below_is e.tag.index (2 ^ 40) is.few_commands) (λ at f. refl))
     (four_bytes p p d4 (head_of e) Part (Byte CallCode) e.tag.part fits.part (λ at f. refl) (λ at f. refl))))))
 
--- the lists with an entry more
+-- the lists with one further entry
 abbrev pub with_entry : Progress → Entry → Progress
 with_entry p e = record p { entries = p.entries ++ e ∷ []; past = record p.past { stamp = e.stamp; shard = e.shard } }
 
@@ -91,7 +91,7 @@ unfolding entry_text
 entry_goes p e none is fits comes =
     both (entry_head e) (call_text e.call ++ reply_text e.reply) (head_goes p e none is fits comes) (call_and_reply p (head_of e) e.reply is.reply fits.reply e.call is.call fits.call)
 
--- the lists with some entries more
+-- the lists with further entries
 abbrev pub with_entries : Progress → List Entry → Progress
 with_entries p [] = p
 with_entries p (e ∷ es) = with_entries (with_entry p e) es
@@ -109,7 +109,7 @@ entries_go (e ∷ es) p before none all fits ordered comes =
 
 -- ---- holds
 
--- the lists with a hold more
+-- the lists with one further hold
 abbrev pub with_hold : Progress → Hold → Progress
 with_hold p h = record p { holds = p.holds ++ h ∷ []; past = record p.past { conn = h.conn } }
 
@@ -126,7 +126,7 @@ hold_goes p h is after_last =
     (both core count (four_bytes p p d1 d2 HoldCore (Number HoldCount) h.core (omega (arith, is.few_cores)) (λ at f. below_is h.core 64 is.few_cores) (λ at f. refl))
     (four_bytes p (with_hold p h) d2 fresh HoldCount (Byte Tag) h.count (omega (arith, is.few_commands)) (λ at f. between h.count 1 64 is.some_commands is.few_commands) (λ at f. refl))))
 
--- the lists with some holds more
+-- the lists with further holds
 abbrev pub with_holds : Progress → List Hold → Progress
 with_holds p [] = p
 with_holds p (h ∷ hs) = with_holds (with_hold p h) hs

@@ -69,24 +69,25 @@ hold_of d count = record { core = d.core; conn = d.conn; count = count }
 
 -- ---- for the reader alone
 
--- the fault that was met where this is due; that a text ends is none
+-- the fault that was met, where this is expected; the end of the text is not a fault here
 abbrev pub fault_in : Due → Option FileFault
 fault_in (Broken fault) = Some fault
 fault_in due = None
 
--- what is due is within its bounds: the place of a byte of the magic, and the bytes of a number or of a key or a value
+-- what is expected is within its bounds: the place of a byte of the magic, and the bytes of a
+-- number or of a key or a value
 abbrev pub IsWithin : Due → ℕ → ℕ → List ℕ → ℕ → Type 0
 IsWithin (Byte Magic) at seen payload size = at < 8
 IsWithin (Number field) at seen payload size = seen < 4
 IsWithin (Bytes field) at seen payload size = length payload < size
 IsWithin due at seen payload size = ⊤
 
--- a number is due, and so many of its bytes come before its last one
+-- a number is expected, with `most` bytes before its last one
 abbrev pub IsNumber : Due → ℕ → Type 0
 IsNumber (Number field) most = most ≡ 3
 IsNumber (Long field) most = most ≡ 7
 IsNumber due most = ⊥
 
--- what is due is no fault, and its bounds hold anywhere while none of its bytes was read
+-- what is expected is no fault, and its bounds hold at any place, while none of its bytes was read
 abbrev pub IsOpenAnywhere : Due → Type 0
 IsOpenAnywhere due = (fault_in due ≡ None) × ((at size : ℕ) (payload : List ℕ) → IsWithin due at 0 payload size)

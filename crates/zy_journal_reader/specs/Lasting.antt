@@ -10,7 +10,7 @@ use Rattle.zy_journal_reader.specs.Fields.{fault_in}
 use Rattle.zy_journal_reader.specs.Steps.{Progress, step}
 use Rattle.zy_journal_reader.specs.Verdict.{journals, ended}
 
--- where a fault was met, it is what is due
+-- where a fault was met, that fault is what is expected
 pub is_broken : (due : Due) (fault : FileFault) → fault_in due ≡ Some fault → due ≡ Broken fault
 is_broken (Broken found) fault is = one_met Broken found fault is
 is_broken due fault is = absurd (none_met fault is)

@@ -1,4 +1,4 @@
--- Which bytes brought a reader of journals to where it is, and what its answers mean.
+-- The bytes that brought a reader of journals to where it is, and the meaning of its answers.
 use Rattle.std.specs.Prelude.{◌≡◌, ℕ, Bool, true, false, List, Option, Result, Ok, Err, ⊤}
 use Rattle.zy_base.specs.declared.file_fault.FileFault.{FileFault}
 use Rattle.zy_read.specs.declared.not_taken.NotTaken.{NotTaken}
@@ -26,7 +26,8 @@ EndsAs (Err fault) found = found ≡ Bad fault
 abbrev pub EndsBy : Progress → Result Journal FileFault → Type 0
 EndsBy p answer = (given : List ⊤) (b : List ℕ) → StandsForJournal p given b → EndsAs answer (verdict b)
 
--- where this is due memory may be wanted: at a byte of a key or a value, and where an entry or a hold may end
+-- the reader may need memory where this is expected: at a byte of a key or a value, and where an
+-- entry or a hold may end
 abbrev pub takes_memory : Due → Bool
 takes_memory (Bytes field) = true
 takes_memory (Byte ReplyCode) = true
@@ -35,13 +36,13 @@ takes_memory (Number HoldCount) = true
 takes_memory (Long ReplyNumber) = true
 takes_memory due = false
 
--- memory may be wanted for the byte
+-- the reader may need memory for the byte
 abbrev pub MayWant : Progress → ℕ → Type 0
 MayWant p byte = takes_memory p.due ≡ true
 
 -- ---- for the reader alone
 
--- an answer and a new state are those of a step; want of memory changes nothing, and comes only where memory may be
--- wanted
+-- an answer and a new state are those of a step; `NoMemory` changes nothing, and is answered only
+-- where the reader may need memory
 abbrev pub Takes : Step → Progress → Progress → Result (Option ⊤) (NotTaken FileFault) → Type 0
 Takes step old new result = Follows journals MayWant step old new 0 result

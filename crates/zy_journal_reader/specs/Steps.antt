@@ -1,5 +1,5 @@
--- What each byte of a journal does, by what is due where it stands: the tables of docs/FORMATS.md, "Journal". A field
--- is judged at its last byte.
+-- The step at each byte of a journal, by what is expected there: the tables of docs/FORMATS.md,
+-- "Journal". A field is judged at its last byte.
 use Rattle.std.specs.Prelude.{ℕ, ◌+◌, ◌-◌, ◌^◌, ◌==◌, ◌&&◌, ◌||◌, nat_lt, nat_le, if◌then◌else◌, Bool, true, false, List, [], ◌∷◌, ◌++◌, length, None, Some, ⊤}
 use Rattle.std.specs.List.{slice_index}
 use Rattle.std.specs.Int.{from_be_bytes, w32, w64}
@@ -31,11 +31,11 @@ use Rattle.zy_journal_reader.specs.Fields.{at_key, at_flags, at_number, at_value
 
 -- where a text was read up to some byte
 pub record Progress : Type 0 where
-  -- what is due there
+  -- what is expected there
   pub due : Due
-  -- the bytes read of the number that is due
+  -- the bytes read so far of the expected number
   pub field : List ℕ
-  -- the bytes read of the key or the value that is due
+  -- the bytes read so far of the expected key or value
   pub payload : List ℕ
   -- what was read of the record
   pub draft : Draft
@@ -70,7 +70,7 @@ journal_limit = 2 ^ 63 - 1
 
 -- ---- what a byte may do
 
--- the byte is the last one of its field, and this is due after it
+-- the byte is the last one of its field, and this is expected after it
 abbrev pub goes : Progress → Due → Step
 goes p due = record { next = record p { due = due; field = []; at = p.at + 1 }; gave = None }
 
@@ -78,7 +78,7 @@ goes p due = record { next = record p { due = due; field = []; at = p.at + 1 }; 
 abbrev pub knows : Progress → Draft → Due → Step
 knows p draft due = goes (record p { draft = draft }) due
 
--- the byte is the last one of a length, and so many bytes are due after it
+-- the byte is the last one of a length, and `size` bytes are expected after it
 abbrev pub begins : Progress → BytesField → ℕ → Step
 begins p field size = goes (record p { payload = []; draft = record p.draft { size = size } }) (Bytes field)
 
@@ -117,7 +117,7 @@ abbrev pub grows : Progress → Due → ℕ → Step
 grows p due byte =
     record { next = record p { due = due; payload = p.payload ++ byte ∷ []; at = p.at + 1 }; gave = None }
 
--- where bytes of a key or a value lead, of which none is its last one
+-- the place after bytes of a key or a value, none of which is its last
 abbrev pub grown_by : Progress → List ℕ → Progress
 grown_by p bytes = record p { payload = p.payload ++ bytes; at = p.at + length bytes }
 
@@ -202,7 +202,7 @@ after_bytes Value p bytes =
 after_bytes FoundValue p bytes =
     ends_entry (record p { payload = [] }) (Replies.Hit p.draft.found_flags p.draft.found_unique bytes)
 
--- ---- what a byte does, by what is due
+-- ---- the step at a byte, by what is expected
 
 -- a byte of a number of four bytes
 abbrev pub four : NumberField → Progress → ℕ → Step
@@ -226,7 +226,7 @@ bytes field p byte =
     if nat_lt (length p.payload + 1) p.draft.size then grows p (Bytes field) byte
     else after_bytes field p (p.payload ++ byte ∷ [])
 
--- a byte, where this is due
+-- the step at a byte, where this is expected
 abbrev pub taken : Due → Progress → ℕ → Step
 taken (Byte field) p byte = if lawful_byte field p byte then after_byte field p byte else refuses p (Form p.at)
 taken (Number field) p byte = four field p byte

@@ -7,23 +7,23 @@ use Rattle.zy_journal_reader.specs.Fields.{fault_in}
 use Rattle.zy_journal_reader.specs.Steps.{start}
 use Rattle.zy_journal_reader.specs.Verdict.{read_from}
 
--- the magic, with this behind it
+-- the magic, followed by this
 abbrev pub with_magic : List ℕ → List ℕ
 with_magic text = codes "ZYGJRN1\n" ++ text
 
--- an entry at stamp 1 on shard 12, with this behind the number of its call
+-- an entry at stamp 1 on shard 12, with this after the number of its call
 abbrev pub with_call : List ℕ → List ℕ
 with_call text = with_magic (codes "J\0\0\0\0\0\0\0\u{1}\0\0\0\u{c}\0\0\0\0\0\0\0\0\0\0\0\0\0\0\0\0" ++ text)
 
--- a flush at stamp 2 on shard 3, with this behind it
+-- a flush at stamp 2 on shard 3, followed by this
 abbrev pub behind_entry : List ℕ → List ℕ
 behind_entry text =
     with_magic (codes "J\0\0\0\0\0\0\0\u{2}\0\0\0\u{3}\0\0\0\0\0\0\0\0\0\0\0\0\0\0\0\0\u{b}\u{b}" ++ text)
 
--- a hold of connection 1, with this behind it
+-- a hold of connection 1, followed by this
 abbrev pub behind_hold : List ℕ → List ℕ
 behind_hold text = with_magic (codes "H\0\0\0\u{1}\0\0\0\0\0\0\0\u{1}" ++ text)
 
--- the fault that a text meets which stands behind so many bytes of a journal, where a record is due
+-- the fault that a text meets after the first `at` bytes of a journal, where a record is expected
 abbrev pub met_behind : ℕ → List ℕ → Option FileFault
 met_behind at text = fault_in (read_from (record start { due = Dues.Byte Fields.Tag; at = at }) text).last.due

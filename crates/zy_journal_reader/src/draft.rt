@@ -24,7 +24,7 @@ pub(crate) struct Draft {
     pub(crate) found_unique: u64,
     /// The core of a hold.
     pub(crate) core: u32,
-    /// The length of the bytes that are due.
+    /// The length of the bytes that are expected.
     pub(crate) size: u32,
 }
 

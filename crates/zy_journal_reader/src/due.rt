@@ -1,4 +1,4 @@
-//! What is due next in a journal.
+//! What is expected next in a journal.
 
 use zy_base::FileFault;
 
@@ -53,7 +53,7 @@ pub(crate) enum LongField {
     CallNumber,
     /// The unique that a get found.
     FoundUnique,
-    /// The number that a reply tells.
+    /// The number in a reply.
     ReplyNumber,
 }
 
@@ -68,7 +68,7 @@ pub(crate) enum BytesField {
     FoundValue,
 }
 
-/// What is due next.
+/// What is expected next.
 #[derive(Clone, Copy)]
 pub(crate) enum Due {
     /// A part of one byte.

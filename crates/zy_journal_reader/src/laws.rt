@@ -20,7 +20,7 @@ pub fn a_journal_is_good_exactly_where_it_is_a_spelling()
         → verdict text ≡ Good journal ↔ SpellsJournal text journal }
 {}
 
-/// What is written of a journal is good, and gives the journal again, where it is not too long.
+/// The text written for a journal is good, and gives the journal again, unless it is too long.
 pub fn written_journals_are_read_again()
     ensures again { (journal : Journal) → IsReadable journal
         → length (journal_bytes journal) ≤ journal_limit
@@ -43,8 +43,8 @@ pub fn the_first_fault_of_a_journal_counts()
         → fault_of text ≡ Some fault → verdict (text ++ more) ≡ Bad fault }
 {}
 
-/// Two readers of journals to which the same bytes were fed told the same, and are in the same
-/// state. So it does not matter when memory was refused.
+/// Two readers of journals to which the same bytes were fed gave the same answers, and are in the
+/// same state. So it does not matter when memory was refused.
 pub fn what_is_read_depends_on_the_bytes_alone()
     ensures given { (p q : Progress) (given others : List ⊤) (b : List ℕ)
         → StandsForJournal p given b → StandsForJournal q others b → given ≡ others }
@@ -52,13 +52,14 @@ pub fn what_is_read_depends_on_the_bytes_alone()
         → StandsForJournal p given b → StandsForJournal q others b → p ≡ q }
 {}
 
-/// A reader to which the pieces of a journal were fed told what it tells for the text.
+/// A reader to which the pieces of a journal were fed gave the answers that it gives for the whole
+/// text.
 pub fn how_a_journal_is_cut_does_not_matter()
     ensures whole { (old new : Progress) (pieces : List (List ℕ)) (gave : List ⊤)
         → FeedsPieces journals old new pieces gave → Feeds journals old new (concat pieces) gave }
 {}
 
-/// Worked journals: one that is good, and others with a fault in their magic, a hold or behind the
+/// Worked journals: one that is good, others with a fault in their magic, in a hold or after the
 /// end, and journals of too many bytes.
 #[tactic(auto, unfolding(zy_read::specs::Format::verdict_on, zy_read::specs::Format::reading_of, zy_read::specs::Format::read_on))]
 pub fn worked_journals()

@@ -84,27 +84,28 @@ impl JournalReader {
         }
     }
 
-    /// Takes the next byte. `Some` comes at the byte that ends the journal.
+    /// Takes the next byte. The answer is `Some` at the byte that ends the journal.
     ///
-    /// After a fault each call answers that same fault, and a byte after the end is one. Want of
-    /// memory is free, at the bytes of keys and values and where an entry or a hold may end.
+    /// After a fault each call answers that same fault, and a byte after the end is a fault.
+    /// `NoMemory` is possible at the bytes of keys and values and where an entry or a hold may end.
     pub fn feed(&mut self, byte: u8) -> Result<Option<()>, FileFeed>
         ensures fed { FeedsAs journals self.old self.new (byte ∷ []) result }
         ensures exact { TellsFault journals self.old (byte ∷ []) result }
         ensures lasts { TellsLasting journals self.old (byte ∷ []) result }
 
-        // Want of memory.
+        // A refused allocation.
         ensures kept { result ≡ Err NoMemory → self.new ≡ self.old }
         ensures memory { result ≡ Err NoMemory → MayWant self.old byte }
     {
         feed(self, byte)
     }
 
-    /// Takes bytes up to the end of the journal or the first fault, and all of them where there is
-    /// neither. That one comes at the last byte taken, as `feed` would give it; what follows the
-    /// end is not looked at.
+    /// Takes bytes up to the end of the journal or the first fault, or all of them if there is
+    /// neither. The answer is the one that `feed` gives to the last byte taken; bytes after the end
+    /// are not read.
     ///
-    /// Where memory is wanted, the bytes before the one that wants it are taken; `feed` says when.
+    /// After `NoMemory` the bytes before the one that needs memory are taken; `feed` says when that
+    /// is possible.
     pub fn feed_piece(&mut self, bytes: &[u8]) -> Fed<(), FileFault>
         requires some { 0 < length bytes.now }
         ensures within { result.taken ≤ length bytes.now }

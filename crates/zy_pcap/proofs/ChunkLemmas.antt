@@ -1,4 +1,4 @@
--- Bytes of chunks: what is there after a byte was put, and after several.
+-- The bytes of chunks after one byte was put, and after several.
 use Rattle.std.proofs.Common.{◌≡◌, ℕ, ◌+◌, ◌*◌, ◌/◌, ◌%◌, ◌^◌, ◌<◌, ◌≤◌, List, length, take, get_or, set, refl, sym, ap, ◌∙◌, inl, inr, arith}
 use Rattle.std.specs.Prelude.{Option, Some, None, bit_or}
 use Rattle.std.specs.Int.{bit_at, w64}
@@ -45,7 +45,7 @@ put_there chunk place byte at there =
 
 -- ---- several bytes
 
--- one more byte was put
+-- one further byte was put
 pub fill_more : (old now new : Chunk) (bytes : List ℕ) (from n : ℕ) → n < length bytes → HoldsBoth (byte_in old) (byte_in now) (covered (take n bytes) from) → HoldsBoth (byte_in now) (byte_in new) (alone (from + n) (get_or bytes n 0))
     → HoldsBoth (byte_in old) (byte_in new) (covered (take (n + 1) bytes) from)
 fill_more old now new bytes from n within before here at =

@@ -1,4 +1,4 @@
--- Bytes that stand at an offset: their parts.
+-- Bytes at an offset: their parts.
 use Rattle.std.proofs.Common.{◌≡◌, ℕ, ◌+◌, ◌-◌, ◌<◌, ◌≤◌, List, length, take, drop, get_or, refl, inl, inr, arith}
 use Rattle.std.specs.Prelude.{Some, None}
 use Rattle.std.proofs.lemmas.Bool.{cases_lt, cases_eq}
@@ -37,7 +37,7 @@ covered_parts bytes n m from at within =
       ]
     ]
 
--- one byte more
+-- one further byte
 pub covered_more : (bytes : List ℕ) (n from at : ℕ) → n < length bytes → covered (take (n + 1) bytes) from at ≡ first_of (covered (take n bytes) from at) (alone (from + n) (get_or bytes n 0) at)
 covered_more bytes n from at within =
     let whole : length (take (n + 1) bytes) ≡ n + 1 = length-take-le (n + 1) bytes (omega (arith, within)) in

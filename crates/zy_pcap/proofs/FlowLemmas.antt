@@ -1,4 +1,4 @@
--- Flows: what is kept of one, and of all, after a packet came.
+-- Flows: what is kept of one flow, and of all, after a packet came.
 use Rattle.std.proofs.Common.{◌≡◌, ℕ, zero, suc, ◌-◌, ◌<◌, ◌≤◌, List, [], ◌∷◌, ◌++◌, length, map, get_or, set, replicate, refl, sym, ap, ◌∙◌, subst, inl, inr, arith}
 use Rattle.std.specs.Prelude.{Option, Some, None, Bool, true, false, not, nat_lt, slice_get, slice_set, Result, Ok, Err, ⊤}
 use Rattle.std.proofs.lemmas.Bool.{cases_lt}
@@ -52,7 +52,7 @@ fault_goes sessions session packet at is goes = rw (is, goes) refl
 next_goes : (sessions : List Session) (session : Session) (packet : Packet) → current sessions ≡ Some session → begins session.first packet ≡ false → with_packet sessions packet ≡ slice_set sessions (length sessions - 1) (session_next packet session)
 next_goes sessions session packet is goes = rw (is, goes) refl
 
--- what is so of the sessions of a packet that begins none
+-- the sessions of a packet that begins none
 record Goes (kept : List KeptSession) (last : KeptSession) (packet : Packet) (at : ℕ) (sessions : List Session) : Type 0 where
   session : Session
   keeps : KeepsSession last session
@@ -172,7 +172,7 @@ fault_known flows flow packet number at slot is = rw (slot, is) refl
 next_known : (flows : Flows) (flow : Flow) (packet : Packet) (number : ℕ) → slot_of (keys_of flows) packet.flow ≡ Known number → flow_at flows number ≡ Some flow → joined flows packet ≡ put_at flows number (grown flow.sessions packet)
 next_known flows flow packet number slot is = rw (slot, is) refl
 
--- what is so of the flows, where that of the packet is known
+-- the flows, where that of the packet is known
 record Knows (kept : List (Option KeptFlow)) (flow : KeptFlow) (packet : Packet) (number at : ℕ) (flows : Flows) : Type 0 where
   known : Flow
   keeps : KeepsFlow flow known

@@ -1,4 +1,4 @@
--- The first part of a list that grew.
+-- A prefix of a list that grew.
 use Rattle.std.proofs.Common.{◌≡◌, List, ℕ, [], ◌∷◌, ◌++◌, length, take, refl, ap}
 
 pub take_front : (xs ys : List ℕ) → take (length xs) (xs ++ ys) ≡ xs

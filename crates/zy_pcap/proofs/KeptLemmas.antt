@@ -74,7 +74,7 @@ chunk_filled old new was is bytes from fits found puts filled at =
       | inr other ↦ rw (puts_other old new (from / 64) is (at / 64) puts other, covered_apart bytes from at fits other) (sym (first_none (byte_within (get nat_cmp old (at / 64)) (at % 64))))
     ]
 
--- one run more
+-- one further run
 pub run_filled : (old now new : ℕ → Option ℕ) (bytes run : List ℕ) (from n m : ℕ) → n + m ≤ length bytes → run ≡ take m (drop n bytes) → HoldsBoth old now (covered (take n bytes) from) → HoldsBoth now new (covered run (from + n))
     → HoldsBoth old new (covered (take (n + m) bytes) from)
 run_filled old now new bytes run from n m within is before here at =

@@ -15,7 +15,7 @@ use Rattle.zy_pcap.specs.Kept.{KeepsSession, Adds, MeetsSession, apart, session_
 use Rattle.zy_pcap.proofs.ChunkLemmas.{first_none, first_assoc}
 use Rattle.zy_pcap.proofs.SessionLemmas.{start, near_ends, before_ends, far_reaches, byte_near, byte_before, none_covered}
 
--- ---- one packet more
+-- ---- one further packet
 
 byte_at_last : (first : Packet) (packets : List Packet) (packet : Packet) (at : ℕ) → byte_at first (packets ++ packet ∷ []) at ≡ first_of (byte_at first packets at) (byte_of first packet at)
 byte_at_last first [] packet at = first_none (byte_of first packet at)
@@ -71,7 +71,7 @@ meets_before old new segment payload bytes at offset (Ok u) same before few cut 
 meets_before old new segment payload bytes at offset (Err (Fault fault)) same before few cut adds = absurd adds
 meets_before old new segment payload bytes at offset (Err NoMemory) same before few cut adds = λ session keeps. same_keeps old new session keeps adds.0 adds.1 adds.2
 
--- there is nothing to keep: all of the payload lies before the session
+-- there is nothing to keep: all of the payload comes before the session
 pub meets_nothing : (old : KeptSession) (segment : Segment) (payload : List ℕ) (at offset : ℕ) → offset ≡ start_by old segment → 2 ^ 31 ≤ offset → length payload < 65536 → length payload ≤ 2 ^ 32 - offset → MeetsSession (packet_with segment payload) at old old (Ok tt)
 meets_nothing old segment payload at offset same before few all =
     let none : drop (2 ^ 32 - offset) payload ≡ [] = drop_all (2 ^ 32 - offset) payload all in

@@ -16,12 +16,12 @@ joined_is b bytes at within = ap (λ (l : List ℕ). b ++ l) (take_more bytes at
 pub piece_none : (r : Reading) (bytes : List ℕ) → Feeds r r (take 0 bytes)
 piece_none r bytes = λ b stood. subst (StandsFor r) (sym (append-nil b)) stood
 
--- one byte more
+-- one further byte
 pub piece_more : (old now new : Reading) (bytes : List ℕ) (at : ℕ) → at < length bytes → Feeds old now (take at bytes) → Feeds now new (get_or bytes at 0 ∷ []) → Feeds old new (take (at + 1) bytes)
 piece_more old now new bytes at within first second = λ b stood.
     subst (StandsFor new) (sym (joined_is b bytes at within)) (second (b ++ take at bytes) (first b stood))
 
--- no byte more
+-- no further byte
 pub piece_same : (old now new : Reading) (bytes : List ℕ) → Feeds old now bytes → Feeds now new [] → Feeds old new bytes
 piece_same old now new bytes first second = λ b stood.
     subst (StandsFor new) (append-nil (b ++ bytes)) (second (b ++ bytes) (first b stood))

@@ -35,7 +35,7 @@ flows_last : (given : List Packet) (packet : Packet) → flows_of (given ++ pack
 unfolding flows_of
 flows_last given packet = flows_after_last [] given packet
 
--- the packet of a frame comes to the flows
+-- the packet of a frame is added to the flows
 pub frame_taken : (port at : ℕ) (frame payload : List ℕ) (segment : Segment) (old new : List (Option KeptFlow)) (result : Result ⊤ (NotTaken PcapFault)) → judge port at frame ≡ Taken segment → packet_with segment payload ≡ packet_in frame segment
     → MeetsFlows (packet_with segment payload) at old new result → MeetsFrame port at frame old new result
 frame_taken port at frame payload segment old new (Ok u) is same meets = λ given keeps.
@@ -202,7 +202,7 @@ not_true : (b : Bool) → not b ≡ true → b ≡ false
 not_true true is = cc
 not_true false is = refl
 
--- the end of a record is not due, and no fault was met
+-- the end of a record is not expected, and no fault was met
 abbrev pub is_within : Due → Bool
 is_within (Dues.Broken fault) = false
 is_within (Dues.Time left) = not (left == 8)

@@ -1,4 +1,4 @@
--- Sessions: offsets without wrapping, and the bytes of a session with one packet more.
+-- Sessions: offsets without wrapping, and the bytes of a session with one further packet.
 use Rattle.std.proofs.Common.{◌≡◌, ℕ, zero, suc, ◌+◌, ◌-◌, ◌^◌, ◌<◌, ◌≤◌, List, [], ◌∷◌, length, drop, refl, sym, ap, ◌∙◌, inl, inr, arith}
 use Rattle.std.specs.Prelude.{Some, None, Bool, true, false, ◌⊎◌, ◌||◌, if◌then◌else◌, ◌==◌}
 use Rattle.std.proofs.lemmas.Bool.{cases_lt, cases_eq}

@@ -25,7 +25,7 @@ held_in chunks at = byte_within (lookup (is_at (nat_cmp (at / 64))) chunks) (at 
 abbrev pub held : BTreeMap ℕ Chunk → ℕ → Option ℕ
 held chunks at = held_in chunks.entries at
 
--- the byte at an offset of bytes that stand at some offset
+-- the byte at an offset, of bytes that begin at some offset
 abbrev pub covered : List ℕ → ℕ → ℕ → Option ℕ
 covered bytes from at =
     if nat_le from at && nat_lt at (from + length bytes) then Some (slice_index bytes (at - from)) else None

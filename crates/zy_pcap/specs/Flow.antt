@@ -53,8 +53,8 @@ is_same key other = pointwise nat_eq key other
 abbrev pub Keys : Type 0
 Keys = List (Option (List ℕ))
 
--- the connection number of a flow, of so many numbers of its group from some number on: the one that it has, else the
--- least one not yet given
+-- the connection number of a flow, among the `left` numbers of its group from some number on: the
+-- one that it has, or else the least that was not given yet
 abbrev pub slot_from : Keys → List ℕ → ℕ → ℕ → Slot
 slot_from keys key number zero = Full
 slot_from keys key number (suc left) =
@@ -76,7 +76,7 @@ key_in (Some flow) = Some flow.key
 abbrev pub keys_of : Flows → Keys
 keys_of flows = map key_in flows
 
--- ---- one packet more
+-- ---- one further packet
 
 -- the list with something at a place, which is one of it or comes after all of it
 abbrev pub put_at : {X : Type 0} → List (Option X) → ℕ → X → List (Option X)
@@ -84,17 +84,17 @@ put_at xs place x =
     if nat_lt place (length xs) then slice_set xs place (Some x)
     else xs ++ (replicate (place - length xs) None ++ Some x ∷ [])
 
--- the flow of a packet with this packet more
+-- the flow of a packet with this further packet
 abbrev pub grown : List Session → Packet → Flow
 grown sessions packet = record { key = packet.flow; sessions = with_packet sessions packet }
 
--- the flows with a packet more, whose flow has this number
+-- the flows with a further packet, whose flow has this number
 abbrev pub joined_at : Slot → Flows → Packet → Flows
 joined_at (Known number) flows packet = put_at flows number (grown (sessions_in (flow_at flows number)) packet)
 joined_at (New number) flows packet = put_at flows number (grown [] packet)
 joined_at Full flows packet = flows
 
--- the flows with a packet more
+-- the flows with a further packet
 abbrev pub joined : Flows → Packet → Flows
 joined flows packet = joined_at (slot_of (keys_of flows) packet.flow) flows packet
 
@@ -114,7 +114,7 @@ flow_fault_at Full flows packet at = Some (FlowCount at)
 abbrev pub flow_fault : Flows → Packet → ℕ → Option PcapFault
 flow_fault flows packet at = flow_fault_at (slot_of (keys_of flows) packet.flow) flows packet at
 
--- the flows after some more packets
+-- the flows after further packets
 abbrev pub flows_after : Flows → List Packet → Flows
 flows_after flows [] = flows
 flows_after flows (packet ∷ packets) = flows_after (joined flows packet) packets

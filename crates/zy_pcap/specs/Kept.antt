@@ -60,7 +60,7 @@ continues_by (Some session) segment = not (ends session segment)
 abbrev pub continues : List KeptSession → Segment → Bool
 continues sessions segment = continues_by (slice_get sessions (length sessions - 1)) segment
 
--- bytes were added from an offset on, or memory was wanted
+-- bytes were added from an offset on, or memory was refused
 abbrev pub Adds : KeptSession → KeptSession → ℕ → List ℕ → Result ⊤ (NotTaken PcapFault) → Type 0
 Adds old new from bytes (Ok u) =
     (new.sequence ≡ old.sequence) × (new.is_syn ≡ old.is_syn)
@@ -69,18 +69,19 @@ Adds old new from bytes (Err (Fault fault)) = ⊥
 Adds old new from bytes (Err NoMemory) =
     (new.sequence ≡ old.sequence) × (new.is_syn ≡ old.is_syn) × HoldsSame (byte_held old.bytes) (byte_held new.bytes)
 
--- what was kept of something is kept of what a packet makes of it, or there is this fault, or memory was wanted
+-- what was kept of something is, after a packet, kept of its successor; or there is this fault, or
+-- memory was refused
 abbrev pub MeetsAs : {K S : Type 0} → (K → S → Type 0) → (S → Option PcapFault) → (S → S) → K → K
     → Result ⊤ (NotTaken PcapFault) → Type 0
 MeetsAs {K} {S} keeps fault next old new (Ok u) = (s : S) → keeps old s → (fault s ≡ None) × keeps new (next s)
 MeetsAs {K} {S} keeps fault next old new (Err (Fault f)) = (s : S) → keeps old s → (fault s ≡ Some f) × keeps new s
 MeetsAs {K} {S} keeps fault next old new (Err NoMemory) = (s : S) → keeps old s → keeps new s
 
--- the fault of a packet of a session that goes on
+-- the fault of a packet in a session that goes on
 abbrev pub session_fault : Packet → ℕ → Session → Option PcapFault
 session_fault packet at session = if reaches session.first packet then Some (FlowLength at) else None
 
--- a session with one packet more
+-- a session with one further packet
 abbrev pub session_next : Packet → Session → Session
 session_next packet session = record session { packets = session.packets ++ packet ∷ [] }
 
@@ -88,7 +89,7 @@ session_next packet session = record session { packets = session.packets ++ pack
 abbrev pub MeetsSession : Packet → ℕ → KeptSession → KeptSession → Result ⊤ (NotTaken PcapFault) → Type 0
 MeetsSession packet at old new result = MeetsAs KeepsSession (session_fault packet at) (session_next packet) old new result
 
--- a packet began a session, or memory was wanted
+-- a packet began a session, or memory was refused
 abbrev pub BeginsSession : Packet → List KeptSession → List KeptSession → Result ⊤ (NotTaken PcapFault) → Type 0
 BeginsSession packet old new (Ok u) =
     (kept : KeptSession) × ((new ≡ old ++ kept ∷ []) × KeepsSession kept (begun_by packet))
@@ -129,7 +130,7 @@ GoesOn number packet at old new result =
     → (next : KeptFlow) × ((new ≡ slice_set old number (Some next)) × (next.key ≡ flow.key)
     × MeetsSessions packet at flow.sessions.items next.sessions.items result)
 
--- a flow that a packet begins has a number, or memory was wanted
+-- a flow that a packet begins has a number, or memory was refused
 abbrev pub Begins : ℕ → Packet → List (Option KeptFlow) → List (Option KeptFlow) → Result ⊤ (NotTaken PcapFault) → Type 0
 Begins number packet old new (Ok u) =
     (flow : KeptFlow) × ((new ≡ put_at old number flow) × KeepsFlow flow (grown [] packet))

@@ -20,7 +20,7 @@ segments_of conn (suc most) (byte ∷ bytes) =
 abbrev pub session_records : ℕ → List ℕ → List Record
 session_records conn bytes = segments_of conn (length bytes) bytes
 
--- the records of a connection: a close record stands between two sessions
+-- the records of a connection: a close record is between two sessions
 abbrev pub connection_records : ℕ → List (List ℕ) → List Record
 connection_records conn [] = []
 connection_records conn (session ∷ []) = session_records conn session

@@ -8,7 +8,8 @@ use Rattle.zy_pcap.specs.declared.due.Due.TheVariants as Dues
 use Rattle.zy_pcap.specs.Steps.{Place, Move, is_open, file_limit}
 use Rattle.zy_pcap.specs.Steps.Move.{Goes, Ends}
 
--- an answer and a new place are those of a move; at a record's last byte the frame is whole, and all else as before
+-- an answer and a new place are those of a move; at a record's last byte the frame is whole, and
+-- all else is as before
 abbrev pub Takes : Move → Place → Place → Result Bool (NotTaken PcapFault) → Type 0
 Takes (Goes q) old new (Ok is_end) = (is_end ≡ false) × (new ≡ q) × (is_open q.due ≡ true)
 Takes (Goes q) old new (Err (Fault fault)) = (new ≡ q) × (q.due ≡ Dues.Broken fault)
@@ -17,12 +18,12 @@ Takes (Ends frame) old new (Ok is_end) = (is_end ≡ true) × (new ≡ record ol
 Takes (Ends frame) old new (Err (Fault fault)) = ⊥
 Takes (Ends frame) old new (Err NoMemory) = new ≡ old
 
--- the bytes of a frame are at most as many as it has, and there is room for all
+-- the bytes read of a frame are not more than it has, and there is room for all
 abbrev pub IsWithin : Due → List ℕ → ℕ → Type 0
 IsWithin (Dues.Frame size) frame room = (length frame ≤ size) × (size ≤ room)
 IsWithin due frame room = frame ≡ []
 
--- the frame that is due is not whole
+-- the expected frame is not whole
 abbrev pub IsPart : Due → List ℕ → Type 0
 IsPart (Dues.Frame size) frame = length frame < size
 IsPart due frame = ⊤
@@ -36,7 +37,7 @@ room_in due p = 0
 abbrev pub run_room : Place → ℕ
 run_room p = room_in p.due p
 
--- the byte that is due is one of a number
+-- the expected byte is one of a number
 abbrev pub has_number : Due → Bool
 has_number Dues.Magic = true
 has_number Dues.Version = true

@@ -69,7 +69,8 @@ pub data Found : Type 0 where
   Packets : List Packet → Found
   Bad : PcapFault → Found
 
--- a file that ends where this is due; it may end where a record is due of which no byte was read
+-- a file that ends where this is expected; it may end where a record is expected and none of its
+-- bytes was read
 abbrev pub found_at : Due → Progress → Found
 found_at (Time left) p = if left == 8 then Packets p.packets else Bad (PcapTruncated p.place.at)
 found_at (Broken fault) p = Bad fault
@@ -79,11 +80,11 @@ found_at due p = Bad (PcapTruncated p.place.at)
 unfoldable pub packets : ℕ → List ℕ → Found
 packets port bytes = found_at (read port bytes).place.due (read port bytes)
 
--- the fault where this is due
+-- the fault, where this is expected
 abbrev pub fault_in : Due → Option PcapFault
 fault_in (Broken fault) = Some fault
 fault_in due = None
 
--- the fault that was met in some bytes; that they end is none
+-- the fault that was met in some bytes; their end is not a fault here
 unfoldable pub fault_met : ℕ → List ℕ → Option PcapFault
 fault_met port bytes = fault_in (read port bytes).place.due

@@ -1,7 +1,7 @@
 -- Two lists whose elements belong together one by one. No public clause cites this module.
 use Rattle.std.specs.Prelude.{List, [], ◌∷◌, Option, None, Some, ⊤}
 
--- both are there and belong together, or neither is there
+-- both exist and belong together, or neither exists
 abbrev pub BothOrNone : {A B : Type 0} → (A → B → Type 0) → Option A → Option B → Type 0
 BothOrNone R None None = ⊤
 BothOrNone R (Some a) (Some b) = R a b

@@ -26,14 +26,14 @@ abbrev pub first_by : Option Session → Packet → Packet
 first_by None packet = packet
 first_by (Some session) packet = if begins session.first packet then packet else session.first
 
--- the sessions with one packet more, where this is the current one
+-- the sessions with one further packet, where this is the current one
 abbrev pub sessions_by : Option Session → List Session → Packet → List Session
 sessions_by None sessions packet = sessions ++ begun_by packet ∷ []
 sessions_by (Some session) sessions packet =
     if begins session.first packet then sessions ++ begun_by packet ∷ []
     else slice_set sessions (length sessions - 1) (record session { packets = session.packets ++ packet ∷ [] })
 
--- the sessions of a flow with one packet more
+-- the sessions of a flow with one further packet
 abbrev pub with_packet : List Session → Packet → List Session
 with_packet sessions packet = sessions_by (current sessions) sessions packet
 
@@ -51,11 +51,11 @@ first_number packet = number_after packet.sequence packet.is_syn
 abbrev pub offset : Packet → Packet → ℕ → ℕ
 offset first packet index = (first_number packet + index + (2 ^ 32 - first_number first)) % 2 ^ 32
 
--- the offset is refused; from 2^31 on it lies before the session
+-- the offset is refused; an offset from 2^31 on is before the session
 abbrev pub is_far : ℕ → Bool
 is_far offset = nat_le (2 ^ 30) offset && nat_lt offset (2 ^ 31)
 
--- one of so many payload bytes has an offset that is refused
+-- one of the first `count` payload bytes has an offset that is refused
 abbrev pub reaches_with : Packet → Packet → ℕ → Bool
 reaches_with first packet zero = false
 reaches_with first packet (suc count) = reaches_with first packet count || is_far (offset first packet count)
@@ -76,7 +76,7 @@ byte_from first packet index (byte ∷ bytes) at =
 abbrev pub byte_of : Packet → Packet → ℕ → Option ℕ
 byte_of first packet at = byte_from first packet 0 packet.payload at
 
--- the first one, where there is one, and else the second one
+-- the first one if it exists, otherwise the second one
 abbrev pub first_of : Option ℕ → Option ℕ → Option ℕ
 first_of None other = other
 first_of (Some byte) other = Some byte
@@ -86,12 +86,13 @@ abbrev pub byte_at : Packet → List Packet → ℕ → Option ℕ
 byte_at first [] at = None
 byte_at first (packet ∷ packets) at = first_of (byte_of first packet at) (byte_at first packets at)
 
--- the bytes from an offset on up to the first one that is not there, and at most so many
+-- the bytes from an offset on, up to the first one that is missing, and at most `count`
 abbrev pub longest_from : (ℕ → Option ℕ) → ℕ → ℕ → List ℕ
 longest_from byte at zero = []
 longest_from byte at (suc count) = elim (byte at) [ None ↦ [] | Some b ↦ b ∷ longest_from byte (at + 1) count ]
 
--- the longest list of bytes of which each is that of its offset; offsets from 2^31 on lie before the session
+-- the longest list of bytes, each of which is that of its offset; offsets from 2^31 on are before
+-- the session
 unfoldable pub longest : (ℕ → Option ℕ) → List ℕ
 longest byte = longest_from byte 0 (2 ^ 31)
 

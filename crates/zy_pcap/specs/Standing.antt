@@ -1,4 +1,4 @@
--- Which bytes brought a reader of recorded packets to where it is, and what its answers mean.
+-- The bytes that brought a reader of recorded packets to where it is, and the meaning of its answers.
 use Rattle.std.specs.Prelude.{◌≡◌, ℕ, ◌+◌, List, [], ◌++◌, Option, None, Some, Result, Ok, Err, ⊤}
 use Rattle.zy_read.specs.declared.not_taken.NotTaken.{NotTaken}
 use Rattle.zy_read.specs.declared.not_taken.NotTaken.TheVariants.{Fault, NoMemory}
@@ -20,36 +20,36 @@ pub record Reading : Type 0 where
 unfoldable pub StandsFor : Reading → List ℕ → Type 0
 StandsFor r fed = (r.place ≡ (read r.port fed).place) × KeepsFlows r.kept (flows_of (read r.port fed).packets)
 
--- with these bytes more, a reader stands for all that it stood for before and for them
+-- whatever bytes led to the old reader, these further bytes lead to the new one
 abbrev pub Feeds : Reading → Reading → List ℕ → Type 0
 Feeds old new bytes = (b : List ℕ) → StandsFor old b → StandsFor new (b ++ bytes)
 
--- with these bytes more, this is the fault that was met
+-- after these further bytes, this is the fault that was met
 abbrev pub Meets : Reading → List ℕ → Option PcapFault → Type 0
 Meets old bytes fault = (b : List ℕ) → StandsFor old b → fault_met old.port (b ++ bytes) ≡ fault
 
--- with these bytes more, this is the fault of every longer file
+-- after these further bytes, this is the fault of every longer file
 abbrev pub Lasts : Reading → List ℕ → PcapFault → Type 0
 Lasts old bytes fault =
     (b more : List ℕ) → StandsFor old b → packets old.port (b ++ (bytes ++ more)) ≡ Bad fault
 
--- the bytes were fed; where memory is wanted, none of them
+-- the bytes were fed; none of them if memory was refused
 abbrev pub FeedsAs : Reading → Reading → List ℕ → Result ⊤ (NotTaken PcapFault) → Type 0
 FeedsAs old new bytes (Err NoMemory) = Feeds old new []
 FeedsAs old new bytes answer = Feeds old new bytes
 
--- how many bytes were taken where one that so many others stand before was refused
+-- the number of bytes taken, when the byte after `before` others was refused
 abbrev pub taken_before : ℕ → NotTaken PcapFault → ℕ
 taken_before before (Fault fault) = before + 1
 taken_before before NoMemory = before
 
--- the answer tells the fault that was met
+-- the answer is the fault that was met
 abbrev pub TellsFault : Reading → List ℕ → Result ⊤ (NotTaken PcapFault) → Type 0
 TellsFault old bytes (Ok u) = Meets old bytes None
 TellsFault old bytes (Err (Fault fault)) = Meets old bytes (Some fault)
 TellsFault old bytes (Err NoMemory) = ⊤
 
--- a fault that an answer tells lasts
+-- a fault that an answer reports lasts
 abbrev pub TellsLasting : Reading → List ℕ → Result ⊤ (NotTaken PcapFault) → Type 0
 TellsLasting old bytes (Err (Fault fault)) = Lasts old bytes fault
 TellsLasting old bytes answer = ⊤

@@ -16,14 +16,15 @@ use Rattle.zy_pcap.specs.Standing.{Reading}
 abbrev pub KeepsPackets : List (Option KeptFlow) → List Packet → Type 0
 KeepsPackets kept packets = KeepsFlows kept (flows_of packets)
 
--- a frame comes, whose record is at a place
+-- a frame comes, whose record begins at a place
 abbrev pub MeetsFrame : ℕ → ℕ → List ℕ → List (Option KeptFlow) → List (Option KeptFlow)
     → Result ⊤ (NotTaken PcapFault) → Type 0
 MeetsFrame port at frame old new result =
     MeetsAs KeepsPackets (λ packets. frame_fault at frame packets (judge port at frame))
     (λ packets. packets_with frame packets (judge port at frame)) old new result
 
--- the place after a record whose frame is whole; where memory is wanted, only so many of its bytes were read
+-- the place after a record whose frame is whole; after a refused allocation only `before` bytes of
+-- the frame remain read
 abbrev pub PlaceIs : ℕ → Place → Place → Result ⊤ (NotTaken PcapFault) → Type 0
 PlaceIs before old new (Ok u) = new ≡ then_record old
 PlaceIs before old new (Err (Fault fault)) = new ≡ broken old fault

@@ -11,15 +11,15 @@ use Rattle.zy_pcap.specs.declared.due.Due.TheVariants as Dues
 
 -- where bytes were read up to some byte, the packets before it left aside
 pub record Place : Type 0 where
-  -- what is due there
+  -- what is expected there
   pub due : Due
-  -- the bytes read of the number that is due
+  -- the bytes read so far of the expected number
   pub field : List ℕ
-  -- the bytes read of the frame that is due
+  -- the bytes read so far of the expected frame
   pub frame : List ℕ
   -- the numbers of the header and of records have their highest byte first
   pub is_big : Bool
-  -- the place of the record that is due, or 0 before the first one
+  -- the place of the expected record, or 0 before the first one
   pub begun : ℕ
   -- how many bytes were read
   pub at : ℕ
@@ -35,11 +35,11 @@ pub data Move : Type 0 where
 
 -- ---- what a byte may do
 
--- this is due after the byte, which is the last one of its part
+-- this is expected after the byte, which is the last one of its part
 abbrev pub then_due : Place → Due → Place
 then_due p due = record p { due = due; field = []; frame = []; at = p.at + 1 }
 
--- a record is due after the byte
+-- a record is expected after the byte
 abbrev pub then_record : Place → Place
 then_record p = record p { due = Dues.Time 8; field = []; frame = []; begun = p.at + 1; at = p.at + 1 }
 
@@ -55,7 +55,7 @@ then_more p byte = record p { field = p.field ++ byte ∷ []; at = p.at + 1 }
 abbrev pub grown_by : Place → List ℕ → Place
 grown_by p bytes = record p { frame = p.frame ++ bytes; at = p.at + length bytes }
 
--- ---- what a byte does, by what is due
+-- ---- the step at a byte, by what is expected
 
 -- the most bytes of a frame
 abbrev pub frame_limit : ℕ
@@ -77,7 +77,7 @@ major is_big number = if is_big then number / 65536 else number % 65536
 abbrev pub minor : Bool → ℕ → ℕ
 minor is_big number = if is_big then number % 65536 else number / 65536
 
--- the whole number that was due; the magic is read with its highest byte first
+-- the expected number, once it is whole; the magic is read with its highest byte first
 abbrev pub judged : Due → Place → ℕ → Place
 judged Dues.Magic p number =
     if number == 0xa1b2c3d4 then then_due p Dues.Version
@@ -118,7 +118,7 @@ abbrev pub framed : ℕ → Place → ℕ → Move
 framed size p byte =
     if nat_lt (length p.frame + 1) size then Goes (grown_by p (byte ∷ [])) else Ends (p.frame ++ byte ∷ [])
 
--- a byte, where this is due
+-- the step at a byte, where this is expected
 abbrev pub taken : Due → Place → ℕ → Move
 taken (Dues.Settings left) p byte = settings left p
 taken (Dues.Time left) p byte = time left p

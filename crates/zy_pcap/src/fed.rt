@@ -4,17 +4,17 @@ ghost use Rattle.zy_pcap.specs.Standing.{taken_before};
 
 use crate::pcap_fault::PcapFeed;
 
-/// How many bytes were taken of some, and what came of the last one.
+/// The number of bytes taken, and the answer to the last one.
 #[derive(Drop)]
 pub struct Fed {
-    /// The bytes before the one that wants memory, where memory is wanted.
+    /// The number of bytes taken; after `NoMemory`, of those before the byte that needs memory.
     pub taken: usize,
-    /// A fault at the last byte taken; `Ok` where all bytes were taken and there is none.
+    /// A fault at the last byte taken; `Ok` if all bytes were taken and there is none.
     pub answer: Result<(), PcapFeed>,
 }
 
 impl Fed {
-    // A byte that so many others stand before was refused.
+    // The byte after `before` others was refused.
     pub(crate) fn stopped(before: usize, refused: PcapFeed) -> Fed
         requires room { before < 2 ^ 64 - 1 }
         ensures taken { result.taken ≡ taken_before before refused }

@@ -2,7 +2,7 @@
 
 use crate::pcap_fault::PcapFault;
 
-/// The packet of a frame, and where its payload stands.
+/// The packet of a frame, and the place of its payload.
 #[derive(Clone, Copy)]
 pub(crate) struct Segment {
     /// Source address, destination address, source port, destination port.

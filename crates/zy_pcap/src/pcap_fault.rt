@@ -22,12 +22,11 @@ pub enum PcapFault {
     Fragment { at: u64 },
     /// A frame that is shorter than its headers, or whose lengths contradict each other.
     Short { at: u64 },
-    /// A payload of which not all was captured.
+    /// A payload that was not captured whole.
     Missing { at: u64 },
     /// A new flow of a group that has 32 flows.
     FlowCount { at: u64 },
-    /// A payload byte that lies 2^30 bytes or more, and less than 2^31, behind its session's first
-    /// byte.
+    /// A payload byte that is 2^30 bytes or more, and less than 2^31, after its session's first byte.
     FlowLength { at: u64 },
     /// The input ended within the header or a record; the place is the number of bytes read.
     PcapTruncated { at: u64 },

@@ -54,8 +54,7 @@ impl PcapReader {
 
     /// Takes the next byte.
     ///
-    /// After a fault each call answers that same fault. Want of memory is free; then no byte was
-    /// taken.
+    /// After a fault each call answers that same fault. May answer `NoMemory`; then no byte was taken.
     pub fn feed(&mut self, byte: u8) -> Result<(), PcapFeed>
         ensures port { self.new.port ≡ self.old.port }
         ensures fed { FeedsAs self.old self.new (byte ∷ []) result }
@@ -65,10 +64,9 @@ impl PcapReader {
         self.step(byte)
     }
 
-    /// Takes bytes up to the first fault, which comes at the last byte taken, and all of them where
-    /// there is none.
+    /// Takes bytes up to and including the first fault, or all of them if there is none.
     ///
-    /// Where memory is wanted, the bytes before the one that wants it are taken.
+    /// After `NoMemory` the bytes before the one that needs memory are taken.
     pub fn feed_piece(&mut self, bytes: &[u8]) -> Fed
         requires some { 0 < length bytes.now }
         ensures port { self.new.port ≡ self.old.port }
@@ -118,7 +116,7 @@ impl PcapReader {
         }
     }
 
-    /// The streams of all flows, where the bytes that were fed are a whole file, and else their
+    /// The streams of all flows if the bytes that were fed are a whole file, and otherwise their
     /// first fault. Takes no memory.
     #[tactic(auto, using(crate::proofs::ReadLemmas::finished, crate::proofs::ReadLemmas::finished_broken, crate::proofs::ReadLemmas::finished_within))]
     pub fn finish(self) -> Result<Flows, PcapFault>
@@ -142,8 +140,8 @@ impl PcapReader {
     }
 }
 
-// Takes the record that has ended, whose frame is whole. Where memory is wanted, so many bytes of
-// the frame stay.
+// Takes the record that has ended, whose frame is whole. If memory is refused, only `before` bytes
+// of the frame remain.
 fn settle(
     records: &mut Records,
     kept: &mut KeptFlows,

@@ -59,14 +59,14 @@ impl Records {
         }
     }
 
-    // What is due.
+    // What is expected.
     pub(crate) fn due(&self) -> Due
         ensures value { result ≡ self.now.due }
     {
         self.due
     }
 
-    // The place of the record that is due.
+    // The place of the expected record.
     pub(crate) fn begun(&self) -> u64
         ensures value { result ≡ self.now.begun }
     {
@@ -80,7 +80,7 @@ impl Records {
         self.at
     }
 
-    // The bytes of the frame that is due.
+    // The bytes read of the expected frame.
     pub(crate) fn frame(&self) -> &[u8]
         ensures value { result.now ≡ self.now.frame }
     {
@@ -107,7 +107,7 @@ impl Records {
         self.frame.clear();
     }
 
-    // Only so many bytes of the frame were read.
+    // Cuts the frame to its first `size` bytes.
     pub(crate) fn cut_frame(&mut self, size: usize)
         ensures value { self.new ≡ record self.old { frame = take size self.old.frame } }
     {

@@ -47,7 +47,7 @@ impl Word {
         self.seen = 0;
     }
 
-    // One byte more.
+    // One further byte.
     pub(crate) fn push(&mut self, byte: u8)
         requires room { length self.old < 3 }
         ensures value { self.new ≡ self.old ++ byte ∷ [] }
@@ -56,7 +56,7 @@ impl Word {
         self.seen += 1;
     }
 
-    // The number of which this is the last byte.
+    // The number, this byte being its last.
     pub(crate) fn number(&self, byte: u8, is_big: bool) -> u32
         requires whole { length self.now ≡ 3 }
         ensures value { result ≡ number_in is_big (self.now ++ byte ∷ []) }

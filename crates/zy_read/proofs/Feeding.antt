@@ -1,4 +1,4 @@
--- What bytes that are fed mean for all that a reader stands for.
+-- What further bytes mean for each place that a reader may have reached.
 use Rattle.std.proofs.Common.{◌≡◌, ℕ, List, [], ◌∷◌, ◌++◌, refl, sym, ◌∙◌, ap, append_assoc}
 use Rattle.std.specs.Prelude.{Some, Option, None, option_to_list, Result, Ok, Err}
 use Rattle.std.specs.List.{concat}
@@ -37,12 +37,12 @@ unfolding StandsAs
 fed_by {P} {G} format p q bytes gave reads given b stands =
     read_more format p given b bytes stands ∙ ap (λ (r : Reading P G). then_read (record { given = given; last = p }) r) reads
 
--- no byte more
+-- no further byte
 pub fed_none : {P G F V : Type 0} (format : Format P G F V) (p : P) → Feeds format p p [] []
 unfolding read_on
 fed_none format p = fed_by format p p [] [] refl
 
--- one byte more
+-- one further byte
 pub fed_step : {P G F V : Type 0} (format : Format P G F V) (p : P) (byte : ℕ) → Feeds format p (format.step p byte).next (byte ∷ []) (option_to_list (format.step p byte).gave)
 unfolding read_on
 fed_step {P} {G} format p byte =
@@ -61,7 +61,7 @@ read_broken format lasting p fault [] is = refl
 read_broken {P} {G} format lasting p fault (byte ∷ more) is =
     ap (λ (s : Step P G). with_front s.gave (read_on format.step s.next more)) (lasting.still p byte fault is) ∙ read_broken format lasting p fault more is
 
--- where a fault was met, a longer text gives nothing more
+-- after a fault was met, a longer text gives no further record
 pub broken_stays : {P G F V : Type 0} (format : Format P G F V) (lasting : IsLasting format) (p : P) (fault : F) (more : List ℕ) → format.fault_in p ≡ Some fault → Feeds format p p more []
 broken_stays format lasting p fault more is = fed_by format p p more [] (read_broken format lasting p fault more is)
 

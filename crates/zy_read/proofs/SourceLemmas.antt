@@ -1,23 +1,23 @@
--- What a source told that gave some bytes, and what is left of a piece.
+-- The bytes that a source held at first, from those that it gave; and the rest of a piece.
 use Rattle.std.proofs.Common.{◌≡◌, ℕ, ◌+◌, ◌-◌, ◌≤◌, List, [], ◌++◌, length, take, drop, refl, sym, ◌∙◌, ap, subst, arith, length-drop}
 use Rattle.std.specs.Prelude.{Option, None, Some, IfSome}
 use Rattle.std.specs.Io.KnownBytes.{Consumes, IsAtEnd}
 use Rattle.std.proofs.lemmas.List.{append-nil, drop-take, drop-drop, length-take-le}
 
--- ---- what the source told
+-- ---- the bytes of a source
 
 -- at first it gave nothing
 pub consumed_none : (a : Option (List ℕ)) → Consumes a a []
 consumed_none None = tt
 consumed_none (Some u) = refl
 
--- what is true of all longer texts is true of what the source told
+-- what is true of all longer texts is true of the bytes of the source
 pub told_first : (before after : Option (List ℕ)) (bytes : List ℕ) (P : List ℕ → Type 0) → Consumes before after bytes → ((more : List ℕ) → P (bytes ++ more)) → IfSome before P
 told_first None after bytes P consumed all = tt
 told_first (Some u) None bytes P consumed all = absurd consumed
 told_first (Some u) (Some v) bytes P consumed all = subst P (sym consumed) (all v)
 
--- at its end it told these bytes
+-- a source that is at its end held these bytes
 pub told_all : (before after : Option (List ℕ)) (bytes : List ℕ) (P : List ℕ → Type 0) → Consumes before after bytes → IsAtEnd after → P bytes → IfSome before P
 told_all None after bytes P consumed end holds = tt
 told_all (Some u) None bytes P consumed end holds = absurd consumed

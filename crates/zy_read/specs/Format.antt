@@ -1,4 +1,5 @@
--- A format whose texts are read byte after byte: what each byte does, what is read of a text, and what a whole text is.
+-- A format whose texts are read byte after byte: the step at each byte, what is read of a text, and
+-- the verdict on it.
 use Rattle.std.specs.Prelude.{◌≡◌, ℕ, List, [], ◌∷◌, ◌++◌, Option, None, Some, option_to_list}
 
 -- ---- a format
@@ -48,7 +49,7 @@ reading_of format text = read_on format.step format.start text
 unfoldable pub given_by : {P G F V : Type 0} → Format P G F V → List ℕ → List G
 given_by format text = (reading_of format text).given
 
--- the fault that was met in a text; that a text ends is none
+-- the fault that was met in a text; the end of the text is not a fault here
 unfoldable pub fault_met : {P G F V : Type 0} → Format P G F V → List ℕ → Option F
 fault_met format text = format.fault_in (reading_of format text).last
 

@@ -14,6 +14,6 @@ or_else broken other (Some fault) = broken fault
 pub none_met : {F : Type 0} (fault : F) → None ≡ Some fault → ⊥
 none_met {F} fault is = subst (λ (o : Option F). IsNone o) is tt
 
--- what is due after a fault is that of the fault that was met
+-- the place after a fault is that of the fault that was met
 pub one_met : {F D : Type 0} (broken : F → D) (found fault : F) → Some found ≡ Some fault → broken found ≡ broken fault
 one_met {F} broken found fault is = ap (λ (o : Option F). or_else broken (broken found) o) is

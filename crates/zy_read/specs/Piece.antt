@@ -4,7 +4,7 @@ use Rattle.std.specs.Io.KnownBytes.{Consumes, IsAtEnd}
 use Rattle.zy_base.specs.Outside.{Rose}
 use Rattle.zy_base.specs.declared.outside.Failed.{Failed}
 
--- since a source was the first one it gave these bytes, and then what is left of the piece
+-- since the state `first`, a source gave the bytes taken, followed by those left of the piece
 pub record HasGiven {S : Type 0} (rest : S → Option (List ℕ)) (faults : S → ℕ) (first now : S)
     (left taken : List ℕ) : Type 0 where
   pub source : Consumes (rest first) (rest now) (taken ++ left)
@@ -14,7 +14,7 @@ pub record HasGiven {S : Type 0} (rest : S → Option (List ℕ)) (faults : S �
 abbrev pub IsOver : Option (List ℕ) → List ℕ → Type 0
 IsOver rest left = (left ≡ []) × IsAtEnd rest
 
--- there are bytes, or none are left, or the count of faults rose, or stands at its last value
+-- there are bytes, or none are left, or the count of faults rose or is at its largest value
 abbrev pub Refills : {S : Type 0} → (S → Option (List ℕ)) → (S → ℕ) → S → S → List ℕ → List ℕ → Result Bool Failed
     → Type 0
 Refills rest faults first now left taken (Ok true) = HasGiven rest faults first now left taken

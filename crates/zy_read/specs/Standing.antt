@@ -1,4 +1,5 @@
--- Which bytes brought a reader to where it is, what it gave for them, and what an answer to further bytes means.
+-- The bytes that brought a reader to where it is, the records that it gave for them, and the
+-- meaning of an answer to further bytes.
 use Rattle.std.specs.Prelude.{◌≡◌, ℕ, ◌+◌, List, [], ◌∷◌, ◌++◌, Option, None, Some, option_to_list, Result, Ok, Err, ⊤}
 use Rattle.zy_read.specs.declared.not_taken.NotTaken.{NotTaken}
 use Rattle.zy_read.specs.declared.not_taken.NotTaken.TheVariants.{Fault, NoMemory}
@@ -15,35 +16,35 @@ abbrev pub given_in : {G F : Type 0} → Result (Option G) (NotTaken F) → List
 given_in (Ok gave) = option_to_list gave
 given_in (Err e) = []
 
--- with these bytes more, these records more were given
+-- for these further bytes, these further records were given
 abbrev pub Feeds : {P G F V : Type 0} → Format P G F V → P → P → List ℕ → List G → Type 0
 Feeds {P} {G} format old new bytes gave =
     (given : List G) (b : List ℕ) → StandsAs format old given b → StandsAs format new (given ++ gave) (b ++ bytes)
 
--- with these bytes more, this is the fault that was met
+-- after these further bytes, this is the fault that was met
 abbrev pub MeetsFault : {P G F V : Type 0} → Format P G F V → P → List ℕ → Option F → Type 0
 MeetsFault {P} {G} format old bytes told =
     (given : List G) (b : List ℕ) → StandsAs format old given b → fault_met format (b ++ bytes) ≡ told
 
--- with these bytes more, this is the fault of every longer text
+-- after these further bytes, this is the fault of every longer text
 abbrev pub LastsAs : {P G F V : Type 0} → Format P G F V → P → List ℕ → F → Type 0
 LastsAs {P} {G} format old bytes fault =
     (given : List G) (b more : List ℕ) → StandsAs format old given b
     → verdict_on format (b ++ (bytes ++ more)) ≡ format.bad fault
 
--- an answer gives the records of the bytes; where memory is wanted nothing changed
+-- an answer gives the records of the bytes; after `NoMemory` nothing changed
 abbrev pub FeedsAs : {P G F V : Type 0} → Format P G F V → P → P → List ℕ → Result (Option G) (NotTaken F) → Type 0
 FeedsAs format old new bytes (Ok gave) = Feeds format old new bytes (option_to_list gave)
 FeedsAs format old new bytes (Err (Fault fault)) = Feeds format old new bytes []
 FeedsAs format old new bytes (Err NoMemory) = new ≡ old
 
--- an answer tells the fault that was met in the bytes
+-- an answer is the fault that was met in the bytes
 abbrev pub TellsFault : {P G F V : Type 0} → Format P G F V → P → List ℕ → Result (Option G) (NotTaken F) → Type 0
 TellsFault format old bytes (Ok gave) = MeetsFault format old bytes None
 TellsFault format old bytes (Err (Fault fault)) = MeetsFault format old bytes (Some fault)
 TellsFault format old bytes (Err NoMemory) = ⊤
 
--- a fault that an answer tells lasts
+-- a fault that an answer reports lasts
 abbrev pub TellsLasting : {P G F V : Type 0} → Format P G F V → P → List ℕ → Result (Option G) (NotTaken F) → Type 0
 TellsLasting format old bytes (Err (Fault fault)) = LastsAs format old bytes fault
 TellsLasting format old bytes answer = ⊤
@@ -54,7 +55,7 @@ AnswersBy {P} {G} format p of answer = (given : List G) (b : List ℕ) → Stand
 
 -- ---- bytes in pieces
 
--- how many bytes were taken, with this answer to one that so many others stand before
+-- the number of bytes taken, with this answer to the byte after `before` others
 abbrev pub taken_with : {G F : Type 0} → ℕ → Result (Option G) (NotTaken F) → ℕ
 taken_with before (Ok gave) = before + 1
 taken_with before (Err (Fault fault)) = before + 1
@@ -70,7 +71,8 @@ FeedsPieces {P} {G} format old new (piece ∷ pieces) gave =
 
 -- ---- for readers alone
 
--- an answer and a new state are those of a step; want of memory changes nothing, and comes only at such a byte
+-- an answer and a new state are those of a step; `NoMemory` changes nothing, and is answered only
+-- at a byte that needs memory
 abbrev pub Follows : {P G F V : Type 0} → Format P G F V → (P → ℕ → Type 0) → Step P G → P → P → ℕ
     → Result (Option G) (NotTaken F) → Type 0
 Follows format wants step old new byte (Ok gave) = (new ≡ step.next) × (gave ≡ step.gave) × (format.fault_in new ≡ None)

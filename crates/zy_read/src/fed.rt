@@ -4,18 +4,18 @@ ghost use Rattle.zy_read.specs.Standing.{taken_with};
 
 use crate::not_taken::NotTaken;
 
-/// How many bytes were taken of some, and what came of the last one. Take it apart by
-/// `let Fed { taken, answer } = ..`.
+/// The number of bytes taken, and the answer to the last one.
+/// Take it apart by `let Fed { taken, answer } = ..`.
 #[derive(Drop)]
 pub struct Fed<G, F> {
-    /// The bytes before the one that wants memory, where memory is wanted.
+    /// The number of bytes taken; after `NoMemory`, of those before the byte that needs memory.
     pub taken: usize,
     /// A record or a fault at the last byte taken; `Ok(None)` where all bytes were taken.
     pub answer: Result<Option<G>, NotTaken<F>>,
 }
 
 impl<G: Drop, F: Drop> Fed<G, F> {
-    /// The answer to a byte that so many others stand before.
+    /// The answer to the byte after `before` others.
     pub fn at(before: usize, answer: Result<Option<G>, NotTaken<F>>) -> Fed<G, F>
         requires room { before < 2 ^ 64 - 1 }
         ensures taken { result.taken ≡ taken_with before answer }
@@ -34,7 +34,7 @@ impl<G: Drop, F: Drop> Fed<G, F> {
     }
 }
 
-/// `Ok` where a byte was taken that ended nothing, and else the answer.
+/// `Ok` if a byte was taken that ended nothing, and otherwise the answer.
 pub fn goes_on<G: Drop, F: Drop>(
     answer: Result<Option<G>, NotTaken<F>>,
 ) -> Result<(), Result<Option<G>, NotTaken<F>>>

@@ -48,7 +48,7 @@ impl Field {
         self.seen = 0;
     }
 
-    /// One byte more.
+    /// Appends a byte.
     pub fn push(&mut self, byte: u8)
         requires room { length self.old < 7 }
         ensures value { self.new ≡ self.old ++ byte ∷ [] }
@@ -57,7 +57,7 @@ impl Field {
         self.seen += 1;
     }
 
-    /// The number of four bytes of which this is the last, big-endian.
+    /// The big-endian number of four bytes, this one the last.
     pub fn number(&self, byte: u8) -> u32
         requires whole { length self.now ≡ 3 }
         ensures value { result ≡ from_be_bytes w32 (self.now ++ byte ∷ []) }
@@ -65,7 +65,7 @@ impl Field {
         u32::from_be_bytes([self.bytes[0], self.bytes[1], self.bytes[2], byte])
     }
 
-    /// The number of eight bytes of which this is the last, big-endian.
+    /// The big-endian number of eight bytes, this one the last.
     pub fn long_number(&self, byte: u8) -> u64
         requires whole { length self.now ≡ 7 }
         ensures value { result ≡ from_be_bytes w64 (self.now ++ byte ∷ []) }

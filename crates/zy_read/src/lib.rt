@@ -1,4 +1,4 @@
-//! The reading machine: what is the same in readers that take bytes one after another.
+//! The reading machine: the common part of readers that take bytes one after another.
 #![tactic(auto)]
 
 mod fed;

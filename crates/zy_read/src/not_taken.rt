@@ -7,7 +7,7 @@ use zy_base::FileFault;
 pub enum NotTaken<F> {
     /// The text has this fault.
     Fault(F),
-    /// Memory was wanted and not found; the byte is still to be taken.
+    /// An allocation was refused; the byte is still to be taken.
     NoMemory,
 }
 

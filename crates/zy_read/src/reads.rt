@@ -21,7 +21,7 @@ pub trait Reads {
     /// The format.
     ghost format: { Format Self Self.Gives Self.Fault Verdict };
 
-    /// Memory may be wanted for this byte.
+    /// The reader may need memory for this byte.
     ghost wants: { Self → ℕ → Type 0 };
 
     /// Takes the next byte.
@@ -48,17 +48,17 @@ pub fn feed<R: Reads>(reader: &mut R, byte: u8) -> Result<Option<R::Gives>, NotT
     ensures exact { TellsFault R.format reader.old (byte ∷ []) result }
     ensures lasts { TellsLasting R.format reader.old (byte ∷ []) result }
 
-    // Want of memory.
+    // A refused allocation.
     ensures kept { result ≡ Err NoMemory → reader.new ≡ reader.old }
     ensures memory { result ≡ Err NoMemory → R.wants reader.old byte }
 {
     reader.step(byte)
 }
 
-/// Takes bytes up to the first record that they end or the first fault, and all of them where there
-/// is none. That one comes at the last byte taken, as `feed` would give it.
+/// Takes bytes up to and including the one that ends the first record or is the first fault, or all
+/// of them if there is none. The answer is the one that `feed` gives to that last byte.
 ///
-/// Where memory is wanted, the bytes before the one that wants it are taken.
+/// After `NoMemory` the bytes before the one that needs memory are taken.
 pub fn feed_piece<R: Reads>(reader: &mut R, bytes: &[u8]) -> Fed<R::Gives, R::Fault>
     requires some { 0 < length bytes.now }
     ensures within { result.taken ≤ length bytes.now }

@@ -11,7 +11,7 @@ pub enum Stop<F> {
     Refused(F),
     /// A read failed.
     ReadFault,
-    /// Memory was wanted and not found.
+    /// An allocation was refused.
     NoMemory,
 }
 

@@ -8,7 +8,7 @@ use Rattle.std.specs.Prelude.{ℕ, zero, suc, ◌+◌, ◌-◌, ◌*◌, ◌/◌
 abbrev pub bit_at : List ℕ → ℕ → ℕ
 bit_at bytes place = (slice_index bytes (place / 8) / 2 ^ (7 - place % 8)) % 2
 
--- the number that so many bits from a place on spell
+-- the number that the `count` bits from a place on spell
 abbrev pub bits_from : List ℕ → ℕ → ℕ → ℕ
 bits_from bytes place zero = 0
 bits_from bytes place (suc count) = bit_at bytes place * 2 ^ count + bits_from bytes (place + 1) count
@@ -25,11 +25,11 @@ key =
 unfoldable pub window : ℕ → ℕ
 window place = bits_from key place 32
 
--- what the bit at a place adds: the key's 32 bits from the same place on where it is 1, and else nothing
+-- what the bit at a place adds: the key's 32 bits from the same place on if it is 1, and 0 otherwise
 abbrev pub term : List ℕ → ℕ → ℕ
 term input place = if bit_at input place == 1 then window place else 0
 
--- the exclusive or of what the bits at so many places add
+-- the exclusive or of what the first `count` bits add
 unfoldable pub hash_of_first : List ℕ → ℕ → ℕ
 hash_of_first input zero = 0
 hash_of_first input (suc count) = bit_xor (hash_of_first input count) (term input count)

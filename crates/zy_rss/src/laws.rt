@@ -2,8 +2,8 @@
 ghost use Rattle.std.specs.Prelude.{◌≡◌, [], ◌∷◌};
 ghost use Rattle.zy_rss.specs.Toeplitz.{toeplitz};
 
-/// The hash has the values that Microsoft's "Verifying the RSS Hash Calculation" gives for IPv4 with
-/// ports.
+/// The hash has the values that Microsoft's "Verifying the RSS hash calculation" gives for IPv4
+/// with ports.
 pub fn the_published_values_hold()
     ensures first { toeplitz (66 ∷ 9 ∷ 149 ∷ 187 ∷ 161 ∷ 142 ∷ 100 ∷ 80 ∷ 10 ∷ 234 ∷ 6 ∷ 230 ∷ [])
         ≡ 0x51ccc178 }

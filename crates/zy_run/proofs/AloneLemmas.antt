@@ -1,4 +1,4 @@
--- A connection whose keys no other calls is answered as by one shard that it has to itself.
+-- A connection whose keys no other connection calls gets the same replies as from one shard of its own.
 use Rattle.std.proofs.Common.{◌≡◌, ℕ, ◌<◌, Bool, true, false, cond, List, [], ◌∷◌, map, refl, sym, ap, ◌∙◌, subst, eq-eqb, eqb-true}
 use Rattle.std.specs.Prelude.{◌==◌}
 use Rattle.std.specs.List.{AllByRecursion, Contains}
@@ -20,15 +20,15 @@ use Rattle.zy_base.proofs.KeyLemmas.{told-reply_to, seen_at-both, seen_at-other}
 -- ---- one entry
 
 module _ (shards count : ℕ) (keys : ℕ → List (List ℕ)) (states : ℕ → State) (single : State) (e : Entry) (is_own : IsEntryOwn shards count keys e) where
-  -- where a store has what one shard has at the key of an entry
+  -- the shard of the entry and the single shard have the same at the entry's key
   at_key : Agree shards (keys e.tag.conn) states single → seen_at is_own.keyed.key (states e.shard) ≡ seen_at is_own.keyed.key single
   at_key agree = subst (λ s. seen_at is_own.keyed.key (states s) ≡ seen_at is_own.keyed.key single) (sym is_own.keyed.place) (agree is_own.keyed.key is_own.keyed.own)
 
-  -- both answer it alike
+  -- both give it the same reply, apart from uniques
   told-same : Agree shards (keys e.tag.conn) states single → told (reply_to (states e.shard) e.call) ≡ told (reply_to single e.call)
   told-same agree = told-reply_to (states e.shard) single e.call is_own.keyed.key is_own.keyed.steady is_own.keyed.named (at_key agree)
 
-  -- and agree after it
+  -- they still agree after it
   Agree-both : Agree shards (keys e.tag.conn) states single → Agree shards (keys e.tag.conn) (states_after shards states e) (state_after 1 0 single e.call)
   Agree-both agree key inside = go (shard_of key shards == e.shard) refl
     where
@@ -41,7 +41,7 @@ module _ (shards count : ℕ) (keys : ℕ → List (List ℕ)) (states : ℕ →
           agree key inside ∙ sym (seen_at-other 1 0 single e.call is_own.keyed.key key is_own.keyed.steady is_own.keyed.named (λ same.
           let here : (shard_of key shards == e.shard) ≡ true = eq-eqb (shard_of key shards) e.shard (ap (λ k. shard_of k shards) (sym same) ∙ sym is_own.keyed.place) in cc))
 
-  -- an entry of another connection changes nothing at keys that its connection does not call
+  -- an entry of another connection changes nothing at keys that the other does not call
   Agree-other : (own : List (List ℕ)) → ((key : List ℕ) → Contains own key → Contains (keys e.tag.conn) key → ⊥)
       → Agree shards own states single → Agree shards own (states_after shards states e) single
   Agree-other own apart agree key inside = go (shard_of key shards == e.shard) refl
@@ -56,7 +56,8 @@ module _ (shards count : ℕ) (keys : ℕ → List (List ℕ)) (states : ℕ →
 
 -- ---- all entries
 
--- the entries of a connection are answered, but for uniques, as they are where they alone are made on one shard
+-- the replies to the entries of a connection are, apart from uniques, those of one shard on which
+-- they alone are made
 pub told-alone : (shards count conn : ℕ) (keys : ℕ → List (List ℕ)) → ((other : ℕ) (key : List ℕ) → other < count → Contains (keys conn) key → Contains (keys other) key → conn ≡ other)
     → (states : ℕ → State) (single : State) (es : List Entry) → AllByRecursion (IsEntryOwn shards count keys) es → IsLegalFrom shards states es → Agree shards (keys conn) states single
     → all_told (of_connection conn es) ≡ told_by single (dues_of (of_connection conn es))
@@ -74,7 +75,7 @@ told-alone shards count conn keys apart states single (e ∷ es) own legal agree
     (told-alone shards count conn keys apart (states_after shards states e) single es own.1 legal.2
     (Agree-other shards count keys states single e own.0 (keys conn) (λ key mine its. other (sym (apart e.tag.conn key own.0.within mine its))) agree)))
 
--- what is told does not depend on shards
+-- these entries do not depend on the shards of the calls
 pub told_by-bare : (single : State) (dues : List Due) → told_by single (map bare dues) ≡ told_by single dues
 told_by-bare single [] = refl
 told_by-bare single (due ∷ dues) =

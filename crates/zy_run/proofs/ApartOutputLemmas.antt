@@ -1,4 +1,4 @@
--- Where two runs tell a connection the same but for uniques, its outputs are the same.
+-- If two runs give a connection the same entries apart from uniques, its outputs are the same.
 use Rattle.std.proofs.Common.{◌≡◌, ℕ, zero, suc, ◌+◌, ◌<◌, ◌≤◌, List, [], ◌∷◌, ◌++◌, length, map, refl, sym, ap, ◌∙◌, arith}
 use Rattle.std.specs.Prelude.{All}
 use Rattle.std.specs.List.{AllByRecursion, concat, range_with_len, slice_index_or}
@@ -15,7 +15,7 @@ use Rattle.mc_reply.proofs.ToldLemmas.{texts-told}
 
 -- ---- lists
 
--- two functions that agree on a range make the same list of it
+-- two functions that agree on a range make the same list from it
 pub map-range_same : {X : Type 0} (f g : ℕ → X) (first n : ℕ) → ((k : ℕ) → first ≤ k → k < first + n → f k ≡ g k) → map f (range_with_len first n) ≡ map g (range_with_len first n)
 map-range_same f g first zero same = refl
 map-range_same {X} f g first (suc n) same =
@@ -42,7 +42,7 @@ output-told : (conn session : ℕ) (streams : List (List ℕ)) (es : List Entry)
 output-told conn session streams es within plain =
     ap concat (texts-told (commands_before session streams) (commands_of (slice_index_or streams session [])) (of_connection conn es) (plain_session session streams within plain))
 
--- the outputs of a connection whose commands are plain are told by its entries without uniques
+-- the outputs of a connection whose commands are plain depend on its entries without uniques alone
 pub outputs-same : (conn : ℕ) (streams : List (List ℕ)) (es others : List Entry) → All IsPlain (commands_over streams)
     → all_told (of_connection conn es) ≡ all_told (of_connection conn others) → outputs_of conn streams es ≡ outputs_of conn streams others
 outputs-same conn streams es others plain same =

@@ -1,4 +1,4 @@
--- The worked capture is apart, and its run is one.
+-- The connections of the worked capture are apart, and the worked run is one of its runs.
 use Rattle.std.proofs.Common.{◌≡◌, ℕ, zero, suc, ◌<◌, List, [], ◌∷◌, codes, get_or, Option, Some, refl, sym, ap, ◌∙◌, subst, arith}
 use Rattle.std.specs.Prelude.{All}
 use Rattle.std.specs.List.{Contains}
@@ -71,7 +71,7 @@ one_of_b : (key : List ℕ) → Contains (codes "b" ∷ []) key → key ≡ code
 one_of_b key (zero, within, is) = sym is
 one_of_b key (suc k, within, is) = absurd (omega arith)
 
--- no key is of both
+-- no key is called by both
 no_key : (key : List ℕ) → Contains (all_keys_of (commands_in apart_records 0)) key → Contains (all_keys_of (commands_in apart_records 1)) key → ⊥
 no_key key first second =
     let is_a : key ≡ codes "a" = one_of_a key (subst (λ keys. Contains keys key) keys_0 first) in

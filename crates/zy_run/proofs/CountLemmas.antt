@@ -1,4 +1,4 @@
--- How many entries lists have whose connections have as many.
+-- Lists of entries have the same length if each connection has the same number of entries in both.
 use Rattle.std.proofs.Common.{◌≡◌, ℕ, zero, suc, ◌+◌, ◌<◌, ◌≤◌, List, [], ◌∷◌, length, refl, sym, ap, ◌∙◌, arith}
 use Rattle.std.specs.List.{AllByRecursion}
 use mathlib.Core.Logic.{dite}
@@ -7,7 +7,7 @@ use Rattle.zy_base.specs.declared.entry.Entry.{Entry}
 use Rattle.zy_base.specs.Order.{of_connection}
 use Rattle.zy_base.proofs.EntryLemmas.{of_connection-here, of_connection-other}
 
--- how many entries of the first so many connections there are, counted connection by connection
+-- the number of entries of the first connections, counted connection by connection
 tally : ℕ → List Entry → ℕ
 tally zero es = 0
 tally (suc n) es = tally n es + length (of_connection n es)
@@ -26,7 +26,7 @@ tally-past (suc n) e es past =
     let here : length (of_connection n (e ∷ es)) ≡ length (of_connection n es) = ap length (of_connection-other n e es (λ is. omega arith)) in
     omega arith
 
--- an entry of one of them is
+-- an entry of one of these connections is counted
 tally-more : (n : ℕ) (e : Entry) (es : List Entry) → e.tag.conn < n → tally n (e ∷ es) ≡ tally n es + 1
 unfolding tally
 tally-more zero e es within = absurd (omega arith)
@@ -53,7 +53,7 @@ tally-same (suc n) es others same =
     let here : length (of_connection n es) ≡ length (of_connection n others) = same n (omega arith) in
     omega arith
 
--- two lists whose connections have as many entries have as many entries
+-- two lists in which each connection has the same number of entries have the same length
 pub length-same : (count : ℕ) (es others : List Entry) → AllByRecursion (λ e. e.tag.conn < count) es → AllByRecursion (λ e. e.tag.conn < count) others
     → ((conn : ℕ) → conn < count → length (of_connection conn es) ≡ length (of_connection conn others)) → length es ≡ length others
 length-same count es others of of_others same = tally-all count es of ∙ tally-same count es others same ∙ sym (tally-all count others of_others)

@@ -1,4 +1,5 @@
--- In each run of commands that do not meet a connection is told the same, whatever the number of shards.
+-- All runs of commands that are apart give a connection the same replies, whatever the number of
+-- shards.
 use Rattle.std.proofs.Common.{◌≡◌, ℕ, ◌<◌, ◌≤◌, List, [], ◌∷◌, length, refl, sym, ap, ◌∙◌, subst, arith}
 use Rattle.std.specs.Prelude.{All}
 use Rattle.std.specs.List.{AllByRecursion}
@@ -30,12 +31,12 @@ use Rattle.zy_run.proofs.SerialLemmas.{dues_of-answered, legal-answered, own-alo
 
 -- ---- each entry
 
--- what holds of what entries were asked holds of each
+-- what holds of the expected calls that entries were made for holds of each entry
 each_asked : (P : Due → Type 0) (es : List Entry) → AllByRecursion P (dues_of es) → AllByRecursion (λ e. P (due_of e)) es
 each_asked P [] each = tt
 each_asked P (e ∷ es) each = (each.0, each_asked P es each.1)
 
--- what holds of the calls due of each connection holds of each entry
+-- what holds of the expected calls of each connection holds of each entry
 each_entry : (P : Due → Type 0) (count : ℕ) (es : List Entry) → AreOfConnections count es → ((conn : ℕ) → conn < count → AllByRecursion P (dues_of (of_connection conn es)))
     → AllByRecursion (λ e. P (due_of e)) es
 each_entry P count [] of each = tt
@@ -46,10 +47,10 @@ each_entry P count (e ∷ es) of each = (
       (λ other. subst (λ l. AllByRecursion P (dues_of l)) (of_connection-other conn e es other) (each conn within))),
 )
 
--- ---- what a connection is told
+-- ---- the entries of one connection
 
 module _ (count conn : ℕ) (commands : ℕ → List Command) (apart : AreApart count commands) (within : conn < count) where
-  -- in a run it is told what one shard tells it that it has to itself
+  -- in a run, its entries are those of one shard of its own, apart from uniques
   run_told : (shards : ℕ) (es : List Entry) → IsRun shards es count commands → all_told (of_connection conn es) ≡ told_by empty_state (due shards conn (commands conn))
   run_told shards es run =
       told-alone shards count conn (λ c. all_keys_of (commands c)) (λ other key below mine its. apart.keys conn other key within below mine its) (λ number. empty_state) empty_state es
@@ -58,7 +59,7 @@ module _ (count conn : ℕ) (commands : ℕ → List Command) (apart : AreApart 
       run.legal (λ key inside. refl)
       ∙ ap (told_by empty_state) (run.calls conn within)
 
-  -- so it is where it is alone
+  -- the same is true where it is alone
   alone_told : (shards : ℕ) → 1 ≤ shards → all_told (of_connection conn (alone shards conn (commands conn))) ≡ told_by empty_state (due shards conn (commands conn))
   alone_told shards some =
       let asked : dues_of (alone shards conn (commands conn)) ≡ due shards conn (commands conn) = dues_of-answered shards (λ number. empty_state) 1 (due shards conn (commands conn)) in
@@ -70,7 +71,7 @@ module _ (count conn : ℕ) (commands : ℕ → List Command) (apart : AreApart 
       (λ key inside. refl)
       ∙ ap (λ l. told_by empty_state (dues_of l)) (own-alone shards conn (commands conn)) ∙ ap (told_by empty_state) asked
 
-  -- and the number of shards is all one
+  -- so the number of shards does not matter
   told_anywhere : (shards others : ℕ) → told_by empty_state (due shards conn (commands conn)) ≡ told_by empty_state (due others conn (commands conn))
   told_anywhere shards others =
       sym (told_by-bare empty_state (due shards conn (commands conn))) ∙ ap (told_by empty_state) (due_bare shards others conn (commands conn) (apart.plain conn within))
@@ -109,7 +110,7 @@ length-due : (shards others conn : ℕ) (commands : List Command) → All IsPlai
 length-due shards others conn commands plain =
     sym (length-map (due shards conn commands) bare) ∙ ap length (due_bare shards others conn commands plain) ∙ length-map (due others conn commands) bare
 
--- two runs have as many entries
+-- two runs have the same number of entries
 pub length-run : (shards others count : ℕ) (commands : ℕ → List Command) (es fs : List Entry) → AreApart count commands → IsRun shards es count commands → IsRun others fs count commands → length es ≡ length fs
 length-run shards others count commands es fs apart run other =
     length-same count es fs (each_below count es run.connections) (each_below count fs other.connections) (λ conn within.

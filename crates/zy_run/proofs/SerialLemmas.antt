@@ -1,4 +1,4 @@
--- Calls due that are made one after another: what their entries are.
+-- The entries of expected calls that are made one after another.
 use Rattle.std.proofs.Common.{◌≡◌, inl, ℕ, zero, suc, ◌+◌, ◌<◌, ◌≤◌, Bool, true, false, cond, List, [], ◌∷◌, ◌++◌, refl, sym, ap, ◌∙◌, append-nil, eq-eqb, ne_eqb, arith}
 use Rattle.std.specs.Prelude.{◌==◌, filter, flat_map, Some}
 use Rattle.std.specs.List.{AllByRecursion, range_with_len}
@@ -18,7 +18,7 @@ use Rattle.mc_parse.proofs.PlainLemmas.{each-append}
 
 -- ---- the entries
 
--- they were asked what was due
+-- they are the entries of the expected calls
 pub dues_of-answered : (shards : ℕ) (states : ℕ → State) (stamp : ℕ) (dues : List Due) → dues_of (answered shards states stamp dues) ≡ dues
 dues_of-answered shards states stamp [] = refl
 dues_of-answered shards states stamp (due ∷ dues) = ap (λ (l : List Due). due ∷ l) (dues_of-answered shards (states_after shards states (entry_of states stamp due)) (stamp + 1) dues)
@@ -28,15 +28,15 @@ pub legal-answered : (shards : ℕ) (states : ℕ → State) (stamp : ℕ) (dues
 legal-answered shards states stamp [] within = tt
 legal-answered shards states stamp (due ∷ dues) within = (within.0, refl, legal-answered shards (states_after shards states (entry_of states stamp due)) (stamp + 1) dues within.1)
 
--- they stand in order of their stamps
+-- they are in the order of their stamps
 pub ordered-answered : (shards : ℕ) (states : ℕ → State) (stamp : ℕ) (before : Entry) (dues : List Due) → before.stamp < stamp → IsOrdered (Some before) (answered shards states stamp dues)
 ordered-answered shards states stamp before [] above = tt
 ordered-answered shards states stamp before (due ∷ dues) above =
     (inl above, ordered-answered shards (states_after shards states (entry_of states stamp due)) (stamp + 1) (entry_of states stamp due) dues (omega arith))
 
--- ---- the calls due of one connection
+-- ---- the expected calls of one connection
 
--- the entries of a connection were asked what was due of it
+-- the entries of a connection are those of its expected calls
 pub own-answered : (conn shards : ℕ) (states : ℕ → State) (stamp : ℕ) (dues : List Due)
     → dues_of (of_connection conn (answered shards states stamp dues)) ≡ filter (λ due. due.tag.conn == conn) dues
 own-answered conn shards states stamp [] = refl
@@ -53,21 +53,21 @@ tagged_of : (conn index part : ℕ) (calls : List ShardCall) → AllByRecursion 
 tagged_of conn index part [] = tt
 tagged_of conn index part (call ∷ calls) = (refl, tagged_of conn index (part + 1) calls)
 
--- the calls due of a connection are its own
+-- the expected calls of a connection belong to it
 pub due_from_of : (shards conn index : ℕ) (commands : List Command) → AllByRecursion (λ due. due.tag.conn ≡ conn) (due_from shards conn index commands)
 due_from_of shards conn index [] = tt
 due_from_of shards conn index (command ∷ commands) =
     each-append (λ due. due.tag.conn ≡ conn) (due_at shards conn index command) (due_from shards conn (index + 1) commands)
     (tagged_of conn index 0 (calls_of shards command)) (due_from_of shards conn (index + 1) commands)
 
--- those of the connection itself are all of them
+-- those that belong to the connection itself are all of them
 filter_own : (conn : ℕ) (dues : List Due) → AllByRecursion (λ due. due.tag.conn ≡ conn) dues → filter (λ due. due.tag.conn == conn) dues ≡ dues
 filter_own conn [] of = refl
 filter_own conn (due ∷ dues) of =
     ap (λ b. cond b (due ∷ filter (λ d. d.tag.conn == conn) dues) (filter (λ d. d.tag.conn == conn) dues)) (eq-eqb due.tag.conn conn of.0)
     ∙ ap (λ (l : List Due). due ∷ l) (filter_own conn dues of.1)
 
--- those of another are none
+-- those that belong to another connection are none
 filter_other : (conn other : ℕ) (dues : List Due) → (other ≡ conn → ⊥) → AllByRecursion (λ due. due.tag.conn ≡ other) dues → filter (λ due. due.tag.conn == conn) dues ≡ []
 filter_other conn other [] apart of = refl
 filter_other conn other (due ∷ dues) apart of =
@@ -78,7 +78,7 @@ module _ (shards conn : ℕ) (commands : ℕ → List Command) where
   dues_from : ℕ → ℕ → List Due
   dues_from first n = flat_map (λ c. due shards c (commands c)) (range_with_len first n)
 
-  -- those of further connections have none of this one
+  -- those of later connections do not belong to this one
   none_due : (first n : ℕ) → conn < first → filter (λ due. due.tag.conn == conn) (dues_from first n) ≡ []
   unfolding dues_from
   none_due first zero past = refl
@@ -88,7 +88,7 @@ module _ (shards conn : ℕ) (commands : ℕ → List Command) where
       (filter_other conn first (due shards first (commands first)) (λ is. omega arith) (due_from_of shards first 0 (commands first)))
       ∙ none_due (first + 1) n (omega arith)
 
-  -- of some connections' calls due, those of one are its calls due
+  -- among the expected calls of some connections, those of one are its expected calls
   own_due : (first n : ℕ) → first ≤ conn → conn < first + n → filter (λ due. due.tag.conn == conn) (dues_from first n) ≡ due shards conn (commands conn)
   unfolding dues_from
   own_due first zero low high = absurd (omega arith)
@@ -105,7 +105,7 @@ module _ (shards conn : ℕ) (commands : ℕ → List Command) where
       (filter_other conn first (due shards first (commands first)) other (due_from_of shards first 0 (commands first)))
       ∙ own_due (first + 1) n (omega arith) (omega arith))
 
--- of all connections' calls due, those of one are its calls due
+-- among the expected calls of all connections, those of one are its expected calls
 pub own-all_due : (shards count conn : ℕ) (commands : ℕ → List Command) → conn < count → filter (λ due. due.tag.conn == conn) (all_due shards count commands) ≡ due shards conn (commands conn)
 unfolding dues_from
 own-all_due shards count conn commands within = own_due shards conn commands 0 count (omega arith) (omega arith)

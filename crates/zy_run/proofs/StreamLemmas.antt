@@ -1,4 +1,4 @@
--- The sessions that are kept of a connection are those of its records.
+-- The sessions kept for a connection are those of its records.
 use Rattle.std.proofs.Common.{◌≡◌, ℕ, ◌+◌, ◌<◌, List, [], ◌∷◌, length, refl, ap, arith}
 use Rattle.std.proofs.lemmas.List.FromFn.{fill_by_all, length-map-range_with_len}
 use Rattle.std.specs.List.{AllByRecursion}
@@ -17,7 +17,7 @@ streams_held count conn records within =
 pub held_commands : (count conn : ℕ) (records : List Record) → conn < count → commands_held (with_records (no_bytes count) records) conn ≡ commands_in records conn
 held_commands count conn records within = ap commands_over (streams_held count conn records within)
 
--- a connection has a session more than it has close records
+-- a connection has one session more than close records
 pub length-streams_in : (records : List Record) (conn : ℕ) → length (streams_in records conn) ≡ closes conn records + 1
 length-streams_in records conn = length-map-range_with_len (λ session. stream conn session records) 0 (closes conn records + 1)
 

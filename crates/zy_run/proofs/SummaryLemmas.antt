@@ -21,7 +21,7 @@ use Rattle.zy_run.proofs.SerialLemmas.{legal-answered, ordered-answered, own-ans
 
 -- ---- the serial run
 
--- what holds of the calls due of each connection holds of all calls due
+-- what holds of the expected calls of each connection holds of all expected calls
 each_due : (P : Due → Type 0) (shards : ℕ) (commands : ℕ → List Command) (first n : ℕ) → ((conn : ℕ) → conn < first + n → AllByRecursion P (due shards conn (commands conn)))
     → AllByRecursion P (flat_map (λ conn. due shards conn (commands conn)) (range_with_len first n))
 each_due P shards commands first zero each = tt
@@ -52,13 +52,13 @@ made_ordered shards [] = tt
 made_ordered shards (due ∷ dues) =
     (tt, ordered-answered shards (states_after shards (λ number. empty_state) (entry_of (λ number. empty_state) 1 due)) 2 (entry_of (λ number. empty_state) 1 due) dues (omega arith))
 
--- its entries stand in order of their stamps
+-- its entries are in the order of their stamps
 pub serial_ordered : (shards count : ℕ) (commands : ℕ → List Command) → IsOrdered None (serial shards count commands)
 serial_ordered shards count commands = made_ordered shards (all_due shards count commands)
 
 -- ---- summaries
 
--- each run of commands that do not meet has the summary of the serial one
+-- each run of commands that are apart has the summary of the serial run
 pub summary-run : (shards others count : ℕ) (streams : ℕ → List (List ℕ)) (es : List Entry) → 1 ≤ others → AreApart count (commands_of_all streams) → IsRun shards es count (commands_of_all streams)
     → summary_of_run count streams es ≡ summary others count streams
 summary-run shards others count streams es some apart run =

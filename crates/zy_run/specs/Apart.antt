@@ -1,17 +1,17 @@
--- Connections whose commands do not meet: no key is called by two of them, and no reply tells or compares a unique.
+-- Connections that are apart: no key is called by two of them, and no reply shows or compares a unique.
 use Rattle.std.specs.Prelude.{◌≡◌, ℕ, ◌<◌, List, All}
 use Rattle.std.specs.List.{Contains}
 use Rattle.mc_parse.specs.declared.command.Command.{Command}
 use Rattle.mc_parse.specs.Plain.{all_keys_of, IsPlain}
 use Rattle.zy_run.specs.Commands.{commands_over}
 
--- the commands of connections, the streams of whose sessions these are
+-- the commands of all connections, whose sessions have these streams
 abbrev pub commands_of_all : (ℕ → List (List ℕ)) → ℕ → List Command
 commands_of_all streams conn = commands_over (streams conn)
 
--- the commands of so many connections do not meet
+-- the commands of the first `count` connections are apart
 pub record AreApart (count : ℕ) (commands : ℕ → List Command) : Type 0 where
-  -- none is `gets`, `cas` or `flush_all`
+  -- no command is `gets`, `cas` or `flush_all`
   pub plain : (conn : ℕ) → conn < count → All IsPlain (commands conn)
   -- no key is called by two connections
   pub keys : (conn other : ℕ) (key : List ℕ) → conn < count → other < count

@@ -1,4 +1,4 @@
--- A worked capture of two connections whose commands do not meet.
+-- A worked capture of two connections that are apart.
 use Rattle.std.specs.Prelude.{List, [], ◌∷◌, codes}
 use Rattle.zy_base.specs.declared.call.Call.TheVariants as Calls
 use Rattle.zy_base.specs.declared.call_reply.CallReply.TheVariants as Replies
@@ -7,7 +7,7 @@ use Rattle.zy_capture.specs.declared.record.Record.{Record}
 use Rattle.zy_capture.specs.declared.record.Record.TheVariants as Kinds
 use Rattle.zy_run.specs.declared.summary.Summary.{Summary}
 
--- connection 0 stores "a" and asks for it, and connection 1 asks for "b" in between
+-- connection 0 stores "a" and gets it, and connection 1 gets "b" in between
 abbrev pub apart_records : List Record
 apart_records =
     Kinds.Segment (record { conn = 0; bytes = codes "set a 0 0 1\r\nx\r\n" })
@@ -15,7 +15,7 @@ apart_records =
     ∷ Kinds.Segment (record { conn = 0; bytes = codes "get a\r\n" })
     ∷ []
 
--- one of its legal runs on 16 shards: connection 1 is first
+-- one of its legal runs on 16 shards: connection 1 comes first
 abbrev pub apart_entries : List Entry
 apart_entries =
     record {
@@ -41,6 +41,6 @@ apart_entries =
     }
     ∷ []
 
--- what all its runs have: 29 bytes for connection 0, and 5 for connection 1
+-- the summary of all its runs: 29 bytes for connection 0, and 5 for connection 1
 abbrev pub apart_summary : Summary
 apart_summary = record { commands = 3; calls = 3; reply_bytes = 34 }

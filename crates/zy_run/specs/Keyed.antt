@@ -1,4 +1,4 @@
--- Entries that are about a key of their connection. No public clause cites this module.
+-- Entries whose key is one of their connection. No public clause cites this module.
 use Rattle.std.specs.Prelude.{◌≡◌, ℕ, List, [], ◌∷◌}
 use Rattle.std.specs.List.{Contains}
 use Rattle.zy_base.specs.declared.entry.Entry.{Entry}
@@ -8,16 +8,17 @@ use Rattle.zy_base.specs.Told.{seen_at, told}
 use Rattle.mc_parse.specs.Calls.{Due, due_of}
 use Rattle.mc_parse.specs.Plain.{IsDueOwn}
 
--- an entry is of one of so many connections, and about a key of its own
+-- an entry belongs to one of `count` connections, and its key is one of that connection's
 abbrev pub IsEntryOwn : ℕ → ℕ → (ℕ → List (List ℕ)) → Entry → Type 0
 IsEntryOwn shards count keys e = IsDueOwn shards count keys (due_of e)
 
--- at each of these keys a store has what one shard has, but for uniques
+-- at each of these keys, a store and a single shard have the same, apart from uniques
 abbrev pub Agree : ℕ → List (List ℕ) → (ℕ → State) → State → Type 0
 Agree shards keys states single =
     (key : List ℕ) → Contains keys key → seen_at key (states (shard_of key shards)) ≡ seen_at key single
 
--- the entries of calls due that are made one after another on one shard, without shards, uniques and stamps
+-- the entries of expected calls that are made one after another on one shard, without shards,
+-- uniques and stamps
 abbrev pub told_by : State → List Due → List Entry
 told_by single [] = []
 told_by single (due ∷ dues) =

@@ -7,12 +7,12 @@ use Rattle.mc_reply.specs.Texts.{texts_from}
 use Rattle.zy_frame.specs.Cut.{commands_of}
 use Rattle.zy_run.specs.Commands.{commands_over}
 
--- how many commands a connection with these streams has before a session
+-- the number of commands that a connection with these streams has before a session
 abbrev pub commands_before : ℕ → List (List ℕ) → ℕ
 commands_before session streams = length (commands_over (take session streams))
 
--- the output of a session: the texts of its commands, joined, each with the replies of its own entries; commands are
--- counted over all sessions of the connection
+-- the output of a session: the texts of its commands, joined, each from the replies of its own
+-- entries; commands are numbered over all sessions of the connection
 abbrev pub output : ℕ → ℕ → List (List ℕ) → List Entry → List ℕ
 output conn session streams es =
     concat (texts_from (commands_before session streams) (commands_of (slice_index_or streams session []))
@@ -22,6 +22,6 @@ output conn session streams es =
 abbrev pub outputs_of : ℕ → List (List ℕ) → List Entry → List (List ℕ)
 outputs_of conn streams es = map (λ session. output conn session streams es) (range_with_len 0 (length streams))
 
--- the outputs of all sessions of so many connections
+-- the outputs of all sessions of the first `count` connections
 abbrev pub all_outputs : ℕ → (ℕ → List (List ℕ)) → List Entry → List (List (List ℕ))
 all_outputs count streams es = map (λ conn. outputs_of conn (streams conn) es) (range_with_len 0 count)

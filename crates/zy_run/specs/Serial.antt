@@ -7,7 +7,8 @@ use Rattle.zy_base.specs.History.{states_after}
 use Rattle.mc_parse.specs.declared.command.Command.{Command}
 use Rattle.mc_parse.specs.Calls.{Due, due}
 
--- the entry of a call due, answered as its shard stands, with this stamp
+-- the entry of an expected call, with the reply that its shard gives in its present state, and this
+-- stamp
 abbrev pub entry_of : (ℕ → State) → ℕ → Due → Entry
 entry_of states stamp due =
     record {
@@ -18,18 +19,21 @@ entry_of states stamp due =
       stamp = stamp;
     }
 
--- the entries of calls due that are made one after another on these shards, with stamps that count on from this one
+-- the entries of expected calls that are made one after another on these shards, with stamps from
+-- this one on
 abbrev pub answered : ℕ → (ℕ → State) → ℕ → List Due → List Entry
 answered shards states stamp [] = []
 answered shards states stamp (due ∷ dues) =
     entry_of states stamp due
     ∷ answered shards (states_after shards states (entry_of states stamp due)) (stamp + 1) dues
 
--- the entries of calls due that are made one after another on empty shards; the stamp of each is its place, from 1 on
+-- the entries of expected calls that are made one after another on empty shards; the stamp of each
+-- is its place, from 1 on
 abbrev pub made : ℕ → List Due → List Entry
 made shards dues = answered shards (λ number. empty_state) 1 dues
 
--- the calls due of so many connections, those of each behind those before it
+-- the expected calls of the first `count` connections, those of each after those of the connections
+-- before it
 abbrev pub all_due : ℕ → ℕ → (ℕ → List Command) → List Due
 all_due shards count commands = flat_map (λ conn. due shards conn (commands conn)) (range_with_len 0 count)
 

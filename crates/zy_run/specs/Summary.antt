@@ -1,4 +1,4 @@
--- What all runs of commands that do not meet have in common.
+-- The numbers that all runs of commands that are apart have in common.
 use Rattle.std.specs.Prelude.{ℕ, List, length}
 use Rattle.std.specs.List.{range_with_len, sum_by}
 use Rattle.zy_base.specs.declared.entry.Entry.{Entry}
@@ -8,11 +8,11 @@ use Rattle.zy_run.specs.Apart.{commands_of_all}
 use Rattle.zy_run.specs.declared.summary.Summary.{Summary}
 use Rattle.zy_run.specs.Serial.{serial}
 
--- how many commands so many connections have
+-- the number of commands of the first `count` connections
 abbrev pub count_of_commands : ℕ → (ℕ → List Command) → ℕ
 count_of_commands count commands = sum_by (λ conn. length (commands conn)) (range_with_len 0 count)
 
--- how many bytes are in the outputs of all sessions of all connections
+-- the number of bytes in the outputs of all sessions of all connections
 abbrev pub bytes_in : List (List (List ℕ)) → ℕ
 bytes_in outputs = sum_by (λ sessions. sum_by length sessions) outputs
 
@@ -24,6 +24,6 @@ summary_of_run count streams es = record {
   reply_bytes = bytes_in (all_outputs count streams es);
 }
 
--- the summary of the serial run on so many shards
+-- the summary of the serial run on `shards` shards
 abbrev pub summary : ℕ → ℕ → (ℕ → List (List ℕ)) → Summary
 summary shards count streams = summary_of_run count streams (serial shards count (commands_of_all streams))

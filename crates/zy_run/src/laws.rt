@@ -18,7 +18,7 @@ ghost use Rattle.zy_run.specs.Serial.{serial, alone};
 ghost use Rattle.zy_run.specs.Summary.{summary, summary_of_run};
 ghost use Rattle.zy_run.specs.ApartWorked.{apart_records, apart_entries, apart_summary};
 
-/// A worked run: what the definitions say of it is what they compute.
+/// A worked run: the definitions compute what is stated of it.
 pub fn the_worked_run_is_one()
     ensures run { IsRun 16 worked_entries 2 (commands_in worked_records) }
     ensures order { IsOrdered None worked_entries }
@@ -26,7 +26,7 @@ pub fn the_worked_run_is_one()
     ensures holds { Spans worked_holds 2 (commands_in worked_records) }
 {}
 
-/// The sessions that are kept of a connection are those of its records, and so are its commands.
+/// The sessions kept for a connection are those of its records, and so are its commands.
 pub fn sessions_are_held()
     ensures streams { (count conn : ℕ) (records : List Record) → conn < count
         → sessions_of (with_records (no_bytes count) records) conn ≡ streams_in records conn }
@@ -34,7 +34,7 @@ pub fn sessions_are_held()
         → commands_held (with_records (no_bytes count) records) conn ≡ commands_in records conn }
 {}
 
-/// A connection has one session more than it has close records, and in version 1 one session.
+/// A connection has one session more than close records, and in version 1 one session.
 pub fn a_connection_has_a_session()
     ensures count { (records : List Record) (conn : ℕ)
         → length (streams_in records conn) ≡ closes conn records + 1 }
@@ -51,8 +51,8 @@ pub fn each_session_has_its_output()
         → slice_index_or (outputs_of conn streams es) session [] ≡ output conn session streams es }
 {}
 
-/// Where the commands of connections do not meet, two runs of them have the same outputs, whatever
-/// the numbers of their shards.
+/// If the commands of connections are apart, two runs of them have the same outputs, whatever the
+/// numbers of their shards.
 pub fn runs_apart_have_the_same_outputs()
     ensures same { (shards others count : ℕ) (streams : ℕ → List (List ℕ)) (es fs : List Entry)
         → AreApart count (commands_of_all streams)
@@ -61,8 +61,8 @@ pub fn runs_apart_have_the_same_outputs()
         → all_outputs count streams es ≡ all_outputs count streams fs }
 {}
 
-/// There the outputs of a connection are those that it has where it alone makes its calls, on any
-/// number of shards.
+/// In that case the outputs of a connection are those that it has when it alone makes its calls, on
+/// any number of shards.
 pub fn a_connection_is_answered_as_if_alone()
     ensures value { (shards others count conn : ℕ) (streams : ℕ → List (List ℕ)) (es : List Entry)
         → 1 ≤ others → conn < count → AreApart count (commands_of_all streams)
@@ -71,7 +71,7 @@ pub fn a_connection_is_answered_as_if_alone()
         ≡ outputs_of conn (streams conn) (alone others conn (commands_of_all streams conn)) }
 {}
 
-/// The serial run is a run, and its entries stand in order.
+/// The serial run is a run, and its entries are in the order of their stamps.
 pub fn serial_is_a_run()
     ensures run { (shards count : ℕ) (commands : ℕ → List Command) → 1 ≤ shards
         → IsRun shards (serial shards count commands) count commands }
@@ -79,8 +79,8 @@ pub fn serial_is_a_run()
         → IsOrdered None (serial shards count commands) }
 {}
 
-/// Where the commands of connections do not meet, each run of them has as many entries as the
-/// serial run, and outputs of as many bytes, whatever the numbers of their shards.
+/// If the commands of connections are apart, each run of them has as many entries as the serial
+/// run, and as many bytes in its outputs, whatever the numbers of their shards.
 pub fn each_run_has_the_summary()
     ensures value { (shards others count : ℕ) (streams : ℕ → List (List ℕ)) (es : List Entry)
         → 1 ≤ others → AreApart count (commands_of_all streams)
@@ -88,7 +88,7 @@ pub fn each_run_has_the_summary()
         → summary_of_run count streams es ≡ summary others count streams }
 {}
 
-/// A worked capture whose commands do not meet: one of its runs, and its summary.
+/// A worked capture whose connections are apart: one of its runs, and its summary.
 pub fn the_worked_capture_is_apart()
     ensures apart { AreApart 2 (commands_in apart_records) }
     ensures run { IsRun 16 apart_entries 2 (commands_in apart_records) }

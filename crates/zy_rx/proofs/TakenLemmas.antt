@@ -1,4 +1,4 @@
--- Where the end was offered last and was taken, all was taken.
+-- If the end was offered last and was taken, all items were taken.
 use Rattle.std.specs.Prelude.{◌==◌, ◌||◌, if◌then◌else◌, filter}
 use Rattle.std.proofs.Common.{◌≡◌, ℕ, List, [], ◌∷◌, ◌++◌, map, Bool, true, false, cond, refl, sym, ap, ◌∙◌}
 use Rattle.std.proofs.lemmas.List.{map-append, append-nil}
@@ -10,7 +10,7 @@ use Rattle.zy_rx.specs.declared.rx.Rx.TheVariants.{Segment, Close, End}
 use Rattle.zy_rx.specs.Session.{Sessions, no_sessions, with_bytes, with_close, takes_in, sessions_from, sessions_of}
 use Rattle.zy_rx.specs.Routing.{item_of, is_for, items_for, offered_to}
 
--- ---- one item more is offered
+-- ---- one further item is offered
 
 pub items_for-push : (cores core : ℕ) (records : List Record) (last : Record) → is_for cores core (item_of last) ≡ true → items_for cores core (records ++ last ∷ []) ≡ items_for cores core records ++ item_of last ∷ []
 items_for-push cores core records last here =
@@ -49,7 +49,7 @@ goes_on conn s (Close c) live other = go s.ended (c == conn) live
     go false false e = e
 goes_on conn s End live other = absurd (cc)
 
--- a connection's sessions have ended only where the end is among the items
+-- a connection's sessions have ended only if the end is among the items
 pub end_is_among : (conn : ℕ) (s : Sessions) (xs : List Rx) → s.ended ≡ false → (sessions_from conn s xs).ended ≡ true → has_end xs ≡ true
 end_is_among conn s [] live ended = absurd (cc)
 end_is_among conn s (x ∷ xs) live ended = go (is_end x) refl (λ still. end_is_among conn (takes_in conn s x) xs still ended)
@@ -58,7 +58,7 @@ end_is_among conn s (x ∷ xs) live ended = go (is_end x) refl (λ still. end_is
     go true is rest = refl
     go false is rest = rest (goes_on conn s x live is)
 
--- the end is no item of a record
+-- no record is offered as the end
 pub no_end : (cores core : ℕ) (records : List Record) → has_end (items_for cores core records) ≡ false
 no_end cores core [] = refl
 no_end cores core (r ∷ records) = go (is_for cores core (item_of r)) r (no_end cores core records)
@@ -68,7 +68,7 @@ no_end cores core (r ∷ records) = go (is_for cores core (item_of r)) r (no_end
     go true (Kinds.Close conn) rest = rest
     go false r rest = rest
 
--- ---- all was taken
+-- ---- all items were taken
 
 nothing_behind : (xs ys : List Rx) → xs ++ ys ≡ [] → ys ≡ []
 nothing_behind [] ys is = is

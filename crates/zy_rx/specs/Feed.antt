@@ -1,4 +1,4 @@
--- What a step of a feeder does to the ends that items are offered to.
+-- The effect of a feeder's step on the ends to which items are offered.
 use Rattle.std.specs.Prelude.{◌≡◌, ℕ, List, [], ◌∷◌, ◌++◌, map, Some, slice_get, slice_set}
 use Rattle.zy_rx.specs.declared.rx.Rx.{Rx}
 use Rattle.zy_rx.specs.Ring.{RingName, Offering, Taking}
@@ -26,7 +26,7 @@ pub record HasNoRoom (inlets : List Offering) : Type 0 where
   pub there : slice_get inlets core ≡ Some inlet
   pub full : inlet.free ≡ 0
 
--- the items offered to this core are those that its outlet has taken, and then those that it knows
+-- the items offered to this core are those that its outlet has taken, followed by those that it knows
 abbrev pub HasMet : ℕ → List Offering → Taking → Type 0
 HasMet core inlets outlet =
     (inlet : Offering) → slice_get inlets core ≡ Some inlet → inlet.sent ≡ outlet.taken ++ outlet.known

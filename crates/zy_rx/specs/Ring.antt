@@ -21,7 +21,7 @@ pub record RingInlet (T : Type 0) : Type 0 where
   pub sent : List T
   pub free : ℕ
 
--- the end that items are taken from: the items taken, and those that it knows and has not taken
+-- the end from which items are taken: the items taken, and those that it knows and has not taken
 pub record RingOutlet (T : Type 0) : Type 0 where
   pub ring : RingName
   pub taken : List T
@@ -42,7 +42,7 @@ offering ring sent free = record { ring = ring; sent = sent; free = free }
 abbrev pub taking : {T : Type 0} → RingName → List T → List T → RingOutlet T
 taking ring taken known = record { ring = ring; taken = taken; known = known }
 
--- the slots that are not taken up by items sent and not taken are known to be free
+-- each slot without an item that was sent and not taken is known to be free
 abbrev pub HasAllFree : {T : Type 0} → RingInlet T → RingOutlet T → Type 0
 HasAllFree inlet outlet = outlet.ring.capacity + length outlet.taken ≤ length inlet.sent + inlet.free
 

@@ -6,12 +6,12 @@ use Rattle.zy_rx.specs.declared.rx.Rx.{Rx}
 use Rattle.zy_rx.specs.declared.rx.Rx.TheVariants.{Segment, Close, End}
 use Rattle.zy_rx.specs.Flow.{home_of}
 
--- the item as which a record is offered
+-- the item that offers a record
 abbrev pub item_of : Record → Rx
 item_of (Kinds.Segment s) = Segment s.conn s.bytes
 item_of (Kinds.Close conn) = Close conn
 
--- an item is for this core, of so many: the core is the home of its connection
+-- an item is for this one of `cores` cores: the core is the home of the item's connection
 abbrev pub is_for : ℕ → ℕ → Rx → Bool
 is_for cores core (Segment conn bytes) = home_of cores conn == core
 is_for cores core (Close conn) = home_of cores conn == core
@@ -21,6 +21,6 @@ is_for cores core End = true
 abbrev pub items_for : ℕ → ℕ → List Record → List Rx
 items_for cores core records = filter (is_for cores core) (map item_of records)
 
--- all that a core is offered: the items of records that are for it, and then the end
+-- all that a core is offered: the items of records that are for it, followed by the end
 abbrev pub offered_to : ℕ → ℕ → List Record → List Rx
 offered_to cores core records = items_for cores core records ++ End ∷ []

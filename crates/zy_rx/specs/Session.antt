@@ -1,15 +1,15 @@
--- What each connection received, by the items of a receive ring.
+-- What each connection received, from the items of a receive ring.
 use Rattle.std.specs.Prelude.{ℕ, ◌==◌, if◌then◌else◌, Bool, true, false, List, [], ◌∷◌, ◌++◌}
 use Rattle.zy_rx.specs.declared.rx.Rx.{Rx}
 use Rattle.zy_rx.specs.declared.rx.Rx.TheVariants.{Segment, Close, End}
 
--- the streams of the sessions that were closed, that of the open one, and whether the end came
+-- the streams of the closed sessions, that of the open one, and whether the end came
 pub record Sessions : Type 0 where
   pub closed : List (List ℕ)
   pub current : List ℕ
   pub ended : Bool
 
--- the streams of all of these sessions, the open one last
+-- the streams of all of these sessions, that of the open one last
 abbrev pub streams_of : Sessions → List (List ℕ)
 streams_of s = s.closed ++ s.current ∷ []
 
@@ -25,13 +25,13 @@ with_bytes bytes s = record s { current = s.current ++ bytes }
 abbrev pub with_close : Sessions → Sessions
 with_close s = record s { closed = s.closed ++ s.current ∷ []; current = [] }
 
--- one item more: one of another connection changes nothing, and nor does one behind the end
+-- one further item: an item of another connection changes nothing, and neither does one after the end
 abbrev pub takes_in : ℕ → Sessions → Rx → Sessions
 takes_in conn s (Segment c bytes) = if s.ended then s else if c == conn then with_bytes bytes s else s
 takes_in conn s (Close c) = if s.ended then s else if c == conn then with_close s else s
 takes_in conn s End = record s { ended = true }
 
--- the items, one after the other
+-- further items, one after the other
 abbrev pub sessions_from : ℕ → Sessions → List Rx → Sessions
 sessions_from conn s [] = s
 sessions_from conn s (x ∷ xs) = sessions_from conn (takes_in conn s x) xs

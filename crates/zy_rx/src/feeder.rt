@@ -1,38 +1,38 @@
-//! Who offers items to the cores.
+//! Feeders offer items to the cores.
 ghost use Rattle.std.specs.Prelude.{◌≡◌, ◌≢◌, ◌↔◌, ◌++◌, List, Some, slice_get};
 ghost use Rattle.zy_rx.specs.Ring.{Offering};
 ghost use Rattle.zy_rx.specs.Feed.{rings_of, sent_by, HasOffered, HasNoRoom, HasMet};
 
 use crate::outlet::Outlet;
 
-/// What a step of a feeder came to.
+/// The result of a step of a feeder.
 #[derive(Clone, Copy, Drop, PartialEq, Eq)]
 pub enum Fed {
     /// One item was offered to one core.
     Offered,
-    /// An item was handed back, and is kept for the next step.
+    /// An inlet knows no free slot; the item was handed back, and is kept for the next step.
     Full,
     /// All items were offered.
     Ended,
-    /// Nothing more can be offered.
+    /// The feeder broke: no further item can be offered.
     Broken,
 }
 
-/// Offers items to the cores, one at a step.
+/// Offers items to the cores, one item a step.
 pub trait Feeder {
-    /// The ends that items are offered to, by core.
+    /// The ends to which items are offered, by core.
     ghost inlets: { Self → List Offering };
 
     /// All items were offered.
     ghost ended: { Self → Type 0 };
 
-    /// It is broken.
+    /// It broke, and can offer no further item.
     ghost broken: { Self → Type 0 };
 
-    /// The second comes after the first.
+    /// The second state comes at or after the first.
     ghost leads: { Self → Self → Type 0 };
 
-    /// One step, before which it is neither ended nor broken.
+    /// One step. Before it the feeder is neither ended nor broken.
     fn step(&mut self) -> Fed
         requires fresh { ¬ ended self.old × ¬ broken self.old }
         ensures offered { result ≡ Fed.Offered → HasOffered (inlets self.old) (inlets self.new) }
@@ -44,8 +44,8 @@ pub trait Feeder {
         ensures rings { rings_of (inlets self.new) ≡ rings_of (inlets self.old) }
         ensures leads { leads self.old self.new };
 
-    /// Shows the inlet of this core and its outlet what the other end did. It offers and takes
-    /// nothing, and takes no memory.
+    /// Shows the inlet of this core, and its outlet, what the other did. It offers and takes no
+    /// item, and takes no memory.
     fn meet(&mut self, core: u32, outlet: &mut Outlet)
         requires ring { slice_get (rings_of (inlets self.old)) core ≡ Some outlet.old.ring }
         ensures all { HasMet core (inlets self.new) outlet.new }
@@ -55,9 +55,9 @@ pub trait Feeder {
         ensures ended { (ended self.new ↔ ended self.old) × (broken self.new ↔ broken self.old) }
         ensures leads { leads self.old self.new };
 
-    // Each feeder comes after itself.
+    // Each state comes at or after itself.
     ghost leads_same: { (f : Self) → leads f f };
 
-    /// And what comes after a later one comes after an earlier one.
+    /// A state that comes after a later one comes after the earlier one too.
     ghost leads_on: { (f g h : Self) → leads f g → leads g h → leads f h };
 }

@@ -4,7 +4,7 @@ ghost use Rattle.zy_rx.specs.Flow.{home_of};
 
 use std::marker::Model;
 
-/// Which core is the home of each of the 128 flow groups. Contracts see it as the number of cores.
+/// The home core of each of the 128 flow groups. Contracts see it as the number of cores.
 #[derive(Drop)]
 pub struct FlowTable {
     cores: u32,
@@ -21,7 +21,7 @@ impl Model for FlowTable {
 }
 
 impl FlowTable {
-    /// The flow groups dealt to so many cores.
+    /// The flow groups, dealt to `cores` cores.
     pub fn new(cores: u32) -> FlowTable
         requires some { 1 ≤ cores }
         requires few { cores ≤ 64 }

@@ -1,11 +1,11 @@
-//! Laws of what the cores are offered: each is the contract of a function without a body.
+//! Laws of the items offered to the cores: each is the contract of a function without a body.
 ghost use Rattle.std.specs.Prelude.{◌≡◌, ℕ, true, false, List, [], ◌∷◌, ◌++◌};
 ghost use Rattle.zy_capture.specs.declared.record.Record.{Record};
 ghost use Rattle.zy_rx.specs.declared.rx.Rx.{Rx};
 ghost use Rattle.zy_rx.specs.Session.{sessions_of};
 ghost use Rattle.zy_rx.specs.Routing.{item_of, is_for, items_for, offered_to};
 
-/// The item of a further record is offered last, to the home of its connection alone.
+/// The item of a further record is offered last, and only to the home of its connection.
 pub fn items_are_offered_one_by_one()
     ensures none { (cores core : ℕ) → items_for cores core [] ≡ [] }
     ensures here { (cores core : ℕ) (records : List Record) (last : Record)
@@ -16,7 +16,7 @@ pub fn items_are_offered_one_by_one()
         → items_for cores core (records ++ last ∷ []) ≡ items_for cores core records }
 {}
 
-/// Where the end was offered last, and a connection has seen the end, all was taken.
+/// If the end was offered last, and a connection has received it, all items were taken.
 pub fn all_that_was_offered_is_taken()
     ensures none { (cores core conn : ℕ) (records : List Record) (taken known : List Rx)
         → taken ++ known ≡ offered_to cores core records → (sessions_of conn taken).ended ≡ true

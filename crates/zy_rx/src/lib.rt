@@ -1,5 +1,6 @@
-//! What the network delivers to a core: which core is the home of a connection, the receive ring of
-//! each core, who offers items to these rings, and which items of a capture.
+//! What the network delivers to a core: the home core of a connection, the receive ring of each
+//! core, feeders that offer items to these rings, and the items of a capture that each core is
+//! offered.
 #![tactic(auto)]
 
 mod feeder;

@@ -30,7 +30,7 @@ impl<T> Model for RingOutlet<T> {
 }
 
 impl<T> RingOutlet<T> {
-    /// The next item. It is `None` exactly where this end knew no item after its look.
+    /// The next item. It is `None` exactly if this end knew no item after its look.
     pub fn take(&mut self) -> Option<T>
         ensures taken { IfSome result (λ item. self.new.taken ≡ self.old.taken ++ item ∷ []) }
         ensures first { IfSome result (λ item. IsFirstKnown item self.old.known self.new.known) }
@@ -88,8 +88,8 @@ pub fn ring<T: Drop>(
     }
 }
 
-/// Shows each end what the other did, on the one thread that has both. After it the outlet knows
-/// every item, and the inlet every free slot.
+/// Shows each end what the other did; the calling thread has both. After it the outlet knows every
+/// item, and the inlet every free slot.
 pub fn both_ends<T>(inlet: &mut RingInlet<T>, outlet: &mut RingOutlet<T>)
     requires within { inlet.old.ring ≡ outlet.old.ring }
     ensures all { inlet.new.sent ≡ outlet.new.taken ++ outlet.new.known }

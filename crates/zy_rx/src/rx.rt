@@ -1,13 +1,13 @@
-//! What a core receives.
+//! The items that a core receives.
 use zy_base::Blob;
 
-/// What a core receives.
+/// An item that a core receives.
 #[derive(Drop)]
 pub enum Rx {
     /// Bytes of a connection, as they came.
     Segment { conn: u32, bytes: Blob },
     /// The session of a connection ends.
     Close { conn: u32 },
-    /// Nothing comes any more.
+    /// No further item comes.
     End,
 }

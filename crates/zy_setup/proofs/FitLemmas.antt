@@ -1,4 +1,4 @@
--- Each core of a run fits what is shared.
+-- Each core of a run fits the shared parts.
 use Rattle.std.proofs.Common.{◌≡◌, ℕ, List, Some, slice_get}
 use Rattle.zy_core.specs.Share.{Sharing}
 use Rattle.zy_core.specs.Core.{Identity, Fits}

@@ -1,4 +1,4 @@
--- Lists that were mapped, and lists with one member more.
+-- Lists that were mapped, and lists with one further member.
 use Rattle.std.proofs.Common.{◌≡◌, ℕ, zero, suc, ◌+◌, ◌<◌, List, [], ◌∷◌, ◌++◌, length, map, get_or, Some, slice_get, refl, sym, ap, ◌∙◌, subst, arith}
 use Rattle.std.specs.Prelude.{option_map, remove}
 use Rattle.std.specs.List.{AllByRecursion}
@@ -14,7 +14,7 @@ of_map f [] i y at = absurd (cc)
 of_map f (x ∷ xs) zero y at = (x, refl, cc)
 of_map f (x ∷ xs) (suc i) y at = of_map f xs i y at
 
--- one member more
+-- one further member
 pub map_push : {A B : Type 0} (f : A → B) (xs : List A) (x : A) → map f (xs ++ x ∷ []) ≡ map f xs ++ f x ∷ []
 map_push f [] x = refl
 map_push f (y ∷ ys) x = ap (λ l. f y ∷ l) (map_push f ys x)
@@ -27,19 +27,19 @@ pub length_map : {A B : Type 0} (f : A → B) (xs : List A) → length (map f xs
 length_map f [] = refl
 length_map f (x ∷ xs) = ap suc (length_map f xs)
 
--- what is so of each, by its place, is so of each with one member more
+-- a property of each member, by its place, after one further member
 pub each_push : {A : Type 0} (P : ℕ → A → Type 0) (xs : List A) (x : A) → ((i : ℕ) (y : A) → slice_get xs i ≡ Some y → P i y) → P (length xs) x → (i : ℕ) (y : A) → slice_get (xs ++ x ∷ []) i ≡ Some y → P i y
 each_push P [] x all here zero y at = let is : x ≡ y = cc in subst (P 0) is here
 each_push P [] x all here (suc i) y at = absurd (cc)
 each_push P (z ∷ zs) x all here zero y at = all zero y at
 each_push P (z ∷ zs) x all here (suc i) y at = each_push (λ k w. P (suc k) w) zs x (λ j w there. all (suc j) w there) here i y at
 
--- what is so of each member of two lists is so of each of both together
+-- what holds of each member of two lists holds of each member of both together
 pub all_append : {X : Type 0} (P : X → Type 0) (xs ys : List X) → AllByRecursion P xs → AllByRecursion P ys → AllByRecursion P (xs ++ ys)
 all_append P [] ys front back = back
 all_append P (x ∷ xs) ys front back = (front.0, all_append P xs ys front.1 back)
 
--- the member behind a first list
+-- the member after a first list
 pub get_seam : {A : Type 0} (xs ys : List A) (x : A) → slice_get (xs ++ x ∷ ys) (length xs) ≡ Some x
 get_seam [] ys x = refl
 get_seam (y ∷ xs) ys x = get_seam xs ys x

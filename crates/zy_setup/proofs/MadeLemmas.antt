@@ -1,4 +1,4 @@
--- The parts of the cores, one core more at a time.
+-- The parts of the cores, one further core at a time.
 use Rattle.std.proofs.Common.{◌≡◌, ◌⊎◌, inl, inr, ℕ, suc, ◌+◌, List, [], ◌∷◌, ◌++◌, length, Some, slice_get, ◌≤◌, sym, ap, ◌∙◌, subst, arith, length-append}
 use Rattle.std.proofs.lemmas.Option.{slice_get_within}
 use Rattle.atomic_table.specs.Seated.{TableId}
@@ -43,7 +43,7 @@ new_home store rings rings' core cores count places ring first pass blocks h rin
     last_ring r (inl there) = let below = slice_get_within rings core r there in absurd (omega arith)
     last_ring r (inr found) = found.1
 
--- one core more
+-- one further core
 module _ (store : TableId) (cores count : ℕ) (made made' : Made) (are : AreMade store cores count made) (home : Homed) (ring : Ringed) (pass : Held Blocked)
     (homes_are : made'.homes.items ≡ made.homes.items ++ home ∷ []) (rings_are : made'.rings ≡ made.rings ++ ring ∷ [])
     (passes' : List (PassList Blocked)) (passes_are : made'.passes.items ≡ passes') (gives : Gives (length made.homes.items) pass made.passes.items passes') (size : length passes' ≡ length made.passes.items)

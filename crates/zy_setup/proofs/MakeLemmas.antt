@@ -35,7 +35,7 @@ fits_new shared number home thief passes outlet pass new own words = record {
 }
 
 module _ (shared : Sharing) (homes : List Homed) where
-  -- as many cores as inlets
+  -- there is a core for each inlet
   as_many : (inlets : List Offering) (cores : List Cored) → rings_of inlets ≡ rings_in (identities cores) → length inlets ≡ length cores
   as_many inlets cores same =
       sym (length_map (λ (i : Offering). i.ring) inlets) ∙ ap length same ∙ length_map (λ (i : Identity). i.ring) (identities cores) ∙ length_map identity_of cores

@@ -1,4 +1,4 @@
--- The connections of the cores, one more at a time.
+-- The connections of the cores, one further connection at a time.
 use Rattle.std.specs.Prelude.{◌↔◌, ◌||◌, All}
 use Rattle.std.specs.List.{AllByRecursion}
 use Rattle.std.proofs.Common.{◌≡◌, ◌≢◌, ℕ, zero, suc, ◌+◌, ◌<◌, ◌≤◌, List, [], ◌∷◌, ◌++◌, length, true, false, slice_get, set, get_or, sym, ap, ◌∙◌, subst, arith, eq-eqb, ne_eqb, length-append, length-set}
@@ -25,7 +25,7 @@ use Rattle.zy_setup.specs.Make.{IsEmpty, IsConnection, HasOneMore, IsOwnOf, AreO
 
 -- ---- a core
 
--- a core has no more connections than there are
+-- a core has at most as many connections as there are
 own_few : (core cores n : ℕ) → length (own_conns core cores n) ≤ n
 own_few core cores zero = omega arith
 own_few core cores (suc n) = dite (ℕ_discrete (home_of cores n) core)
@@ -43,7 +43,7 @@ own_none store core cores own is = record {
   unused = subst (AllByRecursion IsUnused) (sym is.inlets_are) tt;
 }
 
--- a core has no more places than there are connections
+-- a core has at most as many places as there are connections
 pub places_few : (store : TableId) (core cores count : ℕ) (own : Own) → IsOwnOf store core cores count own → own.places ≤ count
 places_few store core cores count own is =
     let places = is.places_are in
@@ -66,7 +66,7 @@ module _ (store : TableId) (core cores conn : ℕ) (own : Own) (is : IsOwnOf sto
     unused = subst (AllByRecursion IsUnused) (sym more.inlets_are) (all_append IsUnused own.inlets (inlet ∷ []) is.unused (new.unused, tt));
   }
 
-  -- one of another core is none of this one
+  -- a connection of another core is not one of this core
   own_kept : home_of cores conn ≢ core → IsOwnOf store core cores (conn + 1) own
   own_kept other = record {
     places_are = is.places_are;
@@ -90,7 +90,7 @@ module _ (store : TableId) (cores conn : ℕ) (owns : List Own) (are : AreOwns s
   own_at_core : IsOwnOf store core cores conn own
   own_at_core = let size = are.count in are.each core own (get_at owns core own own (omega arith) is)
 
-  -- there is room for one place more
+  -- there is room for one further place
   pub own_room : conn < 4096 → own.places < 4096
   own_room below = let few = places_few store core cores conn own own_at_core in omega arith
 

@@ -1,4 +1,4 @@
--- The passes of all cores on the rings, one ring more at a time.
+-- The passes of all cores on the rings, one further ring at a time.
 use Rattle.std.specs.Prelude.{if◌then◌else◌, option_map}
 use Rattle.std.proofs.Common.{◌≡◌, ◌≢◌, ◌⊎◌, inl, inr, ℕ, zero, suc, ◌+◌, ◌-◌, ◌<◌, ◌≤◌, List, [], ◌∷◌, ◌++◌, length, Option, Some, None, slice_get, set, get_or, refl, sym, ap, ◌∙◌, subst, arith, eq-eqb, ne_eqb, length-append}
 use mathlib.Core.Logic.{dite}
@@ -17,7 +17,7 @@ use Rattle.zy_setup.specs.Make.{with_pass, Gives, no_passes, others_among, HasPa
 
 -- ---- the last of a list
 
--- what is at a place of a list with one more is there already, or is that one
+-- a member of a list with one further member is an old one, or the new one
 pub push_at : {A : Type 0} (xs : List A) (x : A) (i : ℕ) (y : A) → slice_get (xs ++ x ∷ []) i ≡ Some y → (slice_get xs i ≡ Some y) ⊎ ((i ≡ length xs) × (x ≡ y))
 push_at [] x zero y e = inr (refl, cc)
 push_at [] x (suc i) y e = absurd (cc)
@@ -175,7 +175,7 @@ module _ (label : Name) (rings : List Ringed) (ring : Ringed) (pass : Held Block
 
 -- ---- beginning and end
 
--- there are so many
+-- there are `cores` lists
 pub length-no_passes : (cores : ℕ) → length (no_passes cores) ≡ cores
 length-no_passes zero = refl
 length-no_passes (suc cores) = let rest = length-no_passes cores in let size = length-append (no_passes cores) (pass_list cores [] ∷ []) in omega arith

@@ -31,13 +31,13 @@ pub record IsConnection (store : TableId) (conn : ℕ) (block : Blocked) (inlet 
   pub ring_is : inlet.ring ≡ block.work.ring
   pub unused : IsUnused inlet
 
--- one connection more
+-- one further connection
 pub record HasOneMore (block : Blocked) (inlet : EventInlet) (own own' : Own) : Type 0 where
   pub places_are : own'.places ≡ own.places + 1
   pub blocks_are : own'.blocks ≡ own.blocks ++ block ∷ []
   pub inlets_are : own'.inlets ≡ own.inlets ++ inlet ∷ []
 
--- the connections of a core, of so many, below this one
+-- the connections below `conn` that belong to core `core` of `cores`
 pub record IsOwnOf (store : TableId) (core cores conn : ℕ) (own : Own) : Type 0 where
   pub places_are : own.places ≡ length own.blocks
   pub conns : conns_of_blocks own.blocks ≡ own_conns core cores conn
@@ -52,7 +52,7 @@ pub record AreOwns (store : TableId) (cores conn : ℕ) (owns : List Own) : Type
 
 -- ---- passes
 
--- the passes of a core, with one more on the ring of another core
+-- the passes of a core, with one further pass on the ring of another core
 abbrev pub with_pass : ℕ → Held Blocked → ℕ → PassList Blocked → PassList Blocked
 with_pass core pass other passes =
     if other == core then passes else pass_list passes.core (passes.items ++ pass ∷ [])
@@ -62,12 +62,12 @@ abbrev pub Gives : ℕ → Held Blocked → List (PassList Blocked) → List (Pa
 Gives core pass before after =
     (other : ℕ) → slice_get after other ≡ option_map (with_pass core pass other) (slice_get before other)
 
--- no pass of each of so many cores
+-- `cores` cores, each without a pass
 abbrev pub no_passes : ℕ → List (PassList Blocked)
 no_passes zero = []
 no_passes (suc cores) = no_passes cores ++ pass_list cores [] ∷ []
 
--- how many of the first so many cores are others than this one
+-- the number of the first `cores` cores other than this one
 abbrev pub others_among : ℕ → ℕ → ℕ
 others_among core cores = if nat_lt core cores then cores - 1 else cores
 
@@ -81,7 +81,7 @@ pub record HasPasses (label : Name) (rings : List Ringed) (core : ℕ) (passes :
 
 -- ---- cores
 
--- what is made of the first cores, of so many
+-- what was made for the first of `cores` cores
 pub record AreMade (store : TableId) (cores count : ℕ) (made : Made) : Type 0 where
   pub same : length made.rings ≡ length made.homes.items
   pub all : length made.passes.items ≡ cores

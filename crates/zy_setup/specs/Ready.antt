@@ -1,4 +1,4 @@
--- The parts that the cores of a run are made of, and the receive rings that they get.
+-- The parts of which the cores of a run are made, and the receive rings that they get.
 use Rattle.std.specs.Prelude.{◌≡◌, ℕ, ◌≤◌, List, [], length, false, Some, slice_get}
 use Rattle.zy_table.specs.declared.name.Name.{Name}
 use Rattle.zy_table.specs.Name.{name_of}

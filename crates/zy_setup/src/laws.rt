@@ -3,8 +3,8 @@ ghost use Rattle.std.specs.Prelude.{◌≡◌, ℕ, List, Some, slice_get};
 ghost use Rattle.zy_home.specs.Home.{Homed};
 ghost use Rattle.zy_setup.specs.Station.{station_of, stations_of};
 
-/// Homes of which all stayed that stays of a home have, one by one, the numbers and the labels that
-/// they had before.
+/// Homes that kept all that stays of a home have, one by one, the numbers and the labels that they
+/// had before.
 pub fn each_home_stays()
     ensures value { (before after : List Homed) (i : ℕ) (h : Homed)
         → stations_of after ≡ stations_of before → slice_get after i ≡ Some h

@@ -1,5 +1,5 @@
-//! What a run begins with: the store, for each core its ring, its home and its passes on the other
-//! rings, and the cores that are made of these.
+//! The beginning of a run: the store, for each core its ring, its home and its passes on the other
+//! rings, and the cores that are made from these.
 #![tactic(auto)]
 
 mod connections;

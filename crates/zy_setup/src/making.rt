@@ -32,10 +32,10 @@ pub struct Made {
     pub inlets: Inlets,
 }
 
-/// Makes a core of each home, by rising number, with its passes on the rings of the others, a receive
-/// ring of 256 slots, and a pass on new control words.
+/// Makes a core from each home, by rising number, with its passes on the rings of the others, a
+/// receive ring of 256 slots, and a pass on new control words.
 ///
-/// `Err` is want of memory.
+/// `Err` means `NoMemory`.
 pub fn make(
     alloc: Global,
     homes: Vec<Home>,
@@ -109,8 +109,8 @@ fn make_cores(
     })
 }
 
-// The cores that were made, and the ends of their receive rings; and who gives the next core its pass
-// on the control words.
+// The cores that were made, and the ends of their receive rings; and the root that gives the next
+// core its pass on the control words.
 #[derive(Drop)]
 struct Making {
     root: ControlRoot,

@@ -12,7 +12,7 @@ use zy_conn::Block;
 use zy_shuffle::{HomePass, Label, Ring};
 use zy_steal::Passes;
 
-/// A ring with so many places, all in the home's hand, that has the store as its label.
+/// A ring with `places` places, all in the home's hand, that has the store as its label.
 pub(crate) fn ring_of(
     alloc: Global,
     store: &StoreTable,
@@ -58,7 +58,7 @@ pub(crate) fn give_passes(
     Ok(())
 }
 
-// Gives a core a pass on the ring of this one, where it is another.
+// Gives a core a pass on the ring of this one, if it is another core.
 fn give_pass(
     ring: &Ring<Block>,
     home: &mut HomePass<Block>,

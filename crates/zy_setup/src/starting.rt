@@ -24,7 +24,7 @@ pub struct Started {
     pub root: Root,
 }
 
-/// Makes a store with so many shards, a pass and a block for each connection below the count, and for
+/// Makes a store with `shards` shards, a pass and a block for each of `count` connections, and for
 /// each core a ring with a place for each of its connections, its home, and its passes on the other
 /// rings. All rings have the store as their label.
 pub fn start(alloc: Global, count: u32, cores: u32, shards: u32) -> Result<Started, NoMemory>

@@ -1,4 +1,4 @@
--- The steps of a collect at the values that the code has.
+-- The steps of a collect, stated at the values that the code has.
 use Rattle.std.proofs.Common.{◌≡◌, ◌≢◌, ℕ, ◌+◌, ◌-◌, ◌*◌, ◌/◌, ◌%◌, ◌^◌, ◌<◌, ◌≤◌, List, [], ◌∷◌, false, cond, ◌==◌, eq-eqb, ne_eqb, bit_and, w64, refl, sym, ap, ◌∙◌, subst, arith}
 use Rattle.std.specs.Prelude as std
 use mathlib.Core.Option.{none}
@@ -30,7 +30,7 @@ module _ {T M : Type 0} (mark : T → M) (label : T → Name) where
   pub loads_bells_as : (s n id i w places : ℕ) (me : Seated T) → IsHomeSeat s (tail_of me.0.role) me → n ≡ places → i ≡ 32 + places + w → Allows (ShuffleRule mark label) n id me i (λ y. y) (saw_bells (step n i 0 0 none) me)
   loads_bells_as s n id i w places me h size is = loads_bells mark label n id i w (tail_of me.0.role) (out_of me.0.role) std.None (bells_of me.0.role) me h.1 (is ∙ ap (λ x. 32 + x + w) (sym size))
 
-  -- the role of the home that has seen this word
+  -- the role of the home after it loaded this word
   noted_role : (s n i w x places : ℕ) (m0 m1 : Seated T) → IsHomeSeat s (tail_of m0.0.role) m0 → n ≡ places → i ≡ 32 + places + w → saw_bells (step n i 0 0 none) m0 x m1 → m1.0.role ≡ Home (tail_of m0.0.role) std.None (std.Some (w, x)) (out_of m0.0.role)
   noted_role s n i w x places m0 m1 h size is e =
       let at : i - (32 + n) ≡ w = omega arith in
@@ -50,7 +50,7 @@ module _ {T M : Type 0} (mark : T → M) (label : T → Name) where
       let one : m2.1 ≡ (p, std.Some c.0) ∷ m1.1 = ap (λ (m : Seated T). m.1) c.1 ∙ ap (λ y. (y, std.Some c.0) ∷ m1.1) e in
       (std.Some c.0, one ∙ ap (λ l. (p, std.Some c.0) ∷ l) (sym (ap rest one)))
 
-  -- the home after a word that was 0
+  -- the home after it loaded a word that was 0
   pub home_looked : (s s' n i w x places : ℕ) (m0 m1 : Seated T) → s' ≡ s → IsHomeSeat s (tail_of m0.0.role) m0 → n ≡ places → i ≡ 32 + places + w → saw_bells (step n i 0 0 none) m0 x m1 → IsHomeSeat s' (tail_of m0.0.role) m1
   home_looked s s' n i w x places m0 m1 same h size is e =
       let role = noted_role s n i w x places m0 m1 h size is e in

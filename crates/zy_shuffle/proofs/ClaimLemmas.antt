@@ -1,4 +1,4 @@
--- The steps of a claim at the values that the code has.
+-- The steps of a claim, stated at the values that the code has.
 use Rattle.std.proofs.Common.{◌≡◌, ◌≢◌, ℕ, ◌+◌, ◌%◌, ◌∷◌, eqb, refl, sym, ap, ◌∙◌, subst, arith}
 use Rattle.std.specs.Prelude as std
 use mathlib.Core.Option.{none}

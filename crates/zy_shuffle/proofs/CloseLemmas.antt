@@ -1,4 +1,4 @@
--- The last load of the home, and what is known at the end.
+-- The last load of the home, and what holds at the end.
 use Rattle.std.proofs.Common.{inl, inr}
 use Rattle.zy_shuffle.specs.Ownership.{idle, held}
 use Rattle.zy_shuffle.specs.Follow.{Agrees, Follows}
@@ -27,7 +27,7 @@ use Rattle.zy_table.specs.Sum.{sum_below}
 use Rattle.zy_table.specs.declared.name.Name.{Name}
 use Rattle.zy_shuffle.proofs.IdleLemmas.{alone, idle_knows, shut_slot}
 
--- nobody has the places of this hand any more
+-- the places of this hand no longer have a holder
 pub shut_in : List ℕ → (ℕ → Holder) → ℕ → Holder
 shut_in hand f q = cond (is_in q hand) nobody (f q)
 
@@ -132,7 +132,7 @@ module _ {T M : Type 0} (mark : T → M) (label : T → Name) where
   full_lies hs marks z q (in_hand j) a h = absurd a
   full_lies hs marks z q at_bell a h = h
 
-  -- what lies in the slots at the end
+  -- the contents of the slots at the end
   pub record Ended (v : View T) (gone : List ℕ) (xs : List (std.Option T)) : Type 0 where
     pub taken : (q : ℕ) → q < length xs → is_in q gone ≡ true → get_elem? xs q ≡ some std.None
     pub full : (q : ℕ) → q < length xs → is_in q gone ≡ false → (b : T) × (get_elem? xs q ≡ some (std.Some b)) × (marked mark q v.kept ≡ std.Some (mark b)) × (label b ≡ v.label)

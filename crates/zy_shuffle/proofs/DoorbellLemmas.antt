@@ -26,7 +26,7 @@ use Rattle.zy_table.specs.declared.name.Name.{Name}
 use Rattle.zy_shuffle.proofs.TakeLemmas.{ready_in, taken_marks}
 
 module _ {T M : Type 0} (mark : T → M) (label : T → Name) where
-  -- the bit of the place p in its doorbell word
+  -- the bit of place `p` in its doorbell word
   abbrev Bit : ℕ → ℕ
   Bit p = 1 * 2 ^ (p % 64) % 2 ^ 64
 
@@ -104,7 +104,7 @@ module _ {T M : Type 0} (mark : T → M) (label : T → Name) where
         refl,
       )
 
-  -- the fetch-and of the home, at the lowest bit that it noted
+  -- the fetch-and of the home, at the lowest bit that it has noted
   pub collects : (n id i w x mask t out : ℕ) (st : std.Option ℕ) (me : Seated T) → me.0.role ≡ Home t st (std.Some (w, x)) out → i ≡ 32 + n + w → 0 < x → x < 2 ^ 64 → mask ≡ bit_not w64 (1 * 2 ^ trailing_zeros w64 x % 2 ^ 64)
       → Allows (ShuffleRule mark label) n id me i (λ y. bit_and y mask) (λ _ m. collected mark label (step n i mask 0 none) me m)
   collects n id i w x mask t out st me role i_is some_bit fits mask_is s r wide at _ =

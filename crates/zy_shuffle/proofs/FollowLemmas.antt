@@ -1,4 +1,4 @@
--- Each step is an event of the ownership machine, or none.
+-- Each step is one event of the ownership machine, or no event.
 use Rattle.std.proofs.Common.{◌≡◌, ℕ, zero, suc, ◌+◌, ◌-◌, ◌<◌, ◌≤◌, List, [], ◌∷◌, ◌++◌, refl, sym, ap, ◌∙◌, subst, inl, ⊎_elim, arith}
 use Rattle.zy_table.specs.Put.{put}
 use Rattle.zy_table.proofs.PutLemmas.{at_both, put_here}
@@ -15,7 +15,7 @@ queue-same : (ws ws' : List ℕ) (m head n : ℕ) → ((k : ℕ) → head ≤ k 
 queue-same ws ws' m head zero same = refl
 queue-same ws ws' m head (suc n) same = λ i. same head (omega arith) (omega arith) i ∷ queue-same ws ws' m (head + 1) n (λ k a b. same k (omega arith) (omega arith)) i
 
--- one cell more at the end
+-- a queue with one further cell at the end
 queue-more : (ws : List ℕ) (m head n : ℕ) → queue_of ws m head (suc n) ≡ queue_of ws m head n ++ cell ws m (head + n) ∷ []
 queue-more ws m head zero = let same : head ≡ head + 0 = omega arith in ap (λ k. cell ws m k ∷ []) same
 queue-more ws m head (suc n) =
@@ -28,7 +28,7 @@ queue-first ws m head n k is = ap (queue_of ws m head) is
 
 -- ---- runs
 
--- one event more
+-- one further event
 runs-more : (s t u : Owners) (events : List Event) (e : Event) → Runs 0 s events t → happens 0 t e u → Runs 0 s (events ++ e ∷ []) u
 runs-more s t u [] e run h = (u, subst (λ x. happens 0 x e u) run h, refl)
 runs-more s t u (x ∷ xs) e run h = (run.0, run.1, runs-more run.0 t u xs e run.2 h)
@@ -45,7 +45,7 @@ follows_else ws ws' m head tail holders le same f = record {
   queue = f.queue ∙ sym (queue-same ws ws' m head (tail - head) (λ k a b. same k a (omega arith)));
 }
 
--- no event: the home takes all places, or brings its own back
+-- no event: the home takes all places, or puts its own back
 pub follows_holders : (ws : List ℕ) (m head tail : ℕ) (holders holders' : ℕ → Holder) → ((p : ℕ) → p < m → (place : Place) → Agrees (holders p) place → Agrees (holders' p) place) → Follows ws m head tail holders → Follows ws m head tail holders'
 follows_holders ws m head tail holders holders' agree f = record {
   owners = f.owners;
@@ -55,7 +55,7 @@ follows_holders ws m head tail holders holders' agree f = record {
   queue = f.queue;
 }
 
--- a seat claims the first of the queue
+-- a seat claims the first place of the queue
 pub follows_claim : (ws ws' : List ℕ) (m head tail id p : ℕ) (holders : ℕ → Holder) → head < tail → cell ws m head ≡ p → ((k : ℕ) → head ≤ k → k < tail → cell ws' m k ≡ cell ws m k) → Follows ws m head tail holders → Follows ws' m (head + 1) tail (put holders p (in_hand id))
 follows_claim ws ws' m head tail id p holders lt at_cell same f =
     let left : ℕ = tail - (head + 1) in
@@ -69,7 +69,8 @@ follows_claim ws ws' m head tail id p holders lt at_cell same f =
       queue = sym (queue-same ws ws' m (head + 1) left (λ k a b. same k (omega arith) (omega arith)));
     }
 
--- the home publishes a place: a request arrives, where the connection is idle, and else it is settled with one more request
+-- the home publishes a place: if the connection is idle a request arrives, and otherwise it is
+-- settled after one further request
 pub follows_publish : (ws ws' : List ℕ) (m head tail p : ℕ) (holders : ℕ → Holder) → head ≤ tail → p < m → holders p ≡ in_hand 0 → ((k : ℕ) → head ≤ k → k < tail → cell ws' m k ≡ cell ws m k) → cell ws' m tail ≡ p → Follows ws m head tail holders
     → Follows ws' m head (tail + 1) (put holders p (in_queue tail))
 follows_publish ws ws' m head tail p holders le near mine same stored f =

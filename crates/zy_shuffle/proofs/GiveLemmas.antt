@@ -1,4 +1,4 @@
--- The other steps at the values that the code has.
+-- The other steps, stated at the values that the code has.
 use Rattle.std.proofs.Common.{◌≡◌, ℕ, ◌+◌, ◌*◌, ◌/◌, ◌%◌, ◌^◌, List, [], ◌∷◌, true, bit_or, refl, sym, ap, ◌∙◌, subst}
 use Rattle.std.specs.Prelude as std
 use mathlib.Core.Option.{none}
@@ -23,7 +23,7 @@ module _ {T M : Type 0} (mark : T → M) (label : T → Name) where
   pub stores_cell_as : (s n id p i t places : ℕ) (me : Seated T) → IsHomeSeat s t me → is_in p me.0.hand ≡ true → n ≡ places → i ≡ 32 + t % places → Allows (ShuffleRule mark label) n id me i (λ _. p) (λ _ m. stored_cell (step n i p 0 none) me m)
   stores_cell_as s n id p i t places me h has size is = stores_cell mark label n id p i t (out_of me.0.role) std.None (bells_of me.0.role) me h.0 h.1 has (is ∙ ap (λ x. 32 + t % x) (sym size))
 
-  -- the slot p lies in front, with nothing in it
+  -- slot `p` is in front, with nothing in it
   pub front_slot : (p : ℕ) (ks : List ℕ) (m : Seated T) → m.1 ≡ emptied (p ∷ ks) → (x : std.Option T) × (m.1 ≡ (p, x) ∷ rest m.1)
   front_slot p ks m e = (std.None, e ∙ ap (λ l. (p, std.None) ∷ l) (sym (ap rest e)))
 
@@ -38,7 +38,7 @@ module _ {T M : Type 0} (mark : T → M) (label : T → Name) where
   pub fronts_as : (s n id p : ℕ) (me : Seated T) → IsCoreSeat s me → is_in p me.0.hand ≡ true → Allows (ShuffleRule mark label) n id me 0 (λ y. y) (λ y m. fronted p me y m)
   fronts_as s n id p me h has = fronts mark label n id p me h.0 (subst IsActive (sym h.1) tt) has
 
-  -- the place lies in front already
+  -- the slot of the place is in front already
   pub brought_before : (s p q : ℕ) (front : std.Option ℕ) (me : Seated T) → IsCorePass s front me → front ≡ std.Some q → q ≡ p → IsBrought p me me
   brought_before s p q front me h e same =
       let f : me.0.hand ≡ p ∷ rest_of me.0.hand = subst (λ x. IsFront x me.0.hand) (e ∙ ap std.Some same) h.front_is in

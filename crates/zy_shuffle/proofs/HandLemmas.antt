@@ -1,4 +1,4 @@
--- Hands, views by their kind, and the acts by which a seat brings one of its slots to the front.
+-- Hands, views by their role, and the acts by which a seat brings one of its slots to the front.
 use Rattle.std.proofs.Common.{◌≡◌, ◌≢◌, ◌⊎◌, ℕ, zero, suc, ◌+◌, ◌<◌, ◌≤◌, List, [], ◌∷◌, ◌++◌, length, set, Bool, true, false, ◌||◌, ◌==◌, cond, true≢false, eq-eqb, ne_eqb, refl, sym, ap, ◌∙◌, subst, inl, inr, ⊎_elim, arith, length-set}
 use Rattle.std.specs.Prelude as std
 use mathlib.Core.Option.{Option, none, some, some-injective, some-ne-none}
@@ -29,7 +29,7 @@ module _ {T : Type 0} where
   cores_snoc [] v = omega arith
   cores_snoc (u ∷ us) v = let a = cores_snoc us v in omega arith
 
--- two lists with the same members at each place
+-- two lists with the same member at each index are equal
 pub list_same : {A : Type 0} (l k : List A) → ((i : ℕ) → get_elem? l i ≡ get_elem? k i) → l ≡ k
 list_same [] [] h = refl
 list_same [] (y ∷ ys) h = absurd (some-ne-none y (sym (h 0)))
@@ -49,7 +49,7 @@ module _ {T : Type 0} where
   pub marked_else : {M : Type 0} (mark : T → M) (p q : ℕ) (b : T) (xs : List (ℕ × T)) → q ≢ p → marked mark q ((p, b) ∷ xs) ≡ marked mark q xs
   marked_else mark p q b xs ne = ap (λ c. cond c (std.Some (mark b)) (marked mark q xs)) (ne_eqb q p ne)
 
-  -- brings the slot p to the front of those that are out
+  -- brings slot `p` to the front of those that are out
   abbrev pub fetch_act : ℕ → List ℕ → Act (std.Option T)
   fetch_act p [] = keeps
   fetch_act p (k ∷ ks) = cond (p == k) keeps (chain gives (chain (fetch_act p ks) (chain gives (chain (takes k std.None) (takes p std.None)))))

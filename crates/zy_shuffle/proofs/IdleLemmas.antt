@@ -1,4 +1,4 @@
--- Seats beside a home whose passes are not out.
+-- The other seats of a ring whose home has given no pass that is still out.
 use Rattle.std.proofs.Common.{◌≡◌, ◌≢◌, ℕ, ◌≤◌, List, [], true≢false, refl, sym, ap, ◌∙◌, subst, le_trans, arith}
 use Rattle.std.specs.Prelude as std
 use mathlib.Core.Option.{Option, some}
@@ -12,7 +12,7 @@ use Rattle.zy_table.specs.Member.{is_in}
 use Rattle.zy_table.specs.declared.name.Name.{Name}
 
 module _ {T M : Type 0} (mark : T → M) (label : T → Name) where
-  -- beside a home, with no core out, each other seat has an empty hand
+  -- while no core is out, each seat but the home's has an empty hand
   pub alone : (ws : List ℕ) (m head tail : ℕ) (holders : ℕ → Holder) (marks : ℕ → std.Option M) (z : Name) (count j : ℕ) (u : View T) (x : Role) → core_count x ≤ count → count ≡ 0 → j ≢ 0 → IsRole mark label ws m head tail holders marks z count j u.hand u.label u.kept x
       → (x ≡ Spent) × (u.hand ≡ [])
   alone ws m head tail holders marks z count j u Spent a c ne h = (refl, h)
@@ -34,6 +34,6 @@ module _ {T M : Type 0} (mark : T → M) (label : T → Name) where
     role = subst (λ x. IsRole mark label ws m head' tail' holders' marks' z' count' j u.hand u.label u.kept x) (sym e.0) e.1;
   }
 
-  -- the slot of a place that nobody has is at home with nothing in it
+  -- the slot of a place without a holder is at home, with nothing in it
   pub shut_slot : (hs : List (Option (std.Option T))) (marks : ℕ → std.Option M) (z : Name) (q : ℕ) (x : Holder) → x ≡ nobody → Lies mark label hs marks z q x → get_elem? hs q ≡ some (some std.None)
   shut_slot hs marks z q x e l = subst (Lies mark label hs marks z q) e l

@@ -1,4 +1,4 @@
--- What is left at the end, at the values that the code has.
+-- The blocks that are left at the end, stated at the values that the code has.
 use Rattle.std.proofs.Common.{◌≡◌, ℕ, zero, suc, ◌+◌, List, [], ◌∷◌, ◌++◌, append_assoc, append-nil, length, take, refl, sym, ap, ◌∙◌, arith}
 use Rattle.std.specs.Prelude as std
 use Rattle.std.specs.Prelude.{slice_get}

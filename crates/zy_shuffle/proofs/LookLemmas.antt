@@ -96,13 +96,13 @@ module _ {T M : Type 0} (mark : T → M) (label : T → Name) where
       let v' : View T = traced (try_step y) me.0 in
       (v', keeps, tt, seen s r id 0 me.0 v' at refl active (knows_looked s.words (length s.homes) r.head r.tail r.holders r.marks r.name (cores s.views) id me.0 (try_step y me.0.trace) me.0.note k.head_seen k.tail_seen k.note k) (λ q e. e), t)
 
-  -- the slots that are out with a seat
+  -- the slots that a seat has taken out
   pub out_with : (s : RingState T) (r : ShuffleRule mark label s) (id : ℕ) (v : View T) → get_elem? s.views id ≡ some v → (q : ℕ) → is_in q v.hand ≡ true → get_elem? s.homes q ≡ some none
   out_with s r id v at q e =
       let h = (r.each_seat id v at).hand q e in
       subst (λ (x : Holder). Lies mark label s.homes r.marks r.name q x) h.1 (r.each_place q h.0).lies
 
-  -- a hand is nothing to the role of a seat that is active
+  -- the role of an active seat does not depend on a hand
   pub reheld : (ws : List ℕ) (m head tail : ℕ) (holders : ℕ → Holder) (marks : ℕ → std.Option M) (z : Name) (count j : ℕ) (hand hand' : List ℕ) (tag : Name) (kept : List (ℕ × T)) (x : Role) → IsActive x
       → IsRole mark label ws m head tail holders marks z count j hand tag kept x → IsRole mark label ws m head tail holders marks z count j hand' tag kept x
   reheld ws m head tail holders marks z count j hand hand' tag kept Spent a h = absurd a
@@ -136,14 +136,14 @@ module _ {T M : Type 0} (mark : T → M) (label : T → Name) where
         (λ i. (v', f.1 i)),
       )
 
-  -- a holder counts for one at most
+  -- a holder counts for at most one
   pub light : (x : Holder) → weight x ≤ 1
   light nobody = omega arith
   light (in_queue k) = omega arith
   light (in_hand j) = omega arith
   light back = omega arith
 
-  -- while a place is in a hand there is room for it in the queue
+  -- while a place is in a hand, the queue has room for it
   pub room : (s : RingState T) (r : ShuffleRule mark label s) (p j : ℕ) → p < length s.homes → r.holders p ≡ in_hand j → r.tail < r.head + length s.homes
   room s r p j near is =
       let a = sum_less (length s.homes) 1 p (λ q. weight (r.holders q)) (λ q. light (r.holders q)) near (let b = ap weight is in omega arith) in

@@ -1,4 +1,4 @@
--- What stays of the rule when a seat makes a step that changes at most one place.
+-- The parts of the rule that stay when a seat makes a step that changes at most one place.
 use Rattle.std.proofs.Common.{◌≡◌, ◌≢◌, ℕ, suc, ◌+◌, ◌*◌, ◌<◌, ◌≤◌, List, length, get_or, set, true, refl, sym, ap, ◌∙◌, subst, ⊎_elim, le_trans, arith, length-set}
 use Rattle.std.specs.Prelude as std
 use mathlib.Core.Option.{Option, some, some-injective}
@@ -25,7 +25,7 @@ use Rattle.zy_table.specs.Sum.{sum_below}
 use Rattle.zy_table.specs.declared.name.Name.{Name}
 
 module _ {T M : Type 0} (mark : T → M) (label : T → Name) where
-  -- beside a seat that is active there is no start and no end
+  -- while another seat is active, no seat is at its start or its end
   lone : (ws : List ℕ) (m head tail : ℕ) (holders : ℕ → Holder) (marks : ℕ → std.Option M) (z : Name) (count id j : ℕ) (v : View T) (x : Role) → IsActive x → IsRole mark label ws m head tail holders marks z count id v.hand v.label v.kept x → core_count x ≤ count
       → j ≢ id → j ≡ 0 → count ≡ 0 → ⊥
   lone ws m head tail holders marks z count id j v Spent a h c ne e f = a
@@ -34,7 +34,7 @@ module _ {T M : Type 0} (mark : T → M) (label : T → Name) where
   lone ws m head tail holders marks z count id j v (Home t st nt out) a h c ne e f = ne (e ∙ sym h.0)
   lone ws m head tail holders marks z count id j v (Closed gone) a h c ne e f = a
 
-  -- beside a home each other seat that is active is a core
+  -- each active seat other than the home's is a core's
   other_core : (ws : List ℕ) (m head tail : ℕ) (holders : ℕ → Holder) (marks : ℕ → std.Option M) (z : Name) (count id j : ℕ) (v : View T) (x : Role) → IsActive x → IsRole mark label ws m head tail holders marks z count id v.hand v.label v.kept x → j ≢ id → j ≡ 0 → x ≡ Core
   other_core ws m head tail holders marks z count id j v Spent a h ne e = absurd a
   other_core ws m head tail holders marks z count id j v Start a h ne e = absurd a
@@ -75,7 +75,7 @@ module _ {T M : Type 0} (mark : T → M) (label : T → Name) where
     abbrev Marks : ℕ → std.Option M
     Marks = put r.marks p mk'
 
-    -- one place changes, and no cell
+    -- one place changes, and no cell does
     pub record Move : Type 0 where
       pub at : get_elem? s.views id ≡ some v
       pub near : p < Size
@@ -176,7 +176,7 @@ module _ {T M : Type 0} (mark : T → M) (label : T → Name) where
                 (λ no. (old.0, set_else s.views id j v' no ∙ old.1, old.2))) lt;
           }
 
-  -- no place changes, and no slot
+  -- no place changes, and no slot does
   module _ (s : RingState T) (r : ShuffleRule mark label s) (id : ℕ) (v v' : View T) (i w : ℕ) where
     abbrev Wz : List ℕ
     Wz = set s.words i w

@@ -29,7 +29,7 @@ use Rattle.zy_table.specs.declared.name.Name.{Name}
 use Rattle.zy_shuffle.proofs.IdleLemmas.{alone, idle_knows, shut_slot}
 
 module _ {T M : Type 0} (mark : T → M) (label : T → Name) where
-  -- the first load of the home takes all slots, and names the label
+  -- the first load of the home, which takes all slots and names the label
   pub names : (n id : ℕ) (z : Name) → Allows (ShuffleRule mark label) n id (start, []) 0 (λ y. y) (λ _ m. named_as z (step n 0 0 0 none) m)
   names n id z s r wide at _ =
       let m : ℕ = length s.homes in

@@ -8,7 +8,7 @@ use Rattle.zy_table.proofs.PutLemmas.{at_put, put_here, put_else}
 use Rattle.zy_table.proofs.MemberLemmas.{in_or, in_front, in_cons, in_more, not_in}
 use Rattle.zy_shuffle.specs.Ownership.{Place, idle, ready, held, returned, Owners, no_requests, Event, Arrive, Claim, Handle, GiveBack, Collect, Settle, moved, with_requests, with_finished, happens, IsSound, Runs}
 
--- ---- a queue that is one longer
+-- ---- a queue with one further member
 
 -- a member of the longer queue is the new one, or an old one
 end_or : (c q : ℕ) (xs : List ℕ) → is_in q (xs ++ c ∷ []) ≡ true → (q ≡ c) ⊎ (is_in q xs ≡ true)
@@ -23,7 +23,7 @@ end_in : (c : ℕ) (xs : List ℕ) → is_in c (xs ++ c ∷ []) ≡ true
 end_in c [] = in_front c []
 end_in c (x ∷ xs) = in_more x c (xs ++ c ∷ []) (end_in c xs)
 
--- and so is each old one
+-- each old one is a member
 end_more : (c q : ℕ) (xs : List ℕ) → is_in q xs ≡ true → is_in q (xs ++ c ∷ []) ≡ true
 end_more c q [] h = absurd (true≢false (sym h))
 end_more c q (x ∷ xs) h = ⊎_elim
@@ -31,7 +31,7 @@ end_more c q (x ∷ xs) h = ⊎_elim
     (λ (e : (q ≢ x) × (is_in q xs ≡ true)). in_more x q (xs ++ c ∷ []) (end_more c q xs e.1))
     (in_or x q xs h)
 
--- a queue with one more member that was none has each once
+-- a distinct queue stays distinct when a connection that was not in it is appended
 end_distinct : (c : ℕ) (xs : List ℕ) → IsDistinct xs → is_in c xs ≡ false → IsDistinct (xs ++ c ∷ [])
 end_distinct c [] d h = (refl, tt)
 end_distinct c (x ∷ xs) d h = (
@@ -44,11 +44,11 @@ end_distinct c (x ∷ xs) d h = (
 
 -- ---- one connection moves
 
--- the connection that is not ready is in no queue
+-- a connection that is not ready is in no queue
 not_ready : (s : Owners) (c : ℕ) → IsSound s → (s.places c ≡ ready → ⊥) → is_in c s.queue ≡ false
 not_ready s c sound not = not_in c s.queue (λ e. not ((sound.queued c).1 e))
 
--- a connection that is not ready goes to the end of the queue, where it has an unfinished request
+-- a connection that is not ready goes to the end of the queue, if it has an unfinished request
 joins_queue : (s : Owners) (c : ℕ) (arrived : ℕ → ℕ) → IsSound s → (s.places c ≡ ready → ⊥) → ((q : ℕ) → q ≢ c → arrived q ≡ s.arrived q) → s.finished c < arrived c
     → IsSound (record s { places = put s.places c ready; queue = s.queue ++ c ∷ []; arrived = arrived })
 joins_queue s c arrived sound not others due = record {
@@ -66,7 +66,8 @@ joins_queue s c arrived sound not others due = record {
       (λ ne e. let a = others q ne in let b = sound.ready_due q e in omega arith);
 }
 
--- a connection goes from one place that is not in the queue to another, and is idle only where nothing is unfinished
+-- a connection goes from one place that is not the queue to another, and becomes idle only if no
+-- request is unfinished
 goes_to : (s : Owners) (c : ℕ) (place : Place) → IsSound s → (s.places c ≡ ready → ⊥) → (place ≡ ready → ⊥) → (place ≡ idle → s.finished c ≡ s.arrived c) → IsSound (moved c place s)
 goes_to s c place sound was is done = record {
   queued = λ q. (
@@ -92,7 +93,7 @@ more_requests s c count sound busy = record {
 
 -- ---- events
 
--- the first of the queue is taken
+-- the first connection of the queue is taken
 takes_first : (s : Owners) (core c : ℕ) (rest : List ℕ) → IsSound s → s.queue ≡ c ∷ rest → IsSound (record (moved c (held core) s) { queue = rest })
 takes_first s core c rest sound is =
     let once = subst IsDistinct is sound.once in record {
@@ -157,6 +158,6 @@ runs_from home s t (e ∷ es) sound run = runs_from home run.0 t es (keeps_sound
 pub runs_sound : (home : ℕ) (t : Owners) (events : List Event) → Runs home no_requests events t → IsSound t
 runs_sound home t events run = runs_from home no_requests t events begins_sound run
 
--- an unfinished request is not of an idle connection
+-- an idle connection has no unfinished request
 pub not_idle : (s : Owners) (c : ℕ) → IsSound s → s.finished c < s.arrived c → s.places c ≢ idle
 not_idle s c sound due e = let a = sound.idle_done c e in omega arith

@@ -55,7 +55,7 @@ module _ {T : Type 0} where
   home_named z s s' n m e f h =
       subst (λ (x : Seated T). IsHomeSeat s' 0 x) (sym h) (refl, refl, subst (λ k. Within k (below_then n [])) (e ∙ sym f) (within_all n))
 
-  -- all places are in the hand of a home that was named
+  -- all places are in the hand of a home whose label was named
   pub hand_named : (z : Name) (n places : ℕ) (m : Seated T) → named_as {T = T} z (step n 0 0 0 none) m → n ≡ places → HasAll places m.0.hand
   hand_named z n places m e size place lt = ap (λ (x : Seated T). is_in place x.0.hand) e ∙ below_in n place [] (omega arith)
 

@@ -1,4 +1,5 @@
--- What the rule says at once: the queue is bounded, and each place is in one hand, or once in the queue, or at its doorbell.
+-- What follows from the rule: the queue is bounded, and each place is in one hand, or once in the
+-- queue, or at its doorbell.
 use Rattle.std.proofs.Common.{◌≡◌, ◌≢◌, ℕ, ◌+◌, ◌<◌, ◌≤◌, length, true, sym, ap, ◌∙◌, arith}
 use mathlib.Core.Option.{some}
 use lib.ListN.{get_elem?}
@@ -12,23 +13,23 @@ use Rattle.zy_shuffle.specs.ShuffleRule.{RingState, ShuffleRule}
 use Rattle.zy_shuffle.proofs.LookLemmas.{light}
 
 module _ {T M : Type 0} (mark : T → M) (label : T → Name) (s : RingState T) (r : ShuffleRule mark label s) where
-  -- the queue has at most as many places as the ring
+  -- the queue has at most as many entries as the ring has places
   pub bounded : (r.head ≤ r.tail) × (r.tail ≤ r.head + length s.homes)
   bounded =
       let few = sum_bound (length s.homes) 1 (λ p. weight (r.holders p)) (λ p. light mark label (r.holders p)) in
       let sums = r.sums in (omega arith, omega arith)
 
-  -- a place is in one hand
+  -- a place is in at most one hand
   pub one_hand : (i j p : ℕ) (v w : View T) → get_elem? s.views i ≡ some v → get_elem? s.views j ≡ some w → is_in p v.hand ≡ true → is_in p w.hand ≡ true → i ≡ j
   one_hand i j p v w at_i at_j in_v in_w = let a = ((r.each_seat i v at_i).hand p in_v).1 in let b = ((r.each_seat j w at_j).hand p in_w).1 in cc
 
-  -- and it is in the queue once
+  -- a place is in the queue at most once
   pub once_queued : (i j : ℕ) → r.head ≤ i → i < r.tail → r.head ≤ j → j < r.tail → cell s.words (length s.homes) i ≡ cell s.words (length s.homes) j → i ≡ j
   once_queued i j a b c d same =
       let x : r.holders (cell s.words (length s.homes) j) ≡ in_queue i = ap r.holders (sym same) ∙ (r.each_cell i a b).1 in
       let y = (r.each_cell j c d).1 in cc
 
-  -- a place in a hand was not given back, and is not in the queue
+  -- a place in a hand is not at its doorbell, and not in the queue
   pub hand_apart : (j p : ℕ) (v : View T) → get_elem? s.views j ≡ some v → is_in p v.hand ≡ true
       → (bell_at s.words (length s.homes) p ≡ 0) × ((k : ℕ) → r.head ≤ k → k < r.tail → cell s.words (length s.homes) k ≢ p)
   hand_apart j p v at has =
@@ -37,6 +38,6 @@ module _ {T M : Type 0} (mark : T → M) (label : T → Name) (s : RingState T) 
         λ k a b e. let x : r.holders p ≡ in_queue k = ap r.holders (sym e) ∙ (r.each_cell k a b).1 in let y = mine.1 in cc,
       )
 
-  -- a place in the queue was not given back
+  -- a place in the queue is not at its doorbell
   pub queue_apart : (k : ℕ) → r.head ≤ k → k < r.tail → bell_at s.words (length s.homes) (cell s.words (length s.homes) k) ≡ 0
   queue_apart k a b = let c = r.each_cell k a b in (r.each_place (cell s.words (length s.homes) k) c.0).rings ∙ ap bell c.1

@@ -1,4 +1,4 @@
--- How a pass is given, and how it is taken in.
+-- How a pass is given, and how it is joined.
 use Rattle.std.proofs.Common.{◌≡◌, ◌≢◌, ℕ, ◌+◌, ◌-◌, List, [], ◌∷◌, ◌++◌, length, set, true≢false, refl, sym, ap, ◌∙◌, subst, ⊎_elim, arith, length-set}
 use Rattle.std.specs.Prelude as std
 use mathlib.Core.Option.{some, some-injective}
@@ -21,7 +21,7 @@ use Rattle.zy_table.specs.Member.{is_in}
 use Rattle.zy_table.specs.declared.name.Name.{Name}
 
 module _ {T M : Type 0} (mark : T → M) (label : T → Name) where
-  -- the role of a seat that does not move while a core is made or joined
+  -- the role of a seat that makes no step while a core's pass is given or joined
   counted_role : (ws : List ℕ) (m head tail : ℕ) (holders : ℕ → Holder) (marks : ℕ → std.Option M) (z : Name) (count count' j : ℕ) (hand : List ℕ) (tag : Name) (kept : List (ℕ × T)) (x : Role) → j ≢ 0
       → IsRole mark label ws m head tail holders marks z count j hand tag kept x → IsRole mark label ws m head tail holders marks z count' j hand tag kept x
   counted_role ws m head tail holders marks z count count' j hand tag kept Spent ne h = h

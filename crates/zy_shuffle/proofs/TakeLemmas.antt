@@ -27,7 +27,7 @@ use Rattle.zy_table.specs.Member.{is_in}
 use Rattle.zy_table.specs.Put.{put}
 use Rattle.zy_table.specs.declared.name.Name.{Name}
 
--- a place that is in the queue as the k-th stands in its cell
+-- the place that is k-th in the queue is in the cell of k
 pub ready_in : (ws : List ℕ) (head tail m q k : ℕ) (x : Holder) → x ≡ in_queue k → InQueue ws head tail m q x → InQueue ws head tail m q (in_queue k)
 ready_in ws head tail m q k x e l = subst (InQueue ws head tail m q) e l
 
@@ -47,7 +47,7 @@ module _ {T M : Type 0} (mark : T → M) (label : T → Name) where
     kept_of (Home t st nt out) a h = h.6
     kept_of (Closed gone) a h = absurd a
 
-    -- the role of the seat that moves, where tail, cell and bells are as they were
+    -- the role of the seat that makes the step, where tail, cell and bells are as they were
     rerole : (ws' : List ℕ) (head' : ℕ) (holders' : ℕ → Holder) (marks' : ℕ → std.Option M) (hand' : List ℕ) (kept' : List (ℕ × T)) (x : Role) → IsActive x → cell ws' m tail ≡ cell ws m tail → ((q : ℕ) → holders q ≡ at_bell → holders' q ≡ at_bell)
         → ((q : ℕ) → marked mark q kept ≡ marks q → marked mark q kept' ≡ marks' q) → ((q : ℕ) → (holders q ≡ nobody → ⊥) → holders' q ≡ nobody → ⊥)
         → IsRole mark label ws m head tail holders marks z count j hand tag kept x → IsRole mark label ws' m head' tail holders' marks' z count j hand' tag kept' x
@@ -61,7 +61,7 @@ module _ {T M : Type 0} (mark : T → M) (label : T → Name) where
         stored (std.Some y) k = c ∙ k
     rerole ws' head' holders' marks' hand' kept' (Closed gone) a c b f g h = absurd a
 
-  -- the marks after p was taken with the block b
+  -- the marks after `p` was taken with the block `b`
   pub taken_marks : (marks : ℕ → std.Option M) (p : ℕ) (b : T) (kept : List (ℕ × T)) → marks p ≡ std.Some (mark b) → (q : ℕ) → (q ≢ p → marked mark q kept ≡ marks q) → marked mark q ((p, b) ∷ kept) ≡ put marks p (marks p) q
   taken_marks marks p b kept is q old = dite (ℕ_discrete q p)
       (λ e. ap (λ y. marked mark y ((p, b) ∷ kept)) e ∙ marked_here mark p b kept ∙ sym is ∙ sym (put_here marks p (marks p)) ∙ ap (put marks p (marks p)) (sym e))

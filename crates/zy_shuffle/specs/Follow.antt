@@ -1,25 +1,26 @@
--- How a ring's table follows the ownership machine: what it shows is a state that a run of the machine reaches. Seats
--- stand for cores, and seat 0 for the home core.
+-- How a ring's table follows the ownership machine: the state that the table shows is one that a
+-- run of the machine reaches. Seats are the cores of the machine, and seat 0 is the home core.
 use Rattle.std.specs.Prelude.{◌≡◌, ◌⊎◌, ℕ, zero, suc, ◌+◌, ◌-◌, ◌<◌, List, [], ◌∷◌}
 use Rattle.zy_shuffle.specs.Ownership.{Place, idle, ready, held, returned, Owners, no_requests, Event, Runs}
 use Rattle.zy_shuffle.specs.Word.{cell}
 use Rattle.zy_shuffle.specs.Holder.{Holder, nobody, in_queue, in_hand, at_bell}
 
--- where the machine has a connection, by who has its place in the table. What the home has in its hand is idle, or
--- held by it: to settle a connection that has nothing to do is no step
+-- the machine's place of a connection agrees with the holder of its place in the ring. In the hand
+-- of the home, it is idle or held by the home: settling a connection that has nothing to do is not
+-- a step
 abbrev pub Agrees : Holder → Place → Type 0
 Agrees nobody place = (place ≡ idle) ⊎ (place ≡ held 0)
 Agrees (in_queue k) place = place ≡ ready
 Agrees (in_hand j) place = (place ≡ held j) ⊎ ((j ≡ 0) × (place ≡ idle))
 Agrees at_bell place = place ≡ returned
 
--- the places in so many cells from the head on
+-- the places in the first n cells from the head on
 abbrev pub queue_of : List ℕ → ℕ → ℕ → ℕ → List ℕ
 queue_of words m head zero = []
 queue_of words m head (suc n) = cell words m head ∷ queue_of words m (head + 1) n
 
--- there is a run of the machine, and the state that it reaches has each place where the table has it, and the queue
--- of the table
+-- there is a run of the machine to a state in which each connection's place agrees with the table,
+-- and the queue is that of the table
 pub record Follows (words : List ℕ) (m head tail : ℕ) (holders : ℕ → Holder) : Type 0 where
   pub owners : Owners
   pub events : List Event

@@ -1,18 +1,18 @@
--- Hands, what is kept for their places, and the slots that they have taken.
+-- Hands, the marks that are kept for their places, and the slots that they have taken.
 use Rattle.std.specs.Prelude.{ℕ, zero, suc, ◌+◌, List, [], ◌∷◌, ◌++◌, ◌==◌, cond, Option, Some, None}
 
--- all but the first
+-- all members but the first
 abbrev pub rest_of : List ℕ → List ℕ
 rest_of [] = []
 rest_of (x ∷ xs) = xs
 
--- the numbers below n, before the others
+-- the numbers below n, followed by the others
 abbrev pub below_then : ℕ → List ℕ → List ℕ
 below_then zero xs = xs
 below_then (suc n) xs = below_then n (n ∷ xs)
 
 module _ {T : Type 0} where
-  -- the slots of these places, taken, with nothing in them
+  -- the slots of these places: taken, with nothing in them
   abbrev pub emptied : List ℕ → List (ℕ × Option T)
   emptied [] = []
   emptied (k ∷ ks) = (k, None) ∷ emptied ks
@@ -27,7 +27,7 @@ module _ {T : Type 0} where
   one_left k None = []
   one_left k (Some b) = (k, b) ∷ []
 
-  -- the blocks of slots, with their places from k on
+  -- the blocks of slots, with their places, of which the first is k
   abbrev pub left_of : ℕ → List (Option T) → List (ℕ × T)
   left_of k [] = []
   left_of k (x ∷ xs) = one_left k x ++ left_of (k + 1) xs

@@ -1,25 +1,25 @@
--- Who has a place of a ring, as its table shows it.
+-- The holder of a place of a ring, as the ring's table shows it.
 use Rattle.std.specs.Prelude.{ℕ, ◌+◌, List, [], ◌∷◌}
 use Rattle.zy_shuffle.specs.declared.ring.view.Role.{Role}
 use Rattle.zy_shuffle.specs.declared.ring.view.Role.TheVariants.{Spent, Start, Core, Home, Closed}
 use Rattle.zy_shuffle.specs.declared.ring.view.View.{View}
 
--- nobody, before the first step of the home and after its last; the queue, as the k-th place that was published; the
--- hand of seat j; or its doorbell
+-- nobody, before the first step of the home and after its last; the queue, as the k-th place that
+-- was published; the hand of seat j; or the doorbell of the place
 pub data Holder : Type 0 where
   nobody : Holder
   in_queue : ℕ → Holder
   in_hand : ℕ → Holder
   at_bell : Holder
 
--- 1 where the place is in the queue
+-- 1 if the place is in the queue
 abbrev pub weight : Holder → ℕ
 weight nobody = 0
 weight (in_queue k) = 1
 weight (in_hand j) = 0
 weight at_bell = 0
 
--- what its doorbell bit is
+-- its doorbell bit
 abbrev pub bell : Holder → ℕ
 bell nobody = 0
 bell (in_queue k) = 0
@@ -41,7 +41,7 @@ core_count Core = 1
 core_count (Home tail stored noted out) = 0
 core_count (Closed gone) = 0
 
--- how many passes are out
+-- the number of passes that are out
 abbrev pub cores : {T : Type 0} → List (View T) → ℕ
 cores [] = 0
 cores (v ∷ vs) = core_count v.role + cores vs

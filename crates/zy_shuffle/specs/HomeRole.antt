@@ -5,7 +5,7 @@ use mir.Syntax.{w64}
 use Rattle.zy_shuffle.specs.declared.ring.view.Role.{Role}
 use Rattle.zy_shuffle.specs.declared.ring.view.Role.TheVariants.{Spent, Start, Core, Home, Closed}
 
--- ---- what the home knows by its role, changed
+-- ---- changes of what the home knows by its role
 
 -- the home stored this place in the next cell
 abbrev pub with_stored : ℕ → Role → Role
@@ -39,7 +39,7 @@ one_more Core = Core
 one_more (Home t stored noted out) = Home t stored noted (out + 1)
 one_more (Closed gone) = Closed gone
 
--- the home took a pass in
+-- the home joined a pass
 abbrev pub one_less : Role → Role
 one_less Spent = Spent
 one_less Start = Start
@@ -49,7 +49,7 @@ one_less (Closed gone) = Closed gone
 
 -- ---- kinds of seats
 
--- the seat of the home
+-- the seat is that of the home
 abbrev pub IsHome : Role → Type 0
 IsHome Spent = ⊥
 IsHome Start = ⊥
@@ -57,7 +57,7 @@ IsHome Core = ⊥
 IsHome (Home t stored noted out) = Unit {0}
 IsHome (Closed gone) = ⊥
 
--- a seat that may make steps: of a core, or of the home
+-- the seat may make steps: it is that of a core, or of the home
 abbrev pub IsActive : Role → Type 0
 IsActive Spent = ⊥
 IsActive Start = ⊥
@@ -78,7 +78,7 @@ rung_place Core = 0
 rung_place (Home t stored noted out) = lowest noted
 rung_place (Closed gone) = 0
 
--- what was noted
+-- the doorbell bits that were noted
 abbrev pub noted_in : Option (ℕ × ℕ) → ℕ
 noted_in None = 0
 noted_in (Some x) = x.1

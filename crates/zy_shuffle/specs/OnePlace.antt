@@ -1,4 +1,5 @@
--- Where the words and the views of a ring show a place to be: in one hand, or in the queue once, or at its doorbell.
+-- The words and views of a ring show each place in one spot: in one hand, or in the queue once, or
+-- at its doorbell.
 use Rattle.std.specs.Prelude.{◌≡◌, ℕ, ◌+◌, ◌<◌, ◌≤◌, length, true}
 use mathlib.Core.Option.{some}
 use lib.ListN.{get_elem?}
@@ -7,25 +8,25 @@ use Rattle.zy_shuffle.specs.declared.ring.view.View.{View}
 use Rattle.zy_shuffle.specs.Word.{cell, bell_at}
 use Rattle.zy_shuffle.specs.ShuffleRule.{RingState}
 
--- the head is at most the tail, and the tail at most the head and the number of places
+-- the head is at most the tail, and the tail is at most the head plus the number of places
 abbrev pub IsBounded : ℕ → ℕ → ℕ → Type 0
 IsBounded head tail m = (head ≤ tail) × (tail ≤ head + m)
 
 module _ {T : Type 0} (s : RingState T) where
-  -- the hand of this seat has the place
+  -- the place is in the hand of this seat
   abbrev pub Holds : ℕ → ℕ → Type 0
   Holds j place = (v : View T) × (get_elem? s.views j ≡ some v) × (is_in place v.hand ≡ true)
 
-  -- a place is in one hand at most
+  -- a place is in at most one hand
   abbrev pub HasOneHand : Type 0
   HasOneHand = (i j place : ℕ) → Holds i place → Holds j place → i ≡ j
 
   module _ (head tail : ℕ) where
-    -- the k-th place that was published is this one, and it was not claimed yet
+    -- the k-th place that was published is this one, and it has not been claimed yet
     abbrev pub IsQueued : ℕ → ℕ → Type 0
     IsQueued k place = (head ≤ k) × (k < tail) × (cell s.words (length s.homes) k ≡ place)
 
-    -- a place is in the queue once at most
+    -- a place is in the queue at most once
     abbrev pub IsOnceQueued : Type 0
     IsOnceQueued = (i j place : ℕ) → IsQueued i place → IsQueued j place → i ≡ j
 

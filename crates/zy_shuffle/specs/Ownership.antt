@@ -1,23 +1,23 @@
--- The ownership machine of one home core: where each of its connections is, and which events move it.
--- George Prekas, Marios Kogias and Edouard Bugnion, "ZygOS", SOSP 2017: the states idle, ready and busy of a
--- connection, and the shuffle queue of its home core. Busy is here two places: in the hand of a core, and given back
--- to the home.
+-- The ownership machine of one home core: the place of each of its connections, and the events that
+-- move it. George Prekas, Marios Kogias and Edouard Bugnion, "ZygOS", SOSP 2017: the states idle,
+-- ready and busy of a connection, and the shuffle queue of its home core. Here the state busy is
+-- two places: in the hand of a core, and given back to the home.
 use Rattle.std.specs.Prelude.{◌≡◌, ◌≢◌, ◌↔◌, ℕ, ◌+◌, ◌<◌, ◌≤◌, List, [], ◌∷◌, ◌++◌, true}
 use Rattle.zy_table.specs.Member.{is_in, IsDistinct}
 use Rattle.zy_table.specs.Put.{put}
 
 -- ---- states
 
--- where a connection is: at home with nothing to do, in the queue, in the hand of a core, or given back and not
--- collected yet
+-- the place of a connection: at home with nothing to do, in the queue, in the hand of a core, or
+-- given back and not collected yet
 pub data Place : Type 0 where
   idle : Place
   ready : Place
   held : ℕ → Place
   returned : Place
 
--- where each connection is, which are ready, in the order in which they became so, and how many requests of each
--- arrived and were finished
+-- the place of each connection, the queue of those that are ready, in the order in which they
+-- became so, and for each connection the numbers of requests that arrived and that were finished
 pub record Owners : Type 0 where
   pub places : ℕ → Place
   pub queue : List ℕ
@@ -30,8 +30,9 @@ no_requests = record { places = λ _. idle; queue = []; arrived = λ _. 0; finis
 
 -- ---- events
 
--- what may happen next: requests of a connection arrive, a core takes the first of the queue, finishes a request of a
--- connection, gives a connection back, or the home collects a connection or settles it
+-- the next event: requests of a connection arrive, a core takes the first of the queue, finishes a
+-- request of a connection, or gives a connection back, or the home collects a connection or settles
+-- it
 pub data Event : Type 0 where
   Arrive : (connection count : ℕ) → Event
   Claim : (core : ℕ) → Event
@@ -48,15 +49,15 @@ moved c place s = record s { places = put s.places c place }
 abbrev pub queued : ℕ → Owners → Owners
 queued c s = record (moved c ready s) { queue = s.queue ++ c ∷ [] }
 
--- so many requests of the connection arrived
+-- `count` requests of the connection arrived
 abbrev pub with_requests : ℕ → ℕ → Owners → Owners
 with_requests c count s = record s { arrived = put s.arrived c (s.arrived c + count) }
 
--- one more request of the connection was finished
+-- one further request of the connection was finished
 abbrev pub with_finished : ℕ → Owners → Owners
 with_finished c s = record s { finished = put s.finished c (s.finished c + 1) }
 
--- the event may happen in the first state, and leads to the second
+-- the event is possible in the first state, and leads to the second
 abbrev pub happens : ℕ → Owners → Event → Owners → Type 0
 happens home s (Arrive c count) t = (1 ≤ count)
     × (s.places c ≡ idle → t ≡ queued c (with_requests c count s))
@@ -72,17 +73,17 @@ happens home s (Settle c) t = (s.places c ≡ held home)
 
 -- ---- sound states
 
--- each connection has one place, and this is so of it
+-- each connection is in one place, by these rules
 pub record IsSound (s : Owners) : Type 0 where
-  -- a connection is ready exactly where it stands in the queue
+  -- a connection is ready exactly where it is in the queue
   pub queued : (c : ℕ) → (s.places c ≡ ready) ↔ (is_in c s.queue ≡ true)
-  -- and it stands there once
+  -- no connection is in the queue twice
   pub once : IsDistinct s.queue
   -- no request is finished before it arrives
   pub counts : (c : ℕ) → s.finished c ≤ s.arrived c
   -- an idle connection has no unfinished request
   pub idle_done : (c : ℕ) → s.places c ≡ idle → s.finished c ≡ s.arrived c
-  -- a ready one has some
+  -- a ready connection has one
   pub ready_due : (c : ℕ) → s.places c ≡ ready → s.finished c < s.arrived c
 
 -- ---- runs

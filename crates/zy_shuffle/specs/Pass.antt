@@ -1,4 +1,4 @@
--- What a contract sees of a ring and of its passes, and what the answers of a claim and of a collect say.
+-- The views of a ring and of its passes, and the meaning of the answers of a claim and of a collect.
 use Rattle.std.specs.Prelude.{◌≡◌, ◌≢◌, ℕ, ◌+◌, ◌/◌, ◌%◌, ◌<◌, ◌≤◌, List, [], ◌∷◌, true, false, ◌==◌, cond, length, slice_get, Option, Some, None}
 use Rattle.std.specs.Int.{bit_at}
 use Rattle.atomic_table.specs.Seated.{TableId}
@@ -17,7 +17,7 @@ use Rattle.zy_shuffle.specs.Word.{bell_words}
 
 -- ---- rings and passes
 
--- a ring: which table it is, and how many places it has
+-- a ring: which table it is, and the number of its places
 pub record Ringed : Type 0 where
   pub id : TableId
   pub places : ℕ
@@ -25,8 +25,9 @@ pub record Ringed : Type 0 where
 abbrev pub ringed : TableId → ℕ → Ringed
 ringed id places = record { id = id; places = places }
 
--- what a pass knows: its table and the ring's label, its hand, the blocks whose marks it keeps, how often its home
--- has published, how many passes are out, and what it has seen. A core has 0 for the two numbers
+-- a pass: its table and the ring's label, its hand, the blocks whose marks it keeps, the number of
+-- its home's publications, the number of passes that are out, and what it has seen. For a core the
+-- two numbers are 0
 pub record Held (T : Type 0) : Type 0 where
   pub table : TableId
   pub label : Name
@@ -36,7 +37,7 @@ pub record Held (T : Type 0) : Type 0 where
   pub out : ℕ
   pub trace : Trace
 
--- the tail that a home knows
+-- the tail, as a home knows it
 abbrev pub tail_of : Role → ℕ
 tail_of Spent = 0
 tail_of Start = 0
@@ -44,7 +45,7 @@ tail_of Core = 0
 tail_of (Home tail stored noted out) = tail
 tail_of (Closed gone) = 0
 
--- how many passes of a home are out
+-- the number of passes of a home that are out
 abbrev pub out_of : Role → ℕ
 out_of Spent = 0
 out_of Start = 0
@@ -52,7 +53,7 @@ out_of Core = 0
 out_of (Home tail stored noted out) = out
 out_of (Closed gone) = 0
 
--- what is seen of the view of a seat
+-- the view of a seat, as a pass
 abbrev pub held : {T : Type 0} → TableId → View T → Held T
 held id v = record {
   table = id;
@@ -84,18 +85,18 @@ HasAll places hand = (place : ℕ) → place < places → is_in place hand ≡ t
 abbrev pub newly_given : {T : Type 0} → Held T → Held T
 newly_given home = record home { hand = []; kept = []; count = 0; out = 0; trace = untraced }
 
--- a home that published this block at its place
+-- a home after it published this block at its place
 abbrev pub after_publish : {T : Type 0} → ℕ → T → Held T → Trace → Held T
 after_publish place block v trace =
     record v { hand = without place v.hand; kept = (place, block) ∷ v.kept; count = v.count + 1; trace = trace }
 
--- a core that gave this place back
+-- a core after it gave this place back
 abbrev pub after_give_back : {T : Type 0} → ℕ → Held T → Trace → Held T
 after_give_back place v trace = record v { hand = without place v.hand; trace = trace }
 
--- ---- what was seen in this call, which began after so many steps
+-- ---- what was found in this call, which began after `begin` steps
 
--- the head and then the tail were loaded, and these were found
+-- the head and then the tail were loaded, and had these values
 pub record Loaded (begin head tail : ℕ) (t : Trace) : Type 0 where
   pub head_value : t.head.value ≡ head
   pub tail_value : t.tail.value ≡ tail
@@ -103,7 +104,7 @@ pub record Loaded (begin head tail : ℕ) (t : Trace) : Type 0 where
   pub tail_step : t.head.step < t.tail.step
   pub last : t.tail.step ≤ t.steps
 
--- and after that the exchange of the head found this
+-- after that, the exchange found this value of the head
 pub record Tried (found : ℕ) (t : Trace) : Type 0 where
   pub value : t.tried.value ≡ found
   pub step : t.tail.step < t.tried.step
@@ -114,32 +115,32 @@ abbrev pub last_bell : ℕ → List (ℕ × Sight) → Sight
 last_bell word [] = sight 0 0
 last_bell word (x ∷ xs) = cond (word == x.0) x.1 (last_bell word xs)
 
--- the doorbell word was loaded, and this was found
+-- the doorbell word was loaded, and had this value
 abbrev pub Rang : ℕ → ℕ → ℕ → Trace → Type 0
 Rang begin word found t = ((last_bell word t.bells).value ≡ found) × (begin < (last_bell word t.bells).step)
 
 -- ---- answers
 
--- what is so where a place was taken
+-- if a place was taken, this holds of it and its block
 abbrev pub IfTook : {T : Type 0} → Claim T → (ℕ → T → Type 0) → Type 0
 IfTook (Took place block) P = P place block
 IfTook (Empty at) P = Unit {0}
 IfTook (Raced saw found) P = Unit {0}
 
--- nothing has changed but what the pass has seen
+-- the pass is unchanged except for what it has seen
 abbrev pub Unchanged : {T : Type 0} → Held T → Held T → Type 0
 Unchanged v w = w ≡ record v { trace = w.trace }
 
 module _ {T M : Type 0} (mark : T → M) (label : T → Name) (places : ℕ) (v w : Held T) where
-  -- the place has come into the hand, with a block that has the ring's label
+  -- the place is now in the hand, with a block that has the ring's label
   pub record Joined (place : ℕ) (block : T) : Type 0 where
     pub is : w ≡ record v { hand = place ∷ v.hand; kept = (place, block) ∷ v.kept; trace = w.trace }
     pub near : place < places
     pub apart : is_in place v.hand ≡ false
     pub labelled : label block ≡ v.label
 
-  -- took: the exchange found the head that was loaded. Empty: the tail was the head, and the head was still so at
-  -- that load. Raced: the exchange found another head
+  -- took: the exchange found the head that was loaded. Empty: the tail that was loaded was that
+  -- head, and the head still had that value at that moment. Raced: the exchange found another head
   abbrev pub Claimed : Claim T → Type 0
   Claimed (Took place block) = Joined place block × ((head tail : ℕ) × Loaded v.trace.steps head tail w.trace
       × (head < tail) × Tried head w.trace)
@@ -147,8 +148,8 @@ module _ {T M : Type 0} (mark : T → M) (label : T → Name) (places : ℕ) (v 
   Claimed (Raced saw found) = Unchanged v w × ((tail : ℕ) × Loaded v.trace.steps saw tail w.trace × (saw < tail))
       × Tried found w.trace × (found ≢ saw)
 
-  -- none: each doorbell word was loaded, and it was 0. Some: the words before that of the place were 0, and its bit
-  -- was the lowest
+  -- none: each doorbell word was loaded, and was 0. Some: the words before that of the place were
+  -- 0, and its bit was the lowest of its word
   abbrev pub Collected : Option (ℕ × T) → Type 0
   Collected None = Unchanged v w × ((word : ℕ) → word < bell_words places → Rang v.trace.steps word 0 w.trace)
   Collected (Some x) = Joined x.0 x.1
@@ -156,7 +157,7 @@ module _ {T M : Type 0} (mark : T → M) (label : T → Name) (places : ℕ) (v 
       × ((word : ℕ) → word < x.0 / 64 → Rang v.trace.steps word 0 w.trace)
       × ((i : ℕ) → i < x.0 % 64 → bit_at bits i ≡ 0))
 
-  -- the same of one doorbell word
+  -- the same for one doorbell word
   abbrev pub LookedAt : ℕ → Option (ℕ × T) → Type 0
   LookedAt word None = Unchanged v w × (w.trace ≡ bell_step word 0 v.trace)
   LookedAt word (Some x) = Joined x.0 x.1 × (x.0 / 64 ≡ word)
@@ -166,8 +167,8 @@ module _ {T M : Type 0} (mark : T → M) (label : T → Name) (places : ℕ) (v 
 -- ---- what is left at the end
 
 module _ {T M : Type 0} (mark : T → M) (label : T → Name) (places : ℕ) (v : Held T) where
-  -- the slot of each place of the home's hand has no block, and each other the block of its place, with the mark that
-  -- the home keeps and the ring's label
+  -- the slot of each place in the home's hand has no block. Each other slot has the block of its
+  -- place, with the mark that the home keeps and the ring's label
   pub record LeftSlots (slots : List (Option T)) : Type 0 where
     pub count : length slots ≡ places
     pub taken : (p : ℕ) → p < places → is_in p v.hand ≡ true → slice_get slots p ≡ Some None

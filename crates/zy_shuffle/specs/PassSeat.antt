@@ -1,4 +1,4 @@
--- What is so of the seats of passes between two calls. No public clause cites this module.
+-- The seats of passes between two calls. No public clause cites this module.
 use Rattle.std.specs.Prelude.{◌≡◌, ℕ, ◌+◌, ◌<◌, ◌≤◌, List, ◌∷◌, true, Option, Some, None, IfSome}
 use Rattle.atomic_table.specs.Seated.{TableId}
 use Rattle.zy_table.specs.Member.{is_in, without, IsDistinct}
@@ -12,11 +12,11 @@ use Rattle.zy_table.specs.declared.name.Name.{Name}
 use Rattle.zy_shuffle.specs.declared.claim.Claim.{Claim}
 use Rattle.zy_shuffle.specs.Pass.{Ringed, held, tail_of, out_of, Claimed, Collected, LookedAt, IfTook}
 
--- the table of a ring with so many places
+-- the table of a ring with `places` places
 abbrev pub IsRinged : TableId → ℕ → Type 0
 IsRinged id places = (id.slots ≡ places) × (id.words ≡ 32 + places + bell_words places) × (places ≤ 4096)
 
--- each place of the hand is one of the ring's
+-- each place of the hand is one of the ring
 abbrev pub Within : ℕ → List ℕ → Type 0
 Within places hand = (p : ℕ) → is_in p hand ≡ true → p < places
 
@@ -37,7 +37,7 @@ IsHomeSeat places tail m = (m.1 ≡ emptied m.0.hand)
 abbrev pub IsCoreSeat : {T : Type 0} → ℕ → Seated T → Type 0
 IsCoreSeat places m = (m.1 ≡ emptied m.0.hand) × (m.0.role ≡ Core) × Within places m.0.hand
 
--- the slot of this place lies in front
+-- the slot of this place is in front
 abbrev pub IsFront : Option ℕ → List ℕ → Type 0
 IsFront None hand = Unit {0}
 IsFront (Some p) hand = hand ≡ p ∷ rest_of hand
@@ -56,9 +56,9 @@ pub record IsBrought {T : Type 0} (place : ℕ) (m n : Seated T) : Type 0 where
   pub hand : n.0.hand ≡ place ∷ without place m.0.hand
   pub slots : n.1 ≡ emptied (place ∷ without place m.0.hand)
 
--- ---- what the private functions answer, by the seat before and after
+-- ---- the answers of private functions, by the seat before and after
 
--- the seat of a home, with the tail that another seat knew
+-- the seat of a home, with the tail as another seat knew it
 abbrev pub IsHomeAfter : {T : Type 0} → ℕ → Seated T → Seated T → Type 0
 IsHomeAfter places m n = IsHomeSeat places (tail_of m.0.role) n
 
@@ -80,6 +80,6 @@ module _ {T M : Type 0} (mark : T → M) (m : Seated T) where
   abbrev pub KeepsMark : Option (ℕ × T) → Type 0
   KeepsMark found = IfSome found (λ x. marked mark x.0 m.0.kept ≡ Some (mark x.1))
 
-  -- and so has one that the home claimed
+  -- so has one that the home claimed
   abbrev pub ClaimKeepsMark : Claim T → Type 0
   ClaimKeepsMark claim = IfTook claim (λ place block. IsHome m.0.role → marked mark place m.0.kept ≡ Some (mark block))

@@ -1,5 +1,5 @@
--- The rule of the shuffle queue: what is so of the words, the slots and the views of a ring's table between any two
--- steps.
+-- The rule of the shuffle queue, which holds of the words, the slots and the views of a ring's
+-- table between any two steps.
 use Rattle.std.specs.Prelude.{◌≡◌, ℕ, zero, suc, ◌+◌, ◌*◌, ◌/◌, ◌%◌, ◌<◌, ◌≤◌, List, [], ◌∷◌, length, Bool, true, false, slice_index}
 use Rattle.std.specs.Prelude as std
 use mathlib.Core.Option.{Option, none, some}
@@ -24,7 +24,7 @@ RingState T = State (std.Option T) (View T)
 -- ---- the queue
 
 module _ (words : List ℕ) (head tail m place : ℕ) where
-  -- a place that is in the queue as the k-th stands in the cell of k
+  -- the k-th place of the queue is in the cell of k
   abbrev pub InQueue : Holder → Type 0
   InQueue nobody = Unit {0}
   InQueue (in_queue k) = (head ≤ k) × (k < tail) × (cell words m k ≡ place)
@@ -32,17 +32,18 @@ module _ (words : List ℕ) (head tail m place : ℕ) where
   InQueue at_bell = Unit {0}
 
 module _ (words : List ℕ) (head tail m : ℕ) where
-  -- the cell that a seat noted still holds what it held, as long as the head has not passed it
+  -- the cell that a seat noted still has the value found there, as long as the head has not passed it
   abbrev pub IsNote : std.Option (ℕ × ℕ) → Type 0
   IsNote std.None = Unit {0}
   IsNote (std.Some x) = (x.0 < tail) × (head ≤ x.0 → cell words m x.0 ≡ x.1)
 
-  -- the cell of the next place to be published holds what the home stored there
+  -- the cell of the next place to be published has the place that the home stored there
   abbrev pub IsStored : std.Option ℕ → Type 0
   IsStored std.None = Unit {0}
   IsStored (std.Some place) = cell words m tail ≡ place
 
--- each bit that the home found to be 1 is that of a place which was given back, until the home clears it
+-- each bit that the home found to be 1 is that of a place which was given back, until the home
+-- clears it
 abbrev pub IsRung : ℕ → (ℕ → Holder) → std.Option (ℕ × ℕ) → Type 0
 IsRung m holders std.None = Unit {0}
 IsRung m holders (std.Some x) =
@@ -57,30 +58,30 @@ module _ {T M : Type 0} (mark : T → M) (label : T → Name) where
     HasBlock = (b : T) × (get_elem? homes place ≡ some (some (std.Some b))) × (marks place ≡ std.Some (mark b))
         × (label b ≡ name)
 
-    -- where the slot of a place is, by who has the place
+    -- the state of the slot of a place, by the holder of the place
     abbrev pub Lies : Holder → Type 0
     Lies nobody = get_elem? homes place ≡ some (some std.None)
     Lies (in_queue k) = HasBlock
     Lies (in_hand j) = get_elem? homes place ≡ some none
     Lies at_bell = HasBlock
 
-  -- what is so of one place
+  -- the rule of one place
   pub record PlaceRule (words : List ℕ) (homes : List (Option (std.Option T))) (head tail : ℕ)
       (marks : ℕ → std.Option M) (name : Name) (place : ℕ) (holder : Holder) : Type 0 where
     -- its slot is at home exactly where the place is in the queue or at its doorbell
     pub lies : Lies homes marks name place holder
-    -- its doorbell bit is 1 exactly where it was given back
+    -- its doorbell bit is 1 exactly where the place was given back
     pub rings : bell_at words (length homes) place ≡ bell holder
-    -- a place in the queue stands in its cell
+    -- a place in the queue is in its cell
     pub queued : InQueue words head tail (length homes) place holder
 
   -- ---- views
 
   module _ (words : List ℕ) (m head tail : ℕ) (holders : ℕ → Holder) (marks : ℕ → std.Option M) (name : Name)
       (count j : ℕ) (hand : List ℕ) (own_label : Name) (kept : List (ℕ × T)) where
-    -- what a seat knows by its role. Each role but a spent one and the first has the label of the ring, and the home
-    -- is seat 0. The home knows the tail, the passes that are out, the cell that it stored, the bits that it noted,
-    -- and the mark of every place
+    -- what a seat knows by its role. Each role except `Spent` and `Start` has the label of the
+    -- ring, and the home is seat 0. The home knows the tail, the passes that are out, the cell that
+    -- it stored, the bits that it noted, and the mark of every place
     abbrev pub IsRole : Role → Type 0
     IsRole Spent = hand ≡ []
     IsRole Start = (j ≡ 0) × (count ≡ 0) × (hand ≡ []) × (tail ≡ 0) × ((p : ℕ) → holders p ≡ nobody)
@@ -93,28 +94,29 @@ module _ {T M : Type 0} (mark : T → M) (label : T → Name) where
         × ((p : ℕ) → p < m → is_in p gone ≡ true → holders p ≡ nobody)
         × ((p : ℕ) → p < m → is_in p gone ≡ false → IsInTable (holders p))
 
-  -- what is so of the view of seat j
+  -- what seat j knows is true
   pub record Knows (words : List ℕ) (m head tail : ℕ) (holders : ℕ → Holder) (marks : ℕ → std.Option M) (name : Name)
       (count j : ℕ) (v : View T) : Type 0 where
     -- the places of its hand are in no other hand, nor in the queue, nor at their doorbells
     pub hand : (p : ℕ) → is_in p v.hand ≡ true → (p < m) × (holders p ≡ in_hand j)
-    -- its hand has each of them once
+    -- no place is in its hand twice
     pub apart : IsDistinct v.hand
-    -- and it keeps the marks that the home keeps for them
+    -- it keeps the marks that the home keeps for them
     pub same : (p : ℕ) → is_in p v.hand ≡ true → marked mark p v.kept ≡ marks p
-    -- the head that it saw is at most the head
+    -- the head that it saw is at most the head now
     pub head_seen : v.trace.head.value ≤ head
-    -- the tail that it saw is at most the tail
+    -- the tail that it saw is at most the tail now
     pub tail_seen : v.trace.tail.value ≤ tail
-    -- its note holds
+    -- its note is true
     pub note : IsNote words head tail m v.note
-    -- and what it knows by its role
+    -- what it knows by its role is true
     pub role : IsRole words m head tail holders marks name count j v.hand v.label v.kept v.role
 
   -- ---- the rule
 
   pub record ShuffleRule (s : RingState T) : Type 0 where
-    -- there are a head and a tail, a label, a holder of each place, and the mark that the home keeps for it
+    -- there are a head and a tail, a label, a holder for each place, and the mark that the home
+    -- keeps for it
     pub head : ℕ
     pub tail : ℕ
     pub name : Name
@@ -124,25 +126,26 @@ module _ {T M : Type 0} (mark : T → M) (label : T → Name) where
     pub wide : length s.words ≡ 32 + length s.homes + bell_words (length s.homes)
     pub head_is : slice_index s.words 0 ≡ head
     pub tail_is : slice_index s.words 16 ≡ tail
-    -- head and the number of places in the queue make the tail; so the tail is at least the head, and at most the
-    -- head and the number of places. That the home knows the tail stands in `IsRole`
+    -- the tail is the head plus the number of places in the queue; so it is at least the head, and
+    -- at most the head plus the number of places. That the home knows the tail is in `IsRole`
     pub sums : head + sum_below (length s.homes) (λ p. weight (holders p)) ≡ tail
     -- a ring without places has an empty queue
     pub barren : length s.homes ≡ 0 → tail ≡ 0
-    -- part 2: each cell from the head to the tail holds a place, and that place is in the queue as this one. So
-    -- different cells hold different places, in this order
+    -- part 2: each cell from the head to the tail has a place, and that place is in the queue at
+    -- this position. So different cells have different places, in this order
     pub each_cell : (k : ℕ) → head ≤ k → k < tail → (cell s.words (length s.homes) k < length s.homes)
         × (holders (cell s.words (length s.homes) k) ≡ in_queue k)
-    -- parts 3 and 4: each place has its one holder, and its slot lies where that says
+    -- parts 3 and 4: each place has one holder, and its slot is in the state that belongs to the holder
     pub each_place : (p : ℕ) → p < length s.homes → PlaceRule s.words s.homes head tail marks name p (holders p)
-    -- a place in the hand of a seat is in the hand of its view
+    -- a place in the hand of a seat is in the hand of that seat's view
     pub live : (p j : ℕ) → p < length s.homes → holders p ≡ in_hand j
         → (v : View T) × (get_elem? s.views j ≡ some v) × (is_in p v.hand ≡ true)
-    -- no bit is set that is of no place
+    -- each doorbell bit that is set belongs to a place
     pub blank : (p : ℕ) → length s.homes ≤ p → bell_at s.words (length s.homes) p ≡ 0
-    -- part 5, and what parts 1, 3 and 4 say of views: what each seat has seen, noted, stored and kept still holds
+    -- part 5, and what parts 1, 3 and 4 say of views: what each seat has seen, noted, stored and
+    -- kept is still true
     pub each_seat : (j : ℕ) (v : View T) → get_elem? s.views j ≡ some v
         → Knows s.words (length s.homes) head tail holders marks name (cores s.views) j v
-    -- each step is an event of the ownership machine, or none: what the table shows is a state that a run of the
-    -- machine reaches
+    -- each step is one event of the ownership machine, or no event: the state that the table shows
+    -- is one that a run of the machine reaches
     pub follows : Follows s.words (length s.homes) head tail holders

@@ -1,4 +1,4 @@
--- What each kind of step of a ring tells its seat. No public clause cites this module.
+-- What a seat learns from each kind of step of a ring. No public clause cites this module.
 use Rattle.std.specs.Prelude.{◌≡◌, ◌≢◌, ℕ, ◌+◌, ◌-◌, ◌<◌, ◌≤◌, List, [], ◌∷◌, false, Option, Some, None}
 use Rattle.atomic_table.specs.Table.{Me, Step, rest}
 use Rattle.zy_table.specs.declared.name.Name.{Name}
@@ -24,12 +24,12 @@ module _ {T : Type 0} where
   abbrev pub noting : ℕ → ℕ → View T → View T
   noting k found v = record v { note = Some (k, found); trace = plain_step v.trace }
 
-  -- the place came into the hand, with its block
+  -- the place is now in the hand, with its block
   abbrev pub taking : ℕ → T → ℕ → View T → View T
   taking p b found v =
       record v { hand = p ∷ v.hand; kept = (p, b) ∷ v.kept; note = None; trace = try_step found v.trace }
 
-  -- the home stored the place in the next cell, and its slot lies in front
+  -- the home stored the place in the next cell, and its slot is in front
   abbrev pub storing : ℕ → View T → View T
   storing p v = record v { role = with_stored p v.role; hand = p ∷ without p v.hand; trace = plain_step v.trace }
 
@@ -44,7 +44,7 @@ module _ {T : Type 0} where
     trace = plain_step v.trace;
   }
 
-  -- the slot of the place lies in front
+  -- the slot of the place is in front
   abbrev pub fronting : ℕ → ℕ → View T → View T
   fronting p found v = record v { hand = p ∷ without p v.hand; trace = head_step found v.trace }
 
@@ -57,7 +57,7 @@ module _ {T : Type 0} where
   noting_bells word found v =
       record v { role = with_bells (Some (word, found)) v.role; trace = bell_step word found v.trace }
 
-  -- the place came back into the home's hand, with its block
+  -- the place is back in the home's hand, with its block
   abbrev pub collecting : ℕ → T → View T → View T
   collecting p b v = record v {
     role = with_bells None v.role;
@@ -78,20 +78,20 @@ module _ {T : Type 0} where
   abbrev pub splitting : View T → View T
   splitting v = record v { role = one_more v.role }
 
-  -- which begins with an empty hand
+  -- the pass given, which begins with an empty hand
   abbrev pub newcomer : View T → View T
   newcomer v = fresh Core v.label
 
-  -- the home took a pass in
+  -- the home joined a pass
   abbrev pub taken_in : View T → View T → View T
   taken_in v w = record v { role = one_less v.role }
 
-  -- ---- what steps tell: step, seat before, number found, seat after
+  -- ---- what is learned: from the step, the seat before, the number found, to the seat after
 
   abbrev pub saw_head : Step (Option T) → Seated T → ℕ → Seated T → Type 0
   saw_head st m r n = n ≡ (traced (head_step r) m.0, m.1)
 
-  -- there is a head at that moment, and it is at most the tail
+  -- at that moment the head had some value, which is at most the tail
   abbrev pub saw_tail : Step (Option T) → Seated T → ℕ → Seated T → Type 0
   saw_tail st m r n = (u : ℕ) × (n ≡ (traced (tail_step r u) m.0, m.1)) × (m.0.trace.head.value ≤ u) × (u ≤ r)
       × (st.slots ≡ 0 → r ≡ 0)

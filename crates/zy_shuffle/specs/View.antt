@@ -1,4 +1,4 @@
--- What seats know, and how steps change what they have seen.
+-- What seats know, and how steps change it.
 use Rattle.std.specs.Prelude.{ℕ, ◌+◌, [], ◌∷◌, None}
 use Rattle.zy_table.specs.declared.name.Name.{Name}
 use Rattle.zy_table.specs.Name.{no_name}
@@ -18,7 +18,7 @@ sight found step = record { value = found; step = step }
 abbrev pub untraced : Trace
 untraced = record { steps = 0; head = sight 0 0; tail = sight 0 0; under = 0; tried = sight 0 0; bells = [] }
 
--- a step that is counted, and of which nothing else is kept
+-- a step that is counted, but of which nothing else is kept
 abbrev pub plain_step : Trace → Trace
 plain_step t = record t { steps = t.steps + 1 }
 
@@ -49,7 +49,7 @@ module _ {T : Type 0} where
   abbrev pub start : View T
   start = fresh Start no_name
 
-  -- a seat that was taken in
+  -- a seat that was joined
   abbrev pub spent : View T
   spent = fresh Spent no_name
 

@@ -12,7 +12,7 @@ pub fn each_event_keeps_owners_sound()
     ensures value { (home : ℕ) (s t : Owners) (e : Event) → IsSound s → happens home s e t → IsSound t }
 {}
 
-/// Every state that a run reaches is sound.
+/// Every state that a run reaches from the start is sound.
 #[tactic(auto, using(crate::proofs::OwnerLemmas::runs_sound))]
 pub fn runs_reach_sound_states()
     ensures value { (home : ℕ) (t : Owners) (events : List Event) → Runs home no_requests events t → IsSound t }
@@ -24,7 +24,7 @@ pub fn unfinished_requests_are_not_idle()
     ensures value { (s : Owners) (c : ℕ) → IsSound s → s.finished c < s.arrived c → s.places c ≢ idle }
 {}
 
-/// The head is at most the tail, and the tail at most the head and the number of places.
+/// The head is at most the tail, and the tail is at most the head plus the number of places.
 pub fn the_queue_is_bounded<T: Marked>()
     ensures value { (s : RingState T) (r : ShuffleRule T.mark T.label s) → IsBounded r.head r.tail (length s.homes) }
 {}
@@ -39,13 +39,15 @@ pub fn no_place_is_twice_in_the_queue<T: Marked>()
     ensures value { (s : RingState T) (r : ShuffleRule T.mark T.label s) → IsOnceQueued s r.head r.tail }
 {}
 
-/// A place in a hand is neither in the queue nor at its doorbell, and one in the queue is not at its doorbell.
+/// A place in a hand is neither in the queue nor at its doorbell, and a place in the queue is not
+/// at its doorbell.
 pub fn no_place_is_at_two_places<T: Marked>()
     ensures hand { (s : RingState T) (r : ShuffleRule T.mark T.label s) → HandsApart s r.head r.tail }
     ensures queue { (s : RingState T) (r : ShuffleRule T.mark T.label s) → QueueApart s r.head r.tail }
 {}
 
-/// What the table shows is a state that a run of the ownership machine reaches, and so a sound one.
+/// The state that the table shows is one that a run of the ownership machine reaches, and so a
+/// sound one.
 pub fn the_table_shows_a_sound_state<T: Marked>()
     ensures value { (s : RingState T) (r : ShuffleRule T.mark T.label s) → IsSound r.follows.owners }
 {}

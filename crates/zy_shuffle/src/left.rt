@@ -31,7 +31,7 @@ impl<T> Left<T> {
         items
     }
 
-    // The blocks in the slots of a closed table, for which there is room.
+    // The blocks in the slots of a closed table. The list has room for them.
     pub(crate) fn from_slots(closed: Closed<Option<T>, Global>, items: Vec<(u32, T)>) -> Left<T>
         requires full { IsFull closed.slots }
         requires few { slots_len closed.slots ≤ 4096 }
@@ -45,7 +45,7 @@ impl<T> Left<T> {
     }
 }
 
-// Adds the block of this place, where its slot has one.
+// Adds the block of this place, if its slot has one.
 fn add<T>(items: &mut Vec<(u32, T)>, place: u32, slot: Option<T>)
     requires room { vec_len items.old < vec_capacity items.old }
     ensures value { items.new.items ≡ items.old.items ++ one_left place slot }
@@ -57,7 +57,7 @@ fn add<T>(items: &mut Vec<(u32, T)>, place: u32, slot: Option<T>)
     }
 }
 
-// Takes each slot's value out, and frees the slots.
+// Takes the value out of each slot, and frees the slots.
 fn drain<T>(mut closed: Closed<Option<T>, Global>, mut items: Vec<(u32, T)>) -> Vec<(u32, T)>
     requires full { IsFull closed.slots }
     requires few { slots_len closed.slots ≤ 4096 }

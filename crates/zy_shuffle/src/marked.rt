@@ -1,11 +1,11 @@
-//! What blocks and rings have for contracts alone.
+//! The parts of blocks and rings that are for contracts alone.
 use std::marker::Brand;
 
-/// What each block has for contracts alone.
+/// The parts of a block that are for contracts alone.
 pub trait Marked {
     ghost use Rattle.zy_table.specs.declared.name.Name.{Name};
 
-    /// The type of its marks.
+    /// The type of marks.
     ghost Mark: { Type 0 };
 
     /// Its mark: what must not change while the block is away from its home.
@@ -15,8 +15,8 @@ pub trait Marked {
     ghost label: { Self → Name };
 }
 
-/// The label that the maker of a ring names, for contracts alone: by a marker type, which has no
-/// part at run time.
+/// The label that the maker of a ring names, for contracts alone. It is named by a marker type,
+/// which does not exist at run time.
 pub trait Label {
     ghost use Rattle.zy_table.specs.declared.name.Name.{Name};
 

@@ -2,15 +2,15 @@
 //!
 //! Its words, of a ring with `m` places:
 //!
-//! - word 0, the head: how often a place was claimed;
-//! - word 16, the tail: how often a place was published. Both have a cache line of their own;
-//! - words 32 to 31 + m, the cells: cell `k` modulo `m` holds the place that was published as the
-//!   `k`-th;
-//! - the words after them, the doorbells: bit `p` modulo 64 of word `p / 64` is 1 where place `p`
-//!   was given back.
+//! - word 0, the head: the number of times that a place was claimed;
+//! - word 16, the tail: the number of times that a place was published. Both have a cache line of
+//!   their own;
+//! - words 32 to 31 + m, the cells: cell `k` modulo `m` has the place that was published as the `k`-th;
+//! - the words after them, the doorbells: bit `p` modulo 64 of word `p / 64` is 1 while place `p`
+//!   has been given back and not collected.
 //!
-//! Its slots: slot `p` has the block of place `p`, or it is out with the seat whose hand has the
-//! place.
+//! Its slots: slot `p` has the block of place `p`, unless the slot is out with the seat whose hand
+//! has the place.
 ghost use Rattle.std.specs.Prelude.{◌≡◌, ◌≤◌};
 
 mod bells;
@@ -33,7 +33,7 @@ const TAIL: usize = 16;
 
 const CELLS: usize = 32;
 
-/// The rule of a ring's table: what is so between any two steps.
+/// The rule of a ring's table, which holds between any two steps.
 pub struct Shuffles;
 
 impl<T: Marked> TableRule<Option<T>, View<T>, ()> for Shuffles {
@@ -46,8 +46,8 @@ impl<T: Marked> TableRule<Option<T>, View<T>, ()> for Shuffles {
 }
 
 /// The queue of the ready connections of one home core, with the blocks of those that no core has.
-/// Its places `0 .. places - 1` stand for the home's connections, in rising order. It is shared by
-/// reference between threads; a pass is the right to make steps on it.
+/// Its places `0 .. places - 1` are the home's connections, in rising order. Threads share it by
+/// reference; a pass is the right to make steps on it.
 pub struct Ring<T: Marked> {
     table: Table<Option<T>, View<T>, (), Shuffles, Global>,
     places: u32,

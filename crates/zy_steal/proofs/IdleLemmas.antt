@@ -1,4 +1,4 @@
--- What a steal and a giving back leave of the passes: their tables, and in the end their hands.
+-- The passes after a steal and after a block was given back: their tables, and in the end their hands.
 use Rattle.std.proofs.Common.{◌≡◌, ℕ, zero, suc, List, [], ◌∷◌, length, map, set, Some, slice_get, refl, sym, ap, ◌∙◌, arith}
 use Rattle.atomic_table.specs.Seated.{TableId}
 use Rattle.zy_table.specs.declared.name.Name.{Name}
@@ -22,7 +22,7 @@ tables-set [] i s t e same = refl
 tables-set (x ∷ xs) zero s t e same = let is : x ≡ s = cc in ap (λ z. z ∷ tables_of xs) (same ∙ ap (λ (z : SeatOf). z.table) (sym is))
 tables-set (x ∷ xs) (suc i) s t e same = ap (λ l. x.table ∷ l) (tables-set xs i s t e same)
 
--- there are as many
+-- there is a table for each pass
 tables-length : (ss : List SeatOf) → length (tables_of ss) ≡ length ss
 tables-length [] = refl
 tables-length (x ∷ xs) = ap suc (tables-length xs)
@@ -34,13 +34,13 @@ module _ {T : Type 0} where
   tables-get (x ∷ xs) zero v e = let is : x ≡ v = cc in ap (λ (z : Held T). Some z.table) is
   tables-get (x ∷ xs) (suc i) v e = tables-get xs i v e
 
-  -- and each is that of a pass
+  -- each is the table of a pass
   some_of_table : (vs : List (Held T)) (i : ℕ) (z : TableId) → slice_get (tables_of (seats_of vs)) i ≡ Some z → (v : Held T) × (slice_get vs i ≡ Some v) × (v.table ≡ z)
   some_of_table [] i z e = absurd (cc)
   some_of_table (x ∷ xs) zero z e = (x, refl, cc)
   some_of_table (x ∷ xs) (suc i) z e = some_of_table xs i z e
 
-  -- passes whose tables are the same are of the same rings
+  -- passes with the same tables are passes on the same rings
   pub passes_tables : (rings : List Ringed) (p q : PassList T) → q.core ≡ p.core → tables_of (seats_of q.items) ≡ tables_of (seats_of p.items) → ArePasses rings p → ArePasses rings q
   passes_tables rings p q core same h = rw core (record {
     count = let a = ap length same in let b = seats-length p.items in let c = seats-length q.items in let d = tables-length (seats_of p.items) in let e = tables-length (seats_of q.items) in let f = h.count in omega arith;
@@ -50,13 +50,13 @@ module _ {T : Type 0} where
         sym old.2 ∙ h.tables at old.0 r old.1 there;
   })
 
-  -- a giving back leaves the passes of the same rings
+  -- giving a block back leaves the passes on the same rings
   pub gives_within : (rings : List Ringed) (p q : PassList T) (core place : ℕ) → q.core ≡ p.core → GivesTo p q core place → ArePasses rings p → ArePasses rings q
   gives_within rings p q core place same g h =
       passes_tables rings p q same (ap tables_of g.seats ∙ tables-set (seats_of p.items) (number_of p.core core) (seat_of g.before) _ (seats-get p.items (number_of p.core core) g.before g.was) refl) h
 
   module _ {M : Type 0} (mark : T → M) (label : T → Name) where
-    -- and so does a steal
+    -- so does a steal
     pub takes_within : (rings : List Ringed) (p q : PassList T) (core place : ℕ) (block : T) → q.core ≡ p.core → TakesFrom mark label p q core place block → ArePasses rings p → ArePasses rings q
     takes_within rings p q core place block same t h =
         passes_tables rings p q same (ap tables_of t.seats ∙ tables-set (seats_of p.items) (number_of p.core core) (seat_of t.before) (seat_of t.after) (seats-get p.items (number_of p.core core) t.before t.was) (ap (λ (s : SeatOf). s.table) t.seat)) h
@@ -73,7 +73,7 @@ module _ {T : Type 0} where
     pub takes_label : (z : Name) (p q : PassList T) (core place : ℕ) (block : T) → AreIdle z (seats_of p.items) → TakesFrom mark label p q core place block → label block ≡ z
     takes_label z p q core place block idle t = t.holds.labelled ∙ ap (λ (s : SeatOf). s.label) t.seat ∙ (idle_get z p.items (number_of p.core core) t.before idle t.was).0
 
-    -- once it was given back, the passes have what they had
+    -- once it was given back, the hands of the passes are as before
     pub given_back : (z : Name) (p q r : PassList T) (core place : ℕ) (block : T) → q.core ≡ p.core → AreIdle z (seats_of p.items) → TakesFrom mark label p q core place block → GivesTo q r core place → seats_of r.items ≡ seats_of p.items
     given_back z p q r core place block same idle t g =
         let at : ℕ = number_of p.core core in

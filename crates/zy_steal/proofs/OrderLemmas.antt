@@ -1,4 +1,4 @@
--- The order of victims is a turn round the numbers of the other cores.
+-- The order of victims goes once round the numbers of the other cores.
 use Rattle.std.proofs.Common.{add-one, length-append, zero, suc, List, [], ◌∷◌, ◌++◌, length, ◌≡◌, ◌≢◌, ℕ, ◌+◌, ◌-◌, ◌%◌, ◌<◌, ◌≤◌, cond, refl, sym, ap, ◌∙◌, arith}
 use Rattle.std.specs.Prelude.{nat_lt}
 use Rattle.std.proofs.lemmas.Bool.Decides.{nat_tests}
@@ -11,27 +11,27 @@ use Rattle.zy_steal.specs.Range.{turned}
 
 -- ---- other cores and their numbers
 
--- the other cores below this one have their own numbers
+-- another core below this one has its own number
 pub other-below : (core at : ℕ) → at < core → other_core core at ≡ at
 other-below core at lt = grind (arith, nat_tests)
 
--- those above are one further
+-- another core above this one has the number one below
 pub other-above : (core at : ℕ) → core ≤ at → other_core core at ≡ at + 1
 other-above core at le = grind (arith, nat_tests)
 
--- another core than this one
+-- no other core is this one
 pub other-differs : (core at : ℕ) → other_core core at ≢ core
 other-differs core at e = grind (arith, nat_tests)
 
--- the number of the other core with this number
+-- the core with a number among the others has that number
 pub number_of-other : (core at : ℕ) → number_of core (other_core core at) ≡ at
 number_of-other core at = grind (arith, nat_tests)
 
--- the other core with the number of this other core
+-- the number of another core is that of this core
 pub other-number_of : (core other : ℕ) → core ≢ other → other_core core (number_of core other) ≡ other
 other-number_of core other ne = grind (arith, nat_tests)
 
--- different numbers are of different cores
+-- different numbers belong to different cores
 pub others-apart : (core a b : ℕ) → a ≢ b → other_core core a ≢ other_core core b
 others-apart core a b ne e = ne (sym (number_of-other core a) ∙ ap (number_of core) e ∙ number_of-other core b)
 
@@ -43,11 +43,11 @@ mod_turn n k lt = dite (dec_lt k n)
     (λ below. let a : k % n ≡ k = mod-eq_of_lt below in grind (arith, nat_tests))
     (λ not. let a : k % n ≡ k - n = (let b : k ≡ (k - n) + n = omega arith in ap (λ x. x % n) b ∙ add-mod_right (k - n) n ∙ mod-eq_of_lt {n = k - n} {m = n} (omega arith)) in grind (arith, nat_tests))
 
--- the numbers of a turn are below the count
+-- the numbers of a turn are below `count`
 pub turned-below : (start count t : ℕ) → start < count → t < count → turned start count t < count
 turned-below start count t a b = grind (arith, nat_tests)
 
--- different times of a turn have different numbers
+-- a turn has different numbers at different times
 pub turned-apart : (start count t u : ℕ) → start < count → t < count → u < count → t ≢ u → turned start count t ≢ turned start count u
 turned-apart start count t u a b c ne e = grind (arith, nat_tests)
 
@@ -67,11 +67,11 @@ victim_is cores core m start t near few is =
 
 -- ---- the order as a list
 
--- one victim more
+-- one further victim
 pub first_victims-more : (cores core m t : ℕ) → first_victims cores core m (t + 1) ≡ first_victims cores core m t ++ victim cores core m t ∷ []
 first_victims-more cores core m t = rw add-one refl
 
--- there are as many as turns
+-- there is a victim for each turn
 pub length-first_victims : (cores core m t : ℕ) → length (first_victims cores core m t) ≡ t
 length-first_victims cores core m zero = refl
 length-first_victims cores core m (suc t) = let a = length-first_victims cores core m t in length-append (first_victims cores core m t) (victim cores core m t ∷ []) ∙ omega arith

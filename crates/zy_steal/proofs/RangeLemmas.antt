@@ -24,7 +24,7 @@ module _ {T : Type 0} where
   pub ranges_start : (core : ℕ) (vs : List (Held T)) (looks : List (Option Look)) (from : ℕ) → Ranges core vs vs looks looks from from
   ranges_start core vs looks from = record { seats = refl; looked = λ k ge lt. absurd (omega arith); rest = λ k out. refl; others = λ c free. refl }
 
-  -- one claim more, which took nothing
+  -- one further claim, which took nothing
   pub ranges_on : (core : ℕ) (vs ws us : List (Held T)) (a b c : List (Option Look)) (from at : ℕ) → from ≤ at → Ranges core vs ws a b from at → MissesAt core ws us b c at → Ranges core vs us a c from (at + 1)
   ranges_on core vs ws us a b c from at ge r m =
       let seat = found_seat m.before m.after m.look m.found in
@@ -48,7 +48,7 @@ module _ {T : Type 0} where
             ∙ r.others other (λ k le lt. free k le (omega arith));
       }
 
-  -- one range behind the other: first the later numbers, then the earlier ones
+  -- one range after the other: first the later numbers, then the earlier ones
   pub ranges_both : (core : ℕ) (vs ws us : List (Held T)) (a b c : List (Option Look)) (start count : ℕ) → start ≤ count → count ≡ length vs → Ranges core vs ws a b start count → Ranges core ws us b c 0 start → Ranges core vs us a c 0 count
   ranges_both core vs ws us a b c start count le whole r q = record {
     seats = q.seats ∙ r.seats;

@@ -15,24 +15,24 @@ module _ {T : Type 0} where
   seats-set (x ∷ xs) zero v = refl
   seats-set (x ∷ xs) (suc i) v = ap (λ l. seat_of x ∷ l) (seats-set xs i v)
 
-  -- the seat of one pass
+  -- the seat of the pass at a number
   pub seats-get : (vs : List (Held T)) (i : ℕ) (v : Held T) → slice_get vs i ≡ Some v → slice_get (seats_of vs) i ≡ Some (seat_of v)
   seats-get [] i v e = cc
   seats-get (x ∷ xs) zero v e = let is : x ≡ v = cc in ap (λ (z : Held T). Some (seat_of z)) is
   seats-get (x ∷ xs) (suc i) v e = seats-get xs i v e
 
-  -- there are as many
+  -- there is a seat for each pass
   pub seats-length : (vs : List (Held T)) → length (seats_of vs) ≡ length vs
   seats-length [] = refl
   seats-length (x ∷ xs) = ap suc (seats-length xs)
 
-  -- and each is that of a pass
+  -- each is the seat of a pass
   some_of_seat : (vs : List (Held T)) (i : ℕ) (s : SeatOf) → slice_get (seats_of vs) i ≡ Some s → (v : Held T) × (slice_get vs i ≡ Some v) × (seat_of v ≡ s)
   some_of_seat [] i s e = absurd (cc)
   some_of_seat (x ∷ xs) zero s e = (x, refl, cc)
   some_of_seat (x ∷ xs) (suc i) s e = some_of_seat xs i s e
 
-  -- passes whose seats are the same are of the same rings
+  -- passes with the same seats are passes on the same rings
   pub passes_same : (rings : List Ringed) (core : ℕ) (vs ws : List (Held T)) → seats_of ws ≡ seats_of vs → ArePasses rings (pass_list core vs) → ArePasses rings (pass_list core ws)
   passes_same rings core vs ws same h = record {
     count = let a = ap length same in let b = seats-length vs in let c = seats-length ws in let d = h.count in omega arith;
@@ -46,11 +46,11 @@ module _ {T : Type 0} where
   pub count_same : (vs ws : List (Held T)) → seats_of ws ≡ seats_of vs → length ws ≡ length vs
   count_same vs ws same = let a = ap length same in let b = seats-length vs in let c = seats-length ws in omega arith
 
-  -- the pass with a number that the others have stands in the list
+  -- the pass at a number that is read with a default is the pass in the list
   pub pass_at : (vs : List (Held T)) (at : ℕ) (v pass : Held T) → slice_get vs at ≡ Some pass → v ≡ get_or vs at v → pass ≡ v
   pass_at vs at v pass there is = let here = get_at vs at v v (get_below vs at pass there) is in let same : Some pass ≡ Some v = sym there ∙ here in cc
 
-  -- it is of the ring of its core
+  -- it is on the ring of its core
   pub table_is : (rings : List Ringed) (core : ℕ) (vs : List (Held T)) (at : ℕ) (v : Held T) (r : Ringed) → ArePasses rings (pass_list core vs) → at < length vs → v ≡ get_or vs at v → slice_get rings (other_core core at) ≡ Some r → v.table ≡ r.id
   table_is rings core vs at v r h lt is there = h.tables at v r (get_at vs at v v lt is) there
 
@@ -63,7 +63,7 @@ module _ {T : Type 0} where
   }
 
   module _ {M : Type 0} (mark : T → M) (label : T → Name) where
-    -- what giving back asks of the pass on the ring of this core
+    -- what giving a block back requires of the pass on the ring of this core
     pub asks_of : (rings : List Ringed) (core victim at place : ℕ) (block : T) (vs : List (Held T)) (v : Held T) (r : Ringed) → ArePasses rings (pass_list core vs) → core ≢ victim → HoldsOf mark label (pass_list core vs) victim place block
         → at ≡ number_of core victim → v ≡ get_or vs at v → slice_get rings victim ≡ Some r → (v.table ≡ r.id) × Holds mark label v place block × (slice_get vs at ≡ Some v)
     asks_of rings core victim at place block vs v r h ne holds is here ring =

@@ -1,4 +1,4 @@
--- A turn of claims round the other cores, and what it tells a thief.
+-- A turn of claims round the other cores, and what a thief learns from it.
 use Rattle.std.proofs.Common.{inl, inr, ◌≡◌, ◌≢◌, ℕ, ◌+◌, ◌-◌, ◌%◌, ◌<◌, ◌≤◌, List, length, set, slice_get, sym, ap, ◌∙◌, arith}
 use Rattle.std.specs.Prelude.{Option, Some, None}
 use Rattle.std.proofs.lemmas.Bool.Decides.{nat_tests}
@@ -23,11 +23,11 @@ use Rattle.zy_steal.proofs.OrderLemmas.{number_of-other, victim_is}
 use Rattle.zy_steal.proofs.SeatLemmas.{seats-set}
 use Rattle.zy_steal.proofs.RangeLemmas.{ranges_both}
 
--- the first numbers of a turn
+-- the numbers of a turn before it passes the end
 turned-early : (start count t : ℕ) → start + t < count → turned start count t ≡ start + t
 turned-early start count t lt = grind (arith, nat_tests)
 
--- and those behind the end
+-- the numbers of a turn after it passed the end
 turned-late : (start count t : ℕ) → count ≤ start + t → turned start count t ≡ start + t - count
 turned-late start count t le = grind (arith, nat_tests)
 
@@ -94,7 +94,7 @@ module _ {T M : Type 0} (mark : T → M) (label : T → Name) where
   turns_late core vs ms ws a b c start count None le whole r s = ranges_both core vs ms ws a b c start count le whole r s
   turns_late core vs ms ws a b c start count (Some taken) le whole r s = stops_late core vs ms ws a b c start count taken le r s
 
-  -- ---- what a turn tells a thief
+  -- ---- what a thief learns from a turn
 
   -- the block that was taken
   pub takes_from : (p q : PassList T) (start : ℕ) (taken : Taken T) → StopsInTurn mark label p.core p.items q.items start (length p.items) taken → TakesFrom mark label p q (other_core p.core taken.at) taken.place taken.block
@@ -116,7 +116,7 @@ module _ {T M : Type 0} (mark : T → M) (label : T → Name) where
         };
       }
 
-  -- its core has its turn
+  -- its core is that of one turn
   pub in_turn : (h : Thief) (p q : PassList T) (start : ℕ) (taken : Taken T) → h.core ≡ p.core → h.core < h.cores → length p.items + 1 ≡ h.cores → IsFirst h start → StopsInTurn mark label p.core p.items q.items start (length p.items) taken → InTurn h p q (other_core p.core taken.at)
   in_turn h p q start taken core near count first s =
       let few = s.few in
@@ -132,7 +132,7 @@ module _ {T M : Type 0} (mark : T → M) (label : T → Name) where
         later = λ t lt more. ap (slice_get q.items) (number t (omega arith)) ∙ s.later t lt (omega arith) ∙ ap (slice_get p.items) (sym (number t (omega arith)));
       }
 
--- a whole turn looked at each other core
+-- a whole turn made a claim at each other core
 pub all_looked : {T : Type 0} (p q : PassList T) (a b : List (Option Look)) → IsBlank a → Ranges p.core p.items q.items a b 0 (length p.items) → AllLooked p q b
 all_looked p q a b blank r = record {
   seats = r.seats;
@@ -140,6 +140,6 @@ all_looked p q a b blank r = record {
   others = λ core free. r.others core (λ at _ lt. free at lt) ∙ blank core;
 }
 
--- where a thief begins
+-- the number with which a thief begins
 pub first_is : (core calls n : ℕ) → (core + calls % n) % n ≡ (core + calls) % n
 first_is core calls n = add-mod-mod core calls n

@@ -1,8 +1,8 @@
--- What a core found at the others.
+-- What a core found at the other cores.
 use Rattle.std.specs.Prelude.{◌≡◌, ◌≢◌, ℕ, List, Option, Some, None, slice_get}
 use Rattle.zy_steal.specs.declared.looks.Look.{Look}
 
--- the look that was noted, where one was
+-- the look that was noted, if one was
 abbrev pub noted : Option (Option Look) → Option Look
 noted None = None
 noted (Some look) = look

@@ -1,12 +1,12 @@
--- The order in which a core looks at the others.
+-- The order in which a core looks at the other cores.
 use Rattle.std.specs.Prelude.{ℕ, zero, suc, ◌+◌, ◌-◌, ◌%◌, List, [], ◌∷◌, ◌++◌, nat_lt, if◌then◌else◌}
 
--- the t-th core that a core looks at in its m-th steal call, among so many cores: all others in turn, and each call
--- begins with the next one
+-- where there are `cores` cores, the t-th core that a core looks at in its m-th steal call: a call
+-- goes once round the other cores, and begins one further than the call before it
 abbrev pub victim : ℕ → ℕ → ℕ → ℕ → ℕ
 victim cores core m t = (core + 1 + (m + t) % (cores - 1)) % cores
 
--- the first of them
+-- the first t of them
 abbrev pub first_victims : ℕ → ℕ → ℕ → ℕ → List ℕ
 first_victims cores core m zero = []
 first_victims cores core m (suc t) = first_victims cores core m t ++ victim cores core m t ∷ []
@@ -19,6 +19,6 @@ order_of cores core m = first_victims cores core m (cores - 1)
 abbrev pub other_core : ℕ → ℕ → ℕ
 other_core core at = if nat_lt at core then at else at + 1
 
--- and the number of another core among the others
+-- the number of another core among the others
 abbrev pub number_of : ℕ → ℕ → ℕ
 number_of core other = if nat_lt other core then other else other - 1

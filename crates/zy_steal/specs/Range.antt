@@ -1,4 +1,4 @@
--- What claims by several passes, one after the other, do. No public clause cites this module.
+-- Claims by several passes, one after the other. No public clause cites this module.
 use Rattle.std.specs.Prelude.{◌≡◌, ◌≢◌, ◌⊎◌, ℕ, ◌+◌, ◌-◌, ◌%◌, ◌<◌, ◌≤◌, List, Option, Some, None, slice_get, slice_set, nat_lt, if◌then◌else◌}
 use Rattle.zy_table.specs.declared.name.Name.{Name}
 use Rattle.zy_shuffle.specs.declared.claim.Claim.{Claim}
@@ -31,7 +31,8 @@ pub record MissesAt {T : Type 0} (core : ℕ) (vs ws : List (Held T)) (looks loo
   pub found : Found before after look
   pub notes : Notes (other_core core at) look looks looks'
 
--- the passes from one number on to another made claims that took nothing, and the others did nothing
+-- the passes from one number to another made claims that took nothing, and the other passes made no
+-- step
 pub record Ranges {T : Type 0} (core : ℕ) (vs ws : List (Held T)) (looks looks' : List (Option Look))
     (from to : ℕ) : Type 0 where
   pub seats : seats_of ws ≡ seats_of vs
@@ -40,7 +41,7 @@ pub record Ranges {T : Type 0} (core : ℕ) (vs ws : List (Held T)) (looks looks
   pub others : (other : ℕ) → ((at : ℕ) → from ≤ at → at < to → other_core core at ≢ other)
       → look_at looks' other ≡ look_at looks other
 
--- one of them took a block, and those before it nothing
+-- one of them took a block, and the claims before it took nothing
 pub record StopsAt {T M : Type 0} (mark : T → M) (label : T → Name) (core : ℕ) (vs ws : List (Held T))
     (looks looks' : List (Option Look)) (from to : ℕ) (taken : Taken T) : Type 0 where
   pub middle : List (Held T)
@@ -66,7 +67,7 @@ module _ {T M : Type 0} (mark : T → M) (label : T → Name) (core : ℕ) (vs w
 abbrev pub turned : ℕ → ℕ → ℕ → ℕ
 turned start count t = if nat_lt (start + t) count then start + t else start + t - count
 
--- a block was taken at the t-th number of a turn, and those before it took nothing
+-- a block was taken at the t-th number of a turn, and the claims before it took nothing
 pub record StopsInTurn {T M : Type 0} (mark : T → M) (label : T → Name) (core : ℕ) (vs ws : List (Held T))
     (start count : ℕ) (taken : Taken T) : Type 0 where
   pub turn : ℕ

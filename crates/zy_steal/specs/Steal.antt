@@ -1,4 +1,4 @@
--- What contracts see of one core's passes on the rings of the others, and what a steal does to them.
+-- The views of one core's passes on the rings of the others, and the effect of a steal on them.
 use Rattle.std.specs.Prelude.{◌≡◌, ◌≢◌, ℕ, ◌+◌, ◌<◌, List, [], ◌∷◌, length, map, slice_get, slice_set, Option, Some, None, true}
 use Rattle.atomic_table.specs.Seated.{TableId}
 use Rattle.zy_table.specs.declared.name.Name.{Name}
@@ -14,7 +14,7 @@ use Rattle.zy_steal.specs.Order.{victim, other_core, number_of}
 
 -- ---- passes
 
--- the passes of a core: one on each other core's ring, by rising core
+-- the passes of a core: one on each other core's ring, by rising number of core
 pub record PassList (T : Type 0) : Type 0 where
   pub core : ℕ
   pub items : List (Held T)
@@ -22,7 +22,7 @@ pub record PassList (T : Type 0) : Type 0 where
 abbrev pub pass_list : {T : Type 0} → ℕ → List (Held T) → PassList T
 pass_list core items = record { core = core; items = items }
 
--- who steals: its core, how many cores there are, and how often it has tried
+-- a thief: its core, the number of cores, and the number of its steal calls so far
 pub record Thief : Type 0 where
   pub core : ℕ
   pub cores : ℕ
@@ -38,38 +38,39 @@ pub record ArePasses {T : Type 0} (rings : List Ringed) (p : PassList T) : Type 
   pub tables : (at : ℕ) (v : Held T) (r : Ringed) → slice_get p.items at ≡ Some v
       → slice_get rings (other_core p.core at) ≡ Some r → v.table ≡ r.id
 
--- another core than this one, among so many
+-- another of the `cores` cores than this one
 abbrev pub IsOther : ℕ → ℕ → ℕ → Type 0
 IsOther core cores other = (other < cores) × (core ≢ other)
 
--- what a claim that takes nothing leaves of a pass: its table, its label and its hand
+-- the parts of a pass that a claim which takes nothing leaves as they were: its table, its label
+-- and its hand
 pub record SeatOf : Type 0 where
   pub table : TableId
   pub label : Name
   pub hand : List ℕ
 
--- that of one pass
+-- those of one pass
 abbrev pub seat_of : {T : Type 0} → Held T → SeatOf
 seat_of v = record { table = v.table; label = v.label; hand = v.hand }
 
--- those of all
+-- those of all passes
 abbrev pub seats_of : {T : Type 0} → List (Held T) → List SeatOf
 seats_of vs = map seat_of vs
 
--- the passes have this label, and nothing is in their hands
+-- the passes have this label, and nothing in their hands
 abbrev pub AreIdle : Name → List SeatOf → Type 0
 AreIdle label [] = Unit {0}
 AreIdle label (s ∷ ss) = (s.label ≡ label) × (s.hand ≡ []) × AreIdle label ss
 
 -- ---- blocks in the hand of a pass
 
--- the block of a place is with this pass, as it was when it was claimed
+-- the block of a place is in the hand of this pass, as it was when it was claimed
 pub record Holds {T M : Type 0} (mark : T → M) (label : T → Name) (v : Held T) (place : ℕ) (block : T) : Type 0 where
   pub hand : is_in place v.hand ≡ true
   pub labelled : label block ≡ v.label
   pub kept : marked mark place v.kept ≡ Some (mark block)
 
--- it is with the pass on the ring of this core
+-- it is in the hand of the pass on the ring of this core
 pub record HoldsOf {T M : Type 0} (mark : T → M) (label : T → Name) (p : PassList T) (core place : ℕ)
     (block : T) : Type 0 where
   pub pass : Held T
@@ -96,7 +97,7 @@ pub record GivesTo {T : Type 0} (p q : PassList T) (core place : ℕ) : Type 0 w
 
 -- ---- looks
 
--- a claim by the pass took nothing, and this is why: by the steps that the pass made in it
+-- a claim by the pass took nothing, for a reason that its steps in this claim show
 abbrev pub Found : {T : Type 0} → Held T → Held T → Look → Type 0
 Found v w (Empty at) = Unchanged v w × Loaded v.trace.steps at at w.trace × (w.trace.under ≡ at)
 Found v w (Raced saw found) = Unchanged v w × ((tail : ℕ) × Loaded v.trace.steps saw tail w.trace × (saw < tail))
@@ -107,7 +108,7 @@ abbrev pub Looked : {T : Type 0} → ℕ → List (Held T) → List (Held T) →
 Looked {T} core vs ws looks at = (v w : Held T) → slice_get vs at ≡ Some v → slice_get ws at ≡ Some w
     → (look : Look) × (look_at looks (other_core core at) ≡ Some look) × Found v w look
 
--- a look at each other core was made, and no other is noted
+-- a claim was made at each other core, and no other look is noted
 pub record AllLooked {T : Type 0} (p q : PassList T) (looks : List (Option Look)) : Type 0 where
   pub seats : seats_of q.items ≡ seats_of p.items
   pub looked : (at : ℕ) → Looked p.core p.items q.items looks at
@@ -115,18 +116,18 @@ pub record AllLooked {T : Type 0} (p q : PassList T) (looks : List (Option Look)
 
 -- ---- the answer
 
--- what is so where a block was taken from this core
+-- if a block was taken, this holds of its core, its place and it
 abbrev pub IfStolen : {T : Type 0} → Stolen T → (ℕ → ℕ → T → Type 0) → Type 0
 IfStolen (Took core place block) P = P core place block
 IfStolen (Nothing looks) P = Unit {0}
 
--- what is so where nothing was taken
+-- if nothing was taken, this holds of the looks
 abbrev pub IfNothing : {T : Type 0} → Stolen T → (List (Option Look) → Type 0) → Type 0
 IfNothing (Took core place block) P = Unit {0}
 IfNothing (Nothing looks) P = P looks
 
--- the core is that of one turn of the order. At the cores of earlier turns a claim was made, which took nothing, and
--- at those of later turns none
+-- the core is that of one turn of the order. Claims at the cores of earlier turns took nothing, and
+-- at those of later turns no claim was made
 pub record InTurn {T : Type 0} (h : Thief) (p q : PassList T) (core : ℕ) : Type 0 where
   pub turn : ℕ
   pub few : turn + 1 < h.cores

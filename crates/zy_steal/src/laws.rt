@@ -1,4 +1,5 @@
-//! Laws of the order of victims, of a steal and of the giving back that follows it, as contracts of functions without a body.
+//! Laws of the order of victims, of a steal, and of giving the stolen block back, as contracts of
+//! functions without a body.
 ghost use Rattle.std.specs.Prelude.{◌≡◌, ℕ, [], ◌∷◌};
 ghost use Rattle.zy_table.specs.declared.name.Name.{Name};
 ghost use Rattle.zy_steal.specs.Order.{order_of};
@@ -12,15 +13,15 @@ pub fn a_stolen_block_has_the_label<T: Marked>()
         → TakesFrom T.mark T.label p q core place block → T.label block ≡ label }
 {}
 
-/// Once a stolen block was given back, the passes have in their hands what they had before: nothing.
+/// Once a stolen block was given back, the hands of the passes are as before: empty.
 pub fn a_block_given_back_leaves_the_hands<T: Marked>()
     ensures value { (label : Name) (p q r : PassList T) (core place : ℕ) (block : T) → q.core ≡ p.core
         → AreIdle label (seats_of p.items) → TakesFrom T.mark T.label p q core place block → GivesTo q r core place
         → seats_of r.items ≡ seats_of p.items }
 {}
 
-/// Worked orders: whom a core looks at in a steal call, by how many cores there are, its own number, and how often it
-/// has tried.
+/// Worked orders: the cores that a core looks at in a steal call, by the number of cores, its own
+/// number, and the number of its earlier calls.
 pub fn worked_orders()
     ensures alone { order_of 1 0 7 ≡ [] }
     ensures other { order_of 2 1 9 ≡ 0 ∷ [] }

@@ -1,4 +1,4 @@
-//! What a core found at the others.
+//! What a core found at the other cores.
 ghost use Rattle.std.specs.Prelude.{◌≡◌, ◌<◌};
 ghost use Rattle.zy_steal.specs.Look.{look_at, IsBlank, Notes};
 
@@ -13,7 +13,7 @@ pub enum Look {
     Raced { saw: u64, found: u64 },
 }
 
-/// The look at each core of at most 64, where there was one. It takes no memory.
+/// The look at each of at most 64 cores, where there was one. It takes no memory.
 #[derive(Drop)]
 pub struct Looks {
     looks: [Option<Look>; 64],
@@ -36,7 +36,7 @@ impl Looks {
         Looks { looks: [None; 64] }
     }
 
-    /// The look at this core; `None` exactly where there was none.
+    /// The look at this core; `None` exactly if there was none.
     pub fn look(&self, core: u32) -> Option<Look>
         ensures value { result ≡ look_at self.now core }
     {

@@ -1,4 +1,4 @@
-//! The order in which a core looks at the others.
+//! The order in which a core looks at the other cores.
 ghost use Rattle.std.specs.Prelude.{◌≡◌, ◌+◌, ◌<◌, ◌≤◌, [], ◌∷◌, ◌++◌, length};
 
 use arrayvec::ArrayVec;
@@ -29,7 +29,7 @@ impl Order {
         }
     }
 
-    // One core more.
+    // One further core.
     pub(crate) fn push(&mut self, core: u32)
         requires few { length self.old < 64 }
         ensures value { self.new ≡ self.old ++ core ∷ [] }

@@ -12,8 +12,8 @@ use std::marker::Model;
 use zy_base::NoMemory;
 use zy_shuffle::{Claim, CorePass, Marked};
 
-/// One core's passes on the rings of the other cores. Contracts see the core, and the list of the passes by rising
-/// core.
+/// One core's passes on the rings of the other cores. Contracts see the core, and the list of the
+/// passes by rising number of core.
 #[derive(Drop)]
 pub struct Passes<T> {
     core: u32,
@@ -51,7 +51,7 @@ impl<T: Marked> Passes<T> {
         }
     }
 
-    /// Takes the first pass; `None` exactly where there is none. Takes no memory.
+    /// Takes the first pass; `None` exactly if there is none. Takes no memory.
     pub fn next(&mut self) -> Option<CorePass<T>>
         ensures kept { self.new.core ≡ self.old.core }
         ensures value { self.old.items ≡ option_to_list result ++ self.new.items }
@@ -63,7 +63,7 @@ impl<T: Marked> Passes<T> {
         Some(self.items.remove(0))
     }
 
-    /// Gives a block back to the core that it was taken from. Can't fail, and takes no memory.
+    /// Gives a block back to the core from which it was taken. It cannot fail, and takes no memory.
     pub fn give_back(&mut self, rings: &Rings<T>, victim: u32, place: u32, block: T)
         requires within { ArePasses rings.now self.old }
         requires other { IsOther self.old.core (length rings.now) victim }
@@ -77,7 +77,8 @@ impl<T: Marked> Passes<T> {
         ring.give_back(&mut self.items[at as usize], place, block);
     }
 
-    // One claim by each pass, in a turn that begins with the pass of this number, until one took.
+    // One claim by each pass, in a turn that begins with the pass of this number, until one takes a
+    // block.
     pub(crate) fn turn(
         &mut self,
         rings: &Rings<T>,
@@ -98,7 +99,7 @@ impl<T: Marked> Passes<T> {
         }
     }
 
-    // One claim by each pass from one number on to another, until one took.
+    // One claim by each pass from one number to another, until one takes a block.
     fn range(&mut self, rings: &Rings<T>, from: u32, to: u32, looks: &mut Looks) -> Option<Taken<T>>
         requires within { ArePasses rings.now self.old }
         requires few { length rings.now ≤ 64 }
@@ -117,7 +118,7 @@ impl<T: Marked> Passes<T> {
         None
     }
 
-    // One claim by the pass of this number. Where it took nothing, the look is noted.
+    // One claim by the pass of this number. If it takes nothing, the look is noted.
     fn look(&mut self, rings: &Rings<T>, at: u32, looks: &mut Looks) -> Option<Taken<T>>
         requires within { ArePasses rings.now self.old }
         requires few { length rings.now ≤ 64 }

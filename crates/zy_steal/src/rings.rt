@@ -6,7 +6,7 @@ use std::marker::Model;
 use zy_base::NoMemory;
 use zy_shuffle::{Marked, Ring};
 
-/// The rings of all cores. Contracts see it as the list of them, by the numbers of the cores.
+/// The rings of all cores. Contracts see it as the list of them, by the numbers of their cores.
 pub struct Rings<T: Marked> {
     items: Vec<Ring<T>>,
 }
@@ -64,7 +64,7 @@ impl<T: Marked> Rings<T> {
         self.items.len()
     }
 
-    /// Takes the first ring; `None` exactly where there is none. Takes no memory.
+    /// Takes the first ring; `None` exactly if there is none. Takes no memory.
     pub fn next(&mut self) -> Option<Ring<T>>
         ensures value { self.old ≡ option_to_list result ++ self.new }
         ensures none { IfNone result (self.old ≡ []) }

@@ -12,7 +12,7 @@ use crate::rings::Rings;
 use std::marker::Model;
 use zy_shuffle::Marked;
 
-/// What a steal call answers.
+/// The answer of a steal call.
 #[derive(Drop)]
 pub enum Stolen<T> {
     /// A block of this victim, whose place is now in the hand of the pass on the victim's ring.
@@ -21,7 +21,8 @@ pub enum Stolen<T> {
     Nothing { looks: Looks },
 }
 
-/// One core as a thief: among so many cores, and how often it has tried. Contracts see these numbers.
+/// One core as a thief: its number, the number of cores, and the number of its calls so far.
+/// Contracts see these numbers.
 #[derive(Drop)]
 pub struct Victims {
     core: u32,
@@ -41,7 +42,7 @@ impl Model for Victims {
 }
 
 impl Victims {
-    /// A core among so many, that has not tried yet.
+    /// Core `core` of `cores`, before its first call.
     pub fn new(core: u32, cores: u32) -> Victims
         requires within { core < cores }
         requires few { cores ≤ 64 }
@@ -67,7 +68,7 @@ impl Victims {
         order
     }
 
-    /// One claim at each other core, in that order, until one took.
+    /// One claim at each other core, in that order, until one takes a block.
     pub fn steal<T: Marked>(&mut self, rings: &Rings<T>, passes: &mut Passes<T>) -> Stolen<T>
         requires within { ArePasses rings.now passes.old }
         requires core { passes.old.core ≡ self.old.core }
@@ -81,7 +82,7 @@ impl Victims {
         ensures taken { IfStolen result (TakesFrom T.mark T.label passes.old passes.new) }
         ensures order { IfStolen result (λ c _ _. InTurn self.old passes.old passes.new c) }
 
-        // Nothing: a claim at each other core took nothing, and each look tells why.
+        // Nothing: a claim at each other core took nothing, and each look says why.
         ensures none { IfNothing result (AllLooked passes.old passes.new) }
     {
         let mut looks = Looks::new();
@@ -98,7 +99,7 @@ impl Victims {
         }
     }
 
-    // The number among the others of the first core that the next call looks at.
+    // The number, among the other cores, of the first core that the next call looks at.
     fn first(&self) -> u32
         ensures value { IsFirst self.now result }
     {

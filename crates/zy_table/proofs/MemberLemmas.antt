@@ -1,10 +1,10 @@
--- Numbers in lists, after one was put in front or taken out.
+-- Membership in a list of numbers, after one was put in front or taken out.
 use Rattle.std.proofs.Common.{◌≡◌, ◌≢◌, ◌⊎◌, ℕ, List, [], ◌∷◌, Bool, true, false, ◌||◌, ◌==◌, cond, true≢false, eq-eqb, ne_eqb, refl, sym, ap, ◌∙◌, subst, inl, inr}
 use mathlib.Core.Logic.{dite}
 use native.Mathlib.Decide.{ℕ_discrete}
 use Rattle.zy_table.specs.Member.{is_in, without, IsDistinct}
 
--- a member stays one where another is put in front
+-- a member is still one after another number is put in front
 pub in_more : (p q : ℕ) (xs : List ℕ) → is_in q xs ≡ true → is_in q (p ∷ xs) ≡ true
 in_more p q xs h = either_true (q == p) (is_in q xs) h
   where
@@ -16,11 +16,11 @@ in_more p q xs h = either_true (q == p) (is_in q xs) h
 pub in_front : (p : ℕ) (xs : List ℕ) → is_in p (p ∷ xs) ≡ true
 in_front p xs = ap (λ b. b || is_in p xs) (eq-eqb p p refl)
 
--- another number is a member where it was one
+-- another number is a member after that if it was one
 pub in_cons : (p q : ℕ) (xs : List ℕ) → q ≢ p → is_in q (p ∷ xs) ≡ is_in q xs
 in_cons p q xs ne = ap (λ b. b || is_in q xs) (ne_eqb q p ne)
 
--- what can be no member is none
+-- a number that cannot be a member is none
 pub not_in : (p : ℕ) (xs : List ℕ) → (is_in p xs ≡ true → ⊥) → is_in p xs ≡ false
 not_in p xs h = go (is_in p xs) h
   where
@@ -32,7 +32,7 @@ not_in p xs h = go (is_in p xs) h
 pub in_or : (p q : ℕ) (xs : List ℕ) → is_in q (p ∷ xs) ≡ true → (q ≡ p) ⊎ ((q ≢ p) × (is_in q xs ≡ true))
 in_or p q xs h = dite (ℕ_discrete q p) (λ e. inl e) (λ ne. inr (ne, sym (in_cons p q xs ne) ∙ h))
 
--- a number is a member, or it is none
+-- a number is a member or not
 pub in_cases : (q : ℕ) (xs : List ℕ) {P : Type 0} → (is_in q xs ≡ true → P) → (is_in q xs ≡ false → P) → P
 in_cases q xs {P} is not = go (is_in q xs) is not
   where
@@ -40,7 +40,7 @@ in_cases q xs {P} is not = go (is_in q xs) is not
     go true f g = f refl
     go false f g = g refl
 
--- what is no member of the whole is none of the rest
+-- a number that is not a member of a list is not one of its rest
 pub in_rest : (q k : ℕ) (xs : List ℕ) → is_in q (k ∷ xs) ≡ false → is_in q xs ≡ false
 in_rest q k xs e = go (q == k) (is_in q xs) e
   where
@@ -50,11 +50,11 @@ in_rest q k xs e = go (q == k) (is_in q xs) e
 
 -- ---- without one number
 
--- the number stands in front
+-- the number is the first
 pub without_here : (p : ℕ) (xs : List ℕ) → without p (p ∷ xs) ≡ without p xs
 without_here p xs = ap (λ b. cond b (without p xs) (p ∷ without p xs)) (eq-eqb p p refl)
 
--- another stands in front
+-- another number is the first
 pub without_next : (p x : ℕ) (xs : List ℕ) → p ≢ x → without p (x ∷ xs) ≡ x ∷ without p xs
 without_next p x xs ne = ap (λ b. cond b (without p xs) (x ∷ without p xs)) (ne_eqb p x ne)
 
@@ -65,7 +65,7 @@ in_without p q (x ∷ xs) ne = dite (ℕ_discrete p x)
     (λ e. ap (is_in q) (ap (λ y. without p (y ∷ xs)) (sym e) ∙ without_here p xs) ∙ in_without p q xs ne ∙ sym (in_cons x q xs (λ f. ne (f ∙ sym e))))
     (λ no. ap (is_in q) (without_next p x xs no) ∙ ap (λ b. (q == x) || b) (in_without p q xs ne))
 
--- the number is no member any more
+-- the number is no longer a member
 pub out_of_without : (p : ℕ) (xs : List ℕ) → is_in p (without p xs) ≡ false
 out_of_without p [] = refl
 out_of_without p (x ∷ xs) = dite (ℕ_discrete p x)

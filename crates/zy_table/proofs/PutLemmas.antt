@@ -1,11 +1,11 @@
--- What holds of functions on numbers after they were changed at one number.
+-- Functions on numbers after a change at one number.
 use Rattle.std.proofs.Common.{◌≡◌, ◌≢◌, ℕ, cond, refl, sym, subst, eq-eqb, ne_eqb}
 use mathlib.Core.Logic.{dite}
 use native.Mathlib.Decide.{ℕ_discrete}
 use Rattle.zy_table.specs.Put.{put}
 
 module _ {A : Type 0} where
-  -- what holds of the new value at k, and of each other value, holds after
+  -- what holds of the new value at `k`, and of each other value, holds after the change
   pub at_put : (f : ℕ → A) (k : ℕ) (a : A) (P : ℕ → A → Type 0) (j : ℕ) → P k a → (j ≢ k → P j (f j)) → P j (put f k a j)
   unfolding put
   at_put f k a P j here other = dite (ℕ_discrete j k)
@@ -20,7 +20,7 @@ module _ {A : Type 0} where
   pub put_else : (f : ℕ → A) (k : ℕ) (a : A) (j : ℕ) → j ≢ k → put f k a j ≡ f j
   put_else f k a j ne = at_put f k a (λ i x. i ≢ k → x ≡ f i) j (λ n. absurd (n refl)) (λ _ _. refl) ne
 
--- the same of two functions that are changed at one number
+-- the same for two functions that are both changed at one number
 pub at_both : {A B : Type 0} (f : ℕ → A) (g : ℕ → B) (k : ℕ) (a : A) (b : B) (P : ℕ → A → B → Type 0) (j : ℕ)
     → P k a b → (j ≢ k → P j (f j) (g j)) → P j (put f k a j) (put g k b j)
 unfolding put

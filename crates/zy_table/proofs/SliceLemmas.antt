@@ -7,7 +7,7 @@ get_at [] i x d lt e = absurd (omega arith)
 get_at (y ∷ ys) zero x d lt e = ap Some (sym e)
 get_at (y ∷ ys) (suc i) x d lt e = get_at ys i x d (omega arith) e
 
--- a member stands below the length
+-- the index of a member is below the length
 pub get_below : {A : Type 0} (l : List A) (i : ℕ) (x : A) → slice_get l i ≡ Some x → i < length l
 get_below [] i x e = absurd (cc)
 get_below (y ∷ ys) zero x e = omega arith
@@ -27,19 +27,19 @@ get_set_there [] i a x e = cc
 get_set_there (y ∷ ys) zero a x e = refl
 get_set_there (y ∷ ys) (suc i) a x e = get_set_there ys i a x e
 
--- a member that is set is the one that stands there
+-- a member that was set is the one now at that index
 pub get_set_same : {A : Type 0} (l : List A) (i : ℕ) (a x : A) → slice_get (set l i a) i ≡ Some x → a ≡ x
 get_set_same [] i a x e = absurd (cc)
 get_set_same (y ∷ ys) zero a x e = cc
 get_set_same (y ∷ ys) (suc i) a x e = get_set_same ys i a x e
 
--- to set a member to what it is changes nothing
+-- setting a member to its own value changes nothing
 pub set_there : {A : Type 0} (l : List A) (i : ℕ) (x : A) → slice_get l i ≡ Some x → set l i x ≡ l
 set_there [] i x e = refl
 set_there (y ∷ ys) zero x e = let is : y ≡ x = cc in ap (λ z. z ∷ ys) (sym is)
 set_there (y ∷ ys) (suc i) x e = ap (λ l. y ∷ l) (set_there ys i x e)
 
--- the last of two changes stays
+-- of two changes at one index, the last remains
 pub set_twice : {A : Type 0} (l : List A) (i : ℕ) (a b : A) → set (set l i a) i b ≡ set l i b
 set_twice [] i a b = refl
 set_twice (y ∷ ys) zero a b = refl

@@ -1,5 +1,5 @@
-//! What tables of words and slots share: the name of a table, for contracts alone, and the lemmas
-//! by which a step is shown to keep a rule.
+//! What tables of words and slots share: the name of a table, for contracts alone, and lemmas that
+//! show that a step keeps a rule.
 #![tactic(auto)]
 
 mod name;

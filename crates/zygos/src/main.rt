@@ -33,7 +33,7 @@ fn main(rt: HostRuntime) -> ExitCode {
                 &Ungated,
             );
             let status = status(&answer);
-            // The process ends, so the journal is not given back entry by entry.
+            // The process ends, so the journal is not freed entry by entry.
             mem::forget(answer);
             ExitCode::from(status)
         }

@@ -12,7 +12,7 @@ use std::alloc::Global;
 use std::time::CpuClock;
 use zy_base::NoMemory;
 
-/// So many rounds, each of 200 times so many commands, 64 at most.
+/// `rounds` rounds, each of 200 times `size` commands; `size` counts as 64 if it is greater.
 pub(crate) fn measured<R: CpuClock>(
     rt: &R,
     alloc: Global,
@@ -29,8 +29,8 @@ pub(crate) fn measured<R: CpuClock>(
     })
 }
 
-// The nanoseconds that so many rounds take, each of 200 times so many commands: 0 is a shard alone, 1
-// a block, and any other number a home.
+// The nanoseconds that `rounds` rounds take, each of 200 times `size` commands: 0 is a shard alone,
+// 1 a block, and any other number a home.
 fn work<R: CpuClock>(
     rt: &R,
     alloc: Global,

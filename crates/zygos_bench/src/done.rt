@@ -1,6 +1,6 @@
 //! What was measured.
 
-/// So many things took so many nanoseconds.
+/// The number of things done, and the nanoseconds that they took.
 #[derive(Clone, Copy, Drop)]
 pub(crate) struct Done {
     pub(crate) count: u64,

@@ -9,7 +9,7 @@ use zy_frame::{Framer, Frames};
 // How often the commands of the generated traffic are repeated before it begins again.
 const ROUNDS: u32 = 4_000;
 
-/// So many bytes in pieces of this length, counted in frames.
+/// `bytes` bytes in pieces of this length, counted in frames.
 pub(crate) fn measured<R: CpuClock>(
     rt: &R,
     alloc: Global,
@@ -55,8 +55,8 @@ fn append_all(text: &mut Blob) -> Result<(), NoMemory> {
     Ok(())
 }
 
-// The number of frames in so many bytes of the traffic, which begins again at its end, that come in pieces of this
-// length.
+// The number of frames in `bytes` bytes of the traffic, which begins again at its end, in pieces of
+// this length.
 fn count_frames(alloc: Global, traffic: &[u8], bytes: u64, piece: u64) -> Result<u64, NoMemory> {
     let mut framer = Framer::new(alloc);
     let mut frames = Frames::new(alloc);

@@ -14,8 +14,8 @@ use std::time::CpuClock;
 use zy_base::{Holds, NoMemory};
 use zy_journal::{Journal, merge, write_journal};
 
-/// 1 merges the histories of so many shards, with so many entries together; 2 writes a journal of so
-/// many entries; any other number reads a journal from the input.
+/// 1 merges the histories of `shards` shards, with `entries` entries together; 2 writes a journal
+/// of `entries` entries; any other number reads a journal from the input.
 pub(crate) fn measured<R: CpuClock, I: Read>(
     rt: &R,
     alloc: Global,
@@ -33,7 +33,7 @@ pub(crate) fn measured<R: CpuClock, I: Read>(
     }
 }
 
-// Merges histories of so many entries together.
+// Merges histories of `entries` entries together.
 fn merging<R: CpuClock>(rt: &R, alloc: Global, entries: u64, shards: u32) -> Result<Done, NoMemory>
     requires few { (entries ≤ 2 ^ 32) × (0 < shards) × (shards ≤ 256) }
 {
@@ -68,7 +68,7 @@ fn walked(journal: &Journal) -> u64 {
     u64::MAX
 }
 
-// Writes a journal of so many entries.
+// Writes a journal of `entries` entries.
 fn writing<R: CpuClock>(rt: &R, alloc: Global, entries: u64) -> Result<Done, NoMemory>
     requires few { entries ≤ 2 ^ 32 }
 {

@@ -1,4 +1,4 @@
-//! Times one part of the program: the first word says which, and the numbers behind it how much of it.
+//! Times one part of the program: the first word says which, and the numbers after it how much of it.
 #![tactic(auto)]
 
 mod calls;
@@ -38,7 +38,7 @@ fn main(rt: HostRuntime) -> ExitCode {
     }
 }
 
-// Does what is asked for. Where nothing is, nothing is done.
+// Does what is asked for; nothing if no part is named.
 fn measured<R: Threads + Wait + Clock + CpuClock + Sync, I: Read>(
     rt: &R,
     alloc: Global,

@@ -18,7 +18,7 @@ struct Run {
     rounds: u64,
 }
 
-/// So many rounds with so many thieves, on the ring where the first number is 0.
+/// `rounds` rounds with `thieves` thieves, on the ring if the first number is 0.
 pub(crate) fn measured<R: Threads + Wait + Clock + Sync>(
     rt: &R,
     alloc: Global,

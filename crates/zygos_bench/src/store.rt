@@ -12,7 +12,7 @@ use std::thread::Threads;
 use std::time::{Clock, Instant};
 use zy_base::NoMemory;
 
-/// So many calls of each thread.
+/// `calls` calls of each thread.
 pub(crate) fn measured<R: Threads + Wait + Clock + Sync>(
     rt: &R,
     alloc: Global,
@@ -30,7 +30,8 @@ pub(crate) fn measured<R: Threads + Wait + Clock + Sync>(
     })
 }
 
-// 0 is one shard alone, 9 one pass alone on one shard, and 1, 2 and 4 are so many threads on 16.
+// 0 is one shard alone, 9 one pass alone on one shard, and 1, 2 and 4 are the number of threads on
+// 16 shards.
 fn work<R: Threads + Wait + Sync>(
     rt: &R,
     alloc: Global,

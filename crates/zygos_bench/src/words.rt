@@ -15,7 +15,8 @@ pub(crate) enum What {
     Conn,
 }
 
-/// What is asked for, where the first word names it, and the numbers behind it, 0 for each that is left out.
+/// What is asked for: the part that the first word names, if any, and the numbers after it, 0 for
+/// each that is left out.
 #[derive(Clone, Copy)]
 pub(crate) struct Asked {
     pub(crate) what: Option<What>,

@@ -1,4 +1,4 @@
--- A feeder that was made of an intake that has begun, and of inlets that nothing was sent to.
+-- A feeder that was made from an intake that has begun, and from inlets to which nothing was sent.
 use Rattle.std.proofs.Common.{◌≡◌, ℕ, ◌≤◌, List, sym, subst}
 use Rattle.std.specs.Prelude.{Option, Some}
 use Rattle.zy_rx.specs.Ring.{Offering}

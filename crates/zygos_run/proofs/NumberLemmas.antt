@@ -27,7 +27,7 @@ same_sums f g a (suc n) each =
     let other = sum_by-cons g a (range_with_len (a + 1) n) in
     one ∙ omega (arith, here, rest) ∙ sym other
 
--- some more at one of these numbers
+-- the value at one number is greater by `more`
 abbrev more_at : ℕ → ℕ → (ℕ → ℕ) → ℕ → ℕ
 more_at at more f c = if at == c then more + f c else f c
 

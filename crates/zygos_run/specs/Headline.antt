@@ -26,7 +26,7 @@ abbrev pub front : Out → Journal → List ℕ
 front Replies journal = []
 front Both journal = journal_bytes journal
 
--- what is written of a run: the journal where it is asked for, and the replies
+-- what is written of a run: the journal if it is asked for, and the replies
 abbrev pub written : Out → Journal → AllOutputs → List ℕ
 written out journal outputs = front out journal ++ replies_bytes outputs
 
@@ -38,12 +38,12 @@ pub record IsServed (shards : ℕ) (bytes : List ℕ) (journal : Journal) (outpu
   pub records : List Record
   -- the bytes are a capture, with these records
   pub capture : verdict bytes ≡ Good version count records
-  -- the entries are one legal run of its commands, each carried out once, in arrival order, none after quit and none
-  -- left over
+  -- the entries are one legal run of its commands: each is carried out once, in the order of
+  -- arrival, none after quit, and none is left
   pub run : IsRun shards journal.entries count (commands_in records)
-  -- in the order of their stamps
+  -- the entries are in the order of their stamps
   pub order : IsOrdered None journal.entries
-  -- and the holds add up to the commands of each connection
+  -- the holds add up to the commands of each connection
   pub holds : Spans journal.holds count (commands_in records)
   -- the outputs are exactly each session's replies in that order
   pub replies : outputs ≡ outputs_of version count records journal.entries

@@ -114,9 +114,9 @@ refusal_line (Journal fault) = file_line (journal_text fault) fault
 refusal_line (Replies fault) = file_line (replies_text fault) fault
 refusal_line (Pcap fault) = line_with pcap_text (pcap_number fault)
 
--- ---- what is said of an answer
+-- ---- the line on standard error
 
--- the line of an answer that is no refusal; of a command that was carried out nothing is said
+-- the line of an answer that is not a refusal; none after a command that was carried out
 abbrev pub plain_line : Answer → List ℕ
 plain_line Usage = codes "zygos: usage: zygos run|check|gen|self|pcap [options]\n"
 plain_line ReadFault = codes "zygos: reading failed\n"

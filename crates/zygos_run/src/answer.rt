@@ -11,8 +11,8 @@ use zy_run::Summary;
 #[derive(Drop)]
 pub enum Answer {
     /// `run`: the capture was read to its end, its commands were carried out, and all was written.
-    /// The journal has every call on the store with its reply, and which core finished how many
-    /// commands of which connection.
+    /// The journal has every call on the store with its reply, and for each hold its core, its
+    /// connection and the number of commands finished in it.
     Served(Journal),
     /// `check`: the input was read to its end, this is the verdict on it, and its line was written.
     Checked(Verdict),
@@ -28,7 +28,7 @@ pub enum Answer {
     ReadFault,
     /// Writing failed. A prefix of the output was written.
     WriteFault,
-    /// Memory was wanted and not found. Nothing was written.
+    /// Memory was refused. Nothing was written.
     OutOfMemory,
 }
 

@@ -1,4 +1,4 @@
-//! The line that is said of an answer.
+//! The line on standard error that reports an answer.
 ghost use Rattle.std.specs.Prelude.{◌≡◌};
 ghost use Rattle.zy_base.specs.Outside.{Writes};
 ghost use Rattle.zygos_run.specs.Lines.{line_of, plain_line, fault_line, fault_text, fault_middle, journal_text, replies_text, file_line, pcap_number};
@@ -58,7 +58,7 @@ fn pcap_number(fault: PcapFault) -> u64
     }
 }
 
-// The line of an answer that is no refusal.
+// The line of an answer that is not a refusal.
 fn plain_line(answer: &Answer) -> &'static [u8]
     ensures value { result.now ≡ plain_line answer.now }
 {

@@ -82,7 +82,7 @@ pub fn serve<R: Threads + Wait + Sync, S: Source, K: Sink, E: Sink, G: Gate + Sy
     ensures reads { S.faults source.old ≤ S.faults source.new }
     ensures writes { K.faults sink.old ≤ K.faults sink.new }
 
-    // What is said.
+    // The line on standard error.
     ensures said { Said (E.holds says.old) (E.holds says.new) (E.faults says.old) (E.faults says.new) (line_of result) }
 {
     parts_have_no_fault();

@@ -6,8 +6,8 @@ use std::io::{Read, Write};
 use std::snapshot::Snapshot;
 use zy_base::{Failed, Sink, Source};
 
-/// Reads from a reader, and counts its errors. It tells the bytes that the reader tells: over memory
-/// all of them, over standard input none.
+/// Reads from a reader, and counts its errors. Its bytes are known if the reader's are: over memory
+/// they are, over standard input they are not.
 #[derive(Drop)]
 pub struct StdSource<R> {
     reader: R,
@@ -40,8 +40,8 @@ impl<R: Read> Source for StdSource<R> {
     }
 }
 
-/// Writes to a writer, and counts its errors and the writes that take nothing of a piece. It tells the
-/// bytes that the writer tells: over memory all of them, over standard output none.
+/// Writes to a writer, and counts its errors and the writes that take no byte of a piece. Its bytes
+/// are known if the writer's are: over memory they are, over standard output they are not.
 #[derive(Drop)]
 pub struct StdSink<W: Write> {
     writer: W,

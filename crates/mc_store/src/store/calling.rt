@@ -15,7 +15,8 @@ use mc_shard::{Made, Shard};
 use zy_base::{Call, NoMemory, Tag};
 
 impl StoreTable {
-    // A load of the shard's word and, where it was even, an exchange. Where that took the shard, the call.
+    // A load of the shard's word and, if it was even, an exchange. If that took the shard, the call
+    // is made.
     pub(crate) fn try_on(
         &self,
         seat: &mut Seat<Shard, View>,

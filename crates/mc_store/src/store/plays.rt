@@ -1,4 +1,4 @@
-//! What each step on the table tells its seat. These types are for the proofs alone.
+//! What a seat learns from each step on the table. These types are for the proofs alone.
 ghost use Rattle.mc_store.specs.Steps.{has_looked, has_tried, has_put_back, taken_in, gave, newcomer};
 ghost use Rattle.mc_store.specs.declared.store.view.View.TheVariants.{Spent};
 
@@ -28,7 +28,7 @@ impl Play<Shard, View> for PutsBack {
     ghost then = { λ step before found after. has_put_back before after };
 }
 
-// The root takes a pass in.
+// The root joins a pass.
 pub(crate) struct TakesIn;
 
 impl Join<View> for TakesIn {
@@ -37,7 +37,7 @@ impl Join<View> for TakesIn {
     ghost spent = { Spent };
 }
 
-// The connection that a pass is made for. Each call picks it.
+// The connection that a pass is made for. Each call chooses it.
 pub(crate) trait Named {
     ghost use Rattle.std.specs.Prelude.{ℕ};
 

@@ -1,4 +1,4 @@
-//! What the reader of captures does at each byte, by what is due.
+//! The step of the reader of captures at each byte, by what is expected.
 ghost use Rattle.std.specs.Prelude.{◌≡◌, ◌+◌, ◌<◌, ◌≤◌, [], length, Err, vec_capacity};
 ghost use Rattle.zy_read.specs.declared.not_taken.NotTaken.TheVariants.{Fault};
 ghost use Rattle.zy_capture.specs.declared.due.Due.TheVariants as Dues;
@@ -239,7 +239,7 @@ impl Reader {
         Ok(Some(Record::Close { conn: number }))
     }
 
-    // The length of a segment. Memory is wanted at its last byte alone.
+    // The length of a segment. Memory is needed at its last byte alone.
     fn feed_length(&mut self, conn: u32, byte: u8) -> Result<Option<Record>, FeedFault>
         requires due { self.old.due ≡ Dues.Length conn }
         requires room { self.old.at < capture_limit }

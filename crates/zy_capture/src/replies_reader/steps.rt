@@ -1,4 +1,4 @@
-//! What the reader of replies files does at each byte, by what is due.
+//! The step of the reader of replies files at each byte, by what is expected.
 ghost use Rattle.std.specs.Prelude.{◌≡◌, ◌+◌, ◌<◌, ◌≤◌, [], length, Err, true, false};
 ghost use Rattle.zy_read.specs.declared.not_taken.NotTaken.TheVariants.{Fault};
 ghost use Rattle.zy_capture.specs.declared.replies_due.RepliesDue.TheVariants as Dues;
@@ -188,7 +188,7 @@ impl RepliesReader {
             && (conn == self.connections || (self.version == 2 && conn + 1 == self.connections))
     }
 
-    // The session that is due of a connection.
+    // The next session of a connection.
     fn due_session(&self, conn: u32) -> u32
         ensures value { result ≡ due_session self.now conn }
     {
@@ -287,7 +287,7 @@ impl RepliesReader {
         self.at += 1;
     }
 
-    // A byte of an output. Memory is wanted for it.
+    // A byte of an output. It needs memory.
     fn feed_output(
         &mut self,
         conn: u32,

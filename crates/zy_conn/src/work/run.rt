@@ -1,4 +1,4 @@
-//! One command, from where it stands to its end.
+//! Carries one command out, from where it is to its end.
 ghost use Rattle.std.specs.Prelude.{◌≡◌, ◌+◌, ◌≤◌, OnErr, IfOk, MatchOption};
 ghost use Rattle.zy_conn.specs.Work.{idle};
 ghost use Rattle.zy_conn.specs.Step.{IsGoing, IsWhole, Goes, StopsBy};
@@ -10,7 +10,7 @@ use mc_store::StoreTable;
 use zy_base::{Gate, NoMemory};
 
 impl Work {
-    /// Makes the calls that are left of the command that is begun, or says why not.
+    /// Makes the calls that are left to the command in progress, or says why it stopped.
     pub(crate) fn make_calls(&mut self, store: &StoreTable) -> Result<Option<HoldEnd>, NoMemory>
         requires table { self.old.table ≡ store.now.id }
         requires shards { store.now.shards ≡ self.old.table.slots }
@@ -29,7 +29,7 @@ impl Work {
         }
     }
 
-    /// Goes on until a command is finished, or says why not.
+    /// Goes on until a command is finished, or says why it stopped.
     pub(crate) fn run<G: Gate>(
         &mut self,
         store: &StoreTable,

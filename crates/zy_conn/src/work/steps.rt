@@ -1,4 +1,4 @@
-//! The steps of a connection's work. A step that finds no memory leaves the work where it was.
+//! The steps of a connection's work. A step that is refused memory leaves the work as it was.
 ghost use Rattle.std.specs.Prelude.{◌≡◌, ◌≢◌, ◌+◌, ◌≤◌, OnOk, OnErr, IfOk, MatchOption};
 ghost use Rattle.zy_calls.specs.Batch.{with_text};
 ghost use Rattle.mc_reply.specs.Text.{text};
@@ -19,7 +19,7 @@ use zy_calls::Batch;
 use zy_frame::meaning;
 
 impl Work {
-    /// Begins the next command where none is begun, or says why not. It passes the gate.
+    /// Begins the next command if none is in progress, or says why it did not. It passes the gate.
     pub(crate) fn begin<G: Gate>(&mut self, gate: &G, core: u32) -> Option<HoldEnd>
         ensures goes { Goes self.old self.new }
         ensures finished { self.new.finished ≡ self.old.finished }
@@ -71,7 +71,7 @@ impl Work {
         }
     }
 
-    /// Makes the next call of the command that is begun.
+    /// Makes the next call of the command in progress.
     pub(crate) fn call(&mut self, store: &StoreTable) -> Result<Made, NoMemory>
         requires table { self.old.table ≡ store.now.id }
         requires shards { store.now.shards ≡ self.old.table.slots }
@@ -93,7 +93,7 @@ impl Work {
         )
     }
 
-    /// Finishes the command that is begun: its text joins the batch.
+    /// Finishes the command in progress: its text is appended to the batch.
     pub(crate) fn finish(&mut self) -> Result<(), NoMemory>
         requires whole { IsWhole self.old.begun }
         ensures goes { Goes self.old self.new }

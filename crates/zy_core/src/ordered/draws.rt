@@ -34,7 +34,7 @@ impl Draws {
         }
     }
 
-    // The core that the next round begins with, of so many.
+    // The one of `cores` cores with which the next round begins.
     pub(crate) fn next(&mut self, cores: u32) -> u32
         requires some { 0 < cores }
         ensures value { result ≡ first_core cores self.old }

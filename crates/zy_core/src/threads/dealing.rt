@@ -30,8 +30,9 @@ fn take_next<T: Drop>(groups: &mut Vec<Vec<T>>) -> Option<T>
     Some(item)
 }
 
-// Deals to the groups in turn: the first to the first group, the next to the next. It begins with the
-// last, which goes in front of the last group, and that group comes to the front.
+// Deals to the groups in turn: the first item to the first group, the next to the next. It begins
+// with the last item, which is put in front of the last group, and that group is moved to the
+// front.
 pub(crate) fn deal<T: Drop>(items: Vec<T>, groups: &mut Vec<Vec<T>>)
     requires some { 0 < vec_len groups.old }
     requires empty { Deals (lists_of groups.old.items) [] }
@@ -46,7 +47,7 @@ pub(crate) fn deal<T: Drop>(items: Vec<T>, groups: &mut Vec<Vec<T>>)
     }
 }
 
-// Puts an item in front of the last group, which comes to the front.
+// Puts an item in front of the last group, and moves that group to the front.
 fn put_before<T: Drop>(groups: &mut Vec<Vec<T>>, item: T)
     requires some { 0 < vec_len groups.old }
     requires room { HaveRoom 1 groups.old.items }

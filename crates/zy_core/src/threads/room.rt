@@ -5,8 +5,8 @@ ghost use Rattle.zy_core.specs.Deal.{lists_of, AreEmpty, HaveRoom};
 use std::alloc::Global;
 use zy_base::NoMemory;
 
-// Empty lists: groups for a number of threads, each with room for all items; room for what becomes of
-// each group while threads go on, for the groups when they are back, and for all items.
+// Empty lists: groups for a number of threads, each with room for all items; room for the seat of
+// each group while threads run, for the groups when they are back, and for all items.
 #[derive(Drop)]
 pub(crate) struct Room<T, S> {
     pub(crate) groups: Vec<Vec<T>>,
@@ -16,7 +16,8 @@ pub(crate) struct Room<T, S> {
 }
 
 impl<T: Drop, S: Drop> Room<T, S> {
-    // Room for so many items on so many threads, or on one for each item where these are fewer.
+    // Room for `count` items on `threads` threads, or on one thread for each item if the items are
+    // fewer.
     pub(crate) fn new(alloc: Global, count: usize, threads: usize) -> Result<Room<T, S>, NoMemory>
         requires some { (1 ≤ count) × (1 ≤ threads) }
         ensures groups { IfOk result (λ r. HaveRoom count r.groups.items × AreEmpty (lists_of r.groups.items)) }
@@ -39,7 +40,7 @@ impl<T: Drop, S: Drop> Room<T, S> {
     }
 }
 
-// So many empty groups, each with room for so many items.
+// `groups` empty groups, each with room for `room` items.
 fn empty_groups<T: Drop>(alloc: Global, room: usize, groups: usize) -> Result<Vec<Vec<T>>, NoMemory>
     ensures groups { IfOk result (λ made. HaveRoom room made.items × AreEmpty (lists_of made.items)) }
     ensures len { IfOk result (λ made. vec_len made ≡ groups) }

@@ -33,8 +33,8 @@ pub(crate) enum Seat {
     Here(Group),
 }
 
-// Starts a thread for a group. Where it is refused, the bit says that the group leaves at once, and
-// it is with the caller.
+// Starts a thread for a group. If it is refused, the bit is set so that the group leaves at once,
+// and the group is with the caller.
 pub(crate) fn start_group<'s, E, R: Wait + Sync, G: Gate + Sync>(
     scope: &Scope<'s, E>,
     rt: &'s R,

@@ -56,7 +56,7 @@ pub(crate) fn go_on_here<G: Gate>(
     Ok(worked)
 }
 
-// A turn of each core of a group, where it is with the caller and not done.
+// A turn of each core of a group that is with the caller and not done.
 fn go_on_seat<G: Gate>(seat: &mut Seat, shared: &Shared, gate: &G) -> Result<bool, NoMemory>
     requires fits { EachFits shared.now (seat_identities seat.old) }
     ensures same { seat_identities seat.new ≡ seat_identities seat.old }

@@ -20,7 +20,7 @@ pub(crate) enum How {
     Ended,
     // The feeder is broken.
     Broken,
-    // Memory was wanted.
+    // An allocation was refused.
     Stopped,
 }
 

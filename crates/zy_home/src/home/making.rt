@@ -12,8 +12,8 @@ use zy_base::NoMemory;
 use zy_conn::Block;
 
 impl Home {
-    /// The home of a core, of so many, with those of the connections below the count that are its
-    /// own. After a refusal the parts are handed back.
+    /// The home of core `core` of `cores`, with those of the `count` connections that are its own.
+    /// After a refusal the parts are handed back.
     pub fn new(
         alloc: Global,
         core: u32,

@@ -15,15 +15,15 @@ use zy_rx::Rx;
 use zy_shuffle::Ring;
 
 impl Home {
-    /// Takes in an item. A segment is cut, and a close ends the session of its connection, also while
-    /// its block is away; the block of an idle connection that got an event is published. An item
-    /// behind the end, and one of a connection that is not the home's, is dropped.
+    /// Receives an item. A segment is cut, and a close ends the session of its connection, even
+    /// while its block is away; the block of an idle connection that got an event is published. An
+    /// item after the end is dropped, and so is one of a connection that is not the home's.
     pub fn receive(&mut self, ring: &Ring<Block>, item: Rx) -> Result<(), NoMemory>
         requires table { self.old.pass.table ≡ ring.now.id }
         requires few { self.old.pass.count < 2 ^ 63 }
         requires live { self.old.refused ≡ false }
 
-        // What was received, and what came of it.
+        // What was received, and what was done with it.
         ensures stands { OnOk result (StandsMore self.old item self.new) }
         ensures ended { OnOk result (self.new.ended ≡ (self.old.ended || is_end item)) }
         ensures forwards { OnOk result (Forwards self.old self.new item) }
@@ -41,7 +41,7 @@ impl Home {
         self.take_in(ring, &item)
     }
 
-    // Takes in an item.
+    // Receives an item.
     fn take_in(&mut self, ring: &Ring<Block>, item: &Rx) -> Result<(), NoMemory>
         requires table { self.old.pass.table ≡ ring.now.id }
         requires few { self.old.pass.count < 2 ^ 63 }
@@ -69,7 +69,7 @@ impl Home {
         }
     }
 
-    // Takes in an item for the connection at a place.
+    // Receives an item for the connection at a place.
     fn receive_at(&mut self, ring: &Ring<Block>, at: usize, item: &Rx) -> Result<(), NoMemory>
         requires table { self.old.pass.table ≡ ring.now.id }
         requires few { self.old.pass.count < 2 ^ 63 }

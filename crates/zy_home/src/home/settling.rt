@@ -13,9 +13,9 @@ use zy_conn::Block;
 use zy_shuffle::{Claim, Ring};
 
 impl Home {
-    /// Settles the block of a place of the home's hand: its batch is carried out, waiting frames are
-    /// offered, and it is published exactly where it then has an event. Else, and after a refusal, it
-    /// stays in the home's hand.
+    /// Settles the block of a place of the home's hand: its batch is carried out, waiting frames
+    /// are offered, and it is published exactly if it then has an event. Otherwise, and after a
+    /// refusal, it stays in the home's hand.
     pub fn settle(&mut self, ring: &Ring<Block>, place: u32, block: Block) -> Result<(), NoMemory>
         requires table { self.old.pass.table ≡ ring.now.id }
         requires few { self.old.pass.count < 2 ^ 63 }
@@ -64,9 +64,9 @@ impl Home {
         }
     }
 
-    /// Claims once from the home's own queue. A block that was taken is held and settled; `Empty` and
-    /// `Raced` come exactly where the claim answered so. After a refusal a block that was taken stays
-    /// in the home's hand.
+    /// Claims once from the home's own queue. A block that was taken is held and settled; `Empty`
+    /// and `Raced` are answered exactly where the claim answers so. After a refusal a block that
+    /// was taken stays in the home's hand.
     pub fn own<G: Gate>(
         &mut self,
         ring: &Ring<Block>,

@@ -36,7 +36,7 @@ impl JournalReader {
         Ok(None)
     }
 
-    // Whether the byte may stand there.
+    // Whether the byte is allowed there.
     fn is_lawful_byte(&self, field: ByteField, byte: u8) -> bool
         requires due { self.now.due ≡ Dues.Byte field }
         ensures value { result ≡ lawful_byte field self.now byte }

@@ -12,7 +12,7 @@ use zy_base::{Blob, NoMemory};
 use zy_read::FileFeed;
 
 impl JournalReader {
-    // A byte of a key or a value. Memory is wanted for it.
+    // A byte of a key or a value. It needs memory.
     pub(super) fn feed_bytes(&mut self, field: BytesField, byte: u8) -> Result<Option<()>, FileFeed>
         requires due { self.old.due ≡ Dues.Bytes field }
         requires room { self.old.at < journal_limit }
@@ -73,7 +73,7 @@ impl JournalReader {
     }
 }
 
-// The bytes with this one as their last, copied so that they take no more room than they need, and
+// The bytes followed by this last one, copied so that they take no more room than they need, and
 // short ones none; none are left. After a refusal they are unchanged.
 pub(super) fn ended(bytes: &mut Vec<u8>, byte: u8) -> Result<Blob, NoMemory>
     ensures value { IfOk result (λ all. all ≡ bytes.old.items ++ byte ∷ []) }

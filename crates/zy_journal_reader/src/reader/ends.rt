@@ -17,7 +17,7 @@ use zy_base::{CallReply, Entry, Hold, NoMemory};
 use zy_read::FileFeed;
 
 impl JournalReader {
-    // The byte ends an entry. Memory is wanted for it.
+    // The byte ends an entry, which needs memory.
     pub(super) fn end_entry(&mut self, reply: CallReply) -> Result<Option<()>, FileFeed>
         requires due { takes_memory self.old.due ≡ true }
         requires room { self.old.at < journal_limit }
@@ -35,7 +35,7 @@ impl JournalReader {
         Ok(None)
     }
 
-    // The last byte of a value that a get found, which ends an entry. Memory is wanted for both.
+    // The last byte of a value that a get found, which ends an entry. Both need memory.
     pub(super) fn end_found(&mut self, byte: u8) -> Result<Option<()>, FileFeed>
         requires due { self.old.due ≡ Dues.Bytes Contents.FoundValue }
         requires room { self.old.at < journal_limit }
@@ -63,7 +63,7 @@ impl JournalReader {
         Ok(None)
     }
 
-    // The byte ends a hold. Memory is wanted for it.
+    // The byte ends a hold, which needs memory.
     pub(super) fn end_hold(&mut self, count: u32) -> Result<Option<()>, FileFeed>
         requires due { takes_memory self.old.due ≡ true }
         requires room { self.old.at < journal_limit }

@@ -28,7 +28,7 @@ impl JournalReader {
         self.take_long(field, number)
     }
 
-    // Whether the number may stand there.
+    // Whether the number is allowed there.
     fn is_lawful_long(&self, field: LongField, number: u64) -> bool
         ensures value { result ≡ lawful_long field self.now number }
     {

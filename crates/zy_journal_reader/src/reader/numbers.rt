@@ -35,7 +35,7 @@ impl JournalReader {
         self.take_number(field, number)
     }
 
-    // Whether the number may stand there.
+    // Whether the number is allowed there.
     fn is_lawful_number(&self, field: NumberField, number: u32) -> bool
         ensures value { result ≡ lawful_number field self.now number }
     {

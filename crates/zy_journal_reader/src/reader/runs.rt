@@ -11,8 +11,8 @@ use crate::due::{BytesField, Due};
 
 impl JournalReader {
     #[tactic(auto, using(crate::proofs::RunLemmas::run_fed, zy_read::proofs::Feeding::fed_none))]
-    // Takes bytes of what is due at once, from some place on, but neither its last one nor that of
-    // the piece. Gives how many; where memory is wanted for them, none.
+    // Takes several expected bytes at once, from some place on, but neither the last expected one
+    // nor the last of the piece. Returns their number; if memory for them was refused, 0.
     pub(super) fn feed_run(&mut self, bytes: &[u8], at: usize) -> usize
         requires place { at < length bytes.now }
         ensures within { at + result < length bytes.now }
@@ -42,8 +42,8 @@ impl JournalReader {
         self.at <= JOURNAL_LIMIT - 8
     }
 
-    // Takes bytes of the number that is due, from some place on, but neither its last one nor that
-    // of the piece. Gives how many.
+    // Takes bytes of the expected number, from some place on, but neither its last one nor the last
+    // of the piece. Returns their number.
     fn keep_run(&mut self, bytes: &[u8], at: usize, most: usize) -> usize
         requires place { at < length bytes.now }
         requires due { IsNumber self.old.due most }

@@ -1,4 +1,4 @@
-//! What the reader of journals does at each byte, by what is due.
+//! The step of the reader of journals at each byte, by what is expected.
 ghost use Rattle.std.specs.Prelude.{◌≡◌, ◌+◌, ◌<◌, [], ◌++◌, ◌∷◌, length, Err};
 ghost use Rattle.zy_read.specs.declared.not_taken.NotTaken.TheVariants.{Fault};
 ghost use Rattle.zy_journal_reader.specs.Fields.{IsWithin};
@@ -37,7 +37,7 @@ impl Reads for JournalReader {
         }
     }
 
-    // Takes bytes of what is due, but not its last one.
+    // Takes expected bytes, but not the last of them.
     fn take_run(&mut self, bytes: &[u8], at: usize) -> usize {
         self.feed_run(bytes, at)
     }

@@ -1,4 +1,4 @@
-//! What the reader of records does at each byte, by what is due.
+//! The step of the reader of records at each byte, by what is expected.
 ghost use Rattle.std.specs.Prelude.{◌≡◌, ℕ, ◌<◌, [], length, take, true, false, Ok, Err};
 ghost use Rattle.zy_read.specs.declared.not_taken.NotTaken.TheVariants.{Fault};
 ghost use Rattle.zy_pcap.specs.declared.due.Due.TheVariants as Dues;
@@ -109,7 +109,7 @@ impl Records {
         false
     }
 
-    // A byte of an original length. Memory is wanted at its last byte alone.
+    // A byte of an original length. Memory is needed at its last byte alone.
     fn take_original(&mut self, left: u32, size: u32) -> Result<bool, PcapFeed>
         requires due { self.old.due ≡ Dues.Original left size }
         requires room { self.old.at < file_limit }

@@ -1,4 +1,4 @@
-//! How a ring is made and closed, and how passes are given and taken in.
+//! How a ring is made and closed, and how passes are given and joined.
 ghost use Rattle.std.specs.Prelude.{◌≡◌, ◌+◌, ◌-◌, ◌≤◌, IfOk, IsOk, IfErr, [], ⊤};
 ghost use Rattle.zy_shuffle.specs.View.{untraced};
 ghost use Rattle.zy_shuffle.specs.Pass.{AreLeft, HasAll, newly_held, newly_given};
@@ -13,7 +13,7 @@ use std::alloc::Global;
 use zy_base::NoMemory;
 
 impl<T: Marked> Ring<T> {
-    /// A ring with so many places, all in the home's hand, and an empty queue. The label of the
+    /// A ring with `places` places, all in the home's hand, and an empty queue. The label of the
     /// ring is that of `L`.
     pub fn new<L: Label>(alloc: Global, places: u32) -> Result<(Ring<T>, HomePass<T>), NoMemory>
         requires few { places ≤ 4096 }
@@ -57,7 +57,7 @@ impl<T: Marked> Ring<T> {
         })
     }
 
-    /// Takes a pass in whose hand is empty. Can't fail.
+    /// Joins a pass whose hand is empty. It cannot fail.
     pub fn join(&self, home: &mut HomePass<T>, pass: CorePass<T>)
         requires within { (home.old.table ≡ self.now.id) × (pass.table ≡ self.now.id) }
         requires empty { pass.hand ≡ [] }
@@ -67,8 +67,8 @@ impl<T: Marked> Ring<T> {
         self.table.shared.join_seat::<Joins>(&mut home.seat, seat);
     }
 
-    /// The blocks that are still in the table, once every pass was joined. After want of memory all
-    /// is as it was.
+    /// The blocks that are still in the table, once every pass was joined. After `NoMemory` ring
+    /// and home are handed back as they were.
     pub fn close(self, home: HomePass<T>) -> Result<Left<T>, (Ring<T>, HomePass<T>)>
         requires within { home.table ≡ self.id }
         requires joined { home.out ≡ 0 }

@@ -5,8 +5,8 @@ use super::view::View;
 use atomic_table::Seat;
 use std::marker::Model;
 
-/// The right of the home core to publish, to claim and to collect. Contracts see what it holds and
-/// what it has seen.
+/// The right of the home core to publish, to claim and to collect. Contracts see its hand and what
+/// it has seen.
 #[derive(Drop)]
 pub struct HomePass<T> {
     pub(crate) seat: Seat<Option<T>, View<T>>,
@@ -28,7 +28,7 @@ impl<T> Model for HomePass<T> {
 #[derive(Drop)]
 pub struct CorePass<T> {
     pub(crate) seat: Seat<Option<T>, View<T>>,
-    // The place whose slot lies in front, where it is known: that of the last claim.
+    // The place whose slot is in front, if that is known: the place of the last claim.
     pub(crate) front: Option<u32>,
 }
 
@@ -44,7 +44,7 @@ impl<T> Model for CorePass<T> {
 }
 
 impl<T> HomePass<T> {
-    /// How often the home has published.
+    /// The number of the home's publications.
     pub fn count(&self) -> u64
         ensures value { result ≡ self.now.count }
     {

@@ -1,5 +1,5 @@
-//! What each kind of step tells its seat, and which event of the ownership machine it is. These
-//! types are for contracts alone: no value of them is made.
+//! What a seat learns from each kind of step, and the event of the ownership machine that the step
+//! is. These types are for contracts alone: no value of them is made.
 ghost use Rattle.zy_shuffle.specs.View.{spent};
 ghost use Rattle.zy_shuffle.specs.Step.{saw_head, saw_tail, saw_cell, saw_bells, stored_cell};
 ghost use Rattle.zy_shuffle.specs.Step.{published, claimed, collected, fronted, gave};
@@ -31,7 +31,7 @@ impl<T> Play<Option<T>, View<T>> for SeesCell {
     ghost then = { saw_cell };
 }
 
-/// A compare and exchange of the head: a claim where it succeeds, and no event where it fails.
+/// A compare and exchange of the head: a claim if it succeeds, and no event if it fails.
 pub struct Claims;
 
 impl<T: Marked> Play<Option<T>, View<T>> for Claims {
@@ -45,15 +45,15 @@ impl<T> Play<Option<T>, View<T>> for StoresCell {
     ghost then = { λ st m r n. stored_cell st m n };
 }
 
-/// A store of the tail: a request arrives at an idle connection, or a connection that has requests
-/// left is settled.
+/// A store of the tail: a request arrives at an idle connection, or a connection with unfinished
+/// requests is settled.
 pub struct Publishes;
 
 impl<T> Play<Option<T>, View<T>> for Publishes {
     ghost then = { λ st m r n. published m n };
 }
 
-/// A place that a call picks for contracts.
+/// The place that a call names for contracts.
 pub trait Placing {
     ghost use Rattle.std.specs.Prelude.{ℕ};
 
@@ -119,7 +119,7 @@ impl<T> Split<View<T>> for Splits {
     ghost right = { newcomer };
 }
 
-/// The home's seat takes a pass in.
+/// The home's seat joins a pass.
 pub struct Joins;
 
 impl<T> Join<View<T>> for Joins {

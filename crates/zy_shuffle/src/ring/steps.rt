@@ -18,7 +18,7 @@ use atomic_table::Seat;
 use std::marker::Brand;
 
 impl<T: Marked> Ring<T> {
-    /// Puts the place, with its block, at the end of the queue. Can't fail.
+    /// Puts the place, with its block, at the end of the queue. It cannot fail.
     pub fn publish(&self, home: &mut HomePass<T>, place: u32, block: T)
         requires within { home.old.table ≡ self.now.id }
         requires hand { is_in place home.old.hand ≡ true }
@@ -50,7 +50,7 @@ impl<T: Marked> Ring<T> {
         }
     }
 
-    /// The same for the home. The block has the mark that the home published it with.
+    /// The same for the home. The block has the mark with which the home published it.
     pub fn claim_home(&self, home: &mut HomePass<T>) -> Claim<T>
         requires within { home.old.table ≡ self.now.id }
         ensures value { Claimed T.mark T.label self.now.places home.old home.new result }
@@ -59,8 +59,8 @@ impl<T: Marked> Ring<T> {
         self.claim_at(&mut home.seat)
     }
 
-    /// Puts the block of a place that this pass claimed back, and rings its doorbell. Can't fail.
-    /// Where the place is not the one that was claimed last, this costs one more load.
+    /// Puts the block of a place that this pass claimed back, and rings the place's doorbell. It
+    /// cannot fail. If the place is not the one that was claimed last, this takes one further load.
     pub fn give_back(&self, pass: &mut CorePass<T>, place: u32, block: T)
         requires within { pass.old.table ≡ self.now.id }
         requires hand { is_in place pass.old.hand ≡ true }
@@ -105,7 +105,7 @@ impl<T: Marked> Ring<T> {
         }
     }
 
-    // The same with the place named for contracts, which a load of the head can't tell.
+    // The same with the place named for contracts, which a load of the head cannot do.
     fn give_back_as<J: Placing>(&self, pass: &mut CorePass<T>, place: u32, block: T)
         requires picked { place ≡ J.place }
         requires within { pass.old.table ≡ self.now.id }
@@ -124,8 +124,8 @@ impl<T: Marked> Ring<T> {
         words.fetch_or::<GivesBack>(&mut pass.seat, word, 1u64 << (place % 64));
     }
 
-    // Brings the slot of the place to the front of those that the seat has taken, by a load where
-    // another lies there.
+    // Brings the slot of the place to the front of those that the seat has taken, by a load if
+    // another slot is in front.
     fn bring<J: Placing>(&self, seat: &mut Seat<Option<T>, View<T>>, front: Option<u32>, place: u32)
         requires picked { place ≡ J.place }
         requires within { seat.old.table_id ≡ self.now.id }

@@ -8,9 +8,9 @@ pub struct Sight {
     pub step: u64,
 }
 
-/// How many steps a seat has made, and what it found: at its last loads of the head and of the
-/// tail, at its last compare and exchange of the head, and at its loads of doorbell words, the
-/// newest first.
+/// The number of steps that a seat has made, and what it found: at its last loads of the head and
+/// of the tail, at its last compare and exchange of the head, and at its loads of doorbell words,
+/// the newest first.
 pub struct Trace {
     pub steps: u64,
     pub head: Sight,
@@ -21,9 +21,9 @@ pub struct Trace {
     pub bells: LinkedList<(u64, Sight)>,
 }
 
-/// What a seat is for. The home knows the tail, the cell that it stored and did not publish yet,
-/// the doorbell word that it loaded last with the bits that it found, and how many passes are out.
-/// Once it is closed it knows the places that were in its hand.
+/// The role of a seat. The home knows the tail, the cell that it stored and has not published yet,
+/// the doorbell word that it loaded last with the bits that it found, and the number of passes that
+/// are out. Once it is closed it knows the places that were in its hand.
 pub enum Role {
     Spent,
     Start,
@@ -32,8 +32,8 @@ pub enum Role {
     Closed(LinkedList<u64>),
 }
 
-/// What a seat knows. `kept` has blocks, whose marks are those of their places, the newest first.
-/// `note` is the number of the cell that was loaded last, and what it held.
+/// What a seat knows. `kept` has blocks, the newest first; the marks that it keeps for places are
+/// theirs. `note` is the number of the cell that was loaded last, and the value found there.
 pub struct View<T> {
     pub role: Role,
     pub label: Name,

@@ -10,7 +10,7 @@ use zy_base::{NoMemory, Ungated};
 use zy_conn::{Block, EventInlet};
 use zy_frame::{Framer, Frames};
 
-/// The nanoseconds of so many holds, on a store of 16 shards.
+/// The nanoseconds of `rounds` holds, on a store of 16 shards.
 pub(crate) fn held<R: CpuClock>(
     rt: &R,
     alloc: Global,
@@ -51,7 +51,7 @@ fn held_on<R: CpuClock>(
     }
 }
 
-// Offers frames, and holds the block, so many times.
+// Offers frames, and holds the block, `rounds` times.
 fn hold_all<R: CpuClock>(
     rt: &R,
     alloc: Global,
@@ -71,7 +71,7 @@ fn hold_all<R: CpuClock>(
     Ok(spent)
 }
 
-// Offers the frames of so many commands from this one on.
+// Offers the frames of `size` commands from this one on.
 fn offer(alloc: Global, inlet: &mut EventInlet, first: u64, size: u64) -> Result<(), NoMemory> {
     let text = text_of(alloc, first, size)?;
     let mut framer = Framer::new(alloc);

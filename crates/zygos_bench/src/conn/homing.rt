@@ -16,7 +16,8 @@ use zy_shuffle::Ring;
 /// The connections of the home.
 pub(crate) const CONNECTIONS: u32 = 200;
 
-/// The nanoseconds of so many rounds: each connection gets a segment, and then the home serves them all.
+/// The nanoseconds of `rounds` rounds: each connection gets a segment, and then the home serves
+/// them all.
 pub(crate) fn serve_all<R: CpuClock>(
     rt: &R,
     alloc: Global,
@@ -64,7 +65,7 @@ fn serve_items<R: CpuClock>(
     Ok(nanos(rt).saturating_sub(begin))
 }
 
-// A segment of so many commands for each connection.
+// A segment of `size` commands for each connection.
 fn items_of(alloc: Global, round: u64, size: u64) -> Result<Queue<Rx>, NoMemory> {
     let mut items = Queue::new(alloc);
     match add_items(alloc, &mut items, round, size) {

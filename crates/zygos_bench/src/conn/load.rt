@@ -27,7 +27,7 @@ pub(crate) fn spell(text: &mut Blob, number: u64) -> Result<(), NoMemory> {
     text.append(b"\r\n")
 }
 
-/// So many commands from this one on.
+/// `size` commands from this one on.
 pub(crate) fn text_of(alloc: Global, first: u64, size: u64) -> Result<Blob, NoMemory> {
     let mut text = Blob::new(alloc);
     match spell_all(&mut text, first, size) {

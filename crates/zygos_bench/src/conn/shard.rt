@@ -7,7 +7,7 @@ use std::alloc::Global;
 use std::time::CpuClock;
 use zy_base::{Call, NoMemory, Queue};
 
-/// The nanoseconds of so many rounds of calls.
+/// The nanoseconds of `rounds` rounds of calls.
 pub(crate) fn alone<R: CpuClock>(
     rt: &R,
     alloc: Global,

@@ -8,8 +8,8 @@ use std::time::CpuClock;
 use zy_base::NoMemory;
 use zy_setup::{Started, start};
 
-/// The nanoseconds of so many rounds, in each of which each connection gets a segment, on a store of 16
-/// shards.
+/// The nanoseconds of `rounds` rounds, in each of which each connection gets a segment, on a store
+/// of 16 shards.
 pub(crate) fn homed<R: CpuClock>(
     rt: &R,
     alloc: Global,

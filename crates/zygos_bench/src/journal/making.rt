@@ -8,7 +8,7 @@ use std::alloc::Global;
 use zy_base::{Blob, Call, CallReply, Entries, Entry, Histories, NoMemory, Tag};
 use zy_journal::rising_histories_are_in_order;
 
-// The history of a shard, with so many entries.
+// The history of a shard, with `count` entries.
 pub(crate) fn history(alloc: Global, shard: u32, count: u64) -> Result<Entries, NoMemory>
     requires shard { shard < 256 }
     requires few { count ≤ 2 ^ 32 }
@@ -97,7 +97,7 @@ fn entry(alloc: Global, shard: u32, number: u64) -> Result<Entry, NoMemory>
     })
 }
 
-// The histories of so many shards, with so many entries each.
+// The histories of `shards` shards, with `each` entries each.
 pub(crate) fn histories(alloc: Global, shards: u32, each: u64) -> Result<Histories, NoMemory>
     requires shards { shards ≤ 256 }
     requires few { each ≤ 2 ^ 32 }

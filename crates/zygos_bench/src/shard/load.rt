@@ -19,7 +19,7 @@ pub fn fill(alloc: Global, shard: &mut Shard, keys: u64) -> Result<(), NoMemory>
     Ok(())
 }
 
-/// Makes so many calls on drawn keys, nine reads to one write.
+/// Makes `calls` calls on drawn keys, nine reads to one write.
 pub fn mix(alloc: Global, shard: &mut Shard, keys: u64, calls: u64) -> Result<(), NoMemory>
     requires some { 0 < keys }
     requires few { keys ≤ 1000000 }
@@ -35,7 +35,7 @@ pub fn mix(alloc: Global, shard: &mut Shard, keys: u64, calls: u64) -> Result<()
     Ok(())
 }
 
-// A write at each tenth turn, and else a read.
+// A write at each tenth turn, and otherwise a read.
 fn call(alloc: Global, turn: u64, number: u64) -> Result<Call, NoMemory>
     requires few { number < 1000000 }
 {

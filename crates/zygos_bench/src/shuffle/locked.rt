@@ -31,7 +31,7 @@ impl Queues {
     }
 }
 
-// A place is published and claimed, so many times.
+// A place is published and claimed, `rounds` times.
 pub(crate) fn alone<R: Wait>(rt: &R, alloc: Global, rounds: u64) -> Result<(), NoMemory> {
     let queues = Mutex::new(Queues::new(alloc)?);
     let mut place = 0;
@@ -42,7 +42,7 @@ pub(crate) fn alone<R: Wait>(rt: &R, alloc: Global, rounds: u64) -> Result<(), N
     Ok(())
 }
 
-// Each place that comes back is published again, so many times, while so many thieves claim.
+// Each place that comes back is published again, `rounds` times, while `thieves` thieves claim.
 pub(crate) fn robbed<R: Threads + Wait + Sync>(
     rt: &R,
     alloc: Global,
@@ -85,7 +85,7 @@ fn publish_again<R: Wait>(rt: &R, queues: &Mutex<Queues>) -> bool {
     }
 }
 
-// So many thieves, three at most.
+// `thieves` thieves, at most three.
 fn rob_all<R: Threads + Wait + Sync>(
     rt: &R,
     queues: &Mutex<Queues>,

@@ -31,7 +31,7 @@ impl Marked for Block {
     ghost label = { λ b. no_name };
 }
 
-// The home publishes a place and claims it, so many times.
+// The home publishes a place and claims it, `rounds` times.
 pub(crate) fn alone(alloc: Global, rounds: u64) -> Result<(), NoMemory>
     requires few { rounds ≤ 2 ^ 40 }
 {
@@ -61,8 +61,7 @@ fn publish_and_claim(ring: &Ring<Block>, home: &mut HomePass<Block>, rounds: u64
     }
 }
 
-// The home publishes each place that comes back, so many times, while so many thieves claim from
-// it.
+// The home publishes each place that comes back, `rounds` times, while `thieves` thieves claim from it.
 pub(crate) fn robbed<R: Threads + Wait + Sync>(
     rt: &R,
     alloc: Global,
@@ -155,7 +154,7 @@ fn tend<R: Wait>(
     stop.store(true, Ordering::SeqCst);
 }
 
-// So many thieves, three at most.
+// `thieves` thieves, at most three.
 fn rob_all<R: Threads + Wait + Sync>(
     rt: &R,
     ring: &Ring<Block>,

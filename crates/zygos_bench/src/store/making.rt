@@ -38,7 +38,7 @@ fn tag_of(conn: u32, index: u64) -> Tag
     }
 }
 
-/// Makes so many calls on a shard.
+/// Makes `calls` calls on a shard.
 pub(crate) fn shard_alone(alloc: Global, calls: u64) -> Result<(), NoMemory> {
     let mut shard = Shard::new(alloc, 0, 1);
     let made = apply_all(alloc, &mut shard, calls);
@@ -54,7 +54,7 @@ fn apply_all(alloc: Global, shard: &mut Shard, calls: u64) -> Result<(), NoMemor
     Ok(())
 }
 
-/// Makes so many calls on a store of one shard.
+/// Makes `calls` calls on a store of one shard.
 pub(crate) fn pass_alone<R: Wait>(rt: &R, alloc: Global, calls: u64) -> Result<(), NoMemory>
     requires few { calls ≤ 2 ^ 32 }
 {
@@ -82,7 +82,7 @@ pub(crate) fn call_alone<R: Wait>(
     Ok(())
 }
 
-/// Makes so many calls on the shards of their keys. One that found its shard busy is made again.
+/// Makes `calls` calls on the shards of their keys. A call that found its shard busy is made again.
 pub(crate) fn make_calls<R: Wait>(
     rt: &R,
     alloc: Global,

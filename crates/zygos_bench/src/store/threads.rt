@@ -9,7 +9,7 @@ use std::thread;
 use std::thread::Threads;
 use zy_base::NoMemory;
 
-/// One, two or four threads make so many calls each.
+/// One, two or four threads make `calls` calls each.
 pub(crate) fn many<R: Threads + Wait + Sync>(
     rt: &R,
     alloc: Global,

@@ -13,7 +13,7 @@ use Rattle.mc_parse.specs.Form.{find, form_with, form_after}
 use Rattle.mc_parse.proofs.ArityLemmas.{both, but_last-take, follows_by}
 use Rattle.mc_parse.proofs.reading.read_few.Goals as goal
 
--- with noreply behind them, the words but the last follow the name quietly
+-- with noreply after them, the words but the last follow the name quietly
 says_silently : (name : Name) (held : List (Bor (List ℕ))) (all : List (List ℕ)) → texts held ≡ all → asks_silence (arity_of name) (texts held) ≡ true
     → has_count (arity_of name) (length held) ≡ true → lacks_noreply (arity_of name) (texts held) ≡ false → (n : ℕ) → n + 1 ≡ length held
     → form_with name (record { words = texts (take n held); quiet = true }) ≡ form_after name all
@@ -25,7 +25,7 @@ says_silently name held all is asks has lacks n last =
     sym (ap (λ (found : Option Following). find found Unknown (λ following. form_with name following)) follows)
     ∙ ap (λ (words : List (List ℕ)). form_after name words) is
 
--- words that ask for no answer are some
+-- words that ask for no answer are not empty
 silence_some : (arity : Arity) (words : List (List ℕ)) → asks_silence arity words ≡ true → 0 < length words
 silence_some arity [] asks = let no = both (arity.noreply && nat_lt arity.least 0) false asks in absurd (cc)
 silence_some arity (word ∷ words) asks = omega arith

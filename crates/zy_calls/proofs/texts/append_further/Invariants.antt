@@ -2,7 +2,7 @@ use Rattle.std.proofs.Common.{◌≡◌, ◌+◌, ◌++◌, vec_len, vec_capacit
 use Rattle.zy_calls.specs.Texts.{further}
 use Rattle.zy_calls.proofs.texts.append_further.Given as goal
 
--- the places so far stand behind those that were there, in the room that was there
+-- the places so far come after those that were there, and the reserved room suffices
 abbrev pub invariant-loop-other : goal.invariant-loop-other
 invariant-loop-other l =
     (l.ends.items ≡ l.fn.ends.items ++ further l.start (take l.other-index l.others))

@@ -4,7 +4,8 @@ use Rattle.zy_capture.specs.Capture.{spelled}
 use Rattle.zy_gen.specs.Traffic.{one_round}
 use Rattle.zy_gen.proofs.making.append_round.Given as goal
 
--- what is written, with the commands that are left, is what was there, with the whole round
+-- what is written, followed by the commands that are left, is what was there, followed by the whole
+-- round
 abbrev pub invariant-loop-conn : goal.invariant-loop-conn
 invariant-loop-conn l = record {
   bytes : l.out ++ flat_map spelled (one_round l.conn (l.conns - l.conn) l.words).items ≡ l.initial.out ++ flat_map spelled (one_round 0 l.conns l.initial.words).items;

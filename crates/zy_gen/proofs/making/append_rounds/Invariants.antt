@@ -4,6 +4,6 @@ use Rattle.zy_capture.specs.Capture.{spelled}
 use Rattle.zy_gen.specs.Traffic.{rounds}
 use Rattle.zy_gen.proofs.making.append_rounds.Given as goal
 
--- what is written, with the rounds that are left, is what was there, with all rounds
+-- what is written, followed by the rounds that are left, is what was there, followed by all rounds
 abbrev pub invariant-loop : goal.invariant-loop
 invariant-loop l = l.out ++ flat_map spelled (rounds l.conns (l.commands - l.counter) l.words).items ≡ l.initial.out ++ flat_map spelled (rounds l.conns l.commands l.initial.words).items

@@ -6,7 +6,7 @@ use Rattle.mc_parse.specs.Words.{words}
 use Rattle.mc_parse.specs.Line.{texts}
 use Rattle.mc_parse.proofs.args.Args.of.Goals as goal
 
--- one word behind the first words
+-- one word after the first words
 one_more : (held : List (Bor (List ℕ))) (count : ℕ) (word : Bor (List ℕ)) (more all : List (List ℕ)) → count < length held
     → texts (take count held) ++ word.now ∷ more ≡ all → texts (take (count + 1) (slice_set held count word)) ++ more ≡ all
 one_more held count word more all within is =
@@ -15,7 +15,7 @@ one_more held count word more all within is =
     ∙ append_assoc (texts (take count held)) (word.now ∷ []) more
     ∙ is
 
--- a word behind six words
+-- a word after six words
 too_many : (held : List (Bor (List ℕ))) (count : ℕ) (word : List ℕ) (more all : List (List ℕ)) → 6 ≤ count → count ≤ length held
     → texts (take count held) ++ word ∷ more ≡ all → 6 < length all
 too_many held count word more all six within is =

@@ -3,7 +3,7 @@ use Rattle.zy_capture.specs.declared.record.Record.{Record}
 use Rattle.zy_feed.specs.Reads.{HasRead}
 use Rattle.zy_feed.proofs.intake.Intake.cut.Given as goal
 
--- the bytes read are at least as many as the rounds, and end no record
+-- at least one byte was read in each round, and no record ended
 abbrev pub invariant-loop : goal.invariant-loop
 invariant-loop g l = record {
   count : g.S.Source.faults l.initial.source ≤ g.S.Source.faults l.source;

@@ -5,7 +5,7 @@ use Rattle.zy_home.specs.Home.{Homed, HomeStands, conns_in}
 use Rattle.zy_home.proofs.ReceiveLemmas.{is_the_end, link_own, links_rise, more_behind, more_end, more_none, not_others}
 use Rattle.zy_home.proofs.home.Home.take_in.Goals as goal
 
--- behind the end
+-- after the end
 pub returns-then-self-clause-stands : goal.returns-then-self-clause-stands
 returns-then-self-clause-stands c = more_behind c.args.self.now c.args.item.now (ap (λ (h : Homed). h.ended) (sym c.self.view_is) ∙ c.if-self.true)
 

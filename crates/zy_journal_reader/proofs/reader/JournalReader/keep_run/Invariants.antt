@@ -3,7 +3,7 @@ use Rattle.zy_read.specs.Standing.{Feeds}
 use Rattle.zy_journal_reader.specs.Verdict.{journals}
 use Rattle.zy_journal_reader.proofs.reader.JournalReader.keep_run.Given as goal
 
--- so many bytes of the number were fed, and its last one is still due
+-- bytes of the number were fed, and its last one is still to come
 abbrev pub invariant-loop-self : goal.invariant-loop-self
 invariant-loop-self l = record {
   within : l.at + l.run < length l.bytes;

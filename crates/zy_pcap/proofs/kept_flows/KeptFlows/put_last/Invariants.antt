@@ -2,7 +2,7 @@ use Rattle.std.proofs.Common.{◌≡◌, ◌≤◌, ◌+◌, ◌++◌, replicate
 use Rattle.std.specs.Prelude.{None}
 use Rattle.zy_pcap.proofs.kept_flows.KeptFlows.put_last.Given as goal
 
--- so many free numbers were added
+-- free numbers were added
 abbrev pub invariant-loop : goal.invariant-loop
 invariant-loop l = record {
   added : l.self.flows.items ≡ l.initial.self.flows.items ++ replicate l.counter None;
