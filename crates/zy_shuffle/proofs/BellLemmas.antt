@@ -22,6 +22,7 @@ use Rattle.zy_shuffle.specs.declared.ring.view.Role.{Role}
 use Rattle.zy_shuffle.specs.declared.ring.view.Role.TheVariants.{Home}
 use Rattle.zy_shuffle.specs.declared.ring.view.Sight.{Sight}
 use Rattle.zy_shuffle.specs.declared.ring.view.Trace.{Trace}
+use Rattle.zy_shuffle.specs.Run.{MayFollow}
 use Rattle.zy_shuffle.specs.declared.ring.view.View.{View}
 use Rattle.zy_table.specs.Member.{is_in}
 use Rattle.zy_table.specs.declared.name.Name.{Name}
@@ -47,7 +48,7 @@ module _ {T M : Type 0} (mark : T → M) (label : T → Name) where
 
   pub bell_slot : (n i p mask : ℕ) (m1 m2 : Seated T) → collected mark label (step n i mask 0 none) m1 m2 → rung_place m1.0.role ≡ p → (y : std.Option T) × (m2.1 ≡ (p, y) ∷ rest m2.1)
   bell_slot n i p mask m1 m2 c e =
-      let one : m2.1 ≡ (p, std.Some c.0) ∷ m1.1 = ap (λ (m : Seated T). m.1) c.1 ∙ ap (λ y. (y, std.Some c.0) ∷ m1.1) e in
+      let one : m2.1 ≡ (p, std.Some c.0) ∷ m1.1 = ap (λ (m : Seated T). m.1) c.2 ∙ ap (λ y. (y, std.Some c.0) ∷ m1.1) e in
       (std.Some c.0, one ∙ ap (λ l. (p, std.Some c.0) ∷ l) (sym (ap rest one)))
 
   -- the home after it loaded a word that was 0
@@ -77,12 +78,12 @@ module _ {T M : Type 0} (mark : T → M) (label : T → Name) where
       let v1 : View T = noting_bells w x m0.0 in
       let is1 : m1 ≡ (v1, m0.1) = e ∙ ap (λ y. (noting_bells y x m0.0, m0.1)) at in
       let first : std.Option T → List (ℕ × std.Option T) → std.Option T = λ d l. first_of_list d l in
-      let b_is : c.0 ≡ b = some_same c.0 b (sym (ap (first_of_list std.None) (ap (λ (m : Seated T). m.1) c.1)) ∙ ap (first_of_list std.None) slot) in
-      let v2 : View T = collecting p b v1 in
-      let is2 : m2 ≡ (v2, (p, std.Some b) ∷ m0.1) = c.1 ∙ (λ j. (collecting (q_is j) (b_is j) (is1 j).0, (q_is j, std.Some (b_is j)) ∷ (is1 j).1)) in
+      let b_is : c.0 ≡ b = some_same c.0 b (sym (ap (first_of_list std.None) (ap (λ (m : Seated T). m.1) c.2)) ∙ ap (first_of_list std.None) slot) in
+      let v2 : View T = collecting p b c.1 v1 in
+      let is2 : m2 ≡ (v2, (p, std.Some b) ∷ m0.1) = c.2 ∙ (λ j. (collecting (q_is j) (b_is j) c.1 (is1 j).0, (q_is j, std.Some (b_is j)) ∷ (is1 j).1)) in
       let is3 : m3 ≡ (v2, emptied (p ∷ m0.0.hand)) = f ∙ (λ j. ((is2 j).0, (p, std.None) ∷ rest (is2 j).1)) ∙ ap (λ l. (v2, (p, std.None) ∷ l)) h.0 in
       let role2 : v2.role ≡ Home (tail_of m0.0.role) std.None std.None (out_of m0.0.role) = ap (λ y. with_bells std.None (with_bells (std.Some (w, x)) y)) h.1 in
-      let comes = c.2 in
+      let comes = c.3 in
       let near : p < places = subst (λ y. y < places) q_is (let a = comes.0 in omega arith) in
       let hand1 : m1.0.hand ≡ m0.0.hand = ap (λ (m : Seated T). m.0.hand) is1 in
       let apart : is_in p m0.0.hand ≡ false = (λ j. is_in (sym q_is j) (sym hand1 j)) ∙ comes.1 in
@@ -98,7 +99,7 @@ module _ {T M : Type 0} (mark : T → M) (label : T → Name) where
           labelled = tag;
         },
         (let a = bits.0 in omega arith),
-        (x, refl, (let a = bits.0 in ap (bit_at x) (let g : p % 64 ≡ trailing_zeros w64 x = omega arith in g) ∙ bits.1), λ y lt. bits.2 y (let a = bits.0 in omega arith)),
+        (x, c.1, refl, (let a = bits.0 in ap (bit_at x) (let g : p % 64 ≡ trailing_zeros w64 x = omega arith in g) ∙ bits.1), (λ y lt. bits.2 y (let a = bits.0 in omega arith)), subst (λ (y : Trace). MayFollow c.1 y) (ap (λ (m : Seated T). m.0.trace) is1) c.4),
       ) in
       (subst (λ (m : Seated T). IsHomeSeat s' (tail_of m0.0.role) m) (sym is3) home2, subst (λ (m : Seated T). LookedAt mark label places (held z m0.0) (held z m.0) w (std.Some (p, b))) (sym is3) looked2, kept)
     where
@@ -122,7 +123,7 @@ module _ {T M : Type 0} (mark : T → M) (label : T → Name) where
       let hand = ap (λ (y : Held T). y.hand) a in
       let tag = ap (λ (y : Held T). y.label) a in
       let bits : ℕ = l.2.0 in
-      let trace = l.2.1 in
+      let trace = l.2.2 in
       let word_is = l.1 in
       let at : (q : ℕ) → last_bell q w.trace.bells ≡ cond (q == word) (sight bits (u.trace.steps + 1)) (last_bell q u.trace.bells) = λ q. ap (λ (t : Trace). last_bell q t.bells) trace in
       let here : last_bell (x.0 / 64) w.trace.bells ≡ sight bits (u.trace.steps + 1) = at (x.0 / 64) ∙ ap (λ c. cond c (sight bits (u.trace.steps + 1)) (last_bell (x.0 / 64) u.trace.bells)) (eq-eqb (x.0 / 64) word word_is) in
@@ -136,8 +137,8 @@ module _ {T M : Type 0} (mark : T → M) (label : T → Name) where
         (
           bits,
           (ap (λ (y : Sight). y.value) here, (let b = ap (λ (y : Sight). y.step) here in omega arith)),
-          l.2.2,
-          (λ q lt. let ne : q ≢ word = (λ e. omega arith) in subst (λ (y : Sight). (y.value ≡ 0) × (v.trace.steps < y.step)) (sym (else_at q ne)) (rang q (omega arith))),
           l.2.3,
+          (λ q lt. let ne : q ≢ word = (λ e. omega arith) in subst (λ (y : Sight). (y.value ≡ 0) × (v.trace.steps < y.step)) (sym (else_at q ne)) (rang q (omega arith))),
+          l.2.4,
         ),
       )

@@ -41,5 +41,5 @@ module _ {T M : Type 0} (mark : T → M) (label : T → Name) where
   taken_slot n h r p m2 m3 m4 c hit g =
       let t = c.0 hit in
       let place : noted_place m3.0 ≡ p = ap (λ (m : Seated T). noted_place m.0) g in
-      let one : m4.1 ≡ (p, std.Some t.0) ∷ m3.1 = ap (λ (m : Seated T). m.1) t.1 ∙ ap (λ (x : ℕ). (x, std.Some t.0) ∷ m3.1) place in
+      let one : m4.1 ≡ (p, std.Some t.0) ∷ m3.1 = ap (λ (m : Seated T). m.1) t.2 ∙ ap (λ (x : ℕ). (x, std.Some t.0) ∷ m3.1) place in
       (std.Some t.0, one ∙ ap (λ l. (p, std.Some t.0) ∷ l) (sym (ap rest one)))

@@ -3,6 +3,7 @@ use Rattle.std.proofs.Common.{inl, inr}
 use Rattle.zy_shuffle.specs.Ownership.{idle, held}
 use Rattle.zy_shuffle.specs.Follow.{Agrees, Follows}
 use Rattle.zy_shuffle.proofs.FollowLemmas.{follows_holders}
+use Rattle.zy_shuffle.proofs.KnownLemmas.{known_same}
 use Rattle.std.proofs.Common.{◌≡◌, ◌≢◌, ℕ, ◌+◌, ◌<◌, ◌≤◌, List, [], length, get_or, set, cond, Bool, true, false, true≢false, refl, sym, ap, ◌∙◌, subst, ⊎_elim, arith}
 use Rattle.std.specs.Prelude as std
 use mathlib.Core.Option.{Option, some, some-injective}
@@ -97,10 +98,11 @@ module _ {T M : Type 0} (mark : T → M) (label : T → Name) where
         sums = subst (λ x. r.head + sum_below x (λ q. weight (holders' q)) ≡ r.tail) (sym long)
             (let a = sum_same m (λ q. weight (r.holders q)) (λ q. weight (holders' q)) (λ q _. at_shut v.hand r.holders (λ x. weight x ≡ weight (r.holders q)) q (λ e. ap weight (sym (k.hand q e).1)) (λ _. refl)) in let b = r.sums in omega arith);
         barren = λ e. r.barren (sym long ∙ e);
-        follows = subst (λ n. Follows s.words n r.head r.tail holders') (sym long) (follows_holders s.words m r.head r.tail r.holders holders'
+        follows = subst (λ n. Follows s.words n r.head r.tail holders' r.marks (set s.views id v')) (sym long) (follows_holders m r.marks s.views (set s.views id v') s.words r.head r.tail r.holders holders' r.marks (λ _ _. refl)
             (λ q _ x a. at_shut v.hand r.holders (λ y. Agrees y x) q
             (λ e. ⊎_elim (λ (f : x ≡ held id). inr (f ∙ ap held home.0)) (λ (f : (id ≡ 0) × (x ≡ idle)). inl f.1) (subst (λ y. Agrees y x) (k.hand q e).1 a))
-            (λ _. a)) r.follows);
+            (λ _. a)) r.follows
+            (known_same r.follows.events s.views id v v' at refl refl (λ e. let a = sym is_home ∙ e in cc) r.follows.known));
         each_place = λ q lt. let near : q < m = (let a = long in omega arith) in let old = r.each_place q near in record {
           lies = at_shut v.hand r.holders (Lies mark label homes' r.marks r.name q) q (λ e. all.back q e near) (λ e. kept_lies s.homes homes' r.marks r.name q (r.holders q) (all.others q e) old.lies);
           rings = at_shut v.hand r.holders (λ x. bell_at s.words (length homes') q ≡ bell x) q (λ e. ap (λ x. bell_at s.words x q) long ∙ old.rings ∙ ap bell (k.hand q e).1) (λ _. ap (λ x. bell_at s.words x q) long ∙ old.rings);

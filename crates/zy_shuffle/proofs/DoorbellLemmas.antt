@@ -1,5 +1,8 @@
 -- The steps on a doorbell word: a core gives a place back, and the home collects it.
 use Rattle.zy_shuffle.proofs.FollowLemmas.{follows_give, follows_collect}
+use Rattle.zy_shuffle.proofs.KnownLemmas.{between, since_is, may_follow, known_more}
+use Rattle.zy_shuffle.specs.declared.ring.view.Event.{Event}
+use Rattle.zy_shuffle.specs.declared.ring.view.Event.TheVariants.{GiveBack, Collect}
 use Rattle.std.proofs.Common.{◌≡◌, ◌≢◌, ℕ, ◌+◌, ◌*◌, ◌/◌, ◌%◌, ◌^◌, ◌<◌, ◌≤◌, List, ◌∷◌, length, get_or, set, true, false, true≢false, refl, sym, ap, ◌∙◌, subst, ⊎_elim, arith, length-set, get_or-set_other, get_or-set_same, bit_or, bit_and, w64}
 use Rattle.std.specs.Prelude as std
 use mathlib.Core.Option.{none, some}
@@ -10,7 +13,7 @@ use Rattle.std.proofs.lemmas.Nat.Bits.{bit_at_set_same, bit_at_set_other, bit_at
 use Rattle.atomic_table.specs.Table.{step, takes, gives, Allows}
 use Rattle.atomic_table.proofs.Lists.{set_here, set_else}
 use Rattle.zy_shuffle.proofs.MoveLemmas.{moved, note_else}
-use Rattle.zy_shuffle.specs.Hand.{marked, rest_of}
+use Rattle.zy_shuffle.specs.Hand.{first_of, marked, rest_of}
 use Rattle.zy_shuffle.specs.Holder.{Holder, at_bell, core_count, cores, in_hand, in_queue, nobody, weight}
 use Rattle.zy_shuffle.specs.ShuffleRule.{IsRole, IsStored, Lies, ShuffleRule}
 use Rattle.zy_shuffle.specs.HomeRole.{IsActive, rung_place, with_bells}
@@ -62,7 +65,11 @@ module _ {T M : Type 0} (mark : T → M) (label : T → Name) where
       let tag_is : v.label ≡ r.name = core.0 in
       let holders' : ℕ → Holder = put r.holders p at_bell in
       let marks' : ℕ → std.Option M = put r.marks p (r.marks p) in
-      let v' : View T = giving v in (
+      let active : IsActive v.role = subst IsActive (sym role) tt in
+      let f = r.follows in
+      let since : ℕ × List Event = (id, between f.events s.views f.known id v at active) in
+      let back = sym (since_is f.events s.views f.known id v at active) in
+      let v' : View T = giving since v in (
         v',
         gives,
         tt,
@@ -97,11 +104,12 @@ module _ {T M : Type 0} (mark : T → M) (label : T → Name) where
             note = note_else mark label s.words ws' r.head r.head r.tail r.tail m v.note (omega arith) (omega arith) (λ q _ _. cells q) k.note;
             role = subst (λ x. IsRole mark label ws' m r.head r.tail holders' marks' r.name (cores s.views) id ks v.label v.kept x) (sym role) core;
           };
-          follows = follows_give s.words ws' m r.head r.tail id p r.holders ordered near mine.1 core.1 (λ k _ _. cells k) r.follows;
+          follows = follows_give m r.marks s.views (set s.views id v') s.words ws' r.head r.tail id p r.holders ordered near mine.1 core.1 (λ k _ _. cells k) f
+              (known_more f.events s.views f.known id v at active v' (GiveBack id p) (λ i. GiveBack id (ap first_of front i) ∷ back i) refl refl);
           live_here = λ j e. cc;
           live_else = λ q ne e. sym (in_cons p q ks ne) ∙ sym (ap (is_in q) front) ∙ e;
         },
-        refl,
+        (since, refl, may_follow f.events s.views f.known id v at active),
       )
 
   -- the fetch-and of the home, at the lowest bit that it has noted
@@ -143,7 +151,10 @@ module _ {T M : Type 0} (mark : T → M) (label : T → Name) where
       let holders' : ℕ → Holder = put r.holders p (in_hand id) in
       let marks' : ℕ → std.Option M = put r.marks p (r.marks p) in
       let kept' : List (ℕ × T) = (p, b) ∷ v.kept in
-      let v' : View T = collecting p b v in
+      let active : IsActive v.role = subst IsActive (sym role) tt in
+      let f = r.follows in
+      let since : ℕ × List Event = (id, between f.events s.views f.known id v at active) in
+      let v' : View T = collecting p b since v in
       let role' : with_bells std.None v.role ≡ Home t st std.None out = ap (with_bells std.None) role in
       let not_mine : is_in p v.hand ≡ false = not_in p v.hand (λ e. let a = (k.hand p e).1 in cc) in
       let marks_now : (q : ℕ) → marked mark q kept' ≡ marks' q = λ q. taken_marks mark label r.marks p b v.kept has.2 q (λ _. home.6 q) in (
@@ -185,11 +196,12 @@ module _ {T M : Type 0} (mark : T → M) (label : T → Name) where
             role = subst (λ x. IsRole mark label ws' m r.head r.tail holders' marks' r.name (cores s.views) id v'.hand v.label kept' x) (sym role')
                 (home.0, home.1, home.2, home.3, stored ws' (cells r.tail) st home.4, tt, marks_now, λ q lt. at_put r.holders p (in_hand id) (λ a b. b ≡ nobody → ⊥) q (λ e. cc) (λ _. home.7 q lt));
           };
-          follows = follows_collect s.words ws' m r.head r.tail id p r.holders ordered near is_rung home.0 (λ k _ _. cells k) r.follows;
+          follows = follows_collect m r.marks s.views (set s.views id v') s.words ws' r.head r.tail id p r.holders ordered near is_rung home.0 (λ k _ _. cells k) f
+              (known_more f.events s.views f.known id v at active v' (Collect p) (ap (λ l. Collect p ∷ l) (sym (since_is f.events s.views f.known id v at active))) refl (sym home.0));
           live_here = λ j e. ((cc), in_front p v.hand);
           live_else = λ q ne e. in_more p q v.hand e;
         },
-        (b, refl, (omega arith, not_mine, has.3 ∙ sym home.1, λ _. home.6 p ∙ has.2)),
+        (b, since, refl, (omega arith, not_mine, has.3 ∙ sym home.1, λ _. home.6 p ∙ has.2), may_follow f.events s.views f.known id v at active),
       )
     where
       stored : (ws' : List ℕ) → cell ws' (length s.homes) r.tail ≡ cell s.words (length s.homes) r.tail → (x : std.Option ℕ) → IsStored s.words r.head r.tail (length s.homes) x → IsStored ws' r.head r.tail (length s.homes) x

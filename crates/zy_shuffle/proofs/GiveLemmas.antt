@@ -28,11 +28,11 @@ module _ {T M : Type 0} (mark : T → M) (label : T → Name) where
   front_slot p ks m e = (std.None, e ∙ ap (λ l. (p, std.None) ∷ l) (sym (ap rest e)))
 
   pub stores_tail_as : (s n id p i t : ℕ) (b : T) (m0 m1 m2 : Seated T) → IsHomeSeat s t m0 → stored_cell (step n i p 0 none) m0 m1 → m2 ≡ (m1.0, (p, std.Some b) ∷ rest m1.1) → label b ≡ m0.0.label
-      → Allows (ShuffleRule mark label) n id m2 16 (λ _. t + 1) (λ _ m. published m2 m)
+      → Allows (ShuffleRule mark label) n id m2 16 (λ _. t + 1) (λ _ m. published mark m2 m)
   stores_tail_as s n id p i t b m0 m1 m2 h e f tag =
       let v : View T = storing p m0.0 in
       let is : m2 ≡ (v, (p, std.Some b) ∷ rest m1.1) = f ∙ ap (λ (m : Seated T). (m.0, (p, std.Some b) ∷ rest m1.1)) e in
-      subst (λ (m : Seated T). Allows (ShuffleRule mark label) n id m 16 (λ _. t + 1) (λ _ w. published m w)) (sym is)
+      subst (λ (m : Seated T). Allows (ShuffleRule mark label) n id m 16 (λ _. t + 1) (λ _ w. published mark m w)) (sym is)
       (stores_tail mark label n id p t (out_of m0.0.role) (t + 1) (bells_of m0.0.role) b v (rest m1.1) (ap (with_stored p) h.1) refl tag refl)
 
   pub fronts_as : (s n id p : ℕ) (me : Seated T) → IsCoreSeat s me → is_in p me.0.hand ≡ true → Allows (ShuffleRule mark label) n id me 0 (λ y. y) (λ y m. fronted p me y m)
@@ -49,6 +49,7 @@ module _ {T M : Type 0} (mark : T → M) (label : T → Name) where
         kept = refl;
         hand = sym w;
         slots = h.seat.0 ∙ ap emptied (sym w);
+        stays = (refl, refl);
       }
 
   pub brought_now : (p q y : ℕ) (m0 m1 : Seated T) → fronted p m0 y m1 → q ≡ p → IsBrought q m0 m1
@@ -58,6 +59,7 @@ module _ {T M : Type 0} (mark : T → M) (label : T → Name) where
     kept = ap (λ (m : Seated T). m.0.kept) e;
     hand = ap (λ (m : Seated T). m.0.hand) e;
     slots = ap (λ (m : Seated T). m.1) e;
+    stays = (ap (λ (m : Seated T). m.0.trace.run) e, ap (λ (m : Seated T). m.0.trace.seats) e);
   }
 
   pub gives_back_as : (s n id q i places mask : ℕ) (b : T) (m0 m1 m2 : Seated T) → IsCoreSeat s m0 → IsBrought q m0 m1 → m2 ≡ (m1.0, (q, std.Some b) ∷ rest m1.1) → label b ≡ m0.0.label → marked mark q m0.0.kept ≡ std.Some (mark b) → n ≡ places

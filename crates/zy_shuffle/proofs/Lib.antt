@@ -1,5 +1,6 @@
 pub mod OwnerLemmas
-pub mod FollowLemmas
+pub mod KnownLemmas
+mod FollowLemmas
 pub mod HandLemmas
 pub mod MoveLemmas
 pub mod LookLemmas
@@ -15,4 +16,7 @@ pub mod GiveLemmas
 pub mod BellLemmas
 pub mod PassLemmas
 pub mod LeftLemmas
+pub mod EventLemmas
 pub mod RuleLemmas
+pub mod RunLemmas
+pub mod HolderLemmas

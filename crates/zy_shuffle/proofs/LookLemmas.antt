@@ -38,9 +38,9 @@ module _ {T M : Type 0} (mark : T → M) (label : T → Name) where
 
   -- the table as it was, with another view of the same kind
   pub seen : (s : RingState T) (r : ShuffleRule mark label s) (id i : ℕ) (v v' : View T) → get_elem? s.views id ≡ some v → core_count v'.role ≡ core_count v.role → IsActive v.role
-      → Knows mark label s.words (length s.homes) r.head r.tail r.holders r.marks r.name (cores s.views) id v' → ((q : ℕ) → is_in q v.hand ≡ true → is_in q v'.hand ≡ true)
+      → Knows mark label s.words (length s.homes) r.head r.tail r.holders r.marks r.name (cores s.views) id v' → ((q : ℕ) → is_in q v.hand ≡ true → is_in q v'.hand ≡ true) → v'.trace.run ≡ v.trace.run → v'.trace.seats ≡ v.trace.seats
       → ShuffleRule mark label record { words = set s.words i (get_or s.words i 0); homes = s.homes; views = set s.views id v' }
-  seen s r id i v v' at kind active knows live =
+  seen s r id i v v' at kind active knows live run seats =
       let same : set s.words i (get_or s.words i 0) ≡ s.words = set-get_or s.words i 0 in
       looked_on mark label s r id v v' i (get_or s.words i 0) record {
         at = at;
@@ -53,6 +53,8 @@ module _ {T M : Type 0} (mark : T → M) (label : T → Name) where
         quiet = λ _. ap (λ ws. cell ws (length s.homes) r.tail) same;
         knows = subst (λ ws. Knows mark label ws (length s.homes) r.head r.tail r.holders r.marks r.name (cores s.views) id v') (sym same) knows;
         live = live;
+        run = run;
+        seats = seats;
       }
 
   pub loads_head : (n id : ℕ) (me : Seated T) → IsActive me.0.role → Allows (ShuffleRule mark label) n id me 0 (λ y. y) (saw_head (step n 0 0 0 none) me)
@@ -61,7 +63,7 @@ module _ {T M : Type 0} (mark : T → M) (label : T → Name) where
       let k = r.each_seat id me.0 at in
       let is = r.head_is in
       let v' : View T = traced (head_step y) me.0 in
-      (v', keeps, tt, seen s r id 0 me.0 v' at refl active (knows_looked s.words (length s.homes) r.head r.tail r.holders r.marks r.name (cores s.views) id me.0 (head_step y me.0.trace) me.0.note (omega arith) k.tail_seen k.note k) (λ q e. e), refl)
+      (v', keeps, tt, seen s r id 0 me.0 v' at refl active (knows_looked s.words (length s.homes) r.head r.tail r.holders r.marks r.name (cores s.views) id me.0 (head_step y me.0.trace) me.0.note (omega arith) k.tail_seen k.note k) (λ q e. e) refl refl, refl)
 
   pub loads_tail : (n id : ℕ) (me : Seated T) → IsActive me.0.role → Allows (ShuffleRule mark label) n id me 16 (λ y. y) (saw_tail (step n 16 0 0 none) me)
   loads_tail n id me active s r wide at _ =
@@ -74,7 +76,7 @@ module _ {T M : Type 0} (mark : T → M) (label : T → Name) where
         v',
         keeps,
         tt,
-        seen s r id 16 me.0 v' at refl active (knows_looked s.words (length s.homes) r.head r.tail r.holders r.marks r.name (cores s.views) id me.0 (tail_step y r.head me.0.trace) me.0.note k.head_seen (omega arith) k.note k) (λ q e. e),
+        seen s r id 16 me.0 v' at refl active (knows_looked s.words (length s.homes) r.head r.tail r.holders r.marks r.name (cores s.views) id me.0 (tail_step y r.head me.0.trace) me.0.note k.head_seen (omega arith) k.note k) (λ q e. e) refl refl,
         (r.head, refl, omega arith, omega arith, λ e. is ∙ r.barren (wide ∙ e)),
       )
 
@@ -86,7 +88,7 @@ module _ {T M : Type 0} (mark : T → M) (label : T → Name) where
       let v' : View T = noting h y me.0 in
       let ts = k.tail_seen in
       let at_cell : cell s.words (length s.homes) h ≡ y = ap (λ (m : ℕ). get_or s.words (32 + h % m) 0) wide ∙ ap (λ (m : ℕ). get_or s.words m 0) (sym is) in
-      (v', keeps, tt, seen s r id i me.0 v' at refl active (knows_looked s.words (length s.homes) r.head r.tail r.holders r.marks r.name (cores s.views) id me.0 (plain_step me.0.trace) (std.Some (h, y)) k.head_seen k.tail_seen (omega arith, λ _. at_cell) k) (λ q e. e), refl)
+      (v', keeps, tt, seen s r id i me.0 v' at refl active (knows_looked s.words (length s.homes) r.head r.tail r.holders r.marks r.name (cores s.views) id me.0 (plain_step me.0.trace) (std.Some (h, y)) k.head_seen k.tail_seen (omega arith, λ _. at_cell) k) (λ q e. e) refl refl, refl)
 
   -- an exchange of the head that fails
   pub misses : (s : RingState T) (r : ShuffleRule mark label s) (id : ℕ) (me : Seated T) (told : Seated T → Type 0) → get_elem? s.views id ≡ some me.0 → IsActive me.0.role → told (traced (try_step (get_or s.words 0 0)) me.0, me.1) → Goes s 0 id me told (get_or s.words 0 0)
@@ -94,7 +96,7 @@ module _ {T M : Type 0} (mark : T → M) (label : T → Name) where
       let y : ℕ = get_or s.words 0 0 in
       let k = r.each_seat id me.0 at in
       let v' : View T = traced (try_step y) me.0 in
-      (v', keeps, tt, seen s r id 0 me.0 v' at refl active (knows_looked s.words (length s.homes) r.head r.tail r.holders r.marks r.name (cores s.views) id me.0 (try_step y me.0.trace) me.0.note k.head_seen k.tail_seen k.note k) (λ q e. e), t)
+      (v', keeps, tt, seen s r id 0 me.0 v' at refl active (knows_looked s.words (length s.homes) r.head r.tail r.holders r.marks r.name (cores s.views) id me.0 (try_step y me.0.trace) me.0.note k.head_seen k.tail_seen k.note k) (λ q e. e) refl refl, t)
 
   -- the slots that a seat has taken out
   pub out_with : (s : RingState T) (r : ShuffleRule mark label s) (id : ℕ) (v : View T) → get_elem? s.views id ≡ some v → (q : ℕ) → is_in q v.hand ≡ true → get_elem? s.homes q ≡ some none
@@ -132,7 +134,7 @@ module _ {T M : Type 0} (mark : T → M) (label : T → Name) where
         v',
         fetch_act p hand,
         f.0,
-        subst (λ (hs : List (Option (std.Option T))). ShuffleRule mark label record { words = set s.words 0 y; homes = hs; views = set s.views id v' }) (sym f.2) (seen s r id 0 me.0 v' at refl active knows (λ q e. front_in p q hand has ∙ e)),
+        subst (λ (hs : List (Option (std.Option T))). ShuffleRule mark label record { words = set s.words 0 y; homes = hs; views = set s.views id v' }) (sym f.2) (seen s r id 0 me.0 v' at refl active knows (λ q e. front_in p q hand has ∙ e) refl refl),
         (λ i. (v', f.1 i)),
       )
 
@@ -195,6 +197,8 @@ module _ {T M : Type 0} (mark : T → M) (label : T → Name) where
         quiet = λ e. absurd (home_core (sym role ∙ e));
         knows = knows;
         live = λ q e. front_in p q hand has ∙ e;
+        run = refl;
+        seats = refl;
       } in
       subst (λ (cs : List (ℕ × std.Option T)). (w : View T) × (a : Act (std.Option T)) × Valid s.homes cs a × ShuffleRule mark label (stepped s i p id cs w a) × stored_cell (step n i p 0 none) me (w, carried_after cs a)) (sym is_out) (
         v',
@@ -247,6 +251,8 @@ module _ {T M : Type 0} (mark : T → M) (label : T → Name) where
               note = k.note;
               role = subst (λ x. IsRole mark label s.words m r.head r.tail r.holders r.marks r.name (cores s.views) id me.0.hand me.0.label me.0.kept x) (sym role') (home.0, home.1, home.2, home.3, home.4, rung, home.6, home.7);
             }
-            (λ q e. e),
+            (λ q e. e)
+            refl
+            refl,
         refl,
       )

@@ -8,6 +8,7 @@ use lib.ListN.{get_elem?}
 use Rattle.atomic_table.proofs.Lists.{at_set, set_here, set_else}
 use Rattle.zy_shuffle.specs.Follow.{Follows}
 use Rattle.zy_shuffle.proofs.FollowLemmas.{follows_else}
+use Rattle.zy_shuffle.proofs.KnownLemmas.{not_spent, known_same}
 use Rattle.zy_shuffle.proofs.HandLemmas.{cores_at, cores_set}
 use Rattle.zy_shuffle.specs.Holder.{Holder, at_bell, bell, core_count, cores, in_hand, in_queue, nobody, weight}
 use Rattle.zy_shuffle.specs.ShuffleRule.{RingState, InQueue, IsNote, IsRole, IsRung, IsStored, Knows, Lies, PlaceRule, ShuffleRule}
@@ -98,7 +99,7 @@ module _ {T M : Type 0} (mark : T → M) (label : T → Name) where
       pub cell_now : (k : ℕ) → head' ≤ k → k < tail' → (cell Ws Size k < Size) × (Holders (cell Ws Size k) ≡ in_queue k)
       pub quiet : v.role ≡ Core → (tail' ≡ r.tail) × (r.holders p ≡ at_bell → ⊥) × (mk' ≡ r.marks p) × (x' ≡ nobody → ⊥)
       pub knows : Knows mark label Ws Size head' tail' Holders Marks r.name (cores s.views) id v'
-      pub follows : Follows Ws Size head' tail' Holders
+      pub follows : Follows Ws Size head' tail' Holders Marks (set s.views id v')
       pub live_here : (j : ℕ) → x' ≡ in_hand j → (j ≡ id) × (is_in p v'.hand ≡ true)
       pub live_else : (q : ℕ) → q ≢ p → is_in q v.hand ≡ true → is_in q v'.hand ≡ true
 
@@ -167,7 +168,7 @@ module _ {T M : Type 0} (mark : T → M) (label : T → Name) where
                 (λ (y : (j ≡ id) × (v' ≡ u)). subst (λ (y : ℕ × View T). Knows mark label Ws Size head' tail' Holders Marks r.name (cores s.views) y.0 y.1) (λ i. (sym y.0 i, y.1 i)) h.knows)
                 (λ (y : (j ≢ id) × (get_elem? s.views j ≡ some u)). others j u y.0 (r.each_seat j u y.1))
                 (at_set s.views id j v' u e));
-            follows = subst (λ n. Follows Ws n head' tail' Holders) (sym h.long) h.follows;
+            follows = subst (λ n. Follows Ws n head' tail' Holders Marks (set s.views id v')) (sym h.long) h.follows;
             live = λ q j lt. at_put r.holders p x' (λ a b. a < length homes' → b ≡ in_hand j → (u : View T) × (get_elem? (set s.views id v') j ≡ some u) × (is_in a u.hand ≡ true)) q
                 (λ _ e. let l = h.live_here j e in (v', ap (get_elem? (set s.views id v')) l.0 ∙ set_here s.views id v' (at_below s.views id v h.at), l.1))
                 (λ ne less e. let long = h.long in let old = r.live q j (omega arith) e in dite (ℕ_discrete j id)
@@ -195,6 +196,8 @@ module _ {T M : Type 0} (mark : T → M) (label : T → Name) where
       pub quiet : v.role ≡ Core → cell Wz Zize r.tail ≡ cell s.words Zize r.tail
       pub knows : Knows mark label Wz Zize r.head r.tail r.holders r.marks r.name (cores s.views) id v'
       pub live : (q : ℕ) → is_in q v.hand ≡ true → is_in q v'.hand ≡ true
+      pub run : v'.trace.run ≡ v.trace.run
+      pub seats : v'.trace.seats ≡ v.trace.seats
 
     module _ (h : Look) where
       lookers_role : (j : ℕ) (u : View T) (x : Role) → j ≢ id → IsRole mark label s.words Zize r.head r.tail r.holders r.marks r.name (cores s.views) j u.hand u.label u.kept x → IsRole mark label Wz Zize r.head r.tail r.holders r.marks r.name (cores s.views) j u.hand u.label u.kept x
@@ -246,7 +249,8 @@ module _ {T M : Type 0} (mark : T → M) (label : T → Name) where
                 (λ (y : (j ≡ id) × (v' ≡ u)). subst (λ (y : ℕ × View T). Knows mark label Wz Zize r.head r.tail r.holders r.marks r.name (cores s.views) y.0 y.1) (λ i. (sym y.0 i, y.1 i)) h.knows)
                 (λ (y : (j ≢ id) × (get_elem? s.views j ≡ some u)). lookers j u y.0 (r.each_seat j u y.1))
                 (at_set s.views id j v' u e));
-            follows = follows_else s.words Wz Zize r.head r.tail r.holders (let a = r.sums in omega arith) h.cells r.follows;
+            follows = follows_else Zize r.marks s.views (set s.views id v') s.words Wz r.head r.tail r.holders (let a = r.sums in omega arith) h.cells r.follows
+                (known_same r.follows.events s.views id v v' h.at h.run h.seats (λ e. absurd (not_spent v.role h.active e)) r.follows.known);
             live = λ q j lt e. let old = r.live q j lt e in dite (ℕ_discrete j id)
                 (λ is. let same : v ≡ old.0 = some-injective _ _ (sym h.at ∙ ap (get_elem? s.views) (sym is) ∙ old.1) in
                 (v', ap (get_elem? (set s.views id v')) is ∙ set_here s.views id v' (at_below s.views id v h.at), h.live q (ap (λ (y : View T). is_in q y.hand) same ∙ old.2)))

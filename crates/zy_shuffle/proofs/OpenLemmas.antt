@@ -3,6 +3,7 @@ use Rattle.std.proofs.Common.{inl, inr}
 use Rattle.zy_shuffle.specs.Ownership.{idle, held, no_requests}
 use Rattle.zy_shuffle.specs.Follow.{Agrees, Follows}
 use Rattle.zy_shuffle.proofs.FollowLemmas.{follows_holders}
+use Rattle.zy_shuffle.proofs.KnownLemmas.{known_same, known_start}
 use Rattle.std.proofs.Common.{◌≡◌, ◌≢◌, ℕ, zero, suc, ◌+◌, ◌/◌, ◌%◌, ◌<◌, ◌≤◌, List, [], ◌∷◌, map, replicate, length, get_or, set, true, true≢false, refl, sym, ap, ◌∙◌, subst, ⊎_elim, arith}
 use Rattle.std.specs.Prelude as std
 use mathlib.Core.Option.{Option, none, some, some-injective, some-ne-none}
@@ -76,8 +77,9 @@ module _ {T M : Type 0} (mark : T → M) (label : T → Name) where
         };
         blank = λ q le. ap (λ x. bell_at s.words x q) long ∙ r.blank q (omega arith);
         each_cell = λ c a b. absurd (omega arith);
-        follows = subst (λ n. Follows s.words n r.head r.tail holders') (sym long) (follows_holders s.words m r.head r.tail r.holders holders'
-            (λ q _ x a. ⊎_elim (λ (e : x ≡ idle). inr (role.0, e)) (λ (e : x ≡ held 0). inl (e ∙ ap held (sym role.0))) (subst (λ y. Agrees y x) (role.4 q) a)) r.follows);
+        follows = subst (λ n. Follows s.words n r.head r.tail holders' marks' (set s.views id v')) (sym long) (follows_holders m r.marks s.views (set s.views id v') s.words r.head r.tail r.holders holders' marks' (λ q _. role.5 q)
+            (λ q _ x a. ⊎_elim (λ (e : x ≡ idle). inr (role.0, e)) (λ (e : x ≡ held 0). inl (e ∙ ap held (sym role.0))) (subst (λ y. Agrees y x) (role.4 q) a)) r.follows
+            (known_same r.follows.events s.views id start v' at refl refl (λ e. cc) r.follows.known));
         each_seat = subst (λ (x : ℕ × ℕ). (j : ℕ) (u : View T) → get_elem? (set s.views id v') j ≡ some u → Knows mark label s.words x.0 r.head r.tail holders' marks' z x.1 j u) (λ i. (sym long i, sym count i))
             (λ j u e. ⊎_elim
             (λ (x : (j ≡ id) × (v' ≡ u)). subst (λ (x : ℕ × View T). Knows mark label s.words m r.head r.tail holders' marks' z 0 x.0 x.1) (λ i. (sym x.0 i, x.1 i)) mine)
@@ -117,7 +119,7 @@ module _ {T M : Type 0} (mark : T → M) (label : T → Name) where
         each_place = λ q lt. record { lies = slots q (omega arith); rings = bells q; queued = tt };
         blank = λ q _. bells q;
         each_cell = λ c a b. absurd (omega arith);
-        follows = record { owners = no_requests; events = []; run = refl; places = λ _ _. inl refl; queue = refl };
+        follows = record { owners = no_requests; events = []; run = refl; places = λ _ _. inl refl; queue = refl; unmarked = λ _ _. ((λ _. refl), λ _. refl); due = λ _ _ h. absurd (h refl); known = known_start };
         each_seat = first m ws;
         live = λ q j lt e. cc;
       }
@@ -130,7 +132,7 @@ module _ {T M : Type 0} (mark : T → M) (label : T → Name) where
         head_seen = omega arith;
         tail_seen = omega arith;
         note = tt;
-        role = (refl, refl, refl, refl, λ _. refl);
+        role = (refl, refl, refl, refl, (λ _. refl), λ _. refl);
       }
       first m ws (suc j) u e = absurd (some-ne-none u (sym e))
 

@@ -6,7 +6,9 @@ use Rattle.zy_table.specs.Member.{is_in, IsDistinct}
 use Rattle.zy_table.specs.Put.{put}
 use Rattle.zy_table.proofs.PutLemmas.{at_put, put_here, put_else}
 use Rattle.zy_table.proofs.MemberLemmas.{in_or, in_front, in_cons, in_more, not_in}
-use Rattle.zy_shuffle.specs.Ownership.{Place, idle, ready, held, returned, Owners, no_requests, Event, Arrive, Claim, Handle, GiveBack, Collect, Settle, moved, with_requests, with_finished, happens, IsSound, Runs}
+use Rattle.zy_shuffle.specs.declared.ring.view.Event.{Event}
+use Rattle.zy_shuffle.specs.declared.ring.view.Event.TheVariants.{Arrive, Claim, Handle, GiveBack, Collect, Settle}
+use Rattle.zy_shuffle.specs.Ownership.{Place, idle, ready, held, returned, Owners, no_requests, moved, with_requests, with_finished, happens, IsSound, Runs}
 
 -- ---- a queue with one further member
 
@@ -118,7 +120,7 @@ finishes s core c sound is due = record {
 }
 
 -- whether a connection is idle
-idle_or : (place : Place) → (place ≡ idle) ⊎ (place ≢ idle)
+pub idle_or : (place : Place) → (place ≡ idle) ⊎ (place ≢ idle)
 idle_or idle = inl refl
 idle_or ready = inr (λ e. cc)
 idle_or (held core) = inr (λ e. cc)
@@ -151,9 +153,9 @@ begins_sound = record {
   ready_due = λ c e. cc;
 }
 
-runs_from : (home : ℕ) (s t : Owners) (events : List Event) → IsSound s → Runs home s events t → IsSound t
+pub runs_from : (home : ℕ) (s t : Owners) (events : List Event) → IsSound s → Runs home s events t → IsSound t
 runs_from home s t [] sound run = subst IsSound (sym run) sound
-runs_from home s t (e ∷ es) sound run = runs_from home run.0 t es (keeps_sound home s run.0 e sound run.1) run.2
+runs_from home s t (e ∷ es) sound run = keeps_sound home run.0 t e (runs_from home s run.0 es sound run.1) run.2
 
 pub runs_sound : (home : ℕ) (t : Owners) (events : List Event) → Runs home no_requests events t → IsSound t
 runs_sound home t events run = runs_from home no_requests t events begins_sound run
@@ -161,3 +163,30 @@ runs_sound home t events run = runs_from home no_requests t events begins_sound 
 -- an idle connection has no unfinished request
 pub not_idle : (s : Owners) (c : ℕ) → IsSound s → s.finished c < s.arrived c → s.places c ≢ idle
 not_idle s c sound due e = let a = sound.idle_done c e in omega arith
+
+-- ---- one run leads to one state
+
+happens_one : (home : ℕ) (s t t' : Owners) (e : Event) → IsSound s → happens home s e t → happens home s e t' → t ≡ t'
+happens_one home s t t' (Arrive c count) sound h k = ⊎_elim (λ (e : s.places c ≡ idle). h.1 e ∙ sym (k.1 e)) (λ (ne : s.places c ≢ idle). h.2 ne ∙ sym (k.2 ne)) (idle_or (s.places c))
+happens_one home s t t' (Claim core) sound h k =
+    let both : h.0 ∷ h.1 ≡ k.0 ∷ k.1 = sym h.2 ∙ k.2 in
+    let first : h.0 ≡ k.0 = cc in
+    let rest : h.1 ≡ k.1 = cc in
+    h.3 ∙ (λ i. record (moved (first i) (held core) s) { queue = rest i }) ∙ sym k.3
+happens_one home s t t' (Handle core c) sound h k = h.2 ∙ sym k.2
+happens_one home s t t' (GiveBack core c) sound h k = h.2 ∙ sym k.2
+happens_one home s t t' (Collect c) sound h k = h.1 ∙ sym k.1
+happens_one home s t t' (Settle c) sound h k = dite (ℕ_discrete (s.finished c) (s.arrived c))
+    (λ done. h.2 done ∙ sym (k.2 done))
+    (λ left. let due : s.finished c < s.arrived c = (let a = sound.counts c in omega arith) in h.1 due ∙ sym (k.1 due))
+
+pub runs_one : (home : ℕ) (t t' : Owners) (events : List Event) → Runs home no_requests events t → Runs home no_requests events t' → t ≡ t'
+runs_one home t t' [] h k = h ∙ sym k
+runs_one home t t' (e ∷ es) h k =
+    happens_one home h.0 t t' e (runs_sound home h.0 es h.1) h.2 (subst (λ u. happens home u e t') (sym (runs_one home h.0 k.0 es h.1 k.1)) k.2)
+
+-- a run that goes on by one event: it leads from the state that the run reached
+pub runs_step : (home : ℕ) (s t : Owners) (es es' : List Event) (e : Event) → es' ≡ e ∷ es → Runs home no_requests es s → Runs home no_requests es' t → happens home s e t
+runs_step home s t es es' e is h k =
+    let l = subst (λ x. Runs home no_requests x t) is k in
+    subst (λ u. happens home u e t) (sym (runs_one home s l.0 es h l.1)) l.2

@@ -9,7 +9,7 @@ use Rattle.zy_shuffle.specs.Hand.{below_then, emptied, rest_of}
 use Rattle.zy_shuffle.specs.Pass.{HasAll, Claimed, Held, held, out_of}
 use Rattle.zy_shuffle.specs.PassSeat.{IsBrought, IsCorePass, IsCoreSeat, IsHomeSeat, Within, bells_of}
 use Rattle.zy_shuffle.specs.HomeRole.{with_published, with_stored}
-use Rattle.zy_shuffle.specs.Step.{Seated, gave, giving, named_as, published, publishing, stored_cell, storing}
+use Rattle.zy_shuffle.specs.Step.{Seated, gave, giving, named_as, next_publication, published, publishing, stored_cell, storing}
 use Rattle.zy_shuffle.specs.declared.claim.Claim.TheVariants.{Took}
 use Rattle.zy_shuffle.specs.declared.ring.view.Role.{Role}
 use Rattle.zy_shuffle.specs.declared.ring.view.Role.TheVariants.{Home}
@@ -59,21 +59,21 @@ module _ {T : Type 0} where
   pub hand_named : (z : Name) (n places : ℕ) (m : Seated T) → named_as {T = T} z (step n 0 0 0 none) m → n ≡ places → HasAll places m.0.hand
   hand_named z n places m e size place lt = ap (λ (x : Seated T). is_in place x.0.hand) e ∙ below_in n place [] (omega arith)
 
-  pub home_published : (s s' n i p t : ℕ) (b : T) (m0 m1 m2 m3 : Seated T) → s' ≡ s → IsHomeSeat s t m0 → stored_cell (step n i p 0 none) m0 m1 → m2 ≡ (m1.0, (p, std.Some b) ∷ rest m1.1) → published m2 m3 → IsHomeSeat s' (t + 1) m3
-  home_published s s' n i p t b m0 m1 m2 m3 same h e f g =
+  pub home_published : {M : Type 0} (mark : T → M) (s s' n i p t : ℕ) (b : T) (m0 m1 m2 m3 : Seated T) → s' ≡ s → IsHomeSeat s t m0 → stored_cell (step n i p 0 none) m0 m1 → m2 ≡ (m1.0, (p, std.Some b) ∷ rest m1.1) → published mark m2 m3 → IsHomeSeat s' (t + 1) m3
+  home_published mark s s' n i p t b m0 m1 m2 m3 same h e f g =
       let v : View T = storing p m0.0 in
       let cs : List (ℕ × std.Option T) = emptied (without p m0.0.hand) in
       let is2 : m2 ≡ (v, (p, std.Some b) ∷ cs) = f ∙ (λ j. ((e j).0, (p, std.Some b) ∷ rest (e j).1)) in
-      let is3 : m3 ≡ (publishing v ((p, std.Some b) ∷ cs), cs) = g ∙ ap (λ (m : Seated T). (publishing m.0 m.1, rest m.1)) is2 in
+      let is3 : m3 ≡ (publishing g.0 (next_publication mark v) v ((p, std.Some b) ∷ cs), cs) = g.1 ∙ ap (λ (m : Seated T). (publishing g.0 (next_publication mark m.0) m.0 m.1, rest m.1)) is2 in
       let role : with_published (with_stored p m0.0.role) ≡ Home (t + 1) std.None (bells_of m0.0.role) (out_of m0.0.role) = ap (λ x. with_published (with_stored p x)) h.1 in
       let role' : with_published (with_stored p m0.0.role) ≡ Home (t + 1) std.None (bells_of (with_published (with_stored p m0.0.role))) (out_of (with_published (with_stored p m0.0.role))) = role ∙ ap (λ (y : Role). Home (t + 1) std.None (bells_of y) (out_of y)) (sym role) in
       subst (λ (x : Seated T). IsHomeSeat s' (t + 1) x) (sym is3) (refl, role', subst (λ k. Within k (without p m0.0.hand)) (sym same) (within_less s p m0.0.hand h.2))
 
   pub core_gave : (s s' q : ℕ) (front : std.Option ℕ) (b : T) (m0 m1 m2 m3 : Seated T) → s' ≡ s → IsCorePass s front m0 → IsBrought q m0 m1 → m2 ≡ (m1.0, (q, std.Some b) ∷ rest m1.1) → gave m2 m3 → IsCorePass s' std.None m3
   core_gave s s' q front b m0 m1 m2 m3 same h e f g =
-      let view : m3.0 ≡ giving m1.0 = ap (λ (m : Seated T). m.0) g ∙ ap (λ (m : Seated T). giving m.0) f in
+      let view : m3.0 ≡ giving g.0 m1.0 = ap (λ (m : Seated T). m.0) g.1 ∙ ap (λ (m : Seated T). giving g.0 m.0) f in
       let hand : m3.0.hand ≡ without q m0.0.hand = ap (λ (v : View T). v.hand) view ∙ ap rest_of e.hand in
-      let slots : m3.1 ≡ emptied (without q m0.0.hand) = ap (λ (m : Seated T). m.1) g ∙ ap (λ (m : Seated T). rest m.1) f ∙ ap rest e.slots in record {
+      let slots : m3.1 ≡ emptied (without q m0.0.hand) = ap (λ (m : Seated T). m.1) g.1 ∙ ap (λ (m : Seated T). rest m.1) f ∙ ap rest e.slots in record {
         seat = (slots ∙ ap emptied (sym hand), ap (λ (v : View T). v.role) view ∙ e.role ∙ h.seat.1, subst (λ (k : ℕ × List ℕ). Within k.0 k.1) (λ j. (sym same j, sym hand j)) (within_less s q m0.0.hand h.seat.2));
         front_is = tt;
         apart = subst IsDistinct (sym hand) (distinct_without q m0.0.hand h.apart);

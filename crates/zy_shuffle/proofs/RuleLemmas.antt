@@ -1,6 +1,6 @@
 -- What follows from the rule: the queue is bounded, and each place is in one hand, or once in the
 -- queue, or at its doorbell.
-use Rattle.std.proofs.Common.{◌≡◌, ◌≢◌, ℕ, ◌+◌, ◌<◌, ◌≤◌, length, true, sym, ap, ◌∙◌, arith}
+use Rattle.std.proofs.Common.{◌≡◌, ◌≢◌, ◌⊎◌, ℕ, ◌+◌, ◌<◌, ◌≤◌, List, length, true, refl, sym, ap, ◌∙◌, subst, inl, inr, arith}
 use mathlib.Core.Option.{some}
 use lib.ListN.{get_elem?}
 use Rattle.zy_table.specs.declared.name.Name.{Name}
@@ -8,8 +8,12 @@ use Rattle.zy_table.specs.Member.{is_in}
 use Rattle.zy_table.proofs.SumLemmas.{sum_bound}
 use Rattle.zy_shuffle.specs.declared.ring.view.View.{View}
 use Rattle.zy_shuffle.specs.Word.{cell, bell_at}
-use Rattle.zy_shuffle.specs.Holder.{in_queue, weight, bell}
-use Rattle.zy_shuffle.specs.ShuffleRule.{RingState, ShuffleRule}
+use Rattle.zy_shuffle.specs.Holder.{Holder, nobody, in_queue, in_hand, at_bell, cores, weight, bell}
+use Rattle.zy_shuffle.specs.HomeRole.{IsHome}
+use Rattle.zy_shuffle.specs.OnePlace.{Holds, IsQueued}
+use Rattle.zy_shuffle.specs.ShuffleRule.{InQueue, IsRole, RingState, ShuffleRule}
+use Rattle.zy_shuffle.specs.declared.ring.view.Role.{Role}
+use Rattle.zy_shuffle.specs.declared.ring.view.Role.TheVariants.{Closed, Core, Home, Spent, Start}
 use Rattle.zy_shuffle.proofs.LookLemmas.{light}
 
 module _ {T M : Type 0} (mark : T → M) (label : T → Name) (s : RingState T) (r : ShuffleRule mark label s) where
@@ -41,3 +45,23 @@ module _ {T M : Type 0} (mark : T → M) (label : T → Name) (s : RingState T) 
   -- a place in the queue is not at its doorbell
   pub queue_apart : (k : ℕ) → r.head ≤ k → k < r.tail → bell_at s.words (length s.homes) (cell s.words (length s.homes) k) ≡ 0
   queue_apart k a b = let c = r.each_cell k a b in (r.each_place (cell s.words (length s.homes) k) c.0).rings ∙ ap bell c.1
+
+  -- each place is in a hand, or in the queue, or at its doorbell
+  pub somewhere : (v : View T) → get_elem? s.views 0 ≡ some v → IsHome v.role → (p : ℕ) → p < length s.homes
+      → ((j : ℕ) × Holds s j p)
+      ⊎ (((k : ℕ) × IsQueued s r.head r.tail k p) ⊎ (bell_at s.words (length s.homes) p ≡ 1))
+  somewhere v at home p near = go (r.holders p) refl
+    where
+      taken : (x : Role) → IsHome x → IsRole mark label s.words (length s.homes) r.head r.tail r.holders r.marks r.name (cores s.views) 0 v.hand v.label v.kept x → r.holders p ≡ nobody → ⊥
+      taken Spent a h = absurd a
+      taken Start a h = absurd a
+      taken Core a h = absurd a
+      taken (Home t st nt out) a h = h.7 p near
+      taken (Closed gone) a h = absurd a
+
+      go : (x : Holder) → r.holders p ≡ x → ((j : ℕ) × Holds s j p)
+          ⊎ (((k : ℕ) × IsQueued s r.head r.tail k p) ⊎ (bell_at s.words (length s.homes) p ≡ 1))
+      go nobody e = absurd (taken v.role home (r.each_seat 0 v at).role e)
+      go (in_queue k) e = let q = subst (InQueue s.words r.head r.tail (length s.homes) p) e (r.each_place p near).queued in inr (inl (k, (q.0, q.1, q.2)))
+      go (in_hand j) e = let l = r.live p j near e in inl (j, (l.0, l.1, l.2))
+      go at_bell e = inr (inr ((r.each_place p near).rings ∙ ap bell e))

@@ -7,10 +7,12 @@ use native.Mathlib.Decide.{ℕ_discrete}
 use lib.ListN.{get_elem?}
 use Rattle.atomic_table.specs.Table.{Splits, Joins}
 use Rattle.atomic_table.proofs.Lists.{at_set, set_here, set_else, at_longer}
+use Rattle.zy_shuffle.proofs.FollowLemmas.{follows_else}
+use Rattle.zy_shuffle.proofs.KnownLemmas.{known_added, known_same, known_joined}
 use Rattle.zy_shuffle.proofs.HandLemmas.{cores_set, cores_snoc}
 use Rattle.zy_shuffle.specs.Holder.{Holder, core_count, cores}
 use Rattle.zy_shuffle.specs.ShuffleRule.{IsRole, Knows, ShuffleRule}
-use Rattle.zy_shuffle.specs.HomeRole.{one_less, one_more}
+use Rattle.zy_shuffle.specs.HomeRole.{IsActive, one_less, one_more}
 use Rattle.zy_shuffle.specs.Step.{newcomer, splitting, taken_in}
 use Rattle.zy_shuffle.specs.View.{spent}
 use Rattle.zy_shuffle.specs.declared.ring.view.Role.{Role}
@@ -83,7 +85,8 @@ module _ {T M : Type 0} (mark : T → M) (label : T → Name) where
         each_place = r.each_place;
         blank = r.blank;
         each_cell = r.each_cell;
-        follows = r.follows;
+        follows = let f = r.follows in follows_else m r.marks s.views (views' ++ right ∷ []) s.words s.words r.head r.tail r.holders (let a = r.sums in omega arith) (λ _ _ _. refl) f
+            (known_added f.events views' right refl refl (known_same f.events s.views id v left at refl refl (λ e. let a = sym is_home ∙ e in cc) f.known));
         each_seat = subst (λ (c : ℕ). (j : ℕ) (u : View T) → get_elem? (views' ++ right ∷ []) j ≡ some u → Knows mark label s.words m r.head r.tail r.holders r.marks r.name c j u) (sym count)
             (λ j u e. ⊎_elim
             (λ (old : get_elem? views' j ≡ some u). ⊎_elim
@@ -146,7 +149,8 @@ module _ {T M : Type 0} (mark : T → M) (label : T → Name) where
         each_place = r.each_place;
         blank = r.blank;
         each_cell = r.each_cell;
-        follows = r.follows;
+        follows = let f = r.follows in follows_else m r.marks s.views views' s.words s.words r.head r.tail r.holders (let a = r.sums in omega arith) (λ _ _ _. refl) f
+            (known_joined f.events s.views f.known id v at (subst IsActive (sym is_home) tt) other w both at_other apart home.0 refl refl);
         each_seat = λ j u e. ⊎_elim
             (λ (x : (j ≡ other) × (spent ≡ u)). subst (λ (y : View T). Knows mark label s.words m r.head r.tail r.holders r.marks r.name (cores views') j y) x.1 (gone j))
             (λ (x : (j ≢ other) × (get_elem? views1 j ≡ some u)). ⊎_elim

@@ -1,5 +1,8 @@
 -- The exchange of the head: it takes the first place of the queue.
 use Rattle.zy_shuffle.proofs.FollowLemmas.{follows_claim}
+use Rattle.zy_shuffle.proofs.KnownLemmas.{between, since_is, may_follow, known_more}
+use Rattle.zy_shuffle.specs.declared.ring.view.Event.{Event}
+use Rattle.zy_shuffle.specs.declared.ring.view.Event.TheVariants.{Claim}
 use Rattle.std.proofs.Common.{◌≡◌, ◌≢◌, ℕ, ◌+◌, ◌/◌, ◌%◌, ◌<◌, List, ◌∷◌, length, get_or, set, eqb, true, false, true≢false, refl, sym, ap, ◌∙◌, subst, ⊎_elim, arith, length-set, get_or-set_other, get_or-set_same}
 use Rattle.std.specs.Prelude as std
 use mathlib.Core.Option.{none}
@@ -88,7 +91,9 @@ module _ {T M : Type 0} (mark : T → M) (label : T → Name) where
       let ready_p : r.holders p ≡ in_queue r.head = subst (λ c. r.holders c ≡ in_queue r.head) at_cell queue.1 in
       let has = subst (λ (x : Holder). Lies mark label s.homes r.marks r.name p x) ready_p (r.each_place p near).lies in
       let b : T = has.0 in
-      let v' : View T = taking p b y v in
+      let f = r.follows in
+      let since : ℕ × List Event = (id, between f.events s.views f.known id v at active) in
+      let v' : View T = taking p b y since v in
       let wide_is = r.wide in
       let long : 0 < length s.words = omega arith in
       let cells : (q : ℕ) → cell ws' m q ≡ cell s.words m q = λ q. get_or-set_other s.words 0 (32 + q % m) new 0 (λ e. omega arith) in
@@ -139,13 +144,15 @@ module _ {T M : Type 0} (mark : T → M) (label : T → Name) where
                 (λ q. at_put r.holders p (in_hand id) (λ a b. (r.holders a ≡ nobody → ⊥) → b ≡ nobody → ⊥) q (λ _ e. cc) (λ _ f. f))
                 k.role;
           };
-          follows = follows_claim s.words ws' m r.head r.tail id p r.holders before at_cell (λ k _ _. cells k) r.follows;
+          follows = follows_claim m r.marks s.views (set s.views id v') s.words ws' r.head r.tail id p r.holders before at_cell near ready_p (λ k _ _. cells k) f
+              (known_more f.events s.views f.known id v at active v' (Claim id) (ap (λ l. Claim id ∷ l) (sym (since_is f.events s.views f.known id v at active))) refl refl);
           live_here = λ j e. ((cc), in_front p v.hand);
           live_else = λ q ne e. in_more p q v.hand e;
         },
         (
           (λ _. (
             b,
+            since,
             refl,
             (
               omega arith,
@@ -153,6 +160,7 @@ module _ {T M : Type 0} (mark : T → M) (label : T → Name) where
               has.3 ∙ sym (tag_of s.words m r.head r.tail r.holders r.marks r.name (cores s.views) id v.hand v.label v.kept v.role active k.role),
               (λ h. kept_of s.words m r.head r.tail r.holders r.marks r.name (cores s.views) id v.hand v.label v.kept v.role h k.role p ∙ has.2),
             ),
+            may_follow f.events s.views f.known id v at active,
           )),
           λ miss. absurd (miss hit),
         ),

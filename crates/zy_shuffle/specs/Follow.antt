@@ -1,7 +1,11 @@
 -- How a ring's table follows the ownership machine: the state that the table shows is one that a
--- run of the machine reaches. Seats are the cores of the machine, and seat 0 is the home core.
-use Rattle.std.specs.Prelude.{◌≡◌, ◌⊎◌, ℕ, zero, suc, ◌+◌, ◌-◌, ◌<◌, List, [], ◌∷◌}
-use Rattle.zy_shuffle.specs.Ownership.{Place, idle, ready, held, returned, Owners, no_requests, Event, Runs}
+-- run of the machine reaches, and the views of the seats have that run. Seats are the cores of the
+-- machine, and seat 0 is the home core.
+use Rattle.std.specs.Prelude.{◌≡◌, ◌≢◌, ◌⊎◌, ◌↔◌, ℕ, zero, suc, ◌+◌, ◌-◌, ◌<◌, List, [], ◌∷◌, Option, None}
+use Rattle.zy_shuffle.specs.Ownership.{Place, idle, ready, held, returned, Owners, no_requests, Runs}
+use Rattle.zy_shuffle.specs.Run.{IsKnown}
+use Rattle.zy_shuffle.specs.declared.ring.view.Event.{Event}
+use Rattle.zy_shuffle.specs.declared.ring.view.View.{View}
 use Rattle.zy_shuffle.specs.Word.{cell}
 use Rattle.zy_shuffle.specs.Holder.{Holder, nobody, in_queue, in_hand, at_bell}
 
@@ -20,10 +24,16 @@ queue_of words m head zero = []
 queue_of words m head (suc n) = cell words m head ∷ queue_of words m (head + 1) n
 
 -- there is a run of the machine to a state in which each connection's place agrees with the table,
--- and the queue is that of the table
-pub record Follows (words : List ℕ) (m head tail : ℕ) (holders : ℕ → Holder) : Type 0 where
+-- and the queue is that of the table; and this run is the one that the views have
+pub record Follows {T M : Type 0} (words : List ℕ) (m head tail : ℕ) (holders : ℕ → Holder) (marks : ℕ → Option M)
+    (views : List (View T)) : Type 0 where
   pub owners : Owners
   pub events : List Event
   pub run : Runs 0 no_requests events owners
   pub places : (p : ℕ) → p < m → Agrees (holders p) (owners.places p)
   pub queue : owners.queue ≡ queue_of words m head (tail - head)
+  -- a connection is idle exactly where the home keeps no mark for it, as it was never published
+  pub unmarked : (p : ℕ) → p < m → (owners.places p ≡ idle) ↔ (marks p ≡ None)
+  -- one that is not idle has an unfinished request
+  pub due : (p : ℕ) → p < m → owners.places p ≢ idle → owners.finished p < owners.arrived p
+  pub known : IsKnown events views

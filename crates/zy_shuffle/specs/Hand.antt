@@ -6,6 +6,11 @@ abbrev pub rest_of : List ℕ → List ℕ
 rest_of [] = []
 rest_of (x ∷ xs) = xs
 
+-- the first element, or 0 if there is none
+abbrev pub first_of : List ℕ → ℕ
+first_of [] = 0
+first_of (x ∷ xs) = x
+
 -- the numbers below n, followed by the others
 abbrev pub below_then : ℕ → List ℕ → List ℕ
 below_then zero xs = xs

@@ -1,4 +1,5 @@
--- What a seat knows by its role, and how steps of the home change it. No public clause cites this module.
+-- What a seat knows by its role, and how steps of the home change it. Of public clauses only laws
+-- cite this module.
 use Rattle.std.specs.Prelude.{ℕ, ◌+◌, ◌-◌, ◌*◌, Option, Some, None}
 use Rattle.std.specs.Int.{trailing_zeros}
 use mir.Syntax.{w64}

@@ -3,10 +3,12 @@ pub mod Word
 pub mod Hand
 pub mod View
 pub mod Holder
+pub mod Run
 pub mod Follow
 pub mod ShuffleRule
 pub mod OnePlace
 pub mod HomeRole
 pub mod Step
+pub mod OneStep
 pub mod Pass
 pub mod PassSeat

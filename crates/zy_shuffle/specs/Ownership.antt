@@ -3,6 +3,8 @@
 -- ready and busy of a connection, and the shuffle queue of its home core. Here the state busy is
 -- two places: in the hand of a core, and given back to the home.
 use Rattle.std.specs.Prelude.{◌≡◌, ◌≢◌, ◌↔◌, ℕ, ◌+◌, ◌<◌, ◌≤◌, List, [], ◌∷◌, ◌++◌, true}
+use Rattle.zy_shuffle.specs.declared.ring.view.Event.{Event}
+use Rattle.zy_shuffle.specs.declared.ring.view.Event.TheVariants.{Arrive, Claim, Handle, GiveBack, Collect, Settle}
 use Rattle.zy_table.specs.Member.{is_in, IsDistinct}
 use Rattle.zy_table.specs.Put.{put}
 
@@ -29,17 +31,6 @@ abbrev pub no_requests : Owners
 no_requests = record { places = λ _. idle; queue = []; arrived = λ _. 0; finished = λ _. 0 }
 
 -- ---- events
-
--- the next event: requests of a connection arrive, a core takes the first of the queue, finishes a
--- request of a connection, or gives a connection back, or the home collects a connection or settles
--- it
-pub data Event : Type 0 where
-  Arrive : (connection count : ℕ) → Event
-  Claim : (core : ℕ) → Event
-  Handle : (core connection : ℕ) → Event
-  GiveBack : (core connection : ℕ) → Event
-  Collect : (connection : ℕ) → Event
-  Settle : (connection : ℕ) → Event
 
 -- the connection goes to this place
 abbrev pub moved : ℕ → Place → Owners → Owners
@@ -88,7 +79,15 @@ pub record IsSound (s : Owners) : Type 0 where
 
 -- ---- runs
 
--- these events lead from the first state to the last, one after the other
+-- these events, the newest first, lead from the first state to the last
 abbrev pub Runs : ℕ → Owners → List Event → Owners → Type 0
 Runs home s [] t = t ≡ s
-Runs home s (e ∷ es) t = (u : Owners) × happens home s e u × Runs home u es t
+Runs home s (e ∷ es) t = (u : Owners) × Runs home s es u × happens home u e t
+
+-- ---- who holds a connection
+
+-- the connection is with this core as before, as many requests of it are finished, and no fewer arrived
+pub record StaysHeld (core c : ℕ) (s t : Owners) : Type 0 where
+  pub place : t.places c ≡ held core
+  pub finished : t.finished c ≡ s.finished c
+  pub arrived : s.arrived c ≤ t.arrived c

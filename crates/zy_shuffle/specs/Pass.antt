@@ -1,5 +1,5 @@
 -- The views of a ring and of its passes, and the meaning of the answers of a claim and of a collect.
-use Rattle.std.specs.Prelude.{◌≡◌, ◌≢◌, ℕ, ◌+◌, ◌/◌, ◌%◌, ◌<◌, ◌≤◌, List, [], ◌∷◌, true, false, ◌==◌, cond, length, slice_get, Option, Some, None}
+use Rattle.std.specs.Prelude.{◌≡◌, ◌≢◌, ℕ, ◌+◌, ◌-◌, ◌/◌, ◌%◌, ◌<◌, ◌≤◌, List, [], ◌∷◌, true, false, ◌==◌, cond, length, slice_get, Option, Some, None}
 use Rattle.std.specs.Int.{bit_at}
 use Rattle.atomic_table.specs.Seated.{TableId}
 use Rattle.zy_table.specs.declared.name.Name.{Name}
@@ -9,10 +9,13 @@ use Rattle.zy_shuffle.specs.declared.ring.view.Trace.{Trace}
 use Rattle.zy_shuffle.specs.declared.ring.view.Role.{Role}
 use Rattle.zy_shuffle.specs.declared.ring.view.Role.TheVariants.{Spent, Start, Core, Home, Closed}
 use Rattle.zy_shuffle.specs.declared.ring.view.View.{View}
+use Rattle.zy_shuffle.specs.declared.ring.view.Event.{Event}
+use Rattle.zy_shuffle.specs.declared.ring.view.Event.TheVariants.{Collect}
 use Rattle.zy_shuffle.specs.declared.claim.Claim.{Claim}
 use Rattle.zy_shuffle.specs.declared.claim.Claim.TheVariants.{Took, Empty, Raced}
 use Rattle.zy_shuffle.specs.Hand.{below_then, marked, left_of}
-use Rattle.zy_shuffle.specs.View.{sight, untraced, plain_step, bell_step}
+use Rattle.zy_shuffle.specs.View.{sight, untraced, plain_step, bell_step, after_event, joining}
+use Rattle.zy_shuffle.specs.Run.{MayFollow, Makes, MakesNone, claim_of, publication}
 use Rattle.zy_shuffle.specs.Word.{bell_words}
 
 -- ---- rings and passes
@@ -84,6 +87,10 @@ HasAll places hand = (place : ℕ) → place < places → is_in place hand ≡ t
 -- a new pass of a home: its hand is empty
 abbrev pub newly_given : {T : Type 0} → Held T → Held T
 newly_given home = record home { hand = []; kept = []; count = 0; out = 0; trace = untraced }
+
+-- a home after it joined a pass with this trace
+abbrev pub after_join : {T : Type 0} → Held T → Trace → Held T
+after_join home t = record home { out = home.out - 1; trace = joining home.trace t }
 
 -- a home after it published this block at its place
 abbrev pub after_publish : {T : Type 0} → ℕ → T → Held T → Trace → Held T
@@ -161,8 +168,26 @@ module _ {T M : Type 0} (mark : T → M) (label : T → Name) (places : ℕ) (v 
   abbrev pub LookedAt : ℕ → Option (ℕ × T) → Type 0
   LookedAt word None = Unchanged v w × (w.trace ≡ bell_step word 0 v.trace)
   LookedAt word (Some x) = Joined x.0 x.1 × (x.0 / 64 ≡ word)
-      × ((bits : ℕ) × (w.trace ≡ plain_step (bell_step word bits v.trace)) × (bit_at bits (x.0 % 64) ≡ 1)
-      × ((i : ℕ) → i < x.0 % 64 → bit_at bits i ≡ 0))
+      × ((bits : ℕ) × (since : ℕ × List Event)
+      × (w.trace ≡ after_event since (Collect x.0) (plain_step (bell_step word bits v.trace)))
+      × (bit_at bits (x.0 % 64) ≡ 1) × ((i : ℕ) → i < x.0 % 64 → bit_at bits i ≡ 0) × MayFollow since v.trace)
+
+-- ---- the events of calls
+
+-- to publish a place is the event `publication` of the home
+abbrev pub PublishMakes : {T M : Type 0} → (T → M) → ℕ → Held T → Held T → Type 0
+PublishMakes mark place v w = Makes (λ _. publication place (marked mark place v.kept)) v.trace w.trace
+
+-- a claim that took a place is the event `Claim` of the pass, and any other claim is no event
+abbrev pub ClaimMakes : {T : Type 0} → Trace → Trace → Claim T → Type 0
+ClaimMakes t u (Took place block) = Makes claim_of t u
+ClaimMakes t u (Empty at) = MakesNone t u
+ClaimMakes t u (Raced saw found) = MakesNone t u
+
+-- a collect that found a place is the event `Collect`, and any other is no event
+abbrev pub CollectMakes : {T : Type 0} → Trace → Trace → Option (ℕ × T) → Type 0
+CollectMakes t u None = MakesNone t u
+CollectMakes t u (Some x) = Makes (λ _. Collect x.0) t u
 
 -- ---- what is left at the end
 

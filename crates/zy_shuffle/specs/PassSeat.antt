@@ -6,6 +6,7 @@ use Rattle.zy_shuffle.specs.declared.ring.view.Role.{Role}
 use Rattle.zy_shuffle.specs.declared.ring.view.Role.TheVariants.{Spent, Start, Core, Home, Closed}
 use Rattle.zy_shuffle.specs.Hand.{rest_of, emptied, marked}
 use Rattle.zy_shuffle.specs.Word.{bell_words}
+use Rattle.zy_shuffle.specs.Run.{MakesNone}
 use Rattle.zy_shuffle.specs.HomeRole.{IsHome}
 use Rattle.zy_shuffle.specs.Step.{Seated}
 use Rattle.zy_table.specs.declared.name.Name.{Name}
@@ -55,6 +56,7 @@ pub record IsBrought {T : Type 0} (place : ℕ) (m n : Seated T) : Type 0 where
   pub kept : n.0.kept ≡ m.0.kept
   pub hand : n.0.hand ≡ place ∷ without place m.0.hand
   pub slots : n.1 ≡ emptied (place ∷ without place m.0.hand)
+  pub stays : MakesNone m.0.trace n.0.trace
 
 -- ---- the answers of private functions, by the seat before and after
 

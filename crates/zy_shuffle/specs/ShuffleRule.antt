@@ -85,6 +85,7 @@ module _ {T M : Type 0} (mark : T → M) (label : T → Name) where
     abbrev pub IsRole : Role → Type 0
     IsRole Spent = hand ≡ []
     IsRole Start = (j ≡ 0) × (count ≡ 0) × (hand ≡ []) × (tail ≡ 0) × ((p : ℕ) → holders p ≡ nobody)
+        × ((p : ℕ) → marks p ≡ std.None)
     IsRole Core = (own_label ≡ name) × (j ≡ 0 → ⊥)
     IsRole (Home t stored noted out) = (j ≡ 0) × (own_label ≡ name) × (t ≡ tail) × (count ≡ out)
         × IsStored words head tail m stored × IsRung m holders noted
@@ -147,5 +148,5 @@ module _ {T M : Type 0} (mark : T → M) (label : T → Name) where
     pub each_seat : (j : ℕ) (v : View T) → get_elem? s.views j ≡ some v
         → Knows s.words (length s.homes) head tail holders marks name (cores s.views) j v
     -- each step is one event of the ownership machine, or no event: the state that the table shows
-    -- is one that a run of the machine reaches
-    pub follows : Follows s.words (length s.homes) head tail holders
+    -- is one that a run of the machine reaches, and the views have this run between them
+    pub follows : Follows s.words (length s.homes) head tail holders marks s.views

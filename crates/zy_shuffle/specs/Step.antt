@@ -1,13 +1,17 @@
--- What a seat learns from each kind of step of a ring. No public clause cites this module.
+-- What a seat learns from each kind of step of a ring. Of public clauses only laws cite this module.
 use Rattle.std.specs.Prelude.{◌≡◌, ◌≢◌, ℕ, ◌+◌, ◌-◌, ◌<◌, ◌≤◌, List, [], ◌∷◌, false, Option, Some, None}
 use Rattle.atomic_table.specs.Table.{Me, Step, rest}
 use Rattle.zy_table.specs.declared.name.Name.{Name}
 use Rattle.zy_table.specs.Member.{is_in, without}
 use Rattle.zy_shuffle.specs.declared.ring.view.Role.TheVariants.{Core, Home, Closed}
+use Rattle.zy_shuffle.specs.declared.ring.view.Event.{Event}
+use Rattle.zy_shuffle.specs.declared.ring.view.Event.TheVariants.{Claim, GiveBack, Collect}
+use Rattle.zy_shuffle.specs.Run.{publication, MayFollow}
 use Rattle.zy_shuffle.specs.declared.ring.view.View.{View}
 use Rattle.zy_shuffle.specs.HomeRole.{with_stored, with_published, with_bells, one_more, one_less, IsHome, rung_place, noted_in}
-use Rattle.zy_shuffle.specs.Hand.{rest_of, emptied, below_then, marked}
+use Rattle.zy_shuffle.specs.Hand.{first_of, rest_of, emptied, below_then, marked}
 use Rattle.zy_shuffle.specs.View.{plain_step, head_step, tail_step, try_step, bell_step, fresh, traced}
+use Rattle.zy_shuffle.specs.View.{after_event, joining}
 
 -- a seat's view, and the slots that it has taken
 abbrev pub Seated : Type 0 → Type 0
@@ -25,23 +29,27 @@ module _ {T : Type 0} where
   noting k found v = record v { note = Some (k, found); trace = plain_step v.trace }
 
   -- the place is now in the hand, with its block
-  abbrev pub taking : ℕ → T → ℕ → View T → View T
-  taking p b found v =
-      record v { hand = p ∷ v.hand; kept = (p, b) ∷ v.kept; note = None; trace = try_step found v.trace }
+  abbrev pub taking : ℕ → T → ℕ → ℕ × List Event → View T → View T
+  taking p b found since v = record v {
+    hand = p ∷ v.hand;
+    kept = (p, b) ∷ v.kept;
+    note = None;
+    trace = after_event since (Claim since.0) (try_step found v.trace);
+  }
 
   -- the home stored the place in the next cell, and its slot is in front
   abbrev pub storing : ℕ → View T → View T
   storing p v = record v { role = with_stored p v.role; hand = p ∷ without p v.hand; trace = plain_step v.trace }
 
   -- the home raised the tail, with this block in the slot in front
-  abbrev pub publishing : View T → List (ℕ × Option T) → View T
-  publishing v [] = v
-  publishing v ((p, None) ∷ cs) = v
-  publishing v ((p, Some b) ∷ cs) = record v {
+  abbrev pub publishing : ℕ × List Event → Event → View T → List (ℕ × Option T) → View T
+  publishing since e v [] = v
+  publishing since e v ((p, None) ∷ cs) = v
+  publishing since e v ((p, Some b) ∷ cs) = record v {
     role = with_published v.role;
     hand = rest_of v.hand;
     kept = (p, b) ∷ v.kept;
-    trace = plain_step v.trace;
+    trace = after_event since e (plain_step v.trace);
   }
 
   -- the slot of the place is in front
@@ -49,8 +57,11 @@ module _ {T : Type 0} where
   fronting p found v = record v { hand = p ∷ without p v.hand; trace = head_step found v.trace }
 
   -- the place in front left the hand
-  abbrev pub giving : View T → View T
-  giving v = record v { hand = rest_of v.hand; trace = plain_step v.trace }
+  abbrev pub giving : ℕ × List Event → View T → View T
+  giving since v = record v {
+    hand = rest_of v.hand;
+    trace = after_event since (GiveBack since.0 (first_of v.hand)) (plain_step v.trace);
+  }
 
   -- the home loaded a doorbell word
   abbrev pub noting_bells : ℕ → ℕ → View T → View T
@@ -58,12 +69,12 @@ module _ {T : Type 0} where
       record v { role = with_bells (Some (word, found)) v.role; trace = bell_step word found v.trace }
 
   -- the place is back in the home's hand, with its block
-  abbrev pub collecting : ℕ → T → View T → View T
-  collecting p b v = record v {
+  abbrev pub collecting : ℕ → T → ℕ × List Event → View T → View T
+  collecting p b since v = record v {
     role = with_bells None v.role;
     hand = p ∷ v.hand;
     kept = (p, b) ∷ v.kept;
-    trace = plain_step v.trace;
+    trace = after_event since (Collect p) (plain_step v.trace);
   }
 
   -- the first seat became the home's, with all m places in its hand
@@ -84,7 +95,7 @@ module _ {T : Type 0} where
 
   -- the home joined a pass
   abbrev pub taken_in : View T → View T → View T
-  taken_in v w = record v { role = one_less v.role }
+  taken_in v w = record v { role = one_less v.role; trace = joining v.trace w.trace }
 
   -- ---- what is learned: from the step, the seat before, the number found, to the seat after
 
@@ -102,14 +113,11 @@ module _ {T : Type 0} where
   abbrev pub stored_cell : Step (Option T) → Seated T → Seated T → Type 0
   stored_cell st m n = n ≡ (storing st.first m.0, emptied (st.first ∷ without st.first m.0.hand))
 
-  abbrev pub published : Seated T → Seated T → Type 0
-  published m n = n ≡ (publishing m.0 m.1, rest m.1)
-
   abbrev pub fronted : ℕ → Seated T → ℕ → Seated T → Type 0
   fronted p m r n = n ≡ (fronting p r m.0, emptied (p ∷ without p m.0.hand))
 
   abbrev pub gave : Seated T → Seated T → Type 0
-  gave m n = n ≡ (giving m.0, rest m.1)
+  gave m n = (since : ℕ × List Event) × (n ≡ (giving since m.0, rest m.1)) × MayFollow since m.0.trace
 
   abbrev pub saw_bells : Step (Option T) → Seated T → ℕ → Seated T → Type 0
   saw_bells st m r n = n ≡ (noting_bells (st.word - (32 + st.slots)) r m.0, m.1)
@@ -120,6 +128,15 @@ module _ {T : Type 0} where
   abbrev pub closed : Seated T → Seated T → Type 0
   closed m n = n ≡ (closing m.0, [])
 
+  module _ {M : Type 0} (mark : T → M) where
+    -- the event of publishing the place in front
+    abbrev pub next_publication : View T → Event
+    next_publication v = publication (first_of v.hand) (marked mark (first_of v.hand) v.kept)
+
+    abbrev pub published : Seated T → Seated T → Type 0
+    published m n = (since : ℕ × List Event) × (n ≡ (publishing since (next_publication m.0) m.0 m.1, rest m.1))
+        × MayFollow since m.0.trace
+
   module _ {M : Type 0} (mark : T → M) (label : T → Name) where
     -- the block that comes with a place has the ring's label, and for the home the mark that it keeps
     abbrev pub Comes : ℕ → View T → ℕ → T → Type 0
@@ -129,10 +146,12 @@ module _ {T : Type 0} where
     -- the exchange of the head took the place that was noted, or it failed
     abbrev pub claimed : Step (Option T) → Seated T → ℕ → Seated T → Type 0
     claimed st m r n =
-        (r ≡ st.first → (b : T) × (n ≡ (taking (noted_place m.0) b r m.0, (noted_place m.0, Some b) ∷ m.1))
-        × Comes st.slots m.0 (noted_place m.0) b)
+        (r ≡ st.first → (b : T) × (since : ℕ × List Event)
+        × (n ≡ (taking (noted_place m.0) b r since m.0, (noted_place m.0, Some b) ∷ m.1))
+        × Comes st.slots m.0 (noted_place m.0) b × MayFollow since m.0.trace)
         × (r ≢ st.first → n ≡ (traced (try_step r) m.0, m.1))
 
     abbrev pub collected : Step (Option T) → Seated T → Seated T → Type 0
-    collected st m n = (b : T) × (n ≡ (collecting (rung_place m.0.role) b m.0, (rung_place m.0.role, Some b) ∷ m.1))
-        × Comes st.slots m.0 (rung_place m.0.role) b
+    collected st m n = (b : T) × (since : ℕ × List Event)
+        × (n ≡ (collecting (rung_place m.0.role) b since m.0, (rung_place m.0.role, Some b) ∷ m.1))
+        × Comes st.slots m.0 (rung_place m.0.role) b × MayFollow since m.0.trace

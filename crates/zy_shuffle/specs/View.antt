@@ -1,9 +1,10 @@
 -- What seats know, and how steps change it.
-use Rattle.std.specs.Prelude.{ℕ, ◌+◌, [], ◌∷◌, None}
+use Rattle.std.specs.Prelude.{ℕ, ◌+◌, List, [], ◌∷◌, ◌++◌, Bool, true, false, cond, None}
 use Rattle.zy_table.specs.declared.name.Name.{Name}
 use Rattle.zy_table.specs.Name.{no_name}
 use Rattle.zy_shuffle.specs.declared.ring.view.Sight.{Sight}
 use Rattle.zy_shuffle.specs.declared.ring.view.Trace.{Trace}
+use Rattle.zy_shuffle.specs.declared.ring.view.Event.{Event}
 use Rattle.zy_shuffle.specs.declared.ring.view.Role.{Role}
 use Rattle.zy_shuffle.specs.declared.ring.view.Role.TheVariants.{Spent, Start}
 use Rattle.zy_shuffle.specs.declared.ring.view.View.{View}
@@ -16,7 +17,16 @@ sight found step = record { value = found; step = step }
 
 -- no step was made yet
 abbrev pub untraced : Trace
-untraced = record { steps = 0; head = sight 0 0; tail = sight 0 0; under = 0; tried = sight 0 0; bells = [] }
+untraced = record {
+  steps = 0;
+  head = sight 0 0;
+  tail = sight 0 0;
+  under = 0;
+  tried = sight 0 0;
+  bells = [];
+  run = [];
+  seats = [];
+}
 
 -- a step that is counted, but of which nothing else is kept
 abbrev pub plain_step : Trace → Trace
@@ -37,6 +47,31 @@ try_step found t = record t { steps = t.steps + 1; tried = sight found (t.steps 
 -- a load of a doorbell word
 abbrev pub bell_step : ℕ → ℕ → Trace → Trace
 bell_step word found t = record t { steps = t.steps + 1; bells = (word, sight found (t.steps + 1)) ∷ t.bells }
+
+-- ---- runs
+
+-- the seats all of whose events this seat knows, once it has made an event of its own
+abbrev pub with_own : ℕ → List ℕ → List ℕ
+with_own seat [] = seat ∷ []
+with_own seat (x ∷ xs) = x ∷ xs
+
+-- the seat with the number `since.0` made this event, after the events `since.1` of other seats
+abbrev pub after_event : ℕ × List Event → Event → Trace → Trace
+after_event since e t = record t { run = e ∷ since.1 ++ t.run; seats = with_own since.0 t.seats }
+
+-- the first run is no longer than the second
+abbrev pub is_no_longer : List Event → List Event → Bool
+is_no_longer [] ys = true
+is_no_longer (x ∷ xs) [] = false
+is_no_longer (x ∷ xs) (y ∷ ys) = is_no_longer xs ys
+
+-- the longer of two runs
+abbrev pub longer : List Event → List Event → List Event
+longer xs ys = cond (is_no_longer xs ys) ys xs
+
+-- the home, which is seat 0, joined another seat, and knows what that seat knew of the run
+abbrev pub joining : Trace → Trace → Trace
+joining t u = record t { run = longer t.run u.run; seats = with_own 0 t.seats ++ u.seats }
 
 -- ---- views
 

@@ -1,8 +1,12 @@
 //! Laws of the ownership machine and of the rule, as contracts of functions without a body.
-ghost use Rattle.std.specs.Prelude.{◌≢◌, ℕ, ◌<◌, List, length};
-ghost use Rattle.zy_shuffle.specs.Ownership.{Owners, Event, no_requests, happens, IsSound, Runs, idle};
+ghost use Rattle.std.specs.Prelude.{◌≡◌, ◌≢◌, ℕ, ◌<◌, List, [], length};
+ghost use Rattle.zy_shuffle.specs.Ownership.{Owners, no_requests, happens, IsSound, Runs, idle};
+ghost use Rattle.zy_shuffle.specs.declared.ring.view.Event.{Event};
 ghost use Rattle.zy_shuffle.specs.ShuffleRule.{RingState, ShuffleRule};
 ghost use Rattle.zy_shuffle.specs.OnePlace.{IsBounded, HasOneHand, IsOnceQueued, HandsApart, QueueApart};
+ghost use Rattle.zy_shuffle.specs.OnePlace.{IsOpen, NoneIsLost};
+ghost use Rattle.zy_shuffle.specs.OneStep.{Ruled, run_of, owners_of, KnowsHeld};
+ghost use Rattle.zy_shuffle.specs.OneStep.{HaveNoEvents, IsNoEvent, IsEvent, GrowsBy, LeadsBy, IsGiven, IsJoined};
 
 use crate::marked::Marked;
 
@@ -46,8 +50,49 @@ pub fn no_place_is_at_two_places<T: Marked>()
     ensures queue { (s : RingState T) (r : ShuffleRule T.mark T.label s) → QueueApart s r.head r.tail }
 {}
 
+/// No place of an open ring is lost: each is in the hand of a seat, in the queue, or at its doorbell.
+pub fn no_place_is_lost<T: Marked>()
+    ensures value { (s : RingState T) (r : ShuffleRule T.mark T.label s) → IsOpen s → NoneIsLost s r.head r.tail }
+{}
+
 /// The state that the table shows is one that a run of the ownership machine reaches, and so a
 /// sound one.
 pub fn the_table_shows_a_sound_state<T: Marked>()
     ensures value { (s : RingState T) (r : ShuffleRule T.mark T.label s) → IsSound r.follows.owners }
+{}
+
+/// The views of a ring determine the run that its table follows, and the state that it shows.
+pub fn the_views_know_one_run<T: Marked>()
+    ensures run { (s : RingState T) (r q : ShuffleRule T.mark T.label s) → r.follows.events ≡ q.follows.events }
+    ensures state { (s : RingState T) (r q : ShuffleRule T.mark T.label s) → r.follows.owners ≡ q.follows.owners }
+{}
+
+/// As long as no view has an event, the run has none.
+pub fn the_first_run_is_empty<T: Marked>()
+    ensures value { (s : Ruled T.mark T.label) → HaveNoEvents s → run_of s ≡ [] }
+{}
+
+/// A step in which no event was made leaves the run and the state of the machine as they were.
+pub fn a_step_without_an_event_leaves_the_machine<T: Marked>()
+    ensures run { (s t : Ruled T.mark T.label) (id : ℕ) → IsNoEvent id s t → run_of t ≡ run_of s }
+    ensures state { (s t : Ruled T.mark T.label) (id : ℕ) → IsNoEvent id s t → owners_of t ≡ owners_of s }
+{}
+
+/// A step in which a seat made an event is this event: the run grows by it alone, and it leads from
+/// the state that the table showed to the one that it shows.
+pub fn a_step_with_an_event_is_that_event<T: Marked>()
+    ensures run { (s t : Ruled T.mark T.label) (id : ℕ) (e : ℕ → Event) → IsEvent id e s t → GrowsBy (e id) s t }
+    ensures state { (s t : Ruled T.mark T.label) (id : ℕ) (e : ℕ → Event) → IsEvent id e s t → LeadsBy (e id) s t }
+{}
+
+/// Giving a pass, or joining one, is no event.
+pub fn giving_or_joining_a_pass_is_no_event<T: Marked>()
+    ensures given { (s t : Ruled T.mark T.label) (id : ℕ) → IsGiven id s t → run_of t ≡ run_of s }
+    ensures joined { (s t : Ruled T.mark T.label) (id : ℕ) → IsJoined id s t → run_of t ≡ run_of s }
+{}
+
+/// What a pass knows of a connection that it holds, by the run that it knows, is still so: it holds
+/// it, the same number of its requests is finished, and no fewer have arrived.
+pub fn what_a_pass_knows_of_its_hand_stays<T: Marked>()
+    ensures value { (s : Ruled T.mark T.label) (id c : ℕ) → KnowsHeld id c s }
 {}

@@ -2,7 +2,7 @@
 ghost use Rattle.std.specs.Prelude.{◌≡◌, ◌<◌, IfSome, Some};
 ghost use Rattle.zy_shuffle.specs.Hand.{marked};
 ghost use Rattle.zy_shuffle.specs.Word.{bell_words};
-ghost use Rattle.zy_shuffle.specs.Pass.{Collected};
+ghost use Rattle.zy_shuffle.specs.Pass.{Collected, CollectMakes};
 ghost use Rattle.zy_shuffle.specs.PassSeat.{IsHomeAfter, CollectedBy, LookedBy, KeepsMark};
 
 use super::plays::{Collects, SeesBells};
@@ -18,6 +18,7 @@ impl<T: Marked> Ring<T> {
     pub fn collect(&self, home: &mut HomePass<T>) -> Option<(u32, T)>
         requires within { home.old.table ≡ self.now.id }
         ensures value { Collected T.mark T.label self.now.places home.old home.new result }
+        ensures event { CollectMakes home.old.trace home.new.trace result }
         ensures kept { IfSome result (λ x. marked T.mark x.0 home.old.kept ≡ Some (T.mark x.1)) }
     {
         self.collect_at(&mut home.seat)
@@ -30,6 +31,7 @@ impl<T: Marked> Ring<T> {
         ensures same { (seat.new.table_id ≡ seat.old.table_id) × (seat.new.id ≡ seat.old.id) }
         ensures home { IsHomeAfter seat.new.table_id.slots seat.old.me seat.new.me }
         ensures value { CollectedBy T.mark T.label self.now seat.old.me seat.new.me result }
+        ensures event { CollectMakes seat.old.me.0.trace seat.new.me.0.trace result }
         ensures kept { KeepsMark T.mark seat.old.me result }
     {
         let count = (self.places as usize + 63) / 64;
@@ -49,6 +51,7 @@ impl<T: Marked> Ring<T> {
         ensures same { (seat.new.table_id ≡ seat.old.table_id) × (seat.new.id ≡ seat.old.id) }
         ensures home { IsHomeAfter seat.new.table_id.slots seat.old.me seat.new.me }
         ensures value { LookedBy T.mark T.label self.now seat.old.me seat.new.me word result }
+        ensures event { CollectMakes seat.old.me.0.trace seat.new.me.0.trace result }
         ensures kept { KeepsMark T.mark seat.old.me result }
     {
         let words = &self.table.shared;

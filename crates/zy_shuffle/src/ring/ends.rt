@@ -1,7 +1,7 @@
 //! How a ring is made and closed, and how passes are given and joined.
 ghost use Rattle.std.specs.Prelude.{◌≡◌, ◌+◌, ◌-◌, ◌≤◌, IfOk, IsOk, IfErr, [], ⊤};
 ghost use Rattle.zy_shuffle.specs.View.{untraced};
-ghost use Rattle.zy_shuffle.specs.Pass.{AreLeft, HasAll, newly_held, newly_given};
+ghost use Rattle.zy_shuffle.specs.Pass.{AreLeft, HasAll, after_join, newly_held, newly_given};
 
 use super::plays::{Closes, Joins, Names, Splits};
 use super::view::View;
@@ -61,7 +61,7 @@ impl<T: Marked> Ring<T> {
     pub fn join(&self, home: &mut HomePass<T>, pass: CorePass<T>)
         requires within { (home.old.table ≡ self.now.id) × (pass.table ≡ self.now.id) }
         requires empty { pass.hand ≡ [] }
-        ensures value { home.new ≡ record home.old { out = home.old.out - 1 } }
+        ensures value { home.new ≡ after_join home.old pass.trace }
     {
         let CorePass { seat, front: _ } = pass;
         self.table.shared.join_seat::<Joins>(&mut home.seat, seat);

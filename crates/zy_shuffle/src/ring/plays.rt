@@ -45,12 +45,12 @@ impl<T> Play<Option<T>, View<T>> for StoresCell {
     ghost then = { λ st m r n. stored_cell st m n };
 }
 
-/// A store of the tail: a request arrives at an idle connection, or a connection with unfinished
-/// requests is settled.
+/// A store of the tail: a request arrives at a connection that was never published, or the
+/// connection is settled, with a request left.
 pub struct Publishes;
 
-impl<T> Play<Option<T>, View<T>> for Publishes {
-    ghost then = { λ st m r n. published m n };
+impl<T: Marked> Play<Option<T>, View<T>> for Publishes {
+    ghost then = { λ st m r n. published T.mark m n };
 }
 
 /// The place that a call names for contracts.

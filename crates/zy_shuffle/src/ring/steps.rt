@@ -4,6 +4,8 @@ ghost use Rattle.zy_table.specs.Member.{is_in};
 ghost use Rattle.zy_shuffle.specs.Hand.{emptied, marked};
 ghost use Rattle.zy_shuffle.specs.HomeRole.{IsActive};
 ghost use Rattle.zy_shuffle.specs.Pass.{Claimed, IfTook, after_publish, after_give_back};
+ghost use Rattle.zy_shuffle.specs.Pass.{PublishMakes, ClaimMakes};
+ghost use Rattle.zy_shuffle.specs.Run.{Makes, give_back_of};
 ghost use Rattle.zy_shuffle.specs.PassSeat.{Within, IsCorePass, IsBrought};
 ghost use Rattle.zy_shuffle.specs.PassSeat.{ClaimedBy, ClaimKeepsMark};
 
@@ -25,6 +27,7 @@ impl<T: Marked> Ring<T> {
         requires few { home.old.count < 2 ^ 63 }
         requires label { T.label block ≡ home.old.label }
         ensures value { home.new ≡ after_publish place block home.old home.new.trace }
+        ensures event { PublishMakes T.mark place home.old home.new }
     {
         let words = &self.table.shared;
         let at = (home.tail % self.places as u64) as usize;
@@ -40,6 +43,7 @@ impl<T: Marked> Ring<T> {
     pub fn claim(&self, pass: &mut CorePass<T>) -> Claim<T>
         requires within { pass.old.table ≡ self.now.id }
         ensures value { Claimed T.mark T.label self.now.places pass.old pass.new result }
+        ensures event { ClaimMakes pass.old.trace pass.new.trace result }
     {
         match self.claim_at(&mut pass.seat) {
             Claim::Took { place, block } => {
@@ -54,6 +58,7 @@ impl<T: Marked> Ring<T> {
     pub fn claim_home(&self, home: &mut HomePass<T>) -> Claim<T>
         requires within { home.old.table ≡ self.now.id }
         ensures value { Claimed T.mark T.label self.now.places home.old home.new result }
+        ensures event { ClaimMakes home.old.trace home.new.trace result }
         ensures kept { IfTook result (λ p b. marked T.mark p home.old.kept ≡ Some (T.mark b)) }
     {
         self.claim_at(&mut home.seat)
@@ -67,6 +72,7 @@ impl<T: Marked> Ring<T> {
         requires label { T.label block ≡ pass.old.label }
         requires mark { marked T.mark place pass.old.kept ≡ Some (T.mark block) }
         ensures value { pass.new ≡ after_give_back place pass.old pass.new.trace }
+        ensures event { Makes (give_back_of place) pass.old.trace pass.new.trace }
     {
         self.give_back_as::<Brand>(pass, place, block)
     }
@@ -83,6 +89,7 @@ impl<T: Marked> Ring<T> {
         ensures role { seat.new.me.0.role ≡ seat.old.me.0.role }
         ensures value { ClaimedBy T.mark T.label self.now seat.old.me seat.new.me result }
         ensures kept { ClaimKeepsMark T.mark seat.old.me result }
+        ensures event { ClaimMakes seat.old.me.0.trace seat.new.me.0.trace result }
     {
         let words = &self.table.shared;
         let head = words.load::<SeesHead>(seat, HEAD);
@@ -113,6 +120,7 @@ impl<T: Marked> Ring<T> {
         requires label { T.label block ≡ pass.old.label }
         requires mark { marked T.mark place pass.old.kept ≡ Some (T.mark block) }
         ensures value { pass.new ≡ after_give_back place pass.old pass.new.trace }
+        ensures event { Makes (give_back_of place) pass.old.trace pass.new.trace }
     {
         let words = &self.table.shared;
         let front = pass.front;

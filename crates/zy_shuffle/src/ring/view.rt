@@ -8,9 +8,24 @@ pub struct Sight {
     pub step: u64,
 }
 
+/// An event of the ownership machine: requests of a connection arrive, a core takes the first
+/// connection of the queue, finishes a request of a connection, or gives a connection back, or the
+/// home collects a connection or settles it. Requests that arrive and a connection are `u64`, as are
+/// cores.
+pub enum Event {
+    Arrive(u64, u64),
+    Claim(u64),
+    Handle(u64, u64),
+    GiveBack(u64, u64),
+    Collect(u64),
+    Settle(u64),
+}
+
 /// The number of steps that a seat has made, and what it found: at its last loads of the head and
 /// of the tail, at its last compare and exchange of the head, and at its loads of doorbell words,
-/// the newest first.
+/// the newest first. `run` is the run of the ownership machine as it was at this seat's last event,
+/// the newest event first. `seats` are the seats all of whose events are in `run`: this seat, once
+/// it has made an event, and those that it joined.
 pub struct Trace {
     pub steps: u64,
     pub head: Sight,
@@ -19,6 +34,8 @@ pub struct Trace {
     pub under: u64,
     pub tried: Sight,
     pub bells: LinkedList<(u64, Sight)>,
+    pub run: LinkedList<Event>,
+    pub seats: LinkedList<u64>,
 }
 
 /// The role of a seat. The home knows the tail, the cell that it stored and has not published yet,

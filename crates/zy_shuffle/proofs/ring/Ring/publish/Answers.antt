@@ -37,4 +37,4 @@ store-requires-2 g c =
 
 pub invariant_of-home : goal.invariant_of-home
 invariant_of-home g c =
-    home_published _ _ c.self.inside.table.shared.table_id.slots (32 + c.home.inside.tail % c.self.inside.places) c.args.place c.home.inside.tail c.args.block c.home.inside.seat.me c.store.new.seat.me c.exchange-old.new.seat.me c.store-2.new.seat.me (ap (λ z. z.slots) (c.store-2.ensures.0 ∙ c.exchange-old.ensures.0 ∙ c.store.ensures.0)) c.home.invariant c.store.ensures.2 c.exchange-old.ensures.3 c.store-2.ensures.2
+    home_published g.T.Marked.mark _ _ c.self.inside.table.shared.table_id.slots (32 + c.home.inside.tail % c.self.inside.places) c.args.place c.home.inside.tail c.args.block c.home.inside.seat.me c.store.new.seat.me c.exchange-old.new.seat.me c.store-2.new.seat.me (ap (λ z. z.slots) (c.store-2.ensures.0 ∙ c.exchange-old.ensures.0 ∙ c.store.ensures.0)) c.home.invariant c.store.ensures.2 c.exchange-old.ensures.3 c.store-2.ensures.2

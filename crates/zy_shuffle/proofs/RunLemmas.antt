@@ -1,0 +1,169 @@
+-- The views of a ring determine its run, and a step adds its own event to it, or none.
+use Rattle.std.proofs.Common.{◌≡◌, ◌≢◌, ℕ, suc, ◌≤◌, List, [], ◌∷◌, ◌++◌, length, set, true, true≢false, refl, sym, ap, ◌∙◌, subst, arith}
+use mathlib.Core.Option.{some}
+use mathlib.Core.Logic.{dite}
+use native.Mathlib.Decide.{ℕ_discrete, dec_le}
+use lib.ListN.{get_elem?}
+use Rattle.std.proofs.lemmas.List.{append_cancel_left, append_cancel_right, append_assoc}
+use Rattle.atomic_table.proofs.Lists.{set_here, set_else}
+use Rattle.zy_table.specs.Member.{is_in}
+use Rattle.zy_table.proofs.SlotLemmas.{at_below}
+use Rattle.zy_shuffle.specs.declared.ring.view.Event.{Event}
+use Rattle.zy_shuffle.specs.declared.ring.view.View.{View}
+use Rattle.zy_shuffle.specs.HomeRole.{IsActive}
+use Rattle.zy_shuffle.specs.Run.{seat_of, Apart, Leads, AreOwned, MayFollow, Makes, MakesNone, IsKnown}
+use Rattle.zy_shuffle.specs.OneStep.{IsStep}
+use Rattle.zy_shuffle.specs.Step.{newcomer, splitting, taken_in}
+use Rattle.zy_shuffle.specs.View.{with_own, spent}
+use Rattle.zy_shuffle.proofs.KnownLemmas.{in_own, not_spent, known_added, known_same, known_joined, all_of, apart_front, apart_own, front_of, long_append, owned_front, same_view}
+
+-- each event is of one of these seats
+abbrev AllIn : List ℕ → List Event → Type 0
+AllIn seats [] = Unit {0}
+AllIn seats (e ∷ es) = (is_in (seat_of e) seats ≡ true) × AllIn seats es
+
+all_front : (seats : List ℕ) (xs ys : List Event) → AllIn seats (xs ++ ys) → AllIn seats xs
+all_front seats [] ys h = tt
+all_front seats (x ∷ xs) ys h = (h.0, all_front seats xs ys h.1)
+
+all_back : (seats : List ℕ) (xs ys : List Event) → AllIn seats (xs ++ ys) → AllIn seats ys
+all_back seats [] ys h = h
+all_back seats (x ∷ xs) ys h = all_back seats xs ys h.1
+
+apart_back : (seats : List ℕ) (xs ys : List Event) → Apart seats (xs ++ ys) → Apart seats ys
+apart_back seats [] ys h = h
+apart_back seats (x ∷ xs) ys h = apart_back seats xs ys h.1
+
+-- of these seats, and of none of them
+none_left : (seats : List ℕ) (es : List Event) → AllIn seats es → Apart seats es → es ≡ []
+none_left seats [] a b = refl
+none_left seats (x ∷ xs) a b = absurd (true≢false (sym a.0 ∙ b.0))
+
+-- the shorter of two ends of a list ends the other
+end_of : (xs ys us vs : List Event) → xs ++ us ≡ ys ++ vs → length us ≤ length vs → (rest : List Event) × (vs ≡ rest ++ us)
+end_of xs ys us vs e le =
+    let a = long_append xs us in
+    let b = long_append ys vs in
+    let c = ap length e in
+    let f = front_of xs ys us vs e (omega arith) in
+    (f.0, append_cancel_left ys vs (f.0 ++ us) (sym e ∙ ap (λ l. l ++ us) f.1 ∙ append_assoc ys f.0 us))
+
+module _ {T : Type 0} where
+  -- there is one run
+  pub one_run : (views : List (View T)) (es es' : List Event) → IsKnown es views → IsKnown es' views → es ≡ es'
+  one_run views es es' t t' =
+      let a = t.last in
+      let b = t'.last in
+      let x = t'.missing a.0 a.1 a.2 in
+      let y = t.missing b.0 b.1 b.2 in
+      let x_is : es' ≡ x.0 ++ es = x.1 ∙ ap (λ l. x.0 ++ l) a.3 in
+      let y_is : es ≡ y.0 ++ es' = y.1 ∙ ap (λ l. y.0 ++ l) b.3 in
+      let c = ap length y_is in
+      let d = long_append y.0 es' in
+      let e = ap length x_is in
+      let f = long_append x.0 es in
+      all_of x.0 es es' x_is (omega arith)
+
+  -- no event: the run stays
+  pub run_stays : (views : List (View T)) (es es' : List Event) (id : ℕ) (v w : View T) → get_elem? views id ≡ some v → w.trace.run ≡ v.trace.run → IsKnown es views → IsKnown es' (set views id w) → es' ≡ es
+  run_stays views es es' id v w at run t t' =
+      let a = t.last in
+      let b = t'.last in
+      let l = a.3 in
+      let m = b.3 in
+      let here : get_elem? (set views id w) id ≡ some w = set_here views id w (at_below views id v at) in
+      let x : (later : List Event) × (es' ≡ later ++ es) = dite (ℕ_discrete a.0 id)
+      (λ e. let o = t'.missing id w here in (o.0, o.1 ∙ ap (λ k. o.0 ++ k) (run ∙ ap (λ (y : View T). y.trace.run) (same_view views id a.0 v a.1 at a.2 (sym e)) ∙ l)))
+      (λ ne. let o = t'.missing a.0 a.1 (set_else views id a.0 w ne ∙ a.2) in (o.0, o.1 ∙ ap (λ k. o.0 ++ k) l)) in
+      let y : (later : List Event) × (es ≡ later ++ es') = dite (ℕ_discrete b.0 id)
+      (λ e. let o = t.missing id v at in (o.0, o.1 ∙ ap (λ k. o.0 ++ k) (sym run ∙ ap (λ (y : View T). y.trace.run) (same_view (set views id w) id b.0 w b.1 here b.2 (sym e)) ∙ m)))
+      (λ ne. let o = t.missing b.0 b.1 (sym (set_else views id b.0 w ne) ∙ b.2) in (o.0, o.1 ∙ ap (λ k. o.0 ++ k) m)) in
+      let c = ap length y.1 in
+      let d = long_append y.0 es' in
+      let e = ap length x.1 in
+      let f = long_append x.0 es in
+      sym (all_of x.0 es es' x.1 (omega arith))
+
+  -- an event: the run goes on by it, and by nothing else
+  pub run_grows : (views : List (View T)) (es es' : List Event) (id : ℕ) (v w : View T) (since : ℕ × List Event) (e : Event) → get_elem? views id ≡ some v → IsActive v.role → w.trace.run ≡ e ∷ since.1 ++ v.trace.run → w.trace.seats ≡ with_own since.0 v.trace.seats → MayFollow since v.trace → is_in (seat_of e) w.trace.seats ≡ true
+      → IsKnown es views → IsKnown es' (set views id w) → es' ≡ e ∷ es
+  run_grows views es es' id v w since e at active run seats may of t t' =
+      let here : get_elem? (set views id w) id ≡ some w = set_here views id w (at_below views id v at) in
+      let mid : List Event = since.1 in
+      let mine = t.missing id v at in
+      let la : List Event = mine.0 in
+      let now = t'.missing id w here in
+      let later : List Event = now.0 in
+      let now_is : es' ≡ (later ++ e ∷ mid) ++ v.trace.run = now.1 ∙ ap (λ l. later ++ l) run ∙ sym (append_assoc later (e ∷ mid) v.trace.run) in
+      let own_seats : with_own id v.trace.seats ≡ w.trace.seats = same_own v.trace.seats (subst (Leads id) seats (t'.leads id w here)) ∙ sym seats in
+      let mid_apart : Apart w.trace.seats mid = subst (λ l. Apart l mid) (sym seats) may.1 in
+      let la_apart : Apart w.trace.seats la = subst (λ l. Apart l la) own_seats (apart_own es views t id v at active la (owned_front views la v.trace.run (subst (AreOwned views) mine.1 t.owned)) mine.2) in
+      -- the run before is the end of the run now
+      let last = t.last in
+      let last_is = last.3 in
+      let grown : (more : List Event) × (es' ≡ more ++ es) = dite (ℕ_discrete last.0 id)
+      (λ same. (later ++ e ∷ mid, now_is ∙ ap (λ l. (later ++ e ∷ mid) ++ l) (ap (λ (y : View T). y.trace.run) (same_view views id last.0 v last.1 at last.2 (sym same)) ∙ last_is)))
+      (λ ne. let o = t'.missing last.0 last.1 (set_else views id last.0 w ne ∙ last.2) in (o.0, o.1 ∙ ap (λ l. o.0 ++ l) last_is)) in
+      let more : List Event = grown.0 in
+      let more_is = grown.1 in
+      -- and each further event is of a seat all of whose events this view has
+      let others : (j : ℕ) (u : View T) → get_elem? views j ≡ some u → j ≢ id → Apart u.trace.seats more = λ j u at_u ne.
+      let old = t.missing j u at_u in
+      let new = t'.missing j u (set_else views id j w ne ∙ at_u) in
+      let is : new.0 ≡ more ++ old.0 = append_cancel_right new.0 (more ++ old.0) u.trace.run (sym new.1 ∙ more_is ∙ ap (λ l. more ++ l) old.1 ∙ sym (append_assoc more old.0 u.trace.run)) in
+      apart_front u.trace.seats more old.0 (subst (Apart u.trace.seats) is new.2) in
+      let all : AllIn w.trace.seats more = owns more (owned_front (set views id w) more es (subst (AreOwned (set views id w)) more_is t'.owned)) others in
+      -- both ways of writing it
+      let both : more ++ la ≡ later ++ e ∷ mid = append_cancel_right (more ++ la) (later ++ e ∷ mid) v.trace.run (append_assoc more la v.trace.run ∙ ap (λ l. more ++ l) (sym mine.1) ∙ sym more_is ∙ now_is) in
+      let short : length la ≤ length mid = dite (dec_le (suc (length mid)) (length la))
+      (λ long. let r = end_of later more (e ∷ mid) la (sym both) long in
+      absurd (true≢false (sym of ∙ (apart_back w.trace.seats r.0 (e ∷ mid) (subst (Apart w.trace.seats) r.1 la_apart)).0)))
+      (λ no. omega arith) in
+      let r = end_of more (later ++ e ∷ []) la mid (both ∙ sym (append_assoc later (e ∷ []) mid)) short in
+      let front : more ≡ (later ++ e ∷ []) ++ r.0 = append_cancel_right more ((later ++ e ∷ []) ++ r.0) la
+      (both ∙ sym (append_assoc later (e ∷ []) mid) ∙ ap (λ l. (later ++ e ∷ []) ++ l) r.1 ∙ sym (append_assoc (later ++ e ∷ []) r.0 la)) in
+      let all' : AllIn w.trace.seats ((later ++ e ∷ []) ++ r.0) = subst (AllIn w.trace.seats) front all in
+      let nothing_later : later ≡ [] = none_left w.trace.seats later (all_front w.trace.seats later (e ∷ []) (all_front w.trace.seats (later ++ e ∷ []) r.0 all')) now.2 in
+      let nothing_between : r.0 ≡ [] = none_left w.trace.seats r.0 (all_back w.trace.seats (later ++ e ∷ []) r.0 all') (apart_front w.trace.seats r.0 la (subst (Apart w.trace.seats) r.1 mid_apart)) in
+      more_is ∙ ap (λ l. l ++ es) (front ∙ (λ i. (nothing_later i ++ e ∷ []) ++ nothing_between i))
+    where
+      same_own : (xs : List ℕ) → Leads id (with_own since.0 xs) → with_own id xs ≡ with_own since.0 xs
+      same_own [] l = ap (λ n. n ∷ []) l
+      same_own (x ∷ xs) l = refl
+
+      owns : (zs : List Event) → AreOwned (set views id w) zs → ((j : ℕ) (u : View T) → get_elem? views j ≡ some u → j ≢ id → Apart u.trace.seats zs) → AllIn w.trace.seats zs
+      owns [] o f = tt
+      owns (x ∷ xs) o f = (
+        (let h = o.0 in dite (ℕ_discrete h.0 id)
+            (λ e. ap (λ (y : View T). is_in (seat_of x) y.trace.seats) (same_view (set views id w) id h.0 w h.1 (set_here views id w (at_below views id v at)) h.2 (sym e)) ∙ h.3)
+            (λ ne. absurd (true≢false (sym h.3 ∙ (f h.0 h.1 (sym (set_else views id h.0 w ne) ∙ h.2) ne).0)))),
+        owns xs o.1 (λ j u at_u ne. (f j u at_u ne).1),
+      )
+
+  -- the same of a step
+  pub step_stays : (views views' : List (View T)) (es es' : List Event) (id : ℕ) (v w : View T) → IsStep id v w views views' → MakesNone v.trace w.trace → IsKnown es views → IsKnown es' views' → es' ≡ es
+  step_stays views views' es es' id v w s stay t t' = run_stays views es es' id v w s.0 stay.0 t (subst (IsKnown es') s.1 t')
+
+  pub step_grows : (views views' : List (View T)) (es es' : List Event) (id : ℕ) (v w : View T) (e : ℕ → Event) → IsStep id v w views views' → IsActive v.role → Makes e v.trace w.trace → seat_of (e id) ≡ id → IsKnown es views → IsKnown es' views' → es' ≡ e id ∷ es
+  step_grows views views' es es' id v w e s active ran own t t' =
+      let u = subst (IsKnown es') s.1 t' in
+      let since : ℕ × List Event = ran.0 in
+      let leads = subst (Leads id) ran.2 (u.leads id w (set_here views id w (at_below views id v s.0))) in
+      let number : since.0 ≡ id = first v.trace.seats since.0 ran.3.0 leads in
+      run_grows views es es' id v w since (e id) s.0 active (ran.1 ∙ ap (λ n. e n ∷ since.1 ++ v.trace.run) number) ran.2 ran.3
+      (ap (is_in (seat_of (e id))) ran.2 ∙ ap (λ n. is_in n (with_own since.0 v.trace.seats)) (own ∙ sym number) ∙ in_own since.0 v.trace.seats ran.3.0) t u
+    where
+      first : (xs : List ℕ) (n : ℕ) → Leads n xs → Leads id (with_own n xs) → n ≡ id
+      first [] n a b = sym b
+      first (x ∷ xs) n a b = a ∙ sym b
+
+  -- a pass is given
+  pub split_stays : (views views' : List (View T)) (es es' : List Event) (id : ℕ) (v : View T) → get_elem? views id ≡ some v → IsActive v.role → views' ≡ set views id (splitting v) ++ newcomer v ∷ [] → IsKnown es views → IsKnown es' views' → es' ≡ es
+  split_stays views views' es es' id v at active is t t' =
+      one_run (set views id (splitting v) ++ newcomer v ∷ []) es' es (subst (IsKnown es') is t')
+      (known_added es (set views id (splitting v)) (newcomer v) refl refl (known_same es views id v (splitting v) at refl refl (λ e. absurd (not_spent v.role active e)) t))
+
+  -- a pass is taken in
+  pub join_stays : (views views' : List (View T)) (es es' : List Event) (other : ℕ) (v w : View T) → get_elem? views 0 ≡ some v → IsActive v.role → get_elem? views other ≡ some w → (other ≡ 0 → ⊥) → views' ≡ set (set views 0 (taken_in v w)) other spent → IsKnown es views → IsKnown es' views' → es' ≡ es
+  join_stays views views' es es' other v w at active there apart is t t' =
+      one_run (set (set views 0 (taken_in v w)) other spent) es' es (subst (IsKnown es') is t') (known_joined es views t 0 v at active other w (taken_in v w) there apart refl refl refl)

@@ -1,0 +1,77 @@
+-- A step of a ring, as two states that meet the rule, and the event of the ownership machine that it is.
+use Rattle.std.specs.Prelude.{◌≡◌, ℕ, List, [], ◌∷◌, ◌++◌, slice_set}
+use mathlib.Core.Option.{some}
+use lib.ListN.{get_elem?}
+use Rattle.zy_table.specs.declared.name.Name.{Name}
+use Rattle.zy_shuffle.specs.declared.ring.view.Event.{Event}
+use Rattle.zy_shuffle.specs.declared.ring.view.View.{View}
+use Rattle.zy_shuffle.specs.View.{spent}
+use Rattle.zy_shuffle.specs.HomeRole.{IsActive}
+use Rattle.zy_shuffle.specs.Ownership.{Owners, no_requests, happens, Runs, StaysHeld, held}
+use Rattle.zy_shuffle.specs.Run.{seat_of, Makes, MakesNone}
+use Rattle.zy_shuffle.specs.ShuffleRule.{RingState, ShuffleRule}
+use Rattle.zy_shuffle.specs.Step.{splitting, newcomer, taken_in}
+
+module _ {T M : Type 0} (mark : T → M) (label : T → Name) where
+  -- a state that meets the rule
+  abbrev pub Ruled : Type 0
+  Ruled = (s : RingState T) × ShuffleRule mark label s
+
+module _ {T : Type 0} where
+  -- seat `id` has this view
+  abbrev pub HasView : List (View T) → ℕ → View T → Type 0
+  HasView views id v = get_elem? views id ≡ some v
+
+  -- only the view of this seat changed, from the first to the second
+  abbrev pub IsStep : ℕ → View T → View T → List (View T) → List (View T) → Type 0
+  IsStep id v w views views' = HasView views id v × (views' ≡ slice_set views id w)
+
+module _ {T M : Type 0} {mark : T → M} {label : T → Name} where
+  -- the views of its seats
+  abbrev pub views_of : Ruled mark label → List (View T)
+  views_of s = s.0.views
+
+  -- the run of the machine that the table follows, the newest event first
+  abbrev pub run_of : Ruled mark label → List Event
+  run_of s = s.1.follows.events
+
+  -- the state of the machine that the table shows
+  abbrev pub owners_of : Ruled mark label → Owners
+  owners_of s = s.1.follows.owners
+
+  -- no view has an event
+  abbrev pub HaveNoEvents : Ruled mark label → Type 0
+  HaveNoEvents s = (id : ℕ) (v : View T) → HasView (views_of s) id v → v.trace.run ≡ []
+
+  -- seat `id` made a step that is no event
+  abbrev pub IsNoEvent : ℕ → Ruled mark label → Ruled mark label → Type 0
+  IsNoEvent id s t = (v w : View T) × IsStep id v w (views_of s) (views_of t) × MakesNone v.trace w.trace
+
+  -- seat `id` made a step that is this event, which is its own
+  abbrev pub IsEvent : ℕ → (ℕ → Event) → Ruled mark label → Ruled mark label → Type 0
+  IsEvent id e s t = (v w : View T) × IsStep id v w (views_of s) (views_of t) × IsActive v.role
+      × Makes e v.trace w.trace × (seat_of (e id) ≡ id)
+
+  -- the run grew by this event, and by nothing else
+  abbrev pub GrowsBy : Event → Ruled mark label → Ruled mark label → Type 0
+  GrowsBy e s t = run_of t ≡ e ∷ run_of s
+
+  -- the event leads from the state of the machine before to the one after
+  abbrev pub LeadsBy : Event → Ruled mark label → Ruled mark label → Type 0
+  LeadsBy e s t = happens 0 (owners_of s) e (owners_of t)
+
+  -- seat `id` gave a pass, which has the next number
+  abbrev pub IsGiven : ℕ → Ruled mark label → Ruled mark label → Type 0
+  IsGiven id s t = (v : View T) × HasView (views_of s) id v × IsActive v.role
+      × (views_of t ≡ slice_set (views_of s) id (splitting v) ++ newcomer v ∷ [])
+
+  -- the home joined seat `id`
+  abbrev pub IsJoined : ℕ → Ruled mark label → Ruled mark label → Type 0
+  IsJoined id s t = (v w : View T) × HasView (views_of s) 0 v × IsActive v.role × HasView (views_of s) id w
+      × (id ≡ 0 → ⊥) × (views_of t ≡ slice_set (slice_set (views_of s) 0 (taken_in v w)) id spent)
+
+  -- if by the run that seat `id` knows it holds the connection, then it holds it, with as many
+  -- finished requests, and no fewer arrived
+  abbrev pub KnowsHeld : ℕ → ℕ → Ruled mark label → Type 0
+  KnowsHeld id c s = (v : View T) → HasView (views_of s) id v → IsActive v.role
+      → (u : Owners) × Runs 0 no_requests v.trace.run u × (u.places c ≡ held id → StaysHeld id c u (owners_of s))

@@ -1,0 +1,93 @@
+-- What the seats of a ring know of the run of the ownership machine, and that their views have all of it.
+use Rattle.std.specs.Prelude.{◌≡◌, ◌⊎◌, ℕ, List, [], ◌∷◌, ◌++◌, true, false, Option, Some, None}
+use mathlib.Core.Option.{some}
+use lib.ListN.{get_elem?}
+use Rattle.zy_table.specs.Member.{is_in}
+use Rattle.zy_shuffle.specs.declared.ring.view.Event.{Event}
+use Rattle.zy_shuffle.specs.declared.ring.view.Event.TheVariants.{Arrive, Claim, Handle, GiveBack, Collect, Settle}
+use Rattle.zy_shuffle.specs.declared.ring.view.Role.TheVariants.{Spent}
+use Rattle.zy_shuffle.specs.declared.ring.view.Trace.{Trace}
+use Rattle.zy_shuffle.specs.declared.ring.view.View.{View}
+use Rattle.zy_shuffle.specs.View.{with_own}
+
+-- ---- events and seats
+
+-- the seat whose event it is; the home is seat 0
+abbrev pub seat_of : Event → ℕ
+seat_of (Arrive c count) = 0
+seat_of (Claim core) = core
+seat_of (Handle core c) = core
+seat_of (GiveBack core c) = core
+seat_of (Collect c) = 0
+seat_of (Settle c) = 0
+
+-- none of these events is of one of these seats
+abbrev pub Apart : List ℕ → List Event → Type 0
+Apart seats [] = Unit {0}
+Apart seats (e ∷ es) = (is_in (seat_of e) seats ≡ false) × Apart seats es
+
+-- the list of seats is empty, or it begins with this seat
+abbrev pub Leads : ℕ → List ℕ → Type 0
+Leads seat [] = Unit {0}
+Leads seat (x ∷ xs) = seat ≡ x
+
+-- ---- what a seat adds to the run
+
+-- the seat of this trace can have the number `since.0`, and none of the events `since.1` is its own
+abbrev pub MayFollow : ℕ × List Event → Trace → Type 0
+MayFollow since t = Leads since.0 t.seats × Apart (with_own since.0 t.seats) since.1
+
+-- the seat made this event, which depends on its number: to the run that it knew it added events of
+-- other seats, and then this one
+abbrev pub Makes : (ℕ → Event) → Trace → Trace → Type 0
+Makes e t u = (since : ℕ × List Event) × (u.run ≡ e since.0 ∷ since.1 ++ t.run)
+    × (u.seats ≡ with_own since.0 t.seats) × MayFollow since t
+
+-- the seat made no event, and knows what it knew of the run
+abbrev pub MakesNone : Trace → Trace → Type 0
+MakesNone t u = (u.run ≡ t.run) × (u.seats ≡ t.seats)
+
+-- the event of a claim
+abbrev pub claim_of : ℕ → Event
+claim_of core = Claim core
+
+-- the event of a core that gives a place back
+abbrev pub give_back_of : ℕ → ℕ → Event
+give_back_of place core = GiveBack core place
+
+-- the event of a publication, by the mark that the home keeps for the place: a request arrives at a
+-- place that was never published, and any other is settled
+abbrev pub publication : {M : Type 0} → ℕ → Option M → Event
+publication place None = Arrive place 1
+publication place (Some mark) = Settle place
+
+-- ---- what all seats know
+
+module _ {T : Type 0} where
+  -- some view has all events of this seat
+  abbrev pub IsOwned : List (View T) → ℕ → Type 0
+  IsOwned views seat = (j : ℕ) × (v : View T) × (get_elem? views j ≡ some v) × (is_in seat v.trace.seats ≡ true)
+
+  -- each of these events is of such a seat
+  abbrev pub AreOwned : List (View T) → List Event → Type 0
+  AreOwned views [] = Unit {0}
+  AreOwned views (e ∷ es) = IsOwned views (seat_of e) × AreOwned views es
+
+  -- the seat was joined
+  abbrev pub IsSpent : List (View T) → ℕ → Type 0
+  IsSpent views seat = (u : View T) × (get_elem? views seat ≡ some u) × (u.role ≡ Spent)
+
+  -- this is the run that the views have between them
+  pub record IsKnown (events : List Event) (views : List (View T)) : Type 0 where
+    -- some view has all of it
+    pub last : (j : ℕ) × (v : View T) × (get_elem? views j ≡ some v) × (v.trace.run ≡ events)
+    -- what any other view has not are later events, of seats whose events it need not have
+    pub missing : (j : ℕ) (v : View T) → get_elem? views j ≡ some v
+        → (later : List Event) × (events ≡ later ++ v.trace.run) × Apart v.trace.seats later
+    -- each event is of a seat all of whose events some view has
+    pub owned : AreOwned views events
+    -- a view has all events of its own seat, and that of the home also those of seats that were joined
+    pub seats_of : (j : ℕ) (v : View T) → get_elem? views j ≡ some v → (seat : ℕ)
+        → is_in seat v.trace.seats ≡ true → (seat ≡ j) ⊎ ((j ≡ 0) × IsSpent views seat)
+    -- its own seat is the first of these
+    pub leads : (j : ℕ) (v : View T) → get_elem? views j ≡ some v → Leads j v.trace.seats
