@@ -9,7 +9,8 @@ fn only(alloc: Global, number: u64) -> Result<CallNumbers, NoMemory> {
     let mut numbers = CallNumbers::new(alloc);
     match numbers.push(number) {
         Ok(()) => Ok(numbers),
-        Err((_, refused)) => {
+        Err((number, refused)) => {
+            drop(number);
             drop(numbers);
             Err(refused)
         }

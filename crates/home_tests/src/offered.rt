@@ -132,12 +132,12 @@ fn hold_beside<R: Threads + Wait + Abort + Sync>(
     thread::join(
         rt,
         move || -> EventInlet
-            requires { other.table ≡ store.now.id }
-            ensures { result.ring ≡ inlet.ring }
+            requires table { other.table ≡ store.now.id }
+            ensures ring { result.ring ≡ inlet.ring }
         { offer_until(rt, alloc, store, other, inlet, flag) },
         move || -> (Block, Sent)
-            requires { block.work.table ≡ store.now.id }
-            ensures { result.0.work.ring ≡ block.work.ring }
+            requires table { block.work.table ≡ store.now.id }
+            ensures ring { result.0.work.ring ≡ block.work.ring }
         { hold_until(rt, alloc, store, block, flag) },
     )
 }

@@ -73,11 +73,13 @@ fn call_on_two<R: Threads + Wait + Sync>(
         rt,
         move || -> Pass
             requires { (one.table ≡ store.now.id) × (store.now.shards ≡ 1) }
-            ensures { (result.table ≡ store.entry.now.id) × (result.conn ≡ one.conn) }
+            ensures table { result.table ≡ store.entry.now.id }
+            ensures conn { result.conn ≡ one.conn }
         { call_on(rt, store, one, first) },
         move || -> Pass
             requires { (two.table ≡ store.now.id) × (store.now.shards ≡ 1) }
-            ensures { (result.table ≡ store.entry.now.id) × (result.conn ≡ two.conn) }
+            ensures table { result.table ≡ store.entry.now.id }
+            ensures conn { result.conn ≡ two.conn }
         { call_on(rt, store, two, second) },
     )
 }

@@ -71,10 +71,10 @@ fn items_cross_threads_in_order(rt: HostRuntime) {
     let (mut inlet, taken) = thread::join(
         &rt,
         move || -> Inlet
-            ensures { result.ring ≡ inlet.ring }
+            ensures ring { result.ring ≡ inlet.ring }
         { offer_all(runtime, inlet, ITEMS) },
         move || -> (Outlet, u32)
-            ensures { result.0.ring ≡ outlet.ring }
+            ensures ring { result.0.ring ≡ outlet.ring }
         { take_all(runtime, outlet, ITEMS) },
     );
     let (mut outlet, wrong) = taken;

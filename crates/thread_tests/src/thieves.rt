@@ -224,7 +224,7 @@ fn rob_and_tend<R: Threads + Wait + Sync>(
         move || -> HomePass<Block>
             requires { (length rings.now ≡ 2) × ((r : Ringed) → slice_get rings.now 0 ≡ Some r → home.table ≡ r.id)
                 × (home.count ≤ 4) }
-            ensures { result.table ≡ home.table }
+            ensures table { result.table ≡ home.table }
         { tend(rt, rings.ring(0), home, ended) },
         move || -> u32
             requires { (length rings.now ≡ 2) × ArePasses rings.now pairs.0.0 × (pairs.0.0.core ≡ 1)

@@ -143,7 +143,10 @@ impl Link {
     {
         match self.output.carry_out(block.take_batch()) {
             Ok(()) => {}
-            Err((_, e)) => return Err(e),
+            Err((batch, e)) => {
+                drop(batch);
+                return Err(e);
+            }
         }
         block.meet(&mut self.inlet);
         self.offer_waiting();
