@@ -22,7 +22,7 @@ use Rattle.zygos_run.specs.declared.answer.Answer.{Answer}
 use Rattle.zygos_run.specs.declared.answer.Answer.TheVariants.{Served, Checked, Made, Tested, Usage, Refused, ReadFault, WriteFault, OutOfMemory}
 use Rattle.zy_pcap.specs.declared.pcap_fault.PcapFault.{PcapFault}
 use Rattle.zy_pcap.specs.Packets.{packets}
-use Rattle.zy_pcap.specs.Packets.Found as Recorded
+use Rattle.zy_pcap.specs.Packets as Recorded
 use Rattle.zygos_run.specs.Recorded.{IsRecorded}
 use Rattle.zygos_run.specs.Headline.{IsWritten}
 use Rattle.zygos_run.specs.Seen.{Side, Seen, NoneRose, Takes, OfGiven, OfReported, OfTold}
@@ -177,12 +177,12 @@ module _ (call : Seen) (text : List ℕ) (is_told : call.source.before ≡ Some 
   check_refused shards refusal WriteFault parts one ends bad = absurd (none.1 ends.1)
   check_refused shards refusal OutOfMemory parts one ends bad = inr refl
 
-  pcap_refused : (port : ℕ) (fault : PcapFault) (answer : Answer) → Ends (Some (Requests.Pcap port)) call answer → packets port text ≡ Recorded.Bad fault → IsRefusedOr (Refusals.Pcap fault) answer
+  pcap_refused : (port : ℕ) (fault : PcapFault) (answer : Answer) → Ends (Some (Requests.Pcap port)) call answer → packets port text ≡ Recorded.Found.Bad fault → IsRefusedOr (Refusals.Pcap fault) answer
   pcap_refused port fault (Served journal) ends bad = absurd ends
   pcap_refused port fault (Checked found) ends bad = absurd ends
   pcap_refused port fault Made ends bad =
       let is = of_text (λ bytes. IsRecorded port bytes (λ capture. Takes call.sink capture)) ends in
-      let both : Recorded.Packets is.given ≡ Recorded.Bad fault = sym is.are ∙ bad in cc
+      let both : Recorded.Found.Packets is.given ≡ Recorded.Found.Bad fault = sym is.are ∙ bad in cc
   pcap_refused port fault (Tested journal numbers) ends bad = absurd ends
   pcap_refused port fault Usage ends bad = absurd (cc)
   pcap_refused port fault (Refused (Refusals.Capture other)) ends bad = absurd ends.0
@@ -190,8 +190,8 @@ module _ (call : Seen) (text : List ℕ) (is_told : call.source.before ≡ Some 
   pcap_refused port fault (Refused (Refusals.Replies other)) ends bad = absurd ends.0
   pcap_refused port fault (Refused (Refusals.Pcap other)) ends bad =
       let cause = ends.1 in
-      let is : packets port text ≡ Recorded.Bad other = rw is_told at cause in
-      let both : Recorded.Bad other ≡ Recorded.Bad fault = sym is ∙ bad in
+      let is : packets port text ≡ Recorded.Found.Bad other = rw is_told at cause in
+      let both : Recorded.Found.Bad other ≡ Recorded.Found.Bad fault = sym is ∙ bad in
       inl (let same : other ≡ fault = cc in ap (λ f. Refused (Refusals.Pcap f)) same)
   pcap_refused port fault ReadFault ends bad = absurd (none.0 ends.1)
   pcap_refused port fault WriteFault ends bad = absurd (none.1 ends.1)

@@ -15,7 +15,7 @@ use Rattle.zy_check.specs.Given.{given}
 use Rattle.zy_check.specs.Cause.{HasVerdict}
 use Rattle.zy_gen.specs.Traffic.{gen_bytes, records_of}
 use Rattle.zy_pcap.specs.Packets.{packets}
-use Rattle.zy_pcap.specs.Packets.Found as Recorded
+use Rattle.zy_pcap.specs.Packets as Recorded
 use Rattle.zy_command_line.specs.declared.request.Request.{Request}
 use Rattle.zy_command_line.specs.declared.request.Request.TheVariants as Requests
 use Rattle.zy_command_line.specs.declared.request.Traffic.{Traffic}
@@ -86,7 +86,7 @@ HasTested request call journal numbers = ⊥
 abbrev pub HasFault : Option Request → Refusal → List ℕ → Type 0
 HasFault (Some (Requests.Run run out)) (Capture fault) bytes = verdict bytes ≡ Bad fault
 HasFault (Some (Requests.Check shards)) refusal bytes = HasPartFault bytes refusal
-HasFault (Some (Requests.Pcap port)) (Pcap fault) bytes = packets port bytes ≡ Recorded.Bad fault
+HasFault (Some (Requests.Pcap port)) (Pcap fault) bytes = packets port bytes ≡ Recorded.Found.Bad fault
 HasFault request refusal bytes = ⊥
 
 -- the request reads a part that may have such a fault

@@ -9,7 +9,7 @@ use Rattle.zy_check_input.specs.Parts.{HasPartFault}
 use Rattle.zy_check.specs.declared.verdict.Verdict.{Verdict as Certified}
 use Rattle.zy_pcap.specs.declared.pcap_fault.PcapFault.{PcapFault}
 use Rattle.zy_pcap.specs.Packets.{packets}
-use Rattle.zy_pcap.specs.Packets.Found as Recorded
+use Rattle.zy_pcap.specs.Packets as Recorded
 use Rattle.zy_command_line.specs.declared.request.Request.{Request}
 use Rattle.zy_command_line.specs.declared.request.Request.TheVariants as Requests
 use Rattle.zygos_run.specs.declared.answer.Answer.{Answer}
@@ -47,7 +47,7 @@ IsToldGood (Some (Requests.Run run out)) (Some bytes) = (fault : CaptureFault) �
 IsToldGood (Some (Requests.Check shards)) None = ⊥
 IsToldGood (Some (Requests.Check shards)) (Some bytes) = (refusal : Refusal) → HasPartFault bytes refusal → ⊥
 IsToldGood (Some (Requests.Pcap port)) None = ⊥
-IsToldGood (Some (Requests.Pcap port)) (Some bytes) = (fault : PcapFault) → packets port bytes ≡ Recorded.Bad fault → ⊥
+IsToldGood (Some (Requests.Pcap port)) (Some bytes) = (fault : PcapFault) → packets port bytes ≡ Recorded.Found.Bad fault → ⊥
 IsToldGood request rest = ⊤
 
 -- the answer is that of the command that was carried out
