@@ -60,7 +60,7 @@ pub finished : {S : Type 0} (rest : S → Option (List ℕ)) (faults : S → ℕ
 finished rest faults port first now left reader bytes (Ok streams) fed over finishes =
     let all : bytes ++ left ≡ bytes = ap (λ (l : List ℕ). bytes ++ l) over.0 ∙ append-nil bytes in
     let ends = subst (λ (n : ℕ). FinishesAs (packets n bytes) (Ok streams)) fed.port_is (finishes bytes fed.stands) in
-    (bytes, ((subst (Consumes (rest first) (rest now)) all fed.given.source, over.1), finished_ok (packets port bytes) port bytes streams refl ends))
+    (bytes, (subst (Consumes (rest first) (rest now)) all fed.given.source, over.1), finished_ok (packets port bytes) port bytes streams refl ends)
 finished rest faults port first now left reader bytes (Err fault) fed over finishes =
     let all : bytes ++ left ≡ bytes = ap (λ (l : List ℕ). bytes ++ l) over.0 ∙ append-nil bytes in
     let ends = subst (λ (n : ℕ). FinishesAs (packets n bytes) (Err fault)) fed.port_is (finishes bytes fed.stands) in

@@ -12,7 +12,7 @@ use Rattle.zy_rx.specs.declared.rx.Rx.{Rx}
 use Rattle.zy_feed.specs.declared.intake.Header.{Header}
 use Rattle.zy_feed.specs.Feeding.{HasFedAll}
 use Rattle.zy_finish.specs.Received.{AllSent}
-use Rattle.zy_feed.specs.Reads.{InPieces, HasBegun}
+use Rattle.zy_feed.specs.Reads.{Intake, HasBegun}
 use Rattle.zy_finish.specs.Finish.{IsFinished}
 use Rattle.zygos_run.specs.Headline.{IsServed, outputs_of}
 use Rattle.zygos_run.specs.Seen.{side}
@@ -41,7 +41,7 @@ runs_to rest faults shards source source' header sents done fed finished =
     (fed.bytes, (fed.source, fed.end), served_of shards header.version header.count fed.records fed.bytes done fed.good is, is.lawful, is.journal)
 
 -- what has begun with these has begun with equals of them
-pub begun_as : {S : Type 0} (rest : S → Option (List ℕ)) (faults : S → ℕ) (first now : S) (intake intake' : InPieces) (header header' : Header) → HasBegun rest faults first now intake header
+pub begun_as : {S : Type 0} (rest : S → Option (List ℕ)) (faults : S → ℕ) (first now : S) (intake intake' : Intake) (header header' : Header) → HasBegun rest faults first now intake header
     → intake' ≡ intake → header' ≡ header → HasBegun rest faults first now intake' header'
 begun_as rest faults first now intake intake' header header' begun same are =
-    subst (λ (h : Header). HasBegun rest faults first now intake' h) (sym are) (subst (λ (i : InPieces). HasBegun rest faults first now i header) (sym same) begun)
+    subst (λ (h : Header). HasBegun rest faults first now intake' h) (sym are) (subst (λ (i : Intake). HasBegun rest faults first now i header) (sym same) begun)
