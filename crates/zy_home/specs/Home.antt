@@ -77,6 +77,10 @@ pub record Keeps (h : Homed) : Type 0 where
   pub each : h.refused ≡ false → (p : ℕ) (x : Option Blocked) (l : Link)
       → slice_get h.blocks p ≡ Some x → slice_get h.links p ≡ Some l → IsAt h.pass p l x
 
+-- the block of this connection is in the hand of the home
+abbrev pub IsInHand : Homed → ℕ → Blocked → Link → Type 0
+IsInHand h p block link = (slice_get h.blocks p ≡ Some (Some block)) × (slice_get h.links p ≡ Some link)
+
 -- these items may be what the home received: each of its connections may have received the sessions that they have
 -- for it
 pub record HomeStands (h : Homed) (items : List Rx) : Type 0 where

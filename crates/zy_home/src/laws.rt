@@ -1,6 +1,6 @@
 //! Laws of homes and their connections at the end: the functions do nothing, and their contracts are
 //! the laws.
-ghost use Rattle.std.specs.Prelude.{◌≡◌, ◌≢◌, ℕ, ◌+◌, List, [], ◌∷◌, ◌++◌, map, true};
+ghost use Rattle.std.specs.Prelude.{◌≡◌, ◌≢◌, ℕ, ◌+◌, List, [], ◌∷◌, ◌++◌, map, true, false};
 ghost use Rattle.zy_base.specs.declared.entry.Entry.{Entry};
 ghost use Rattle.mc_reply.specs.Texts.{texts_of};
 ghost use Rattle.zy_rx.specs.declared.rx.Rx.{Rx};
@@ -8,12 +8,12 @@ ghost use Rattle.zy_rx.specs.Flow.{home_of};
 ghost use Rattle.zy_rx.specs.Session.{Sessions, sessions_of, streams_of};
 ghost use Rattle.zy_conn.specs.Kept.{Kept};
 ghost use Rattle.zy_conn.specs.Block.{Blocked};
-ghost use Rattle.zy_home.specs.Link.{Link, LinkStands, ends_from};
+ghost use Rattle.zy_home.specs.Link.{Link, LinkStands, conn_of, ends_from};
 ghost use Rattle.zy_home.specs.Idle.{IsIdle, due_mark, mark_in};
 ghost use Rattle.zy_home.specs.Finish.{ConnEnd, commands_received, cut_at, outputs_from};
 ghost use Rattle.zy_home.specs.Own.{own_conns};
 ghost use Rattle.zy_home.specs.End.{Ended, blocks_in, ended_of};
-ghost use Rattle.zy_home.specs.Home.{Homed, HomeStands, Keeps, is_settled};
+ghost use Rattle.zy_home.specs.Home.{Homed, HomeStands, IsInHand, Keeps, is_settled};
 ghost use Rattle.zy_home.specs.Settled.{AreFinished};
 
 /// A connection whose block is idle has finished what it received: each expected call was made in
@@ -50,4 +50,12 @@ pub fn a_settled_home_is_finished()
     ensures finished { (h : Homed) (items : List Rx) → Keeps h → is_settled h ≡ true
         → HomeStands h items
         → AreFinished h.pass.label (λ conn. sessions_of conn items) (blocks_in h.blocks) (map ended_of h.links) }
+{}
+
+/// A connection whose block is in the hand of a home that was not refused memory has finished what
+/// it received. So the block of a connection with a command that is not finished is away.
+pub fn a_connection_in_the_hand_is_finished()
+    ensures value { (h : Homed) (p : ℕ) (b : Blocked) (l : Link) (items : List Rx) → Keeps h
+        → h.refused ≡ false → HomeStands h items → IsInHand h p b l → Kept b.work
+        → ConnEnd b.work.table.slots b.work.calls (sessions_of (conn_of l) items) l.output l.ends }
 {}

@@ -14,7 +14,8 @@ pub use blocks::Blocks;
 pub use ends::Ends;
 pub use home::Home;
 pub use laws::{
-    a_settled_home_is_finished, an_idle_connection_is_finished, own_connections_come_in_turn,
+    a_connection_in_the_hand_is_finished, a_settled_home_is_finished,
+    an_idle_connection_is_finished, own_connections_come_in_turn,
     texts_are_cut_at_the_ends_of_sessions,
 };
 pub use own::Own;

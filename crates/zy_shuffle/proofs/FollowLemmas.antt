@@ -1,13 +1,12 @@
 -- Each step is one event of the ownership machine, or no event.
-use Rattle.std.proofs.Common.{◌≡◌, ◌≢◌, ℕ, zero, suc, ◌+◌, ◌-◌, ◌<◌, ◌≤◌, List, [], ◌∷◌, ◌++◌, refl, sym, ap, ◌∙◌, subst, inl, inr, ⊎_elim, arith}
+use Rattle.std.proofs.Common.{◌≡◌, ◌≢◌, ℕ, zero, suc, ◌+◌, ◌-◌, ◌<◌, ◌≤◌, List, [], ◌∷◌, ◌++◌, refl, sym, ap, ◌∙◌, subst, inl, ⊎_elim, arith}
 use Rattle.std.specs.Prelude as std
 use Rattle.std.specs.Prelude.{◌↔◌}
 use Rattle.zy_table.specs.Put.{put}
 use Rattle.zy_table.proofs.PutLemmas.{at_both, at_put, put_here, put_else}
 use mathlib.Core.Logic.{dite}
 use native.Mathlib.Decide.{ℕ_discrete}
-use Rattle.zy_shuffle.specs.Ownership.{Place, idle, ready, held, returned, Owners, moved, queued, with_requests}
-use Rattle.zy_shuffle.specs.declared.ring.view.Event.{Event}
+use Rattle.zy_shuffle.specs.Ownership.{Place, idle, ready, held, returned, moved, queued, with_requests}
 use Rattle.zy_shuffle.specs.declared.ring.view.Event.TheVariants.{Arrive, Claim, GiveBack, Collect, Settle}
 use Rattle.zy_shuffle.specs.declared.ring.view.View.{View}
 use Rattle.zy_shuffle.specs.Run.{IsKnown, publication, seat_of}
