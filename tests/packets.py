@@ -374,10 +374,11 @@ def recorded():
     with socket.create_server(("127.0.0.1", 0)) as server, tempfile.TemporaryDirectory() as room:
         port = server.getsockname()[1]
         path = os.path.join(room, "file.pcap")
-        command = ["tcpdump", "-i", "lo", "-U", "-w", path, "tcp", "port", str(port)]
+        # as root, tcpdump would otherwise become a user who may not write there
+        user = ["-Z", "root"] if os.geteuid() == 0 else []
+        command = ["tcpdump", "-i", "lo", "-U", *user, "-w", path, "tcp", "port", str(port)]
         with subprocess.Popen(command, stderr=subprocess.PIPE) as dump:
-            if b"listening" not in dump.stderr.readline() + dump.stderr.readline():
-                dump.kill()
+            if not any(b"listening" in line for line in dump.stderr):
                 return "tcpdump may not record"
             sent = b"".join(b"set k%d 0 0 1\r\nx\r\nget k%d\r\n" % (i, i) for i in range(100))
             with socket.create_connection(("127.0.0.1", port)) as client:
