@@ -11,8 +11,8 @@ use std::alloc::Global;
 use std::marker::Model;
 use zy_base::{Call, CallReply, NoMemory};
 
-// The largest number of items that a shard ever stores.
-const MOST: u64 = 1 << 52;
+// A shard stores fewer items than this, ever.
+const ITEM_LIMIT: u64 = 1 << 52;
 
 /// A shard of the store without a history, on which calls are made again. Contracts see it as its
 /// number, the number of shards, and its items with their counter.
@@ -61,7 +61,7 @@ impl Replay {
         ensures ok { OnOk result (self.new ≡ state_replayed self.old call.now) }
         ensures err { OnErr result (self.new ≡ self.old) }
     {
-        if self.contents.count() >= MOST {
+        if self.contents.count() >= ITEM_LIMIT {
             return Err(NoMemory);
         }
         let key = Hashed::of_call(call)?;

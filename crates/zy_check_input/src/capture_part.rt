@@ -11,7 +11,7 @@ ghost use Rattle.zy_check_input.specs.Kinds.{KeepsStreams, capture_kind};
 use crate::part::{Part, Taken};
 use crate::stop::{Refusal, Stop};
 use std::alloc::Global;
-use zy_base::NoMemory;
+use zy_base::{CONNECTION_LIMIT, NoMemory};
 use zy_capture::{FeedFault, Reader, Record, Streams};
 use zy_read::Fed;
 
@@ -46,7 +46,7 @@ impl CapturePart {
             return Ok(());
         }
         match self.reader.count() {
-            Some(count) if count <= 4096 => match Streams::new(self.alloc, count) {
+            Some(count) if count <= CONNECTION_LIMIT => match Streams::new(self.alloc, count) {
                 Ok(streams) => {
                     self.streams = Some(streams);
                     Ok(())

@@ -11,7 +11,7 @@ ghost use Rattle.zy_check_input.specs.Kinds.{KeepsOutputs, ComesNext, replies_ki
 use crate::part::{Part, Taken};
 use crate::stop::{Refusal, Stop};
 use std::alloc::Global;
-use zy_base::NoMemory;
+use zy_base::{CONNECTION_LIMIT, NoMemory};
 use zy_capture::{Outputs, RepliesReader, SessionBytes};
 use zy_read::{Fed, FileFeed};
 
@@ -179,7 +179,7 @@ fn comes_next(outputs: &Outputs, conn: u32, session: u32) -> bool
 {
     let count = outputs.count();
     if conn >= count {
-        return conn == count && conn < 4096 && session == 0;
+        return conn == count && conn < CONNECTION_LIMIT && session == 0;
     }
     if outputs.version() != 2 || conn + 1 != count {
         return false;

@@ -8,12 +8,13 @@ use crate::number::{number_in, number_or};
 use crate::request::{Out, Run, Traffic};
 use crate::splitting::value;
 use clap::ArgMatches;
+use zy_base::{CONNECTION_LIMIT, CORE_LIMIT, SHARD_LIMIT};
 
 /// The number of shards.
 pub(crate) fn shards(given: &ArgMatches<'_>) -> Option<u32>
     ensures value { (options : Options) → HasOptions options given.now → result ≡ shards_of options }
 {
-    number_or(1, 256, 16, value(given, "shards"))
+    number_or(1, SHARD_LIMIT, 16, value(given, "shards"))
 }
 
 /// The port.
@@ -63,13 +64,13 @@ pub(crate) fn run(given: &ArgMatches<'_>) -> Option<Run>
 fn cores(given: &ArgMatches<'_>) -> Option<u32>
     ensures value { (options : Options) → HasOptions options given.now → result ≡ cores_of options }
 {
-    number_or(1, 64, 4, value(given, "cores"))
+    number_or(1, CORE_LIMIT, 4, value(given, "cores"))
 }
 
 fn threads(given: &ArgMatches<'_>, cores: u32) -> Option<u32>
     ensures value { (options : Options) → HasOptions options given.now → result ≡ threads_of cores options }
 {
-    match number_or(1, 64, cores, value(given, "threads")) {
+    match number_or(1, CORE_LIMIT, cores, value(given, "threads")) {
         Some(threads) => Some(cores.min(threads)),
         None => None,
     }
@@ -120,7 +121,7 @@ fn seed(given: &ArgMatches<'_>) -> Option<u32>
 fn conns(given: &ArgMatches<'_>) -> Option<u32>
     ensures value { (options : Options) → HasOptions options given.now → result ≡ conns_of options }
 {
-    number_or(1, 4096, 200, value(given, "conns"))
+    number_or(1, CONNECTION_LIMIT, 200, value(given, "conns"))
 }
 
 fn commands(given: &ArgMatches<'_>) -> Option<u32>

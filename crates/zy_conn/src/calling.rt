@@ -6,10 +6,7 @@ ghost use Rattle.zy_conn.specs.Step.{SamePass, Makes, MakesThis};
 use crate::hold_end::HoldEnd;
 use mc_parse::{Command, ShardCall, call_at};
 use mc_store::{Pass, StoreTable, Tried};
-use zy_base::{CallReply, NoMemory, Tag};
-
-// The largest number of calls, and of commands, of a connection.
-pub(crate) const MOST: u64 = 1 << 40;
+use zy_base::{COMMAND_LIMIT, CallReply, NoMemory, Tag};
 
 /// The result of the next call of a command.
 #[derive(Drop)]
@@ -42,7 +39,7 @@ pub(crate) fn next_call(
         Ok(None) => return Ok(Made::Done),
         Err(e) => return Err(e),
     };
-    if pass.count() >= MOST {
+    if pass.count() >= COMMAND_LIMIT {
         drop(next);
         return Ok(Made::Stopped(HoldEnd::Spent));
     }

@@ -6,10 +6,7 @@ ghost use Rattle.zy_conn.specs.Step.{Goes};
 use crate::hold_end::HoldEnd;
 use crate::work::Work;
 use mc_store::StoreTable;
-use zy_base::{Gate, NoMemory};
-
-// The largest number of commands of one hold.
-const LIMIT: u32 = 64;
+use zy_base::{Gate, HOLD_LIMIT, NoMemory};
 
 /// Carries out commands in order, at most 64, and returns how many were finished, and why it ended.
 pub(crate) fn carry_out<G: Gate>(
@@ -25,7 +22,7 @@ pub(crate) fn carry_out<G: Gate>(
     ensures end { IfOk result.1 (HeldTo work.old work.new) }
 {
     let mut count = 0;
-    while count < LIMIT {
+    while count < HOLD_LIMIT {
         match work.run(store, gate, core) {
             Ok(None) => count += 1,
             Ok(Some(end)) => return (count, Ok(end)),

@@ -8,8 +8,8 @@ use crate::shared::Shared;
 use crate::turn::Turn;
 use zy_base::{Gate, NoMemory};
 
-// The largest number of turns of a core.
-const MOST: u64 = 1 << 48;
+// The most turns of a core.
+const TURN_LIMIT: u64 = 1 << 48;
 
 // A turn of one core, where it may take one. Says whether it worked.
 pub(crate) fn turn_one<G: Gate>(
@@ -23,7 +23,7 @@ pub(crate) fn turn_one<G: Gate>(
     if core.is_refused() {
         return Err(NoMemory);
     }
-    if core.turns() >= MOST {
+    if core.turns() >= TURN_LIMIT {
         return Ok(false);
     }
     match core.turn(shared, gate)? {

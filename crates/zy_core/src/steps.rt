@@ -15,7 +15,7 @@ use zy_shuffle::Ring;
 use zy_steal::Look;
 
 // The most items that a turn takes.
-const MOST: u32 = 64;
+const ITEMS_AT_ONCE: u32 = 64;
 
 // Takes items and has the home receive them, until none is known or there were 64. Says whether there
 // was one.
@@ -35,7 +35,7 @@ pub(crate) fn receive_all(
     ensures refused { home.new.refused ≡ is_err result }
     ensures ring { outlet.new.ring ≡ outlet.old.ring }
 {
-    for taken in 0..MOST {
+    for taken in 0..ITEMS_AT_ONCE {
         let Some(item) = outlet.take() else {
             return Ok(taken > 0);
         };

@@ -12,7 +12,7 @@ use zy_calls::Output;
 use zy_capture::Outputs;
 
 // The most ends of sessions that a connection may have.
-const MOST: usize = 1 << 31;
+const END_LIMIT: usize = 1 << 31;
 
 /// Adds the outputs of the next connection's sessions, which are its texts cut at these ends. In
 /// version 1, and where a connection has one session, its bytes are not copied.
@@ -32,7 +32,7 @@ pub(crate) fn add_sessions(
     if outputs.version() == 1 || ends.is_empty() {
         return add(outputs, conn, output.into_bytes());
     }
-    if ends.len() >= MOST {
+    if ends.len() >= END_LIMIT {
         drop(output);
         return Err(NoMemory);
     }

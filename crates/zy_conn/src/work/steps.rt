@@ -9,12 +9,12 @@ ghost use Rattle.zy_conn.specs.Step.{IsGoing, IsWhole, Goes, StopsBy, MadeFrom};
 use super::Work;
 use crate::answer::Answer;
 use crate::begun::Begun;
-use crate::calling::{MOST, Made, next_call};
+use crate::calling::{Made, next_call};
 use crate::hold_end::HoldEnd;
 use mc_parse::Command;
 use mc_store::StoreTable;
 use std::mem;
-use zy_base::{Gate, NoMemory, Replies};
+use zy_base::{COMMAND_LIMIT, Gate, NoMemory, Replies};
 use zy_calls::Batch;
 use zy_frame::meaning;
 
@@ -33,7 +33,7 @@ impl Work {
             return Some(HoldEnd::Drained);
         }
         let index = self.batch.finished();
-        if index == MOST {
+        if index == COMMAND_LIMIT {
             return Some(HoldEnd::Spent);
         }
         gate.pass(core, self.pass.conn(), index);

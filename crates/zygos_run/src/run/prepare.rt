@@ -5,14 +5,11 @@ ghost use Rattle.zygos_run.specs.Prepared.{IsPrepared};
 
 use mc_store::Root;
 use std::alloc::Global;
-use zy_base::NoMemory;
+use zy_base::{CONNECTION_LIMIT, NoMemory};
 use zy_command_line::Run;
 use zy_core::{Cores, Shared};
 use zy_feed::{Header, Inlets, Intake};
 use zy_setup::{Made, Started, make, start};
-
-// The most connections of a capture.
-const MOST_CONNECTIONS: u32 = 4096;
 
 /// A capture of which the head was read; cores that are not driven yet, with what they share and the
 /// inlets of their rings; and the root of their store.
@@ -39,7 +36,7 @@ pub(crate) fn prepare(
     ensures prepared { IfOk result (IsPrepared run.shards) }
 {
     // A reader reports no higher count.
-    if header.count > MOST_CONNECTIONS {
+    if header.count > CONNECTION_LIMIT {
         drop(intake);
         return Err(NoMemory);
     }

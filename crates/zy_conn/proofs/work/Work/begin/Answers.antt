@@ -7,7 +7,7 @@ use Rattle.zy_conn.proofs.work.Work.begin.Goals as goal
 
 pub invariant_of-self-2 : goal.invariant_of-self-2
 invariant_of-self-2 g c =
-    kept_begins_as _ _ _ _ _ _ _ _ _ _ _ _ _ c.self.invariant (ap (λ b. start_of c.self.inside.pass.table.slots b c.self.inside.replies.items) c.in-Nothing.is) (λ e. c.if-index-eq-MOST.false (c.finished-index.ensures.value ∙ e))
+    kept_begins_as _ _ _ _ _ _ _ _ _ _ _ _ _ c.self.invariant (ap (λ b. start_of c.self.inside.pass.table.slots b c.self.inside.replies.items) c.in-Nothing.is) (λ e. c.if-index-eq-COMMAND_LIMIT.false (c.finished-index.ensures.value ∙ e))
     (c.take_known-frame.ensures.kept ∙ ap (λ (o : RingOutlet FrameKind). o.ring) c.if-is_empty.ensures.outlet)
     (c.take_known-frame.ensures.taken ∙ ap (λ (o : RingOutlet FrameKind). o.taken ++ c.take_known-frame.result ∷ []) c.if-is_empty.ensures.outlet)
     (ap (λ b. start_of c.self.inside.pass.table.slots b c.self.inside.replies.items) c.put.ensures.value)
