@@ -1,9 +1,9 @@
 -- What a search for words byte by byte shows of the words of the whole text and of their places.
-use Rattle.std.proofs.Common.{◌≡◌, ◌≢◌, ℕ, ◌+◌, ◌<◌, ◌≤◌, Bool, true, false, if◌then◌else◌, filter, List, [], ◌∷◌, ◌++◌, length, drop, take, get_or, refl, sym, ap, ◌∙◌, append_assoc, append-nil, length-take, subst, arith}
+use Rattle.std.proofs.Common.{◌≡◌, ◌≢◌, ℕ, ◌+◌, ◌<◌, ◌≤◌, Bool, true, false, if◌then◌else◌, filter, List, [], ◌∷◌, ◌++◌, length, drop, take, get_or, refl, sym, ap, ◌∙◌, append_assoc, append-nil, subst, arith}
 use Rattle.std.specs.Prelude.{◌==◌}
 use Rattle.std.proofs.lemmas.Bool.Decides.{nat_tests}
-use Rattle.std.proofs.lemmas.List.{drop_more, drop_all, take_more, take_all, length-take-le}
-use Rattle.mc_meta.specs.Words.{Placed, placed, is_placed_word, words_at, pieces_of, put_before, has_byte}
+use Rattle.std.proofs.lemmas.List.{drop_more, drop_all, take_more, length-take-le}
+use Rattle.mc_meta.specs.Words.{Placed, placed, is_placed_word, words_at, pieces_of, put_before}
 
 -- ---- spaces
 
@@ -95,7 +95,7 @@ ended text word (byte ∷ bytes) some is at_end at =
     ap (λ (pieces : List (List ℕ)). filter is_placed_word (placed at pieces)) (subst (λ (b : ℕ). pieces_of text ≡ put_all word (pieces_of (b ∷ bytes))) at_end is)
     ∙ word_kept word (pieces_of bytes) at some
     ∙ ap (λ (more : List Placed). record { from = at; text = word } ∷ more)
-        (sym (words_at-space (at + length word) bytes) ∙ ap (λ (b : ℕ). words_at (at + length word) (b ∷ bytes)) (sym at_end))
+    (sym (words_at-space (at + length word) bytes) ∙ ap (λ (b : ℕ). words_at (at + length word) (b ∷ bytes)) (sym at_end))
 
 ended_at : (text : List ℕ) (end : ℕ) → end ≤ length text → 0 < end → get_or (drop end text) 0 32 ≡ 32 → IsWordTo text end
     → (at : ℕ) → words_at at text ≡ record { from = at; text = take end text } ∷ words_at (at + end) (drop end text)

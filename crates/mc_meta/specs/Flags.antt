@@ -1,6 +1,6 @@
 -- What the flags of a line say: memcached's protocol.txt, "Meta Commands". Which flags a line may have is this
 -- project's own rule.
-use Rattle.std.specs.Prelude.{ℕ, ◌-◌, Bool, true, false, not, ◌&&◌, ◌==◌, if◌then◌else◌, List, [], ◌∷◌, ◌++◌, codes, Option, None, Some, option_map}
+use Rattle.std.specs.Prelude.{ℕ, ◌-◌, Bool, not, ◌&&◌, ◌==◌, if◌then◌else◌, List, [], ◌∷◌, ◌++◌, codes, Option, None, Some, option_map}
 use Rattle.std.specs.List.{list_any}
 use Rattle.std.specs.Option.{option_and_then}
 use Rattle.mc_meta.specs.declared.flags.Flags.{Flags}
@@ -100,8 +100,8 @@ abbrev pub with_flag : List ℕ → Flags → List ℕ → Option Flags
 with_flag listed said [] = None
 with_flag listed said (letter ∷ token) =
     if is_among listed letter && not (is_among said.seen letter)
-        then with_token (with_letter said letter) letter token
-        else None
+    then with_token (with_letter said letter) letter token
+    else None
 
 -- what some flags and then these words say; none where a word is no flag
 abbrev pub flags_after : List ℕ → Flags → List Placed → Option Flags

@@ -95,13 +95,7 @@ fn with_token(mut flags: Flags, letter: u8, token: &[u8]) -> Option<Flags>
             }
             None => None,
         },
-        b'T' => {
-            if is_exptime(token) {
-                Some(flags)
-            } else {
-                None
-            }
-        }
+        b'T' => { if is_exptime(token) { Some(flags) } else { None } }
         _ => with_lone(flags, letter, token),
     }
 }

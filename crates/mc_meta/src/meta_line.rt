@@ -22,7 +22,10 @@ pub enum MetaLine {
     /// `mn`: do nothing.
     Noop,
     /// `mg`: get the item of the key. The flags are in the line's order.
-    Get { key: Span, flags: Letters },
+    Get {
+        key: Span,
+        flags: Letters,
+    },
     /// `ms`: store a block of this number of bytes under the key.
     Set {
         /// The place of the key.
@@ -39,5 +42,8 @@ pub enum MetaLine {
         marks: Letters,
     },
     /// `md`: remove the item of the key. The flags are in the line's order.
-    Delete { key: Span, flags: Letters },
+    Delete {
+        key: Span,
+        flags: Letters,
+    },
 }

@@ -62,7 +62,10 @@ fn read_get(at: usize, text: &[u8]) -> MetaLine
     }
     match read_flags(b"vkfcsq", key.to, key.rest) {
         Some(said) => MetaLine::Get {
-            key: Span { from: key.from, to: key.to },
+            key: Span {
+                from: key.from,
+                to: key.to,
+            },
             flags: said.marks,
         },
         None => MetaLine::Bad,
@@ -82,7 +85,10 @@ fn read_delete(at: usize, text: &[u8]) -> MetaLine
     }
     match read_flags(b"kq", key.to, key.rest) {
         Some(said) => MetaLine::Delete {
-            key: Span { from: key.from, to: key.to },
+            key: Span {
+                from: key.from,
+                to: key.to,
+            },
             flags: said.marks,
         },
         None => MetaLine::Bad,
@@ -121,7 +127,10 @@ fn set_with(key: Split<'_>, bytes: Option<u32>, said: Flags) -> MetaLine
         return MetaLine::Bad;
     }
     MetaLine::Set {
-        key: Span { from: key.from, to: key.to },
+        key: Span {
+            from: key.from,
+            to: key.to,
+        },
         bytes,
         flags: said.flags,
         unique: said.unique,

@@ -1,4 +1,4 @@
-use Rattle.std.proofs.Common.{length, get_or, refl, sym, arith, rules}
+use Rattle.std.proofs.Common.{get_or, refl, sym, arith, rules}
 use Rattle.mc_meta.proofs.RoomLemmas.{room_for, room_found}
 use Rattle.mc_meta.proofs.flags.with_flag.Goals as goal
 
