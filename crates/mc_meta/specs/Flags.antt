@@ -70,15 +70,33 @@ with_mark said letter = record {
 
 -- the flags of an item are said
 abbrev pub with_flags : Flags → ℕ → Flags
-with_flags said flags = record { seen = said.seen; marks = said.marks; flags = flags; unique = said.unique; mode = said.mode }
+with_flags said flags = record {
+  seen = said.seen;
+  marks = said.marks;
+  flags = flags;
+  unique = said.unique;
+  mode = said.mode;
+}
 
 -- the unique of an item is said
 abbrev pub with_unique : Flags → ℕ → Flags
-with_unique said unique = record { seen = said.seen; marks = said.marks; flags = said.flags; unique = Some unique; mode = said.mode }
+with_unique said unique = record {
+  seen = said.seen;
+  marks = said.marks;
+  flags = said.flags;
+  unique = Some unique;
+  mode = said.mode;
+}
 
 -- the mode is said
 abbrev pub with_mode : Flags → ℕ → Flags
-with_mode said mode = record { seen = said.seen; marks = said.marks; flags = said.flags; unique = said.unique; mode = mode }
+with_mode said mode = record {
+  seen = said.seen;
+  marks = said.marks;
+  flags = said.flags;
+  unique = said.unique;
+  mode = mode;
+}
 
 -- a letter that has no token
 abbrev pub with_lone : Flags → ℕ → List ℕ → Option Flags

@@ -1,5 +1,5 @@
 -- The words of a line, which spaces part, and their places in it.
-use Rattle.std.specs.Prelude.{◌≡◌, ℕ, ◌+◌, Bool, true, false, ◌==◌, if◌then◌else◌, List, [], ◌∷◌, length, filter, take, drop}
+use Rattle.std.specs.Prelude.{◌≡◌, ◌<◌, ◌≤◌, ℕ, ◌+◌, Bool, true, false, ◌==◌, if◌then◌else◌, List, [], ◌∷◌, length, filter, take, drop}
 
 -- the most bytes that a line may have
 abbrev pub line_limit : ℕ
@@ -56,6 +56,12 @@ words_at at text = filter is_placed_word (placed at (pieces_of text))
 abbrev pub text_of : Placed → List ℕ
 text_of word = word.text
 
--- a line has a word at its place
+-- a line has these bytes at their place
 abbrev pub IsInLine : List ℕ → Placed → Type 0
-IsInLine line word = take (length word.text) (drop word.from line) ≡ word.text
+IsInLine line piece = take (length piece.text) (drop piece.from line) ≡ piece.text
+
+-- a line has this word at its place, which is within the line
+pub record IsWordIn (line : List ℕ) (word : Placed) : Type 0 where
+  pub some : 0 < length word.text
+  pub within : word.from + length word.text ≤ length line
+  pub text : IsInLine line word

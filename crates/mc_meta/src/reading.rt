@@ -118,7 +118,8 @@ fn read_set(at: usize, text: &[u8]) -> MetaLine
 // What the line of a storage command says, by its key, its datalen and its flags.
 fn set_with(key: Split<'_>, bytes: Option<u32>, said: Flags) -> MetaLine
     requires places { key.to ≡ key.from + length key.word.now }
-    ensures value { result ≡ set_with (record { from = key.entry.from; text = key.entry.word.now }) bytes (Option.Some said) }
+    ensures value { result ≡ set_with
+        (record { from = key.entry.from; text = key.entry.word.now }) bytes (Option.Some said) }
 {
     let Some(bytes) = bytes else {
         return MetaLine::Bad;

@@ -37,7 +37,8 @@ pub(crate) fn next_word(at: usize, text: &[u8]) -> Option<Split<'_>>
 
 // How many spaces a text begins with.
 fn count_spaces(text: &[u8]) -> usize
-    ensures value { (at : ℕ) → words_at (at + result) (drop result text.now) ≡ words_at at text.now }
+    ensures value { (at : ℕ)
+        → words_at (at + result) (drop result text.now) ≡ words_at at text.now }
     ensures within { result ≤ length text.now }
     ensures begun { result < length text.now → get_or text.now result 0 ≢ 32 }
 {
@@ -56,7 +57,8 @@ fn word_length(text: &[u8]) -> usize
     ensures some { 0 < result }
     ensures within { result ≤ length text.now }
     ensures value { (at : ℕ) → words_at at text.now
-        ≡ record { from = at; text = take result text.now } ∷ words_at (at + result) (drop result text.now) }
+        ≡ record { from = at; text = take result text.now }
+        ∷ words_at (at + result) (drop result text.now) }
 {
     for at in 0..text.len() {
         if text[at] == b' ' {

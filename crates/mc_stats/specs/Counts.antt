@@ -18,16 +18,40 @@ with_get hit counts = record {
 
 -- a call that stores a value is counted
 abbrev pub with_set : Counts → Counts
-with_set counts = record { gets = counts.gets; sets = counts.sets + 1; hits = counts.hits; misses = counts.misses; items = counts.items }
+with_set counts = record {
+  gets = counts.gets;
+  sets = counts.sets + 1;
+  hits = counts.hits;
+  misses = counts.misses;
+  items = counts.items;
+}
 
 -- a further item is counted
 abbrev pub with_item : Counts → Counts
-with_item counts = record { gets = counts.gets; sets = counts.sets; hits = counts.hits; misses = counts.misses; items = counts.items + 1 }
+with_item counts = record {
+  gets = counts.gets;
+  sets = counts.sets;
+  hits = counts.hits;
+  misses = counts.misses;
+  items = counts.items + 1;
+}
 
 -- an item less is counted
 abbrev pub without_item : Counts → Counts
-without_item counts = record { gets = counts.gets; sets = counts.sets; hits = counts.hits; misses = counts.misses; items = counts.items - 1 }
+without_item counts = record {
+  gets = counts.gets;
+  sets = counts.sets;
+  hits = counts.hits;
+  misses = counts.misses;
+  items = counts.items - 1;
+}
 
 -- no item is counted
 abbrev pub without_items : Counts → Counts
-without_items counts = record { gets = counts.gets; sets = counts.sets; hits = counts.hits; misses = counts.misses; items = 0 }
+without_items counts = record {
+  gets = counts.gets;
+  sets = counts.sets;
+  hits = counts.hits;
+  misses = counts.misses;
+  items = 0;
+}
