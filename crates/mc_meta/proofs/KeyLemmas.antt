@@ -1,17 +1,17 @@
 -- The key of a line is its second word.
-use Rattle.std.proofs.Common.{◌≡◌, ℕ, ◌+◌, ◌-◌, ◌<◌, ◌≤◌, Bool, true, false, if◌then◌else◌, map, List, [], ◌∷◌, length, drop, take, refl, sym, ap, ◌∙◌, tt, arith}
-use Rattle.std.specs.Prelude.{nat_le, codes, slice_get, Option, None, Some, IfSome, ⊥}
+use Rattle.std.proofs.Common.{◌≡◌, ℕ, ◌+◌, ◌-◌, Bool, true, false, if◌then◌else◌, map, List, [], ◌∷◌, length, drop, take, refl, sym, ap, ◌∙◌, arith}
+use Rattle.std.specs.Prelude.{codes, slice_get, Option, None, Some, IfSome}
 use Rattle.std.specs.List.{AllByRecursion}
 use Rattle.std.specs.Str.{bytes_eq}
 use Rattle.std.proofs.lemmas.Bool.{leb-true}
 use Rattle.mc_meta.specs.declared.flags.Flags.{Flags}
 use Rattle.mc_meta.specs.declared.meta_line.Span.{Span}
 use Rattle.mc_meta.specs.declared.meta_line.MetaLine.{MetaLine}
-use Rattle.mc_meta.specs.declared.meta_line.MetaLine.TheVariants.{Other, WrongCount, Bad, Noop, Get, Set, Delete}
+use Rattle.mc_meta.specs.declared.meta_line.MetaLine.TheVariants.{Other, Bad, Set}
 use Rattle.mc_meta.specs.Words.{Placed, words, words_at, text_of, IsWordIn}
 use Rattle.mc_meta.specs.Number.{small_number_of}
 use Rattle.mc_meta.specs.Flags.{get_letters, set_letters, delete_letters, flags_of}
-use Rattle.mc_meta.specs.Meta.{span_of, is_key, agrees, keyed, get_with, delete_with, set_with, noop_line, get_line, set_line, delete_line, line_of, meta_of, meta_line}
+use Rattle.mc_meta.specs.Meta.{span_of, is_key, agrees, get_with, delete_with, set_with, noop_line, get_line, set_line, delete_line, line_of, meta_of, meta_line}
 use Rattle.mc_meta.specs.Key.{key_of, bytes_in, IsKeyIn}
 use Rattle.mc_meta.proofs.PlaceLemmas.{words_at-texts, words_at-places}
 
@@ -69,9 +69,9 @@ set_has (key ∷ datalen ∷ words) =
     keyed_choice (is_key key.text) (key ∷ datalen ∷ words) (set_with key (small_number_of datalen.text) (flags_of set_letters words))
     (set_key key (datalen ∷ words) (small_number_of datalen.text) (flags_of set_letters words))
 
-either : (is : Bool) (words : List Placed) (this other : MetaLine) → HasKey words this → HasKey words other → HasKey words (if is then this else other)
-either true words this other has rest = has
-either false words this other has rest = rest
+either : (is : Bool) (words : List Placed) (this next : MetaLine) → HasKey words this → HasKey words next → HasKey words (if is then this else next)
+either true words this next has rest = has
+either false words this next has rest = rest
 
 line_has : (name : List ℕ) (words : List Placed) → HasKey words (line_of name words)
 line_has name words =
