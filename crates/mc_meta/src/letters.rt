@@ -36,6 +36,7 @@ impl Letters {
     pub fn get(&self, i: usize) -> Option<u8>
         ensures value { result ≡ slice_get self.now i }
         ensures none { (result ≡ None) ↔ (length self.now ≤ i) }
+        ensures limit { length self.now ≤ 6 }
     {
         if i < self.count {
             Some(self.bytes[i])
