@@ -1,0 +1,5 @@
+mod NumberLemmas
+mod WordLemmas
+mod RoomLemmas
+mod PlaceLemmas
+mod KeyLemmas

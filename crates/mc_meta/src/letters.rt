@@ -1,0 +1,63 @@
+//! Letters of flags.
+ghost use Rattle.std.specs.Prelude.{◌≡◌, ◌+◌, ◌<◌, ◌≤◌, [], ◌∷◌, ◌++◌, ◌↔◌, length, slice_get, None};
+ghost use Rattle.mc_meta.specs.Flags.{is_among};
+
+use std::marker::Model;
+
+/// At most six letters of flags, in the line's order. Contracts see the list of them.
+#[derive(Drop)]
+pub struct Letters {
+    bytes: [u8; 6],
+    count: usize,
+}
+
+impl Model for Letters {
+    ghost use Rattle.std.specs.Prelude.{ℕ, List, ◌≤◌, take};
+
+    ghost Value = { List ℕ };
+
+    ghost view = { λ l. take l.count l.bytes };
+
+    ghost invariant = { λ l. l.count ≤ 6 };
+}
+
+impl Letters {
+    // No letter.
+    pub(crate) fn new() -> Letters
+        ensures value { result ≡ [] }
+    {
+        Letters {
+            bytes: [0; 6],
+            count: 0,
+        }
+    }
+
+    /// The letter at a place; `None` exactly past the end.
+    pub fn get(&self, i: usize) -> Option<u8>
+        ensures value { result ≡ slice_get self.now i }
+        ensures none { (result ≡ None) ↔ (length self.now ≤ i) }
+        ensures limit { length self.now ≤ 6 }
+    {
+        if i < self.count {
+            Some(self.bytes[i])
+        } else {
+            None
+        }
+    }
+
+    // Whether a letter is one of them.
+    pub(crate) fn has(&self, letter: u8) -> bool
+        ensures value { result ≡ is_among self.now letter }
+    {
+        self.bytes[..self.count].contains(&letter)
+    }
+
+    // Appends a letter.
+    pub(crate) fn push(&mut self, letter: u8)
+        requires room { length self.old < 6 }
+        ensures value { self.new ≡ self.old ++ letter ∷ [] }
+    {
+        self.bytes[self.count] = letter;
+        self.count += 1;
+    }
+}

@@ -1,0 +1,19 @@
+//! From a line to the meta command that it is, with places in the line.
+#![tactic(auto)]
+
+mod exptime;
+mod flags;
+mod laws;
+mod letters;
+mod meta_line;
+mod number;
+mod reading;
+mod word;
+
+pub use laws::{
+    a_key_is_a_word_of_its_line, words_are_at_their_places, worked_faults,
+    worked_gets_and_deletions, worked_other_lines, worked_sets,
+};
+pub use letters::Letters;
+pub use meta_line::{MetaLine, Span};
+pub use reading::read_meta;

@@ -1,0 +1,151 @@
+//! What a line says as a meta command.
+ghost use Rattle.std.specs.Prelude.{◌≡◌, ◌≤◌, ◌+◌, length, Option};
+ghost use Rattle.mc_meta.specs.Words.{words_at, line_limit};
+ghost use Rattle.mc_meta.specs.Meta.{meta_line, line_of, noop_line, get_line, set_line, delete_line, set_with, agrees};
+
+use crate::flags::{Flags, read_flags};
+use crate::meta_line::{MetaLine, Span};
+use crate::number::read_small_number;
+use crate::word::{Split, next_word};
+
+/// What a line says as a meta command. The line is given without the bytes that end it. Takes no
+/// memory.
+pub fn read_meta(line: &[u8]) -> MetaLine
+    requires within { length line.now ≤ line_limit }
+    ensures value { result ≡ meta_line line.now }
+{
+    match next_word(0, line) {
+        Some(name) => read_after(name.word, name.to, name.rest),
+        None => MetaLine::Other,
+    }
+}
+
+// What a line says whose first word is this name, with the text after it.
+fn read_after(name: &[u8], at: usize, text: &[u8]) -> MetaLine
+    requires within { at + length text.now ≤ line_limit }
+    ensures value { result ≡ line_of name.now (words_at at text.now) }
+{
+    if name == b"mn".as_slice() {
+        read_noop(at, text)
+    } else if name == b"mg".as_slice() {
+        read_get(at, text)
+    } else if name == b"ms".as_slice() {
+        read_set(at, text)
+    } else if name == b"md".as_slice() {
+        read_delete(at, text)
+    } else {
+        MetaLine::Other
+    }
+}
+
+// No word after `mn`.
+fn read_noop(at: usize, text: &[u8]) -> MetaLine
+    requires within { at + length text.now ≤ line_limit }
+    ensures value { result ≡ noop_line (words_at at text.now) }
+{
+    match next_word(at, text) {
+        Some(_) => MetaLine::WrongCount,
+        None => MetaLine::Noop,
+    }
+}
+
+// A key and flags after `mg`.
+fn read_get(at: usize, text: &[u8]) -> MetaLine
+    requires within { at + length text.now ≤ line_limit }
+    ensures value { result ≡ get_line (words_at at text.now) }
+{
+    let Some(key) = next_word(at, text) else {
+        return MetaLine::WrongCount;
+    };
+    if key.word.len() > 250 {
+        return MetaLine::Bad;
+    }
+    match read_flags(b"vkfcsq", key.to, key.rest) {
+        Some(said) => MetaLine::Get {
+            key: Span {
+                from: key.from,
+                to: key.to,
+            },
+            flags: said.marks,
+        },
+        None => MetaLine::Bad,
+    }
+}
+
+// A key and flags after `md`.
+fn read_delete(at: usize, text: &[u8]) -> MetaLine
+    requires within { at + length text.now ≤ line_limit }
+    ensures value { result ≡ delete_line (words_at at text.now) }
+{
+    let Some(key) = next_word(at, text) else {
+        return MetaLine::WrongCount;
+    };
+    if key.word.len() > 250 {
+        return MetaLine::Bad;
+    }
+    match read_flags(b"kq", key.to, key.rest) {
+        Some(said) => MetaLine::Delete {
+            key: Span {
+                from: key.from,
+                to: key.to,
+            },
+            flags: said.marks,
+        },
+        None => MetaLine::Bad,
+    }
+}
+
+// A key, a datalen and flags after `ms`.
+fn read_set(at: usize, text: &[u8]) -> MetaLine
+    requires within { at + length text.now ≤ line_limit }
+    ensures value { result ≡ set_line (words_at at text.now) }
+{
+    let Some(key) = next_word(at, text) else {
+        return MetaLine::WrongCount;
+    };
+    let Some(datalen) = next_word(key.to, key.rest) else {
+        return MetaLine::WrongCount;
+    };
+    if key.word.len() > 250 {
+        return MetaLine::Bad;
+    }
+    match read_flags(b"FCMTkq", datalen.to, datalen.rest) {
+        Some(said) => set_with(key, read_small_number(datalen.word), said),
+        None => MetaLine::Bad,
+    }
+}
+
+// What the line of a storage command says, by its key, its datalen and its flags.
+fn set_with(key: Split<'_>, bytes: Option<u32>, said: Flags) -> MetaLine
+    requires places { key.to ≡ key.from + length key.word.now }
+    ensures value { result ≡ set_with
+        (record { from = key.entry.from; text = key.entry.word.now }) bytes (Option.Some said) }
+{
+    let Some(bytes) = bytes else {
+        return MetaLine::Bad;
+    };
+    if !agrees(said.unique, said.mode) {
+        return MetaLine::Bad;
+    }
+    MetaLine::Set {
+        key: Span {
+            from: key.from,
+            to: key.to,
+        },
+        bytes,
+        flags: said.flags,
+        unique: said.unique,
+        mode: said.mode,
+        marks: said.marks,
+    }
+}
+
+// Whether a unique, where there is one, goes with the mode.
+fn agrees(unique: Option<u64>, mode: u8) -> bool
+    ensures value { result ≡ agrees unique mode }
+{
+    match unique {
+        Some(_) => mode == b'S',
+        None => true,
+    }
+}

@@ -1,0 +1,69 @@
+//! The words of a line.
+ghost use Rattle.std.specs.Prelude.{◌≡◌, ◌≢◌, ◌<◌, ◌≤◌, ◌+◌, ℕ, [], ◌∷◌, length, IfSome, IfNone, drop, take, get_or};
+ghost use Rattle.mc_meta.specs.Words.{words_at, line_limit};
+
+/// A word with its place, and the text after it with its own.
+#[derive(Clone, Copy)]
+pub(crate) struct Split<'a> {
+    pub(crate) from: usize,
+    pub(crate) word: &'a [u8],
+    pub(crate) to: usize,
+    pub(crate) rest: &'a [u8],
+}
+
+/// The first word of a text that begins at a place of the line, and the text after it.
+pub(crate) fn next_word(at: usize, text: &[u8]) -> Option<Split<'_>>
+    requires within { at + length text.now ≤ line_limit }
+    ensures found { IfSome result (λ s. words_at at text.now
+        ≡ record { from = s.from; text = s.word.now } ∷ words_at s.to s.rest.now) }
+    ensures places { IfSome result (λ s. s.to ≡ s.from + length s.word.now) }
+    ensures ends { IfSome result (λ s. s.to + length s.rest.now ≡ at + length text.now) }
+    ensures shorter { IfSome result (λ s. length s.rest.now < length text.now) }
+    ensures none { IfNone result (words_at at text.now ≡ []) }
+{
+    let spaces = count_spaces(text);
+    if spaces == text.len() {
+        return None;
+    }
+    let from = &text[spaces..];
+    let end = word_length(from);
+    Some(Split {
+        from: at + spaces,
+        word: &from[..end],
+        to: at + spaces + end,
+        rest: &from[end..],
+    })
+}
+
+// How many spaces a text begins with.
+fn count_spaces(text: &[u8]) -> usize
+    ensures value { (at : ℕ)
+        → words_at (at + result) (drop result text.now) ≡ words_at at text.now }
+    ensures within { result ≤ length text.now }
+    ensures begun { result < length text.now → get_or text.now result 0 ≢ 32 }
+{
+    for count in 0..text.len() {
+        if text[count] != b' ' {
+            return count;
+        }
+    }
+    text.len()
+}
+
+// The length of the word that a text begins with.
+fn word_length(text: &[u8]) -> usize
+    requires some { 0 < length text.now }
+    requires begun { get_or text.now 0 0 ≢ 32 }
+    ensures some { 0 < result }
+    ensures within { result ≤ length text.now }
+    ensures value { (at : ℕ) → words_at at text.now
+        ≡ record { from = at; text = take result text.now }
+        ∷ words_at (at + result) (drop result text.now) }
+{
+    for at in 0..text.len() {
+        if text[at] == b' ' {
+            return at;
+        }
+    }
+    text.len()
+}
