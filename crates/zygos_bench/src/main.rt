@@ -13,6 +13,7 @@ mod pcap;
 mod shard;
 mod shuffle;
 mod store;
+mod tail;
 mod words;
 
 use done::Done;
@@ -22,11 +23,18 @@ use std::process::ExitCode;
 use std::sync::Wait;
 use std::thread::Threads;
 use std::time::{Clock, CpuClock};
-use words::{Asked, What, read_words};
+use words::{Asked, What, read_load, read_words};
 use zy_base::NoMemory;
 
 fn main(rt: HostRuntime) -> ExitCode {
-    match measured(&rt, rt.alloc(), &mut rt.stdin(), read_words(&rt)) {
+    let asked = read_words(&rt);
+    if let Some(What::Tail) = asked.what {
+        return match tail::print_run(&rt, rt.alloc(), read_load(&rt)) {
+            Ok(()) => ExitCode::from(0),
+            Err(NoMemory) => ExitCode::from(6),
+        };
+    }
+    match measured(&rt, rt.alloc(), &mut rt.stdin(), asked) {
         Ok(done) => {
             if done.count == 0 {
                 return ExitCode::from(0);
@@ -60,6 +68,6 @@ fn measured<R: Threads + Wait + Clock + CpuClock + Sync, I: Read>(
         Some(What::Store) => store::measured(rt, alloc, one, two),
         Some(What::Shuffle) => shuffle::measured(rt, alloc, one, two, three),
         Some(What::Conn) => conn::measured(rt, alloc, one, two, three),
-        None => Ok(Done { count: 0, nanos: 0 }),
+        Some(What::Tail) | None => Ok(Done { count: 0, nanos: 0 }),
     }
 }

@@ -1,4 +1,5 @@
 //! The words of the command line.
+use crate::tail::{Load, Shape};
 use std::env::Env;
 use zy_base::read_number;
 
@@ -13,6 +14,7 @@ pub(crate) enum What {
     Store,
     Shuffle,
     Conn,
+    Tail,
 }
 
 /// What is asked for: the part that the first word names, if any, and the numbers after it, 0 for
@@ -40,13 +42,32 @@ pub(crate) fn read_words<R: Env>(rt: &R) -> Asked {
     }
 }
 
+/// What the numbers after the first word ask of `tail`: the cores, 1 if half of the load is on the
+/// first one, the shape of service times and their mean in nanoseconds, the picoseconds from one
+/// request to the next, the number of requests, and the one from which all is drawn.
+pub(crate) fn read_load<R: Env>(rt: &R) -> Load {
+    Load {
+        cores: number(rt, 2).max(1).min(8) as u32,
+        skewed: number(rt, 3) == 1,
+        shape: match number(rt, 4) {
+            0 => Shape::Fixed,
+            1 => Shape::Exponential,
+            _ => Shape::Bimodal,
+        },
+        service: number(rt, 5).min(1 << 30),
+        gap: number(rt, 6).min(1 << 40),
+        count: number(rt, 7).min(1 << 24),
+        number: number(rt, 8),
+    }
+}
+
 // A word, and what it names.
 struct Name {
     word: &'static [u8],
     what: What,
 }
 
-const NAMES: [Name; 8] = [
+const NAMES: [Name; 9] = [
     Name {
         word: b"shard",
         what: What::Shard,
@@ -78,6 +99,10 @@ const NAMES: [Name; 8] = [
     Name {
         word: b"conn",
         what: What::Conn,
+    },
+    Name {
+        word: b"tail",
+        what: What::Tail,
     },
 ];
 

@@ -1,0 +1,102 @@
+//! The gate: a command takes its service time there.
+use crate::clock::monotonic;
+use crate::tail::load::Load;
+use std::alloc::Global;
+use std::sync::atomic::{AtomicU64, Ordering};
+use std::time::Clock;
+use zy_base::{Gate, NoMemory};
+
+/// A gate that spins for a command's service time, and notes by place when it ended and on which
+/// core.
+#[derive(Drop)]
+pub(crate) struct Board<'a, R> {
+    rt: &'a R,
+    load: Load,
+    ends: Vec<AtomicU64>,
+    cores: Vec<AtomicU64>,
+}
+
+impl<'a, R: Clock> Board<'a, R> {
+    /// A gate that was not passed yet.
+    pub(crate) fn new(rt: &'a R, alloc: Global, load: Load) -> Result<Board<'a, R>, NoMemory> {
+        let ends = zeros(alloc, load.places())?;
+        match zeros(alloc, load.places()) {
+            Ok(cores) => Ok(Board {
+                rt,
+                load,
+                ends,
+                cores,
+            }),
+            Err(e) => {
+                drop(ends);
+                Err(e)
+            }
+        }
+    }
+
+    /// When the command at this place ended, in nanoseconds; 0 if it did not.
+    pub(crate) fn end(&self, place: usize) -> u64 {
+        read(&self.ends, place)
+    }
+
+    /// The core that carried it out.
+    pub(crate) fn core(&self, place: usize) -> u64 {
+        read(&self.cores, place)
+    }
+}
+
+impl<'a, R: Clock> Gate for Board<'a, R> {
+    fn pass(&self, core: u32, conn: u32, index: u64) {
+        let begin = monotonic(self.rt);
+        let place = self.load.place_of(conn, index);
+        let end = spin(self.rt, begin.saturating_add(self.load.service_of(place)));
+        note(&self.ends, place, end);
+        note(&self.cores, place, u64::from(core));
+    }
+}
+
+/// Spins until then. Returns the time after it.
+pub(crate) fn spin<R: Clock>(rt: &R, until: u64) -> u64 {
+    for _ in 0..u64::MAX {
+        let now = monotonic(rt);
+        if now >= until {
+            return now;
+        }
+    }
+    until
+}
+
+// So many numbers, each of them 0.
+fn zeros(alloc: Global, count: u64) -> Result<Vec<AtomicU64>, NoMemory> {
+    let mut numbers = Vec::new(alloc);
+    match add_zeros(&mut numbers, count) {
+        Ok(()) => Ok(numbers),
+        Err(e) => {
+            drop(numbers);
+            Err(e)
+        }
+    }
+}
+
+// Appends them.
+fn add_zeros(numbers: &mut Vec<AtomicU64>, count: u64) -> Result<(), NoMemory> {
+    for _ in 0..count {
+        numbers.push(AtomicU64::new(0))?;
+    }
+    Ok(())
+}
+
+// The number at a place, and 0 where there is none.
+fn read(numbers: &[AtomicU64], place: usize) -> u64 {
+    match numbers.get(place) {
+        Some(number) => number.load(Ordering::SeqCst),
+        None => 0,
+    }
+}
+
+// Puts a number at a place, where there is one.
+fn note(numbers: &[AtomicU64], place: usize, value: u64) {
+    if let Some(number) = numbers.get(place) {
+        number.store(value, Ordering::SeqCst);
+    }
+}

@@ -1,0 +1,135 @@
+//! Driving the cores of a load.
+ghost use Rattle.std.specs.Prelude.{◌≡◌, ◌≤◌, IfOk};
+ghost use Rattle.zy_core.specs.Drive.{identities, AreCores};
+
+use crate::clock::monotonic;
+use crate::tail::board::Board;
+use crate::tail::feeder::Arrivals;
+use crate::tail::load::Load;
+use crate::tail::report::print_all;
+use crate::tail::times::Times;
+use mc_store::Root;
+use std::alloc::Global;
+use std::sync::Wait;
+use std::thread::Threads;
+use std::time::Clock;
+use zy_base::NoMemory;
+use zy_core::{Cores, Driven, Shared, drive};
+use zy_feed::Inlets;
+use zy_setup::{Made, Started, make, start};
+
+// The cores of a run, with what they share, and the root of their store.
+#[derive(Drop)]
+struct Ready {
+    cores: Cores,
+    shared: Shared,
+    inlets: Inlets,
+    root: Root,
+}
+
+/// Serves the requests of a load on a thread for each core, and prints what came of them.
+pub(crate) fn run<R: Threads + Wait + Clock + Print + Sync>(
+    rt: &R,
+    alloc: Global,
+    load: Load,
+) -> Result<(), NoMemory>
+    requires cores { (1 ≤ load.cores) × (load.cores ≤ 8) }
+{
+    let board = Board::new(rt, alloc, load)?;
+    let ran = run_gated(rt, alloc, load, &board);
+    drop(board);
+    ran
+}
+
+// The same, with this gate.
+fn run_gated<R: Threads + Wait + Clock + Print + Sync>(
+    rt: &R,
+    alloc: Global,
+    load: Load,
+    board: &Board<R>,
+) -> Result<(), NoMemory>
+    requires cores { (1 ≤ load.cores) × (load.cores ≤ 8) }
+{
+    let times = Times::new(alloc, load)?;
+    let ready = match make_ready(alloc, load) {
+        Ok(ready) => ready,
+        Err(e) => {
+            drop(times);
+            return Err(e);
+        }
+    };
+    let Ready {
+        cores,
+        shared,
+        inlets,
+        root,
+    } = ready;
+    let (times, driven) = serve(rt, alloc, load, board, cores, &shared, inlets, times);
+    let printed = match driven {
+        Driven::Settled(cores) => print_all(rt, alloc, load, board, &times, cores),
+        Driven::Broken(cores) => refused(cores),
+        Driven::NoMemory(cores) => refused(cores),
+    };
+    drop(times);
+    drop(shared);
+    drop(root);
+    printed
+}
+
+// The run was refused memory.
+fn refused(cores: Cores) -> Result<(), NoMemory> {
+    drop(cores);
+    Err(NoMemory)
+}
+
+// Drives the cores until all requests were carried out.
+fn serve<R: Threads + Wait + Clock + Sync>(
+    rt: &R,
+    alloc: Global,
+    load: Load,
+    board: &Board<R>,
+    cores: Cores,
+    shared: &Shared,
+    inlets: Inlets,
+    mut times: Times,
+) -> (Times, Driven)
+    requires threads { (1 ≤ load.cores) × (load.cores ≤ 8) }
+    requires cores { AreCores shared.now (identities cores) }
+{
+    times.begin(monotonic(rt));
+    let mut feeder = Arrivals::new(rt, alloc, inlets.into_vec(), times);
+    let driven = drive(rt, alloc, cores, load.cores, shared, board, &mut feeder);
+    (feeder.into_times(), driven)
+}
+
+// Makes the cores of a load, on a store of 16 shards.
+fn make_ready(alloc: Global, load: Load) -> Result<Ready, NoMemory>
+    requires cores { (1 ≤ load.cores) × (load.cores ≤ 8) }
+    ensures cores { IfOk result (λ ready. AreCores ready.shared (identities ready.cores)) }
+{
+    let Started {
+        homes,
+        rings,
+        passes,
+        store,
+        root,
+    } = start(alloc, load.connections(), load.cores, 16)?;
+    match make(alloc, homes, rings, passes, store) {
+        Ok(
+            Made {
+                cores,
+                shared,
+                inlets,
+            },
+        ) => Ok(Ready {
+            cores,
+            shared,
+            inlets,
+            root,
+        }),
+        Err(e) => {
+            drop(root);
+            Err(e)
+        }
+    }
+}
