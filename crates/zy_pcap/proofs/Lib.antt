@@ -1,5 +1,6 @@
 mod ChunkLemmas
 mod CopyLemmas
+mod CountLemmas
 mod CoverLemmas
 mod FlowLemmas
 mod FrameLemmas

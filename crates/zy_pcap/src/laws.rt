@@ -10,6 +10,7 @@ ghost use Rattle.zy_pcap.specs.Copies.{stream_of, IsCovered, Agree};
 ghost use Rattle.zy_pcap.specs.Made.{pcap_capture, records_from};
 ghost use Rattle.zy_pcap.specs.Packets.{packets};
 ghost use Rattle.zy_pcap.specs.Packets.Found.{Packets, Bad};
+ghost use Rattle.zy_pcap.specs.Sizes.{payload_bytes};
 ghost use Rattle.zy_pcap.specs.Worked.{worked_file, worked_packets, worked_capture};
 
 use zy_capture::a_capture_is_good_exactly_where_it_is_a_spelling;
@@ -56,3 +57,9 @@ pub fn the_capture_of_packets_is_good()
 {
     a_capture_is_good_exactly_where_it_is_a_spelling();
 }
+
+/// A stream is not longer than the payloads of its packets.
+pub fn a_stream_is_no_longer_than_its_payloads()
+    ensures value { (first : Packet) (packets : List Packet)
+        → length (stream_of first packets) ≤ payload_bytes packets }
+{}
