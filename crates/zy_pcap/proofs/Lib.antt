@@ -1,5 +1,6 @@
 mod ChunkLemmas
 mod CopyLemmas
+mod CostLemmas
 mod CountLemmas
 mod CoverLemmas
 mod FlowLemmas
@@ -8,6 +9,7 @@ mod FrontLemmas
 mod GoodLemmas
 mod HeldLemmas
 mod KeptLemmas
+mod LengthLemmas
 mod MeetLemmas
 mod PairLemmas
 mod PieceLemmas
