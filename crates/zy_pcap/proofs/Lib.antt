@@ -3,6 +3,7 @@ mod CopyLemmas
 mod CostLemmas
 mod CountLemmas
 mod CoverLemmas
+mod FitLemmas
 mod FlowLemmas
 mod FrameLemmas
 mod FrontLemmas
