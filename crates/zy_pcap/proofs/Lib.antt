@@ -1,8 +1,10 @@
+mod ByteLemmas
 mod ChunkLemmas
 mod CopyLemmas
 mod CostLemmas
 mod CountLemmas
 mod CoverLemmas
+mod FileLemmas
 mod FitLemmas
 mod FlowLemmas
 mod FrameLemmas
