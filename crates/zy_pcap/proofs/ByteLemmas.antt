@@ -23,7 +23,7 @@ use Rattle.zy_pcap.specs.Packets.{Progress, nothing_read, frame_fault, packets_w
 use Rattle.zy_pcap.specs.Packets.Found.{Packets, Bad}
 use Rattle.zy_pcap.specs.Made.{segments_of, session_records, connection_records, records_from, capture_of, pcap_capture}
 use Rattle.zy_pcap.proofs.CountLemmas.{stream_small}
-use Rattle.zy_pcap.proofs.CostLemmas.{packets_cost, sessions_cost, flow_cost, flows_cost, flows_few}
+use Rattle.zy_pcap.proofs.CostLemmas.{packets_cost, sessions_cost, flows_cost, flows_few}
 use Rattle.zy_pcap.proofs.LengthLemmas.{flat_append}
 use Rattle.zy_pcap.proofs.FitLemmas.{chosen}
 

@@ -1,6 +1,6 @@
 -- A file has its header and, for each packet, its headers and its payload; and it is not longer than a file may be.
-use Rattle.std.proofs.Common.{◌≡◌, ℕ, ◌+◌, ◌-◌, ◌<◌, ◌≤◌, List, [], ◌∷◌, ◌++◌, length, length-append, refl, sym, ap, ◌∙◌, subst, arith}
-use Rattle.std.specs.Prelude.{Option, Some, None, Bool, true, false, nat_lt, nat_le, if◌then◌else◌, ◌==◌, ◌&&◌, slice_range, ⊤}
+use Rattle.std.proofs.Common.{◌≡◌, ℕ, ◌+◌, ◌-◌, ◌<◌, ◌≤◌, List, [], ◌∷◌, ◌++◌, length, length-append, refl, sym, subst, arith}
+use Rattle.std.specs.Prelude.{Option, Some, None, Bool, true, false, nat_lt, nat_le, if◌then◌else◌, ◌==◌, ◌&&◌, ⊤}
 use Rattle.std.proofs.lemmas.Bool.Decides.{nat_tests}
 use Rattle.zy_pcap.specs.declared.pcap_fault.PcapFault.{PcapFault}
 use Rattle.zy_pcap.specs.declared.pcap_fault.PcapFault.TheVariants as Faults
@@ -8,11 +8,11 @@ use Rattle.zy_pcap.specs.declared.due.Due.{Due}
 use Rattle.zy_pcap.specs.declared.due.Due.TheVariants as Dues
 use Rattle.zy_pcap.specs.declared.judged.Judged.{Judged}
 use Rattle.zy_pcap.specs.declared.judged.Judged.TheVariants.{Passed, Refused, Taken}
-use Rattle.zy_pcap.specs.Steps.{Place, Move, start, move, taken, judged, major, minor, number_in, then_due, then_more, then_record, broken, grown_by, is_open, is_full, file_limit, frame_limit}
+use Rattle.zy_pcap.specs.Steps.{Place, Move, move, taken, judged, major, minor, number_in, then_due, then_more, then_record, broken, grown_by, is_open, is_full, file_limit, frame_limit}
 use Rattle.zy_pcap.specs.Steps.Move.{Goes, Ends}
 use Rattle.zy_pcap.specs.Frame.{judge}
 use Rattle.zy_pcap.specs.Packet.{Packet, packet_in}
-use Rattle.zy_pcap.specs.Packets.{Progress, nothing_read, frame_fault, packets_with, settled, ended, moved, step, read_on, read, found_at, packets}
+use Rattle.zy_pcap.specs.Packets.{Progress, nothing_read, frame_fault, packets_with, settled, moved, step, read_on, read, found_at, packets}
 use Rattle.zy_pcap.specs.Packets.Found.{Packets, Bad}
 use Rattle.zy_pcap.specs.Made.{pcap_capture}
 use Rattle.zy_pcap.specs.Sizes.{file_header, record_bytes}

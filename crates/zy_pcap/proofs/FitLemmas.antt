@@ -1,5 +1,5 @@
 -- A packet fits into its frame: with its payload the frame has the headers of Ethernet, IP and TCP.
-use Rattle.std.proofs.Common.{◌≡◌, ℕ, ◌+◌, ◌-◌, ◌<◌, ◌≤◌, List, length, drop, refl, arith}
+use Rattle.std.proofs.Common.{◌≡◌, ℕ, ◌+◌, ◌-◌, ◌≤◌, List, length, drop, refl, arith}
 use Rattle.std.specs.Prelude.{Bool, true, false, not, nat_lt, slice_index, slice_range, if◌then◌else◌, ◌==◌, ◌&&◌, ◌%◌, ◌/◌, ◌^◌, ⊤}
 use Rattle.std.proofs.lemmas.Bool.Decides.{nat_tests}
 use Rattle.std.proofs.lemmas.List.{length-take}
@@ -7,7 +7,6 @@ use Rattle.zy_pcap.specs.declared.pcap_fault.PcapFault.TheVariants.{Ipv6, Vlan, 
 use Rattle.zy_pcap.specs.declared.judged.Judged.{Judged}
 use Rattle.zy_pcap.specs.declared.judged.Judged.TheVariants.{Passed, Refused, Taken}
 use Rattle.zy_pcap.specs.Frame.{short_at, ip, ip_size, tcp, tcp_size, total, payload_size, is_syn, segment, judge_payload, judge_tcp, judge_ip, judge_ipv6, judge_type, judge}
-use Rattle.zy_pcap.specs.Packet.{packet_in}
 
 -- a fact of either way that a test goes
 pub chosen : {S : Type 0} (P : S → Type 0) (test : Bool) (x y : S) → (test ≡ true → P x) → (test ≡ false → P y) → P (if test then x else y)

@@ -1,18 +1,16 @@
 -- The capture of some packets is not longer than what each packet adds to it: its payload, and the heads of its segments
 -- and of a close record.
 use Rattle.std.proofs.Common.{◌≡◌, ℕ, zero, suc, ◌+◌, ◌*◌, ◌/◌, ◌≤◌, List, [], ◌∷◌, ◌++◌, length, take, drop, map, flat_map, length-append, length-drop, take-append-drop, append_assoc, refl, sym, ap, ◌∙◌, arith}
-use Rattle.std.specs.Prelude.{Option, Some, None}
-use Rattle.std.specs.Int.{to_be_bytes, w32}
 use Rattle.zy_capture.specs.declared.record.Record.{Record}
 use Rattle.zy_capture.specs.declared.record.Record.TheVariants as Kinds
-use Rattle.zy_capture.specs.Capture.{magic, spelled, spelling, segment_limit}
+use Rattle.zy_capture.specs.Capture.{spelled, spelling, segment_limit}
 use Rattle.zy_pcap.specs.Packet.{Packet}
 use Rattle.zy_pcap.specs.Session.{Session, stream}
 use Rattle.zy_pcap.specs.Flow.{Flows, sessions_in, streams_in, streams_of, flows_of}
 use Rattle.zy_pcap.specs.Made.{segments_of, session_records, connection_records, records_from, capture_of, pcap_capture}
 use Rattle.zy_pcap.specs.Sizes.{payload_bytes}
 use Rattle.zy_pcap.proofs.CountLemmas.{stream_few}
-use Rattle.zy_pcap.proofs.CostLemmas.{packets_cost, session_cost, sessions_cost, flows_cost, flows_few}
+use Rattle.zy_pcap.proofs.CostLemmas.{packets_cost, sessions_cost, flows_cost, flows_few}
 
 -- the most segments that a packet adds
 abbrev pub segments_for : Packet → ℕ

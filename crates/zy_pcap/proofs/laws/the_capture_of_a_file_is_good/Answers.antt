@@ -1,5 +1,4 @@
-use Rattle.std.proofs.Common.{le_trans, length}
-use Rattle.zy_pcap.specs.Made.{pcap_capture}
+use Rattle.std.proofs.Common.{le_trans}
 use Rattle.zy_pcap.proofs.FileLemmas.{file_short, capture_within}
 use Rattle.zy_pcap.proofs.ByteLemmas.{capture_small}
 use Rattle.zy_pcap.proofs.laws.the_capture_of_a_file_is_good.Goals as goal
