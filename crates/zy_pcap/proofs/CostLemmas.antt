@@ -1,5 +1,5 @@
--- What sessions and flows cost: where a session costs some number and each of its packets another, all flows cost at most
--- that for each packet.
+-- Costs: if a session costs one number and a packet another, the flows of some packets cost at most both numbers for each
+-- packet.
 use Rattle.std.proofs.Common.{◌≡◌, ℕ, zero, suc, ◌+◌, ◌-◌, ◌≤◌, List, [], ◌∷◌, ◌++◌, length, replicate, refl, ap, inl, inr, arith}
 use Rattle.std.specs.Prelude.{Option, Some, None, Bool, true, false, nat_lt, slice_get, slice_set, slice_index_or}
 use Rattle.std.proofs.lemmas.Bool.{cases_lt}
@@ -96,8 +96,13 @@ module _ (c : ℕ) (w : Packet → ℕ) where
         | inl within ↦ (let test : nat_lt place (length flows) ≡ true = grind (arith, nat_tests) in
             rw test (flow_set flows place (Some flow)))
         | inr above ↦ (let test : nat_lt place (length flows) ≡ false = grind (arith, nat_tests) in
-            rw test (omega (arith, flows_append flows (replicate (place - length flows) None ++ Some flow ∷ []), flows_append (replicate (place - length flows) None) (Some flow ∷ []),
-              none_cost (place - length flows), past_cost flows place (omega (arith, above)))))
+            rw test (omega (
+              arith,
+              flows_append flows (replicate (place - length flows) None ++ Some flow ∷ []),
+              flows_append (replicate (place - length flows) None) (Some flow ∷ []),
+              none_cost (place - length flows),
+              past_cost flows place (omega (arith, above)),
+            )))
       ]
 
   joined_by : (slot : Slot) (flows : Flows) (packet : Packet) → flows_cost c w (joined_at slot flows packet) ≤ flows_cost c w flows + (c + w packet)

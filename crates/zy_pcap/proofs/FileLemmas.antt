@@ -22,7 +22,7 @@ use Rattle.zy_pcap.proofs.FitLemmas.{FitsIn, chosen, not_less, judge_fits}
 
 -- ---- what the bytes that were read hold
 
--- so many bytes were read, and a file may have them
+-- this number of bytes was read, and a file may have it
 abbrev Counted : Place → ℕ → Type 0
 Counted p n = (p.at ≡ n) × (n ≤ file_limit)
 
@@ -139,7 +139,7 @@ module _ (p : Place) (given : List Packet) (byte n : ℕ) (counted : (p.at + 1 �
   frame_leads size is within =
       chosen (Leads p given (n + 1)) (nat_lt (length p.frame + 1) size) (Goes (grown_by p (byte ∷ []))) (Ends (p.frame ++ byte ∷ []))
       (λ more. subst (λ (d : Due). Within d (grown_by p (byte ∷ [])) given (n + 1)) (sym is)
-          (counted, within.1, omega (arith, within.2, one_more p.frame byte), within.3, omega (arith, one_more p.frame byte, less (length p.frame + 1) size more)))
+      (counted, within.1, omega (arith, within.2, one_more p.frame byte), within.3, omega (arith, one_more p.frame byte, less (length p.frame + 1) size more)))
       (λ last. (counted.0, counted.1, within.1, omega (arith, within.2, one_more p.frame byte), omega (arith, within.3, within.4, one_more p.frame byte)))
     where
       less : (a b : ℕ) → nat_lt a b ≡ true → a < b

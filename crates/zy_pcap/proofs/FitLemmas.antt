@@ -40,23 +40,23 @@ payload_fits : (at : ℕ) (frame : List ℕ) → 20 ≤ ip_size frame → tcp fr
 payload_fits at frame head long =
     chosen (FitsIn frame) (nat_lt (tcp_size frame) 20) (Refused (Short at))
     (if nat_lt (total frame) (ip_size frame + tcp_size frame) then Refused (Short at)
-        else if payload_size frame == 0 then (if is_syn frame then Taken (segment frame) else Passed)
-        else if nat_lt (length frame) (ip + total frame) then Refused (Missing at)
-        else Taken (segment frame))
+    else if payload_size frame == 0 then (if is_syn frame then Taken (segment frame) else Passed)
+    else if nat_lt (length frame) (ip + total frame) then Refused (Missing at)
+    else Taken (segment frame))
     (λ short. tt) (λ rest.
     chosen (FitsIn frame) (nat_lt (total frame) (ip_size frame + tcp_size frame)) (Refused (Short at))
     (if payload_size frame == 0 then (if is_syn frame then Taken (segment frame) else Passed)
-        else if nat_lt (length frame) (ip + total frame) then Refused (Missing at)
-        else Taken (segment frame))
+    else if nat_lt (length frame) (ip + total frame) then Refused (Missing at)
+    else Taken (segment frame))
     (λ short. tt) (λ within.
     chosen (FitsIn frame) (payload_size frame == 0) (if is_syn frame then Taken (segment frame) else Passed)
     (if nat_lt (length frame) (ip + total frame) then Refused (Missing at) else Taken (segment frame))
     (λ none. chosen (FitsIn frame) (is_syn frame) (Taken (segment frame)) Passed
-        (λ syn. syn_fits frame (segment frame).begin (payload_size frame) (ip_size frame) (equal_by (payload_size frame) 0 none) head long) (λ other. tt))
+    (λ syn. syn_fits frame (segment frame).begin (payload_size frame) (ip_size frame) (equal_by (payload_size frame) 0 none) head long) (λ other. tt))
     (λ some. chosen (FitsIn frame) (nat_lt (length frame) (ip + total frame)) (Refused (Missing at)) (Taken (segment frame))
-        (λ missing. tt)
-        (λ whole. whole_fits frame (segment frame).begin (total frame) (ip_size frame) (tcp_size frame) head (not_less (tcp_size frame) 20 rest)
-            (not_less (total frame) (ip_size frame + tcp_size frame) within) (not_less (length frame) (ip + total frame) whole)))))
+    (λ missing. tt)
+    (λ whole. whole_fits frame (segment frame).begin (total frame) (ip_size frame) (tcp_size frame) head (not_less (tcp_size frame) 20 rest)
+    (not_less (total frame) (ip_size frame + tcp_size frame) within) (not_less (length frame) (ip + total frame) whole)))))
 
 -- ---- the headers
 
@@ -64,7 +64,7 @@ tcp_fits : (port at : ℕ) (frame : List ℕ) → 20 ≤ ip_size frame → FitsI
 tcp_fits port at frame head =
     chosen (FitsIn frame) (nat_lt (total frame) (ip_size frame + 20)) (Refused (Short at))
     (if nat_lt (length frame) (tcp frame + 20) then Refused (Short at)
-        else if short_at frame (tcp frame + 2) == port then judge_payload at frame else Passed)
+    else if short_at frame (tcp frame + 2) == port then judge_payload at frame else Passed)
     (λ short. tt) (λ some.
     chosen (FitsIn frame) (nat_lt (length frame) (tcp frame + 20)) (Refused (Short at))
     (if short_at frame (tcp frame + 2) == port then judge_payload at frame else Passed)
@@ -76,21 +76,21 @@ ip_fits : (port at : ℕ) (frame : List ℕ) → FitsIn frame (judge_ip port at 
 ip_fits port at frame =
     chosen (FitsIn frame) (nat_lt (length frame) (ip + 20)) (Refused (Short at))
     (if not (slice_index frame ip / 16 == 4) then Refused (Short at)
-        else if nat_lt (ip_size frame) 20 then Refused (Short at)
-        else if not (slice_index frame (ip + 9) == 6) then Passed
-        else if not (short_at frame (ip + 6) % 2 ^ 14 == 0) then Refused (Fragment at)
-        else judge_tcp port at frame)
+    else if nat_lt (ip_size frame) 20 then Refused (Short at)
+    else if not (slice_index frame (ip + 9) == 6) then Passed
+    else if not (short_at frame (ip + 6) % 2 ^ 14 == 0) then Refused (Fragment at)
+    else judge_tcp port at frame)
     (λ short. tt) (λ a.
     chosen (FitsIn frame) (not (slice_index frame ip / 16 == 4)) (Refused (Short at))
     (if nat_lt (ip_size frame) 20 then Refused (Short at)
-        else if not (slice_index frame (ip + 9) == 6) then Passed
-        else if not (short_at frame (ip + 6) % 2 ^ 14 == 0) then Refused (Fragment at)
-        else judge_tcp port at frame)
+    else if not (slice_index frame (ip + 9) == 6) then Passed
+    else if not (short_at frame (ip + 6) % 2 ^ 14 == 0) then Refused (Fragment at)
+    else judge_tcp port at frame)
     (λ short. tt) (λ b.
     chosen (FitsIn frame) (nat_lt (ip_size frame) 20) (Refused (Short at))
     (if not (slice_index frame (ip + 9) == 6) then Passed
-        else if not (short_at frame (ip + 6) % 2 ^ 14 == 0) then Refused (Fragment at)
-        else judge_tcp port at frame)
+    else if not (short_at frame (ip + 6) % 2 ^ 14 == 0) then Refused (Fragment at)
+    else judge_tcp port at frame)
     (λ short. tt) (λ head.
     chosen (FitsIn frame) (not (slice_index frame (ip + 9) == 6)) Passed
     (if not (short_at frame (ip + 6) % 2 ^ 14 == 0) then Refused (Fragment at) else judge_tcp port at frame)

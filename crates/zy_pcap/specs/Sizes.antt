@@ -7,11 +7,11 @@ abbrev pub payload_bytes : List Packet → ℕ
 payload_bytes [] = 0
 payload_bytes (packet ∷ packets) = length packet.payload + payload_bytes packets
 
--- the bytes of a file's header
+-- the number of bytes of a file's header
 abbrev pub file_header : ℕ
 file_header = 24
 
--- the least bytes of a packet's headers: those of its record, its frame, IP and TCP
+-- the least number of bytes of a packet's headers: those of its record, its frame, IP and TCP
 abbrev pub packet_headers : ℕ
 packet_headers = 16 + 14 + 20 + 20
 
