@@ -9,6 +9,7 @@ pub mod Packet
 pub mod Packets
 pub mod Pairs
 pub mod Session
+pub mod Sizes
 pub mod Standing
 pub mod Step
 pub mod Steps

@@ -1,5 +1,5 @@
 //! Laws over the definitions of recorded packets.
-ghost use Rattle.std.specs.Prelude.{◌≡◌, ◌≤◌, List, [], ◌∷◌, ◌++◌, length};
+ghost use Rattle.std.specs.Prelude.{◌≡◌, ◌≤◌, ◌+◌, ℕ, List, [], ◌∷◌, ◌++◌, length};
 ghost use Rattle.zy_capture.specs.Capture.{AreBytes, capture_limit};
 ghost use Rattle.zy_capture.specs.Verdict.{verdict};
 ghost use Rattle.zy_capture.specs.Verdict.Verdict.{Good};
@@ -7,9 +7,11 @@ ghost use Rattle.zy_pcap.specs.Flow.{flows_of, streams_of};
 ghost use Rattle.zy_pcap.specs.declared.pcap_fault.PcapFault.TheVariants as Faults;
 ghost use Rattle.zy_pcap.specs.Packet.{Packet};
 ghost use Rattle.zy_pcap.specs.Copies.{stream_of, IsCovered, Agree};
-ghost use Rattle.zy_pcap.specs.Made.{pcap_capture, records_from};
+ghost use Rattle.zy_pcap.specs.Made.{pcap_capture, pcap_verdict, records_from};
 ghost use Rattle.zy_pcap.specs.Packets.{packets};
 ghost use Rattle.zy_pcap.specs.Packets.Found.{Packets, Bad};
+ghost use Rattle.zy_pcap.specs.Steps.{file_limit};
+ghost use Rattle.zy_pcap.specs.Sizes.{payload_bytes, file_header, record_bytes};
 ghost use Rattle.zy_pcap.specs.Worked.{worked_file, worked_packets, worked_capture};
 
 use zy_capture::a_capture_is_good_exactly_where_it_is_a_spelling;
@@ -55,4 +57,38 @@ pub fn the_capture_of_packets_is_good()
         (records_from 0 (streams_of (flows_of packets))) }
 {
     a_capture_is_good_exactly_where_it_is_a_spelling();
+}
+
+/// A stream is not longer than the payloads of its packets.
+pub fn a_stream_is_no_longer_than_its_payloads()
+    ensures value { (first : Packet) (packets : List Packet)
+        → length (stream_of first packets) ≤ payload_bytes packets }
+{}
+
+/// A file has at most 4,294,967,295 bytes, among them its header and, for each packet, the headers of
+/// its record, its frame, IP and TCP, and its payload.
+pub fn a_file_holds_its_packets()
+    ensures limit { (port : ℕ) (bytes : List ℕ) (given : List Packet)
+        → packets port bytes ≡ Packets given → length bytes ≤ file_limit }
+    ensures holds { (port : ℕ) (bytes : List ℕ) (given : List Packet)
+        → packets port bytes ≡ Packets given → file_header + record_bytes given ≤ length bytes }
+{}
+
+/// The capture of a file's packets is not longer than the file. Each number of it is a byte, if each
+/// number of the file is one.
+pub fn a_capture_is_no_longer_than_its_file()
+    ensures within { (port : ℕ) (bytes : List ℕ) (given : List Packet)
+        → packets port bytes ≡ Packets given → length (pcap_capture given) ≤ length bytes }
+    ensures bytes { (port : ℕ) (bytes : List ℕ) (given : List Packet)
+        → packets port bytes ≡ Packets given → AreBytes bytes → AreBytes (pcap_capture given) }
+{}
+
+/// The capture of a file's packets is good: its count is that of the connections, and its records are
+/// those of their streams.
+pub fn the_capture_of_a_file_is_good()
+    ensures good { (port : ℕ) (bytes : List ℕ) (given : List Packet)
+        → packets port bytes ≡ Packets given → AreBytes bytes
+        → verdict (pcap_capture given) ≡ pcap_verdict given }
+{
+    the_capture_of_packets_is_good();
 }

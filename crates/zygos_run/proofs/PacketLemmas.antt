@@ -7,10 +7,13 @@ use Rattle.zy_read.specs.declared.not_taken.NotTaken.{NotTaken}
 use Rattle.zy_read.specs.declared.not_taken.NotTaken.TheVariants.{Fault, NoMemory}
 use Rattle.zy_read.specs.Piece.{HasGiven, IsOver}
 use Rattle.zy_read.proofs.SourceLemmas.{told_first, told_all, consumed_none}
+use Rattle.zy_capture.specs.Capture.{AreBytes}
+use Rattle.zy_capture.specs.Verdict.{verdict}
 use Rattle.zy_pcap.specs.declared.pcap_fault.PcapFault.{PcapFault}
+use Rattle.zy_pcap.specs.Packet.{Packet}
 use Rattle.zy_pcap.specs.Packets.{Found, packets}
 use Rattle.zy_pcap.specs.Packets.Found.{Packets, Bad}
-use Rattle.zy_pcap.specs.Made.{capture_of, pcap_capture}
+use Rattle.zy_pcap.specs.Made.{capture_of, pcap_capture, pcap_verdict}
 use Rattle.zy_pcap.specs.Standing.{Reading, StandsFor, Feeds, Lasts, TellsLasting, FinishesAs, FinishesBy}
 use Rattle.zygos_run.specs.Seen.{side}
 use Rattle.zygos_run.specs.Recorded.{IsRecorded}
@@ -46,22 +49,27 @@ module _ {S : Type 0} (rest : S → Option (List ℕ)) (faults : S → ℕ) (por
   advanced (Err (Fault fault)) same given is stands feeds lasts = fed_refused fault is stands lasts given
   advanced (Err NoMemory) same given is stands feeds lasts = tt
 
-finished_ok : (found : Found) (port : ℕ) (bytes : List ℕ) (streams : List (List (List ℕ))) → packets port bytes ≡ found → FinishesAs found (Ok streams) → IsRecorded port bytes (λ capture. capture ≡ capture_of streams)
-finished_ok (Packets given) port bytes streams is finishes = record { given = given; are = is; capture = ap capture_of (sym finishes) }
-finished_ok (Bad fault) port bytes streams is finishes = absurd finishes
+-- the capture of a file's packets is good
+abbrev pub CapturesAreGood : Type 0
+CapturesAreGood =
+    (port : ℕ) (bytes : List ℕ) (given : List Packet) → packets port bytes ≡ Packets given → AreBytes bytes → verdict (pcap_capture given) ≡ pcap_verdict given
+
+finished_ok : CapturesAreGood → (found : Found) (port : ℕ) (bytes : List ℕ) (streams : List (List (List ℕ))) → packets port bytes ≡ found → FinishesAs found (Ok streams) → IsRecorded port bytes (λ capture. capture ≡ capture_of streams)
+finished_ok good (Packets given) port bytes streams is finishes = record { given = given; are = is; capture = ap capture_of (sym finishes); good = good port bytes given is }
+finished_ok good (Bad fault) port bytes streams is finishes = absurd finishes
 
 finished_bad : (found : Found) (fault : PcapFault) → FinishesAs found (Err fault) → found ≡ Bad fault
 finished_bad (Packets given) fault finishes = absurd finishes
 finished_bad (Bad met) fault finishes = ap Bad (sym finishes)
 
 -- at the end of the source
-pub finished : {S : Type 0} (rest : S → Option (List ℕ)) (faults : S → ℕ) (port : ℕ) (first now : S) (left : List ℕ) (reader : Reading) (bytes : List ℕ) (answer : Result (List (List (List ℕ))) PcapFault)
+pub finished : CapturesAreGood → {S : Type 0} (rest : S → Option (List ℕ)) (faults : S → ℕ) (port : ℕ) (first now : S) (left : List ℕ) (reader : Reading) (bytes : List ℕ) (answer : Result (List (List (List ℕ))) PcapFault)
     → HasFed rest faults port first now left reader bytes → IsOver (rest now) left → FinishesBy reader answer → ReadsPackets port (side rest faults first now) (ended_by answer)
-finished rest faults port first now left reader bytes (Ok streams) fed over finishes =
+finished good rest faults port first now left reader bytes (Ok streams) fed over finishes =
     let all : bytes ++ left ≡ bytes = ap (λ (l : List ℕ). bytes ++ l) over.0 ∙ append-nil bytes in
     let ends = subst (λ (n : ℕ). FinishesAs (packets n bytes) (Ok streams)) fed.port_is (finishes bytes fed.stands) in
-    (bytes, (subst (Consumes (rest first) (rest now)) all fed.given.source, over.1), finished_ok (packets port bytes) port bytes streams refl ends)
-finished rest faults port first now left reader bytes (Err fault) fed over finishes =
+    (bytes, (subst (Consumes (rest first) (rest now)) all fed.given.source, over.1), finished_ok good (packets port bytes) port bytes streams refl ends)
+finished good rest faults port first now left reader bytes (Err fault) fed over finishes =
     let all : bytes ++ left ≡ bytes = ap (λ (l : List ℕ). bytes ++ l) over.0 ∙ append-nil bytes in
     let ends = subst (λ (n : ℕ). FinishesAs (packets n bytes) (Err fault)) fed.port_is (finishes bytes fed.stands) in
     told_all (rest first) (rest now) bytes (λ text. packets port text ≡ Bad fault) (subst (Consumes (rest first) (rest now)) all fed.given.source) over.1 (finished_bad (packets port bytes) fault ends)

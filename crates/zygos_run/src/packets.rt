@@ -12,7 +12,9 @@ use crate::answer::Answer;
 use std::alloc::Global;
 use zy_base::{Failed, NoMemory, Sink, Source};
 use zy_check_input::Refusal;
-use zy_pcap::{Fed, Flows, PcapFault, PcapFeed, PcapReader, write_flows};
+use zy_pcap::{
+    Fed, Flows, PcapFault, PcapFeed, PcapReader, the_capture_of_a_file_is_good, write_flows,
+};
 use zy_read::{Pieces, Stop};
 
 /// Reads recorded packets, and writes the capture of those to a port.
@@ -62,6 +64,7 @@ fn read_packets<S: Source>(
     ensures reads { S.faults source.old ≤ S.faults source.new }
     ensures ends { ReadsPackets port (side S.rest S.faults source.old source.new) result }
 {
+    the_capture_of_a_file_is_good();
     let mut reader = PcapReader::new(alloc, port);
     match feed_pieces(alloc, &mut reader, source) {
         Ok(()) => ended_by(reader.finish()),
