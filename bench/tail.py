@@ -199,7 +199,7 @@ def carried(curve):
 def told(point):
     sizes = point["holds"]
     all_, one = sum(sizes.values()), sizes.get(1, 0)
-    print(f"{point['load']:6} % {point['kind']:12}{point['throughput']:11,.0f}{point['median']:8.2f}{point['p99']:8.2f}{point['p999']:9.2f}"
+    print(f"{point['load']:6} % {point['kind']:12}{point['throughput']:11,.0f}{point['median']:10.2f}{point['p99']:10.2f}{point['p999']:10.2f}"
           f"{point['away']:8.1%}   {one / max(1, all_):.0%} of one, most {max(sizes, default=0)}", flush=True)
 
 
@@ -281,7 +281,7 @@ def main():
     points = []
     for skewed, shape, service in cases:
         say(f"{'skewed' if skewed else 'even'} connections, {shape} service times of {service} us\n"
-            "  load   cores         commands/s  median     99 %   99.9 %    away   holds")
+            "  load   cores        commands/s    median      99 %    99.9 %    away   holds")
         for load in LOADS:
             for kind in ("zygos", "partitioned"):
                 points.append(bench.point(kind, skewed, shape, service, load))
