@@ -81,7 +81,7 @@ lines_with_a_repeated_letter =
     codes "mg a v v"
     ∷ codes "mg a q k v f c s q"
     ∷ codes "ms a 1 F1 F1"
-    ∷ codes "ms a 1 T0 q T0"
+    ∷ codes "ms a 1 T300 q T300"
     ∷ codes "ms a 1 MS Ms"
     ∷ codes "md a k q k"
     ∷ []

@@ -48,7 +48,7 @@ pub fn worked_sets()
     ensures padded { meta_line (codes "ms a 00000000000000000001 F00000000000000000000")
         ≡ sets_in_mode 83 }
     ensures exptime { AllSay (sets_in_mode 83)
-        (codes "ms a 1 T0" ∷ codes "ms a 1 T1234567890123456789" ∷ []) }
+        (codes "ms a 1 T300" ∷ codes "ms a 1 T1234567890123456789" ∷ []) }
     ensures modes { map (λ mode. meta_line (codes "ms a 1 M" ++ mode ∷ [])) (codes "EAPRS")
         ≡ map sets_in_mode (codes "EAPRS") }
     ensures small { map (λ mode. meta_line (codes "ms a 1 M" ++ mode ∷ [])) (codes "eaprs")
