@@ -108,10 +108,10 @@ writes_last_on holds faults finishes old between new (Err e) x y first le same s
 }
 
 -- a text whose writing failed, and which was not finished
-pub writes_last_failed : {K E : Type 0} (holds : K → Option (List ℕ)) (faults finishes : K → ℕ) (old new : K) (e : E) (x y : List ℕ) → Writes holds faults finishes old new (Err e) x → WritesLast holds faults finishes old new (Err e) (x ++ y)
-writes_last_failed holds faults finishes old new e x y first = record {
+pub writes_last_failed : {K E : Type 0} (holds : K → Option (List ℕ)) (faults finishes : K → ℕ) (old new : K) (e : E) (x : List ℕ) → Writes holds faults finishes old new (Err e) x → WritesLast holds faults finishes old new (Err e) x
+writes_last_failed holds faults finishes old new e x first = record {
   whole = tt;
-  part = part_of_first (holds old) (holds new) x y first.part;
+  part = first.part;
   count = first.count;
   cause = first.cause;
   finished = tt;

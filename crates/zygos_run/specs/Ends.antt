@@ -9,7 +9,7 @@ use Rattle.zy_run.specs.declared.summary.Summary.{Summary}
 use Rattle.zy_run.specs.Summary.{summary}
 use Rattle.zy_check_input.specs.declared.stop.Refusal.{Refusal}
 use Rattle.zy_check_input.specs.declared.stop.Refusal.TheVariants.{Capture, Pcap}
-use Rattle.zy_check_input.specs.Parts.{AreParts, HasPartFault}
+use Rattle.zy_check_input.specs.Parts.{AreParts, HasPartFault, IsPartFault}
 use Rattle.zy_check.specs.declared.verdict.Verdict.{Verdict as Certified}
 use Rattle.zy_check.specs.Given.{given}
 use Rattle.zy_check.specs.Cause.{HasVerdict}
@@ -92,7 +92,7 @@ HasFault request refusal bytes = ⊥
 -- the request reads a part that may have such a fault
 abbrev pub MayRefuse : Option Request → Refusal → Type 0
 MayRefuse (Some (Requests.Run run out)) (Capture fault) = ⊤
-MayRefuse (Some (Requests.Check shards)) refusal = ⊤
+MayRefuse (Some (Requests.Check shards)) refusal = IsPartFault refusal
 MayRefuse (Some (Requests.Pcap port)) (Pcap fault) = ⊤
 MayRefuse request refusal = ⊥
 

@@ -10,3 +10,4 @@ pub mod Recorded
 pub mod Ends
 pub mod Served
 pub mod Runs
+pub mod Finish

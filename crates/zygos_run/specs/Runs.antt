@@ -8,7 +8,7 @@ use Rattle.zy_journal.specs.Journal.{IsJournal}
 use Rattle.zy_read.specs.declared.stop.Stop.{Stop}
 use Rattle.zy_read.specs.declared.stop.Stop.TheVariants as Stops
 use Rattle.zy_check_input.specs.declared.stop.Refusal.{Refusal}
-use Rattle.zy_check_input.specs.Parts.{HasPartFault, ReadsAll}
+use Rattle.zy_check_input.specs.Parts.{HasPartFault, IsPartFault, ReadsAll}
 use Rattle.zy_check.specs.declared.verdict.Verdict.{Verdict as Certified}
 use Rattle.zy_finish.specs.declared.finishing.Finished.{Finished}
 use Rattle.zygos_run.specs.Seen.{Side, HasRisen, OfGiven}
@@ -31,4 +31,7 @@ RunsTo shards source (Err stop) = StopsFor (λ fault bytes. verdict bytes ≡ Ba
 -- a check has its verdict, or it stopped
 abbrev pub ChecksTo : ℕ → Side → Result Certified (Stop Refusal) → Type 0
 ChecksTo shards source (Ok found) = OfGiven source (λ bytes. IsChecked shards bytes found)
-ChecksTo shards source (Err stop) = StopsFor (λ refusal bytes. HasPartFault bytes refusal) source stop
+ChecksTo shards source (Err (Stops.Refused refusal)) =
+    IsPartFault refusal × IfSome source.before (λ bytes. HasPartFault bytes refusal)
+ChecksTo shards source (Err Stops.ReadFault) = HasRisen source
+ChecksTo shards source (Err Stops.NoMemory) = ⊤

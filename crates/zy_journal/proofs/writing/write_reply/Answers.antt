@@ -10,7 +10,7 @@ unfolding reply_text
 returns-in-Err g c =
     let reply : CallReply = c.args.reply.now in
     record {
-      writes = writes_no_more g.K.Sink.holds g.K.Sink.faults c.args.sink.now c.write_whole.new.sink c.in-Err.failed (reply_code reply ∷ []) (fields_text (reply_flags reply) (reply_number reply) (reply_value reply))
+      writes = writes_no_more g.K.Sink.holds g.K.Sink.faults g.K.Sink.finishes c.args.sink.now c.write_whole.new.sink c.in-Err.failed (reply_code reply ∷ []) (fields_text (reply_flags reply) (reply_number reply) (reply_value reply))
           (rw (← c.code.ensures.value) c.in-Err.ensures.writes);
     }
 
@@ -19,7 +19,7 @@ unfolding reply_text
 returns g c =
     let reply : CallReply = c.args.reply.now in
     record {
-      writes = writes_on g.K.Sink.holds g.K.Sink.faults c.args.sink.now c.write_whole.new.sink c.write_fields.new.sink c.write_fields.result (reply_code reply ∷ []) (fields_text (reply_flags reply) (reply_number reply) (reply_value reply))
-          (rw (← c.code.ensures.value) c.in_default.ensures.writes.whole) c.in_default.ensures.writes.count
+      writes = writes_on g.K.Sink.holds g.K.Sink.faults g.K.Sink.finishes c.args.sink.now c.write_whole.new.sink c.write_fields.new.sink c.write_fields.result (reply_code reply ∷ []) (fields_text (reply_flags reply) (reply_number reply) (reply_value reply))
+          (rw (← c.code.ensures.value) c.in_default.ensures.writes.whole) c.in_default.ensures.writes.count c.in_default.ensures.writes.unfinished
           (rw (← c.flags.ensures.value, ← c.number.ensures.value, ← c.value.ensures.value) c.write_fields.ensures.writes);
     }
