@@ -2,6 +2,8 @@
 use Rattle.std.specs.Prelude.{◌≡◌, ℕ, ◌<◌, ◌==◌, if◌then◌else◌, List, [], ◌∷◌, length}
 use Rattle.zy_base.specs.declared.entry.Entry.{Entry}
 use Rattle.zy_base.specs.Shard.{State, empty_state, reply_to, state_after}
+use Rattle.std.specs.List.{AllByRecursion}
+use Rattle.zy_base.specs.Bounds.{FitsEntry}
 use Rattle.zy_base.specs.Order.{AreAt, StampsRise, AreStampsBelow, history_of}
 use Rattle.zy_base.specs.Limits.{stamp_limit}
 
@@ -26,6 +28,8 @@ pub record IsHistory (shards number : ℕ) (history : List Entry) : Type 0 where
   pub place : AreAt number history
   -- the stamps rise strictly, from 1 or more
   pub stamps : StampsRise 0 history
+  -- flags, numbers and parts fit their bytes
+  pub fits : AllByRecursion FitsEntry history
 
 -- ---- all shards
 
