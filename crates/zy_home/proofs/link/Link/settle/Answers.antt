@@ -9,11 +9,7 @@ use Rattle.zy_home.proofs.IdleLemmas.{settled_idle, met_twice}
 use Rattle.zy_home.proofs.link.Link.settle.Goals as goal
 
 pub returns-clause-met : goal.returns-clause-met
-returns-clause-met c = met_twice _ _ _ _ c.take_batch.ensures.block c.meet.ensures.block c.meet-2.ensures.block
-
-pub returns-clause-knows : goal.returns-clause-knows
-returns-clause-knows c =
-    sym (ap (λ (l : Link). l.inlet.sent) c.self-2.view_is) ∙ c.meet-2.ensures.all
+returns-clause-met c = met_twice c.args.block.now c.take_batch.new.self c.meet.new.self c.meet-2.new.self c.take_batch.ensures.block c.meet.ensures.block c.meet-2.ensures.block
 
 pub returns-clause-idle : goal.returns-clause-idle
 returns-clause-idle c none =
