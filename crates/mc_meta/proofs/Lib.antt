@@ -1,5 +1,5 @@
 mod NumberLemmas
 mod WordLemmas
 mod RoomLemmas
-mod PlaceLemmas
-mod KeyLemmas
+pub mod PlaceLemmas
+pub mod KeyLemmas
