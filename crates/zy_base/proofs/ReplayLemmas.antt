@@ -49,7 +49,7 @@ count-state_with shards number state empties = omega arith
 count_by : (shards number : ℕ) (state : State) (es : List Entry) → (replayed shards number state es).count ≤ state.count + length es
 count_by shards number state [] = omega arith
 count_by shards number state (e ∷ es) =
-    let one = count-state_with shards number state (outcome_on state.items e.call).effect in
+    let one = count-state_with shards number state (outcome_on state e.call).effect in
     let more = count_by shards number (state_after shards number state e.call) es in
     omega arith
 
