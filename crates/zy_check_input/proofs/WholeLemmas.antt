@@ -62,7 +62,7 @@ replies_begun rest faults first now left bytes part given reader outputs = recor
 
 -- ---- stops
 
-if_some : (told : Option (List ℕ)) (P Q : List ℕ → Type 0) → ((text : List ℕ) → P text → Q text) → IfSome told P → IfSome told Q
+pub if_some : (told : Option (List ℕ)) (P Q : List ℕ → Type 0) → ((text : List ℕ) → P text → Q text) → IfSome told P → IfSome told Q
 if_some None P Q implies holds = tt
 if_some (Some text) P Q implies holds = implies text holds
 

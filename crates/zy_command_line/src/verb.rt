@@ -10,6 +10,7 @@ pub(crate) enum Verb {
     Gen,
     SelfTest,
     Pcap,
+    Report,
 }
 
 /// The command that a word names.
@@ -22,6 +23,7 @@ pub(crate) fn verb_named(word: &[u8]) -> Option<Verb>
         b"gen" => Some(Verb::Gen),
         b"self" => Some(Verb::SelfTest),
         b"pcap" => Some(Verb::Pcap),
+        b"report" => Some(Verb::Report),
         _ => None,
     }
 }
@@ -38,5 +40,6 @@ pub(crate) fn names_of(verb: Verb) -> &'static [&'static str]
             "number", "conns", "commands", "cores", "threads", "order", "shards",
         ],
         Verb::Pcap => &["port"],
+        Verb::Report => &[],
     }
 }
