@@ -1,8 +1,9 @@
 //! A connection's block.
-ghost use Rattle.std.specs.Prelude.{◌≡◌, ◌+◌, ◌<◌, ◌≤◌, [], ◌++◌, length, IfOk, IfErr};
+ghost use Rattle.std.specs.Prelude.{◌≡◌, ◌+◌, ◌<◌, ◌≤◌, [], ◌++◌, length, IfOk, IfErr, OnOk, OnErr};
+ghost use Rattle.zy_calls.specs.Output.{with_batch};
 ghost use Rattle.mc_store.specs.Pass.{passed};
 ghost use Rattle.zy_rx.specs.Ring.{offering};
-ghost use Rattle.zy_conn.specs.Work.{worked, idle, has_event, texts_taken, mark_of};
+ghost use Rattle.zy_conn.specs.Work.{worked, idle, has_event, texts_taken, batch_waiting, mark_of};
 ghost use Rattle.zy_conn.specs.Kept.{Kept};
 ghost use Rattle.zy_conn.specs.Hold.{AreHolds, HeldTo, IsRecorded};
 ghost use Rattle.zy_conn.specs.Block.{blocked};
@@ -14,7 +15,7 @@ use mc_store::{Pass, StoreTable};
 use std::alloc::Global;
 use std::marker::Model;
 use zy_base::{Gate, Hold, Holds, NoMemory};
-use zy_calls::Batch;
+use zy_calls::{Batch, Output};
 use zy_shuffle::Marked;
 
 /// What travels with a connection: its pass on the store, its events, the command in progress, the
@@ -119,6 +120,22 @@ impl Block {
         ensures texts { texts_taken self.new.work ≡ texts_taken self.old.work ++ self.old.work.batch }
     {
         self.work.take_batch()
+    }
+
+    /// Moves the texts that wait to an output, with the number of finished commands; no text is left.
+    /// The block keeps their room for further texts. After a refusal block and output are as they were.
+    pub fn send_to(&mut self, output: &mut Output) -> Result<(), NoMemory>
+        ensures output { OnOk result (output.new ≡ with_batch output.old (batch_waiting self.old.work)) }
+        ensures block { OnOk result (self.new ≡ record self.old {
+          work = record self.old.work {
+            shown = self.old.work.finished;
+            batch = [];
+          };
+        }) }
+        ensures texts { OnOk result (texts_taken self.new.work ≡ texts_taken self.old.work ++ self.old.work.batch) }
+        ensures err { OnErr result ((self.new ≡ self.old) × (output.new ≡ output.old)) }
+    {
+        self.work.send_to(output)
     }
 
     /// Carries out commands in order, at most 64. A hold that finished commands is recorded; the

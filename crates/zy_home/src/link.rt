@@ -144,12 +144,8 @@ impl Link {
         ensures same { SameLink self.old self.new }
         ensures label { block.new.work.table ≡ block.old.work.table }
     {
-        match self.output.carry_out(block.take_batch()) {
-            Ok(()) => {}
-            Err((batch, e)) => {
-                drop(batch);
-                return Err(e);
-            }
+        if let Err(e) = block.send_to(&mut self.output) {
+            return Err(e);
         }
         block.meet(&mut self.inlet);
         self.offer_waiting();

@@ -1,6 +1,6 @@
 use Rattle.std.proofs.Common.{◌<◌, ◌+◌, ◌^◌, ℕ, List, ◌++◌, length, get_or, refl, ap, ◌∙◌, arith, rules}
 use Rattle.zy_calls.proofs.TextLemmas.{joined_as, Rise-at}
-use Rattle.zy_calls.proofs.texts.Texts.append.Goals as goal
+use Rattle.zy_calls.proofs.texts.Texts.append_copy.Goals as goal
 
 pub append_further-requires-clause-fits : goal.append_further-requires-clause-fits
 append_further-requires-clause-fits c = λ at within.
