@@ -1,6 +1,6 @@
 -- How the top call ends: what each answer says of the request and of what the call saw.
 use Rattle.std.specs.Prelude.{◌≡◌, ℕ, List, Option, None, Some, ⊤, IfSome}
-use Rattle.zy_capture.specs.Outputs.{AllOutputs}
+use Rattle.zy_capture.specs.Outputs.{AllOutputs, AreOutputs}
 use Rattle.zy_capture.specs.Verdict.{verdict}
 use Rattle.zy_capture.specs.Verdict.Verdict.{Bad}
 use Rattle.zy_journal.specs.declared.journal.Journal.{Journal}
@@ -46,6 +46,7 @@ pub record IsChecked (shards : ℕ) (bytes : List ℕ) (verdict : Certified) : T
   pub journal : Journal
   pub outputs : AllOutputs
   pub parts : AreParts bytes streams journal outputs
+  pub lawful : AreOutputs outputs
   pub verdict_is : HasVerdict (given shards streams journal outputs) verdict
 
 -- the journal is that of a served run of generated traffic, and the numbers are those of all its runs

@@ -1,14 +1,12 @@
 -- How running and checking end before anything is written. No public clause cites this module.
 use Rattle.std.specs.Prelude.{◌≡◌, ℕ, List, Result, Ok, Err, ⊤, IfSome}
 use Rattle.zy_capture.specs.declared.capture_fault.CaptureFault.{CaptureFault}
-use Rattle.zy_capture.specs.Outputs.{AreOutputs}
 use Rattle.zy_capture.specs.Verdict.{verdict}
 use Rattle.zy_capture.specs.Verdict.Verdict.{Bad}
-use Rattle.zy_journal.specs.Journal.{IsJournal}
 use Rattle.zy_read.specs.declared.stop.Stop.{Stop}
 use Rattle.zy_read.specs.declared.stop.Stop.TheVariants as Stops
 use Rattle.zy_check_input.specs.declared.stop.Refusal.{Refusal}
-use Rattle.zy_check_input.specs.Parts.{HasPartFault, IsPartFault, ReadsAll}
+use Rattle.zy_check_input.specs.Parts.{HasPartFault, IsPartFault}
 use Rattle.zy_check.specs.declared.verdict.Verdict.{Verdict as Certified}
 use Rattle.zy_finish.specs.declared.finishing.Finished.{Finished}
 use Rattle.zygos_run.specs.Seen.{Side, HasRisen, OfGiven}
@@ -24,8 +22,7 @@ StopsFor HasFault source Stops.NoMemory = ⊤
 -- a capture was served, or it stopped
 abbrev pub RunsTo : ℕ → Side → Result Finished (Stop CaptureFault) → Type 0
 RunsTo shards source (Ok done) =
-    (bytes : List ℕ) × ReadsAll source.before source.after bytes × IsServed shards bytes done.journal done.outputs
-    × AreOutputs done.outputs × IsJournal done.journal
+    OfGiven source (λ bytes. IsServed shards bytes done.journal done.outputs)
 RunsTo shards source (Err stop) = StopsFor (λ fault bytes. verdict bytes ≡ Bad fault) source stop
 
 -- a check has its verdict, or it stopped

@@ -10,6 +10,7 @@ invariant_of-self-in-Ok-carry_out c =
     (ap (λ key. outcome_in key c.in-Ok.step) c.requires.key ∙ c.in-Ok.ensures.value ∙ ap (outcome_of c.args.call) c.found-found.ensures.value)
     c.in-Ok-carry_out.ensures.ok
     (rw c.reserve.ensures.items at c.push_reserved.ensures.items) refl refl (omega arith) refl
+    (record { part = c.numbers_fit.ensures.part; call = c.numbers_fit.ensures.call; reply = c.numbers_fit.ensures.reply })
 
 pub returns-in-Ok-carry_out-clause-sound : goal.returns-in-Ok-carry_out-clause-sound
 returns-in-Ok-carry_out-clause-sound c = (invariant_of-self-in-Ok-carry_out c).history_is
