@@ -5,7 +5,8 @@ use Rattle.zy_base.specs.declared.call.Call.{Call}
 use Rattle.zy_base.specs.declared.entry.Entry.{Entry}
 use Rattle.zy_base.specs.declared.entry.Tag.{Tag}
 use Rattle.zy_base.specs.Call.{key_of}
-use Rattle.zy_base.specs.Shard.{State, empty_state, Outcome, outcome_of, item_at, outcome_on, reply_to, state_with, state_after}
+use Rattle.zy_base.specs.Counted.{calls_with}
+use Rattle.zy_base.specs.Shard.{State, empty_state, tallied, counting, Outcome, outcome_of, item_at, outcome_on, reply_to, state_with, state_after}
 use Rattle.zy_base.specs.Bounds.{FitsEntry}
 use Rattle.zy_base.specs.History.{IsHistory, replayed}
 use Rattle.zy_base.specs.Order.{last_stamp}
@@ -19,8 +20,8 @@ use Rattle.mc_shard.specs.Contents.{IsSound}
 pub IsSound-applied : (number shards last last' : ℕ) (contents contents' : State) (es es' : List Entry) (e : Entry) (key : Option (List ℕ)) (outcome : Outcome)
     → IsSound number shards last contents es
     → key ≡ key_of e.call
-    → outcome ≡ outcome_of e.call (item_at contents.items key)
-    → contents' ≡ state_with shards number contents outcome.effect
+    → outcome ≡ outcome_of (tallied contents) e.call (item_at contents.items key)
+    → contents' ≡ counting (state_with shards number contents outcome.effect) (calls_with contents.calls e.call outcome.reply)
     → es' ≡ es ++ e ∷ []
     → e.shard ≡ number
     → e.stamp ≡ last'
@@ -29,8 +30,8 @@ pub IsSound-applied : (number shards last last' : ℕ) (contents contents' : Sta
     → FitsEntry e
     → IsSound number shards last' contents' es'
 IsSound-applied number shards last last' contents contents' es es' e key outcome sound key_is outcome_is contents_are longer here stamp above reply fits =
-    let of_table : outcome ≡ outcome_on contents.items e.call = outcome_is ∙ ap (λ k. outcome_of e.call (item_at contents.items k)) key_is in
-    let past : contents' ≡ state_after shards number contents e.call = contents_are ∙ ap (λ (o : Outcome). state_with shards number contents o.effect) of_table in
+    let of_table : outcome ≡ outcome_on contents e.call = outcome_is ∙ ap (λ k. outcome_of (tallied contents) e.call (item_at contents.items k)) key_is in
+    let past : contents' ≡ state_after shards number contents e.call = contents_are ∙ ap (λ (o : Outcome). counting (state_with shards number contents o.effect) (calls_with contents.calls e.call o.reply)) of_table in
     let answered : e.reply ≡ reply_to (replayed shards number empty_state es) e.call =
     reply ∙ ap (λ (o : Outcome). o.reply) of_table ∙ ap (λ (s : State). reply_to s e.call) sound.contents_are in
     let higher : last_stamp 0 es < e.stamp = subst (λ n. n < e.stamp) sound.last_is (subst (λ n. last < n) (sym stamp) above) in

@@ -13,9 +13,9 @@ use std::alloc::Global;
 use std::marker::Model;
 use zy_base::{Call, Entries, Entry, NoMemory, Tag, numbers_fit};
 
-/// A shard of the store: items by their keys, how many items were ever stored, and the history of
-/// all calls on it. Contracts see it as its number, the number of shards, and the history; its
-/// items and its counter are the replay of the history.
+/// A shard of the store: items by their keys, how many items were ever stored, what was counted, and
+/// the history of all calls on it. Contracts see it as its number, the number of shards, and the history; its
+/// items, its counter and its counts are the replay of the history.
 #[derive(Drop)]
 pub struct Shard {
     number: u32,
@@ -168,7 +168,12 @@ impl Shard {
     {
         let stamp = self.last.max(seen) + 1;
         let found = self.contents.found(&key);
-        let Step { reply, change } = match step_of(*self.history.allocator(), &call, found) {
+        let Step { reply, change } = match step_of(
+            *self.history.allocator(),
+            &call,
+            self.contents.tallied(),
+            found,
+        ) {
             Ok(step) => step,
             Err(refused) => {
                 drop(key);
@@ -197,6 +202,7 @@ impl Shard {
             .carry_out(self.number, self.shards, key, change)
         {
             Ok(()) => {
+                self.contents.note(&call, &reply);
                 self.history.push_reserved(Entry {
                     tag,
                     shard: self.number,

@@ -45,6 +45,15 @@ IsHistory-push shards number es e history here above reply fits = record {
   fits = all_push FitsEntry es e history.fits fits;
 }
 
+-- ---- the counts of calls
+
+-- an effect leaves them
+pub calls-state_with : (shards number : ℕ) (state : State) (effect : Effect) → (state_with shards number state effect).calls ≡ state.calls
+calls-state_with shards number state keeps = refl
+calls-state_with shards number state (stores key flags value) = refl
+calls-state_with shards number state (removes key) = refl
+calls-state_with shards number state empties = refl
+
 -- ---- the counter
 
 pub count-state_with : (shards number : ℕ) (state : State) (effect : Effect) → (state_with shards number state effect).count ≤ state.count + 1

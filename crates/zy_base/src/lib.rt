@@ -6,6 +6,7 @@ mod call;
 mod call_kind;
 mod call_numbers;
 mod call_reply;
+mod counting;
 mod entry;
 mod file_fault;
 mod fits;
