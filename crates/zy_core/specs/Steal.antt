@@ -1,9 +1,9 @@
 -- The steal of a core in a turn.
 use Rattle.std.specs.Prelude.{ℕ, List, Option, Some, None}
 use Rattle.zy_home.specs.Idle.{mark_in}
-use Rattle.zy_home.specs.Place.{IsHeld, label_in}
+use Rattle.zy_home.specs.Place.{IsHeld}
 use Rattle.zy_conn.specs.declared.hold_end.HoldEnd.{HoldEnd}
-use Rattle.zy_conn.specs.Block.{Blocked}
+use Rattle.zy_conn.specs.Block.{Blocked, label_in}
 use Rattle.zy_steal.specs.declared.looks.Look.{Look}
 use Rattle.zy_steal.specs.Steal.{PassList, TakesFrom, GivesTo, AllLooked}
 

@@ -1,7 +1,5 @@
 -- What the calls on a home do at one of its places, and which causes of the ring their answers hand on.
 use Rattle.std.specs.Prelude.{◌≡◌, ◌≢◌, ℕ, ◌+◌, ◌<◌, ◌≤◌, List, [], ◌++◌, true, false, length, Bool, Option, Some, None, slice_get, slice_set, map, is_some}
-use Rattle.zy_table.specs.declared.name.Name.{Name}
-use Rattle.zy_table.specs.Name.{name_of}
 use Rattle.zy_table.specs.Member.{is_in}
 use Rattle.zy_rx.specs.declared.rx.Rx.{Rx}
 use Rattle.zy_shuffle.specs.declared.claim.Claim.{Claim}
@@ -10,17 +8,13 @@ use Rattle.zy_shuffle.specs.Pass.{Held, Joined, Claimed, Collected, after_publis
 use Rattle.zy_conn.specs.Work.{has_event}
 use Rattle.zy_conn.specs.declared.hold_end.HoldEnd.{HoldEnd}
 use Rattle.zy_conn.specs.Hold.{HeldTo, IsRecorded}
-use Rattle.zy_conn.specs.Block.{Blocked}
+use Rattle.zy_conn.specs.Block.{Blocked, label_in}
 use Rattle.zy_home.specs.Link.{Link, IsFor, conn_of}
 use Rattle.zy_home.specs.Offer.{WaitsBehind, WaitsFull}
 use Rattle.zy_home.specs.Idle.{IsIdle, due_mark, mark_in}
 use Rattle.zy_home.specs.declared.own.Own.{Own}
 use Rattle.zy_home.specs.declared.own.Own.TheVariants.{Took, Empty, Raced}
 use Rattle.zy_home.specs.Home.{Homed, IsHere}
-
--- the label of a block: the store that its pass is of
-abbrev pub label_in : Blocked → Name
-label_in block = name_of block.work.table
 
 -- ---- settling
 
@@ -85,7 +79,7 @@ pub record StaysIn (places : ℕ) (h h' : Homed) : Type 0 where
 -- ---- holding
 
 -- a core held a block, and this is why its hold ended: the hold is recorded with the core if it finished commands,
--- at most 64; the block's mark and store are as before
+-- at most 64; the block's mark and label are as before
 pub record IsHeld (core : ℕ) (before after : Blocked) (end : HoldEnd) : Type 0 where
   pub ends : HeldTo before.work after.work end
   pub recorded : IsRecorded core before after

@@ -1,6 +1,7 @@
 //! A connection of a home without its block.
 ghost use Rattle.std.specs.Prelude.{◌≡◌, ◌≢◌, ◌++◌, [], false, None, IfOk, OnOk, IfNone, option_to_list};
 ghost use Rattle.zy_conn.specs.Work.{has_event};
+ghost use Rattle.zy_conn.specs.Block.{label_in};
 ghost use Rattle.zy_rx.specs.Session.{Sessions, with_bytes, with_close};
 ghost use Rattle.zy_home.specs.Link.{IsFor, IsFresh, LinkStands, SameLink, StandsOn, TakesIn, conn_of};
 ghost use Rattle.zy_home.specs.Offer.{Offers, IsFilled, WaitsBehind, WaitsFull};
@@ -142,7 +143,7 @@ impl Link {
         ensures behind { OnOk result (WaitsBehind self.new block.new) }
         ensures stands { OnOk result (StandsOn self.old self.new) }
         ensures same { SameLink self.old self.new }
-        ensures label { block.new.work.table ≡ block.old.work.table }
+        ensures label { label_in block.new ≡ label_in block.old }
     {
         if let Err(e) = block.send_to(&mut self.output) {
             return Err(e);

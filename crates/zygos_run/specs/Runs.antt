@@ -9,6 +9,7 @@ use Rattle.zy_check_input.specs.declared.stop.Refusal.{Refusal}
 use Rattle.zy_check_input.specs.Parts.{HasPartFault, IsPartFault}
 use Rattle.zy_check.specs.declared.verdict.Verdict.{Verdict as Certified}
 use Rattle.zy_finish.specs.declared.finishing.Finished.{Finished}
+use Rattle.zy_command_line.specs.declared.request.Run.{Run}
 use Rattle.zygos_run.specs.Seen.{Side, HasRisen, OfGiven}
 use Rattle.zygos_run.specs.Headline.{IsServed}
 use Rattle.zygos_run.specs.Ends.{IsChecked}
@@ -20,10 +21,10 @@ StopsFor HasFault source Stops.ReadFault = HasRisen source
 StopsFor HasFault source Stops.NoMemory = ⊤
 
 -- a capture was served, or it stopped
-abbrev pub RunsTo : ℕ → Side → Result Finished (Stop CaptureFault) → Type 0
-RunsTo shards source (Ok done) =
-    OfGiven source (λ bytes. IsServed shards bytes done.journal done.outputs)
-RunsTo shards source (Err stop) = StopsFor (λ fault bytes. verdict bytes ≡ Bad fault) source stop
+abbrev pub RunsTo : Run → Side → Result Finished (Stop CaptureFault) → Type 0
+RunsTo run source (Ok done) =
+    OfGiven source (λ bytes. IsServed run bytes done.journal done.outputs)
+RunsTo run source (Err stop) = StopsFor (λ fault bytes. verdict bytes ≡ Bad fault) source stop
 
 -- a check has its verdict, or it stopped
 abbrev pub ChecksTo : ℕ → Side → Result Certified (Stop Refusal) → Type 0
