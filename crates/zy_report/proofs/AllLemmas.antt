@@ -19,13 +19,13 @@ pub shards_more : (es : List Entry) (e : Entry) → shards_in (es ++ e ∷ []) �
 shards_more [] e = omega arith
 shards_more (f ∷ es) e = let more = shards_more es e in omega (arith, more)
 
+longer : (test : Bool) (e : Entry) (some es : List Entry) → length some ≤ length es → length (cond test (e ∷ some) some) ≤ length (e ∷ es)
+longer true e some es others = omega (arith, others)
+longer false e some es others = omega (arith, others)
+
 length-at_shard : (shard : ℕ) (es : List Entry) → length (at_shard shard es) ≤ length es
 length-at_shard shard [] = omega arith
-length-at_shard shard (e ∷ es) = go (e.shard == shard)
-  where
-    go : (test : Bool) → length (cond test (e ∷ at_shard shard es) (at_shard shard es)) ≤ length (e ∷ es)
-    go true = let others = length-at_shard shard es in omega (arith, others)
-    go false = let others = length-at_shard shard es in omega (arith, others)
+length-at_shard shard (e ∷ es) = longer (e.shard == shard) e (at_shard shard es) es (length-at_shard shard es)
 
 at_shard_more : (shard : ℕ) (es : List Entry) (e : Entry) → at_shard shard (es ++ e ∷ []) ≡ at_shard shard es ++ cond (e.shard == shard) (e ∷ []) []
 at_shard_more shard es e = filter-append (λ (e : Entry). e.shard == shard) es (e ∷ [])
@@ -88,6 +88,6 @@ all_read kept all left has none = subst (CountsAll kept) (sym (has.split ∙ ap 
 -- so few entries can be counted, at each shard
 pub room_at : (kept : List Kept) (all left rest : List Entry) (e : Entry) → HasRead kept all left → left ≡ e ∷ rest → length all ≤ 2 ^ 64 - 1 → HasRoom (kept_at kept e.shard)
 room_at kept all left rest e has is few =
-    let size : length all ≡ length has.read + (1 + length rest) = ap length (has.split ∙ ap (λ l. has.read ++ l) is) ∙ length-append has.read (e ∷ rest) in
+    let size : length all ≡ length has.read + suc (length rest) = ap length (has.split ∙ ap (λ l. has.read ++ l) is) ∙ length-append has.read (e ∷ rest) in
     let most = length-at_shard e.shard has.read in
     has_room (kept_at kept e.shard) (at_shard e.shard has.read) (has.counts.each e.shard) (omega (arith, size, most, few))

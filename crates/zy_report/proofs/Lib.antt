@@ -1,2 +1,3 @@
 pub mod TallyLemmas
 pub mod AllLemmas
+pub mod TableLemmas

@@ -1,6 +1,6 @@
 -- What is counted of a shard, entry by entry.
 use Rattle.std.proofs.Common.{◌≡◌, ℕ, ◌+◌, ◌-◌, ◌^◌, ◌<◌, ◌≤◌, Bool, true, false, cond, not, List, [], ◌∷◌, ◌++◌, length, map, Bor, refl, sym, ap, ◌∙◌, subst, arith}
-use Rattle.std.specs.Prelude.{if◌then◌else◌, fold, count_by, Some, is_some, Option, None, ⊤}
+use Rattle.std.specs.Prelude.{◌||◌, if◌then◌else◌, fold, count_by, Some, is_some, Option, None, ⊤}
 use Rattle.std.specs.List.{list_any, sum_by}
 use Rattle.std.specs.Ordering.{nat_cmp, eq_by_cmp, is_eq}
 use Rattle.std.specs.Cmp.{eq_by_cmp_equiv}
@@ -11,6 +11,9 @@ use Rattle.std.proofs.lemmas.List.{length-map}
 use Rattle.std.proofs.lemmas.List.Sums.{sum_by-append, fold-append, count_by-le-length}
 use Rattle.zy_base.specs.declared.entry.Entry.{Entry}
 use Rattle.zy_base.specs.declared.tallied.Tallied.{Tallied}
+use Rattle.zy_base.specs.declared.call.Call.{Call}
+use Rattle.zy_base.specs.declared.call.Call.TheVariants.{Flush}
+use Rattle.zy_base.specs.declared.call_reply.CallReply.{CallReply}
 use Rattle.zy_base.specs.Counted.{Keys, no_keys, keys_with, keys_after, is_get, is_set, is_hit, is_miss, one_if, calls_with, counted, CallCounts}
 use Rattle.zy_report.specs.Kept.{Kept}
 use Rattle.zy_report.specs.Tally.{calls_in, calls_of, AreKeysOf, CountsEntries, HasRoom, none_kept}
@@ -48,7 +51,7 @@ no_keys_yet = record {
 -- a test at the keys that are referred to
 any_map : (test : List ℕ → Bool) (keys : List (Bor (List ℕ))) → list_any test (map (λ key. key.now) keys) ≡ list_any (λ key. test key.now) keys
 any_map test [] = refl
-any_map test (key ∷ keys) = ap (λ b. cond (test key.now) true b) (any_map test keys)
+any_map test (key ∷ keys) = ap (λ b. test key.now || b) (any_map test keys)
 
 -- the key, as it is referred to
 abbrev at_key : Bor (List ℕ) → List ℕ → Bor (List ℕ)
@@ -151,3 +154,13 @@ has_room kept es are few = record {
 
 pub nothing_counted : CountsEntries none_kept []
 nothing_counted = record { calls = refl; keys = no_keys_yet }
+
+-- what is kept was counted of no entry, where nothing is kept
+pub counts_none : (kept : Kept) → kept ≡ none_kept → CountsEntries kept []
+counts_none kept is = subst (λ k. CountsEntries k []) (sym is) nothing_counted
+
+-- a flush leaves no keys
+pub flushed : (keys : Keys) (call : Call) (reply : CallReply) (left : List (Bor (List ℕ))) → call ≡ Flush → left ≡ [] → AreKeysOf (keys_with keys call reply) (map (λ key. key.now) left)
+flushed keys call reply left is none =
+    subst (λ c. AreKeysOf (keys_with keys c reply) (map (λ key. key.now) left)) (sym is)
+    (subst (λ l. AreKeysOf no_keys (map (λ key. key.now) l)) (sym none) no_keys_yet)

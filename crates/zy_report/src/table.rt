@@ -1,5 +1,5 @@
 //! The table of counts.
-ghost use Rattle.std.specs.Prelude.{◌≡◌, ◌++◌, IfOk, IfSome, OnOk, codes};
+ghost use Rattle.std.specs.Prelude.{◌≡◌, ◌+◌, ◌++◌, IfOk, IfSome, OnOk, codes};
 ghost use Rattle.zy_report.specs.Report.{is_nothing, sums, shard_text, shards_text, table};
 
 use crate::lines::append_line;

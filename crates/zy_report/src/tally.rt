@@ -4,7 +4,7 @@ ghost use Rattle.zy_base.specs.declared.entry.Entry.{Entry};
 ghost use Rattle.std.specs.FinMap.{insert, remove};
 ghost use Rattle.zy_base.specs.declared.call.Call.TheVariants.{Get};
 ghost use Rattle.zy_base.specs.Counted.{Keys, calls_with, keys_with, counted};
-ghost use Rattle.zy_report.specs.Tally.{HasRoom, CountsEntries, AreKeysOf, calls_in};
+ghost use Rattle.zy_report.specs.Tally.{HasRoom, CountsEntries, AreKeysOf, calls_in, none_kept};
 
 use mc_stats::Counts;
 use std::alloc::Global;
@@ -33,7 +33,7 @@ impl<'j> Model for Tally<'j> {
 impl<'j> Tally<'j> {
     /// No entry is counted. Takes no memory.
     pub(crate) fn new(alloc: Global) -> Tally<'j>
-        ensures value { CountsEntries result [] }
+        ensures value { result ≡ none_kept }
     {
         Tally {
             calls: Counts::new(),

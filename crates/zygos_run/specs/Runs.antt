@@ -1,4 +1,4 @@
--- How running and checking end before anything is written. No public clause cites this module.
+-- How running, checking and reporting end before anything is written. No public clause cites this module.
 use Rattle.std.specs.Prelude.{◌≡◌, ℕ, List, Result, Ok, Err, ⊤, IfSome}
 use Rattle.zy_capture.specs.declared.capture_fault.CaptureFault.{CaptureFault}
 use Rattle.zy_capture.specs.Outputs.{AreOutputs}
@@ -11,7 +11,10 @@ use Rattle.zy_check_input.specs.declared.stop.Refusal.{Refusal}
 use Rattle.zy_check_input.specs.Parts.{HasPartFault, ReadsAll}
 use Rattle.zy_check.specs.declared.verdict.Verdict.{Verdict as Certified}
 use Rattle.zy_finish.specs.declared.finishing.Finished.{Finished}
+use Rattle.zy_check_input.specs.declared.stop.Refusal.TheVariants.{Journal as OfJournal}
+use Rattle.zy_journal_reader.specs.Verdict as Journals
 use Rattle.zygos_run.specs.Seen.{Side, HasRisen, OfGiven}
+use Rattle.zygos_run.specs.Reported.{IsReported}
 use Rattle.zygos_run.specs.Headline.{IsServed}
 use Rattle.zygos_run.specs.Ends.{IsChecked}
 
@@ -32,3 +35,12 @@ RunsTo shards source (Err stop) = StopsFor (λ fault bytes. verdict bytes ≡ Ba
 abbrev pub ChecksTo : ℕ → Side → Result Certified (Stop Refusal) → Type 0
 ChecksTo shards source (Ok found) = OfGiven source (λ bytes. IsChecked shards bytes found)
 ChecksTo shards source (Err stop) = StopsFor (λ refusal bytes. HasPartFault bytes refusal) source stop
+
+-- a report was made, or it stopped, for a fault of the journal, or for a read that failed
+abbrev pub ReportsTo : Side → Result (List ℕ) (Stop Refusal) → Type 0
+ReportsTo source (Ok made) = OfGiven source (λ bytes. IsReported bytes (λ table. made ≡ table))
+ReportsTo source (Err (Stops.Refused (OfJournal fault))) =
+    IfSome source.before (λ bytes. Journals.verdict bytes ≡ Journals.Verdict.Bad fault)
+ReportsTo source (Err (Stops.Refused refusal)) = ⊥
+ReportsTo source (Err Stops.ReadFault) = HasRisen source
+ReportsTo source (Err Stops.NoMemory) = ⊤

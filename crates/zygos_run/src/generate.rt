@@ -39,8 +39,8 @@ pub(crate) fn capture_of(alloc: Global, traffic: Traffic) -> Result<Blob, NoMemo
     generate(alloc, traffic.number, traffic.conns, traffic.commands)
 }
 
-// Writes the whole piece, and finishes.
-fn write_last<K: Sink>(sink: &mut K, piece: &[u8]) -> Result<(), Failed>
+/// Writes the whole piece, and finishes.
+pub(crate) fn write_last<K: Sink>(sink: &mut K, piece: &[u8]) -> Result<(), Failed>
     ensures writes { Writes K.holds K.faults sink.old sink.new result piece.now }
 {
     write_whole(sink, piece)?;
