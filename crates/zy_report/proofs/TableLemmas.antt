@@ -22,12 +22,19 @@ shards_text-append from (counts ∷ some) others =
 pub shards_more : (counts : List Tallied) (i : ℕ) (d : Tallied) → i < length counts → shards_text 0 (take i counts) ++ shard_text i (get_or counts i d) ≡ shards_text 0 (take (i + 1) counts)
 shards_more counts i d within =
     let size : length (take i counts) ≡ i = length-take-le i counts (omega (arith, within)) in
-    ap (λ l. shards_text 0 (take i counts) ++ l) (sym (append-nil (shard_text i (get_or counts i d))) ∙ ap (λ n. shard_text n (get_or counts i d) ++ []) (sym size))
+    let at : i ≡ 0 + length (take i counts) = omega (arith, size) in
+    ap (λ l. shards_text 0 (take i counts) ++ l) (sym (append-nil (shard_text i (get_or counts i d))) ∙ ap (λ n. shard_text n (get_or counts i d) ++ []) at)
     ∙ sym (shards_text-append 0 (take i counts) (get_or counts i d ∷ [])) ∙ ap (shards_text 0) (sym (take_more counts i d within))
 
 -- some spaces of twelve
-pub spaces : (n : ℕ) → n ≤ 12 → take n (32 ∷ 32 ∷ 32 ∷ 32 ∷ 32 ∷ 32 ∷ 32 ∷ 32 ∷ 32 ∷ 32 ∷ 32 ∷ 32 ∷ []) ≡ replicate n 32
-spaces n few = take-replicate n 12 32 few
+pub spaces : (n : ℕ) → n ≤ 12 → take {A = ℕ} n (32 ∷ 32 ∷ 32 ∷ 32 ∷ 32 ∷ 32 ∷ 32 ∷ 32 ∷ 32 ∷ 32 ∷ 32 ∷ 32 ∷ []) ≡ replicate n 32
+spaces n few = let space : ℕ = 32 in take-replicate n 12 space few
+
+-- bytes behind the spaces before them
+pub right_is : (t t0 t1 bytes : List ℕ) (places n : ℕ) → places ≤ 12 → n ≡ places - length bytes → t0 ≡ t ++ take {A = ℕ} n (32 ∷ 32 ∷ 32 ∷ 32 ∷ 32 ∷ 32 ∷ 32 ∷ 32 ∷ 32 ∷ 32 ∷ 32 ∷ 32 ∷ []) → t1 ≡ t0 ++ bytes → t1 ≡ t ++ right places bytes
+right_is t t0 t1 bytes places n few is one two =
+    let within : n ≤ 12 = omega (arith, few, is) in
+    two ∙ ap (λ l. l ++ bytes) (one ∙ ap (λ l. t ++ l) (spaces n within ∙ ap (λ m. replicate m 32) is)) ∙ append_assoc t (replicate (places - length bytes) 32) bytes
 
 -- the texts of a line, one after the other
 pub line_is : (t t0 t1 t2 t3 t4 t5 t6 name : List ℕ) (counts : Tallied) → t0 ≡ t ++ right 3 name → t1 ≡ t0 ++ count_text counts.gets → t2 ≡ t1 ++ count_text counts.sets → t3 ≡ t2 ++ count_text counts.hits → t4 ≡ t3 ++ count_text counts.misses

@@ -1,3 +1,4 @@
 pub mod Kept
 pub mod Report
 pub mod Tally
+pub mod Worked

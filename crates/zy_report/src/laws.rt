@@ -1,9 +1,17 @@
 //! Worked reports.
-ghost use Rattle.std.specs.Prelude.{◌≡◌, [], codes, ◌++◌};
-ghost use Rattle.zy_journal.specs.Worked.{worked};
-ghost use Rattle.zy_report.specs.Report.{report_of, line_text};
+ghost use Rattle.std.specs.Prelude.{◌≡◌, [], ◌∷◌, ◌++◌, codes};
+ghost use Rattle.zy_report.specs.Report.{report_of, table};
+ghost use Rattle.zy_report.specs.Worked.{no_counts, one_each, large};
 
-/// Worked journals, and the reports on them.
+/// The report on no entry, and tables of worked counts: shards without counts have no line, and a
+/// number of more than 12 digits takes more places.
 pub fn worked_reports()
     ensures none { report_of [] ≡ codes "all           0           0           0           0           0\n" }
+    ensures rows { table (no_counts ∷ one_each ∷ no_counts ∷ one_each ∷ [])
+        ≡ codes "  1           1           2           3           4           5\n"
+        ++ (codes "  3           1           2           3           4           5\n"
+        ++ codes "all           2           4           6           8          10\n") }
+    ensures wide { table (large ∷ [])
+        ≡ codes "  01000000000000           0          12123456789012           0\n"
+        ++ codes "all1000000000000           0          12123456789012           0\n" }
 {}
