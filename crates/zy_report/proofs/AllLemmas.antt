@@ -8,9 +8,9 @@ use Rattle.std.proofs.lemmas.Bool.{eqb-true, eq-eqb}
 use Rattle.std.proofs.lemmas.List.Elements.{filter-append}
 use Rattle.zy_base.specs.declared.entry.Entry.{Entry}
 use Rattle.zy_base.specs.Order.{at_shard}
-use Rattle.zy_report.specs.Kept.{Kept}
+use Rattle.zy_report.specs.Counting.{Counting}
 use Rattle.zy_report.specs.Report.{shards_in}
-use Rattle.zy_report.specs.Tally.{CountsEntries, CountsAll, HasRoom, none_kept, kept_at}
+use Rattle.zy_report.specs.Tally.{CountsEntries, CountsAll, CanCount, none_kept, kept_at}
 use Rattle.zy_report.proofs.TallyLemmas.{nothing_counted, has_room}
 
 -- ---- the shards
@@ -32,13 +32,13 @@ at_shard_more shard es e = filter-append (λ (e : Entry). e.shard == shard) es (
 
 -- ---- entries that were read
 
-pub none_counted : (kept : List Kept) → kept ≡ [] → CountsAll kept []
+pub none_counted : (kept : List Counting) → kept ≡ [] → CountsAll kept []
 none_counted kept none = record {
   size = ap length none;
   each = λ shard. subst (λ k. CountsEntries (kept_at k shard) []) (sym none) nothing_counted;
 }
 
-module _ (old made : List Kept) (es : List Entry) (e : Entry) (tally : Kept) (size : length made ≡ max (length old) (e.shard + 1)) (same : (at : ℕ) → kept_at made at ≡ kept_at old at)
+module _ (old made : List Counting) (es : List Entry) (e : Entry) (tally : Counting) (size : length made ≡ max (length old) (e.shard + 1)) (same : (at : ℕ) → kept_at made at ≡ kept_at old at)
     (adds : (fs : List Entry) → CountsEntries (kept_at made e.shard) fs → CountsEntries tally (fs ++ e ∷ [])) (are : CountsAll old es) where
   -- at the shard of the entry
   at_own : CountsEntries (kept_at (set made e.shard tally) e.shard) (at_shard e.shard es ++ e ∷ [])
@@ -58,7 +58,7 @@ module _ (old made : List Kept) (es : List Entry) (e : Entry) (tally : Kept) (si
   at_each shard false is = at_other shard (λ own. true≢false (sym (eq-eqb e.shard shard (sym own)) ∙ is))
 
   -- one more entry
-  pub all_more : (new : List Kept) → new ≡ set made e.shard tally → CountsAll new (es ++ e ∷ [])
+  pub all_more : (new : List Counting) → new ≡ set made e.shard tally → CountsAll new (es ++ e ∷ [])
   all_more new is = record {
     size = ap length is ∙ length-set made e.shard tally ∙ size ∙ ap (λ n. max n (e.shard + 1)) are.size ∙ sym (shards_more es e);
     each = λ shard.
@@ -67,26 +67,26 @@ module _ (old made : List Kept) (es : List Entry) (e : Entry) (tally : Kept) (si
   }
 
 -- the entries that were read are those before the ones that are left
-pub record HasRead (kept : List Kept) (all left : List Entry) : Type 0 where
+pub record HasRead (kept : List Counting) (all left : List Entry) : Type 0 where
   pub read : List Entry
   pub split : all ≡ read ++ left
   pub counts : CountsAll kept read
 
-pub none_read : (kept : List Kept) (all : List Entry) → kept ≡ [] → HasRead kept all all
+pub none_read : (kept : List Counting) (all : List Entry) → kept ≡ [] → HasRead kept all all
 none_read kept all none = record { read = []; split = refl; counts = none_counted kept none }
 
-pub one_read : (old new : List Kept) (all left rest : List Entry) (e : Entry) → HasRead old all left → left ≡ e ∷ rest → ((es : List Entry) → CountsAll old es → CountsAll new (es ++ e ∷ [])) → HasRead new all rest
+pub one_read : (old new : List Counting) (all left rest : List Entry) (e : Entry) → HasRead old all left → left ≡ e ∷ rest → ((es : List Entry) → CountsAll old es → CountsAll new (es ++ e ∷ [])) → HasRead new all rest
 one_read old new all left rest e has is adds = record {
   read = has.read ++ e ∷ [];
   split = has.split ∙ ap (λ l. has.read ++ l) is ∙ sym (append_assoc has.read (e ∷ []) rest);
   counts = adds has.read has.counts;
 }
 
-pub all_read : (kept : List Kept) (all left : List Entry) → HasRead kept all left → left ≡ [] → CountsAll kept all
+pub all_read : (kept : List Counting) (all left : List Entry) → HasRead kept all left → left ≡ [] → CountsAll kept all
 all_read kept all left has none = subst (CountsAll kept) (sym (has.split ∙ ap (λ l. has.read ++ l) none ∙ append-nil has.read)) has.counts
 
 -- so few entries can be counted, at each shard
-pub room_at : (kept : List Kept) (all left rest : List Entry) (e : Entry) → HasRead kept all left → left ≡ e ∷ rest → length all ≤ 2 ^ 64 - 1 → HasRoom (kept_at kept e.shard)
+pub room_at : (kept : List Counting) (all left rest : List Entry) (e : Entry) → HasRead kept all left → left ≡ e ∷ rest → length all ≤ 2 ^ 64 - 1 → CanCount (kept_at kept e.shard)
 room_at kept all left rest e has is few =
     let size : length all ≡ length has.read + suc (length rest) = ap length (has.split ∙ ap (λ l. has.read ++ l) is) ∙ length-append has.read (e ∷ rest) in
     let most = length-at_shard e.shard has.read in

@@ -15,8 +15,8 @@ use Rattle.zy_base.specs.declared.call.Call.{Call}
 use Rattle.zy_base.specs.declared.call.Call.TheVariants.{Flush}
 use Rattle.zy_base.specs.declared.call_reply.CallReply.{CallReply}
 use Rattle.zy_base.specs.Counted.{Keys, no_keys, keys_with, keys_after, is_get, is_set, is_hit, is_miss, one_if, calls_with, counted, CallCounts}
-use Rattle.zy_report.specs.Kept.{Kept}
-use Rattle.zy_report.specs.Tally.{calls_in, calls_of, AreKeysOf, CountsEntries, HasRoom, none_kept}
+use Rattle.zy_report.specs.Counting.{Counting}
+use Rattle.zy_report.specs.Tally.{calls_kept, calls_counted, AreKeysOf, CountsEntries, CanCount, none_kept}
 
 -- ---- calls
 
@@ -28,7 +28,7 @@ count_more : (test : Entry → Bool) (es : List Entry) (e : Entry) → count_by 
 count_more test es e = sum_by-append (λ x. cond (test x) 1 0) es (e ∷ []) ∙ one_more (test e) (count_by test es)
 
 -- the counts of calls with one more entry
-pub calls_more : (es : List Entry) (e : Entry) → calls_of (es ++ e ∷ []) ≡ calls_with (calls_of es) e.call e.reply
+pub calls_more : (es : List Entry) (e : Entry) → calls_counted (es ++ e ∷ []) ≡ calls_with (calls_counted es) e.call e.reply
 calls_more es e = λ i. record {
   gets = count_more (λ (e : Entry). is_get e.call) es e i;
   sets = count_more (λ (e : Entry). is_set e.call) es e i;
@@ -122,7 +122,7 @@ module _ (old new : List (Bor (List ℕ))) (key : Bor (List ℕ)) (keys : Keys) 
 -- ---- both
 
 -- one more entry is counted
-pub counts_more : (kept new : Kept) (es : List Entry) (e : Entry) → calls_in new ≡ calls_with (calls_in kept) e.call e.reply
+pub counts_more : (kept new : Counting) (es : List Entry) (e : Entry) → calls_kept new ≡ calls_with (calls_kept kept) e.call e.reply
     → ((keys : Keys) → AreKeysOf keys kept.keys → AreKeysOf (keys_with keys e.call e.reply) new.keys) → CountsEntries kept es → CountsEntries new (es ++ e ∷ [])
 counts_more kept new es e calls keys are = record {
   calls = calls ∙ ap (λ c. calls_with c e.call e.reply) are.calls ∙ sym (calls_more es e);
@@ -130,7 +130,7 @@ counts_more kept new es e calls keys are = record {
 }
 
 -- the counts of some entries
-pub counted_of : (kept : Kept) (es : List Entry) (size : ℕ) → CountsEntries kept es → size ≡ length kept.keys
+pub counted_of : (kept : Counting) (es : List Entry) (size : ℕ) → CountsEntries kept es → size ≡ length kept.keys
     → record { gets = kept.calls.gets; sets = kept.calls.sets; hits = kept.calls.hits; misses = kept.calls.misses; items = size } ≡ counted es
 counted_of kept es size are is = λ i. record {
   gets = (are.calls i).gets;
@@ -144,7 +144,7 @@ few_of : (test : Entry → Bool) (es : List Entry) (count : ℕ) → count ≡ c
 few_of test es count is few = let most = count_by-le-length test es in omega (arith, is, few, most)
 
 -- so few entries can be counted
-pub has_room : (kept : Kept) (es : List Entry) → CountsEntries kept es → length es < 2 ^ 64 - 1 → HasRoom kept
+pub has_room : (kept : Counting) (es : List Entry) → CountsEntries kept es → length es < 2 ^ 64 - 1 → CanCount kept
 has_room kept es are few = record {
   gets = few_of (λ (e : Entry). is_get e.call) es kept.calls.gets (ap (λ (c : CallCounts). c.gets) are.calls) few;
   sets = few_of (λ (e : Entry). is_set e.call) es kept.calls.sets (ap (λ (c : CallCounts). c.sets) are.calls) few;
@@ -156,7 +156,7 @@ pub nothing_counted : CountsEntries none_kept []
 nothing_counted = record { calls = refl; keys = no_keys_yet }
 
 -- what is kept was counted of no entry, where nothing is kept
-pub counts_none : (kept : Kept) → kept ≡ none_kept → CountsEntries kept []
+pub counts_none : (kept : Counting) → kept ≡ none_kept → CountsEntries kept []
 counts_none kept is = subst (λ k. CountsEntries k []) (sym is) nothing_counted
 
 -- a flush leaves no keys

@@ -1,4 +1,4 @@
-pub mod Kept
+pub mod Counting
 pub mod Report
 pub mod Tally
 pub mod Worked

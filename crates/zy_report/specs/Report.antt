@@ -19,8 +19,8 @@ abbrev pub counts_by_shard : List Entry → List Tallied
 counts_by_shard es = map (λ shard. counted (at_shard shard es)) (range_with_len 0 (shards_in es))
 
 -- no count is other than 0
-abbrev pub is_nothing : Tallied → Bool
-is_nothing counts =
+abbrev pub counts_nothing : Tallied → Bool
+counts_nothing counts =
     (counts.gets == 0) && (counts.sets == 0) && (counts.hits == 0) && (counts.misses == 0) && (counts.items == 0)
 
 -- the sums over some shards
@@ -51,7 +51,7 @@ line_text name counts =
 
 -- the line of a shard; none where each count is 0
 abbrev pub shard_text : ℕ → Tallied → List ℕ
-shard_text shard counts = if is_nothing counts then [] else line_text (decimal shard) counts
+shard_text shard counts = if counts_nothing counts then [] else line_text (decimal shard) counts
 
 -- the lines of shards, from this one on
 abbrev pub shards_text : ℕ → List Tallied → List ℕ

@@ -9,14 +9,14 @@ use Rattle.mc_stats.specs.Counts.{no_counts}
 use Rattle.zy_base.specs.declared.entry.Entry.{Entry}
 use Rattle.zy_base.specs.Counted.{Keys, no_keys, keys_after, CallCounts, is_get, is_set, is_hit, is_miss}
 use Rattle.zy_base.specs.Order.{at_shard}
-use Rattle.zy_report.specs.Kept.{Kept}
+use Rattle.zy_report.specs.Counting.{Counting}
 use Rattle.zy_report.specs.Report.{shards_in}
 
 -- ---- one shard
 
 -- the counts of calls that are kept
-abbrev pub calls_in : Kept → CallCounts
-calls_in kept = record {
+abbrev pub calls_kept : Counting → CallCounts
+calls_kept kept = record {
   gets = kept.calls.gets;
   sets = kept.calls.sets;
   hits = kept.calls.hits;
@@ -24,8 +24,8 @@ calls_in kept = record {
 }
 
 -- those of these entries
-abbrev pub calls_of : List Entry → CallCounts
-calls_of es = record {
+abbrev pub calls_counted : List Entry → CallCounts
+calls_counted es = record {
   gets = count_by (λ (e : Entry). is_get e.call) es;
   sets = count_by (λ (e : Entry). is_set e.call) es;
   hits = count_by (λ (e : Entry). is_hit e.call e.reply) es;
@@ -38,12 +38,12 @@ pub record AreKeysOf (keys : Keys) (list : List (List ℕ)) : Type 0 where
   pub size : length list ≡ len keys
 
 -- what is kept was counted of these entries
-pub record CountsEntries (kept : Kept) (es : List Entry) : Type 0 where
-  pub calls : calls_in kept ≡ calls_of es
+pub record CountsEntries (kept : Counting) (es : List Entry) : Type 0 where
+  pub calls : calls_kept kept ≡ calls_counted es
   pub keys : AreKeysOf (keys_after no_keys es) kept.keys
 
 -- each count of calls can be raised
-pub record HasRoom (kept : Kept) : Type 0 where
+pub record CanCount (kept : Counting) : Type 0 where
   pub gets : kept.calls.gets < 2 ^ 64 - 1
   pub sets : kept.calls.sets < 2 ^ 64 - 1
   pub hits : kept.calls.hits < 2 ^ 64 - 1
@@ -52,14 +52,14 @@ pub record HasRoom (kept : Kept) : Type 0 where
 -- ---- all shards
 
 -- nothing is counted
-abbrev pub none_kept : Kept
+abbrev pub none_kept : Counting
 none_kept = record { calls = no_counts; keys = [] }
 
 -- what is kept of a shard; of one past the last nothing is counted
-abbrev pub kept_at : List Kept → ℕ → Kept
+abbrev pub kept_at : List Counting → ℕ → Counting
 kept_at kept shard = get_or kept shard none_kept
 
 -- what is kept was counted of these entries, shard by shard
-pub record CountsAll (kept : List Kept) (es : List Entry) : Type 0 where
+pub record CountsAll (kept : List Counting) (es : List Entry) : Type 0 where
   pub size : length kept ≡ shards_in es
   pub each : (shard : ℕ) → CountsEntries (kept_at kept shard) (at_shard shard es)

@@ -2,8 +2,8 @@
 use Rattle.zy_base.specs.declared.tallied.Tallied.{Tallied}
 
 -- nothing is counted
-abbrev pub no_counts : Tallied
-no_counts = record { gets = 0; sets = 0; hits = 0; misses = 0; items = 0 }
+abbrev pub all_zero : Tallied
+all_zero = record { gets = 0; sets = 0; hits = 0; misses = 0; items = 0 }
 
 -- five numbers
 abbrev pub one_each : Tallied

@@ -1,6 +1,6 @@
 //! The table of counts.
 ghost use Rattle.std.specs.Prelude.{◌≡◌, ◌+◌, ◌++◌, IfOk, IfSome, OnOk, codes};
-ghost use Rattle.zy_report.specs.Report.{is_nothing, sums, shard_text, shards_text, table};
+ghost use Rattle.zy_report.specs.Report.{counts_nothing, sums, shard_text, shards_text, table};
 
 use crate::lines::append_line;
 use itoa::Buffer;
@@ -47,7 +47,7 @@ fn append_shards(text: &mut Blob, counts: &[Tallied]) -> Result<(), NoMemory>
 fn append_shard(text: &mut Blob, shard: u64, counts: Tallied) -> Result<(), NoMemory>
     ensures ok { OnOk result (text.new ≡ text.old ++ shard_text shard counts) }
 {
-    if is_nothing(counts) {
+    if counts_nothing(counts) {
         return Ok(());
     }
     let mut buffer = Buffer::new();
@@ -55,8 +55,8 @@ fn append_shard(text: &mut Blob, shard: u64, counts: Tallied) -> Result<(), NoMe
 }
 
 // No count is other than 0.
-fn is_nothing(counts: Tallied) -> bool
-    ensures value { result ≡ is_nothing counts }
+fn counts_nothing(counts: Tallied) -> bool
+    ensures value { result ≡ counts_nothing counts }
 {
     counts.gets == 0
         && counts.sets == 0

@@ -2,7 +2,7 @@
 ghost use Rattle.std.specs.Prelude.{◌≡◌, ◌≤◌, ◌<◌, ◌-◌, ◌^◌, ◌+◌, ◌++◌, ◌∷◌, [], List, ℕ, length, max, IfOk, OnOk};
 ghost use Rattle.zy_base.specs.declared.entry.Entry.{Entry};
 ghost use Rattle.zy_report.specs.Report.{counts_by_shard};
-ghost use Rattle.zy_report.specs.Tally.{HasRoom, CountsAll, kept_at};
+ghost use Rattle.zy_report.specs.Tally.{CanCount, CountsAll, kept_at};
 
 use crate::tally::Tally;
 use std::alloc::Global;
@@ -10,10 +10,7 @@ use zy_base::{Entry, NoMemory, Tallied};
 use zy_journal::{Journal, Walk};
 
 /// What is counted of each shard, from shard 0 up to the last one that an entry names.
-pub(crate) fn counts_by_shard(
-    alloc: Global,
-    journal: &Journal,
-) -> Result<Vec<Tallied>, NoMemory>
+pub(crate) fn counts_by_shard(alloc: Global, journal: &Journal) -> Result<Vec<Tallied>, NoMemory>
     ensures value { IfOk result (λ counts. counts.items ≡ counts_by_shard journal.now.entries) }
 {
     match tallies_of(alloc, journal) {
@@ -64,12 +61,8 @@ fn add_all<'j>(
 }
 
 // Counts one more entry, at its shard.
-fn add<'j>(
-    alloc: Global,
-    tallies: &mut Vec<Tally<'j>>,
-    entry: &'j Entry,
-) -> Result<(), NoMemory>
-    requires room { HasRoom (kept_at tallies.old.items entry.now.shard) }
+fn add<'j>(alloc: Global, tallies: &mut Vec<Tally<'j>>, entry: &'j Entry) -> Result<(), NoMemory>
+    requires room { CanCount (kept_at tallies.old.items entry.now.shard) }
     ensures ok { OnOk result ((es : List Entry) → CountsAll tallies.old.items es
         → CountsAll tallies.new.items (es ++ entry.now ∷ [])) }
 {
@@ -81,11 +74,7 @@ fn add<'j>(
 }
 
 // Makes the tallies up to that of a shard, where they are not there.
-fn make_up_to<'j>(
-    alloc: Global,
-    tallies: &mut Vec<Tally<'j>>,
-    shard: usize,
-) -> Result<(), NoMemory>
+fn make_up_to<'j>(alloc: Global, tallies: &mut Vec<Tally<'j>>, shard: usize) -> Result<(), NoMemory>
     requires within { shard < 2 ^ 32 }
     ensures size { OnOk result (length tallies.new.items ≡ max (length tallies.old.items) (shard + 1)) }
     ensures kept { (at : ℕ) → kept_at tallies.new.items at ≡ kept_at tallies.old.items at }

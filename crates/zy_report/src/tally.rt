@@ -4,7 +4,7 @@ ghost use Rattle.zy_base.specs.declared.entry.Entry.{Entry};
 ghost use Rattle.std.specs.FinMap.{insert, remove};
 ghost use Rattle.zy_base.specs.declared.call.Call.TheVariants.{Get};
 ghost use Rattle.zy_base.specs.Counted.{Keys, calls_with, keys_with, counted};
-ghost use Rattle.zy_report.specs.Tally.{HasRoom, CountsEntries, AreKeysOf, calls_in, none_kept};
+ghost use Rattle.zy_report.specs.Tally.{CanCount, CountsEntries, AreKeysOf, calls_kept, none_kept};
 
 use mc_stats::Counts;
 use std::alloc::Global;
@@ -23,9 +23,9 @@ pub(crate) struct Tally<'j> {
 
 impl<'j> Model for Tally<'j> {
     ghost use Rattle.std.specs.Prelude.{map};
-    ghost use Rattle.zy_report.specs.Kept.{Kept};
+    ghost use Rattle.zy_report.specs.Counting.{Counting};
 
-    ghost Value = { Kept };
+    ghost Value = { Counting };
 
     ghost view = { λ t. record { calls = t.calls; keys = map (λ key. key.now) t.keys.keys } };
 }
@@ -43,7 +43,7 @@ impl<'j> Tally<'j> {
 
     /// Counts one more entry.
     pub(crate) fn add(&mut self, entry: &'j Entry) -> Result<(), NoMemory>
-        requires room { HasRoom self.old }
+        requires room { CanCount self.old }
         ensures ok { OnOk result ((es : List Entry) → CountsEntries self.old es
             → CountsEntries self.new (es ++ entry.now ∷ [])) }
     {
@@ -53,8 +53,8 @@ impl<'j> Tally<'j> {
 
     // Counts the call.
     fn count_call(&mut self, call: &Call, reply: &CallReply)
-        requires room { HasRoom self.old }
-        ensures calls { calls_in self.new ≡ calls_with (calls_in self.old) call.now reply.now }
+        requires room { CanCount self.old }
+        ensures calls { calls_kept self.new ≡ calls_with (calls_kept self.old) call.now reply.now }
         ensures keys { self.new.keys ≡ self.old.keys }
     {
         match call {
@@ -72,8 +72,8 @@ impl<'j> Tally<'j> {
     // Counts a get. The file of a journal may have one with another reply, which is neither a hit nor
     // a miss.
     fn count_get(&mut self, reply: &CallReply)
-        requires room { HasRoom self.old }
-        ensures calls { (key : _) → calls_in self.new ≡ calls_with (calls_in self.old) (Get key) reply.now }
+        requires room { CanCount self.old }
+        ensures calls { (key : _) → calls_kept self.new ≡ calls_with (calls_kept self.old) (Get key) reply.now }
         ensures keys { self.new.keys ≡ self.old.keys }
     {
         match reply {

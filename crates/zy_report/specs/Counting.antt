@@ -3,6 +3,6 @@ use Rattle.std.specs.Prelude.{ℕ, List}
 use Rattle.mc_stats.specs.declared.counts.Counts.{Counts}
 
 -- the counts of calls, and the keys that have an item, each once
-pub record Kept : Type 0 where
+pub record Counting : Type 0 where
   pub calls : Counts
   pub keys : List (List ℕ)
