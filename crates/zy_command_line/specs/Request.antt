@@ -108,14 +108,17 @@ traffic_of options = option_and_then (λ number. option_and_then (λ conns. opti
 
 -- ---- commands
 
+-- the command that a word names, of those that read recorded packets or a journal
+abbrev pub reader_named : Word → Option Verb
+reader_named word = if bytes_eq word (codes "pcap") then Some Verbs.Pcap
+    else (if bytes_eq word (codes "report") then Some Verbs.Report else None)
+
 -- the command that a word names
 abbrev pub verb_named : Word → Option Verb
 verb_named word = if bytes_eq word (codes "run") then Some Verbs.Run
     else (if bytes_eq word (codes "check") then Some Verbs.Check
     else (if bytes_eq word (codes "gen") then Some Verbs.Gen
-    else (if bytes_eq word (codes "self") then Some Verbs.SelfTest
-    else (if bytes_eq word (codes "pcap") then Some Verbs.Pcap
-    else (if bytes_eq word (codes "report") then Some Verbs.Report else None)))))
+    else (if bytes_eq word (codes "self") then Some Verbs.SelfTest else reader_named word)))
 
 -- the options that a command takes
 abbrev pub names_of : Verb → List Word

@@ -9,6 +9,7 @@ use crate::answer::Answer;
 use crate::check::check_input;
 use crate::generate::make_traffic;
 use crate::packets::make_packets;
+use crate::report::report_journal;
 use crate::run::serve_capture;
 use crate::self_test::test_traffic;
 use std::alloc::Global;
@@ -46,6 +47,7 @@ pub(crate) fn carry_out<R: Threads + Wait + Sync, S: Source, K: Sink, G: Gate + 
             test_traffic(rt, alloc, traffic, run, sink, gate)
         }
         Ok(Some(Request::Pcap { port })) => make_packets(alloc, port, source, sink),
+        Ok(Some(Request::Report)) => report_journal(alloc, source, sink),
         Ok(None) => Answer::Usage,
         Err(_) => Answer::OutOfMemory,
     }

@@ -41,8 +41,8 @@ pub(crate) fn capture_of(alloc: Global, traffic: Traffic) -> Result<Blob, NoMemo
     generate(alloc, traffic.number, traffic.conns, traffic.commands)
 }
 
-// Writes the whole piece, and finishes.
-fn write_last<K: Sink>(sink: &mut K, piece: &[u8]) -> Result<(), Failed>
+/// Writes the whole piece, and finishes.
+pub(crate) fn write_last<K: Sink>(sink: &mut K, piece: &[u8]) -> Result<(), Failed>
     ensures writes { WritesLast K.holds K.faults K.finishes sink.old sink.new result piece.now }
 {
     write_whole(sink, piece)?;
