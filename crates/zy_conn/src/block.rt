@@ -23,7 +23,8 @@ use zy_shuffle::Marked;
 /// to hold it, and the list of its holds.
 #[derive(Drop)]
 pub struct Block {
-    work: Work,
+    // Blocks are passed on often, and their work is large.
+    work: Box<Work>,
     cores: u32,
     holds: Vec<Hold>,
 }
@@ -34,9 +35,9 @@ impl Model for Block {
 
     ghost Value = { Blocked };
 
-    ghost view = { λ b. blocked b.work b.cores b.holds.items };
+    ghost view = { λ b. blocked b.work.value b.cores b.holds.items };
 
-    ghost invariant = { λ b. AreHolds b.cores b.work.conn b.work.finished b.holds.items };
+    ghost invariant = { λ b. AreHolds b.cores b.work.value.conn b.work.value.finished b.holds.items };
 }
 
 impl Marked for Block {
@@ -67,14 +68,20 @@ impl Block {
         ensures returned { IfErr result (λ e. e.0 ≡ pass) }
     {
         match Work::new(alloc, pass) {
-            Ok((work, inlet)) => Ok((
-                Block {
-                    work,
-                    cores,
-                    holds: Vec::new(alloc),
-                },
-                inlet,
-            )),
+            Ok((work, inlet)) => match Box::new(alloc, work) {
+                Ok(work) => Ok((
+                    Block {
+                        work,
+                        cores,
+                        holds: Vec::new(alloc),
+                    },
+                    inlet,
+                )),
+                Err(refused) => {
+                    drop(inlet);
+                    Err((refused.value.into_pass(), NoMemory))
+                }
+            },
             Err(e) => Err(e),
         }
     }
@@ -169,7 +176,7 @@ impl Block {
         if self.holds.reserve(1).is_err() {
             return Err(NoMemory);
         }
-        let (count, end) = carry_out(&mut self.work, store, gate, core);
+        let (count, end) = carry_out(&mut *self.work, store, gate, core);
         if count > 0 {
             let conn = self.work.conn();
             self.holds.push_reserved(Hold { core, conn, count });
@@ -188,6 +195,6 @@ impl Block {
             cores: _,
             holds,
         } = self;
-        (work.into_pass(), Holds::from_vec(holds))
+        (Box::into_inner(work).into_pass(), Holds::from_vec(holds))
     }
 }
