@@ -14,11 +14,8 @@ use zy_rx::Outlet;
 use zy_shuffle::Ring;
 use zy_steal::Look;
 
-// The most items that a turn takes.
-const ITEMS_AT_ONCE: u32 = 64;
-
-// Takes items and has the home receive them, until none is known or there were 64. Says whether there
-// was one.
+// Has the home receive the next items, until none is known or there were 64. Says whether there was
+// one.
 pub(crate) fn receive_all(
     home: &mut Home,
     outlet: &mut Outlet,
@@ -35,13 +32,8 @@ pub(crate) fn receive_all(
     ensures refused { home.new.refused ≡ is_err result }
     ensures ring { outlet.new.ring ≡ outlet.old.ring }
 {
-    for taken in 0..ITEMS_AT_ONCE {
-        let Some(item) = outlet.take() else {
-            return Ok(taken > 0);
-        };
-        home.receive(ring, item)?;
-    }
-    Ok(true)
+    let count = home.receive_all(ring, outlet)?;
+    Ok(count > 0)
 }
 
 // Collects and settles blocks until there is none, or as many were collected as the home has
