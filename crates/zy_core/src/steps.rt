@@ -53,28 +53,12 @@ pub(crate) fn collect_all(home: &mut Home, ring: &Ring<Block>) -> Result<bool, N
     if !home.collect(ring)? {
         return Ok(false);
     }
-    collect_more(home, ring, places)?;
-    Ok(true)
-}
-
-// Collects and settles further blocks, until there is none, or `places` were collected.
-fn collect_more(home: &mut Home, ring: &Ring<Block>, places: u32) -> Result<(), NoMemory>
-    requires table { home.old.pass.table ≡ ring.now.id }
-    requires few { home.old.pass.count ≤ 2 ^ 62 }
-    requires live { home.old.refused ≡ false }
-    requires places { places ≤ 4096 }
-    ensures stands { OnOk result (StandsHome home.old home.new) }
-    ensures still { IsStill home.old home.new }
-    ensures kin { Kin home.old home.new × (home.new.ended ≡ home.old.ended) }
-    ensures count { home.new.pass.count ≤ home.old.pass.count + 4095 }
-    ensures refused { home.new.refused ≡ is_err result }
-{
     for _ in 1..places {
         if !home.collect(ring)? {
-            return Ok(());
+            return Ok(true);
         }
     }
-    Ok(())
+    Ok(true)
 }
 
 // Claims once at home. A block that was taken is held and settled; where none was, its cause is the

@@ -75,7 +75,7 @@ pub(crate) fn settle_at(
     requires table { pass.old.table ≡ ring.now.id }
     requires few { pass.old.count < 2 ^ 63 }
     requires due { IsDue pass.old place link.old block }
-    ensures ok { OnOk result (IsSettled place link.new pass.old pass.new slot.new) }
+    ensures ok { OnOk result (IsSettled place block link.new pass.old pass.new slot.new) }
     ensures err { OnErr result (IsPutBack pass.old pass.new slot.new) }
     ensures stands { OnOk result (StandsOn link.old link.new) }
     ensures same { SameLink link.old link.new }

@@ -21,7 +21,7 @@ impl Home {
         requires few { self.old.pass.count < 2 ^ 63 }
         requires live { self.old.refused ≡ false }
         requires out { IsOut self.old place block }
-        ensures settled { OnOk result (Settles place self.old self.new) }
+        ensures settled { OnOk result (Settles place block self.old self.new) }
         ensures stands { OnOk result (StandsHome self.old self.new) }
         ensures same { SameHome self.old self.new × (self.new.ended ≡ self.old.ended) }
         ensures refused { self.new.refused ≡ is_err result }
@@ -64,9 +64,9 @@ impl Home {
         }
     }
 
-    /// Claims once from the home's own queue. A block that was taken is held and settled; `Empty`
-    /// and `Raced` are answered exactly where the claim answers so. After a refusal a block that
-    /// was taken stays in the home's hand.
+    /// Claims once from the home's own queue. A block that was taken is held by the home's core, and
+    /// then settled; `Empty` and `Raced` are answered exactly where the claim answers so. After a
+    /// refusal a block that was taken stays in the home's hand.
     pub fn own<G: Gate>(
         &mut self,
         ring: &Ring<Block>,

@@ -1,6 +1,7 @@
-use Rattle.std.proofs.Common.{◌∙◌}
+use Rattle.std.proofs.Common.{◌∙◌, ap, subst}
 use Rattle.zy_table.specs.Name.{name_of}
 use Rattle.zy_table.proofs.NameLemmas.{same_id}
+use Rattle.zy_conn.specs.Hold.{IsRecorded}
 use Rattle.zy_steal.proofs.IdleLemmas.{takes_label, given_back}
 use Rattle.zy_home.specs.Idle.{mark_in}
 use Rattle.zy_home.specs.Place.{label_in}
@@ -12,8 +13,28 @@ hold-end-requires-clause-table g c =
 
 pub returns-in_ok-end-in-Took-clause-same : goal.returns-in_ok-end-in-Took-clause-same
 returns-in_ok-end-in-Took-clause-same g c =
-    (c.give_back.ensures.kept ∙ c.steal.ensures.kept, given_back mark_in label_in (name_of c.args.store.now.id) c.args.passes.now c.steal.new.passes c.give_back.new.self c.in-Took.victim c.in-Took.place c.in-Took.block c.steal.ensures.kept c.requires.idle c.in-Took.ensures.taken c.give_back.ensures.value)
+    (c.give_back.ensures.kept ∙ c.steal.ensures.kept, given_back mark_in label_in (name_of c.args.store.now.id) c.args.passes.now c.steal.new.passes c.give_back.new.self c.in-Took.victim c.in-Took.place c.in-Took.block c.hold-end.new.self c.steal.ensures.kept c.requires.idle c.in-Took.ensures.taken c.give_back.ensures.value)
 
 pub returns-in_err-end-in-Took-clause-same : goal.returns-in_err-end-in-Took-clause-same
 returns-in_err-end-in-Took-clause-same g c =
-    (c.give_back.ensures.kept ∙ c.steal.ensures.kept, given_back mark_in label_in (name_of c.args.store.now.id) c.args.passes.now c.steal.new.passes c.give_back.new.self c.in-Took.victim c.in-Took.place c.in-Took.block c.steal.ensures.kept c.requires.idle c.in-Took.ensures.taken c.give_back.ensures.value)
+    (c.give_back.ensures.kept ∙ c.steal.ensures.kept, given_back mark_in label_in (name_of c.args.store.now.id) c.args.passes.now c.steal.new.passes c.give_back.new.self c.in-Took.victim c.in-Took.place c.in-Took.block c.hold-end.new.self c.steal.ensures.kept c.requires.idle c.in-Took.ensures.taken c.give_back.ensures.value)
+
+pub returns-in_ok-end-in-Took-clause-value : goal.returns-in_ok-end-in-Took-clause-value
+returns-in_ok-end-in-Took-clause-value g c = record {
+  victim = c.in-Took.victim;
+  place = c.in-Took.place;
+  block = c.in-Took.block;
+  between = c.steal.new.passes;
+  takes = c.in-Took.ensures.taken;
+  held = c.hold-end.new.self;
+  end = c.in_ok-end.end;
+  holds = record {
+    ends = c.in_ok-end.ensures.end;
+    recorded = subst (λ n. IsRecorded n c.in-Took.block c.hold-end.new.self) c.requires.core.0 c.hold-end.ensures.holds;
+    more = c.hold-end.ensures.more;
+    limit = c.hold-end.ensures.limit;
+    mark = c.hold-end.ensures.mark;
+    label = ap name_of c.hold-end.ensures.table;
+  };
+  gives = c.give_back.ensures.value;
+}

@@ -39,7 +39,22 @@ returns-in-Raced-clause-stands g c items s = (let old = subst (λ (h : Homed). H
 
 -- the answers
 pub returns-in-Ok-settle-clause-value : goal.returns-in-Ok-settle-clause-value
-returns-in-Ok-settle-clause-value g c = rw (← c.self.view_is) (c.in-Took.place, c.in-Took.block, c.claim_home.new.home, c.in-Took.ensures.value, (c.hold.new.self, c.in-Ok.ensures.end), c.in-Ok-settle.ensures.settled)
+returns-in-Ok-settle-clause-value g c = rw (← c.self.view_is) (
+  c.in-Took.place,
+  c.in-Took.block,
+  c.hold.new.self,
+  c.claim_home.new.home,
+  c.in-Took.ensures.value,
+  record {
+    ends = c.in-Ok.ensures.end;
+    recorded = c.hold.ensures.holds;
+    more = c.hold.ensures.more;
+    limit = c.hold.ensures.limit;
+    mark = c.hold.ensures.mark;
+    label = ap name_of c.hold.ensures.table;
+  },
+  c.in-Ok-settle.ensures.settled,
+)
 
 pub invariant_of-self-in-Err : goal.invariant_of-self-in-Err
 invariant_of-self-in-Err g c =
