@@ -1,12 +1,15 @@
 -- What a home keeps while it cuts items, and while it settles the blocks that these touched.
-use Rattle.std.specs.Prelude.{◌||◌, ◌==◌, map, is_some, slice_set}
-use Rattle.std.proofs.Common.{◌≡◌, ◌≢◌, ℕ, ◌+◌, ◌<◌, ◌≤◌, List, [], ◌∷◌, ◌++◌, length, set, get_or, Bool, true, false, Option, Some, None, slice_get, refl, sym, ap, ◌∙◌, subst, arith, append_assoc, append-nil, length-append, length-set}
+use Rattle.std.specs.Prelude.{◌||◌, ◌==◌, map, is_some}
+use Rattle.std.proofs.Common.{◌≡◌, ◌≢◌, ℕ, ◌+◌, ◌<◌, ◌≤◌, List, [], ◌∷◌, ◌++◌, length, drop, set, get_or, Bool, true, false, Option, Some, None, slice_get, refl, sym, ap, ◌∙◌, subst, arith, append_assoc, append-nil, length-append, length-set}
+use Rattle.std.specs.List.{slice_index_or}
+use Rattle.std.proofs.lemmas.List.{drop_more}
 use mathlib.Core.Logic.{dite}
 use native.Mathlib.Decide.{ℕ_discrete}
 use Rattle.zy_table.specs.Member.{is_in}
 use Rattle.zy_table.proofs.MemberLemmas.{in_cons, in_front, in_more}
 use Rattle.zy_table.proofs.SliceLemmas.{get_at, get_below, get_set_else, get_set_same, set_there}
 use Rattle.zy_rx.specs.declared.rx.Rx.{Rx}
+use Rattle.zy_rx.specs.Ring.{Taking}
 use Rattle.zy_rx.specs.declared.rx.Rx.TheVariants.{Segment, Close, End}
 use Rattle.zy_shuffle.specs.Hand.{marked}
 use Rattle.zy_shuffle.specs.Pass.{Held, after_publish}
@@ -17,12 +20,12 @@ use Rattle.zy_home.specs.Offer.{WaitsFull}
 use Rattle.zy_home.specs.Own.{IsOfOthers, item_conn, is_end}
 use Rattle.zy_home.specs.Idle.{IsIdle, due_mark, mark_in}
 use Rattle.zy_home.specs.Home.{Homed, Keeps, HomeStands, SameHome, StandsHome, StandsMore, IsAt, IsHere, conns_in}
-use Rattle.zy_home.specs.Place.{ComesTo, Settles, SameHand}
-use Rattle.zy_home.specs.Items.{Cuts, CutsEach, RefusedAmid, SameFor, SameParts, SettlesEach, StandsAll}
+use Rattle.zy_home.specs.Place.{ComesTo, SameHand}
+use Rattle.zy_home.specs.Items.{Cuts, CutsEach, ReceivesAll, RefusedAmid, SameFor, SameParts, SettlesEach, StandsAll}
 use Rattle.zy_home.specs.Turn.{IsDue, IsSettled, IsPutBack, Turns, turned}
-use Rattle.zy_home.specs.Between.{IsBetween, Between, StaysIdle, CutsIn, CutsAll, CutsFrom, SettlesIn}
+use Rattle.zy_home.specs.Between.{IsBetween, Between, StaysIdle, CutsIn, CutsAll, CutsFrom, SettlesIn, SettlesOn}
 use Rattle.zy_home.proofs.TurnLemmas.{at_else, turned_conns, turned_keeps, turned_stands}
-use Rattle.zy_home.proofs.SettleLemmas.{same_turns, settled_turns, settles}
+use Rattle.zy_home.proofs.SettleLemmas.{Stepped, stepped, same_hand, same_turns, settled_turns, back_turns, settles}
 use Rattle.zy_home.proofs.ReceiveLemmas.{for_is, is_for, is_the_end, link_own, more_at, more_behind, more_end, more_none, no_end, not_others, apart}
 
 -- ---- an item that is for no place
@@ -90,20 +93,16 @@ pub cuts_more : (a b c : Homed) (items : List Rx) (item : Rx) → CutsEach a ite
 cuts_more a b c [] item s t = (c, cuts_from a b c item s t, same_parts c)
 cuts_more a b c (x ∷ xs) item s t = (s.0, s.1, cuts_more s.0 b c xs item s.2 t)
 
+pub each_from : (a b c : Homed) (items : List Rx) → SameParts a b → CutsEach b items c → CutsEach a items c
+each_from a b c [] s t = same_parts_on a b c s t
+each_from a b c (x ∷ xs) s t = (t.0, cuts_from a b t.0 x s t.1, t.2)
+
+pub each_on : (a b c : Homed) (items more : List Rx) → CutsEach a items b → CutsEach b more c → CutsEach a (items ++ more) c
+each_on a b c [] more s t = each_from a b c more s t
+each_on a b c (x ∷ xs) more s t = (s.0, s.1, each_on s.0 b c xs more s.2 t)
+
 pub stands_more : (a b c : Homed) (items : List Rx) (item : Rx) → StandsAll a items b → StandsMore b item c → StandsAll a (items ++ item ∷ []) c
 stands_more a b c items item s t earlier h = subst (HomeStands c) (append_assoc earlier items (item ∷ [])) (t (earlier ++ items) (s earlier h))
-
-pub settles_same : (a b c : Homed) (places : List ℕ) → SameParts a b → SettlesEach b places c → SettlesEach a places c
-settles_same a b c [] s t = same_parts_on a b c s t
-settles_same a b c (p ∷ ps) s t = (t.0, settles_from p a b t.0 s t.1, t.2)
-  where
-    settles_from : (p : ℕ) (a b c : Homed) → SameParts a b → Settles p b c → Settles p a c
-    settles_from p a b c s t = record {
-      block = t.block;
-      event = λ e. let r = t.event e in (subst (λ w. c.pass ≡ after_publish p t.block w c.pass.trace) s.0 r.0, r.1 ∙ ap (λ bs. slice_set bs p None) s.1);
-      idle = λ e. let r = t.idle e in (r.0 ∙ s.0, r.1 ∙ ap (λ bs. slice_set bs p (Some t.block)) s.1);
-      behind = t.behind;
-    }
 
 -- ---- what stays
 
@@ -139,6 +138,9 @@ between_none h k live = record { each = λ p x l eb el. go p x l (k.each live p 
     go : (p : ℕ) (x : Option Blocked) (l : Link) → IsAt h.pass p l x → IsBetween [] h.pass p l x
     go p None l at = at
     go p (Some b) l at = (at.0, λ e. at.1)
+
+pub between_amid : (h : Homed) (touched : List ℕ) → Keeps h → h.refused ≡ false → touched ≡ [] → Between (record h { refused = true }) touched
+between_amid h touched k live none = let b = between_none h k live in subst (Between (record h { refused = true })) (sym none) (record { each = b.each; near = b.near })
 
 pub each_at : (h : Homed) → Between h [] → (p : ℕ) (x : Option Blocked) (l : Link) → slice_get h.blocks p ≡ Some x → slice_get h.links p ≡ Some l → IsAt h.pass p l x
 each_at h b p x l eb el = go x (b.each p x l eb el)
@@ -272,27 +274,27 @@ cut_past h touched b item none = record {
 
 -- ---- items one after another
 
--- no item was cut yet
-pub cuts_none : (h : Homed) (taken : List Rx) → Between h [] → CutsAll h taken h taken [] 0
-cuts_none h taken b = record {
-  items = [];
-  size = refl;
+-- the first item was cut
+pub cuts_first : (h h' : Homed) (taken : List Rx) (touched' : List ℕ) (item : Rx) → CutsIn h [] item h' touched' → SameFor 0 h h' → CutsAll item h taken h' taken touched' 1
+cuts_first h h' taken touched' item t same = record {
+  more = [];
+  size = omega arith;
   taken_is = sym (append-nil taken);
-  cuts = same_parts h;
-  stands = λ earlier s. subst (HomeStands h) (sym (append-nil earlier)) s;
-  same = same_for_none h;
-  between = b;
-  room = omega arith;
-  still = λ e. (same_parts h, refl);
+  cuts = (h', t.cuts, same_parts h');
+  stands = t.stands;
+  same = same;
+  between = t.between;
+  room = t.room;
+  still = λ e. let new = t.still e in ((ap (λ (z : Homed). z.pass) new.0, ap (λ (z : Homed). z.blocks) new.0, ap (λ (z : Homed). z.links) new.0, ap (λ (z : Homed). z.ended) new.0), new.1);
 }
 
-pub cuts_next : (h m h' : Homed) (taken now : List Rx) (touched touched' : List ℕ) (item : Rx) (count : ℕ) → CutsAll h taken m now touched count → CutsIn m touched item h' touched' → SameFor 0 m h' → CutsAll h taken h' (now ++ item ∷ []) touched' (count + 1)
-cuts_next h m h' taken now touched touched' item count s t same = record {
-  items = s.items ++ item ∷ [];
-  size = (let a = length-append s.items (item ∷ []) in let b = s.size in omega arith);
-  taken_is = ap (λ l. l ++ item ∷ []) s.taken_is ∙ append_assoc taken s.items (item ∷ []);
-  cuts = cuts_more h m h' s.items item s.cuts t.cuts;
-  stands = stands_more h m h' s.items item s.stands t.stands;
+pub cuts_next : (first : Rx) (h m h' : Homed) (taken now next : List Rx) (touched touched' : List ℕ) (item : Rx) (count : ℕ) → CutsAll first h taken m now touched count → CutsIn m touched item h' touched' → SameFor 0 m h' → next ≡ now ++ item ∷ [] → CutsAll first h taken h' next touched' (count + 1)
+cuts_next first h m h' taken now next touched touched' item count s t same is = record {
+  more = s.more ++ item ∷ [];
+  size = (let a = length-append s.more (item ∷ []) in let b = s.size in omega arith);
+  taken_is = is ∙ ap (λ l. l ++ item ∷ []) s.taken_is ∙ append_assoc taken s.more (item ∷ []);
+  cuts = cuts_more h m h' (first ∷ s.more) item s.cuts t.cuts;
+  stands = stands_more h m h' (first ∷ s.more) item s.stands t.stands;
   same = same_for_on 0 0 0 h m h' s.same same (omega arith);
   between = t.between;
   room = (let a = t.room in let b = s.room in omega arith);
@@ -302,14 +304,26 @@ cuts_next h m h' taken now touched touched' item count s t same = record {
       ((ap (λ (z : Homed). z.pass) new.0 ∙ old.0.0, ap (λ (z : Homed). z.blocks) new.0 ∙ old.0.1, ap (λ (z : Homed). z.links) new.0 ∙ old.0.2, ap (λ (z : Homed). z.ended) new.0 ∙ old.0.3), new.1 ∙ old.1);
 }
 
--- memory was refused at an item
-pub cut_refused : (h m h' : Homed) (taken now : List Rx) (touched : List ℕ) (count : ℕ) → CutsAll h taken m now touched count → SameHand m h' → RefusedAmid h h'
-cut_refused h m h' taken now touched count s hand = record { items = s.items; cut = m; cuts = s.cuts; places = []; between = m; settles = same_parts m; hand = hand }
+-- memory was refused at the first item, or at a later one
+pub first_refused : (h h' : Homed) → SameHand h h' → RefusedAmid h h'
+first_refused h h' hand = record { items = []; cut = h; cuts = same_parts h; places = []; between = h; settles = same_parts h; hand = hand }
+
+pub cut_refused : (first : Rx) (h m h' : Homed) (taken now : List Rx) (touched : List ℕ) (count : ℕ) → CutsAll first h taken m now touched count → SameHand m h' → RefusedAmid h h'
+cut_refused first h m h' taken now touched count s hand = record { items = first ∷ s.more; cut = m; cuts = s.cuts; places = []; between = m; settles = same_parts m; hand = hand }
 
 -- ---- a block is settled
 
+-- nothing was to be settled
+pub settles_none : (h : Homed) (rest : List ℕ) → Between h rest → SettlesIn h h rest
+settles_none h rest b = record { between = b; stands = λ items s. s; ended = refl; chain = λ places last s. (places, s) }
+
+-- the first of the places that are left
+pub between_first : (h h0 : Homed) → h ≡ h0 → (ts items : List ℕ) (at : ℕ) → at < length ts → items ≡ ts → Between h0 (drop at ts) → Between h (slice_index_or items at 0 ∷ drop (at + 1) ts)
+between_first h h0 same ts items at lt is b =
+    subst (Between h) (drop_more ts at 0 lt ∙ ap (λ xs. slice_index_or xs at 0 ∷ drop (at + 1) ts) (sym is)) (subst (λ z. Between z (drop at ts)) (sym same) b)
+
 module _ (h : Homed) (k : Keeps h) (amid : h.refused ≡ true) (p : ℕ) (rest : List ℕ) (b : Between h (p ∷ rest)) (l m : Link) (x0 : Option Blocked) (slot : x0 ≡ get_or h.blocks p x0) (at : l ≡ get_or h.links p l) where
-  touched_near : p < length h.blocks
+  pub touched_near : p < length h.blocks
   touched_near = b.near p (in_front p rest)
 
   pub touched_there : slice_get h.links p ≡ Some l
@@ -328,6 +342,16 @@ module _ (h : Homed) (k : Keeps h) (amid : h.refused ≡ true) (p : ℕ) (rest :
   rest_else : (q : ℕ) → q ≢ p → is_in q rest ≡ is_in q (p ∷ rest)
   rest_else q ne = sym (in_cons p q rest ne)
 
+  pub near_links : p < length h.links
+  near_links = let near = touched_near in let long = k.long in omega arith
+
+  -- the home with what is at the place
+  home_same : (x : Option Blocked) → x ≡ x0 → record h { blocks = set h.blocks p x; links = set h.links p l } ≡ h
+  home_same x same = λ i. record h {
+    blocks = (ap (set h.blocks p) same ∙ set_there h.blocks p x0 touched_slot) i;
+    links = set_there h.links p l touched_there i;
+  }
+
   -- no block was in the slot
   pub rest_none : x0 ≡ None → Between h rest
   rest_none none = record {
@@ -339,16 +363,29 @@ module _ (h : Homed) (k : Keeps h) (amid : h.refused ≡ true) (p : ℕ) (rest :
     near = λ q e. b.near q (in_more p q rest e);
   }
 
+  pub rest_home : (x : Option Blocked) → x ≡ x0 → x0 ≡ None → SettlesIn h (record h { blocks = set h.blocks p x; links = set h.links p l }) rest
+  rest_home x same none = subst (λ z. SettlesIn h z rest) (sym (home_same x same)) (settles_none h rest (rest_none none))
+
   module _ (w : Held Blocked) (x : Option Blocked) (conn : conn_of m ≡ conn_of l) where
-    -- it was settled
-    pub touched_turns : (c : Blocked) → x0 ≡ Some c → IsSettled p m h.pass w x → Turns h p x l m w h.refused
-    touched_turns c e s = settled_turns h p l m w x h.refused touched_there conn (λ e. e) (touched_due c e).hand s
-
-    settled_at : (c : Blocked) → x0 ≡ Some c → IsSettled p m h.pass w x → IsAt w p m x
-    settled_at c e s = (settled_turns (record h { refused = false }) p l m w x false touched_there conn (λ e. refl) (touched_due c e).hand s).at refl
-
     abbrev pub settled_home : Homed
     settled_home = turned h p x m w h.refused
+
+    -- it was settled
+    pub touched_turns : (c : Blocked) → x0 ≡ Some c → IsSettled p c m h.pass w x → Turns h p x l m w h.refused
+    touched_turns c e s = settled_turns h p l m w x h.refused touched_there conn c (λ e. e) (touched_due c e).hand s
+
+    settled_at : (c : Blocked) → x0 ≡ Some c → IsSettled p c m h.pass w x → IsAt w p m x
+    settled_at c e s = (settled_turns (record h { refused = false }) p l m w x false touched_there conn c (λ e. refl) (touched_due c e).hand s).at refl
+
+    -- memory was refused, and it is in its slot again
+    pub touched_back : (c : Blocked) → x0 ≡ Some c → IsPutBack h.pass w x → Stepped h settled_home l m × SameHand h settled_home
+    touched_back c e s = (
+      stepped h p x l m w h.refused k (back_turns h p l m w x h.refused touched_there conn amid (touched_due c e).hand s),
+      same_hand h p m w x (Some c) h.refused (touched_slot ∙ ap Some e) s,
+    )
+
+    pub touched_step : (c : Blocked) → x0 ≡ Some c → IsSettled p c m h.pass w x → Stepped h settled_home l m
+    touched_step c e s = stepped h p x l m w h.refused k (touched_turns c e s)
 
     rest_at : IsAt w p m x → IsBetween rest w p m x
     rest_at = go x
@@ -357,7 +394,7 @@ module _ (h : Homed) (k : Keeps h) (amid : h.refused ≡ true) (p : ℕ) (rest :
         go None r = r
         go (Some d) r = (r.0, λ _. r.1)
 
-    pub touched_settles : (c : Blocked) → x0 ≡ Some c → IsSettled p m h.pass w x → StandsOn l m → SettlesIn h settled_home rest
+    pub touched_settles : (c : Blocked) → x0 ≡ Some c → IsSettled p c m h.pass w x → StandsOn l m → SettlesIn h settled_home rest
     touched_settles c e s stands =
         let t = touched_turns c e s in record {
           between = record {
@@ -372,12 +409,8 @@ module _ (h : Homed) (k : Keeps h) (amid : h.refused ≡ true) (p : ℕ) (rest :
           };
           stands = turned_stands h p x l m w h.refused t stands;
           ended = refl;
-          chain = λ places last rest. (p ∷ places, (settled_home, (settles h p l m w x h.refused touched_there conn s, rest)));
+          chain = λ places last rest. (p ∷ places, (settled_home, record { given = c; there = touched_slot ∙ ap Some e; settles = settles h p l m w x h.refused touched_there conn c s }, rest));
         }
-
--- nothing was to be settled
-pub settles_none : (h : Homed) (rest : List ℕ) → Between h rest → SettlesIn h h rest
-settles_none h rest b = record { between = b; stands = λ items s. s; ended = refl; chain = λ places last s. (places, s) }
 
 pub settles_next : (h m h' : Homed) (rest rest' : List ℕ) → SettlesIn h m rest → SettlesIn m h' rest' → SettlesIn h h' rest'
 settles_next h m h' rest rest' s t = record {
@@ -386,3 +419,88 @@ settles_next h m h' rest rest' s t = record {
   ended = t.ended ∙ s.ended;
   chain = λ places last c. let d = t.chain places last c in s.chain d.0 last d.1;
 }
+
+-- ---- the call
+
+-- memory was refused when a block was settled
+pub settle_refused : (h m h' : Homed) (rest : List ℕ) → SettlesIn h m rest → SameHand m h' → RefusedAmid h h'
+settle_refused h m h' rest s hand = let all = s.chain [] m (same_parts m) in record { items = []; cut = h; cuts = same_parts h; places = all.0; between = m; settles = all.1; hand = hand }
+
+pub refused_from : (a b c : Homed) → SameParts a b → RefusedAmid b c → RefusedAmid a c
+refused_from a b c s r = record { items = r.items; cut = r.cut; cuts = each_from a b r.cut r.items s r.cuts; places = r.places; between = r.between; settles = r.settles; hand = r.hand }
+
+pub refused_on : (a b c : Homed) (items : List Rx) → CutsEach a items b → RefusedAmid b c → RefusedAmid a c
+refused_on a b c items s r = record { items = items ++ r.items; cut = r.cut; cuts = each_on a b r.cut items r.items s r.cuts; places = r.places; between = r.between; settles = r.settles; hand = r.hand }
+
+-- the home while items are received, and at the end
+abbrev pub amid : Homed → Homed
+amid h = record h { refused = true }
+
+abbrev pub again : Homed → Homed
+again h = record h { refused = false }
+
+module _ (h m n : Homed) (o o1 o2 : Taking) (first : Rx) (touched : List ℕ) (count : ℕ) (live : h.refused ≡ false) (before : o1.taken ≡ o.taken ++ first ∷ []) (c : CutsFrom first (amid h) o1 m o2 touched count) where
+  all_cut : CutsAll first (amid h) o1.taken m o2.taken touched count
+  all_cut = c.whole
+
+  pub received_all : SettlesOn m n [] 64 → ReceivesAll h o (again n) o2 count
+  received_all s =
+      let chain = s.on.chain [] (again n) (refl, refl, refl, refl) in record {
+        items = first ∷ all_cut.more;
+        size = (let size = all_cut.size in omega arith);
+        taken = all_cut.taken_is ∙ ap (λ l. l ++ all_cut.more) before ∙ append_assoc o.taken (first ∷ []) all_cut.more;
+        few = c.few;
+        all = c.known;
+        none = λ e. absurd (let size = all_cut.size in omega arith);
+        stands = λ earlier k. let last = s.on.stands (earlier ++ (first ∷ all_cut.more)) (all_cut.stands earlier (record { ended = k.ended; links = k.links })) in record { ended = last.ended; links = last.links };
+        cut = m;
+        cuts = each_from h (amid h) m (first ∷ all_cut.more) (refl, refl, refl, refl) all_cut.cuts;
+        places = chain.0;
+        settles = chain.1;
+      }
+
+  pub received_same : SettlesOn m n [] 64 → SameFor 64 h (again n)
+  received_same s = let t = same_for_on 0 64 64 (amid h) m n all_cut.same s.same (omega arith) in record {
+    core = t.core;
+    cores = t.cores;
+    count = t.count;
+    table = t.table;
+    label = t.label;
+    out = t.out;
+    conns = t.conns;
+    few = t.few;
+  }
+
+  -- after the end nothing changes
+  pub received_still : h.ended ≡ true → n ≡ m → again n ≡ h
+  received_still e same =
+      let parts = (all_cut.still e).0 in
+      let t = all_cut.same in
+      ap again same ∙ (λ i. record {
+        core = t.core i;
+        cores = t.cores i;
+        count = t.count i;
+        pass = parts.0 i;
+        blocks = parts.1 i;
+        links = parts.2 i;
+        ended = parts.3 i;
+        refused = sym live i;
+      })
+
+  pub received_none : h.ended ≡ true → touched ≡ []
+  received_none e = (all_cut.still e).1
+
+  pub received_refused : (h' : Homed) → RefusedAmid m h' → RefusedAmid h h'
+  received_refused h' r = refused_from h (amid h) h' (refl, refl, refl, refl) (refused_on (amid h) m h' (first ∷ all_cut.more) all_cut.cuts r)
+
+  pub received_refused_same : (k : ℕ) (h' : Homed) → SameFor k m h' → SameFor k h h'
+  received_refused_same k h' s = let t = same_for_on 0 k k (amid h) m h' all_cut.same s (omega arith) in record {
+    core = t.core;
+    cores = t.cores;
+    count = t.count;
+    table = t.table;
+    label = t.label;
+    out = t.out;
+    conns = t.conns;
+    few = t.few;
+  }

@@ -39,24 +39,23 @@ pub record CutsIn (h : Homed) (touched : List ℕ) (item : Rx) (h' : Homed) (tou
   pub room : length touched' ≤ length touched + 1
   pub still : h.ended ≡ true → (h' ≡ h) × (touched' ≡ touched)
 
--- items were taken and cut
-pub record CutsAll (h : Homed) (taken : List Rx) (h' : Homed) (taken' : List Rx) (touched' : List ℕ)
+-- this item, and those that were taken after it, were cut
+pub record CutsAll (first : Rx) (h : Homed) (taken : List Rx) (h' : Homed) (taken' : List Rx) (touched' : List ℕ)
     (count : ℕ) : Type 0 where
-  pub items : List Rx
-  pub size : length items ≡ count
-  pub taken_is : taken' ≡ taken ++ items
-  pub cuts : CutsEach h items h'
-  pub stands : StandsAll h items h'
+  pub more : List Rx
+  pub size : length more + 1 ≡ count
+  pub taken_is : taken' ≡ taken ++ more
+  pub cuts : CutsEach h (first ∷ more) h'
+  pub stands : StandsAll h (first ∷ more) h'
   pub same : SameFor 0 h h'
   pub between : Between h' touched'
   pub room : length touched' ≤ count
   pub still : h.ended ≡ true → SameParts h h' × (touched' ≡ [])
 
--- the same, where the first item was taken before
+-- the same, up to 64, until no further item was known
 pub record CutsFrom (first : Rx) (h : Homed) (o : Taking) (h' : Homed) (o' : Taking) (touched' : List ℕ)
     (count : ℕ) : Type 0 where
-  pub whole : (taken : List Rx) → o.taken ≡ taken ++ first ∷ [] → CutsAll h taken h' o'.taken touched' count
-  pub some : 1 ≤ count
+  pub whole : CutsAll first h o.taken h' o'.taken touched' count
   pub few : count ≤ 64
   pub known : count < 64 → o'.known ≡ []
 

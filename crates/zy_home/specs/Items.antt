@@ -3,6 +3,7 @@
 use Rattle.std.specs.Prelude.{◌≡◌, ℕ, ◌+◌, ◌<◌, ◌≤◌, List, [], ◌∷◌, ◌++◌, length, ◌||◌, Some, None, slice_get}
 use Rattle.zy_rx.specs.declared.rx.Rx.{Rx}
 use Rattle.zy_rx.specs.Ring.{Taking}
+use Rattle.zy_conn.specs.Block.{Blocked}
 use Rattle.zy_home.specs.Link.{Link}
 use Rattle.zy_home.specs.Offer.{WaitsFull}
 use Rattle.zy_home.specs.Own.{is_end}
@@ -30,10 +31,16 @@ abbrev pub CutsEach : Homed → List Rx → Homed → Type 0
 CutsEach h [] h' = SameParts h h'
 CutsEach h (item ∷ items) h' = (next : Homed) × Cuts h item next × CutsEach next items h'
 
+-- the block of a place was in the hand, and was settled
+pub record SettlesHere (place : ℕ) (h h' : Homed) : Type 0 where
+  pub given : Blocked
+  pub there : slice_get h.blocks place ≡ Some (Some given)
+  pub settles : Settles place given h h'
+
 -- the blocks of these places were settled, one after another
 abbrev pub SettlesEach : Homed → List ℕ → Homed → Type 0
 SettlesEach h [] h' = SameParts h h'
-SettlesEach h (place ∷ places) h' = (next : Homed) × Settles place h next × SettlesEach next places h'
+SettlesEach h (place ∷ places) h' = (next : Homed) × SettlesHere place h next × SettlesEach next places h'
 
 -- ---- the call
 

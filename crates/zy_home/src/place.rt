@@ -1,5 +1,5 @@
 //! The steps at one place of a home: what is done with a block, its link and the pass.
-ghost use Rattle.std.specs.Prelude.{◌≡◌, ◌≢◌, ◌<◌, ◌^◌, ℕ, false, OnOk, OnErr, IfOk, IfSome, IfNone, Some, None, slice_get};
+ghost use Rattle.std.specs.Prelude.{◌≡◌, ◌≢◌, ◌<◌, ◌^◌, ◌||◌, ℕ, false, OnOk, OnErr, IfOk, IfSome, IfNone, Some, None, slice_get};
 ghost use Rattle.zy_home.specs.Link.{Link, SameLink, StandsOn, TakesIn, IsFor, conn_of};
 ghost use Rattle.zy_home.specs.Offer.{WaitsFull};
 ghost use Rattle.zy_home.specs.Idle.{due_mark};
@@ -26,11 +26,11 @@ pub(crate) fn conn_in(item: &Rx) -> Option<u32>
     }
 }
 
-// Whether an item is the end.
-pub(crate) fn is_end(item: &Rx) -> bool
-    ensures value { result ≡ is_end item.now }
+// Whether the end was received, once this item is.
+pub(crate) fn ended_by(ended: bool, item: &Rx) -> bool
+    ensures value { result ≡ (ended || is_end item.now) }
 {
-    matches!(item, Rx::End)
+    ended || matches!(item, Rx::End)
 }
 
 // The place of a connection, found by halving.

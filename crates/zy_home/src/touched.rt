@@ -7,7 +7,7 @@ use std::marker::Model;
 /// Up to 64 places. Contracts see the list of them. It takes no memory.
 #[derive(Drop)]
 pub struct Touched {
-    places: ArrayVec<u32, 64>,
+    places: ArrayVec<usize, 64>,
 }
 
 impl Model for Touched {
@@ -29,7 +29,7 @@ impl Touched {
     }
 
     // One further place.
-    pub(crate) fn push(&mut self, place: u32)
+    pub(crate) fn push(&mut self, place: usize)
         requires few { length self.old < 64 }
         ensures value { self.new ≡ self.old ++ place ∷ [] }
     {
@@ -37,7 +37,7 @@ impl Touched {
     }
 
     // The places, in their order.
-    pub(crate) fn items(&self) -> &[u32]
+    pub(crate) fn items(&self) -> &[usize]
         ensures value { result.now ≡ self.now }
     {
         self.places.as_slice()

@@ -7,7 +7,7 @@ ghost use Rattle.zy_home.specs.Items.{ReceivesAll, RefusedAmid, SameFor};
 ghost use Rattle.zy_home.specs.Between.{Between, CutsFrom, CutsIn, SettlesIn, SettlesOn};
 
 use super::Home;
-use crate::place::{cut_at, is_end, settle_at};
+use crate::place::{cut_at, ended_by, settle_at};
 use crate::touched::Touched;
 use std::mem;
 use zy_base::NoMemory;
@@ -70,14 +70,18 @@ impl Home {
         ensures ring { outlet.new.ring ≡ outlet.old.ring }
         ensures live { self.old.ended ≡ true → is_err result ≡ false }
     {
-        if let Err(e) = self.cut_in(first, touched) {
+        let cut = self.cut_in(&first, touched);
+        drop(first);
+        if let Err(e) = cut {
             return Err(e);
         }
         for count in 1..ITEMS_AT_ONCE {
             let Some(item) = outlet.take() else {
                 return Ok(count);
             };
-            if let Err(e) = self.cut_in(item, touched) {
+            let cut = self.cut_in(&item, touched);
+            drop(item);
+            if let Err(e) = cut {
                 return Err(e);
             }
         }
@@ -87,18 +91,18 @@ impl Home {
 
 impl Home {
     // Cuts an item, or drops it, or notes the end.
-    fn cut_in(&mut self, item: Rx, touched: &mut Touched) -> Result<(), NoMemory>
+    fn cut_in(&mut self, item: &Rx, touched: &mut Touched) -> Result<(), NoMemory>
         requires amid { self.old.refused ≡ true }
         requires between { Between self.old touched.old }
         requires few { length touched.old < 64 }
-        ensures value { OnOk result (CutsIn self.old touched.old item self.new touched.new) }
+        ensures value { OnOk result (CutsIn self.old touched.old item.now self.new touched.new) }
         ensures err { OnErr result (SameHand self.old self.new × (self.old.ended ≡ false)) }
         ensures same { SameFor 0 self.old self.new × (self.new.refused ≡ true) }
     {
-        match self.place_for(&item) {
-            Some(at) => self.cut_for(at, &item, touched),
+        match self.place_for(item) {
+            Some(at) => self.cut_for(at, item, touched),
             None => {
-                self.ended = self.ended || is_end(&item);
+                self.ended = ended_by(self.ended, item);
                 Ok(())
             }
         }
@@ -115,13 +119,12 @@ impl Home {
         ensures same { SameFor 0 self.old self.new × (self.new.refused ≡ true) }
     {
         match cut_at(&self.blocks[at], &mut self.links[at], item) {
-            Ok(true) => {
-                touched.push(at as u32);
-                Ok(())
-            }
-            Ok(false) => Ok(()),
-            Err(e) => Err(e),
+            Ok(true) => {}
+            Ok(false) => return Ok(()),
+            Err(e) => return Err(e),
         }
+        touched.push(at);
+        Ok(())
     }
 
     // Settles the blocks of the places that were touched.
@@ -165,12 +168,15 @@ impl Home {
         let place = touched.items()[at];
         let (pass, slot, link) = (
             &mut self.pass,
-            &mut self.blocks[place as usize],
-            &mut self.links[place as usize],
+            &mut self.blocks[place],
+            &mut self.links[place],
         );
-        match mem::replace(slot, None) {
-            Some(block) => settle_at(ring, pass, slot, link, place, block),
-            None => Ok(()),
+        let Some(block) = mem::replace(slot, None) else {
+            return Ok(());
+        };
+        if let Err(e) = settle_at(ring, pass, slot, link, place as u32, block) {
+            return Err(e);
         }
+        Ok(())
     }
 }

@@ -8,7 +8,7 @@ ghost use Rattle.zy_home.specs.Home.{HomeStands, Keeps, SameHome, StandsMore};
 ghost use Rattle.zy_home.specs.Place.{Forwards, SameHand, ComesTo};
 
 use super::Home;
-use crate::place::{conn_in, feed_at, is_end, place_of};
+use crate::place::{conn_in, ended_by, feed_at, place_of};
 use zy_base::NoMemory;
 use zy_conn::Block;
 use zy_rx::Rx;
@@ -59,7 +59,7 @@ impl Home {
         match self.place_for(item) {
             Some(at) => self.receive_at(ring, at, item),
             None => {
-                self.ended = self.ended || is_end(item);
+                self.ended = ended_by(self.ended, item);
                 Ok(())
             }
         }
