@@ -33,7 +33,10 @@ pub(crate) fn receive_all(
     ensures ring { outlet.new.ring ≡ outlet.old.ring }
 {
     let count = home.receive_all(ring, outlet)?;
-    Ok(count > 0)
+    if count == 0 {
+        return Ok(false);
+    }
+    Ok(true)
 }
 
 // Collects and settles blocks until there is none, or as many were collected as the home has
