@@ -21,7 +21,7 @@ use Rattle.zy_home.specs.Own.{IsOfOthers, item_conn, is_end}
 use Rattle.zy_home.specs.Idle.{IsIdle, due_mark, mark_in}
 use Rattle.zy_home.specs.Home.{Homed, Keeps, HomeStands, SameHome, StandsHome, StandsMore, IsAt, IsHere, conns_in}
 use Rattle.zy_home.specs.Place.{ComesTo, SameHand}
-use Rattle.zy_home.specs.Items.{Cuts, CutsEach, ReceivesAll, RefusedAmid, SameFor, SameParts, SettlesEach, StandsAll}
+use Rattle.zy_home.specs.Items.{CutsOne, CutsEach, ReceivesAll, RefusedAmid, SameFor, SameParts, SettlesEach, StandsAll}
 use Rattle.zy_home.specs.Turn.{IsDue, IsSettled, IsPutBack, Turns, turned}
 use Rattle.zy_home.specs.Between.{IsBetween, Between, StaysIdle, CutsIn, CutsAll, CutsFrom, SettlesIn, SettlesOn}
 use Rattle.zy_home.proofs.TurnLemmas.{at_else, turned_conns, turned_keeps, turned_stands}
@@ -80,7 +80,7 @@ same_parts_on a b c s t = (t.0 ∙ s.0, t.1 ∙ s.1, t.2 ∙ s.2, t.3 ∙ s.3)
 comes_same : (a b : Homed) (p : ℕ) (item : Rx) → b.links ≡ a.links → b.ended ≡ a.ended → ComesTo a p item → ComesTo b p item
 comes_same a b p item links ended c = record { live = ended ∙ c.live; link = c.link; there = ap (λ ls. slice_get ls p) links ∙ c.there; own = c.own }
 
-cuts_from : (a b c : Homed) (item : Rx) → SameParts a b → Cuts b item c → Cuts a item c
+cuts_from : (a b c : Homed) (item : Rx) → SameParts a b → CutsOne b item c → CutsOne a item c
 cuts_from a b c item s t = record {
   pass = t.pass ∙ s.0;
   blocks = t.blocks ∙ s.1;
@@ -89,7 +89,7 @@ cuts_from a b c item s t = record {
   dropped = λ none. t.dropped (λ p comes. none p (comes_same b a p item (sym s.2) (sym s.3) comes)) ∙ s.2;
 }
 
-pub cuts_more : (a b c : Homed) (items : List Rx) (item : Rx) → CutsEach a items b → Cuts b item c → CutsEach a (items ++ item ∷ []) c
+pub cuts_more : (a b c : Homed) (items : List Rx) (item : Rx) → CutsEach a items b → CutsOne b item c → CutsEach a (items ++ item ∷ []) c
 cuts_more a b c [] item s t = (c, cuts_from a b c item s t, same_parts c)
 cuts_more a b c (x ∷ xs) item s t = (s.0, s.1, cuts_more s.0 b c xs item s.2 t)
 
@@ -200,7 +200,7 @@ module _ (h : Homed) (k : Keeps h) (amid : h.refused ≡ true) (touched : List �
   pub cut_same : conn_of m ≡ conn_of l → SameFor 0 h cut_home
   cut_same conn = record { core = refl; cores = refl; count = refl; table = refl; label = refl; out = refl; conns = turned_conns h p x0 l m h.pass h.refused (cut_turns conn); few = omega arith }
 
-  cut_cuts : (x0 ≡ None → WaitsFull m) → Cuts h item cut_home
+  cut_cuts : (x0 ≡ None → WaitsFull m) → CutsOne h item cut_home
   cut_cuts full = record {
     pass = refl;
     blocks = refl;

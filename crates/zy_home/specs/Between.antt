@@ -9,7 +9,7 @@ use Rattle.zy_conn.specs.Block.{Blocked}
 use Rattle.zy_home.specs.Link.{Link}
 use Rattle.zy_home.specs.Idle.{IsIdle, due_mark, mark_in}
 use Rattle.zy_home.specs.Home.{Homed, IsAt, StandsHome, StandsMore}
-use Rattle.zy_home.specs.Items.{Cuts, CutsEach, SameFor, SameParts, SettlesEach, StandsAll}
+use Rattle.zy_home.specs.Items.{CutsOne, CutsEach, SameFor, SameParts, SettlesEach, StandsAll}
 
 -- ---- places
 
@@ -33,7 +33,7 @@ StaysIdle slot l l' = (block : Blocked) → slot ≡ Some block → IsIdle block
 
 -- an item was cut, and its place was touched if its block got a frame
 pub record CutsIn (h : Homed) (touched : List ℕ) (item : Rx) (h' : Homed) (touched' : List ℕ) : Type 0 where
-  pub cuts : Cuts h item h'
+  pub cuts : CutsOne h item h'
   pub stands : StandsMore h item h'
   pub between : Between h' touched'
   pub room : length touched' ≤ length touched + 1

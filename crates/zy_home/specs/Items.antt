@@ -18,7 +18,7 @@ SameParts h h' = (h'.pass ≡ h.pass) × (h'.blocks ≡ h.blocks) × (h'.links �
 
 -- an item was cut. Nothing was published, and the blocks in the hand are as they were. A frame of a connection whose
 -- block is away waits only if no slot of the ring is known to be free. An item that is for no place changes no connection
-pub record Cuts (h : Homed) (item : Rx) (h' : Homed) : Type 0 where
+pub record CutsOne (h : Homed) (item : Rx) (h' : Homed) : Type 0 where
   pub pass : h'.pass ≡ h.pass
   pub blocks : h'.blocks ≡ h.blocks
   pub ended : h'.ended ≡ (h.ended || is_end item)
@@ -29,7 +29,7 @@ pub record Cuts (h : Homed) (item : Rx) (h' : Homed) : Type 0 where
 -- these items were cut, one after another
 abbrev pub CutsEach : Homed → List Rx → Homed → Type 0
 CutsEach h [] h' = SameParts h h'
-CutsEach h (item ∷ items) h' = (next : Homed) × Cuts h item next × CutsEach next items h'
+CutsEach h (item ∷ items) h' = (next : Homed) × CutsOne h item next × CutsEach next items h'
 
 -- the block of a place was in the hand, and was settled
 pub record SettlesHere (place : ℕ) (h h' : Homed) : Type 0 where
