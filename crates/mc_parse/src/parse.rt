@@ -145,11 +145,7 @@ fn block_command_for(
 }
 
 // The meta command that asks for this, with its block. Its faults are never quiet.
-fn meta_block(
-    alloc: Global,
-    ask: MetaAsk<'_>,
-    mut block: Blob,
-) -> Result<Command, (Blob, NoMemory)>
+fn meta_block(alloc: Global, ask: MetaAsk<'_>, mut block: Blob) -> Result<Command, (Blob, NoMemory)>
     ensures value { IfOk result (λ command. command
         ≡ block_command_for block (asks (metas (meta_ask_seen ask.entry)) false)) }
     ensures returned { IfErr result (λ e. e.0 ≡ block) }
