@@ -3,3 +3,5 @@ mod WordLemmas
 mod RoomLemmas
 pub mod PlaceLemmas
 pub mod KeyLemmas
+pub mod LineLemmas
+pub mod SaidLemmas
