@@ -1,12 +1,12 @@
 use Rattle.std.proofs.Common.{refl, arith, sym, ap, subst, ◌∙◌, ◌<◌, ◌^◌}
 use Rattle.std.specs.Prelude.{option_copied}
 use Rattle.zy_base.specs.Kind.{MayAnswer}
-use Rattle.zy_base.specs.Shard.{State, Outcome, tallied, outcome_of}
+use Rattle.zy_base.specs.Shard.{State, Outcome, tallied, item_at, outcome_of, reply_to}
 use Rattle.zy_base.proofs.KindLemmas.{outcome_answers}
-use Rattle.mc_shard.specs.Shard.{last_of}
+use Rattle.mc_shard.specs.Shard.{last_of, TallyCounts}
 use Rattle.mc_shard.specs.Step.{effect_in, outcome_in}
 use Rattle.mc_shard.proofs.CountLemmas.{few_gets, few_sets}
-use Rattle.mc_shard.proofs.SoundLemmas.{IsSound-applied, noted, calls-made}
+use Rattle.mc_shard.proofs.SoundLemmas.{IsSound-applied, noted, calls-made, tally_counts}
 use Rattle.mc_shard.proofs.shard.Shard.make_shared.Goals as goal
 
 -- the reply is of the table
@@ -35,3 +35,13 @@ invariant_of-self-in-Ok-carry_out c =
 
 pub returns-in-Ok-carry_out-clause-sound : goal.returns-in-Ok-carry_out-clause-sound
 returns-in-Ok-carry_out-clause-sound c = (invariant_of-self-in-Ok-carry_out c).history_is
+
+-- a tally answers what is counted of the history
+pub returns-in-Ok-carry_out-clause-counts : goal.returns-in-Ok-carry_out-clause-counts
+returns-in-Ok-carry_out-clause-counts c =
+    subst (λ s. TallyCounts c.args.call c.in-Ok-copy.copy s.history) c.self.view_is
+    (tally_counts c.self.inside.shards c.self.inside.number c.self.inside.history.items c.args.call c.in-Ok-copy.copy c.self.invariant.history_is
+    (c.in-Ok-copy.ensures.value ∙ ap (λ (o : Outcome). o.reply) (c.in-Ok.ensures.value
+    ∙ ap (λ counts. outcome_of counts c.args.call (option_copied c.found-found.result)) c.tallied.ensures.value
+    ∙ ap (outcome_of (tallied c.self.inside.contents) c.args.call) c.found-found.ensures.value
+    ∙ ap (λ key. outcome_of (tallied c.self.inside.contents) c.args.call (item_at c.self.inside.contents.items key)) c.requires.key) ∙ ap (λ (s : State). reply_to s c.args.call) c.self.invariant.contents_are))
