@@ -2,7 +2,7 @@
 -- protocol.txt).
 use Rattle.std.specs.Prelude.{ℕ, Bool, true, false, List, [], ◌∷◌, ◌++◌, length, codes, decimal}
 use Rattle.zy_base.specs.declared.call_reply.CallReply.{CallReply}
-use Rattle.zy_base.specs.declared.call_reply.CallReply.TheVariants.{Miss, Hit, Stored, NotStored, Exists, NotFound, Deleted, Number, NotNumber, TooLarge, Flushed}
+use Rattle.zy_base.specs.declared.call_reply.CallReply.TheVariants.{Miss, Hit, Stored, NotStored, Exists, NotFound, Deleted, Number, NotNumber, TooLarge, Flushed, Tally}
 use Rattle.mc_parse.specs.declared.error_line.ErrorLine.{ErrorLine}
 use Rattle.mc_parse.specs.declared.error_line.ErrorLine.TheVariants as Errors
 use Rattle.mc_parse.specs.declared.command.Command.{Command}
@@ -34,6 +34,7 @@ reply_line TooLarge = line too_large
 reply_line Miss = []
 reply_line (Hit flags unique value) = []
 reply_line Flushed = []
+reply_line (Tally gets sets hits misses items) = []
 
 -- the line of the one reply
 abbrev pub only_line : List CallReply → List ℕ

@@ -15,6 +15,7 @@ use Rattle.zy_base.specs.Kind.{MayAnswer}
 use Rattle.zy_base.specs.Counted.{is_get, is_set, is_hit, calls_with}
 use Rattle.zy_base.specs.Shard.{Items, State, empty_state}
 use Rattle.zy_base.specs.History.{replayed}
+use Rattle.zy_base.specs.Order.{last_stamp}
 use Rattle.zy_base.proofs.EntryLemmas.{StampsRise-length}
 use Rattle.zy_base.proofs.CountedLemmas.{gets_within, sets_within}
 use Rattle.mc_stats.specs.declared.counts.Counts.{Counts}
@@ -60,6 +61,15 @@ counts_removed counts count items key false is are = record {
   few_hits = are.few_hits;
   few_misses = are.few_misses;
 }
+
+-- the counts of calls stay
+pub calls-put : (counts : Counts) (had : Bool) → calls_in (cond had counts (with_item counts)) ≡ calls_in counts
+calls-put counts true = refl
+calls-put counts false = refl
+
+pub calls-removed : (counts : Counts) (had : Bool) → calls_in (cond had (without_item counts) counts) ≡ calls_in counts
+calls-removed counts true = refl
+calls-removed counts false = refl
 
 -- a shard that has an item counts one
 pub some_items : (counts : Counts) (count : ℕ) (items : Items) (key : List ℕ) → contains_key items key ≡ true → AreCounts counts count items → 1 ≤ counts.items
@@ -117,18 +127,16 @@ counts_got counts count items false are = record {
 -- ---- a shard with a history
 
 -- there are fewer calls than stamps
-pub few_gets : (number shards last : ℕ) (contents : State) (es : List Entry) → IsSound number shards last contents es → last < 2 ^ 60 → contents.calls.gets < 2 ^ 60
+pub few_gets : (number shards last : ℕ) (contents : State) (es : List Entry) → IsSound number shards last contents es → last_stamp 0 es < 2 ^ 60 → contents.calls.gets < 2 ^ 60
 few_gets number shards last contents es sound below =
     let size = StampsRise-length 0 es sound.history_is.stamps in
     let most = gets_within shards number es in
-    let last_is = sound.last_is in
-    let fits : (replayed shards number empty_state es).calls.gets < 2 ^ 60 = omega (arith, size, most, last_is, below) in
+    let fits : (replayed shards number empty_state es).calls.gets < 2 ^ 60 = omega (arith, size, most, below) in
     subst (λ (s : State). s.calls.gets < 2 ^ 60) (sym sound.contents_are) fits
 
-pub few_sets : (number shards last : ℕ) (contents : State) (es : List Entry) → IsSound number shards last contents es → last < 2 ^ 60 → contents.calls.sets < 2 ^ 60
+pub few_sets : (number shards last : ℕ) (contents : State) (es : List Entry) → IsSound number shards last contents es → last_stamp 0 es < 2 ^ 60 → contents.calls.sets < 2 ^ 60
 few_sets number shards last contents es sound below =
     let size = StampsRise-length 0 es sound.history_is.stamps in
     let most = sets_within shards number es in
-    let last_is = sound.last_is in
-    let fits : (replayed shards number empty_state es).calls.sets < 2 ^ 60 = omega (arith, size, most, last_is, below) in
+    let fits : (replayed shards number empty_state es).calls.sets < 2 ^ 60 = omega (arith, size, most, below) in
     subst (λ (s : State). s.calls.sets < 2 ^ 60) (sym sound.contents_are) fits

@@ -14,7 +14,7 @@ use Rattle.zy_base.specs.declared.call_reply.CallReply.TheVariants.{Stored, TooL
 use Rattle.zy_base.specs.declared.tallied.Tallied.{Tallied}
 use Rattle.zy_base.specs.Call.{key_of}
 use Rattle.zy_base.specs.Number.{number_of}
-use Rattle.zy_base.specs.Shard.{Items, State, tallied, Effect, keeps, stores, removes, empties, Outcome, value_limit, joined, counted_up, counted_down, outcome_of, outcome_on, state_with, state_after, reply_to}
+use Rattle.zy_base.specs.Shard.{Items, State, tallied, Effect, keeps, stores, removes, empties, Outcome, value_limit, joined, counted_up, counted_down, outcome_of, outcome_on, item_at, state_with, state_after, reply_to}
 use Rattle.mc_shard.specs.KeyReplies.{is_cas, AreWithoutCas, is_same, is_key, is_about, calls_about, without_unique, replies_about}
 
 -- ---- one key without uniques
@@ -207,7 +207,7 @@ about_key key call is = is
 -- a call that is not about the key leaves its item
 untouched : (shards number : ℕ) (state : State) (key : List ℕ) (call : Call) → is_about key call ≡ false → get (state_after shards number state call).items key ≡ get state.items key
 untouched shards number state key Tally is = refl
-untouched shards number state key call is = elsewhere shards number state key (key_of call) (outcome_on state call).effect (effect_for (tallied state) call _) is
+untouched shards number state key call is = elsewhere shards number state key (key_of call) (outcome_on state call).effect (effect_for (tallied state) call (item_at state.items (key_of call))) is
 
 -- ---- along a list
 

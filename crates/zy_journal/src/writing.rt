@@ -10,7 +10,9 @@ ghost use Rattle.zy_journal.specs.Journal.{key_text, value_text, counts_text, fi
 
 use crate::journal::Journal;
 use crate::walk::Walk;
-use zy_base::{Blob, Call, CallReply, Entry, Failed, Hold, Sink, Tallied, write_pieces, write_whole};
+use zy_base::{
+    Blob, Call, CallReply, Entry, Failed, Hold, Sink, Tallied, write_pieces, write_whole,
+};
 
 /// Writes a journal whose numbers, keys and values are within the format's bounds. Takes no memory.
 ///
