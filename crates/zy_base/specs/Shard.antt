@@ -139,9 +139,9 @@ state_with shards number state (stores key flags value) =
 state_with shards number state (removes key) = record state { items = remove state.items key }
 state_with shards number state empties = record state { items = empty }
 
--- the shard with a further call counted
-abbrev pub state_counting : State → Call → CallReply → State
-state_counting state call reply = record state { calls = calls_with state.calls call reply }
+-- the shard with these counts of calls
+abbrev pub counting : State → CallCounts → State
+counting state calls = record state { calls = calls }
 
 -- what the shard answers to a call
 abbrev pub reply_to : State → Call → CallReply
@@ -150,4 +150,5 @@ reply_to state call = (outcome_on state call).reply
 -- shard `number` of `shards` after a call
 abbrev pub state_after : ℕ → ℕ → State → Call → State
 state_after shards number state call =
-    state_counting (state_with shards number state (outcome_on state call).effect) call (reply_to state call)
+    counting (state_with shards number state (outcome_on state call).effect)
+    (calls_with state.calls call (reply_to state call))

@@ -90,19 +90,24 @@ HasPartFault text (OfJournal fault) = HasJournalFault text fault
 HasPartFault text (OfReplies fault) = HasRepliesFault text fault
 HasPartFault text (Pcap fault) = ⊥
 
+-- an input of a check can have this fault
+abbrev pub IsPartFault : Refusal → Type 0
+IsPartFault refusal = (text : List ℕ) × HasPartFault text refusal
+
 -- ---- reading
 
 -- the source held these bytes, if that is known, and is at its end
 abbrev pub ReadsAll : Option (List ℕ) → Option (List ℕ) → List ℕ → Type 0
 ReadsAll before after bytes = Consumes before after bytes × IsAtEnd after
 
--- the parts are those of all that the source gave; or its text has this fault; or its count of
--- faults rose, or is at its largest value; `NoMemory` needs no cause
+-- the parts are those of all that the source gave; or some input has this fault, and the source's text
+-- has it, if that is known; or the count of faults rose, or is at its largest value; `NoMemory` needs no cause
 abbrev pub HasReadParts : {S : Type 0} → (S → Option (List ℕ)) → (S → ℕ) → S → S → Result Parts (Stop Refusal) → Type 0
 HasReadParts rest faults first now (Ok parts) =
     (text : List ℕ) × ReadsAll (rest first) (rest now) text × AreParts text parts.streams parts.journal parts.outputs
     × AreOutputs parts.outputs
-HasReadParts rest faults first now (Err (Refused refusal)) = IfSome (rest first) (λ text. HasPartFault text refusal)
+HasReadParts rest faults first now (Err (Refused refusal)) =
+    IsPartFault refusal × IfSome (rest first) (λ text. HasPartFault text refusal)
 HasReadParts rest faults first now (Err ReadFault) = Rose (faults first) (faults now)
 HasReadParts rest faults first now (Err NoMemory) = ⊤
 

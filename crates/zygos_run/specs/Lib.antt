@@ -11,3 +11,4 @@ pub mod Reported
 pub mod Ends
 pub mod Served
 pub mod Runs
+pub mod Finish

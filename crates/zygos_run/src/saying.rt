@@ -20,7 +20,7 @@ pub(crate) fn say<E: Sink>(says: &mut E, answer: &Answer)
 }
 
 fn say_line<E: Sink>(says: &mut E, answer: &Answer) -> Result<(), Failed>
-    ensures writes { Writes E.holds E.faults says.old says.new result (line_of answer.now) }
+    ensures writes { Writes E.holds E.faults E.finishes says.old says.new result (line_of answer.now) }
 {
     match answer {
         Answer::Refused(Refusal::Capture(fault)) => say_fault(says, *fault),
@@ -74,7 +74,7 @@ fn plain_line(answer: &Answer) -> &'static [u8]
 
 // The line of a fault of a capture.
 fn say_fault<E: Sink>(says: &mut E, fault: CaptureFault) -> Result<(), Failed>
-    ensures writes { Writes E.holds E.faults says.old says.new result (fault_line fault) }
+    ensures writes { Writes E.holds E.faults E.finishes says.old says.new result (fault_line fault) }
 {
     let text = fault_text(fault);
     let middle = fault_middle(fault);
@@ -124,7 +124,7 @@ fn say_file_fault<E: Sink>(
     text: &'static [u8],
     fault: FileFault,
 ) -> Result<(), Failed>
-    ensures writes { Writes E.holds E.faults says.old says.new result (file_line text.now fault) }
+    ensures writes { Writes E.holds E.faults E.finishes says.old says.new result (file_line text.now fault) }
 {
     match fault {
         FileFault::Form { at } | FileFault::Truncated { at } => write_number(says, text, at),
