@@ -33,7 +33,7 @@ TEXTS = {
     "no number": b"CLIENT_ERROR cannot increment or decrement non-numeric value",
 }
 
-# the number of words that must follow a meta command's name, the letters that it may have, and what the tokens of some say
+# how many words must follow a meta command's name, the letters that it may have, and what the tokens of some say
 LEAST = {"mn": 0, "mg": 1, "ms": 2, "md": 1}
 LETTERS = {"mg": "vkfcsq", "ms": "FCMTkq", "md": "kq"}
 TOKENS = {"F": "flags", "C": "unique", "T": "exptime", "M": "mode"}
