@@ -12,7 +12,7 @@ use Rattle.mc_parse.specs.declared.meta.Meta.{Meta as MetaCommand}
 use Rattle.mc_parse.specs.declared.meta.Meta.TheVariants as Metas
 use Rattle.mc_reply.specs.Text.{text, line, reply_line, only_line, item_text, items_text, unless}
 use Rattle.mc_reply.specs.Texts.{texts_from}
-use Rattle.mc_reply.specs.MetaText.{found_of, item_mark, mark_text, marks_text, marked, hit_text, get_text, set_text, delete_text, meta_text}
+use Rattle.mc_reply.specs.MetaText.{found_of, mark_text, marks_text, marked, hit_text, get_text, set_text, delete_text, meta_text}
 use Rattle.mc_meta.specs.Flags.{is_among}
 use Rattle.mc_parse.specs.Plain.{IsPlain, IsPlainMeta}
 use Rattle.zy_base.specs.Told.{told, told_of, all_told}

@@ -1,5 +1,5 @@
 -- The form of an answer before it is written. No public clause cites this module.
-use Rattle.std.specs.Prelude.{ℕ, List, [], ◌∷◌, ⊤, decimal, codes, ◌++◌}
+use Rattle.std.specs.Prelude.{ℕ, List, [], ⊤, decimal, ◌++◌}
 use Rattle.mc_parse.specs.declared.command.Command.{Command}
 use Rattle.mc_parse.specs.declared.command.Command.TheVariants.{Get, Meta}
 use Rattle.mc_reply.specs.declared.answer.Answer.{Answer}
