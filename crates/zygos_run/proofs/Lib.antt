@@ -7,4 +7,3 @@ pub mod CheckLemmas
 pub mod TestLemmas
 pub mod EndLemmas
 pub mod PacketLemmas
-pub mod ReportLemmas

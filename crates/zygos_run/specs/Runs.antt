@@ -3,7 +3,6 @@ use Rattle.std.specs.Prelude.{◌≡◌, ℕ, List, Result, Ok, Err, ⊤, IfSome
 use Rattle.zy_capture.specs.declared.capture_fault.CaptureFault.{CaptureFault}
 use Rattle.zy_capture.specs.Verdict.{verdict}
 use Rattle.zy_capture.specs.Verdict.Verdict.{Bad}
-use Rattle.zy_base.specs.declared.outside.NoMemory.{NoMemory}
 use Rattle.zy_read.specs.declared.stop.Stop.{Stop}
 use Rattle.zy_read.specs.declared.stop.Stop.TheVariants as Stops
 use Rattle.zy_check_input.specs.declared.stop.Refusal.{Refusal}
@@ -46,8 +45,3 @@ ReportsTo source (Err (Stops.Refused (OfJournal fault))) =
 ReportsTo source (Err (Stops.Refused refusal)) = ⊥
 ReportsTo source (Err Stops.ReadFault) = HasRisen source
 ReportsTo source (Err Stops.NoMemory) = ⊤
-
--- what comes of a report that was made
-abbrev pub made_of : Result (List ℕ) NoMemory → Result (List ℕ) (Stop Refusal)
-made_of (Ok table) = Ok table
-made_of (Err refused) = Err Stops.NoMemory

@@ -4,7 +4,7 @@ ghost use Rattle.zy_command_line.specs.declared.request.Request.TheVariants as R
 ghost use Rattle.zygos_run.specs.Seen.{side, seen};
 ghost use Rattle.zygos_run.specs.Finish.{FinishesBy};
 ghost use Rattle.zygos_run.specs.Ends.{Ends, LeavesSink};
-ghost use Rattle.zygos_run.specs.Runs.{ReportsTo, made_of};
+ghost use Rattle.zygos_run.specs.Runs.{ReportsTo};
 
 use crate::answer::Answer;
 use crate::generate::write_last;
@@ -52,18 +52,11 @@ fn make_report<S: Source>(alloc: Global, source: &mut S) -> Result<Blob, Stop>
         Ok(journal) => {
             let made = report(alloc, &journal);
             drop(journal);
-            made_of(made)
+            match made {
+                Ok(table) => Ok(table),
+                Err(NoMemory) => Err(Stop::NoMemory),
+            }
         }
         Err(stop) => Err(stop),
-    }
-}
-
-// What comes of a report that was made.
-fn made_of(made: Result<Blob, NoMemory>) -> Result<Blob, Stop>
-    ensures value { result ≡ made_of made }
-{
-    match made {
-        Ok(table) => Ok(table),
-        Err(NoMemory) => Err(Stop::NoMemory),
     }
 }
