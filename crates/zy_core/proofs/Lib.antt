@@ -4,4 +4,5 @@ pub mod DealLemmas
 pub mod CoreLemmas
 pub mod KeepLemmas
 pub mod TurnLemmas
+pub mod NapLemmas
 pub mod GroupLemmas
