@@ -22,7 +22,8 @@ use zy_shuffle::Marked;
 /// texts that wait, and its holds. Contracts see it as its work and the list of its holds.
 #[derive(Drop)]
 pub struct Block {
-    work: Work,
+    // Blocks are passed on often, and their work is large.
+    work: Box<Work>,
     holds: Vec<Hold>,
 }
 
@@ -32,9 +33,9 @@ impl Model for Block {
 
     ghost Value = { Blocked };
 
-    ghost view = { λ b. blocked b.work b.holds.items };
+    ghost view = { λ b. blocked b.work.value b.holds.items };
 
-    ghost invariant = { λ b. AreHolds b.work.conn b.work.finished b.holds.items };
+    ghost invariant = { λ b. AreHolds b.work.value.conn b.work.value.finished b.holds.items };
 }
 
 impl Marked for Block {
@@ -63,13 +64,19 @@ impl Block {
         ensures returned { IfErr result (λ e. e.0 ≡ pass) }
     {
         match Work::new(alloc, pass) {
-            Ok((work, inlet)) => Ok((
-                Block {
-                    work,
-                    holds: Vec::new(alloc),
-                },
-                inlet,
-            )),
+            Ok((work, inlet)) => match Box::new(alloc, work) {
+                Ok(work) => Ok((
+                    Block {
+                        work,
+                        holds: Vec::new(alloc),
+                    },
+                    inlet,
+                )),
+                Err(refused) => {
+                    drop(inlet);
+                    Err((refused.value.into_pass(), NoMemory))
+                }
+            },
             Err(e) => Err(e),
         }
     }
@@ -163,7 +170,7 @@ impl Block {
         if self.holds.reserve(1).is_err() {
             return Err(NoMemory);
         }
-        let (count, end) = carry_out(&mut self.work, store, gate, core);
+        let (count, end) = carry_out(&mut *self.work, store, gate, core);
         if count > 0 {
             let conn = self.work.conn();
             self.holds.push_reserved(Hold { core, conn, count });
@@ -178,6 +185,6 @@ impl Block {
         ensures kept { Kept self.work × AreHolds self.work.conn self.work.finished self.holds }
     {
         let Block { work, holds } = self;
-        (work.into_pass(), Holds::from_vec(holds))
+        (Box::into_inner(work).into_pass(), Holds::from_vec(holds))
     }
 }
