@@ -258,9 +258,9 @@ sets_same key flags exptime bytes are lasting =
     let second = both (is_word flags) (list_all is_word (exptime ∷ bytes ∷ [])) first.1 in
     let third = both (is_word exptime) (list_all is_word (bytes ∷ [])) second.1 in
     let others : AreWords (codes "ms" ∷ key ∷ bytes ∷ (70 ∷ flags) ∷ []) =
-        with_word (codes "ms") (key ∷ bytes ∷ (70 ∷ flags) ∷ []) refl
-        (with_word key (bytes ∷ (70 ∷ flags) ∷ []) first.0 (with_word bytes ((70 ∷ flags) ∷ []) (both (is_word bytes) true third.1).0
-        (with_word (70 ∷ flags) [] (lettered 70 flags refl second.0) refl))) in
+    with_word (codes "ms") (key ∷ bytes ∷ (70 ∷ flags) ∷ []) refl
+    (with_word key (bytes ∷ (70 ∷ flags) ∷ []) first.0 (with_word bytes ((70 ∷ flags) ∷ []) (both (is_word bytes) true third.1).0
+    (with_word (70 ∷ flags) [] (lettered 70 flags refl second.0) refl))) in
     let line : List ℕ = spaced (codes "set" ∷ key ∷ flags ∷ exptime ∷ bytes ∷ []) in
     let other : List ℕ = spaced (codes "ms" ∷ key ∷ bytes ∷ (70 ∷ flags) ∷ []) in
     same_lines line other (check (is_key key && true) BadLine (set_found key (small_number_of flags) (small_number_of bytes)))
@@ -278,10 +278,10 @@ exchanges_are_same key flags exptime bytes unique are lasting =
     let third = both (is_word exptime) (list_all is_word (bytes ∷ unique ∷ [])) second.1 in
     let fourth = both (is_word bytes) (list_all is_word (unique ∷ [])) third.1 in
     let others : AreWords (codes "ms" ∷ key ∷ bytes ∷ (70 ∷ flags) ∷ (67 ∷ unique) ∷ []) =
-        with_word (codes "ms") (key ∷ bytes ∷ (70 ∷ flags) ∷ (67 ∷ unique) ∷ []) refl
-        (with_word key (bytes ∷ (70 ∷ flags) ∷ (67 ∷ unique) ∷ []) first.0 (with_word bytes ((70 ∷ flags) ∷ (67 ∷ unique) ∷ []) fourth.0
-        (with_word (70 ∷ flags) ((67 ∷ unique) ∷ []) (lettered 70 flags refl second.0)
-        (with_word (67 ∷ unique) [] (lettered 67 unique refl (both (is_word unique) true fourth.1).0) refl)))) in
+    with_word (codes "ms") (key ∷ bytes ∷ (70 ∷ flags) ∷ (67 ∷ unique) ∷ []) refl
+    (with_word key (bytes ∷ (70 ∷ flags) ∷ (67 ∷ unique) ∷ []) first.0 (with_word bytes ((70 ∷ flags) ∷ (67 ∷ unique) ∷ []) fourth.0
+    (with_word (70 ∷ flags) ((67 ∷ unique) ∷ []) (lettered 70 flags refl second.0)
+    (with_word (67 ∷ unique) [] (lettered 67 unique refl (both (is_word unique) true fourth.1).0) refl)))) in
     let line : List ℕ = spaced (codes "cas" ∷ key ∷ flags ∷ exptime ∷ bytes ∷ unique ∷ []) in
     let other : List ℕ = spaced (codes "ms" ∷ key ∷ bytes ∷ (70 ∷ flags) ∷ (67 ∷ unique) ∷ []) in
     same_lines line other (check (is_key key && true) BadLine (cas_found key (small_number_of flags) (small_number_of bytes) (number_of unique)))

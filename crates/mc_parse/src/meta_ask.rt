@@ -65,14 +65,7 @@ pub(crate) fn read_meta_line(line: &[u8]) -> Line<'_>
             unique,
             mode,
             marks,
-        } => Line::Meta(storing_ask(
-            part(line, key),
-            bytes,
-            flags,
-            unique,
-            mode,
-            marks,
-        )),
+        } => Line::Meta(storing_ask(part(line, key), bytes, flags, unique, mode, marks)),
         MetaLine::Delete { key, flags } => Line::Meta(MetaAsk::Delete {
             key: part(line, key),
             flags,

@@ -74,6 +74,7 @@ fn alone_command(alloc: Global, ask: Ask<'_>, quiet: bool) -> Result<Command, No
         Ask::Delete { key } => delete_command(alloc, key, quiet),
         Ask::Count { key, up, amount } => count_command(alloc, key, up, amount, quiet),
         Ask::Version => Ok(Command::Version),
+        Ask::Stats => Ok(Command::Stats),
         Ask::Verbosity => Ok(Command::Verbosity { quiet }),
         Ask::Flush => Ok(Command::Flush { quiet }),
         Ask::Store { .. } | Ask::Cas { .. } | Ask::Quit => Ok(fault(ErrorLine::Unknown)),
@@ -145,11 +146,7 @@ fn block_command_for(
 }
 
 // The meta command that asks for this, with its block. Its faults are never quiet.
-fn meta_block(
-    alloc: Global,
-    ask: MetaAsk<'_>,
-    mut block: Blob,
-) -> Result<Command, (Blob, NoMemory)>
+fn meta_block(alloc: Global, ask: MetaAsk<'_>, mut block: Blob) -> Result<Command, (Blob, NoMemory)>
     ensures value { IfOk result (λ command. command
         ≡ block_command_for block (asks (metas (meta_ask_seen ask.entry)) false)) }
     ensures returned { IfErr result (λ e. e.0 ≡ block) }

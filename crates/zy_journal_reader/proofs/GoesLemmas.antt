@@ -208,10 +208,10 @@ tally_goes p d counts fits =
     nothing_more (tally_code ∷ (g ++ (s ++ (h ++ (m ++ i)))))
     (both (tally_code ∷ []) (g ++ (s ++ (h ++ (m ++ i)))) (one_byte p p d d ReplyCode (Long Gets) tally_code (λ at. refl) (λ at. refl))
     (both g (s ++ (h ++ (m ++ i))) (eight_bytes p p d d1 Gets (Long Sets) counts.gets fits.1.0 (λ at l. refl) (λ at l. refl))
-    (both s (h ++ (m ++ i)) (eight_bytes p p d1 d2 Sets (Long Hits) counts.sets fits.1.1.0 (λ at l. refl) (λ at l. refl))
-    (both h (m ++ i) (eight_bytes p p d2 d3 Hits (Long Misses) counts.hits fits.1.1.1.0 (λ at l. refl) (λ at l. refl))
-    (both m i (eight_bytes p p d3 d4 Misses (Long Items) counts.misses fits.1.1.1.1.0 (λ at l. refl) (λ at l. refl))
-    (eight_bytes p (after p d (tally counts)) d4 fresh Items (Byte Tag) counts.items fits.1.1.1.1.1 (λ at l. refl) (λ at l. refl)))))))
+    (both s (h ++ (m ++ i)) (eight_bytes p p d1 d2 Sets (Long Hits) counts.sets fits.1.1 (λ at l. refl) (λ at l. refl))
+    (both h (m ++ i) (eight_bytes p p d2 d3 Hits (Long Misses) counts.hits fits.1.2 (λ at l. refl) (λ at l. refl))
+    (both m i (eight_bytes p p d3 d4 Misses (Long Items) counts.misses fits.1.3 (λ at l. refl) (λ at l. refl))
+    (eight_bytes p (after p d (tally counts)) d4 fresh Items (Byte Tag) counts.items fits.1.4 (λ at l. refl) (λ at l. refl)))))))
 
 pub reply_goes : (p : Progress) (d : Draft) (reply : CallReply) → IsReply reply → FitsReply reply → Goes p d (Byte ReplyCode) (reply_text reply) (after p d reply) fresh (Byte Tag)
 reply_goes p d =
