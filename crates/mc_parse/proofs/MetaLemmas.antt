@@ -89,6 +89,15 @@ need_alone line (Delete key flags) none = refl
 pub unstored_need : (line word : List ℕ) (ws : List (List ℕ)) → words line ≡ word ∷ ws → name_of word ≡ None → bytes_eq word (codes "ms") ≡ false → need_for (line_form line) ≡ Nothing
 unstored_need line word ws split none other = ap need_for (unnamed_form line word ws split none) ∙ need_alone line (meta_line line) (alone_line line word ws split other)
 
+-- what a line needs that begins with no name of another command
+pub unnamed_needs : (line word : List ℕ) (ws : List (List ℕ)) → words line ≡ word ∷ ws → name_of word ≡ None
+    → (if bytes_eq word (codes "ms") then need_for (meta_form line (meta_line line)) else Nothing) ≡ need_for (line_form line)
+unnamed_needs line word ws split none = go (bytes_eq word (codes "ms")) refl
+  where
+    go : (b : Bool) → bytes_eq word (codes "ms") ≡ b → (if b then need_for (meta_form line (meta_line line)) else Nothing) ≡ need_for (line_form line)
+    go true is = sym (ap need_for (unnamed_form line word ws split none))
+    go false is = sym (unstored_need line word ws split none is)
+
 -- ---- noreply
 
 -- a meta command does not take the word noreply

@@ -188,7 +188,7 @@ form_of (name ∷ words) = find (name_of name) Unknown (λ name. form_after name
 
 -- ---- lines
 
--- what a line says as a meta command: its words are not answered quietly, though their answer may be nothing
+-- what a line says as a meta command, which does not take the word noreply
 abbrev pub meta_form : List ℕ → MetaLine → Form
 meta_form line Metas.Other = faulty Unknown
 meta_form line Metas.WrongCount = faulty Unknown

@@ -1,11 +1,11 @@
 //! What must come with a line.
-ghost use Rattle.std.specs.Prelude.{◌≡◌, ◌≤◌, length, codes, true, false};
-ghost use Rattle.mc_parse.specs.Words.{line_limit};
+ghost use Rattle.std.specs.Prelude.{◌≡◌, ◌≤◌, length, codes, if◌then◌else◌};
+ghost use Rattle.mc_parse.specs.Words.{words, line_limit};
 ghost use Rattle.mc_parse.specs.Need.{need, need_for, ask_need, meta_need, takes_more};
 ghost use Rattle.std.specs.Str.{bytes_eq};
 ghost use Rattle.mc_meta.specs.Meta.{meta_line};
 ghost use Rattle.mc_parse.specs.MetaAsk.{meta_ask_seen};
-ghost use Rattle.mc_parse.specs.Form.{ask_seen, meta_form};
+ghost use Rattle.mc_parse.specs.Form.{ask_seen, form_after, meta_form};
 ghost use Rattle.mc_parse.specs.Line.{form_seen};
 
 use crate::asking::Ask;
@@ -28,7 +28,7 @@ pub enum Need {
 
 /// What a line needs. The line is given without the bytes that end it. After a name that takes nothing the
 /// line isn't read on. Takes no memory.
-#[tactic(auto, unfolding(crate::specs::Need::need), using(crate::proofs::NeedLemmas::needs_nothing, crate::proofs::MetaLemmas::named_form, crate::proofs::MetaLemmas::unnamed_form, crate::proofs::MetaLemmas::unstored_need))]
+#[tactic(auto, unfolding(crate::specs::Need::need), using(crate::proofs::MetaLemmas::named_form))]
 pub fn need_of(line: &[u8]) -> Need
     requires within { length line.now ≤ line_limit }
     ensures value { result ≡ need line.now }
@@ -36,21 +36,29 @@ pub fn need_of(line: &[u8]) -> Need
     let Some(first) = next_word(line) else {
         return Need::Nothing;
     };
-    let Some(name) = name_of(first.word) else {
-        return unnamed_need(line, first.word);
-    };
+    match name_of(first.word) {
+        Some(name) => named_need(name, first.rest),
+        None => unnamed_need(line, first.word),
+    }
+}
+
+// What a line needs that has this name and this text after it.
+#[tactic(auto, using(crate::proofs::NeedLemmas::needs_nothing))]
+fn named_need(name: Name, text: &[u8]) -> Need
+    ensures value { result ≡ need_for (form_after name (words text.now)) }
+{
     if takes_more(name) {
-        need_for(read_after(name, first.rest))
+        need_for(read_after(name, text))
     } else {
         Need::Nothing
     }
 }
 
-// What a line needs whose first word is no name: a block where it is a meta command that stores.
+// What a line needs whose first word is no name: a block if it is a meta command that stores.
 fn unnamed_need(line: &[u8], word: &[u8]) -> Need
     requires within { length line.now ≤ line_limit }
-    ensures stores { bytes_eq word.now (codes "ms") ≡ true → result ≡ need_for (meta_form line.now (meta_line line.now)) }
-    ensures other { bytes_eq word.now (codes "ms") ≡ false → result ≡ Need.Nothing }
+    ensures value { result ≡ (if bytes_eq word.now (codes "ms")
+        then need_for (meta_form line.now (meta_line line.now)) else Need.Nothing) }
 {
     if word == b"ms".as_slice() {
         need_for(read_meta_line(line))

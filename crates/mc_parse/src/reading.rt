@@ -15,7 +15,7 @@ use crate::name::{Name, arity_of, name_of};
 use crate::word::{is_key, next_word};
 
 /// What a line says, or its first fault.
-#[tactic(auto, using(crate::proofs::MetaLemmas::named_form, crate::proofs::MetaLemmas::unnamed_form))]
+#[tactic(auto, using(crate::proofs::MetaLemmas::named_form))]
 pub(crate) fn read_line(line: &[u8]) -> Line<'_>
     requires within { length line.now ≤ line_limit }
     ensures value { form_seen result ≡ line_form line.now }

@@ -1,4 +1,4 @@
-//! The answer to a command other than a retrieval.
+//! The answer to a command other than a retrieval or a meta command.
 ghost use Rattle.std.specs.Prelude.{◌≡◌};
 ghost use Rattle.mc_reply.specs.Text.{text, unless, error_line, reply_line, only_line};
 ghost use Rattle.mc_reply.specs.Answers.{AnswerCommand};
