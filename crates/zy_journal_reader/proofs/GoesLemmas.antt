@@ -12,7 +12,7 @@ use Rattle.zy_base.specs.declared.call_reply.CallReply.TheVariants as Replies
 use Rattle.zy_base.specs.declared.tallied.Tallied.{Tallied}
 use Rattle.zy_base.specs.Shard.{value_limit}
 use Rattle.zy_base.specs.Code.{code_of, fields_of, call_of, last_call_code, hit_code, number_code, tally_code, last_reply_code, tally, plain_reply}
-use Rattle.zy_base.specs.Bounds.{IsKey, IsValue, IsCall, IsReply}
+use Rattle.zy_base.specs.Bounds.{IsKey, IsValue, IsCall, IsReply, FitsCall, FitsReply}
 use Rattle.zy_base.proofs.CodeLemmas.{there, either_of, kind_back, code_within, call_has, key_within, value_within, of_forms}
 use Rattle.zy_journal.specs.Journal.{key_text, value_text, field_text, call_text, reply_text}
 use Rattle.zy_journal_reader.specs.declared.draft.Draft.{Draft}
@@ -24,7 +24,7 @@ use Rattle.zy_journal_reader.specs.declared.due.LongField.TheVariants.{CallNumbe
 use Rattle.zy_journal_reader.specs.declared.due.BytesField.TheVariants.{Key, Value, FoundValue}
 use Rattle.zy_journal_reader.specs.Fields.{fresh, at_key, at_flags, at_number, at_value, entry_of}
 use Rattle.zy_journal_reader.specs.Steps.{Progress}
-use Rattle.zy_journal_reader.specs.Verdict.{read_from, FitsCall, FitsReply}
+use Rattle.zy_journal_reader.specs.Verdict.{read_from}
 use Rattle.zy_journal_reader.proofs.CallLemmas.{plain_text}
 use Rattle.zy_journal_reader.proofs.PlaceLemmas.{place, Goes, both, to, one_byte, four_bytes, eight_bytes, all_bytes}
 
