@@ -10,31 +10,31 @@ use Rattle.mc_reply.specs.Line.{line}
 -- ---- one number
 
 -- the name of a number
-abbrev pub name_of : Stat → List ℕ
-name_of Gets = codes "cmd_get"
-name_of Sets = codes "cmd_set"
-name_of Hits = codes "get_hits"
-name_of Misses = codes "get_misses"
-name_of Items = codes "curr_items"
+abbrev pub stat_name : Stat → List ℕ
+stat_name Gets = codes "cmd_get"
+stat_name Sets = codes "cmd_set"
+stat_name Hits = codes "get_hits"
+stat_name Misses = codes "get_misses"
+stat_name Items = codes "curr_items"
 
 -- the number in a tally; a reply of another kind counts nothing
-abbrev pub count_in : Stat → CallReply → ℕ
-count_in Gets (Tally gets sets hits misses items) = gets
-count_in Sets (Tally gets sets hits misses items) = sets
-count_in Hits (Tally gets sets hits misses items) = hits
-count_in Misses (Tally gets sets hits misses items) = misses
-count_in Items (Tally gets sets hits misses items) = items
-count_in stat reply = 0
+abbrev pub stat_in : Stat → CallReply → ℕ
+stat_in Gets (Tally gets sets hits misses items) = gets
+stat_in Sets (Tally gets sets hits misses items) = sets
+stat_in Hits (Tally gets sets hits misses items) = hits
+stat_in Misses (Tally gets sets hits misses items) = misses
+stat_in Items (Tally gets sets hits misses items) = items
+stat_in stat reply = 0
 
 -- its sum over all tallies
 abbrev pub sum_in : Stat → List CallReply → ℕ
-sum_in stat replies = sum_by (count_in stat) replies
+sum_in stat replies = sum_by (stat_in stat) replies
 
 -- ---- the text
 
 -- the line of a number
 abbrev pub stat_line : Stat → ℕ → List ℕ
-stat_line stat number = line (codes "STAT " ++ name_of stat ++ codes " " ++ decimal number)
+stat_line stat number = line (codes "STAT " ++ stat_name stat ++ codes " " ++ decimal number)
 
 -- the line of a sum
 abbrev pub sum_line : Stat → List CallReply → List ℕ

@@ -1,6 +1,6 @@
 //! The lines that answer `stats`.
 ghost use Rattle.std.specs.Prelude.{◌≡◌, ◌≤◌, ◌+◌, ◌++◌, length, OnOk, OnErr};
-ghost use Rattle.mc_reply.specs.StatsText.{name_of, count_in, sum_in, stat_line, sum_line, stats_text};
+ghost use Rattle.mc_reply.specs.StatsText.{stat_name, stat_in, sum_in, stat_line, sum_line, stats_text};
 
 use crate::lines::{END, LINE_END};
 use std::mem;
@@ -70,15 +70,15 @@ fn put_line(out: &mut Reserved, stat: Stat, number: u128)
     ensures room { out.old.room ≤ out.new.room + 57 }
 {
     out.append(b"STAT ");
-    out.append(name_of(stat));
+    out.append(stat_name(stat));
     out.append(b" ");
     out.append_wide(number);
     out.append(LINE_END);
 }
 
 // The name of a number.
-fn name_of(stat: Stat) -> &'static [u8]
-    ensures value { result.now ≡ name_of stat }
+fn stat_name(stat: Stat) -> &'static [u8]
+    ensures value { result.now ≡ stat_name stat }
     ensures short { length result.now ≤ 10 }
 {
     match stat {
@@ -96,14 +96,14 @@ fn sum_of(replies: &[CallReply], stat: Stat) -> u128
 {
     let mut sum = 0u128;
     for at in 0..replies.len() {
-        sum += count_in(&replies[at], stat) as u128;
+        sum += stat_in(&replies[at], stat) as u128;
     }
     sum
 }
 
 // The number in a reply, 0 where it is no tally.
-fn count_in(reply: &CallReply, stat: Stat) -> u64
-    ensures value { result ≡ count_in stat reply.now }
+fn stat_in(reply: &CallReply, stat: Stat) -> u64
+    ensures value { result ≡ stat_in stat reply.now }
 {
     let Some(counts) = reply.counts() else {
         return 0;
