@@ -38,11 +38,12 @@ def storage(draw, shards):
 
 def meta(draw, shards):
     """A line of a meta command, with its block if it stores."""
-    name, key, value = draw.choice((b"mg", b"mg", b"ms", b"ms", b"md", b"mn")), draw.choice(KEYS), b"7" * draw.randrange(3)
-    letters = {b"mg": b"vkfcsq", b"ms": b"FCMTkq", b"md": b"kq", b"mn": b""}[name]
-    tokens = {b"F": b"%d" % draw.randrange(9), b"M": draw.choice((b"E", b"A", b"P", b"R", b"S", b"s", b"a")), b"T": b"-1",
-              b"C": b"%d" % (shards * draw.randrange(1, 4) + shard_of(key, shards))}
-    flags = [letter + tokens.get(letter, b"") for letter in (bytes([byte]) for byte in letters) if draw.randrange(3) == 0]
+    name = draw.choice((b"mg", b"mg", b"ms", b"ms", b"md", b"mn"))
+    key, value = draw.choice(KEYS), b"7" * draw.randrange(3)
+    letters = {b"mg": "vkfcsq", b"ms": "FCMTkq", b"md": "kq", b"mn": ""}[name]
+    tokens = {"F": draw.randrange(9), "M": draw.choice("EAPRSsa"), "T": -1,
+              "C": shards * draw.randrange(1, 4) + shard_of(key, shards)}
+    flags = [f"{letter}{tokens.get(letter, '')}".encode() for letter in letters if draw.randrange(3) == 0]
     draw.shuffle(flags)
     end = b"\n\n" if draw.randrange(9) == 0 else b"\r\n"
     words = {b"mn": [name], b"ms": [name, key, b"%d" % len(value), *flags]}.get(name, [name, key, *flags])

@@ -5,7 +5,8 @@ profile. memcached's answers were seen by sending each row to a new server.
 """
 import re
 
-# what was sent => what both answer: `|` ends a line, `c{n}` is a byte repeated, and three answers are short for those below
+# what was sent => what both answer; `|` ends a line, `c{n}` is a byte repeated, and some answers are short for those
+# of SHORT
 SAME = r"""
 MN|MG a| => ERROR|ERROR|
 mg|md|ms| => ERROR|ERROR|ERROR|
@@ -128,21 +129,34 @@ SHORT = {
     "LARGE": "SERVER_ERROR object too large for cache", "|": "\r\n",
 }
 
-# a faulty line of each kind, and what it is; each is answered by one line, and what follows it is read as lines
+# a faulty line of each kind; each is answered by this line, and what follows it is read as lines
 BAD_LINE = b"CLIENT_ERROR bad command line format\r\n"
 FAULTS = {
-    "a repeated letter": b"mg a k v k", "a repeated letter with tokens": b"ms a 1 T1 q T1", "a letter that md lacks": b"md a s",
-    "a letter that mg lacks": b"mg a O1", "a token on a letter without one": b"mg a v1", "the same of md": b"md a q0",
-    "the same of ms": b"ms a 1 k9", "a unique beside a mode": b"ms a 1 C5 MA", "a mode beside a unique": b"ms a 1 ME C5",
+    "a repeated letter": b"mg a k v k",
+    "a repeated letter with tokens": b"ms a 1 T1 q T1",
+    "a letter that md lacks": b"md a s",
+    "a letter that mg lacks": b"mg a O1",
+    "a token on a letter without one": b"mg a v1",
+    "a token on a letter of md": b"md a q0",
+    "a token on a letter of ms": b"ms a 1 k9",
+    "a unique beside a mode": b"ms a 1 C5 MA",
+    "a mode beside a unique": b"ms a 1 ME C5",
     "a key of 251 bytes": b"mg " + b"k" * 251,
     "a key of 251 bytes after md": b"md " + b"k" * 251,
     "a key of 251 bytes after ms": b"ms " + b"k" * 251 + b" 1",
-    "a datalen of 2^32": b"ms a 4294967296", "a datalen of 21 digits": b"ms a " + b"0" * 21,
+    "a datalen of 2^32": b"ms a 4294967296",
+    "a datalen of 21 digits": b"ms a " + b"0" * 21,
     "a datalen with a sign": b"ms a +1",
-    "a datalen that is a flag": b"ms a F5 1", "flags of 2^32": b"ms a 1 F4294967296", "flags without a number": b"ms a 1 F",
-    "a unique of 2^64": b"ms a 1 C18446744073709551616", "a unique without a number": b"ms a 1 C", "no mode": b"ms a 1 M",
-    "a mode of two letters": b"ms a 1 MSS", "another mode": b"ms a 1 MX",
-    "no exptime": b"ms a 1 T", "an exptime of 20 digits": b"ms a 1 T" + b"0" * 20,
+    "a datalen that is a flag": b"ms a F5 1",
+    "flags of 2^32": b"ms a 1 F4294967296",
+    "flags without a number": b"ms a 1 F",
+    "a unique of 2^64": b"ms a 1 C18446744073709551616",
+    "a unique without a number": b"ms a 1 C",
+    "no mode": b"ms a 1 M",
+    "a mode of two letters": b"ms a 1 MSS",
+    "another mode": b"ms a 1 MX",
+    "no exptime": b"ms a 1 T",
+    "an exptime of 20 digits": b"ms a 1 T" + b"0" * 20,
 }
 
 
@@ -170,10 +184,13 @@ def examples(lines):
     for name, line in FAULTS.items():
         for size in (65535, 1):
             lines(f"{name}, in segments of {size}", line + b"\r\nmn\r\n", BAD_LINE + b"MN\r\n", size=size)
-    for count, end, told in ((65536, b"\n", b"EN"), (65535, b"\r\n", b"EN"), (65536, b"\r\n", b"CLIENT_ERROR line too long")):
+    long = b"CLIENT_ERROR line too long"
+    for count, end, told in ((65536, b"\n", b"EN"), (65535, b"\r\n", b"EN"), (65536, b"\r\n", long)):
         lines(f"a meta line of {count} bytes, {end!r}", b"mg a".ljust(count) + end + b"mn\r\n", told + b"\r\nMN\r\n")
-    lines("a meta line of 65,536 bytes, byte at a time", b"mg a v".ljust(65534) + b" v\nmn\r\n", BAD_LINE + b"MN\r\n", size=1)
-    lines("a storage line of 65,536 bytes", b"ms a 1 F5".ljust(65534) + b" k\nx\r\nmg a f v\r\n", b"HD ka\r\nVA 1 f5\r\nx\r\n")
+    longest = b"mg a v".ljust(65534) + b" v\nmn\r\n"
+    lines("a meta line of 65,536 bytes, byte at a time", longest, BAD_LINE + b"MN\r\n", size=1)
+    lines("a storage line of 65,536 bytes", b"ms a 1 F5".ljust(65534) + b" k\nx\r\nmg a f v\r\n",
+          b"HD ka\r\nVA 1 f5\r\nx\r\n")
     lines("a key of 65,533 bytes", b"md " + b"k" * 65533 + b"\nmn\r\n", BAD_LINE + b"MN\r\n")
     lines("a meta block that is too large", b"ms a 1048577 q\r\n" + b"y" * 1048577 + b"\r\nmg a\r\n",
           b"SERVER_ERROR object too large for cache\r\nEN\r\n", size=4093)

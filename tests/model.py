@@ -36,7 +36,7 @@ TEXTS = {
 # the lines of `stats`: the name of each number, and its field in a tally
 STATS = [(b"cmd_get", "gets"), (b"cmd_set", "sets"), (b"get_hits", "hits"), (b"get_misses", "misses"), (b"curr_items", "items")]
 
-# the words after a meta command's name that there must be, the letters that it may have, and what those with a token say
+# how many words must follow a meta command's name, the letters that it may have, and what the tokens of some say
 LEAST = {"mn": 0, "mg": 1, "ms": 2, "md": 1}
 LETTERS = {"mg": "vkfcsq", "ms": "FCMTkq", "md": "kq"}
 TOKENS = {"F": "flags", "C": "unique", "T": "exptime", "M": "mode"}
@@ -98,11 +98,13 @@ def meta_of(verb, words):
     said = {letter: said_by(letter, flag[1:]) for letter, flag in zip(letters, flags)}
     is_listed = set(letters) <= set(LETTERS[verb]) and len(said) == len(letters)
     mode = said.pop("M", b"S")
-    if len(key) > MOST_KEY or not is_listed or None in [mode, *said.values(), *numbers.values()] or "C" in said and mode != b"S":
+    is_read = None not in [mode, *said.values(), *numbers.values()] and ("C" not in said or mode == b"S")
+    if len(key) > MOST_KEY or not is_listed or not is_read:
         return faulty(BAD_LINE)
     numbers.update({TOKENS[letter]: number for letter, number in said.items() if letter in TOKENS})
     call = {"mg": "get", "md": "delete", "ms": "cas" if "C" in said else MODES[mode]}[verb]
-    return Command(verb, [key], numbers, letters="".join(letter for letter in letters if letter not in TOKENS), call=call)
+    marks = "".join(letter for letter in letters if letter not in TOKENS)
+    return Command(verb, [key], numbers, letters=marks, call=call)
 
 
 def command_of(line):

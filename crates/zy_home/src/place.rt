@@ -131,11 +131,7 @@ pub(crate) fn feed_at(
 
 // Cuts an item of the connection. If its block is away, the frames that wait are offered. Says
 // whether its block is in the slot and was idle until now, and a frame waits for it.
-pub(crate) fn cut_at(
-    slot: &Option<Block>,
-    link: &mut Link,
-    item: &Rx,
-) -> Result<bool, NoMemory>
+pub(crate) fn cut_at(slot: &Option<Block>, link: &mut Link, item: &Rx) -> Result<bool, NoMemory>
     requires own { IsFor (conn_of link.old) item.now }
     ensures takes { OnOk result (TakesIn item.now link.old link.new) }
     ensures away { OnOk result (slot.now ≡ None → WaitsFull link.new) }

@@ -22,11 +22,7 @@ impl Home {
     /// Takes items from the outlet and receives them, until none is known or there were 64, and
     /// returns their number. All of them are cut first. Then each block in the home's hand that got
     /// an event is published, so a block may have the events of several items when it is claimed.
-    pub fn receive_all(
-        &mut self,
-        ring: &Ring<Block>,
-        outlet: &mut Outlet,
-    ) -> Result<u32, NoMemory>
+    pub fn receive_all(&mut self, ring: &Ring<Block>, outlet: &mut Outlet) -> Result<u32, NoMemory>
         requires table { self.old.pass.table ≡ ring.now.id }
         requires few { self.old.pass.count < 2 ^ 62 }
         requires live { self.old.refused ≡ false }
