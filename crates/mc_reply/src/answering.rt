@@ -25,7 +25,7 @@ pub(crate) fn answer_to(command: &Command, replies: &[CallReply]) -> Answer
             unless(*quiet, Answer::Line(lines::OK))
         }
         Command::Fault { line, quiet } => unless(*quiet, fault_answer(*line)),
-        Command::Get { .. } | Command::Meta { .. } => unreachable!(),
+        Command::Get { .. } | Command::Meta { .. } | Command::Stats => unreachable!(),
     }
 }
 
