@@ -59,10 +59,8 @@ fn reply_answer(reply: &CallReply) -> Answer
         CallReply::Number { number } => Answer::Number(*number),
         CallReply::NotNumber => Answer::Line(lines::NOT_NUMBER),
         CallReply::TooLarge => Answer::Line(lines::TOO_LARGE),
-        CallReply::Miss
-        | CallReply::Hit { .. }
-        | CallReply::Flushed
-        | CallReply::Tally { .. } => Answer::Nothing,
+        CallReply::Miss | CallReply::Hit { .. } | CallReply::Flushed | CallReply::Tally { .. } =>
+            Answer::Nothing,
     }
 }
 
