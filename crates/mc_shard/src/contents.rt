@@ -7,28 +7,28 @@ ghost use Rattle.mc_shard.specs.Step.{effect_in};
 
 use crate::change::Change;
 use crate::hashed::Hashed;
+use crate::trees::Trees;
 use std::alloc::Global;
-use std::collections::BTreeMap;
 use std::marker::Model;
 use zy_base::{Item, NoMemory};
 
 /// The items of a shard, and how many items it ever stored. Contracts see it as both.
 #[derive(Drop)]
 pub struct Contents {
-    items: BTreeMap<Hashed, Item>,
+    items: Trees,
     count: u64,
 }
 
 impl Model for Contents {
     ghost use Rattle.zy_base.specs.Shard.{State};
     ghost use Rattle.std.specs.Coded.{codes};
-    ghost use Rattle.mc_shard.specs.Contents.{items_in, items_code};
+    ghost use Rattle.mc_shard.specs.Contents.{items_code};
 
     ghost Value = { State };
 
     ghost coded = { Prim.hlevel (codes, items_code) };
 
-    ghost view = { λ c. record { items = items_in c.items.entries; count = c.count } };
+    ghost view = { λ c. record { items = c.items; count = c.count } };
 }
 
 impl Contents {
@@ -37,7 +37,7 @@ impl Contents {
         ensures value { result ≡ empty_state }
     {
         Contents {
-            items: BTreeMap::new(alloc),
+            items: Trees::new(alloc),
             count: 0,
         }
     }
@@ -132,15 +132,11 @@ impl Contents {
         ensures err { OnErr result (self.new ≡ self.old) }
     {
         match self.items.insert(key, item) {
-            Ok(before) => {
-                drop(before);
+            Ok(()) => {
                 self.count += 1;
                 Ok(())
             }
-            Err(back) => {
-                drop(back);
-                Err(NoMemory)
-            }
+            Err(e) => Err(e),
         }
     }
 
@@ -148,7 +144,7 @@ impl Contents {
     fn remove(&mut self, key: &Hashed)
         ensures value { self.new ≡ record { items = remove self.old.items key.now; count = self.old.count } }
     {
-        drop(self.items.remove(key));
+        self.items.remove(key);
     }
 
     // Removes all items.
