@@ -132,7 +132,8 @@ impl Contents {
         ensures err { OnErr result (self.new ≡ self.old) }
     {
         match self.items.insert(key, item) {
-            Ok(()) => {
+            Ok(before) => {
+                drop(before);
                 self.count += 1;
                 Ok(())
             }
@@ -144,7 +145,7 @@ impl Contents {
     fn remove(&mut self, key: &Hashed)
         ensures value { self.new ≡ record { items = remove self.old.items key.now; count = self.old.count } }
     {
-        self.items.remove(key);
+        drop(self.items.remove(key));
     }
 
     // Removes all items.

@@ -57,8 +57,9 @@ impl Trees {
         }
     }
 
-    /// Puts an item at a key.
-    pub fn insert(&mut self, key: Hashed, item: Item) -> Result<(), NoMemory>
+    /// Puts an item at a key, and answers the one that was there.
+    pub fn insert(&mut self, key: Hashed, item: Item) -> Result<Option<Item>, NoMemory>
+        ensures old { IfOk result (λ old. old ≡ get self.old key) }
         ensures ok { OnOk result (self.new ≡ insert self.old key item) }
         ensures err { OnErr result (self.new ≡ self.old) }
     {
@@ -72,13 +73,16 @@ impl Trees {
         }
     }
 
-    /// Removes the item of a key. Takes no memory.
-    pub fn remove(&mut self, key: &Hashed)
+    /// Removes the item of a key, and answers it. Takes no memory.
+    pub fn remove(&mut self, key: &Hashed) -> Option<Item>
+        ensures old { result ≡ get self.old key.now }
         ensures value { self.new ≡ remove self.old key.now }
     {
         let tree = key.tree();
         if tree < self.trees.len() {
-            drop(self.trees[tree].remove(key));
+            self.trees[tree].remove(key)
+        } else {
+            None
         }
     }
 
@@ -129,18 +133,16 @@ fn insert_in(
     trees: &mut Vec<BTreeMap<Hashed, Item>>,
     key: Hashed,
     item: Item,
-) -> Result<(), NoMemory>
+) -> Result<Option<Item>, NoMemory>
     requires trees { AreTrees trees.old.items }
     requires all { length trees.old.items ≡ 256 }
+    ensures old { IfOk result (λ old. old ≡ get (items_among trees.old.items) key) }
     ensures trees { AreTrees trees.new.items }
     ensures ok { OnOk result (items_among trees.new.items ≡ insert (items_among trees.old.items) key item) }
     ensures err { OnErr result (items_among trees.new.items ≡ items_among trees.old.items) }
 {
     match trees[key.tree()].insert(key, item) {
-        Ok(before) => {
-            drop(before);
-            Ok(())
-        }
+        Ok(before) => Ok(before),
         Err(back) => {
             drop(back);
             Err(NoMemory)
