@@ -3,3 +3,4 @@ pub mod TreeLemmas
 pub mod SoundLemmas
 pub mod UniqueLemmas
 pub mod KeyLemmas
+pub mod CountLemmas

@@ -3,7 +3,7 @@ use Rattle.std.specs.Prelude.{ℕ, ◌<◌, ◌≤◌, List, length, Option, Non
 use Rattle.std.specs.FinMap.{get}
 use Rattle.zy_base.specs.declared.item.Item.{Item}
 use Rattle.zy_base.specs.declared.call.Call.{Call}
-use Rattle.zy_base.specs.declared.call.Call.TheVariants.{Get, Set, Add, Replace, Append, Prepend, Cas, Incr, Decr, Delete, Flush}
+use Rattle.zy_base.specs.declared.call.Call.TheVariants.{Get, Set, Add, Replace, Append, Prepend, Cas, Incr, Decr, Delete, Flush, Tally}
 use Rattle.zy_base.specs.declared.call_reply.CallReply.{CallReply}
 use Rattle.zy_base.specs.declared.call_reply.CallReply.TheVariants.{Hit}
 use Rattle.zy_base.specs.declared.entry.Entry.{Entry}
@@ -33,6 +33,7 @@ IsCall (Incr key amount) = IsKey key
 IsCall (Decr key amount) = IsKey key
 IsCall (Delete key) = IsKey key
 IsCall Flush = Unit {0}
+IsCall Tally = Unit {0}
 
 -- the value of a reply is within its bound
 abbrev pub IsReply : CallReply → Type 0

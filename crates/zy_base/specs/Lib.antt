@@ -5,6 +5,7 @@ pub mod Key
 pub mod Number
 pub mod Limits
 pub mod Call
+pub mod Counted
 pub mod Shard
 pub mod Kind
 pub mod Code

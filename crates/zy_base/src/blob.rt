@@ -83,6 +83,16 @@ impl Blob {
     pub fn share(&mut self) -> Result<(), NoMemory>
         ensures value { self.new ≡ self.old }
     {
+        match &self.storage {
+            Storage::Own(_) => self.share_own(),
+            _ => Ok(()),
+        }
+    }
+
+    // The same for bytes in a vector of their own, which are moved.
+    fn share_own(&mut self) -> Result<(), NoMemory>
+        ensures value { self.new ≡ self.old }
+    {
         match mem::replace(&mut self.storage, Storage::Short(Short::new())) {
             Storage::Own(bytes) => match shared(self.alloc, bytes) {
                 Ok(storage) => {
