@@ -11,11 +11,13 @@ use Rattle.zy_base.specs.declared.call.Call.TheVariants.{Get as GetCall, Set as 
 use Rattle.zy_base.specs.declared.call.Call.{Call}
 use Rattle.mc_parse.specs.declared.verb.Verb.TheVariants.{Set, Add, Replace, Append, Prepend}
 use Rattle.mc_parse.specs.declared.command.Command.{Command}
-use Rattle.mc_parse.specs.declared.command.Command.TheVariants.{Store, Cas, Get, Delete, Count, Flush}
+use Rattle.mc_parse.specs.declared.command.Command.TheVariants.{Store, Cas, Get, Delete, Count, Flush, Meta}
+use Rattle.mc_parse.specs.declared.meta.Meta.{Meta as MetaCommand}
+use Rattle.mc_parse.specs.declared.meta.Meta.TheVariants as Metas
 use Rattle.mc_parse.specs.declared.shard_call.ShardCall.{ShardCall}
 use Rattle.zy_base.specs.declared.entry.Entry.{Entry}
 use Rattle.std.proofs.lemmas.List.{map-append}
-use Rattle.mc_parse.specs.Calls.{calls_of, flush_calls, asked_by, Due, due, due_at, due_from, due_of, dues_of, tag_of, tagged, at_key, get_at, on_shard, IsAtKey, IsOnShard, IsDueOn}
+use Rattle.mc_parse.specs.Calls.{calls_of, flush_calls, call_alone, meta_calls, asked_by, Due, due, due_at, due_from, due_of, dues_of, tag_of, tagged, at_key, get_at, on_shard, IsAtKey, IsOnShard, IsDueOn}
 
 -- the calls of gets are the gets of the keys asked for
 pub asked_by-gets : (shards : ℕ) (keys : List (List ℕ)) → asked_by (map (get_at shards) keys) ≡ map GetCall keys
@@ -27,6 +29,17 @@ asked_by-gets shards (key ∷ keys) = ap (λ (rest : List Call). GetCall key ∷
 -- where there is one call, there is none after it
 pub none_later : (call : ShardCall) (part : ℕ) → 0 < part → slice_get (call ∷ []) part ≡ None
 none_later call part later = slice_get_past (call ∷ []) part (omega (arith, later))
+
+-- a meta command has no second call
+pub no_later_meta : (shards : ℕ) (meta : MetaCommand) (part : ℕ) → 0 < part → slice_get (meta_calls shards meta) part ≡ None
+no_later_meta shards Metas.Noop part later = let none : List ShardCall = [] in slice_get_past none part (omega arith)
+no_later_meta shards (Metas.Get key flags) part later = none_later (get_at shards key) part later
+no_later_meta shards (Metas.Set key call marks) part later = go (key_of call)
+  where
+    go : (key : Option (List ℕ)) → slice_get (call_alone shards call key) part ≡ None
+    go None = let none : List ShardCall = [] in slice_get_past none part (omega arith)
+    go (Some key) = none_later (at_key shards key call) part later
+no_later_meta shards (Metas.Delete key flags) part later = none_later (at_key shards key (DeleteCall key)) part later
 
 -- the get of a key
 pub get_there : (shards : ℕ) (keys : List (List ℕ)) (part : ℕ) → slice_get (map (get_at shards) keys) part ≡ option_map (get_at shards) (slice_get keys part)
@@ -60,6 +73,16 @@ all_flushes P first (suc count) each =
     All-cons P (on_shard FlushCall first) (map (on_shard FlushCall) (range_with_len (first + 1) count)) (each first (omega arith) (omega arith))
     (all_flushes P (first + 1) count (λ shard low high. each shard (omega arith) (omega arith)))
 
+all_metas : (P : ShardCall → Type 0) (shards : ℕ) → ((key : List ℕ) (call : Call) → key_of call ≡ Some key → P (at_key shards key call)) → (meta : MetaCommand) → All P (meta_calls shards meta)
+all_metas P shards keyed Metas.Noop = All-nil P
+all_metas P shards keyed (Metas.Get key flags) = one P (at_key shards key (GetCall key)) (keyed key (GetCall key) refl)
+all_metas P shards keyed (Metas.Set key call marks) = go (key_of call) refl
+  where
+    go : (found : Option (List ℕ)) → key_of call ≡ found → All P (call_alone shards call found)
+    go None is = All-nil P
+    go (Some key) is = one P (at_key shards key call) (keyed key call is)
+all_metas P shards keyed (Metas.Delete key flags) = one P (at_key shards key (DeleteCall key)) (keyed key (DeleteCall key) refl)
+
 -- what holds of each call on the shard of its key, and of a flush on each shard, holds of every
 -- call of a command
 pub all_calls : (P : ShardCall → Type 0) (shards : ℕ) → ((key : List ℕ) (call : Call) → key_of call ≡ Some key → P (at_key shards key call))
@@ -75,6 +98,7 @@ all_calls P shards keyed flush (Delete key quiet) = one P (at_key shards key (De
 all_calls P shards keyed flush (Count key true amount quiet) = one P (at_key shards key (Incr key amount)) (keyed key (Incr key amount) refl)
 all_calls P shards keyed flush (Count key false amount quiet) = one P (at_key shards key (Decr key amount)) (keyed key (Decr key amount) refl)
 all_calls P shards keyed flush (Flush quiet) = all_flushes P 0 shards (λ shard low high. flush shard (omega arith))
+all_calls P shards keyed flush (Meta meta) = all_metas P shards keyed meta
 all_calls P shards keyed flush command = All-nil P
 
 -- every call is on the shard of its key

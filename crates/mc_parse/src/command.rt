@@ -1,6 +1,7 @@
 //! Commands.
 
 use crate::error_line::ErrorLine;
+use crate::meta::Meta;
 use crate::verb::Verb;
 use zy_base::{Blob, Items};
 
@@ -57,5 +58,9 @@ pub enum Command {
     Fault {
         line: ErrorLine,
         quiet: bool,
+    },
+    /// A meta command.
+    Meta {
+        meta: Meta,
     },
 }

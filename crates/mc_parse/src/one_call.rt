@@ -1,9 +1,10 @@
 //! One call of a command.
 ghost use Rattle.std.specs.Prelude.{◌≡◌, ◌<◌, ◌≤◌, IfOk, IfErr, IfSome, Some, Err, slice_get};
-ghost use Rattle.mc_parse.specs.Calls.{calls_of, get_calls, flush_calls, at_key, IsOnShard};
+ghost use Rattle.mc_parse.specs.Calls.{calls_of, get_calls, flush_calls, meta_calls, at_key, IsOnShard};
 
 use crate::command::Command;
-use crate::listing::{counted_by, deleted, exchanged, stored_by};
+use crate::listing::{counted_by, deleted, exchanged, got, stored_by};
+use crate::meta::Meta;
 use crate::shard_call::ShardCall;
 use zy_base::{Blob, Call, NoMemory, shard_of};
 
@@ -52,12 +53,13 @@ fn first_call(command: &Command, shards: u32) -> Result<Option<ShardCall>, NoMem
             ..
         } => only_call(key, counted_by(*up, key, *amount), shards),
         Command::Flush { .. } => Ok(flush_at(0, shards)),
+        Command::Meta { meta } => meta_call(meta, shards),
         Command::Version | Command::Verbosity { .. } | Command::Fault { .. } => Ok(None),
     }
 }
 
 // A call of a command that is not its first.
-#[tactic(auto, using(crate::proofs::CallLemmas::none_later))]
+#[tactic(auto, using(crate::proofs::CallLemmas::none_later, crate::proofs::CallLemmas::no_later_meta))]
 fn later_call(command: &Command, part: usize, shards: u32) -> Result<Option<ShardCall>, NoMemory>
     requires some { 1 ≤ shards }
     requires later { 0 < part }
@@ -73,7 +75,25 @@ fn later_call(command: &Command, part: usize, shards: u32) -> Result<Option<Shar
         | Command::Count { .. }
         | Command::Version
         | Command::Verbosity { .. }
-        | Command::Fault { .. } => Ok(None),
+        | Command::Fault { .. }
+        | Command::Meta { .. } => Ok(None),
+    }
+}
+
+// The call of a meta command.
+fn meta_call(meta: &Meta, shards: u32) -> Result<Option<ShardCall>, NoMemory>
+    requires some { 1 ≤ shards }
+    ensures value { IfOk result (λ call. call ≡ slice_get (meta_calls shards meta.now) 0) }
+    ensures within { IfOk result (λ call. IfSome call (IsOnShard shards)) }
+{
+    match meta {
+        Meta::Noop => Ok(None),
+        Meta::Get { key, .. } => only_call(key, got(key), shards),
+        Meta::Set { call, .. } => match call.key() {
+            Some(key) => only_call(key, call.copy(), shards),
+            None => Ok(None),
+        },
+        Meta::Delete { key, .. } => only_call(key, deleted(key), shards),
     }
 }
 

@@ -1,3 +1,5 @@
+pub mod Line
+pub mod MetaText
 pub mod Text
 pub mod Answers
 pub mod Shape

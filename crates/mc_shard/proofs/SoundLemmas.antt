@@ -9,6 +9,7 @@ use Rattle.zy_base.specs.Call.{key_of}
 use Rattle.zy_base.specs.Code.{tally}
 use Rattle.zy_base.specs.Counted.{CallCounts, calls_with}
 use Rattle.zy_base.specs.Shard.{State, empty_state, tallied, counting, Effect, Outcome, outcome_of, item_at, outcome_on, reply_to, state_with, state_after}
+use Rattle.zy_base.specs.Bounds.{FitsEntry}
 use Rattle.zy_base.specs.History.{IsHistory, replayed}
 use Rattle.zy_base.specs.Order.{last_stamp}
 use Rattle.zy_base.proofs.EntryLemmas.{last_stamp-push}
@@ -40,8 +41,9 @@ pub IsSound-applied : (number shards last last' : ℕ) (contents contents' : Sta
     → e.stamp ≡ last'
     → last < last'
     → e.reply ≡ outcome.reply
+    → FitsEntry e
     → IsSound number shards last' contents' es'
-IsSound-applied number shards last last' contents contents' es es' e key outcome sound key_is outcome_is contents_are longer here stamp above reply =
+IsSound-applied number shards last last' contents contents' es es' e key outcome sound key_is outcome_is contents_are longer here stamp above reply fits =
     let of_table : outcome ≡ outcome_on contents e.call = outcome_is ∙ ap (λ k. outcome_of (tallied contents) e.call (item_at contents.items k)) key_is in
     let past : contents' ≡ state_after shards number contents e.call = contents_are ∙ ap (λ (o : Outcome). counting (state_with shards number contents o.effect) (calls_with contents.calls e.call o.reply)) of_table in
     let answered : e.reply ≡ reply_to (replayed shards number empty_state es) e.call =
@@ -50,7 +52,7 @@ IsSound-applied number shards last last' contents contents' es es' e key outcome
     record {
       within = sound.within;
       few = sound.few;
-      history_is = subst (IsHistory shards number) (sym longer) (IsHistory-push shards number es e sound.history_is here higher answered);
+      history_is = subst (IsHistory shards number) (sym longer) (IsHistory-push shards number es e sound.history_is here higher answered fits);
       contents_are = past ∙ ap (λ (s : State). state_after shards number s e.call) sound.contents_are ∙ sym (replayed-push shards number empty_state es e) ∙ ap (replayed shards number empty_state) (sym longer);
       last_is = sym stamp ∙ sym (last_stamp-push 0 es e) ∙ ap (last_stamp 0) (sym longer);
     }

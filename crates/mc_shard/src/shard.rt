@@ -11,7 +11,7 @@ use crate::made::Made;
 use crate::step::step_of;
 use std::alloc::Global;
 use std::marker::Model;
-use zy_base::{Call, Entries, Entry, NoMemory, Tag};
+use zy_base::{Call, Entries, Entry, NoMemory, Tag, numbers_fit};
 
 /// A shard of the store: items by their keys, how many items were ever stored, what was counted, and
 /// the history of all calls on it. Contracts see it as its number, the number of shards, and the history; its
@@ -183,6 +183,7 @@ impl Shard {
                 return Err((call, refused));
             }
         };
+        numbers_fit(tag, &call, &reply);
         let copy = match reply.copy() {
             Ok(copy) => copy,
             Err(refused) => {

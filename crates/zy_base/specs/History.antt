@@ -7,6 +7,8 @@ use Rattle.zy_base.specs.declared.call_reply.CallReply.{CallReply}
 use Rattle.zy_base.specs.Code.{tally}
 use Rattle.zy_base.specs.Counted.{counted}
 use Rattle.zy_base.specs.Shard.{State, empty_state, reply_to, state_after}
+use Rattle.std.specs.List.{AllByRecursion}
+use Rattle.zy_base.specs.Bounds.{FitsEntry}
 use Rattle.zy_base.specs.Order.{AreAt, at_shard, StampsRise, AreStampsBelow, history_of}
 use Rattle.zy_base.specs.Limits.{stamp_limit}
 
@@ -31,6 +33,8 @@ pub record IsHistory (shards number : ℕ) (history : List Entry) : Type 0 where
   pub place : AreAt number history
   -- the stamps rise strictly, from 1 or more
   pub stamps : StampsRise 0 history
+  -- flags, numbers and parts fit their bytes
+  pub fits : AllByRecursion FitsEntry history
 
 -- ---- all shards
 

@@ -5,3 +5,4 @@ pub mod CoreLemmas
 pub mod KeepLemmas
 pub mod TurnLemmas
 pub mod GroupLemmas
+pub mod ItemLemmas

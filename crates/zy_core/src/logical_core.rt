@@ -4,7 +4,7 @@ ghost use Rattle.zy_home.specs.Home.{HomeStands, is_settled};
 ghost use Rattle.zy_steal.specs.Steal.{AreIdle, seats_of};
 ghost use Rattle.zy_control.specs.declared.view.Role.TheVariants as roles;
 ghost use Rattle.zy_core.specs.Core.{AreOfOne, CoreKeeps, Fits, cored, identity_of};
-ghost use Rattle.zy_core.specs.Turn.{TurnTo};
+ghost use Rattle.zy_core.specs.Turn.{HasSteps, TurnTo};
 ghost use Rattle.zy_rx.specs.Feed.{rings_of};
 
 use crate::shared::Shared;
@@ -81,6 +81,7 @@ impl Core {
         requires few { self.old.turns < 2 ^ 48 }
         requires live { self.old.home.refused ≡ false }
         ensures turn { IfOk result (TurnTo self.old self.new) }
+        ensures steps { OnOk result (HasSteps self.old self.new) }
         ensures live { OnOk result (self.new.home.refused ≡ false) }
         ensures same { identity_of self.new ≡ identity_of self.old }
         ensures turns { self.new.turns ≡ self.old.turns + 1 }

@@ -4,12 +4,13 @@ use Rattle.std.specs.List.{AllByRecursion, filter, range_with_len}
 use Rattle.std.proofs.Common.{◌≡◌, ℕ, zero, suc, ◌+◌, ◌<◌, ◌≤◌, ◌^◌, List, [], ◌∷◌, Bool, true, false, cond, refl, sym, ap, ◌∙◌, subst, arith, eq-eqb}
 use Rattle.zy_base.specs.declared.entry.Entry.{Entry}
 use Rattle.zy_base.specs.declared.hold.Hold.{Hold}
-use Rattle.zy_base.specs.Bounds.{IsReply, IsCallWithin}
+use Rattle.zy_base.specs.Bounds.{IsReply, IsCallWithin, FitsEntry}
 use Rattle.zy_base.specs.Order.{of_connection, history_of, AreBelow, StampsRise, AreStampsBelow, IsMergeOf}
 use Rattle.zy_base.specs.History.{AreHistories}
 use Rattle.zy_capture.specs.Capture.{connection_limit}
 use Rattle.zy_journal.specs.Journal.{IsEntry, IsHold}
 use Rattle.zy_conn.specs.Hold.{EachIsHold}
+use Rattle.zy_finish.specs.Finish.{IsHoldBy}
 use Rattle.zy_run.specs.Run.{AreOfConnections}
 use Rattle.zy_finish.specs.Left.{AreOf}
 use Rattle.zy_setup.proofs.ListLemmas.{all_append}
@@ -39,6 +40,12 @@ merged_stamps : (shards : ℕ) (histories : List (List Entry)) (es : List Entry)
 merged_stamps shards histories es all merge =
     all_of_parts (λ (e : Entry). 0 < e.stamp) (λ e. e.shard) es
     (λ shard. subst (AllByRecursion (λ (e : Entry). 0 < e.stamp)) (sym (merge.parts shard)) (some_stamps 0 (history_of histories shard) (all.each shard).stamps))
+
+-- the numbers of a merge fit their fields
+pub merged_fit : (shards : ℕ) (histories : List (List Entry)) (es : List Entry) → AreHistories shards histories → IsMergeOf histories es → AllByRecursion FitsEntry es
+merged_fit shards histories es all merge =
+    all_of_parts FitsEntry (λ e. e.shard) es
+    (λ shard. subst (AllByRecursion FitsEntry) (sym (merge.parts shard)) (all.each shard).fits)
 
 -- ---- entries
 
@@ -72,21 +79,33 @@ merged_entries shards count histories es few_shards few all merge below stamps c
 -- ---- holds
 
 -- holds of a connection are of it alone
-pub holds_of : (conn other : ℕ) (hs : List Hold) → EachIsHold other hs → other ≡ conn → AreOf conn hs
-holds_of conn other [] each same = tt
-holds_of conn other (h ∷ hs) each same = (each.0.conn_is ∙ same, holds_of conn other hs each.1 same)
+pub holds_of : (cores conn other : ℕ) (hs : List Hold) → EachIsHold cores other hs → other ≡ conn → AreOf conn hs
+holds_of cores conn other [] each same = tt
+holds_of cores conn other (h ∷ hs) each same = (each.0.conn_is ∙ same, holds_of cores conn other hs each.1 same)
 
 -- they are within the bounds of the journal
-pub holds_within : (conn other : ℕ) (hs : List Hold) → EachIsHold other hs → other ≡ conn → conn < connection_limit → AllByRecursion IsHold hs
-holds_within conn other [] each same few = tt
-holds_within conn other (h ∷ hs) each same few = (
+pub holds_within : (cores conn other : ℕ) (hs : List Hold) → cores ≤ 64 → EachIsHold cores other hs → other ≡ conn → conn < connection_limit → AllByRecursion IsHold hs
+holds_within cores conn other [] most each same few = tt
+holds_within cores conn other (h ∷ hs) most each same few = (
   record {
     few_connections = (let is = each.0.conn_is in omega arith);
-    few_cores = each.0.core_is;
+    few_cores = (let is = each.0.core_is in omega arith);
     some_commands = (let some = each.0.some in omega arith);
     few_commands = each.0.limit;
   },
-  holds_within conn other hs each.1 same few,
+  holds_within cores conn other hs most each.1 same few,
+)
+
+-- they are by the cores that there are
+pub holds_by : (cores all other : ℕ) (hs : List Hold) → cores ≡ all → EachIsHold cores other hs → AllByRecursion (IsHoldBy all) hs
+holds_by cores all other [] same each = tt
+holds_by cores all other (h ∷ hs) same each = (
+  record {
+    core_is = (let is = each.0.core_is in omega arith);
+    some = each.0.some;
+    limit = each.0.limit;
+  },
+  holds_by cores all other hs same each.1,
 )
 
 -- the holds of connections from one on

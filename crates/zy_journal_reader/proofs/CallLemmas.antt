@@ -5,11 +5,10 @@ use Rattle.std.specs.Int.{to_be_bytes, w32, w64}
 use Rattle.zy_base.specs.declared.call.Call.{Call}
 use Rattle.zy_base.specs.declared.call_kind.CallFields.{CallFields}
 use Rattle.zy_base.specs.Code.{code_of, fields_of, call_of, hit_code, number_code, tally_code, last_reply_code, plain_reply}
-use Rattle.zy_base.specs.Bounds.{IsKey, IsValue, IsCall, IsReply}
+use Rattle.zy_base.specs.Bounds.{IsKey, IsValue, IsCall, IsReply, FitsCall, FitsReply}
 use Rattle.zy_base.proofs.CodeLemmas.{there, call_has, call_within, reply_within, plain_is}
 use Rattle.zy_journal.specs.Journal.{key_text, value_text, field_text, call_text, reply_text}
 use Rattle.zy_journal_reader.specs.declared.draft.Draft.{Draft}
-use Rattle.zy_journal_reader.specs.Verdict.{FitsCall, FitsReply}
 
 -- ---- tests
 

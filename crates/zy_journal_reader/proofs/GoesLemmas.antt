@@ -12,7 +12,7 @@ use Rattle.zy_base.specs.declared.call_reply.CallReply.TheVariants as Replies
 use Rattle.zy_base.specs.declared.tallied.Tallied.{Tallied}
 use Rattle.zy_base.specs.Shard.{value_limit}
 use Rattle.zy_base.specs.Code.{code_of, fields_of, call_of, last_call_code, hit_code, number_code, tally_code, last_reply_code, tally, plain_reply}
-use Rattle.zy_base.specs.Bounds.{IsKey, IsValue, IsCall, IsReply}
+use Rattle.zy_base.specs.Bounds.{IsKey, IsValue, IsCall, IsReply, FitsCall, FitsReply}
 use Rattle.zy_base.proofs.CodeLemmas.{there, either_of, kind_back, code_within, call_has, key_within, value_within, of_forms}
 use Rattle.zy_journal.specs.Journal.{key_text, value_text, field_text, call_text, reply_text}
 use Rattle.zy_journal_reader.specs.declared.draft.Draft.{Draft}
@@ -24,7 +24,7 @@ use Rattle.zy_journal_reader.specs.declared.due.LongField.TheVariants.{CallNumbe
 use Rattle.zy_journal_reader.specs.declared.due.BytesField.TheVariants.{Key, Value, FoundValue}
 use Rattle.zy_journal_reader.specs.Fields.{fresh, at_key, at_flags, at_number, at_value, entry_of}
 use Rattle.zy_journal_reader.specs.Steps.{Progress}
-use Rattle.zy_journal_reader.specs.Verdict.{read_from, FitsCall, FitsReply}
+use Rattle.zy_journal_reader.specs.Verdict.{read_from}
 use Rattle.zy_journal_reader.proofs.CallLemmas.{plain_text}
 use Rattle.zy_journal_reader.proofs.PlaceLemmas.{place, Goes, both, to, one_byte, four_bytes, eight_bytes, all_bytes}
 
@@ -208,10 +208,10 @@ tally_goes p d counts fits =
     nothing_more (tally_code ∷ (g ++ (s ++ (h ++ (m ++ i)))))
     (both (tally_code ∷ []) (g ++ (s ++ (h ++ (m ++ i)))) (one_byte p p d d ReplyCode (Long Gets) tally_code (λ at. refl) (λ at. refl))
     (both g (s ++ (h ++ (m ++ i))) (eight_bytes p p d d1 Gets (Long Sets) counts.gets fits.1.0 (λ at l. refl) (λ at l. refl))
-    (both s (h ++ (m ++ i)) (eight_bytes p p d1 d2 Sets (Long Hits) counts.sets fits.1.1.0 (λ at l. refl) (λ at l. refl))
-    (both h (m ++ i) (eight_bytes p p d2 d3 Hits (Long Misses) counts.hits fits.1.1.1.0 (λ at l. refl) (λ at l. refl))
-    (both m i (eight_bytes p p d3 d4 Misses (Long Items) counts.misses fits.1.1.1.1.0 (λ at l. refl) (λ at l. refl))
-    (eight_bytes p (after p d (tally counts)) d4 fresh Items (Byte Tag) counts.items fits.1.1.1.1.1 (λ at l. refl) (λ at l. refl)))))))
+    (both s (h ++ (m ++ i)) (eight_bytes p p d1 d2 Sets (Long Hits) counts.sets fits.1.1 (λ at l. refl) (λ at l. refl))
+    (both h (m ++ i) (eight_bytes p p d2 d3 Hits (Long Misses) counts.hits fits.1.2 (λ at l. refl) (λ at l. refl))
+    (both m i (eight_bytes p p d3 d4 Misses (Long Items) counts.misses fits.1.3 (λ at l. refl) (λ at l. refl))
+    (eight_bytes p (after p d (tally counts)) d4 fresh Items (Byte Tag) counts.items fits.1.4 (λ at l. refl) (λ at l. refl)))))))
 
 pub reply_goes : (p : Progress) (d : Draft) (reply : CallReply) → IsReply reply → FitsReply reply → Goes p d (Byte ReplyCode) (reply_text reply) (after p d reply) fresh (Byte Tag)
 reply_goes p d =

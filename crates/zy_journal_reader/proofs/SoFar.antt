@@ -8,7 +8,7 @@ use Rattle.zy_base.specs.declared.hold.Hold.{Hold}
 use Rattle.zy_base.specs.Order.{IsOrdered}
 use Rattle.zy_base.specs.Shard.{value_limit}
 use Rattle.zy_base.specs.Code.{code_of, hit_code, number_code, tally_code}
-use Rattle.zy_base.specs.Bounds.{IsCall}
+use Rattle.zy_base.specs.Bounds.{IsCall, FitsCall, FitsEntry}
 use Rattle.zy_journal.specs.Journal.{magic, call_text, entry_text, hold_text, IsEntry, IsHold, AreByConnection}
 use Rattle.zy_journal_reader.specs.declared.draft.Draft.{Draft}
 use Rattle.zy_journal_reader.specs.declared.past.Past.{Past}
@@ -19,7 +19,7 @@ use Rattle.zy_journal_reader.specs.declared.due.NumberField.TheVariants.{Shard, 
 use Rattle.zy_journal_reader.specs.declared.due.LongField.TheVariants.{Stamp, Index, CallNumber, FoundUnique, ReplyNumber, Gets, Sets, Hits, Misses, Items}
 use Rattle.zy_journal_reader.specs.declared.due.BytesField.TheVariants.{Key, Value, FoundValue}
 use Rattle.zy_journal_reader.specs.Steps.{Progress, journal_limit}
-use Rattle.zy_journal_reader.specs.Verdict.{FitsCall, FitsEntry, AreBytes}
+use Rattle.zy_journal_reader.specs.Verdict.{AreBytes}
 use Rattle.zy_journal_reader.proofs.CallLemmas.{fields_in, call_in, to_flags, to_number, to_value, KeyKnown, FlagsKnown, NumberKnown}
 
 -- the bytes before the record that is read

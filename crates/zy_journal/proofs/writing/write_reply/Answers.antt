@@ -11,7 +11,7 @@ unfolding reply_text
 returns-in-Err g c =
     let reply : CallReply = c.args.reply.now in
     record {
-      writes = writes_no_more g.K.Sink.holds g.K.Sink.faults c.args.sink.now c.write_whole.new.sink c.in-Err.failed (reply_code reply ∷ [])
+      writes = writes_no_more g.K.Sink.holds g.K.Sink.faults g.K.Sink.finishes c.args.sink.now c.write_whole.new.sink c.in-Err.failed (reply_code reply ∷ [])
           (field_text counts_text (reply_counts reply) ++ fields_text (reply_flags reply) (reply_number reply) (reply_value reply))
           (rw (← c.code.ensures.value) c.in-Err.ensures.writes);
     }
@@ -36,9 +36,9 @@ returns g c =
     let counts : List ℕ = field_text counts_text (reply_counts reply) in
     let fields : List ℕ = fields_text (reply_flags reply) (reply_number reply) (reply_value reply) in
     record {
-      writes = writes_on g.K.Sink.holds g.K.Sink.faults c.args.sink.now c.write_whole.new.sink c.write_fields.new.sink c.write_fields.result (reply_code reply ∷ []) (counts ++ fields)
-          (rw (← c.code.ensures.value) c.in_default.ensures.writes.whole) c.in_default.ensures.writes.count
-          (writes_on g.K.Sink.holds g.K.Sink.faults c.write_whole.new.sink c.write_counts.new.sink c.write_fields.new.sink c.write_fields.result counts fields
-          (rw (← c.counts.ensures.value) c.in_default-write_counts.ensures.writes.whole) c.in_default-write_counts.ensures.writes.count
-          (rw (← c.flags.ensures.value, ← c.number.ensures.value, ← c.value.ensures.value) c.write_fields.ensures.writes));
+      writes = writes_on g.K.Sink.holds g.K.Sink.faults g.K.Sink.finishes c.args.sink.now c.write_whole.new.sink c.write_fields.new.sink c.write_fields.result (reply_code reply ∷ []) (counts ++ fields)
+           (rw (← c.code.ensures.value) c.in_default.ensures.writes.whole) c.in_default.ensures.writes.count c.in_default.ensures.writes.unfinished
+           (writes_on g.K.Sink.holds g.K.Sink.faults g.K.Sink.finishes c.write_whole.new.sink c.write_counts.new.sink c.write_fields.new.sink c.write_fields.result counts fields
+           (rw (← c.counts.ensures.value) c.in_default-write_counts.ensures.writes.whole) c.in_default-write_counts.ensures.writes.count c.in_default-write_counts.ensures.writes.unfinished
+           (rw (← c.flags.ensures.value, ← c.number.ensures.value, ← c.value.ensures.value) c.write_fields.ensures.writes));
     }

@@ -32,6 +32,7 @@ invariant_of-self-in-Ok-carry_out c =
     ∙ c.found_for-found.ensures.value (tallied c.self.inside.contents))
     (noted c.self.inside.shards c.self.inside.number c.self.inside.contents c.carry_out.new.self c.note.new.self (effect_in c.args.key c.in-Ok.step.change) c.args.call c.in-Ok.step.reply c.in-Ok-carry_out.ensures.ok c.note.ensures.value)
     (rw c.reserve.ensures.items at c.push_reserved.ensures.items) refl refl (omega arith) refl
+    (record { part = c.numbers_fit.ensures.part; call = c.numbers_fit.ensures.call; reply = c.numbers_fit.ensures.reply })
 
 pub returns-in-Ok-carry_out-clause-sound : goal.returns-in-Ok-carry_out-clause-sound
 returns-in-Ok-carry_out-clause-sound c = (invariant_of-self-in-Ok-carry_out c).history_is
