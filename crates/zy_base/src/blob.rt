@@ -178,6 +178,19 @@ impl Blob {
         }
     }
 
+    /// Takes room for at least `more` further bytes. The bytes stay the same.
+    pub fn make_room(&mut self, more: usize) -> Result<(), NoMemory>
+        ensures value { self.new ≡ self.old }
+    {
+        match self.reserve(more) {
+            Ok(reserved) => {
+                self.put(Storage::Own(reserved.bytes));
+                Ok(())
+            }
+            Err(refused) => Err(refused),
+        }
+    }
+
     // Replaces the bytes, and lets the former ones go.
     fn put(&mut self, storage: Storage)
         requires within { IsWithin storage }
