@@ -42,28 +42,28 @@ is_miss call reply = false
 -- ---- the keys of the items
 
 -- a set of keys
-abbrev pub Keys : Type 0
-Keys = FinMap (slice_cmp nat_cmp) ⊤
+abbrev pub KeySet : Type 0
+KeySet = FinMap (slice_cmp nat_cmp) ⊤
 
 -- no keys
-abbrev pub no_keys : Keys
+abbrev pub no_keys : KeySet
 no_keys = empty
 
 -- the keys after this reply to a call on a key, or to a call without one: what was stored or counted
 -- has its key among them, and what was deleted has not
-abbrev pub keys_by : Option (List ℕ) → CallReply → Keys → Keys
+abbrev pub keys_by : Option (List ℕ) → CallReply → KeySet → KeySet
 keys_by (Some key) Stored keys = insert keys key tt
 keys_by (Some key) (Number number) keys = insert keys key tt
 keys_by (Some key) Deleted keys = remove keys key
 keys_by key reply keys = keys
 
 -- the keys after an entry: a flush leaves none
-abbrev pub keys_with : Keys → Call → CallReply → Keys
+abbrev pub keys_with : KeySet → Call → CallReply → KeySet
 keys_with keys Flush reply = no_keys
 keys_with keys call reply = keys_by (key_of call) reply keys
 
 -- the keys after these entries
-abbrev pub keys_after : Keys → List Entry → Keys
+abbrev pub keys_after : KeySet → List Entry → KeySet
 keys_after keys es = fold (λ keys (e : Entry). keys_with keys e.call e.reply) keys es
 
 -- ---- all entries of one shard
@@ -93,14 +93,14 @@ abbrev pub no_calls : CallCounts
 no_calls = record { gets = 0; sets = 0; hits = 0; misses = 0 }
 
 -- one more where the test holds
-abbrev pub one_if : Bool → ℕ → ℕ
-one_if test count = if test then count + 1 else count
+abbrev pub one_more_if : Bool → ℕ → ℕ
+one_more_if test count = if test then count + 1 else count
 
 -- the counts after a call with this reply
 abbrev pub calls_with : CallCounts → Call → CallReply → CallCounts
 calls_with counts call reply = record {
-  gets = one_if (is_get call) counts.gets;
-  sets = one_if (is_set call) counts.sets;
-  hits = one_if (is_hit call reply) counts.hits;
-  misses = one_if (is_miss call reply) counts.misses;
+  gets = one_more_if (is_get call) counts.gets;
+  sets = one_more_if (is_set call) counts.sets;
+  hits = one_more_if (is_hit call reply) counts.hits;
+  misses = one_more_if (is_miss call reply) counts.misses;
 }

@@ -1,7 +1,7 @@
 use Rattle.std.proofs.Common.{◌≡◌, ap, sym, ◌∙◌}
 use Rattle.std.specs.Prelude.{is_some}
 use Rattle.std.specs.FinMap.{contains_key}
-use Rattle.mc_shard.specs.Contents.{calls_in}
+use Rattle.mc_shard.specs.Contents.{call_counts_in}
 use Rattle.mc_shard.proofs.CountLemmas.{counts_removed, calls-removed, some_items}
 use Rattle.mc_shard.proofs.contents.Contents.remove.Goals as goal
 
@@ -18,5 +18,5 @@ invariant_of-self c =
 pub returns : goal.returns
 returns c =
     let same = c.remove-found.ensures.value in
-    let calls = ap calls_in c.count_removed.ensures.value ∙ calls-removed c.self.inside.counts c.is_some.result in
+    let calls = ap call_counts_in c.count_removed.ensures.value ∙ calls-removed c.self.inside.counts c.is_some.result in
     rw (← c.self.view_is) (record { value = λ i. record { items = same i; count = c.self.inside.count; calls = calls i } })
