@@ -188,8 +188,19 @@ impl Blob {
         }
     }
 
-    /// Takes room for at least `more` further bytes. The bytes stay the same.
+    /// Takes room for at least `more` further bytes, where they do not fit in place. The bytes stay the
+    /// same.
     pub fn make_room(&mut self, more: usize) -> Result<(), NoMemory>
+        ensures value { self.new ≡ self.old }
+    {
+        match &self.storage {
+            Storage::Short(short) if more <= ROOM - short.bytes().len() => Ok(()),
+            _ => self.make_room_in_vector(more),
+        }
+    }
+
+    // The same in a vector.
+    fn make_room_in_vector(&mut self, more: usize) -> Result<(), NoMemory>
         ensures value { self.new ≡ self.old }
     {
         match self.reserve(more) {
