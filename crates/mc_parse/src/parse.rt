@@ -20,6 +20,12 @@ use crate::word::next_word;
 use std::alloc::Global;
 use zy_base::{Blob, NoMemory};
 
+// Room for keys is taken at first as if each had this many bytes with the space before it, and for so
+// many at most.
+const WORD_LENGTH: usize = 6;
+
+const WORD_ROOM: usize = 128;
+
 /// The command of a line that needs nothing. The line is given without the bytes that end it.
 /// A fault of the client is a command.
 #[tactic(auto, unfolding(crate::specs::Meaning::line_command))]
@@ -256,7 +262,7 @@ pub(crate) fn value_of(mut block: Blob) -> Blob
 fn copy_words(alloc: Global, text: &[u8]) -> Result<Keys, NoMemory>
     ensures value { IfOk result (λ keys. keys ≡ words text.now) }
 {
-    let mut keys = Keys::new(alloc);
+    let mut keys = Keys::with_capacity(alloc, (text.len() / WORD_LENGTH + 1).min(WORD_ROOM))?;
     let mut rest = text;
     while let Some(split) = next_word(rest) {
         if let Err(e) = push_copy(alloc, &mut keys, split.word) {

@@ -1,4 +1,5 @@
 pub mod MapLemmas
+pub mod TreeLemmas
 pub mod SoundLemmas
 pub mod UniqueLemmas
 pub mod KeyLemmas

@@ -13,10 +13,7 @@ use Rattle.std.specs.BTreeMap.{is_at}
 use Rattle.zy_base.specs.declared.item.Item.{Item}
 use Rattle.zy_base.specs.Key.{hash_of}
 use Rattle.mc_shard.specs.Contents.{hashed_cmp, hashed_total, items_in}
-
--- the item that the entries have at a key
-abbrev pub item_in : List (List ℕ × Item) → List ℕ → Option Item
-item_in entries key = lookup (is_at (hashed_cmp key)) entries
+use Rattle.mc_shard.specs.Trees.{item_in}
 
 -- keys that differ are ordered by their hashes, or by themselves where the hashes are equal
 differ_by : (hashes keys : Ordering) → is_eq keys ≡ false → is_eq (ordering_then hashes keys) ≡ false
@@ -34,6 +31,15 @@ alike_by key q Greater same = differ_by (nat_cmp (hash_of key) (hash_of q)) (sli
 -- the order by hashes finds the same keys as the order of a dictionary
 alike : (key q : List ℕ) → is_at (slice_cmp nat_cmp key) q ≡ is_at (hashed_cmp key) q
 alike key q = sym (alike_by key q (slice_cmp nat_cmp key q) refl)
+
+same_by : (key q : List ℕ) (order : Ordering) → order ≡ slice_cmp nat_cmp key q → is_eq order ≡ true → key ≡ q
+same_by key q Equal same is = slice_cmp-IsAntisymmetric nat_cmp-IsAntisymmetric key q (sym same)
+same_by key q Less same is = cc
+same_by key q Greater same is = cc
+
+-- a key is found only at itself
+pub same_at : (key q : List ℕ) → is_at (hashed_cmp key) q ≡ true → key ≡ q
+same_at key q is = same_by key q (slice_cmp nat_cmp key q) refl (alike key q ∙ is)
 
 find_lookup : (entries : List (List ℕ × Item)) (key : List ℕ) → find (slice_cmp nat_cmp) key entries ≡ item_in entries key
 find_lookup [] key = refl

@@ -2,17 +2,18 @@
 ghost use Rattle.std.specs.Prelude.{◌≡◌, ◌+◌, ◌^◌, ◌<◌, ◌≤◌, OnOk, OnErr, option_copied};
 ghost use Rattle.std.specs.FinMap.{insert, remove, empty};
 ghost use Rattle.zy_base.specs.Kind.{MayAnswer};
+ghost use Rattle.zy_base.specs.declared.tallied.Tallied.{Tallied};
 ghost use Rattle.zy_base.specs.Counted.{calls_with};
-ghost use Rattle.zy_base.specs.Shard.{item_at, empty_state, tallied, unique_of, state_with, with_calls};
+ghost use Rattle.zy_base.specs.Shard.{outcome_of, item_at, empty_state, tallied, unique_of, state_with, with_calls};
 ghost use Rattle.mc_shard.specs.Contents.{with_item};
 ghost use Rattle.mc_shard.specs.Step.{effect_in};
 
 use crate::change::Change;
 use crate::counting::{count_put, count_removed};
 use crate::hashed::Hashed;
+use crate::trees::Trees;
 use mc_stats::Counts;
 use std::alloc::Global;
-use std::collections::BTreeMap;
 use std::marker::Model;
 use zy_base::{Call, CallReply, Item, NoMemory, Tallied};
 
@@ -20,7 +21,7 @@ use zy_base::{Call, CallReply, Item, NoMemory, Tallied};
 /// its items, its counter and its counts of calls.
 #[derive(Drop)]
 pub struct Contents {
-    items: BTreeMap<Hashed, Item>,
+    items: Trees,
     count: u64,
     counts: Counts,
 }
@@ -28,19 +29,15 @@ pub struct Contents {
 impl Model for Contents {
     ghost use Rattle.zy_base.specs.Shard.{State};
     ghost use Rattle.std.specs.Coded.{codes};
-    ghost use Rattle.mc_shard.specs.Contents.{items_in, call_counts_in, items_code, AreCounts};
+    ghost use Rattle.mc_shard.specs.Contents.{call_counts_in, items_code, AreCounts};
 
     ghost Value = { State };
 
     ghost coded = { Prim.hlevel (codes, items_code) };
 
-    ghost view = { λ c. record {
-      items = items_in c.items.entries;
-      count = c.count;
-      calls = call_counts_in c.counts;
-    } };
+    ghost view = { λ c. record { items = c.items; count = c.count; calls = call_counts_in c.counts } };
 
-    ghost invariant = { λ c. AreCounts c.counts c.count (items_in c.items.entries) };
+    ghost invariant = { λ c. AreCounts c.counts c.count c.items };
 }
 
 impl Contents {
@@ -49,7 +46,7 @@ impl Contents {
         ensures value { result ≡ empty_state }
     {
         Contents {
-            items: BTreeMap::new(alloc),
+            items: Trees::new(alloc),
             count: 0,
             counts: Counts::new(),
         }
@@ -96,6 +93,17 @@ impl Contents {
         match key {
             Some(key) => self.items.get(key),
             None => None,
+        }
+    }
+
+    /// The item that decides what a call answers and does: that of its key, which a `set` has no need of.
+    pub fn found_for(&self, call: &Call, key: &Option<Hashed>) -> Option<&Item>
+        ensures value { (counts : Tallied) → outcome_of counts call.now (option_copied result)
+            ≡ outcome_of counts call.now (item_at self.now.items key.now) }
+    {
+        match call {
+            Call::Set { .. } => None,
+            _ => self.found(key),
         }
     }
 
@@ -178,10 +186,7 @@ impl Contents {
                 self.count += 1;
                 Ok(())
             }
-            Err(back) => {
-                drop(back);
-                Err(NoMemory)
-            }
+            Err(e) => Err(e),
         }
     }
 

@@ -10,6 +10,7 @@ mod made;
 mod replay;
 mod shard;
 mod step;
+mod trees;
 
 pub use laws::{
     a_flush_empties_and_keeps_the_counter, a_key_depends_on_its_own_calls,

@@ -170,7 +170,7 @@ impl Shard {
         ensures sound { IsHistory self.new.shards self.new.number self.new.history }
     {
         let stamp = self.last.max(seen) + 1;
-        let found = self.contents.found(&key);
+        let found = self.contents.found_for(&call, &key);
         let Step { reply, change } = match step_of(
             *self.history.allocator(),
             &call,

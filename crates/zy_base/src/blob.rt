@@ -93,6 +93,16 @@ impl Blob {
     pub fn share(&mut self) -> Result<(), NoMemory>
         ensures value { self.new ≡ self.old }
     {
+        match &self.storage {
+            Storage::Own(_) => self.share_own(),
+            _ => Ok(()),
+        }
+    }
+
+    // The same for bytes in a vector of their own, which are moved.
+    fn share_own(&mut self) -> Result<(), NoMemory>
+        ensures value { self.new ≡ self.old }
+    {
         match mem::replace(&mut self.storage, Storage::Short(Short::new())) {
             Storage::Own(bytes) => match shared(self.alloc, bytes) {
                 Ok(storage) => {
@@ -175,6 +185,30 @@ impl Blob {
                     Err(refused)
                 }
             },
+        }
+    }
+
+    /// Takes room for at least `more` further bytes, where they do not fit in place. The bytes stay the
+    /// same.
+    pub fn make_room(&mut self, more: usize) -> Result<(), NoMemory>
+        ensures value { self.new ≡ self.old }
+    {
+        match &self.storage {
+            Storage::Short(short) if more <= ROOM - short.bytes().len() => Ok(()),
+            _ => self.make_room_in_vector(more),
+        }
+    }
+
+    // The same in a vector.
+    fn make_room_in_vector(&mut self, more: usize) -> Result<(), NoMemory>
+        ensures value { self.new ≡ self.old }
+    {
+        match self.reserve(more) {
+            Ok(reserved) => {
+                self.put(Storage::Own(reserved.bytes));
+                Ok(())
+            }
+            Err(refused) => Err(refused),
         }
     }
 

@@ -10,8 +10,9 @@ use crate::outside::NoMemory;
 /// command, all from 0.
 #[derive(Clone, Copy, PartialEq, Eq)]
 pub struct Tag {
-    pub conn: u32,
+    // The index comes first, so that a tag has no gaps.
     pub index: u64,
+    pub conn: u32,
     pub part: u32,
 }
 

@@ -1,5 +1,5 @@
 //! Lists that contracts see as lists.
-ghost use Rattle.std.specs.Prelude.{◌≡◌, [], ◌∷◌, ◌++◌, OnOk, OnErr, IfErr};
+ghost use Rattle.std.specs.Prelude.{◌≡◌, [], ◌∷◌, ◌++◌, IfOk, OnOk, OnErr, IfErr};
 ghost use Rattle.std.specs.Cmp.Lexicographic.{pointwise, lists_per, lists_equiv};
 
 use crate::outside::NoMemory;
@@ -27,6 +27,16 @@ impl<T> Items<T> {
     {
         Items {
             items: Vec::new(alloc),
+        }
+    }
+
+    /// The empty list, with room for this many items.
+    pub fn with_capacity(alloc: Global, capacity: usize) -> Result<Items<T>, NoMemory>
+        ensures value { IfOk result (λ list. list ≡ []) }
+    {
+        match Vec::with_capacity(alloc, capacity) {
+            Ok(items) => Ok(Items { items }),
+            Err(_) => Err(NoMemory),
         }
     }
 

@@ -84,7 +84,9 @@ pub(crate) fn joined(alloc: Global, front: &[u8], back: &[u8]) -> Result<Storage
     ensures value { IfOk result (λ copy. bytes_of copy ≡ front.now ++ back.now) }
     ensures within { IfOk result (λ copy. IsWithin copy) }
 {
-    let mut bytes = Vec::new(alloc);
+    let Ok(mut bytes) = Vec::with_capacity(alloc, front.len() + back.len()) else {
+        return Err(NoMemory);
+    };
     if bytes.extend_from_slice(front).is_err() || bytes.extend_from_slice(back).is_err() {
         return Err(NoMemory);
     }

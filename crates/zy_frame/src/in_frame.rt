@@ -1,5 +1,5 @@
 //! Steps in a line that is too long, and in blocks.
-ghost use Rattle.std.specs.Prelude.{◌≡◌, ◌<◌, ◌≤◌, ◌+◌, length, IfOk};
+ghost use Rattle.std.specs.Prelude.{◌≡◌, ◌<◌, ◌≤◌, ◌+◌, ◌++◌, length, IfOk, OnOk, OnErr};
 ghost use Rattle.zy_frame.specs.declared.state.State.TheVariants.{Long, Block, Large};
 ghost use Rattle.zy_frame.specs.Progress.{IsKeptBlock, IsLargeBlock};
 ghost use Rattle.zy_frame.specs.Steps.{awaited, Goes};
@@ -13,6 +13,9 @@ use crate::step::Step;
 use crate::wanted::Wanted;
 use std::alloc::Global;
 use zy_base::{Blob, NoMemory};
+
+// The most room that is taken for a block before its bytes have come.
+const BLOCK_ROOM: usize = 1_024;
 
 // In a line that is too long: its bytes are not kept.
 pub(crate) fn step_in_long(alloc: Global, bytes: &[u8]) -> Step
@@ -48,7 +51,7 @@ pub(crate) fn step_in_block(
 {
     let taken = bytes.len();
     if taken < wanted.left {
-        if let Err(e) = block.append(bytes) {
+        if let Err(e) = grow_block(&mut block, wanted.left, bytes) {
             drop(wanted);
             drop(block);
             return Err(e);
@@ -61,6 +64,20 @@ pub(crate) fn step_in_block(
         });
     }
     end_block(alloc, wanted, block, bytes)
+}
+
+// Bytes of a block have come, of which `left` were still to come. The first take room for the others, or
+// for some of them where a client announces many.
+pub(crate) fn grow_block(block: &mut Blob, left: usize, bytes: &[u8]) -> Result<(), NoMemory>
+    ensures ok { OnOk result (block.new ≡ block.old ++ bytes.now) }
+    ensures err { OnErr result (block.new ≡ block.old) }
+{
+    if block.bytes().is_empty() {
+        if let Err(e) = block.make_room(left.min(BLOCK_ROOM)) {
+            return Err(e);
+        }
+    }
+    block.append(bytes)
 }
 
 // The last bytes of a block have come.

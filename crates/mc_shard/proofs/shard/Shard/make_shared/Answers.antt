@@ -12,7 +12,7 @@ use Rattle.mc_shard.proofs.shard.Shard.make_shared.Goals as goal
 -- the reply is of the table
 pub note-requires-clause-answers : goal.note-requires-clause-answers
 note-requires-clause-answers c =
-    subst (MayAnswer c.args.call) (sym (ap (λ (o : Outcome). o.reply) c.in-Ok.ensures.value)) (outcome_answers c.tallied.result c.args.call (option_copied c.found-found.result))
+    subst (MayAnswer c.args.call) (sym (ap (λ (o : Outcome). o.reply) c.in-Ok.ensures.value)) (outcome_answers c.tallied.result c.args.call (option_copied c.found_for-found.result))
 
 pub note-requires-clause-gets : goal.note-requires-clause-gets
 note-requires-clause-gets c =
@@ -28,8 +28,8 @@ pub invariant_of-self-in-Ok-carry_out : goal.invariant_of-self-in-Ok-carry_out
 invariant_of-self-in-Ok-carry_out c =
     IsSound-applied _ _ _ _ c.self.inside.contents _ _ _ _ c.args.key (outcome_in c.args.key c.in-Ok.step) c.self.invariant c.requires.key
     (ap (λ key. outcome_in key c.in-Ok.step) c.requires.key ∙ c.in-Ok.ensures.value
-    ∙ ap (λ counts. outcome_of counts c.args.call (option_copied c.found-found.result)) c.tallied.ensures.value
-    ∙ ap (outcome_of (tallied c.self.inside.contents) c.args.call) c.found-found.ensures.value)
+    ∙ ap (λ counts. outcome_of counts c.args.call (option_copied c.found_for-found.result)) c.tallied.ensures.value
+    ∙ c.found_for-found.ensures.value (tallied c.self.inside.contents))
     (noted c.self.inside.shards c.self.inside.number c.self.inside.contents c.carry_out.new.self c.note.new.self (effect_in c.args.key c.in-Ok.step.change) c.args.call c.in-Ok.step.reply c.in-Ok-carry_out.ensures.ok c.note.ensures.value)
     (rw c.reserve.ensures.items at c.push_reserved.ensures.items) refl refl (omega arith) refl
     (record { part = c.numbers_fit.ensures.part; call = c.numbers_fit.ensures.call; reply = c.numbers_fit.ensures.reply })
@@ -43,6 +43,6 @@ returns-in-Ok-carry_out-clause-counts c =
     subst (λ s. TallyCounts c.args.call c.in-Ok-copy.copy s.history) c.self.view_is
     (tally_counts c.self.inside.shards c.self.inside.number c.self.inside.history.items c.args.call c.in-Ok-copy.copy c.self.invariant.history_is
     (c.in-Ok-copy.ensures.value ∙ ap (λ (o : Outcome). o.reply) (c.in-Ok.ensures.value
-    ∙ ap (λ counts. outcome_of counts c.args.call (option_copied c.found-found.result)) c.tallied.ensures.value
-    ∙ ap (outcome_of (tallied c.self.inside.contents) c.args.call) c.found-found.ensures.value
+    ∙ ap (λ counts. outcome_of counts c.args.call (option_copied c.found_for-found.result)) c.tallied.ensures.value
+    ∙ c.found_for-found.ensures.value (tallied c.self.inside.contents)
     ∙ ap (λ key. outcome_of (tallied c.self.inside.contents) c.args.call (item_at c.self.inside.contents.items key)) c.requires.key) ∙ ap (λ (s : State). reply_to s c.args.call) c.self.invariant.contents_are))
