@@ -11,7 +11,7 @@ flush_all; flush_all noreply; flush_all 00 noreply; flush_all 1; flush_all 0 0; 
 mn; mn q; mg; mg a v v; mg a vk; mg a O7; mg a q1; mg b q; mg b k q; MG a; mgx a; ma a; md; md a v; md a k k; md b k q
 ms; ms a; ms a x; ms a 4294967296; ms a 000000000000000000001; ms a S1 F5; ms a 1 F; ms a 1 F4294967296; ms a 1 F1 F1
 ms a 1 C; ms a 1 C18446744073709551616; ms a 1 C5 ME; ms a 1 M; ms a 1 Mset; ms a 1 T; ms a 1 T+1; ms a 1 v; ms a 1 q1
-stats; GET a; get; gets; quit now; delete; delete noreply; delete a noreply; delete a 1; delete b 00; delete a 0 a
+stats; stats; stats items; stats noreply; GET a; get; gets; quit now; delete; delete noreply; delete a noreply; delete a 1; delete b 00; delete a 0 a
 delete b 00 noreply; incr a; incr a z; incr a noreply; incr a z noreply; decr a 1 1; incr a 18446744073709551615
 incr a 18446744073709551616; incr a 00000000000000000001 noreply; incr a 000000000000000000001; decr a -1; get noreply
 set a 0 0; set a 0 0 -1; set a 0 0 1 norepl; set a 4294967296 0 1; set a 0 0 4294967296; set a 0 +1 1; set a 0 - 1

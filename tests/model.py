@@ -17,7 +17,7 @@ FORMS = {
     "cas": "key flags exptime bytes unique [noreply]",
     "get": "key", "gets": "key", "delete": "key [zero] [noreply]",
     "incr": "key amount [noreply]", "decr": "key amount [noreply]",
-    "version": "", "verbosity": "level [noreply]", "flush_all": "[zero] [noreply]", "quit": "",
+    "version": "", "stats": "", "verbosity": "level [noreply]", "flush_all": "[zero] [noreply]", "quit": "",
 }
 # what the number of a word is below
 BOUNDS = {"flags": 1 << 32, "bytes": 1 << 32, "level": 1 << 32, "unique": 1 << 64, "amount": 1 << 64, "zero": 1}
@@ -32,6 +32,9 @@ TEXTS = {
     "deleted": b"DELETED", "too large": TOO_LARGE,
     "no number": b"CLIENT_ERROR cannot increment or decrement non-numeric value",
 }
+
+# the lines of `stats`: the name of each number, and its field in a tally
+STATS = [(b"cmd_get", "gets"), (b"cmd_set", "sets"), (b"get_hits", "hits"), (b"get_misses", "misses"), (b"curr_items", "items")]
 
 # how many words must follow a meta command's name, the letters that it may have, and what the tokens of some say
 LEAST = {"mn": 0, "mg": 1, "ms": 2, "md": 1}
@@ -191,8 +194,8 @@ def call_of(command, key):
 
 def calls(shards, command):
     """The calls of a command, each after its shard."""
-    if command.verb == "flush_all":
-        return [(shard, Call("flush")) for shard in range(shards)]
+    if command.verb in ("flush_all", "stats"):
+        return [(shard, Call("flush" if command.verb == "flush_all" else "tally")) for shard in range(shards)]
     return [(shard_of(key, shards), call_of(command, key)) for key in command.keys]
 
 
@@ -200,10 +203,10 @@ def calls(shards, command):
 
 
 class Shard:
-    """A shard: its items, and how many it stored."""
+    """A shard: its items, how many it stored, and its calls with their replies."""
 
     def __init__(self, number, shards):
-        self.number, self.shards, self.items, self.stored = number, shards, {}, 0
+        self.number, self.shards, self.items, self.stored, self.made = number, shards, {}, 0, []
 
     def store(self, key, flags, value):
         self.stored += 1
@@ -212,6 +215,12 @@ class Shard:
 
     def reply(self, call):
         """Makes a call, and gives its reply."""
+        reply = tally(self.made) if call.name == "tally" else self.answer(call)
+        self.made.append((call, reply))
+        return reply
+
+    def answer(self, call):
+        """Makes a call other than a tally."""
         item = self.items.get(call.key)
         if call.name == "get":
             return Reply("hit", item.flags, item.unique, item.value) if item else Reply("miss")
@@ -245,6 +254,27 @@ class Shard:
         number = (old + call.number) % (1 << 64) if call.name == "incr" else max(0, old - call.number)
         self.store(call.key, item.flags, b"%d" % number)
         return Reply("number", number=number)
+
+
+def keys_after(made):
+    """The keys of items after these calls."""
+    keys = set()
+    for call, reply in made:
+        if call.name == "flush":
+            keys = set()
+        elif call.key is not None and reply.name in ("stored", "number"):
+            keys.add(call.key)
+        elif call.key is not None and reply.name == "deleted":
+            keys.discard(call.key)
+    return keys
+
+
+def tally(made):
+    """What is counted of these calls and their replies."""
+    gets = [reply.name for call, reply in made if call.name == "get"]
+    sets = [call for call, _ in made if call.name in STORAGE or call.name == "cas"]
+    return Reply("tally", gets=len(gets), sets=len(sets), hits=gets.count("hit"), misses=gets.count("miss"),
+                 items=len(keys_after(made)))
 
 
 # ---- texts
@@ -281,6 +311,8 @@ def text_of(command, replies):
         return command.error + b"\r\n"
     if command.verb in ("get", "gets"):
         return b"".join(value_text(command.verb, *one) for one in zip(command.keys, replies)) + b"END\r\n"
+    if command.verb == "stats":
+        return b"".join(b"STAT %s %d\r\n" % (name, sum(getattr(reply, field) for reply in replies)) for name, field in STATS) + b"END\r\n"
     if command.verb == "version":
         return b"VERSION zygos-1.0\r\n"
     if command.verb in ("verbosity", "flush_all"):

@@ -7,12 +7,12 @@ use Rattle.std.specs.Prelude.{IfSome}
 use Rattle.std.proofs.lemmas.List.{length-drop}
 use borrow.Author.Tests.{leb-true}
 use Rattle.zy_base.specs.declared.call.Call.{Call}
-use Rattle.zy_base.specs.declared.call.Call.TheVariants.{Flush as FlushCall}
+use Rattle.zy_base.specs.declared.call.Call.TheVariants.{Flush as FlushCall, Tally}
 use Rattle.zy_base.specs.Call.{key_of}
 use Rattle.zy_base.specs.Number.{number_of}
-use Rattle.zy_base.specs.Bounds.{IsKey, IsValue}
+use Rattle.zy_base.specs.Bounds.{IsKey, IsValue, IsCall}
 use Rattle.mc_parse.specs.declared.command.Command.{Command}
-use Rattle.mc_parse.specs.declared.command.Command.TheVariants.{Store, Cas, Get, Delete, Count, Flush, Fault, Meta}
+use Rattle.mc_parse.specs.declared.command.Command.TheVariants.{Store, Cas, Get, Delete, Count, Flush, Fault, Meta, Stats}
 use Rattle.mc_parse.specs.declared.meta.Meta.{Meta as MetaCommand}
 use Rattle.mc_parse.specs.declared.meta.Meta.TheVariants as Commands
 use Rattle.mc_meta.specs.declared.meta_line.Span.{Span}
@@ -218,7 +218,7 @@ words_form (word ∷ ws) some =
     subst (λ o. IsForm (find o Errors.Unknown (λ name. form_after name ws))) (sym (is_among word names))
     (among_form (λ name. (ws : List (List ℕ)) → AreSome ws → list_all is_key (keys_among name ws) ≡ true → IsAskFound (ask_of name ws))
     (λ name. form_after name ws) (λ name found. after_form name ws found rest) word names
-    (store_found Verbs.Set, (store_found Verbs.Add, (store_found Verbs.Replace, (store_found Verbs.Append, (store_found Verbs.Prepend, (exchange_found, (all_keys, (all_keys, (delete_found, (count_found true, (count_found false, (λ ws some short. tt, (λ ws some short. verbosity_found ws, (λ ws some short. flush_found ws, (λ ws some short. tt, tt))))))))))))))))
+    (store_found Verbs.Set, (store_found Verbs.Add, (store_found Verbs.Replace, (store_found Verbs.Append, (store_found Verbs.Prepend, (exchange_found, (all_keys, (all_keys, (delete_found, (count_found true, (count_found false, (λ ws some short. tt, (λ ws some short. verbosity_found ws, (λ ws some short. flush_found ws, (λ ws some short. tt, (λ ws some short. tt, tt)))))))))))))))))
 
 -- ---- meta lines
 
@@ -317,9 +317,9 @@ gets_within : (shards : ℕ) (keys : List (List ℕ)) → AllByRecursion IsKey k
 gets_within shards [] each = tt
 gets_within shards (key ∷ keys) each = (each.0, gets_within shards keys each.1)
 
-flushes_within : (first count : ℕ) → AllByRecursion IsShardCall (map (on_shard FlushCall) (range_with_len first count))
-flushes_within first zero = tt
-flushes_within first (suc count) = (tt, flushes_within (first + 1) count)
+on_all_within : (call : Call) (first count : ℕ) → IsCall call → AllByRecursion IsShardCall (map (on_shard call) (range_with_len first count))
+on_all_within call first zero is = tt
+on_all_within call first (suc count) is = (is, on_all_within call (first + 1) count is)
 
 alone_within : (shards : ℕ) (call : Call) (key : Option (List ℕ)) → IsShardCall (on_shard call 0) → AllByRecursion IsShardCall (call_alone shards call key)
 alone_within shards call None is = tt
@@ -343,7 +343,8 @@ calls_within shards (Get keys unique) is = gets_within shards keys is
 calls_within shards (Delete key quiet) is = (is, tt)
 calls_within shards (Count key true amount quiet) is = (is, tt)
 calls_within shards (Count key false amount quiet) is = (is, tt)
-calls_within shards (Flush quiet) is = flushes_within 0 shards
+calls_within shards (Flush quiet) is = on_all_within FlushCall 0 shards tt
+calls_within shards Stats is = on_all_within Tally 0 shards tt
 calls_within shards (Meta meta) is = metas_within shards meta is
 calls_within shards command is = tt
 

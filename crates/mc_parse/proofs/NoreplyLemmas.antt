@@ -18,13 +18,13 @@ use Rattle.mc_parse.specs.Calls.{stored_by}
 use Rattle.mc_parse.specs.MetaAsk.{noops, meta_gets, meta_stores, meta_exchanges, meta_deletes}
 use Rattle.mc_parse.specs.declared.verb.Verb.{Verb}
 use Rattle.mc_parse.specs.declared.name.Name.{Name}
-use Rattle.mc_parse.specs.declared.name.Name.TheVariants.{Store, Cas, Get, Delete, Count, Version, Verbosity, Flush, Quit}
+use Rattle.mc_parse.specs.declared.name.Name.TheVariants.{Store, Cas, Get, Delete, Count, Version, Verbosity, Flush, Quit, Stats}
 use Rattle.mc_parse.specs.declared.sizes.Sizes.{Sizes}
 use Rattle.mc_parse.specs.Words.{words as words_of, is_noreply}
 use Rattle.mc_parse.specs.Name.{name_of, arity_of}
 use Rattle.mc_parse.specs.Number.{small_number_of, is_zero}
 use Rattle.mc_parse.specs.Arity.{Following, from_to, has_count, ends_in_noreply, but_last, lacks_noreply, asks_silence, following, following_of}
-use Rattle.mc_parse.specs.Form.{Ask, stores, exchanges, gets, deletes, counts, tells_version, sets_verbosity, flushes, quits, metas, Form, faulty, asks, is_key, keys_among, sizes_of, store_ask, cas_ask, store_words, cas_words, with_zero, delete_words, count_words, verbosity_words, ask_of, number_fault, check, find, form_with, form_after, form_of, line_form}
+use Rattle.mc_parse.specs.Form.{Ask, stores, exchanges, gets, deletes, counts, tells_version, tells_counts, sets_verbosity, flushes, quits, metas, Form, faulty, asks, is_key, keys_among, sizes_of, store_ask, cas_ask, store_words, cas_words, with_zero, delete_words, count_words, verbosity_words, ask_of, number_fault, check, find, form_with, form_after, form_of, line_form}
 use Rattle.mc_parse.specs.Need.{need_for}
 use Rattle.mc_parse.specs.Meaning.{command_for, block_command_for, large_command_for, is_ended, value_of, IsBlockFor, IsTooLarge, silenced}
 use Rattle.mc_parse.specs.Noreply.{may_be_quiet, is_loud, is_quiet, silent, with_noreply, EndsInNoreply}
@@ -246,6 +246,7 @@ silences_after (Get unique) words loud = let no : false ≡ true = sym (never_so
 silences_after Delete words loud = silences_some Delete 1 3 delete_ends words loud
 silences_after (Count up) words loud = silences_some (Count up) 2 3 (count_ends up) words loud
 silences_after Version words loud = let no : false ≡ true = sym (never_some Version words (has_count (arity_of Version) (length words)) refl) ∙ loud in absurd (cc)
+silences_after Stats words loud = let no : false ≡ true = sym (never_some Stats words (has_count (arity_of Stats) (length words)) refl) ∙ loud in absurd (cc)
 silences_after Verbosity words loud = silences_some Verbosity 1 2 verbosity_ends words loud
 silences_after Flush words loud = silences_some Flush 0 2 flush_ends words loud
 silences_after Quit words loud = let no : false ≡ true = sym (never_some Quit words (has_count (arity_of Quit) (length words)) refl) ∙ loud in absurd (cc)
@@ -356,6 +357,7 @@ quiet_after (Get unique) words quiet = let no : false ≡ true = sym (never_quie
 quiet_after Delete words quiet = quiet_some Delete 1 3 delete_ends words quiet
 quiet_after (Count up) words quiet = quiet_some (Count up) 2 3 (count_ends up) words quiet
 quiet_after Version words quiet = let no : false ≡ true = sym (never_quiet Version words (has_count (arity_of Version) (length words))) ∙ quiet in absurd (cc)
+quiet_after Stats words quiet = let no : false ≡ true = sym (never_quiet Stats words (has_count (arity_of Stats) (length words))) ∙ quiet in absurd (cc)
 quiet_after Verbosity words quiet = quiet_some Verbosity 1 2 verbosity_ends words quiet
 quiet_after Flush words quiet = quiet_some Flush 0 2 flush_ends words quiet
 quiet_after Quit words quiet = let no : false ≡ true = sym (never_quiet Quit words (has_count (arity_of Quit) (length words))) ∙ quiet in absurd (cc)
@@ -400,6 +402,7 @@ silent-line (asks (gets keys unique) quiet) loud alone = refl
 silent-line (asks (deletes key) quiet) loud alone = refl
 silent-line (asks (counts key up amount) quiet) loud alone = refl
 silent-line (asks tells_version quiet) loud alone = refl
+silent-line (asks tells_counts quiet) loud alone = refl
 silent-line (asks sets_verbosity quiet) loud alone = refl
 silent-line (asks flushes quiet) loud alone = refl
 silent-line (asks quits quiet) loud alone = absurd (cc)
@@ -419,6 +422,7 @@ silent-block (asks (gets keys unique) quiet) block fits = absurd fits
 silent-block (asks (deletes key) quiet) block fits = absurd fits
 silent-block (asks (counts key up amount) quiet) block fits = absurd fits
 silent-block (asks tells_version quiet) block fits = absurd fits
+silent-block (asks tells_counts quiet) block fits = absurd fits
 silent-block (asks sets_verbosity quiet) block fits = absurd fits
 silent-block (asks flushes quiet) block fits = absurd fits
 silent-block (asks quits quiet) block fits = absurd fits

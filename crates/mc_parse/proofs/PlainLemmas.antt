@@ -8,14 +8,14 @@ use Rattle.std.proofs.lemmas.List.Elements.{recursion_from_All, Contains-append_
 use Rattle.zy_base.specs.declared.call.Call.TheVariants.{Get as GetCall}
 use Rattle.zy_base.specs.Call.{key_of}
 use Rattle.mc_parse.specs.declared.command.Command.{Command}
-use Rattle.mc_parse.specs.declared.command.Command.TheVariants.{Store, Cas, Get, Delete, Count, Flush, Fault, Meta}
+use Rattle.mc_parse.specs.declared.command.Command.TheVariants.{Store, Cas, Get, Delete, Count, Flush, Fault, Meta, Stats}
 use Rattle.mc_parse.specs.declared.meta.Meta.{Meta as MetaCommand}
 use Rattle.mc_parse.specs.declared.meta.Meta.TheVariants as Metas
 use Rattle.mc_parse.specs.declared.verb.Verb.TheVariants.{Set, Add, Replace, Append, Prepend}
 use Rattle.mc_parse.specs.declared.shard_call.ShardCall.{ShardCall}
 use Rattle.mc_parse.specs.declared.error_line.ErrorLine.TheVariants.{BadChunk}
 use Rattle.mc_parse.specs.MetaAsk.{MetaAsk, noops, meta_gets, meta_stores, meta_exchanges, meta_deletes}
-use Rattle.mc_parse.specs.Form.{Ask, stores, exchanges, gets, deletes, counts, flushes, metas, Form, faulty, asks, line_form}
+use Rattle.mc_parse.specs.Form.{Ask, stores, exchanges, gets, deletes, counts, flushes, tells_counts, metas, Form, faulty, asks, line_form}
 use Rattle.mc_parse.specs.Meaning.{is_ended, value_of, alone_meta, value_meta, value_command, command_for, block_command_for, large_command_for, line_command, block_command, large_command}
 use Rattle.mc_parse.specs.Calls.{Due, calls_of, call_alone, meta_calls, get_at, on_shard, tag_of, tagged, due, due_from, due_at}
 use Rattle.mc_parse.specs.Plain.{key_list, meta_keys, keys_of, all_keys_of, IsPlainMeta, IsOwnMeta, IsPlain, IsKeyed, IsDueOwn, bare, IsOwnCommand, IsOwnAsk, IsOwnForm}
@@ -64,6 +64,7 @@ calls_keyed shards IsOwn (Delete key quiet) plain own = (record { key = key; nam
 calls_keyed shards IsOwn (Count key true amount quiet) plain own = (record { key = key; named = refl; own = own key (first_in key []); place = refl; steady = tt }, tt)
 calls_keyed shards IsOwn (Count key false amount quiet) plain own = (record { key = key; named = refl; own = own key (first_in key []); place = refl; steady = tt }, tt)
 calls_keyed shards IsOwn (Flush quiet) plain own = absurd plain
+calls_keyed shards IsOwn Stats plain own = absurd plain
 calls_keyed shards IsOwn (Meta meta) plain own = metas_keyed shards IsOwn meta plain own
 calls_keyed shards IsOwn command plain own = tt
 
@@ -110,6 +111,7 @@ metas_bare shards others conn index (Metas.Delete key flags) = refl
 calls_bare : (shards others conn index : ℕ) (command : Command) → IsPlain command → map bare (due_at shards conn index command) ≡ map bare (due_at others conn index command)
 calls_bare shards others conn index (Get keys unique) plain = gets_bare shards others conn index 0 keys
 calls_bare shards others conn index (Flush quiet) plain = absurd plain
+calls_bare shards others conn index Stats plain = absurd plain
 calls_bare shards others conn index (Meta meta) plain = metas_bare shards others conn index meta
 calls_bare shards others conn index command plain = refl
 
@@ -154,6 +156,7 @@ alone_own IsOwn (asks (gets keys false) quiet) own = record { plain = tt; keys =
 alone_own IsOwn (asks (deletes key) quiet) own = record { plain = tt; keys = (own, tt) }
 alone_own IsOwn (asks (counts key up amount) quiet) own = record { plain = tt; keys = (own, tt) }
 alone_own IsOwn (asks flushes quiet) own = absurd own
+alone_own IsOwn (asks tells_counts quiet) own = absurd own
 alone_own IsOwn (asks (metas ask) quiet) own = alone_meta_own IsOwn ask own
 alone_own IsOwn (asks ask quiet) own = record { plain = tt; keys = tt }
 

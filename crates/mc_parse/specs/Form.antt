@@ -8,7 +8,7 @@ use Rattle.mc_parse.specs.declared.error_line.ErrorLine.{ErrorLine}
 use Rattle.mc_parse.specs.declared.error_line.ErrorLine.TheVariants.{Unknown, BadLine, BadDelta}
 use Rattle.mc_parse.specs.declared.verb.Verb.{Verb}
 use Rattle.mc_parse.specs.declared.name.Name.{Name}
-use Rattle.mc_parse.specs.declared.name.Name.TheVariants.{Store, Cas, Get, Delete, Count, Version, Verbosity, Flush, Quit}
+use Rattle.mc_parse.specs.declared.name.Name.TheVariants.{Store, Cas, Get, Delete, Count, Version, Verbosity, Flush, Quit, Stats}
 use Rattle.mc_parse.specs.declared.sizes.Sizes.{Sizes}
 use Rattle.mc_meta.specs.declared.meta_line.MetaLine.{MetaLine}
 use Rattle.mc_meta.specs.declared.meta_line.MetaLine.TheVariants as Metas
@@ -37,6 +37,8 @@ pub data Ask : Type 0 where
   counts : List ℕ → Bool → ℕ → Ask
   -- report the version
   tells_version : Ask
+  -- report the counts
+  tells_counts : Ask
   -- set the verbosity
   sets_verbosity : Ask
   -- remove all items
@@ -61,6 +63,7 @@ ask_seen (Asked.Get keys unique) = gets (words keys.now) unique
 ask_seen (Asked.Delete key) = deletes key.now
 ask_seen (Asked.Count key up amount) = counts key.now up amount
 ask_seen Asked.Version = tells_version
+ask_seen Asked.Stats = tells_counts
 ask_seen Asked.Verbosity = sets_verbosity
 ask_seen Asked.Flush = flushes
 ask_seen Asked.Quit = quits
@@ -143,6 +146,7 @@ ask_of (Get unique) words = Some (gets words unique)
 ask_of Delete words = delete_words words
 ask_of (Count up) words = count_words up words
 ask_of Version words = Some tells_version
+ask_of Stats words = Some tells_counts
 ask_of Verbosity words = verbosity_words words
 ask_of Flush words = with_zero flushes words
 ask_of Quit words = Some quits

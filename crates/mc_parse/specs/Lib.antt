@@ -14,3 +14,4 @@ pub mod Plain
 pub mod Noreply
 pub mod SameCalls
 pub mod Worked
+pub mod OnAll

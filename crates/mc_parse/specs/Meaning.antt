@@ -2,7 +2,7 @@
 use Rattle.std.specs.Prelude.{◌≡◌, ℕ, ◌+◌, ◌-◌, ◌<◌, ◌≤◌, Bool, true, false, if◌then◌else◌, List, [], ◌∷◌, length, take, drop}
 use Rattle.std.specs.Str.{bytes_eq}
 use Rattle.mc_parse.specs.declared.command.Command.{Command}
-use Rattle.mc_parse.specs.declared.command.Command.TheVariants.{Store, Cas, Get, Delete, Count, Version, Verbosity, Flush, Fault, Meta}
+use Rattle.mc_parse.specs.declared.command.Command.TheVariants.{Store, Cas, Get, Delete, Count, Version, Verbosity, Flush, Fault, Meta, Stats}
 use Rattle.mc_parse.specs.declared.meta.Meta.TheVariants as Metas
 use Rattle.mc_parse.specs.declared.error_line.ErrorLine.{ErrorLine}
 use Rattle.mc_parse.specs.declared.error_line.ErrorLine.TheVariants.{Unknown, LongLine, BadChunk, TooLarge}
@@ -12,7 +12,7 @@ use Rattle.mc_parse.specs.declared.need.Need.{Need}
 use Rattle.mc_parse.specs.declared.need.Need.TheVariants.{Nothing, Block, Quit}
 use Rattle.mc_parse.specs.Calls.{stored_by}
 use Rattle.mc_parse.specs.MetaAsk.{MetaAsk, noops, meta_gets, meta_stores, meta_exchanges, meta_deletes}
-use Rattle.mc_parse.specs.Form.{Ask, stores, exchanges, gets, deletes, counts, tells_version, sets_verbosity, flushes, quits, metas, Form, line_form, faulty, asks}
+use Rattle.mc_parse.specs.Form.{Ask, stores, exchanges, gets, deletes, counts, tells_version, tells_counts, sets_verbosity, flushes, quits, metas, Form, line_form, faulty, asks}
 
 -- ---- blocks
 
@@ -71,6 +71,7 @@ alone_command (gets keys unique) quiet = Get keys unique
 alone_command (deletes key) quiet = Delete key quiet
 alone_command (counts key up amount) quiet = Count key up amount quiet
 alone_command tells_version quiet = Version
+alone_command tells_counts quiet = Stats
 alone_command sets_verbosity quiet = Verbosity quiet
 alone_command flushes quiet = Flush quiet
 alone_command quits quiet = fault Unknown
@@ -127,6 +128,7 @@ silenced (Get keys unique) = Get keys unique
 silenced (Delete key quiet) = Delete key true
 silenced (Count key up amount quiet) = Count key up amount true
 silenced Version = Version
+silenced Stats = Stats
 silenced (Verbosity quiet) = Verbosity true
 silenced (Flush quiet) = Flush true
 silenced (Fault line quiet) = Fault line true

@@ -7,12 +7,12 @@ use Rattle.zy_base.specs.Key.{shard_of}
 use Rattle.zy_base.specs.Told.{IsSteady}
 use Rattle.mc_parse.specs.declared.command.Command.{Command}
 use Rattle.mc_meta.specs.Flags.{is_among}
-use Rattle.mc_parse.specs.declared.command.Command.TheVariants.{Store, Cas, Get, Delete, Count, Flush, Meta}
+use Rattle.mc_parse.specs.declared.command.Command.TheVariants.{Store, Cas, Get, Delete, Count, Flush, Meta, Stats}
 use Rattle.mc_parse.specs.declared.meta.Meta.{Meta as MetaCommand}
 use Rattle.mc_parse.specs.declared.meta.Meta.TheVariants as Metas
 use Rattle.mc_parse.specs.declared.shard_call.ShardCall.{ShardCall}
 use Rattle.mc_parse.specs.MetaAsk.{MetaAsk, noops, meta_gets, meta_stores, meta_exchanges, meta_deletes}
-use Rattle.mc_parse.specs.Form.{Ask, stores, exchanges, gets, deletes, counts, flushes, metas, Form, faulty, asks}
+use Rattle.mc_parse.specs.Form.{Ask, stores, exchanges, gets, deletes, counts, flushes, tells_counts, metas, Form, faulty, asks}
 use Rattle.mc_parse.specs.Calls.{Due, on_shard}
 
 -- ---- commands
@@ -53,11 +53,12 @@ IsPlainMeta (Metas.Get key flags) = is_among flags unique_letter ≡ false
 IsPlainMeta (Metas.Set key call marks) = IsSteady call
 IsPlainMeta meta = Unit {0}
 
--- the command is no `gets`, no `cas`, no `flush_all`, no `mg` with `c` and no `ms` with `C`
+-- the command is no `gets`, no `cas`, no `flush_all`, no `stats`, no `mg` with `c` and no `ms` with `C`
 abbrev pub IsPlain : Command → Type 0
 IsPlain (Get keys true) = ⊥
 IsPlain (Cas key flags unique value quiet) = ⊥
 IsPlain (Flush quiet) = ⊥
+IsPlain Stats = ⊥
 IsPlain (Meta meta) = IsPlainMeta meta
 IsPlain command = Unit {0}
 
@@ -84,6 +85,7 @@ IsOwnAsk IsOwn (gets keys unique) = (unique ≡ false) × AllByRecursion IsOwn k
 IsOwnAsk IsOwn (deletes key) = IsOwn key
 IsOwnAsk IsOwn (counts key up amount) = IsOwn key
 IsOwnAsk IsOwn flushes = ⊥
+IsOwnAsk IsOwn tells_counts = ⊥
 IsOwnAsk IsOwn (metas ask) = IsOwnMeta IsOwn ask
 IsOwnAsk IsOwn ask = Unit {0}
 

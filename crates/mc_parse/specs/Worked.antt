@@ -58,8 +58,7 @@ nameless_lines =
 -- commands of memcached that are not supported here
 abbrev pub other_commands : List (List ℕ)
 other_commands =
-    codes "stats"
-    ∷ codes "stats reset"
+    codes "stats reset"
     ∷ codes "bget a"
     ∷ codes "touch a 0"
     ∷ codes "gat 0 a"

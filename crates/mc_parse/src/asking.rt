@@ -51,6 +51,8 @@ pub(crate) enum Ask<'a> {
     Flush,
     /// End the connection.
     Quit,
+    /// Report the counts.
+    Stats,
 }
 
 /// What a name asks for with the words that follow; `None` where a number is bad.
@@ -68,6 +70,7 @@ pub(crate) fn read_ask<'a>(name: Name, words: &[&'a [u8]]) -> Option<Ask<'a>>
         Name::Verbosity => read_verbosity(words),
         Name::Flush => read_zero(Ask::Flush, words),
         Name::Quit => Some(Ask::Quit),
+        Name::Stats => Some(Ask::Stats),
     }
 }
 

@@ -46,6 +46,8 @@ pub enum Command {
     },
     /// Reports the text of the version.
     Version,
+    /// Reports what all shards count.
+    Stats,
     /// Does nothing, but is answered.
     Verbosity {
         quiet: bool,

@@ -351,6 +351,7 @@ pub fn worked_commands()
     ensures incr { Means (codes "incr a 1") (Command.Count (codes "a") true 1 false) }
     ensures decr { Means (codes "decr a 1 noreply") (Command.Count (codes "a") false 1 true) }
     ensures version { Means (codes "version") Command.Version }
+    ensures stats { Means (codes "stats") Command.Stats }
     ensures verbosity { Means (codes "verbosity 1 noreply") (Command.Verbosity true) }
     ensures flush { Means (codes "flush_all") (Command.Flush false) }
     ensures fault { Means (codes "incr a x noreply") (Command.Fault Errors.BadDelta false) }
@@ -405,6 +406,8 @@ pub fn worked_calls()
         ≡ on_shard (Calls.Delete (codes "a")) 12 ∷ [] }
     ensures flush { calls_of 2 (Command.Flush false)
         ≡ on_shard Calls.Flush 0 ∷ on_shard Calls.Flush 1 ∷ [] }
+    ensures stats { calls_of 2 Command.Stats
+        ≡ on_shard Calls.Tally 0 ∷ on_shard Calls.Tally 1 ∷ [] }
     ensures none { calls_of 16 Command.Version ≡ [] }
 {}
 

@@ -15,6 +15,7 @@ mod meta_command;
 mod name;
 mod need;
 mod number;
+mod on_all;
 mod one_call;
 mod parse;
 mod reading;

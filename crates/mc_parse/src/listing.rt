@@ -1,10 +1,12 @@
 //! The calls of a command.
 ghost use Rattle.std.specs.Prelude.{◌≡◌, ◌≤◌, [], ◌∷◌, ◌++◌, Err, IfOk, IfErr, OnOk};
 ghost use Rattle.zy_base.specs.declared.call.Call.{Call};
-ghost use Rattle.mc_parse.specs.Calls.{calls_of, on_shard, at_key, get_calls, meta_calls, flush_calls, stored_by, counted_by};
+ghost use Rattle.mc_parse.specs.OnAll.{made_by};
+ghost use Rattle.mc_parse.specs.Calls.{calls_of, on_shard, at_key, get_calls, meta_calls, calls_on_all, stored_by, counted_by};
 
 use crate::command::Command;
 use crate::meta::Meta;
+use crate::on_all::OnAll;
 use crate::shard_call::{Calls, ShardCall};
 use crate::verb::Verb;
 use std::alloc::Global;
@@ -39,7 +41,8 @@ pub fn calls(alloc: Global, command: &Command, shards: u32) -> Result<Calls, NoM
             amount,
             ..
         } => one_call(alloc, key, counted_by(*up, key, *amount), shards),
-        Command::Flush { .. } => flush_calls(alloc, shards),
+        Command::Flush { .. } => calls_on_all(alloc, OnAll::Flush, shards),
+        Command::Stats => calls_on_all(alloc, OnAll::Tally, shards),
         Command::Meta { meta } => meta_calls(alloc, meta, shards),
         Command::Version | Command::Verbosity { .. } | Command::Fault { .. } => {
             Ok(Calls::new(alloc))
@@ -199,13 +202,13 @@ fn push(calls: &mut Calls, call: ShardCall) -> Result<(), NoMemory>
     }
 }
 
-// A flush of each shard.
-fn flush_calls(alloc: Global, shards: u32) -> Result<Calls, NoMemory>
-    ensures value { IfOk result (λ calls. calls ≡ flush_calls shards) }
+// The same call on each shard.
+fn calls_on_all(alloc: Global, made: OnAll, shards: u32) -> Result<Calls, NoMemory>
+    ensures value { IfOk result (λ calls. calls ≡ calls_on_all (made_by made) shards) }
 {
     let mut calls = Calls::new(alloc);
     for shard in 0..shards {
-        let call = Call::Flush;
+        let call = made.call();
         if let Err(e) = push(&mut calls, ShardCall { shard, call }) {
             drop(calls);
             return Err(e);

@@ -74,6 +74,7 @@ fn alone_command(alloc: Global, ask: Ask<'_>, quiet: bool) -> Result<Command, No
         Ask::Delete { key } => delete_command(alloc, key, quiet),
         Ask::Count { key, up, amount } => count_command(alloc, key, up, amount, quiet),
         Ask::Version => Ok(Command::Version),
+        Ask::Stats => Ok(Command::Stats),
         Ask::Verbosity => Ok(Command::Verbosity { quiet }),
         Ask::Flush => Ok(Command::Flush { quiet }),
         Ask::Store { .. } | Ask::Cas { .. } | Ask::Quit => Ok(fault(ErrorLine::Unknown)),

@@ -7,12 +7,12 @@ use Rattle.zy_base.specs.declared.call_reply.CallReply.TheVariants.{Hit}
 use Rattle.zy_base.specs.declared.entry.Entry.{Entry}
 use Rattle.zy_base.specs.Replies.{replies_at}
 use Rattle.mc_parse.specs.declared.command.Command.{Command}
-use Rattle.mc_parse.specs.declared.command.Command.TheVariants.{Store, Cas, Get, Delete, Count, Flush, Meta}
+use Rattle.mc_parse.specs.declared.command.Command.TheVariants.{Store, Cas, Get, Delete, Count, Flush, Meta, Stats}
 use Rattle.mc_parse.specs.declared.meta.Meta.{Meta as MetaCommand}
 use Rattle.mc_parse.specs.declared.meta.Meta.TheVariants as Metas
 use Rattle.mc_reply.specs.Text.{text, line, reply_line, only_line, item_text, items_text, unless}
 use Rattle.mc_reply.specs.Texts.{texts_from}
-use Rattle.mc_reply.specs.MetaText.{found_of, item_mark, mark_text, marks_text, marked, hit_text, get_text, set_text, delete_text, meta_text}
+use Rattle.mc_reply.specs.MetaText.{found_of, mark_text, marks_text, marked, hit_text, get_text, set_text, delete_text, meta_text}
 use Rattle.mc_meta.specs.Flags.{is_among}
 use Rattle.mc_parse.specs.Plain.{IsPlain, IsPlainMeta}
 use Rattle.zy_base.specs.Told.{told, told_of, all_told}
@@ -103,6 +103,7 @@ text-told (Get keys false) replies plain = ap (λ (items : List ℕ). items ++ l
 text-told (Delete key quiet) replies plain = ap (unless quiet) (only_line-told replies)
 text-told (Count key up amount quiet) replies plain = ap (unless quiet) (only_line-told replies)
 text-told (Flush quiet) replies plain = absurd plain
+text-told Stats replies plain = absurd plain
 text-told (Meta meta) replies plain = meta-told meta replies plain
 text-told command replies plain = refl
 

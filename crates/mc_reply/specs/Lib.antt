@@ -4,3 +4,4 @@ pub mod Text
 pub mod Answers
 pub mod Shape
 pub mod Texts
+pub mod StatsText

@@ -6,9 +6,10 @@ use Rattle.zy_base.specs.declared.call_reply.CallReply.TheVariants.{Miss, Hit, S
 use Rattle.mc_parse.specs.declared.error_line.ErrorLine.{ErrorLine}
 use Rattle.mc_parse.specs.declared.error_line.ErrorLine.TheVariants as Errors
 use Rattle.mc_parse.specs.declared.command.Command.{Command}
-use Rattle.mc_parse.specs.declared.command.Command.TheVariants.{Store, Cas, Get, Delete, Count, Version, Verbosity, Flush, Fault, Meta}
+use Rattle.mc_parse.specs.declared.command.Command.TheVariants.{Store, Cas, Get, Delete, Count, Version, Verbosity, Flush, Fault, Meta, Stats}
 pub use Rattle.mc_reply.specs.Line.{line_end, line, too_large, unless}
 use Rattle.mc_reply.specs.MetaText.{meta_text}
+use Rattle.mc_reply.specs.StatsText.{stats_text}
 
 -- ---- lines
 
@@ -78,6 +79,7 @@ text (Cas key flags unique value quiet) replies = unless quiet (only_line replie
 text (Get keys unique) replies = items_text unique keys replies ++ line (codes "END")
 text (Delete key quiet) replies = unless quiet (only_line replies)
 text (Count key up amount quiet) replies = unless quiet (only_line replies)
+text Stats replies = stats_text replies
 text Version replies = line (codes "VERSION zygos-1.0")
 text (Verbosity quiet) replies = unless quiet (line (codes "OK"))
 text (Flush quiet) replies = unless quiet (line (codes "OK"))

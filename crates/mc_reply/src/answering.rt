@@ -25,7 +25,7 @@ pub(crate) fn answer_to(command: &Command, replies: &[CallReply]) -> Answer
             unless(*quiet, Answer::Line(lines::OK))
         }
         Command::Fault { line, quiet } => unless(*quiet, fault_answer(*line)),
-        Command::Get { .. } | Command::Meta { .. } => unreachable!(),
+        Command::Get { .. } | Command::Meta { .. } | Command::Stats => unreachable!(),
     }
 }
 
@@ -59,10 +59,8 @@ fn reply_answer(reply: &CallReply) -> Answer
         CallReply::Number { number } => Answer::Number(*number),
         CallReply::NotNumber => Answer::Line(lines::NOT_NUMBER),
         CallReply::TooLarge => Answer::Line(lines::TOO_LARGE),
-        CallReply::Miss
-        | CallReply::Hit { .. }
-        | CallReply::Flushed
-        | CallReply::Tally { .. } => Answer::Nothing,
+        CallReply::Miss | CallReply::Hit { .. } | CallReply::Flushed | CallReply::Tally { .. } =>
+            Answer::Nothing,
     }
 }
 

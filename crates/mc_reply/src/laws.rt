@@ -11,6 +11,8 @@ ghost use Rattle.mc_parse.specs.declared.verb.Verb.TheVariants as Verbs;
 ghost use Rattle.mc_parse.specs.declared.error_line.ErrorLine.TheVariants as Errors;
 ghost use Rattle.zy_base.specs.Told.{told};
 ghost use Rattle.mc_parse.specs.Plain.{IsPlain};
+ghost use Rattle.mc_reply.specs.declared.stats.Stat.TheVariants as Stats;
+ghost use Rattle.mc_reply.specs.StatsText.{sum_in, stat_line};
 ghost use Rattle.mc_reply.specs.Text.{text};
 ghost use Rattle.mc_reply.specs.Texts.{texts_from, texts_of};
 
@@ -30,6 +32,8 @@ pub fn worked_answers()
     ensures number { text (Command.Count (codes "a") true 1 false) (Replies.Number 100 ∷ [])
         ≡ codes "100\r\n" }
     ensures version { text Command.Version [] ≡ codes "VERSION zygos-1.0\r\n" }
+    ensures stats { text Command.Stats (Replies.Tally 2 0 1 1 0 ∷ Replies.Tally 0 1 0 0 1 ∷ [])
+        ≡ codes "STAT cmd_get 2\r\nSTAT cmd_set 1\r\nSTAT get_hits 1\r\nSTAT get_misses 1\r\nSTAT curr_items 1\r\nEND\r\n" }
     ensures fault { text (Command.Fault Errors.TooLarge false) []
         ≡ codes "SERVER_ERROR object too large for cache\r\n" }
 {}
@@ -113,6 +117,8 @@ pub fn worked_limits()
         ≡ codes "18446744073709551615\r\n" }
     ensures zero { text (Command.Count (codes "a") false 1 false) (Replies.Number 0 ∷ [])
         ≡ codes "0\r\n" }
+    ensures sum { stat_line Stats.Gets (sum_in Stats.Gets (Replies.Tally 18446744073709551615 0 0 0 0
+        ∷ Replies.Tally 1 0 0 0 0 ∷ [])) ≡ codes "STAT cmd_get 18446744073709551616\r\n" }
 {}
 
 /// Each command has one text, made from the replies in its own entries.

@@ -9,6 +9,7 @@ mod length;
 mod lines;
 mod marks;
 mod meta_answer;
+mod stats;
 mod writing;
 
 pub use laws::{

@@ -10,6 +10,7 @@ use crate::item::put_item;
 use crate::length::items_length;
 use crate::lines::{END, LINE_END};
 use crate::meta_answer::append_meta;
+use crate::stats::append_stats;
 use mc_parse::Command;
 use std::mem;
 use zy_base::{Blob, CallReply, NoMemory, Replies, Reserved, number_text};
@@ -27,6 +28,7 @@ pub fn reply_text(out: &mut Blob, command: &Command, replies: &Replies) -> Resul
             append_items(out, *unique, keys.items(), replies.items())
         }
         Command::Meta { meta } => append_meta(out, meta, replies.items()),
+        Command::Stats => append_stats(out, replies.items()),
         _ => append_answer(out, answer_to(command, replies.items())),
     }
 }

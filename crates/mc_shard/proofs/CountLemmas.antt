@@ -20,7 +20,7 @@ use Rattle.zy_base.proofs.EntryLemmas.{StampsRise-length}
 use Rattle.zy_base.proofs.CountedLemmas.{gets_within, sets_within}
 use Rattle.mc_stats.specs.declared.counts.Counts.{Counts}
 use Rattle.mc_stats.specs.Counts.{no_counts, with_get, with_set, with_item, without_item, without_items}
-use Rattle.mc_shard.specs.Contents.{calls_in, items_in, AreCounts, IsSound}
+use Rattle.mc_shard.specs.Contents.{call_counts_in, items_in, AreCounts, IsSound}
 
 -- ---- items
 
@@ -63,11 +63,11 @@ counts_removed counts count items key false is are = record {
 }
 
 -- the counts of calls stay
-pub calls-put : (counts : Counts) (had : Bool) → calls_in (cond had counts (with_item counts)) ≡ calls_in counts
+pub calls-put : (counts : Counts) (had : Bool) → call_counts_in (cond had counts (with_item counts)) ≡ call_counts_in counts
 calls-put counts true = refl
 calls-put counts false = refl
 
-pub calls-removed : (counts : Counts) (had : Bool) → calls_in (cond had (without_item counts) counts) ≡ calls_in counts
+pub calls-removed : (counts : Counts) (had : Bool) → call_counts_in (cond had (without_item counts) counts) ≡ call_counts_in counts
 calls-removed counts true = refl
 calls-removed counts false = refl
 
@@ -84,14 +84,14 @@ some_items counts count items key is are =
 -- ---- calls
 
 -- a get was counted
-pub noted_get : (counts : Counts) (call : Call) (reply : CallReply) → MayAnswer call reply → is_get call ≡ true → calls_in (with_get (is_hit call reply) counts) ≡ calls_with (calls_in counts) call reply
+pub noted_get : (counts : Counts) (call : Call) (reply : CallReply) → MayAnswer call reply → is_get call ≡ true → call_counts_in (with_get (is_hit call reply) counts) ≡ calls_with (call_counts_in counts) call reply
 noted_get counts (Get key) Miss may is = refl
 noted_get counts (Get key) (Hit flags unique value) may is = refl
 noted_get counts (Get key) reply may is = absurd may
 noted_get counts call reply may is = cc
 
 -- a call that stores a value was counted
-pub noted_set : (counts : Counts) (call : Call) (reply : CallReply) → is_set call ≡ true → calls_in (with_set counts) ≡ calls_with (calls_in counts) call reply
+pub noted_set : (counts : Counts) (call : Call) (reply : CallReply) → is_set call ≡ true → call_counts_in (with_set counts) ≡ calls_with (call_counts_in counts) call reply
 noted_set counts (Set key flags value) reply is = refl
 noted_set counts (Add key flags value) reply is = refl
 noted_set counts (Replace key flags value) reply is = refl
@@ -101,7 +101,7 @@ noted_set counts (Cas key flags unique value) reply is = refl
 noted_set counts call reply is = cc
 
 -- no other call is counted
-pub noted_other : (counts : Counts) (call : Call) (reply : CallReply) → is_get call ≡ false → is_set call ≡ false → calls_in counts ≡ calls_with (calls_in counts) call reply
+pub noted_other : (counts : Counts) (call : Call) (reply : CallReply) → is_get call ≡ false → is_set call ≡ false → call_counts_in counts ≡ calls_with (call_counts_in counts) call reply
 noted_other counts (Incr key amount) reply no_get no_set = refl
 noted_other counts (Decr key amount) reply no_get no_set = refl
 noted_other counts (Delete key) reply no_get no_set = refl

@@ -8,7 +8,7 @@ use Rattle.zy_base.specs.declared.entry.Tag.{Tag}
 use Rattle.zy_base.specs.Call.{key_of}
 use Rattle.zy_base.specs.Code.{tally}
 use Rattle.zy_base.specs.Counted.{CallCounts, calls_with}
-use Rattle.zy_base.specs.Shard.{State, empty_state, tallied, counting, Effect, Outcome, outcome_of, item_at, outcome_on, reply_to, state_with, state_after}
+use Rattle.zy_base.specs.Shard.{State, empty_state, tallied, with_calls, Effect, Outcome, outcome_of, item_at, outcome_on, reply_to, state_with, state_after}
 use Rattle.zy_base.specs.Bounds.{FitsEntry}
 use Rattle.zy_base.specs.History.{IsHistory, replayed}
 use Rattle.zy_base.specs.Order.{last_stamp}
@@ -25,17 +25,17 @@ calls-made shards number old made effect is = ap (λ (s : State). s.calls) is �
 
 -- a call was counted after its change was made
 pub noted : (shards number : ℕ) (old made new : State) (effect : Effect) (call : Call) (reply : CallReply) → made ≡ state_with shards number old effect
-    → new ≡ counting made (calls_with made.calls call reply) → new ≡ counting (state_with shards number old effect) (calls_with old.calls call reply)
+    → new ≡ with_calls made (calls_with made.calls call reply) → new ≡ with_calls (state_with shards number old effect) (calls_with old.calls call reply)
 noted shards number old made new effect call reply is counted =
-    counted ∙ ap (λ (calls : CallCounts). counting made (calls_with calls call reply)) (calls-made shards number old made effect is)
-    ∙ ap (λ (s : State). counting s (calls_with old.calls call reply)) is
+    counted ∙ ap (λ (calls : CallCounts). with_calls made (calls_with calls call reply)) (calls-made shards number old made effect is)
+    ∙ ap (λ (s : State). with_calls s (calls_with old.calls call reply)) is
 
 -- the shard after a call, from what each step of the call gives
 pub IsSound-applied : (number shards last last' : ℕ) (contents contents' : State) (es es' : List Entry) (e : Entry) (key : Option (List ℕ)) (outcome : Outcome)
     → IsSound number shards last contents es
     → key ≡ key_of e.call
     → outcome ≡ outcome_of (tallied contents) e.call (item_at contents.items key)
-    → contents' ≡ counting (state_with shards number contents outcome.effect) (calls_with contents.calls e.call outcome.reply)
+    → contents' ≡ with_calls (state_with shards number contents outcome.effect) (calls_with contents.calls e.call outcome.reply)
     → es' ≡ es ++ e ∷ []
     → e.shard ≡ number
     → e.stamp ≡ last'
@@ -45,7 +45,7 @@ pub IsSound-applied : (number shards last last' : ℕ) (contents contents' : Sta
     → IsSound number shards last' contents' es'
 IsSound-applied number shards last last' contents contents' es es' e key outcome sound key_is outcome_is contents_are longer here stamp above reply fits =
     let of_table : outcome ≡ outcome_on contents e.call = outcome_is ∙ ap (λ k. outcome_of (tallied contents) e.call (item_at contents.items k)) key_is in
-    let past : contents' ≡ state_after shards number contents e.call = contents_are ∙ ap (λ (o : Outcome). counting (state_with shards number contents o.effect) (calls_with contents.calls e.call o.reply)) of_table in
+    let past : contents' ≡ state_after shards number contents e.call = contents_are ∙ ap (λ (o : Outcome). with_calls (state_with shards number contents o.effect) (calls_with contents.calls e.call o.reply)) of_table in
     let answered : e.reply ≡ reply_to (replayed shards number empty_state es) e.call =
     reply ∙ ap (λ (o : Outcome). o.reply) of_table ∙ ap (λ (s : State). reply_to s e.call) sound.contents_are in
     let higher : last_stamp 0 es < e.stamp = subst (λ n. n < e.stamp) sound.last_is (subst (λ n. last < n) (sym stamp) above) in

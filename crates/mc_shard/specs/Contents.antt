@@ -33,8 +33,8 @@ with_item state None item = state
 with_item state (Some key) item = record state { items = insert state.items key item; count = state.count + 1 }
 
 -- the counts of calls among the counts of a shard
-abbrev pub calls_in : Counts → CallCounts
-calls_in counts = record { gets = counts.gets; sets = counts.sets; hits = counts.hits; misses = counts.misses }
+abbrev pub call_counts_in : Counts → CallCounts
+call_counts_in counts = record { gets = counts.gets; sets = counts.sets; hits = counts.hits; misses = counts.misses }
 
 -- the counts are those of a shard that has these items and ever stored `count` items
 pub record AreCounts (counts : Counts) (count : ℕ) (items : Items) : Type 0 where

@@ -5,7 +5,7 @@ use Rattle.zy_base.specs.declared.call.Call.TheVariants.{Get, Add, Replace, Cas,
 use Rattle.zy_base.specs.declared.call_reply.CallReply.TheVariants.{Stored, Miss}
 use Rattle.zy_base.specs.declared.entry.Entry.{Entry}
 use Rattle.zy_base.specs.Counted.{calls_with}
-use Rattle.zy_base.specs.Shard.{State, empty_state, reply_to, state_after, counting}
+use Rattle.zy_base.specs.Shard.{State, empty_state, reply_to, state_after, with_calls}
 use Rattle.zy_base.specs.History.{IsLegal, replayed}
 use Rattle.mc_shard.specs.Uniques.{uniques_at, AreRising, IsIn}
 use Rattle.mc_shard.specs.KeyReplies.{AreWithoutCas, calls_about, replies_about}
@@ -28,7 +28,7 @@ UniquesDiffer =
 abbrev pub KeepsUnlessStored : Call → Type 0
 KeepsUnlessStored call =
     (shards number : ℕ) (state : State) → reply_to state call ≢ Stored
-    → state_after shards number state call ≡ counting state (calls_with state.calls call (reply_to state call))
+    → state_after shards number state call ≡ with_calls state (calls_with state.calls call (reply_to state call))
 
 -- a cas that does not store is counted, and changes nothing else
 abbrev pub FailedCasKeeps : Type 0

@@ -3,7 +3,7 @@ ghost use Rattle.std.specs.Prelude.{◌≡◌, ◌+◌, ◌^◌, ◌<◌, ◌≤
 ghost use Rattle.std.specs.FinMap.{insert, remove, empty};
 ghost use Rattle.zy_base.specs.Kind.{MayAnswer};
 ghost use Rattle.zy_base.specs.Counted.{calls_with};
-ghost use Rattle.zy_base.specs.Shard.{item_at, empty_state, tallied, unique_of, state_with, counting};
+ghost use Rattle.zy_base.specs.Shard.{item_at, empty_state, tallied, unique_of, state_with, with_calls};
 ghost use Rattle.mc_shard.specs.Contents.{with_item};
 ghost use Rattle.mc_shard.specs.Step.{effect_in};
 
@@ -28,7 +28,7 @@ pub struct Contents {
 impl Model for Contents {
     ghost use Rattle.zy_base.specs.Shard.{State};
     ghost use Rattle.std.specs.Coded.{codes};
-    ghost use Rattle.mc_shard.specs.Contents.{items_in, calls_in, items_code, AreCounts};
+    ghost use Rattle.mc_shard.specs.Contents.{items_in, call_counts_in, items_code, AreCounts};
 
     ghost Value = { State };
 
@@ -37,7 +37,7 @@ impl Model for Contents {
     ghost view = { λ c. record {
       items = items_in c.items.entries;
       count = c.count;
-      calls = calls_in c.counts;
+      calls = call_counts_in c.counts;
     } };
 
     ghost invariant = { λ c. AreCounts c.counts c.count (items_in c.items.entries) };
@@ -80,7 +80,7 @@ impl Contents {
         requires answers { MayAnswer call.now reply.now }
         requires gets { self.old.calls.gets < 2 ^ 60 }
         requires sets { self.old.calls.sets < 2 ^ 60 }
-        ensures value { self.new ≡ counting self.old (calls_with self.old.calls call.now reply.now) }
+        ensures value { self.new ≡ with_calls self.old (calls_with self.old.calls call.now reply.now) }
     {
         if call.is_get() {
             self.counts.got(call.is_hit(reply));

@@ -2,6 +2,7 @@
 ghost use Rattle.std.specs.Prelude.{◌≡◌, ℕ, List, ◌++◌, None, Some, option_copied, decimal, OnOk};
 ghost use Rattle.zy_base.specs.declared.call_reply.CallReply.TheVariants.{Hit};
 ghost use Rattle.zy_base.specs.Call.{key_of};
+ghost use Rattle.zy_base.specs.Code.{tally};
 ghost use Rattle.zy_base.specs.Number.{number_of};
 ghost use Rattle.zy_base.specs.Shard as table;
 ghost use Rattle.mc_shard.specs.Step.{outcome_in, Gives};
@@ -45,7 +46,7 @@ fn step_without(call: &Call, counts: Tallied) -> Result<Step, NoMemory>
         Call::Decr { .. } => Ok(reply_alone(CallReply::NotFound)),
         Call::Delete { .. } => Ok(reply_alone(CallReply::NotFound)),
         Call::Flush => Ok(clear()),
-        Call::Tally => Ok(reply_alone(CallReply::tally(counts))),
+        Call::Tally => Ok(tallied(counts)),
     }
 }
 
@@ -70,7 +71,7 @@ fn step_with(alloc: Global, call: &Call, counts: Tallied, item: &Item) -> Result
         Call::Decr { amount, .. } => count_down(alloc, item, *amount),
         Call::Delete { .. } => Ok(remove()),
         Call::Flush => Ok(clear()),
-        Call::Tally => Ok(reply_alone(CallReply::tally(counts))),
+        Call::Tally => Ok(tallied(counts)),
     }
 }
 
@@ -214,4 +215,11 @@ fn clear() -> Step
         reply: CallReply::Flushed,
         change: Change::Clear,
     }
+}
+
+// The reply is what the shard counts.
+fn tallied(counts: Tallied) -> Step
+    ensures value { result ≡ record { reply = tally counts; change = Change.Nothing } }
+{
+    reply_alone(CallReply::tally(counts))
 }

@@ -16,7 +16,7 @@ use Rattle.zy_base.specs.declared.tallied.Tallied.{Tallied}
 use Rattle.zy_base.specs.Call.{key_of}
 use Rattle.zy_base.specs.Code.{tally}
 use Rattle.zy_base.specs.Number.{number_of}
-use Rattle.zy_base.specs.Counted.{is_get, is_set, is_hit, is_miss, one_if, Keys, no_keys, keys_with, keys_after, counted}
+use Rattle.zy_base.specs.Counted.{is_get, is_set, is_hit, is_miss, one_if, KeySet, no_keys, keys_with, keys_after, counted}
 use Rattle.zy_base.specs.Shard.{Items, State, empty_state, tallied, Outcome, value_limit, answers, stored, counted_up, counted_down, outcome_of, outcome_on, item_at, reply_to, state_with, state_after}
 use Rattle.zy_base.specs.Order.{at_shard}
 use Rattle.zy_base.specs.History.{IsReplay, replayed, IsLegal, answer_after, AreAnswered}
@@ -68,7 +68,7 @@ misses_are shards number state (e ∷ es) replay =
 -- ---- keys
 
 -- the keys are those of the items
-record AreKeys (keys : Keys) (items : Items) : Type 0 where
+record AreKeys (keys : KeySet) (items : Items) : Type 0 where
   each : (key : List ℕ) → contains_key keys key ≡ contains_key items key
   size : len keys ≡ len items
 
@@ -86,7 +86,7 @@ is_some-taken : {X : Type 0} (test : Bool) (found : Option X) → is_some (cond 
 is_some-taken true found = refl
 is_some-taken false found = refl
 
-after_put : (keys : Keys) (items : Items) (key : List ℕ) (item : Item) → AreKeys keys items → AreKeys (insert keys key tt) (insert items key item)
+after_put : (keys : KeySet) (items : Items) (key : List ℕ) (item : Item) → AreKeys keys items → AreKeys (insert keys key tt) (insert items key item)
 after_put keys items key item are = record {
   each = λ at.
       ap is_some (get-insert nat_list_cmp_total keys key tt at) ∙ is_some-put (eq_by_cmp (slice_cmp nat_cmp) at key) tt (get keys at)
@@ -99,7 +99,7 @@ after_put keys items key item are = record {
       ∙ sym (len-insert nat_list_cmp_total items key item);
 }
 
-after_taken : (keys : Keys) (items : Items) (key : List ℕ) → AreKeys keys items → AreKeys (remove keys key) (remove items key)
+after_taken : (keys : KeySet) (items : Items) (key : List ℕ) → AreKeys keys items → AreKeys (remove keys key) (remove items key)
 after_taken keys items key are = record {
   each = λ at.
       ap is_some (get-remove nat_list_cmp_total keys key at) ∙ is_some-taken (eq_by_cmp (slice_cmp nat_cmp) at key) (get keys at)
@@ -112,7 +112,7 @@ after_taken keys items key are = record {
       ∙ sym (len-remove nat_list_cmp_total items key);
 }
 
-module _ (shards number : ℕ) (state : State) (keys : Keys) (are : AreKeys keys state.items) where
+module _ (shards number : ℕ) (state : State) (keys : KeySet) (are : AreKeys keys state.items) where
   -- the keys after a call with this outcome
   abbrev After : Call → Outcome → Type 0
   After call outcome = AreKeys (keys_with keys call outcome.reply) (state_with shards number state outcome.effect).items
@@ -165,7 +165,7 @@ module _ (shards number : ℕ) (state : State) (keys : Keys) (are : AreKeys keys
   after_outcome counts Tally None = are
   after_outcome counts Tally (Some item) = are
 
-keys_are : (shards number : ℕ) (state : State) (keys : Keys) (es : List Entry) → AreKeys keys state.items → IsReplay shards number state es
+keys_are : (shards number : ℕ) (state : State) (keys : KeySet) (es : List Entry) → AreKeys keys state.items → IsReplay shards number state es
     → AreKeys (keys_after keys es) (replayed shards number state es).items
 keys_are shards number state keys [] are replay = are
 keys_are shards number state keys (e ∷ es) are replay =

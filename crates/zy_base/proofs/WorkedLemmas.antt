@@ -11,7 +11,7 @@ use Rattle.zy_base.specs.declared.call.Call.{Call}
 use Rattle.zy_base.specs.declared.call_reply.CallReply.{CallReply}
 use Rattle.zy_base.specs.Call.{key_of}
 use Rattle.zy_base.specs.Counted.{CallCounts, calls_with}
-use Rattle.zy_base.specs.Shard.{Items, State, tallied, unique_of, Effect, keeps, stores, removes, empties, Outcome, outcome_of, item_at, state_with, counting}
+use Rattle.zy_base.specs.Shard.{Items, State, tallied, unique_of, Effect, keeps, stores, removes, empties, Outcome, outcome_of, item_at, state_with, with_calls}
 use Rattle.zy_base.specs.Worked.{answers_from}
 
 -- the pairs of other keys
@@ -85,6 +85,6 @@ is_told shards number (call ∷ rest) items count calls =
     let now : State = plain items count calls in
     let outcome : Outcome = outcome_at items count calls call in
     ap (λ (item : Option Item). (outcome_of (tallied now) call item).reply
-    ∷ answers_from shards number (counting (state_with shards number now (outcome_of (tallied now) call item).effect) (calls_with calls call (outcome_of (tallied now) call item).reply)) rest) (is_found items (key_of call))
-    ∙ ap (λ (state : State). outcome.reply ∷ answers_from shards number (counting state (calls_with calls call outcome.reply)) rest) (has_effect shards number items count calls outcome.effect)
+    ∷ answers_from shards number (with_calls (state_with shards number now (outcome_of (tallied now) call item).effect) (calls_with calls call (outcome_of (tallied now) call item).reply)) rest) (is_found items (key_of call))
+    ∙ ap (λ (state : State). outcome.reply ∷ answers_from shards number (with_calls state (calls_with calls call outcome.reply)) rest) (has_effect shards number items count calls outcome.effect)
     ∙ ap (λ (replies : List CallReply). outcome.reply ∷ replies) (is_told shards number rest (items_with shards number items count outcome.effect) (count_with count outcome.effect) (calls_with calls call outcome.reply))

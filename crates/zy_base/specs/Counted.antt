@@ -42,28 +42,28 @@ is_miss call reply = false
 -- ---- the keys of the items
 
 -- a set of keys
-abbrev pub Keys : Type 0
-Keys = FinMap (slice_cmp nat_cmp) ⊤
+abbrev pub KeySet : Type 0
+KeySet = FinMap (slice_cmp nat_cmp) ⊤
 
 -- no keys
-abbrev pub no_keys : Keys
+abbrev pub no_keys : KeySet
 no_keys = empty
 
 -- the keys after this reply to a call on a key, or to a call without one: what was stored or counted
 -- has its key among them, and what was deleted has not
-abbrev pub keys_by : Option (List ℕ) → CallReply → Keys → Keys
+abbrev pub keys_by : Option (List ℕ) → CallReply → KeySet → KeySet
 keys_by (Some key) Stored keys = insert keys key tt
 keys_by (Some key) (Number number) keys = insert keys key tt
 keys_by (Some key) Deleted keys = remove keys key
 keys_by key reply keys = keys
 
 -- the keys after an entry: a flush leaves none
-abbrev pub keys_with : Keys → Call → CallReply → Keys
+abbrev pub keys_with : KeySet → Call → CallReply → KeySet
 keys_with keys Flush reply = no_keys
 keys_with keys call reply = keys_by (key_of call) reply keys
 
 -- the keys after these entries
-abbrev pub keys_after : Keys → List Entry → Keys
+abbrev pub keys_after : KeySet → List Entry → KeySet
 keys_after keys es = fold (λ keys (e : Entry). keys_with keys e.call e.reply) keys es
 
 -- ---- all entries of one shard

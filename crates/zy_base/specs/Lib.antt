@@ -15,5 +15,6 @@ pub mod Told
 pub mod Replies
 pub mod History
 pub mod Reserved
+pub mod Filling
 pub mod Worked
 pub mod Held

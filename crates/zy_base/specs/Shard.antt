@@ -140,8 +140,8 @@ state_with shards number state (removes key) = record state { items = remove sta
 state_with shards number state empties = record state { items = empty }
 
 -- the shard with these counts of calls
-abbrev pub counting : State → CallCounts → State
-counting state calls = record state { calls = calls }
+abbrev pub with_calls : State → CallCounts → State
+with_calls state calls = record state { calls = calls }
 
 -- what the shard answers to a call
 abbrev pub reply_to : State → Call → CallReply
@@ -150,5 +150,5 @@ reply_to state call = (outcome_on state call).reply
 -- shard `number` of `shards` after a call
 abbrev pub state_after : ℕ → ℕ → State → Call → State
 state_after shards number state call =
-    counting (state_with shards number state (outcome_on state call).effect)
+    with_calls (state_with shards number state (outcome_on state call).effect)
     (calls_with state.calls call (reply_to state call))

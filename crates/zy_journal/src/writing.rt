@@ -117,7 +117,7 @@ fn write_reply<K: Sink>(sink: &mut K, reply: &CallReply) -> Result<(), Failed>
 
 // The five numbers of a tally, where they are there.
 fn write_counts<K: Sink>(sink: &mut K, counts: Option<Tallied>) -> Result<(), Failed>
-    ensures writes { Writes K.holds K.faults sink.old sink.new result
+    ensures writes { Writes K.holds K.faults K.finishes sink.old sink.new result
         (field_text counts_text counts) }
 {
     match counts {

@@ -14,7 +14,7 @@ use Rattle.zy_base.specs.declared.tallied.Tallied.{Tallied}
 use Rattle.zy_base.specs.declared.call.Call.{Call}
 use Rattle.zy_base.specs.declared.call.Call.TheVariants.{Flush}
 use Rattle.zy_base.specs.declared.call_reply.CallReply.{CallReply}
-use Rattle.zy_base.specs.Counted.{Keys, no_keys, keys_with, keys_after, is_get, is_set, is_hit, is_miss, one_if, calls_with, counted, CallCounts}
+use Rattle.zy_base.specs.Counted.{KeySet, no_keys, keys_with, keys_after, is_get, is_set, is_hit, is_miss, one_if, calls_with, counted, CallCounts}
 use Rattle.zy_report.specs.Counting.{Counting}
 use Rattle.zy_report.specs.Tally.{calls_kept, calls_counted, AreKeysOf, CountsEntries, CanCount, none_kept}
 
@@ -73,7 +73,7 @@ one_shorter : (has : Bool) (count more : ℕ) → count + (if has then 1 else 0)
 one_shorter true count more is = omega (arith, is)
 one_shorter false count more is = omega (arith, is)
 
-module _ (old new : List (Bor (List ℕ))) (key : Bor (List ℕ)) (keys : Keys) (are : AreKeysOf keys (map (λ k. k.now) old)) where
+module _ (old new : List (Bor (List ℕ))) (key : Bor (List ℕ)) (keys : KeySet) (are : AreKeysOf keys (map (λ k. k.now) old)) where
   -- whether a key is among those before
   among : (q : List ℕ) → list_any (λ k. is_at (slice_cmp nat_cmp q) k.now) old ≡ contains_key keys q
   among q = sym (any_map (is_at (slice_cmp nat_cmp q)) old) ∙ are.each q
@@ -123,7 +123,7 @@ module _ (old new : List (Bor (List ℕ))) (key : Bor (List ℕ)) (keys : Keys) 
 
 -- one more entry is counted
 pub counts_more : (kept new : Counting) (es : List Entry) (e : Entry) → calls_kept new ≡ calls_with (calls_kept kept) e.call e.reply
-    → ((keys : Keys) → AreKeysOf keys kept.keys → AreKeysOf (keys_with keys e.call e.reply) new.keys) → CountsEntries kept es → CountsEntries new (es ++ e ∷ [])
+    → ((keys : KeySet) → AreKeysOf keys kept.keys → AreKeysOf (keys_with keys e.call e.reply) new.keys) → CountsEntries kept es → CountsEntries new (es ++ e ∷ [])
 counts_more kept new es e calls keys are = record {
   calls = calls ∙ ap (λ c. calls_with c e.call e.reply) are.calls ∙ sym (calls_more es e);
   keys = subst (λ k. AreKeysOf k new.keys) (sym (keys_more es e)) (keys (keys_after no_keys es) are.keys);
@@ -160,7 +160,7 @@ pub counts_none : (kept : Counting) → kept ≡ none_kept → CountsEntries kep
 counts_none kept is = subst (λ k. CountsEntries k []) (sym is) nothing_counted
 
 -- a flush leaves no keys
-pub flushed : (keys : Keys) (call : Call) (reply : CallReply) (left : List (Bor (List ℕ))) → call ≡ Flush → left ≡ [] → AreKeysOf (keys_with keys call reply) (map (λ key. key.now) left)
+pub flushed : (keys : KeySet) (call : Call) (reply : CallReply) (left : List (Bor (List ℕ))) → call ≡ Flush → left ≡ [] → AreKeysOf (keys_with keys call reply) (map (λ key. key.now) left)
 flushed keys call reply left is none =
     subst (λ c. AreKeysOf (keys_with keys c reply) (map (λ key. key.now) left)) (sym is)
     (subst (λ l. AreKeysOf no_keys (map (λ key. key.now) l)) (sym none) no_keys_yet)

@@ -7,7 +7,7 @@ use Rattle.std.specs.FinMap.{contains_key, len}
 use Rattle.std.specs.BTreeMap.{is_at}
 use Rattle.mc_stats.specs.Counts.{no_counts}
 use Rattle.zy_base.specs.declared.entry.Entry.{Entry}
-use Rattle.zy_base.specs.Counted.{Keys, no_keys, keys_after, CallCounts, is_get, is_set, is_hit, is_miss}
+use Rattle.zy_base.specs.Counted.{KeySet, no_keys, keys_after, CallCounts, is_get, is_set, is_hit, is_miss}
 use Rattle.zy_base.specs.Order.{at_shard}
 use Rattle.zy_report.specs.Counting.{Counting}
 use Rattle.zy_report.specs.Report.{shards_in}
@@ -33,7 +33,7 @@ calls_counted es = record {
 }
 
 -- the list has the keys of the set, each once
-pub record AreKeysOf (keys : Keys) (list : List (List ℕ)) : Type 0 where
+pub record AreKeysOf (keys : KeySet) (list : List (List ℕ)) : Type 0 where
   pub each : (key : List ℕ) → list_any (is_at (slice_cmp nat_cmp key)) list ≡ contains_key keys key
   pub size : length list ≡ len keys
 

@@ -3,7 +3,7 @@ ghost use Rattle.std.specs.Prelude.{◌≡◌, ◌++◌, ◌∷◌, [], List, On
 ghost use Rattle.zy_base.specs.declared.entry.Entry.{Entry};
 ghost use Rattle.std.specs.FinMap.{insert, remove};
 ghost use Rattle.zy_base.specs.declared.call.Call.TheVariants.{Get};
-ghost use Rattle.zy_base.specs.Counted.{Keys, calls_with, keys_with, counted};
+ghost use Rattle.zy_base.specs.Counted.{KeySet, calls_with, keys_with, counted};
 ghost use Rattle.zy_report.specs.Tally.{CanCount, CountsEntries, AreKeysOf, calls_kept, none_kept};
 
 use mc_stats::Counts;
@@ -86,7 +86,7 @@ impl<'j> Tally<'j> {
     // Keeps the keys that have an item after the entry.
     fn keep_key(&mut self, entry: &'j Entry) -> Result<(), NoMemory>
         ensures calls { self.new.calls ≡ self.old.calls }
-        ensures ok { OnOk result ((keys : Keys) → AreKeysOf keys self.old.keys
+        ensures ok { OnOk result ((keys : KeySet) → AreKeysOf keys self.old.keys
             → AreKeysOf (keys_with keys entry.now.call entry.now.reply) self.new.keys) }
     {
         if let Call::Flush = &entry.call {
@@ -106,7 +106,7 @@ impl<'j> Tally<'j> {
     // Adds a key, if it isn't there.
     fn add_key(&mut self, key: &'j Blob) -> Result<(), NoMemory>
         ensures calls { self.new.calls ≡ self.old.calls }
-        ensures ok { OnOk result ((keys : Keys) → AreKeysOf keys self.old.keys
+        ensures ok { OnOk result ((keys : KeySet) → AreKeysOf keys self.old.keys
             → AreKeysOf (insert keys key.now tt) self.new.keys) }
     {
         match self.keys.insert(key) {
@@ -118,7 +118,7 @@ impl<'j> Tally<'j> {
     // Removes a key, if it is there.
     fn remove_key(&mut self, key: &'j Blob)
         ensures calls { self.new.calls ≡ self.old.calls }
-        ensures value { (keys : Keys) → AreKeysOf keys self.old.keys
+        ensures value { (keys : KeySet) → AreKeysOf keys self.old.keys
             → AreKeysOf (remove keys key.now) self.new.keys }
     {
         self.keys.remove(&key);

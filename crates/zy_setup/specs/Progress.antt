@@ -40,7 +40,8 @@ pub record HasMade (shared : Sharing) (homes : List Homed) (m : Making) (left : 
   pub each_home : (i core : ℕ) (h : Homed) → slice_get left i ≡ Some h → core ≡ length m.inlets.items + i
       → IsNewHome shared.rings (label_of shared.store.id (length shared.rings)) (length shared.rings) core h
   pub each_passes : (i core : ℕ) (p : PassList Blocked) → slice_get passes i ≡ Some p
-      → core ≡ length m.inlets.items + i → AreNewPasses shared.rings (label_of shared.store.id (length shared.rings)) core p
+      → core ≡ length m.inlets.items + i
+      → AreNewPasses shared.rings (label_of shared.store.id (length shared.rings)) core p
 
 -- cores were made of all homes
 pub record HasMadeAll (shared : Sharing) (homes : List Homed) (m : Making) : Type 0 where

@@ -10,7 +10,7 @@ pub returns-in-Some : goal.returns-in-Some
 returns-in-Some g c =
     let counts : Tallied = c.in-Some.counts in
     record {
-      writes = subst (λ (l : List ℕ). Writes g.K.Sink.holds g.K.Sink.faults c.args.sink.now c.write_pieces.new.sink c.write_pieces.result l)
+      writes = subst (λ (l : List ℕ). Writes g.K.Sink.holds g.K.Sink.faults g.K.Sink.finishes c.args.sink.now c.write_pieces.new.sink c.write_pieces.result l)
           (numbers_5 c.to_be_bytes-gets.result c.to_be_bytes-sets.result c.to_be_bytes-hits.result c.to_be_bytes-misses.result c.to_be_bytes-items.result (to_be_bytes w64 counts.gets) (to_be_bytes w64 counts.sets) (to_be_bytes w64 counts.hits) (to_be_bytes w64 counts.misses) (to_be_bytes w64 counts.items) c.to_be_bytes-gets.ensures c.to_be_bytes-sets.ensures c.to_be_bytes-hits.ensures c.to_be_bytes-misses.ensures c.to_be_bytes-items.ensures
           ∙ sym (ap (field_text counts_text) c.in-Some.is))
           c.write_pieces.ensures.writes;

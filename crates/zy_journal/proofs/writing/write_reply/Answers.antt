@@ -23,9 +23,9 @@ returns-in-Err-write_counts g c =
     let counts : List ℕ = field_text counts_text (reply_counts reply) in
     let fields : List ℕ = fields_text (reply_flags reply) (reply_number reply) (reply_value reply) in
     record {
-      writes = writes_on g.K.Sink.holds g.K.Sink.faults c.args.sink.now c.write_whole.new.sink c.write_counts.new.sink (Err c.in-Err-write_counts.failed) (reply_code reply ∷ []) (counts ++ fields)
-          (rw (← c.code.ensures.value) c.in_default.ensures.writes.whole) c.in_default.ensures.writes.count
-          (writes_no_more g.K.Sink.holds g.K.Sink.faults c.write_whole.new.sink c.write_counts.new.sink c.in-Err-write_counts.failed counts fields
+      writes = writes_on g.K.Sink.holds g.K.Sink.faults g.K.Sink.finishes c.args.sink.now c.write_whole.new.sink c.write_counts.new.sink (Err c.in-Err-write_counts.failed) (reply_code reply ∷ []) (counts ++ fields)
+          (rw (← c.code.ensures.value) c.in_default.ensures.writes.whole) c.in_default.ensures.writes.count c.in_default.ensures.writes.unfinished
+          (writes_no_more g.K.Sink.holds g.K.Sink.faults g.K.Sink.finishes c.write_whole.new.sink c.write_counts.new.sink c.in-Err-write_counts.failed counts fields
           (rw (← c.counts.ensures.value) c.in-Err-write_counts.ensures.writes));
     }
 
@@ -37,8 +37,8 @@ returns g c =
     let fields : List ℕ = fields_text (reply_flags reply) (reply_number reply) (reply_value reply) in
     record {
       writes = writes_on g.K.Sink.holds g.K.Sink.faults g.K.Sink.finishes c.args.sink.now c.write_whole.new.sink c.write_fields.new.sink c.write_fields.result (reply_code reply ∷ []) (counts ++ fields)
-           (rw (← c.code.ensures.value) c.in_default.ensures.writes.whole) c.in_default.ensures.writes.count c.in_default.ensures.writes.unfinished
-           (writes_on g.K.Sink.holds g.K.Sink.faults g.K.Sink.finishes c.write_whole.new.sink c.write_counts.new.sink c.write_fields.new.sink c.write_fields.result counts fields
-           (rw (← c.counts.ensures.value) c.in_default-write_counts.ensures.writes.whole) c.in_default-write_counts.ensures.writes.count c.in_default-write_counts.ensures.writes.unfinished
-           (rw (← c.flags.ensures.value, ← c.number.ensures.value, ← c.value.ensures.value) c.write_fields.ensures.writes));
+          (rw (← c.code.ensures.value) c.in_default.ensures.writes.whole) c.in_default.ensures.writes.count c.in_default.ensures.writes.unfinished
+          (writes_on g.K.Sink.holds g.K.Sink.faults g.K.Sink.finishes c.write_whole.new.sink c.write_counts.new.sink c.write_fields.new.sink c.write_fields.result counts fields
+          (rw (← c.counts.ensures.value) c.in_default-write_counts.ensures.writes.whole) c.in_default-write_counts.ensures.writes.count c.in_default-write_counts.ensures.writes.unfinished
+          (rw (← c.flags.ensures.value, ← c.number.ensures.value, ← c.value.ensures.value) c.write_fields.ensures.writes));
     }

@@ -1,7 +1,7 @@
 use Rattle.std.proofs.Common.{◌≡◌, ap, sym, ◌+◌, ◌∙◌}
 use Rattle.std.specs.Prelude.{is_some}
 use Rattle.std.specs.FinMap.{contains_key}
-use Rattle.mc_shard.specs.Contents.{items_in, calls_in}
+use Rattle.mc_shard.specs.Contents.{items_in, call_counts_in}
 use Rattle.mc_shard.proofs.CountLemmas.{counts_put, calls-put}
 use Rattle.mc_shard.proofs.MapLemmas.{get-items_in, items_in-stored}
 use Rattle.mc_shard.proofs.contents.Contents.put.Goals as goal
@@ -16,5 +16,5 @@ invariant_of-self c =
 pub returns-in-Ok-clause-ok : goal.returns-in-Ok-clause-ok
 returns-in-Ok-clause-ok c =
     let same = items_in-stored c.self.inside.items.entries c.insert.new.self.entries c.args.key c.args.item c.in-Ok.ensures.updates.0 in
-    let calls = ap calls_in c.count_put.ensures.value ∙ calls-put c.self.inside.counts c.is_some.result in
+    let calls = ap call_counts_in c.count_put.ensures.value ∙ calls-put c.self.inside.counts c.is_some.result in
     rw (← c.self.view_is) (λ i. record { items = same i; count = c.self.inside.count + 1; calls = calls i })

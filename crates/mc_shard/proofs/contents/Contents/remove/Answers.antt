@@ -1,7 +1,7 @@
 use Rattle.std.proofs.Common.{◌≡◌, ap, sym, ◌∙◌}
 use Rattle.std.specs.Prelude.{is_some}
 use Rattle.std.specs.FinMap.{contains_key}
-use Rattle.mc_shard.specs.Contents.{items_in, calls_in}
+use Rattle.mc_shard.specs.Contents.{items_in, call_counts_in}
 use Rattle.mc_shard.proofs.CountLemmas.{counts_removed, calls-removed, some_items}
 use Rattle.mc_shard.proofs.MapLemmas.{get-items_in, items_in-removed}
 use Rattle.mc_shard.proofs.contents.Contents.remove.Goals as goal
@@ -22,5 +22,5 @@ invariant_of-self c =
 pub returns : goal.returns
 returns c =
     let same = items_in-removed c.self.inside.items.entries c.remove-found.new.self.entries c.args.key.now c.remove-found.ensures.updates.0 in
-    let calls = ap calls_in c.count_removed.ensures.value ∙ calls-removed c.self.inside.counts c.is_some.result in
+    let calls = ap call_counts_in c.count_removed.ensures.value ∙ calls-removed c.self.inside.counts c.is_some.result in
     rw (← c.self.view_is) (record { value = λ i. record { items = same i; count = c.self.inside.count; calls = calls i } })

@@ -16,4 +16,4 @@ invariant_of-self-then-count-gt0 g c =
     holds_more c.self.inside.cores c.self.inside.work.value.conn c.carry_out-count.new.work.conn c.self.inside.work.value.finished c.carry_out-count.new.work.finished c.self.inside.holds.items c.push_reserved.new.self.items
     (hold_by c.args.core c.conn-conn.result c.carry_out-count.result.0) c.self.invariant same
     (◌∙◌ {A = List Hold} c.push_reserved.ensures.items (ap (λ (l : List Hold). l ++ hold_by c.args.core c.conn-conn.result c.carry_out-count.result.0 ∷ []) c.reserve.ensures.items))
-    count (record { some = omega arith; limit = limit; core_is = core; conn_is = c.conn-conn.ensures.value ∙ ap (λ (w : Worked). w.conn) c.deref.ensures.value })
+    count (record { some = omega arith; limit = limit; core_is = core; conn_is = c.conn-conn.ensures.value ∙ ap (λ (w : Worked). w.conn) c.deref.ensures })

@@ -1,4 +1,4 @@
-use Rattle.std.proofs.Common.{refl, sym, ap, ◌∙◌, subst, arith}
+use Rattle.std.proofs.Common.{sym, ap, ◌∙◌, subst, arith}
 use Rattle.zy_conn.specs.Block.{label_of}
 use Rattle.zy_conn.proofs.LabelLemmas.{same_store, same_cores}
 use Rattle.zy_home.specs.Home.{all_here, Homed, HomeStands}

@@ -36,5 +36,5 @@ pub returns-clause-others : goal.returns-clause-others
 returns-clause-others c =
     let given = ap (λ (r : Rooted). r.given) c.root.view_is in
     let after : given_of c.take_sleeper-sleeper.new.sleepers.items ≡ set c.args.root.now.given c.args.core true =
-        ap given_of c.take_sleeper-sleeper.ensures.after ∙ map-set is_given c.root.inside.sleepers.items c.args.core None ∙ ap (λ gs. set gs c.args.core true) given in
+    ap given_of c.take_sleeper-sleeper.ensures.after ∙ map-set is_given c.root.inside.sleepers.items c.args.core None ∙ ap (λ gs. set gs c.args.core true) given in
     others_free c.args.root.now (rooted (tables_of c.root.inside.seats.items) (given_of c.take_sleeper-sleeper.new.sleepers.items) (views_of c.root.inside.seats.items)) c.args.core after

@@ -12,7 +12,7 @@ use Rattle.zy_park.proofs.bells.ringing.ring_each_at.Goals as goal
 pub loop-core-preserved : goal.loop-core-preserved
 loop-core-preserved c =
     elim c.if-is_set.branch [
-      then-is_set w ↦ rw w.seats-is (record {
+      | then-is_set w ↦ rw w.seats-is (record {
         bells = w.ring_at.ensures.bells ∙ c.loop-core.invariant.bells;
         value = w.ring_at.ensures.value ∙ ap (change_at rings c.loop-core.core) c.loop-core.invariant.value
             ∙ rung_next c.loop-core.core c.args.word (views_of c.args.seats.now.items) (sym c.is_set.ensures.value ∙ w.if-is_set.true);
