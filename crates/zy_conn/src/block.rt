@@ -18,10 +18,12 @@ use zy_calls::Batch;
 use zy_shuffle::Marked;
 
 /// What travels with a connection: its pass on the store, its events, the command in progress, the
-/// texts that wait, and its holds. Contracts see it as its work and the list of its holds.
+/// texts that wait, and its holds. Contracts see it as its work, the number of cores that there are
+/// to hold it, and the list of its holds.
 #[derive(Drop)]
 pub struct Block {
     work: Work,
+    cores: u32,
     holds: Vec<Hold>,
 }
 
@@ -31,33 +33,35 @@ impl Model for Block {
 
     ghost Value = { Blocked };
 
-    ghost view = { λ b. blocked b.work b.holds.items };
+    ghost view = { λ b. blocked b.work b.cores b.holds.items };
 
-    ghost invariant = { λ b. AreHolds b.work.conn b.work.finished b.holds.items };
+    ghost invariant = { λ b. AreHolds b.cores b.work.conn b.work.finished b.holds.items };
 }
 
 impl Marked for Block {
-    ghost use Rattle.zy_table.specs.Name.{name_of};
     ghost use Rattle.zy_conn.specs.Work.{Mark, mark_of};
+    ghost use Rattle.zy_conn.specs.Block.{label_in};
 
     ghost Mark = { Mark };
 
     ghost mark = { λ b. mark_of b.work };
 
-    ghost label = { λ b. name_of b.work.table };
+    ghost label = { label_in };
 }
 
 impl Block {
-    /// The block of a connection, with the other end of its event ring. After a refusal the pass is
-    /// handed back.
+    /// The block of a connection that is held by cores below `cores`, with the other end of its event
+    /// ring. After a refusal the pass is handed back.
     pub fn new(
         alloc: Global,
         conn: u32,
+        cores: u32,
         pass: Pass,
     ) -> Result<(Block, EventInlet), (Pass, NoMemory)>
         requires conn { pass.conn ≡ conn }
         requires empty { pass.calls ≡ [] }
-        ensures block { IfOk result (λ made. made.0 ≡ blocked (worked pass made.1.ring [] [] idle 0 0 []) []) }
+        requires few { cores ≤ 64 }
+        ensures block { IfOk result (λ made. made.0 ≡ blocked (worked pass made.1.ring [] [] idle 0 0 []) cores []) }
         ensures inlet { IfOk result (λ made. made.1 ≡ offering made.1.ring [] 64) }
         ensures returned { IfErr result (λ e. e.0 ≡ pass) }
     {
@@ -65,6 +69,7 @@ impl Block {
             Ok((work, inlet)) => Ok((
                 Block {
                     work,
+                    cores,
                     holds: Vec::new(alloc),
                 },
                 inlet,
@@ -131,7 +136,7 @@ impl Block {
         core: u32,
     ) -> Result<HoldEnd, NoMemory>
         requires table { self.old.work.table ≡ store.now.id }
-        requires core { core < 64 }
+        requires core { core < self.old.cores }
 
         // Why it ends, and what is recorded.
         ensures end { IfOk result (HeldTo self.old.work self.new.work) }
@@ -139,6 +144,7 @@ impl Block {
 
         // What stays, also after a refusal.
         ensures table { self.new.work.table ≡ self.old.work.table }
+        ensures cores { self.new.cores ≡ self.old.cores }
         ensures mark { mark_of self.new.work ≡ mark_of self.old.work }
         ensures more { self.old.work.finished ≤ self.new.work.finished }
         ensures limit { self.new.work.finished ≤ self.old.work.finished + 64 }
@@ -158,9 +164,13 @@ impl Block {
     pub fn into_parts(self) -> (Pass, Holds)
         ensures pass { result.0 ≡ passed self.work.table self.work.conn self.work.calls self.work.trace }
         ensures holds { result.1 ≡ self.holds }
-        ensures kept { Kept self.work × AreHolds self.work.conn self.work.finished self.holds }
+        ensures kept { Kept self.work × AreHolds self.cores self.work.conn self.work.finished self.holds }
     {
-        let Block { work, holds } = self;
+        let Block {
+            work,
+            cores: _,
+            holds,
+        } = self;
         (work.into_pass(), Holds::from_vec(holds))
     }
 }

@@ -2,10 +2,9 @@
 use Rattle.std.specs.Prelude.{◌≡◌, ℕ, ◌+◌, ◌*◌, ◌<◌, ◌≤◌, List, length, Some, slice_get, true, false}
 use Rattle.atomic_table.specs.Seated.{TableId}
 use Rattle.zy_table.specs.declared.name.Name.{Name}
-use Rattle.zy_table.specs.Name.{name_of}
 use Rattle.zy_rx.specs.Ring.{RingName, Taking}
 use Rattle.zy_shuffle.specs.Pass.{Ringed}
-use Rattle.zy_conn.specs.Block.{Blocked}
+use Rattle.zy_conn.specs.Block.{Blocked, label_of}
 use Rattle.zy_home.specs.Home.{Homed, HomeStands, is_settled, conns_in}
 use Rattle.zy_steal.specs.Order.{other_core}
 use Rattle.zy_steal.specs.Steal.{Thief, PassList, SeatOf, AreIdle, seats_of}
@@ -92,5 +91,5 @@ pub record Fits (shared : Sharing) (i : Identity) : Type 0 where
   pub ring : (r : Ringed) → slice_get shared.rings i.core ≡ Some r → i.table ≡ r.id
   pub others : (at : ℕ) (s : SeatOf) (r : Ringed) → slice_get i.seats at ≡ Some s
       → slice_get shared.rings (other_core i.core at) ≡ Some r → s.table ≡ r.id
-  pub store : i.label ≡ name_of shared.store.id
+  pub store : i.label ≡ label_of shared.store.id i.cores
   pub control : i.control ≡ shared.control.id

@@ -1,9 +1,9 @@
 -- The steal of a core in a turn.
 use Rattle.std.specs.Prelude.{ℕ, List, Option, Some, None}
 use Rattle.zy_home.specs.Idle.{mark_in}
-use Rattle.zy_home.specs.Place.{IsHeld, label_in}
+use Rattle.zy_home.specs.Place.{HeldBy}
 use Rattle.zy_conn.specs.declared.hold_end.HoldEnd.{HoldEnd}
-use Rattle.zy_conn.specs.Block.{Blocked}
+use Rattle.zy_conn.specs.Block.{Blocked, label_in}
 use Rattle.zy_steal.specs.declared.looks.Look.{Look}
 use Rattle.zy_steal.specs.Steal.{PassList, TakesFrom, GivesTo, AllLooked}
 
@@ -16,7 +16,7 @@ pub record Steals (before after : PassList Blocked) : Type 0 where
   pub takes : TakesFrom mark_in label_in before between victim place block
   pub held : Blocked
   pub end : HoldEnd
-  pub holds : IsHeld before.core block held end
+  pub holds : HeldBy before.core block held end
   pub gives : GivesTo between after victim place held
 
 -- a block was stolen; or a look at every other core was made, in which each claim took nothing

@@ -1,6 +1,6 @@
 //! The first three steps of a turn: items are received, blocks are collected, and one is claimed.
 ghost use Rattle.std.specs.Prelude.{◌≡◌, ◌+◌, ◌<◌, ◌≤◌, ◌^◌, true, false, OnOk, IfOk, is_err};
-ghost use Rattle.zy_table.specs.Name.{name_of};
+ghost use Rattle.zy_conn.specs.Block.{label_of};
 ghost use Rattle.zy_home.specs.Home.{HomeStands, StandsHome, all_here};
 ghost use Rattle.zy_home.specs.Place.{Looked};
 ghost use Rattle.zy_core.specs.Turn.{ReceivesTo, CollectsAll, ClaimsTo};
@@ -75,7 +75,7 @@ pub(crate) fn claim_own<G: Gate>(
     requires table { home.old.pass.table ≡ ring.now.id }
     requires few { home.old.pass.count < 2 ^ 63 }
     requires live { home.old.refused ≡ false }
-    requires store { home.old.pass.label ≡ name_of store.now.id }
+    requires store { home.old.pass.label ≡ label_of store.now.id home.old.cores }
     ensures value { IfOk result (ClaimsTo home.old.pass.table.slots home.old home.new) }
     ensures stands { OnOk result (StandsHome home.old home.new) }
     ensures still { IsStill home.old home.new }

@@ -1,26 +1,19 @@
 -- What the calls on a home do at one of its places, and which causes of the ring their answers hand on.
-use Rattle.std.specs.Prelude.{◌≡◌, ◌≢◌, ℕ, ◌+◌, ◌<◌, ◌≤◌, List, [], ◌++◌, true, false, length, Bool, Option, Some, None, slice_get, slice_set, map, is_some}
-use Rattle.zy_table.specs.declared.name.Name.{Name}
-use Rattle.zy_table.specs.Name.{name_of}
+use Rattle.std.specs.Prelude.{◌≡◌, ℕ, ◌+◌, ◌≤◌, [], ◌++◌, true, false, Bool, Some, None, slice_get, slice_set, map, is_some}
 use Rattle.zy_table.specs.Member.{is_in}
 use Rattle.zy_rx.specs.declared.rx.Rx.{Rx}
-use Rattle.zy_shuffle.specs.declared.claim.Claim.{Claim}
 use Rattle.zy_shuffle.specs.declared.claim.Claim.TheVariants as Claims
 use Rattle.zy_shuffle.specs.Pass.{Held, Joined, Claimed, Collected, after_publish}
 use Rattle.zy_conn.specs.Work.{has_event}
 use Rattle.zy_conn.specs.declared.hold_end.HoldEnd.{HoldEnd}
 use Rattle.zy_conn.specs.Hold.{HeldTo, IsRecorded}
-use Rattle.zy_conn.specs.Block.{Blocked}
+use Rattle.zy_conn.specs.Block.{Blocked, label_in}
 use Rattle.zy_home.specs.Link.{Link, IsFor, conn_of}
 use Rattle.zy_home.specs.Offer.{WaitsBehind, WaitsFull}
-use Rattle.zy_home.specs.Idle.{IsIdle, due_mark, mark_in}
+use Rattle.zy_home.specs.Idle.{due_mark, mark_in}
 use Rattle.zy_home.specs.declared.own.Own.{Own}
 use Rattle.zy_home.specs.declared.own.Own.TheVariants.{Took, Empty, Raced}
-use Rattle.zy_home.specs.Home.{Homed, IsHere}
-
--- the label of a block: the store that its pass is of
-abbrev pub label_in : Blocked → Name
-label_in block = name_of block.work.table
+use Rattle.zy_home.specs.Home.{Homed}
 
 -- ---- settling
 
@@ -35,8 +28,8 @@ pub record IsOut (h : Homed) (place : ℕ) (block : Blocked) : Type 0 where
 
 -- a block after its batch was taken and it met its inlet: no text waits, other frames may be known, and nothing else
 -- of it has changed
-abbrev pub HasMet : Blocked → Blocked → Type 0
-HasMet given block = block ≡ record given {
+abbrev pub MeetsInlet : Blocked → Blocked → Type 0
+MeetsInlet given block = block ≡ record given {
   work = record given.work {
     shown = given.work.finished;
     batch = [];
@@ -52,7 +45,7 @@ KnowsAll l block = l.inlet.sent ≡ block.work.taken ++ block.work.known
 -- then has an event, and stays in the home's hand otherwise. A frame waits only if the ring is full
 pub record Settles (place : ℕ) (given : Blocked) (h h' : Homed) : Type 0 where
   pub block : Blocked
-  pub met : HasMet given block
+  pub met : MeetsInlet given block
   pub event : has_event block.work ≡ true
       → (h'.pass ≡ after_publish place block h.pass h'.pass.trace) × (h'.blocks ≡ slice_set h.blocks place None)
   pub idle : has_event block.work ≡ false
@@ -85,8 +78,8 @@ pub record StaysIn (places : ℕ) (h h' : Homed) : Type 0 where
 -- ---- holding
 
 -- a core held a block, and this is why its hold ended: the hold is recorded with the core if it finished commands,
--- at most 64; the block's mark and store are as before
-pub record IsHeld (core : ℕ) (before after : Blocked) (end : HoldEnd) : Type 0 where
+-- at most 64; the block's mark and label are as before
+pub record HeldBy (core : ℕ) (before after : Blocked) (end : HoldEnd) : Type 0 where
   pub ends : HeldTo before.work after.work end
   pub recorded : IsRecorded core before after
   pub more : before.work.finished ≤ after.work.finished
@@ -110,7 +103,7 @@ CollectsTo places h h' false =
 abbrev pub OwnsTo : ℕ → Homed → Homed → Own → Type 0
 OwnsTo places h h' (Took held) = (place : ℕ) × (block after : Blocked) × (pass : Held Blocked)
     × Claimed mark_in label_in places h.pass pass (Claims.Took place block)
-    × IsHeld h.core block after held
+    × HeldBy h.core block after held
     × Settles place after (with_pass h pass) h'
 OwnsTo places h h' (Empty at) =
     Claimed mark_in label_in places h.pass h'.pass (Claims.Empty at) × (h' ≡ with_pass h h'.pass)

@@ -1,16 +1,15 @@
 -- What a step at one place is, of the parts of a home. No public clause cites this module.
-use Rattle.std.specs.Prelude.{◌≡◌, ◌≢◌, ℕ, ◌+◌, ◌<◌, ◌≤◌, List, true, false, Bool, Option, Some, None, slice_get, slice_set, is_some}
+use Rattle.std.specs.Prelude.{◌≡◌, ◌≢◌, ℕ, ◌+◌, ◌≤◌, true, false, Bool, Option, Some, None, slice_get, slice_set}
 use Rattle.zy_table.specs.Member.{is_in}
-use Rattle.zy_rx.specs.declared.rx.Rx.{Rx}
 use Rattle.zy_shuffle.specs.Hand.{marked}
 use Rattle.zy_shuffle.specs.Pass.{Held, after_publish}
 use Rattle.zy_conn.specs.Work.{has_event}
-use Rattle.zy_conn.specs.Block.{Blocked}
+use Rattle.zy_conn.specs.Block.{Blocked, label_in}
 use Rattle.zy_home.specs.Link.{Link, conn_of}
 use Rattle.zy_home.specs.Offer.{WaitsBehind, WaitsFull}
 use Rattle.zy_home.specs.Idle.{IsIdle, due_mark, mark_in}
 use Rattle.zy_home.specs.Home.{Homed, IsAt, IsHere}
-use Rattle.zy_home.specs.Place.{HasMet, KnowsAll, label_in}
+use Rattle.zy_home.specs.Place.{MeetsInlet, KnowsAll}
 
 -- ---- one place
 
@@ -24,7 +23,7 @@ pub record IsDue (pass : Held Blocked) (place : ℕ) (link : Link) (block : Bloc
 pub record IsSettled (place : ℕ) (given : Blocked) (link' : Link) (pass pass' : Held Blocked)
     (slot' : Option Blocked) : Type 0 where
   pub block : Blocked
-  pub met : HasMet given block
+  pub met : MeetsInlet given block
   pub mark : mark_in block ≡ due_mark link'
   pub label : label_in block ≡ pass.label
   pub event : has_event block.work ≡ true

@@ -1,11 +1,12 @@
 //! A connection of a home without its block.
 ghost use Rattle.std.specs.Prelude.{◌≡◌, ◌≢◌, ◌++◌, [], true, false, None, IfOk, OnOk, IfNone, option_to_list};
 ghost use Rattle.zy_conn.specs.Work.{has_event};
+ghost use Rattle.zy_conn.specs.Block.{label_in};
 ghost use Rattle.zy_rx.specs.Session.{Sessions, with_bytes, with_close};
 ghost use Rattle.zy_home.specs.Link.{IsFor, IsFresh, LinkStands, SameLink, StandsOn, TakesIn, conn_of};
 ghost use Rattle.zy_home.specs.Offer.{Offers, IsFilled, WaitsBehind, WaitsFull};
 ghost use Rattle.zy_home.specs.Idle.{IsIdle, due_mark, mark_in};
-ghost use Rattle.zy_home.specs.Place.{HasMet, KnowsAll};
+ghost use Rattle.zy_home.specs.Place.{MeetsInlet, KnowsAll};
 
 use std::alloc::Global;
 use std::marker::Model;
@@ -145,12 +146,12 @@ impl Link {
         ensures event { IfOk result (λ event. event ≡ has_event block.new.work) }
         ensures mark { OnOk result (mark_in block.new ≡ due_mark self.new) }
         ensures idle { IfOk result (λ event. event ≡ false → IsIdle block.new.work self.new) }
-        ensures met { OnOk result (HasMet block.old block.new) }
+        ensures met { OnOk result (MeetsInlet block.old block.new) }
         ensures knows { OnOk result (KnowsAll self.new block.new) }
         ensures behind { OnOk result (WaitsBehind self.new block.new) }
         ensures stands { OnOk result (StandsOn self.old self.new) }
         ensures same { SameLink self.old self.new }
-        ensures label { block.new.work.table ≡ block.old.work.table }
+        ensures label { label_in block.new ≡ label_in block.old }
     {
         match self.output.carry_out(block.take_batch()) {
             Ok(()) => {}

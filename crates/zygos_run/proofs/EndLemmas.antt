@@ -42,7 +42,7 @@ told source P given = reported source.before source.after given.0 P given.1.0 gi
 
 pub headline_of : (request : Option Request) (call : Seen) (journal : Journal) → HasServed request call journal → HeadlineHolds request call journal
 headline_of None call journal has = has
-headline_of (Some (Requests.Run run out)) call journal has = told call.source (λ bytes. IsWritten run.shards out bytes journal call.sink) has
+headline_of (Some (Requests.Run run out)) call journal has = told call.source (λ bytes. IsWritten run out bytes journal call.sink) has
 headline_of (Some (Requests.Check shards)) call journal has = has
 headline_of (Some (Requests.Gen traffic)) call journal has = has
 headline_of (Some (Requests.SelfTest traffic run)) call journal has = has
@@ -141,7 +141,7 @@ module _ (call : Seen) (text : List ℕ) (is_told : call.source.before ≡ Some 
 
   run_refused : (run : Run) (out : Out) (fault : CaptureFault) (answer : Answer) → Ends (Some (Requests.Run run out)) call answer → verdict text ≡ Bad fault → IsRefusedOr (Refusals.Capture fault) answer
   run_refused run out fault (Served journal) ends bad =
-      let is = of_text (λ bytes. IsWritten run.shards out bytes journal call.sink) ends in
+      let is = of_text (λ bytes. IsWritten run out bytes journal call.sink) ends in
       absurd (good_and_bad text is.served.version is.served.count is.served.records fault is.served.capture bad)
   run_refused run out fault (Checked found) ends bad = absurd ends
   run_refused run out fault Made ends bad = absurd ends

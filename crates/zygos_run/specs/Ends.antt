@@ -23,6 +23,7 @@ use Rattle.zygos_run.specs.declared.answer.Answer.{Answer}
 use Rattle.zygos_run.specs.declared.answer.Answer.TheVariants.{Served, Checked, Made, Tested, Usage, Refused, ReadFault, WriteFault, OutOfMemory}
 use Rattle.zygos_run.specs.Seen.{Seen, HasRisen, Takes, TakesPart, OfGiven}
 use Rattle.zygos_run.specs.Recorded.{IsRecorded}
+use Rattle.zy_command_line.specs.declared.request.Run.{Run}
 use Rattle.zygos_run.specs.Headline.{IsServed, IsWritten, IsPartWritten}
 use Rattle.zygos_run.specs.Lines.{verdict_line, summary_line}
 
@@ -49,17 +50,17 @@ pub record IsChecked (shards : ℕ) (bytes : List ℕ) (verdict : Certified) : T
   pub verdict_is : HasVerdict (given shards streams journal outputs) verdict
 
 -- the journal is that of a served run of generated traffic, and the numbers are those of all its runs
-pub record IsTested (traffic : Traffic) (shards : ℕ) (journal : Journal) (numbers : Summary) : Type 0 where
+pub record IsTested (traffic : Traffic) (run : Run) (journal : Journal) (numbers : Summary) : Type 0 where
   pub outputs : AllOutputs
-  pub served : IsServed shards (traffic_bytes traffic) journal outputs
-  pub numbers_are : numbers ≡ traffic_summary shards traffic
+  pub served : IsServed run (traffic_bytes traffic) journal outputs
+  pub numbers_are : numbers ≡ traffic_summary run.shards traffic
 
 -- ---- the answers, one by one
 
 -- a run was asked for, it was served of the bytes that the source gave, and all of it was written
 abbrev pub HasServed : Option Request → Seen → Journal → Type 0
 HasServed (Some (Requests.Run run out)) call journal =
-    OfGiven call.source (λ bytes. IsWritten run.shards out bytes journal call.sink)
+    OfGiven call.source (λ bytes. IsWritten run out bytes journal call.sink)
 HasServed request call journal = ⊥
 
 -- a check was asked for, this is the verdict on the bytes that the source gave, and its line was written
@@ -78,7 +79,7 @@ HasMade request call = ⊥
 -- a test run was asked for, this is its journal, these are its numbers, and their line was written
 abbrev pub HasTested : Option Request → Seen → Journal → Summary → Type 0
 HasTested (Some (Requests.SelfTest traffic run)) call journal numbers =
-    IsTested traffic run.shards journal numbers × Takes call.sink (summary_line numbers)
+    IsTested traffic run journal numbers × Takes call.sink (summary_line numbers)
 HasTested request call journal numbers = ⊥
 
 -- the bytes have this fault as the request reads them: a run reads a capture, a check reads a capture and what
@@ -112,13 +113,13 @@ ReadsInput request = ⊥
 abbrev pub HasPart : Option Request → Seen → Type 0
 HasPart None call = ⊥
 HasPart (Some (Requests.Run run out)) call =
-    OfGiven call.source (λ bytes. IsPartWritten run.shards out bytes call.sink)
+    OfGiven call.source (λ bytes. IsPartWritten run out bytes call.sink)
 HasPart (Some (Requests.Check shards)) call =
     (found : Certified) × OfGiven call.source (λ bytes. IsChecked shards bytes found)
     × TakesPart call.sink (verdict_line found)
 HasPart (Some (Requests.Gen traffic)) call = TakesPart call.sink (traffic_bytes traffic)
 HasPart (Some (Requests.SelfTest traffic run)) call =
-    (journal : Journal) × (numbers : Summary) × IsTested traffic run.shards journal numbers
+    (journal : Journal) × (numbers : Summary) × IsTested traffic run journal numbers
     × TakesPart call.sink (summary_line numbers)
 HasPart (Some (Requests.Pcap port)) call =
     OfGiven call.source (λ bytes. IsRecorded port bytes (λ capture. TakesPart call.sink capture))

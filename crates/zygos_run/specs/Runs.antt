@@ -11,6 +11,7 @@ use Rattle.zy_check_input.specs.declared.stop.Refusal.{Refusal}
 use Rattle.zy_check_input.specs.Parts.{HasPartFault, ReadsAll}
 use Rattle.zy_check.specs.declared.verdict.Verdict.{Verdict as Certified}
 use Rattle.zy_finish.specs.declared.finishing.Finished.{Finished}
+use Rattle.zy_command_line.specs.declared.request.Run.{Run}
 use Rattle.zygos_run.specs.Seen.{Side, HasRisen, OfGiven}
 use Rattle.zygos_run.specs.Headline.{IsServed}
 use Rattle.zygos_run.specs.Ends.{IsChecked}
@@ -22,11 +23,11 @@ StopsFor HasFault source Stops.ReadFault = HasRisen source
 StopsFor HasFault source Stops.NoMemory = ⊤
 
 -- a capture was served, or it stopped
-abbrev pub RunsTo : ℕ → Side → Result Finished (Stop CaptureFault) → Type 0
-RunsTo shards source (Ok done) =
-    (bytes : List ℕ) × ReadsAll source.before source.after bytes × IsServed shards bytes done.journal done.outputs
+abbrev pub RunsTo : Run → Side → Result Finished (Stop CaptureFault) → Type 0
+RunsTo run source (Ok done) =
+    (bytes : List ℕ) × ReadsAll source.before source.after bytes × IsServed run bytes done.journal done.outputs
     × AreOutputs done.outputs × IsJournal done.journal
-RunsTo shards source (Err stop) = StopsFor (λ fault bytes. verdict bytes ≡ Bad fault) source stop
+RunsTo run source (Err stop) = StopsFor (λ fault bytes. verdict bytes ≡ Bad fault) source stop
 
 -- a check has its verdict, or it stopped
 abbrev pub ChecksTo : ℕ → Side → Result Certified (Stop Refusal) → Type 0

@@ -23,7 +23,7 @@ use Rattle.zygos_run.specs.Ends.{IsChecked, HasFault}
 -- a run was asked for, it was served of all bytes that the source reported, and all of it was written
 abbrev pub HeadlineHolds : Option Request → Seen → Journal → Type 0
 HeadlineHolds (Some (Requests.Run run out)) call journal =
-    OfTold call.source (λ bytes. IsWritten run.shards out bytes journal call.sink)
+    OfTold call.source (λ bytes. IsWritten run out bytes journal call.sink)
 HeadlineHolds request call journal = ⊥
 
 -- a check was asked for, and this is the verdict on all bytes that the source reported

@@ -68,7 +68,7 @@ fn run_test<R: Threads + Wait + Sync, G: Gate + Sync>(
 ) -> Result<(Journal, Summary), NoMemory>
     requires makeable { IsMakeable traffic }
     requires runnable { IsRunnable run }
-    ensures tested { IfOk result (λ t. IsTested traffic run.shards t.0 t.1) }
+    ensures tested { IfOk result (λ t. IsTested traffic run t.0 t.1) }
 {
     generated_traffic_is_a_good_capture();
     each_run_of_generated_traffic_has_the_summary();
@@ -76,7 +76,7 @@ fn run_test<R: Threads + Wait + Sync, G: Gate + Sync>(
     capture.share()?;
     let streams = streams_of(alloc, capture.copy()?)?;
     let done = serve_traffic(rt, alloc, traffic, run, capture, gate)?;
-    certify(alloc, traffic, run.shards, &streams, &done)?;
+    certify(alloc, traffic, run, &streams, &done)?;
     let summary = summary_of(&done)?;
     Ok((done.journal, summary))
 }
@@ -105,7 +105,7 @@ fn serve_traffic<R: Threads + Wait + Sync, G: Gate + Sync>(
     requires makeable { IsMakeable traffic }
     requires runnable { IsRunnable run }
     requires capture { capture ≡ traffic_bytes traffic }
-    ensures served { IfOk result (λ done. IsServed run.shards (traffic_bytes traffic) done.journal done.outputs) }
+    ensures served { IfOk result (λ done. IsServed run (traffic_bytes traffic) done.journal done.outputs) }
 {
     generated_traffic_is_a_good_capture();
     match run_capture(rt, alloc, run, &mut SureSource::new(capture), gate) {
@@ -120,18 +120,18 @@ fn serve_traffic<R: Threads + Wait + Sync, G: Gate + Sync>(
 fn certify(
     alloc: Global,
     traffic: Traffic,
-    shards: u32,
+    run: Run,
     streams: &Streams,
     done: &Finished,
 ) -> Result<(), NoMemory>
-    requires shards { AreShards shards }
-    requires served { IsServed shards (traffic_bytes traffic) done.now.journal done.now.outputs }
+    requires shards { AreShards run.shards }
+    requires served { IsServed run (traffic_bytes traffic) done.now.journal done.now.outputs }
     requires streams { (version count : ℕ) (records : List Record)
         → verdict (traffic_bytes traffic) ≡ Good version count records
         → streams.now ≡ with_records (no_bytes count) records }
 {
     served_runs_check();
-    match check(alloc, streams, &done.journal, &done.outputs, shards)? {
+    match check(alloc, streams, &done.journal, &done.outputs, run.shards)? {
         Verdict::Yes => Ok(()),
         Verdict::No(_) => unreachable!(),
     }

@@ -59,7 +59,7 @@ returns-clause-steps g c =
 pub steal_once-requires-clause-core : goal.steal_once-requires-clause-core
 steal_once-requires-clause-core g c =
     let one = c.self.invariant.0.one in
-    (c.self.invariant.1 ∙ sym one.passes_core, one.passes_core ∙ sym one.thief_core, (let near = c.self.invariant.0.core in let few = c.self.invariant.0.cores in let is = c.self.invariant.1 in omega arith))
+    (c.self.invariant.1 ∙ sym one.passes_core, one.passes_core ∙ sym one.thief_core)
 
 pub steal_once-requires-clause-within : goal.steal_once-requires-clause-within
 steal_once-requires-clause-within g c =

@@ -2,7 +2,7 @@ use Rattle.std.proofs.Common.{List, sym, ap, ◌∙◌, subst}
 use Rattle.zy_frame.specs.declared.frame_kind.FrameKind.{FrameKind}
 use Rattle.zy_calls.specs.Output.{Output}
 use Rattle.zy_conn.specs.Ring.{EventInlet}
-use Rattle.zy_conn.specs.Block.{Blocked}
+use Rattle.zy_conn.specs.Block.{Blocked, label_in}
 use Rattle.zy_home.specs.Link.{Link}
 use Rattle.zy_home.specs.Offer.{IsFilled}
 use Rattle.zy_home.proofs.IdleLemmas.{settled_idle, met_twice}
@@ -10,6 +10,9 @@ use Rattle.zy_home.proofs.link.Link.settle.Goals as goal
 
 pub returns-clause-met : goal.returns-clause-met
 returns-clause-met c = met_twice c.args.block.now c.take_batch.new.self c.meet.new.self c.meet-2.new.self c.take_batch.ensures.block c.meet.ensures.block c.meet-2.ensures.block
+
+pub returns-clause-label : goal.returns-clause-label
+returns-clause-label c = ap label_in (met_twice c.args.block.now c.take_batch.new.self c.meet.new.self c.meet-2.new.self c.take_batch.ensures.block c.meet.ensures.block c.meet-2.ensures.block)
 
 pub returns-clause-idle : goal.returns-clause-idle
 returns-clause-idle c none =
