@@ -8,12 +8,17 @@ cores of which each serves its own requests (M/M/1) and of cores that share all 
 Each point is measured three times, and the median counts. The load is the share of what the cores could carry at most; the
 first tenth of each run is left out. In the skewed runs half of the requests are of connections of the first core.
 
+The threads spin, so they notice when the machine takes a processor away for more than 10 microseconds. A run that was
+interrupted for more than one part in 500 of its time is repeated, up to three times for each that is wanted; if there are not
+enough runs then, those that were interrupted least count, and the point is marked with `!`. Where the system allows it, runs
+have a real-time priority.
+
 usage: bench/run tail [--json] [--picture] [--runs N] [--seconds S] [--service US] [PROGRAM]
 
 --json        prints all points as JSON
 --picture     writes docs/tail.svg and docs/tail-skew.svg
---runs N      so many runs of each point (3)
---seconds S   the length of a run: as many seconds, and more for service times over 10 microseconds (0.35)
+--runs N      the number of runs of each point (3)
+--seconds S   the seconds of a run; it is longer for service times over 10 microseconds (0.2)
 --service US  only this mean service time
 PROGRAM       `zygos_bench`, built (otherwise that of its crate, which is proved and built first where it isn't)
 """
@@ -33,6 +38,16 @@ SERVICES = (5, 10, 25, 100)
 SHAPES = {"fixed": 0, "exponential": 1, "bimodal": 2}
 QUANTILES = {"median": 0.5, "p99": 0.99, "p999": 0.999}
 BOUND = 10
+SOUND = 1 / 500
+TRIES = 3
+
+
+def hurry():
+    """Gives this process a real-time priority, where the system allows it."""
+    try:
+        os.sched_setscheduler(0, os.SCHED_FIFO, os.sched_param(50))
+    except (OSError, AttributeError):
+        pass
 
 
 def nanos_of(index):
@@ -47,6 +62,7 @@ class Counted:
     def __init__(self):
         self.latencies, self.holds = {}, {}
         self.served = self.away = self.rate = 0
+        self.interrupted = 0.0
 
     def add(self, text, count):
         for line in text.splitlines():
@@ -61,7 +77,10 @@ class Counted:
                 self.served += int(numbers[0])
                 self.away += int(numbers[2])
             elif word == "nanos":
-                self.rate += count / int(numbers[2]) * 1e9
+                span = int(numbers[2])
+                self.rate += count / span * 1e9
+            elif word == "interrupted":
+                self.interrupted = max(self.interrupted, (int(numbers[0]) + int(numbers[2])) / span)
 
     def quantile(self, part):
         left = part * self.served
@@ -78,13 +97,15 @@ class Bench:
     def __init__(self, program, cores, runs, seconds):
         self.program, self.cores, self.runs, self.seconds = program, cores, runs, seconds
         self.beside = max(1, (os.cpu_count() or 1) // 2)
+        self.repeated = 0
 
     def start(self, cores, skewed, shape, service, load, number):
         """Starts a run at this load of its cores, in percent. Returns it and its number of requests."""
         gap = service * 1000 / (cores * load / 100)
         count = max(100, int(self.length(service) * 1e9 / gap))
         words = ["tail", cores, int(skewed), SHAPES[shape], int(service * 1000), int(gap * 1000), count, number]
-        run = subprocess.Popen([self.program, *map(str, words)], stdin=subprocess.DEVNULL, stdout=subprocess.PIPE, text=True)
+        run = subprocess.Popen([self.program, *map(str, words)], stdin=subprocess.DEVNULL, stdout=subprocess.PIPE, text=True,
+                               preexec_fn=hurry)
         return run, count
 
     def length(self, service):
@@ -118,7 +139,7 @@ class Bench:
 
     def point(self, kind, skewed, shape, service, load):
         """The medians of a point."""
-        runs = [(self.whole if kind == "zygos" else self.parts)(skewed, shape, service, load, number) for number in range(1, self.runs + 1)]
+        runs = self.sound_runs(self.whole if kind == "zygos" else self.parts, skewed, shape, service, load)
         holds = {}
         for run in runs:
             for size, many in run.holds.items():
@@ -133,8 +154,19 @@ class Bench:
             "throughput": statistics.median(run.rate for run in runs),
             **{name: statistics.median(run.quantile(part) for run in runs) / mean for name, part in QUANTILES.items()},
             "away": statistics.median(run.away / max(1, run.served) for run in runs),
+            "interrupted": max(run.interrupted for run in runs),
             "holds": dict(sorted(holds.items())),
         }
+
+    def sound_runs(self, measure, *point):
+        """The wanted number of runs, those that were interrupted least of those that were made."""
+        runs = []
+        for number in range(1, TRIES * self.runs + 1):
+            runs.append(measure(*point, number))
+            if sum(run.interrupted <= SOUND for run in runs) == self.runs:
+                break
+        self.repeated += len(runs) - self.runs
+        return sorted(runs, key=lambda run: run.interrupted)[: self.runs]
 
     def cost(self, cores, skewed):
         """The microseconds that a command costs its core beside a fixed service of 10, at one and a half times the full load."""
@@ -200,7 +232,8 @@ def told(point):
     sizes = point["holds"]
     all_, one = sum(sizes.values()), sizes.get(1, 0)
     print(f"{point['load']:6} % {point['kind']:12}{point['throughput']:11,.0f}{point['median']:10.2f}{point['p99']:10.2f}{point['p999']:10.2f}"
-          f"{point['away']:8.1%}   {one / max(1, all_):.0%} of one, most {max(sizes, default=0)}", flush=True)
+          f"{point['away']:8.1%}   {one / max(1, all_):.0%} of one, most {max(sizes, default=0)}"
+          f"{' !' if point['interrupted'] > SOUND else ''}", flush=True)
 
 
 COLOURS = {"zygos": "#1f5fa8", "partitioned": "#c0501f", "M/M/1": "#d9a13b", "M/M/n": "#7f7f7f"}
@@ -260,7 +293,7 @@ def main():
     words.add_argument("--json", action="store_true")
     words.add_argument("--picture", action="store_true")
     words.add_argument("--runs", type=int, default=3)
-    words.add_argument("--seconds", type=float, default=0.35)
+    words.add_argument("--seconds", type=float, default=0.2)
     words.add_argument("--service", type=float)
     words.add_argument("program", nargs="?")
     given = words.parse_args()
@@ -300,6 +333,7 @@ def main():
     costs = {"one core": bench.cost(1, False), f"{cores} cores": bench.cost(cores, False), f"{cores} cores, skewed": bench.cost(cores, True)}
     say("microseconds that a command costs its core beside its service, at one and a half times the full load: "
         + ", ".join(f"{name} {cost:.2f}" for name, cost in costs.items()))
+    say(f"runs that were interrupted too long and repeated: {bench.repeated}")
     if given.json:
         print(json.dumps({"processors": processors, "cores": cores, "costs": costs, "points": points}))
 

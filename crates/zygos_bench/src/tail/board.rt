@@ -14,6 +14,7 @@ pub(crate) struct Board<'a, R> {
     load: Load,
     ends: Vec<AtomicU64>,
     cores: Vec<AtomicU64>,
+    away: AtomicU64,
 }
 
 impl<'a, R: Clock> Board<'a, R> {
@@ -26,6 +27,7 @@ impl<'a, R: Clock> Board<'a, R> {
                 load,
                 ends,
                 cores,
+                away: AtomicU64::new(0),
             }),
             Err(e) => {
                 drop(ends);
@@ -43,27 +45,58 @@ impl<'a, R: Clock> Board<'a, R> {
     pub(crate) fn core(&self, place: usize) -> u64 {
         read(&self.cores, place)
     }
+
+    /// For how long commands were interrupted, in nanoseconds.
+    pub(crate) fn away(&self) -> u64 {
+        self.away.load(Ordering::SeqCst)
+    }
 }
 
 impl<'a, R: Clock> Gate for Board<'a, R> {
     fn pass(&self, core: u32, conn: u32, index: u64) {
         let begin = monotonic(self.rt);
         let place = self.load.place_of(conn, index);
-        let end = spin(self.rt, begin.saturating_add(self.load.service_of(place)));
-        note(&self.ends, place, end);
+        let spun = spin(
+            self.rt,
+            begin,
+            begin.saturating_add(self.load.service_of(place)),
+        );
+        note(&self.ends, place, spun.end);
         note(&self.cores, place, u64::from(core));
+        if spun.away > 0 {
+            self.away.fetch_add(spun.away, Ordering::SeqCst);
+        }
     }
 }
 
-/// Spins until then. Returns the time after it.
-pub(crate) fn spin<R: Clock>(rt: &R, until: u64) -> u64 {
+/// What a thread that spun has seen.
+#[derive(Clone, Copy)]
+pub(crate) struct Spun {
+    /// When it ended, in nanoseconds.
+    pub(crate) end: u64,
+    /// For how long the thread was interrupted, in nanoseconds.
+    pub(crate) away: u64,
+}
+
+// A thread was interrupted where more nanoseconds than this lie between two looks at the clock.
+const INTERRUPTED: u64 = 10_000;
+
+/// Spins from this time until that one.
+pub(crate) fn spin<R: Clock>(rt: &R, from: u64, until: u64) -> Spun {
+    let mut last = from;
+    let mut away = 0u64;
     for _ in 0..u64::MAX {
-        let now = monotonic(rt);
-        if now >= until {
-            return now;
+        if last >= until {
+            break;
         }
+        let now = monotonic(rt);
+        let gap = now.saturating_sub(last);
+        if gap > INTERRUPTED {
+            away = away.saturating_add(gap);
+        }
+        last = now;
     }
-    until
+    Spun { end: last, away }
 }
 
 // So many numbers, each of them 0.

@@ -3,6 +3,7 @@ ghost use Rattle.std.specs.Prelude.{◌≡◌, ◌<◌, length, ⊤};
 ghost use Rattle.zygos_bench.specs.declared.tail.feeder.Stage.TheVariants as Stages;
 ghost use Rattle.zygos_bench.specs.Tail.{StepsTo};
 
+use crate::clock::monotonic;
 use crate::tail::board::spin;
 use crate::tail::offering::{meet, offer};
 use crate::tail::times::Times;
@@ -69,7 +70,8 @@ impl<'a, R: Clock> Arrivals<'a, R> {
         if self.times.is_over() {
             return self.end(0);
         }
-        spin(self.rt, self.times.due());
+        let spun = spin(self.rt, monotonic(self.rt), self.times.due());
+        self.times.add_away(spun.away);
         let next = self.times.next();
         match Blob::copy_of(self.alloc, b"get key\r\n") {
             Ok(bytes) => self.offer(

@@ -43,6 +43,7 @@ pub(crate) fn print_all<R: Clock + Print>(
     }
     report.add_holds(cores);
     report.print(rt, times);
+    let _ = println!(rt; "interrupted {} feeder {}", board.away(), times.away());
     drop(report);
     Ok(())
 }

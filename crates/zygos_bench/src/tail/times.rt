@@ -15,6 +15,8 @@ pub(crate) struct Times {
     // The picoseconds from then until the next request is due.
     due: u64,
     left: u64,
+    // For how long the feeder was interrupted, in nanoseconds.
+    away: u64,
     // By connection: the number of its requests.
     counts: Vec<u64>,
     // By place: when the request was due, in nanoseconds.
@@ -42,6 +44,7 @@ impl Times {
             begin: 0,
             due,
             left: load.count,
+            away: 0,
             counts,
             dues,
         })
@@ -92,6 +95,16 @@ impl Times {
     /// When the request at this place was due; 0 where there is none.
     pub(crate) fn due_at(&self, place: usize) -> u64 {
         read(&self.dues, place)
+    }
+
+    /// The feeder was interrupted for this long, in nanoseconds.
+    pub(crate) fn add_away(&mut self, nanos: u64) {
+        self.away = self.away.saturating_add(nanos);
+    }
+
+    /// For how long the feeder was interrupted, in nanoseconds.
+    pub(crate) fn away(&self) -> u64 {
+        self.away
     }
 
     /// When the run began.
