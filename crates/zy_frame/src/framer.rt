@@ -86,14 +86,10 @@ impl Framer {
     }
 
     // Takes some first bytes, at least one.
-    #[tactic(auto, using(crate::proofs::StepLemmas::stretched))]
     fn advance(&mut self, bytes: &[u8], frames: &mut Frames) -> Result<usize, NoMemory>
         requires some { 0 < length bytes.now }
         ensures value { Advances self.old self.new frames.old frames.new bytes.now result }
     {
-        if self.state.stretch(bytes) {
-            return Ok(bytes.len());
-        }
         let state = mem::replace(&mut self.state, State::Refused);
         match step(self.alloc, state, bytes) {
             Ok(step) => {

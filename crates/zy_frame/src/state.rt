@@ -1,9 +1,4 @@
 //! What a framer is in the middle of.
-ghost use Rattle.std.specs.Prelude.{◌≡◌, ◌<◌, true, false, length};
-ghost use Rattle.zy_frame.specs.Progress.{Keeps};
-ghost use Rattle.zy_frame.specs.Steps.{progress_of, Goes, stays_in};
-
-use crate::in_frame::grow_block;
 use crate::wanted::Wanted;
 use zy_base::Blob;
 
@@ -23,28 +18,4 @@ pub(crate) enum State {
     Quit,
     // What follows after a refused allocation.
     Refused,
-}
-
-impl State {
-    // Takes all bytes where they are bytes of a block, and not its last ones, so that the state stays in
-    // its place. Otherwise, and after a refusal, nothing has changed.
-    pub(crate) fn stretch(&mut self, bytes: &[u8]) -> bool
-        requires keeps { Keeps (progress_of self.old) }
-        requires some { 0 < length bytes.now }
-        ensures all { result ≡ true → Goes self.old bytes.now (stays_in self.new (length bytes.now)) }
-        ensures none { result ≡ false → self.new ≡ self.old }
-    {
-        match self {
-            State::Block { wanted, block } if bytes.len() < wanted.left => {
-                match grow_block(block, wanted.left, bytes) {
-                    Ok(()) => {
-                        wanted.left -= bytes.len();
-                        true
-                    }
-                    Err(_) => false,
-                }
-            }
-            _ => false,
-        }
-    }
 }
