@@ -16,7 +16,7 @@ use Rattle.zy_base.specs.declared.tallied.Tallied.{Tallied}
 use Rattle.zy_base.specs.Call.{key_of}
 use Rattle.zy_base.specs.Code.{tally}
 use Rattle.zy_base.specs.Number.{number_of}
-use Rattle.zy_base.specs.Counted.{is_get, is_set, is_hit, is_miss, one_if, KeySet, no_keys, keys_with, keys_after, counted}
+use Rattle.zy_base.specs.Counted.{is_get, is_set, is_hit, is_miss, one_more_if, KeySet, no_keys, keys_with, keys_after, counted}
 use Rattle.zy_base.specs.Shard.{Items, State, empty_state, tallied, Outcome, value_limit, answers, stored, counted_up, counted_down, outcome_of, outcome_on, item_at, reply_to, state_with, state_after}
 use Rattle.zy_base.specs.Order.{at_shard}
 use Rattle.zy_base.specs.History.{IsReplay, replayed, IsLegal, answer_after, AreAnswered}
@@ -25,7 +25,7 @@ use Rattle.zy_base.proofs.ReplayLemmas.{IsLegal-push, IsLegal-front, IsLegal-sha
 
 -- ---- calls
 
-one_more : (test : Bool) (rest count : ℕ) → rest + one_if test count ≡ cond test 1 0 + rest + count
+one_more : (test : Bool) (rest count : ℕ) → rest + one_more_if test count ≡ cond test 1 0 + rest + count
 one_more true rest count = omega arith
 one_more false rest count = omega arith
 

@@ -93,14 +93,14 @@ abbrev pub no_calls : CallCounts
 no_calls = record { gets = 0; sets = 0; hits = 0; misses = 0 }
 
 -- one more where the test holds
-abbrev pub one_if : Bool → ℕ → ℕ
-one_if test count = if test then count + 1 else count
+abbrev pub one_more_if : Bool → ℕ → ℕ
+one_more_if test count = if test then count + 1 else count
 
 -- the counts after a call with this reply
 abbrev pub calls_with : CallCounts → Call → CallReply → CallCounts
 calls_with counts call reply = record {
-  gets = one_if (is_get call) counts.gets;
-  sets = one_if (is_set call) counts.sets;
-  hits = one_if (is_hit call reply) counts.hits;
-  misses = one_if (is_miss call reply) counts.misses;
+  gets = one_more_if (is_get call) counts.gets;
+  sets = one_more_if (is_set call) counts.sets;
+  hits = one_more_if (is_hit call reply) counts.hits;
+  misses = one_more_if (is_miss call reply) counts.misses;
 }

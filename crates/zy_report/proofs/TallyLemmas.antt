@@ -14,17 +14,17 @@ use Rattle.zy_base.specs.declared.tallied.Tallied.{Tallied}
 use Rattle.zy_base.specs.declared.call.Call.{Call}
 use Rattle.zy_base.specs.declared.call.Call.TheVariants.{Flush}
 use Rattle.zy_base.specs.declared.call_reply.CallReply.{CallReply}
-use Rattle.zy_base.specs.Counted.{KeySet, no_keys, keys_with, keys_after, is_get, is_set, is_hit, is_miss, one_if, calls_with, counted, CallCounts}
+use Rattle.zy_base.specs.Counted.{KeySet, no_keys, keys_with, keys_after, is_get, is_set, is_hit, is_miss, one_more_if, calls_with, counted, CallCounts}
 use Rattle.zy_report.specs.Counting.{Counting}
 use Rattle.zy_report.specs.Tally.{calls_kept, calls_counted, AreKeysOf, CountsEntries, CanCount, none_kept}
 
 -- ---- calls
 
-one_more : (test : Bool) (count : ℕ) → count + (0 + cond test 1 0) ≡ one_if test count
+one_more : (test : Bool) (count : ℕ) → count + (0 + cond test 1 0) ≡ one_more_if test count
 one_more true count = omega arith
 one_more false count = omega arith
 
-count_more : (test : Entry → Bool) (es : List Entry) (e : Entry) → count_by test (es ++ e ∷ []) ≡ one_if (test e) (count_by test es)
+count_more : (test : Entry → Bool) (es : List Entry) (e : Entry) → count_by test (es ++ e ∷ []) ≡ one_more_if (test e) (count_by test es)
 count_more test es e = sum_by-append (λ x. cond (test x) 1 0) es (e ∷ []) ∙ one_more (test e) (count_by test es)
 
 -- the counts of calls with one more entry

@@ -8,7 +8,7 @@ ghost use Rattle.zy_capture.specs.Verdict.Verdict.{Good};
 ghost use Rattle.zy_command_line.specs.Range.{IsMakeable, IsRunnable, AreShards};
 ghost use Rattle.zy_command_line.specs.declared.request.Request.TheVariants as Requests;
 ghost use Rattle.zygos_run.specs.Seen.{Side, side, seen};
-ghost use Rattle.zygos_run.specs.Finish.{FinishesBy};
+ghost use Rattle.zygos_run.specs.Finish.{FinishesOnce};
 ghost use Rattle.zygos_run.specs.Ends.{Ends, IsTested, LeavesSink, traffic_bytes};
 ghost use Rattle.zygos_run.specs.Headline.{IsServed};
 ghost use Rattle.zygos_run.specs.Lines.{summary_line};
@@ -49,7 +49,7 @@ pub(crate) fn test_traffic<R: Threads + Wait + Sync, K: Sink, G: Gate + Sync>(
     ensures ends { (source : Side) → Ends (Some (Requests.SelfTest traffic run))
         (seen source (side K.holds K.faults sink.old sink.new)) result }
     ensures sink_kept { LeavesSink result → sink.new ≡ sink.old }
-    ensures finished { FinishesBy result (K.finishes sink.old) (K.finishes sink.new) }
+    ensures finished { FinishesOnce result (K.finishes sink.old) (K.finishes sink.new) }
 {
     match run_test(rt, alloc, traffic, run, gate) {
         Err(NoMemory) => Answer::OutOfMemory,

@@ -9,10 +9,10 @@ use Rattle.zy_home.proofs.IdleLemmas.{settled_idle, met_twice}
 use Rattle.zy_home.proofs.link.Link.settle.Goals as goal
 
 pub returns-clause-met : goal.returns-clause-met
-returns-clause-met c = met_twice c.args.block.now c.take_batch.new.self c.meet.new.self c.meet-2.new.self c.take_batch.ensures.block c.meet.ensures.block c.meet-2.ensures.block
+returns-clause-met c = met_twice c.args.block.now c.send_to.new.self c.meet.new.self c.meet-2.new.self c.in_default.ensures.block c.meet.ensures.block c.meet-2.ensures.block
 
 pub returns-clause-label : goal.returns-clause-label
-returns-clause-label c = ap label_in (met_twice c.args.block.now c.take_batch.new.self c.meet.new.self c.meet-2.new.self c.take_batch.ensures.block c.meet.ensures.block c.meet-2.ensures.block)
+returns-clause-label c = ap label_in (met_twice c.args.block.now c.send_to.new.self c.meet.new.self c.meet-2.new.self c.in_default.ensures.block c.meet.ensures.block c.meet-2.ensures.block)
 
 pub returns-clause-idle : goal.returns-clause-idle
 returns-clause-idle c none =
