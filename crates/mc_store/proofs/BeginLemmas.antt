@@ -65,7 +65,7 @@ opens ws xs wide zeros shards long = record {
   seats = λ _. 0;
   wide = wide ∙ sym long;
   beyond = λ _ _. (refl, refl);
-  each_shard = λ k lt. record { shows = zeros k; lies = subst (λ (m : ℕ). get_elem? (map some xs) k ≡ some (some (kept k m []))) (sym long) (shards k (omega arith)); sound = record { replay = tt; place = tt; stamps = tt }; last = omega arith };
+  each_shard = λ k lt. record { shows = zeros k; lies = subst (λ (m : ℕ). get_elem? (map some xs) k ≡ some (some (kept k m []))) (sym long) (shards k (omega arith)); sound = record { replay = tt; place = tt; stamps = tt; fits = tt }; last = omega arith };
   each_connection = λ c. record { own_at = λ k. refl; rises = tt; last = omega arith; few = omega arith };
   each_seat = first;
   live = λ c j e. absurd (omega arith);

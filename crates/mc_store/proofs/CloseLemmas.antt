@@ -53,7 +53,7 @@ length-histories (x ∷ xs) = ap suc (length-histories xs)
 
 -- no call was made on a shard that does not exist
 no_history : (n k : ℕ) → IsHistory n k []
-no_history n k = record { replay = tt; place = tt; stamps = tt }
+no_history n k = record { replay = tt; place = tt; stamps = tt; fits = tt }
 
 -- every pass was joined, so every shard is free, and the histories are as the rule says
 pub closes : (ws : List ℕ) (xs : List Kept) (id : ℕ) (given : List ℕ) (joined : Joined) → ((c : ℕ) → is_in c given ≡ true → is_joined c joined ≡ true)

@@ -5,6 +5,8 @@ use native.Mathlib.Decide.{ℕ_discrete}
 use Rattle.zy_base.specs.declared.entry.Entry.{Entry}
 use Rattle.zy_base.specs.Shard.{State, Effect, keeps, stores, removes, empties, empty_state, reply_to, state_after, state_with, outcome_on}
 use Rattle.zy_base.specs.Order.{at_shard, last_stamp}
+use Rattle.std.specs.List.{AllByRecursion}
+use Rattle.zy_base.specs.Bounds.{FitsEntry}
 use Rattle.zy_base.specs.History.{IsReplay, replayed, IsHistory, IsLegal}
 use Rattle.zy_base.proofs.EntryLemmas.{at_shard-push, at_shard-push_other, at_shard-append, AreAt-push, AreBelow-push, AreBelow-parts, StampsRise-push}
 use Rattle.zy_base.proofs.LegalLemmas.{legal_below, legal_parts, legal_whole}
@@ -30,13 +32,27 @@ IsReplay-parts shards number state (x ∷ xs) ys replay =
 pub IsReplay-push : (shards number : ℕ) (state : State) (es : List Entry) (e : Entry) → IsReplay shards number state es → e.reply ≡ reply_to (replayed shards number state es) e.call → IsReplay shards number state (es ++ e ∷ [])
 IsReplay-push shards number state es e replay reply = IsReplay-append shards number state es (e ∷ []) replay (reply, tt)
 
+all_push : (P : Entry → Type 0) (es : List Entry) (e : Entry) → AllByRecursion P es → P e → AllByRecursion P (es ++ e ∷ [])
+all_push P [] e all one = (one, tt)
+all_push P (x ∷ es) e all one = (all.0, all_push P es e all.1 one)
+
 pub IsHistory-push : (shards number : ℕ) (es : List Entry) (e : Entry) → IsHistory shards number es
-    → e.shard ≡ number → last_stamp 0 es < e.stamp → e.reply ≡ reply_to (replayed shards number empty_state es) e.call → IsHistory shards number (es ++ e ∷ [])
-IsHistory-push shards number es e history here above reply = record {
+    → e.shard ≡ number → last_stamp 0 es < e.stamp → e.reply ≡ reply_to (replayed shards number empty_state es) e.call → FitsEntry e → IsHistory shards number (es ++ e ∷ [])
+IsHistory-push shards number es e history here above reply fits = record {
   replay = IsReplay-push shards number empty_state es e history.replay reply;
   place = AreAt-push number es e history.place here;
   stamps = StampsRise-push 0 es e history.stamps above;
+  fits = all_push FitsEntry es e history.fits fits;
 }
+
+-- ---- the counts of calls
+
+-- an effect leaves them
+pub calls-state_with : (shards number : ℕ) (state : State) (effect : Effect) → (state_with shards number state effect).calls ≡ state.calls
+calls-state_with shards number state keeps = refl
+calls-state_with shards number state (stores key flags value) = refl
+calls-state_with shards number state (removes key) = refl
+calls-state_with shards number state empties = refl
 
 -- ---- the counter
 
@@ -49,7 +65,7 @@ count-state_with shards number state empties = omega arith
 count_by : (shards number : ℕ) (state : State) (es : List Entry) → (replayed shards number state es).count ≤ state.count + length es
 count_by shards number state [] = omega arith
 count_by shards number state (e ∷ es) =
-    let one = count-state_with shards number state (outcome_on state.items e.call).effect in
+    let one = count-state_with shards number state (outcome_on state e.call).effect in
     let more = count_by shards number (state_after shards number state e.call) es in
     omega arith
 

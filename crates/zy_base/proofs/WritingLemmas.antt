@@ -1,10 +1,10 @@
 -- How a sink's bytes grow, write after write.
-use Rattle.std.proofs.Common.{◌≡◌, inl, inr, ℕ, ◌+◌, ◌-◌, ◌≤◌, ◌<◌, List, [], ◌++◌, take-append-drop, length, take, drop, get_or, sym, ◌∙◌, ap, subst, arith, append_assoc, length-append}
+use Rattle.std.proofs.Common.{◌≡◌, ◌⊎◌, inl, inr, ℕ, ◌+◌, ◌-◌, ◌≤◌, ◌<◌, List, [], ◌++◌, take-append-drop, length, take, drop, get_or, sym, ◌∙◌, ap, subst, arith, append_assoc, length-append}
 use Rattle.std.specs.Prelude.{flat_map, Option, Some, None, ⊤, Result, Ok, Err, OnErr}
 use Rattle.std.proofs.Math.Seq.{take-add, take-append-add}
 use Rattle.std.proofs.lemmas.Grind.{flat_map-append}
 use Rattle.std.proofs.lemmas.List.{append-nil, drop_more, take_rest, take_all, take-append-le}
-use Rattle.zy_base.specs.Outside.{Grew, GrewByPrefix, Rose, Writes}
+use Rattle.zy_base.specs.Outside.{Grew, GrewByPrefix, Rose, Writes, WritesLast, one_more}
 
 -- ---- bytes
 
@@ -60,43 +60,82 @@ rose_later a b c le (inr last) = inr last
 -- ---- texts
 
 -- a text that is written after one that was written whole
-pub writes_on : {K E : Type 0} (holds : K → Option (List ℕ)) (faults : K → ℕ) (old between new : K) (result : Result ⊤ E) (x y : List ℕ) → Grew (holds old) (holds between) x → faults old ≤ faults between → Writes holds faults between new result y → Writes holds faults old new result (x ++ y)
-writes_on holds faults old between new (Ok u) x y first le second = record {
+pub writes_on : {K E : Type 0} (holds : K → Option (List ℕ)) (faults finishes : K → ℕ) (old between new : K) (result : Result ⊤ E) (x y : List ℕ) → Grew (holds old) (holds between) x → faults old ≤ faults between → finishes between ≡ finishes old
+    → Writes holds faults finishes between new result y → Writes holds faults finishes old new result (x ++ y)
+writes_on holds faults finishes old between new (Ok u) x y first le same second = record {
   whole = grew_on (holds old) (holds between) (holds new) x y first second.whole;
   part = tt;
   count = omega (arith, le, second.count);
   cause = tt;
+  unfinished = second.unfinished ∙ same;
 }
-writes_on holds faults old between new (Err e) x y first le second = record {
+writes_on holds faults finishes old between new (Err e) x y first le same second = record {
   whole = tt;
   part = part_of_second (holds old) (holds between) (holds new) x y first second.part;
   count = omega (arith, le, second.count);
   cause = rose_later (faults old) (faults between) (faults new) le second.cause;
+  unfinished = second.unfinished ∙ same;
 }
 
 -- two texts, the first of which failed
-pub writes_no_more : {K E : Type 0} (holds : K → Option (List ℕ)) (faults : K → ℕ) (old new : K) (e : E) (x y : List ℕ) → Writes holds faults old new (Err e) x → Writes holds faults old new (Err e) (x ++ y)
-writes_no_more holds faults old new e x y first = record {
+pub writes_no_more : {K E : Type 0} (holds : K → Option (List ℕ)) (faults finishes : K → ℕ) (old new : K) (e : E) (x y : List ℕ) → Writes holds faults finishes old new (Err e) x → Writes holds faults finishes old new (Err e) (x ++ y)
+writes_no_more holds faults finishes old new e x y first = record {
   whole = tt;
   part = part_of_first (holds old) (holds new) x y first.part;
   count = first.count;
   cause = first.cause;
+  unfinished = first.unfinished;
+}
+
+-- a last text that is written after one that was written whole
+pub writes_last_on : {K E : Type 0} (holds : K → Option (List ℕ)) (faults finishes : K → ℕ) (old between new : K) (result : Result ⊤ E) (x y : List ℕ) → Grew (holds old) (holds between) x → faults old ≤ faults between → finishes between ≡ finishes old
+    → WritesLast holds faults finishes between new result y → WritesLast holds faults finishes old new result (x ++ y)
+writes_last_on holds faults finishes old between new (Ok u) x y first le same second = record {
+  whole = grew_on (holds old) (holds between) (holds new) x y first second.whole;
+  part = tt;
+  count = omega (arith, le, second.count);
+  cause = tt;
+  finished = second.finished ∙ ap one_more same;
+  broken = tt;
+}
+writes_last_on holds faults finishes old between new (Err e) x y first le same second = record {
+  whole = tt;
+  part = part_of_second (holds old) (holds between) (holds new) x y first second.part;
+  count = omega (arith, le, second.count);
+  cause = rose_later (faults old) (faults between) (faults new) le second.cause;
+  finished = tt;
+  broken = subst (λ (n : ℕ). (finishes new ≡ n) ⊎ (finishes new ≡ one_more n)) same second.broken;
+}
+
+-- a text whose writing failed, and which was not finished
+pub writes_last_failed : {K E : Type 0} (holds : K → Option (List ℕ)) (faults finishes : K → ℕ) (old new : K) (e : E) (x : List ℕ) → Writes holds faults finishes old new (Err e) x → WritesLast holds faults finishes old new (Err e) x
+writes_last_failed holds faults finishes old new e x first = record {
+  whole = tt;
+  part = first.part;
+  count = first.count;
+  cause = first.cause;
+  finished = tt;
+  broken = inl first.unfinished;
 }
 
 -- a text that was written whole, and then finished
-pub writes_finished : {K E : Type 0} (holds : K → Option (List ℕ)) (faults : K → ℕ) (old between new : K) (result : Result ⊤ E) (x : List ℕ) → Grew (holds old) (holds between) x → faults old ≤ faults between
-    → Grew (holds between) (holds new) [] → faults between ≤ faults new → OnErr result (Rose (faults between) (faults new)) → Writes holds faults old new result x
-writes_finished holds faults old between new (Ok u) x first le same more cause = record {
-  whole = grew_same (holds old) (holds between) (holds new) x first same;
+pub writes_finished : {K E : Type 0} (holds : K → Option (List ℕ)) (faults finishes : K → ℕ) (old between new : K) (result : Result ⊤ E) (x : List ℕ) → Grew (holds old) (holds between) x → faults old ≤ faults between → finishes between ≡ finishes old
+    → Grew (holds between) (holds new) [] → faults between ≤ faults new → OnErr result (Rose (faults between) (faults new)) → finishes new ≡ one_more (finishes between) → WritesLast holds faults finishes old new result x
+writes_finished holds faults finishes old between new (Ok u) x first le same still more cause once = record {
+  whole = grew_same (holds old) (holds between) (holds new) x first still;
   part = tt;
   count = omega (arith, le, more);
   cause = tt;
+  finished = once ∙ ap one_more same;
+  broken = tt;
 }
-writes_finished holds faults old between new (Err e) x first le same more cause = record {
+writes_finished holds faults finishes old between new (Err e) x first le same still more cause once = record {
   whole = tt;
-  part = part_of_whole (holds old) (holds new) x (grew_same (holds old) (holds between) (holds new) x first same);
+  part = part_of_whole (holds old) (holds new) x (grew_same (holds old) (holds between) (holds new) x first still);
   count = omega (arith, le, more);
   cause = rose_later (faults old) (faults between) (faults new) le cause;
+  finished = tt;
+  broken = inr (once ∙ ap one_more same);
 }
 
 -- ---- lists of pieces
@@ -110,8 +149,9 @@ pieces_at text pieces i d within =
     ∙ sym (flat_map-append text (take i pieces) (drop i pieces)) ∙ ap (flat_map text) (take-append-drop i pieces)
 
 -- one of several pieces failed after those before it were written whole
-pub pieces_failed : {K E P : Type 0} (holds : K → Option (List ℕ)) (faults : K → ℕ) (old between new : K) (e : E) (text : P → List ℕ) (pieces : List P) (i : ℕ) (d : P) → i < length pieces
-    → Grew (holds old) (holds between) (flat_map text (take i pieces)) → faults old ≤ faults between → Writes holds faults between new (Err e) (text (get_or pieces i d)) → Writes holds faults old new (Err e) (flat_map text pieces)
-pieces_failed holds faults old between new e text pieces i d within front count here =
-    let so_far = writes_on holds faults old between new (Err e) (flat_map text (take i pieces)) (text (get_or pieces i d)) front count here in
-    subst (Writes holds faults old new (Err e)) (pieces_at text pieces i d within) (writes_no_more holds faults old new e _ (flat_map text (drop (i + 1) pieces)) so_far)
+pub pieces_failed : {K E P : Type 0} (holds : K → Option (List ℕ)) (faults finishes : K → ℕ) (old between new : K) (e : E) (text : P → List ℕ) (pieces : List P) (i : ℕ) (d : P) → i < length pieces
+    → Grew (holds old) (holds between) (flat_map text (take i pieces)) → faults old ≤ faults between → finishes between ≡ finishes old
+    → Writes holds faults finishes between new (Err e) (text (get_or pieces i d)) → Writes holds faults finishes old new (Err e) (flat_map text pieces)
+pieces_failed holds faults finishes old between new e text pieces i d within front count same here =
+    let so_far = writes_on holds faults finishes old between new (Err e) (flat_map text (take i pieces)) (text (get_or pieces i d)) front count same here in
+    subst (Writes holds faults finishes old new (Err e)) (pieces_at text pieces i d within) (writes_no_more holds faults finishes old new e _ (flat_map text (drop (i + 1) pieces)) so_far)

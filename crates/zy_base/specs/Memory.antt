@@ -1,5 +1,5 @@
 -- Sources and sinks in memory, which fail at the calls that a test names.
-use Rattle.std.specs.Prelude.{ℕ, ◌+◌, ◌-◌, ◌^◌, min, Bool, ◌==◌, nat_le, if◌then◌else◌, List, ◌++◌, length, Option, None, Some}
+use Rattle.std.specs.Prelude.{ℕ, ◌+◌, Bool, ◌==◌, nat_le, if◌then◌else◌, List, ◌++◌, length, Option, None, Some}
 use Rattle.std.specs.List.{list_any}
 
 -- a source in memory
@@ -29,6 +29,8 @@ pub record Writing : Type 0 where
   pub calls : ℕ
   -- how many of them failed
   pub faults : ℕ
+  -- how often it was finished, or was to be and failed
+  pub finishes : ℕ
 
 -- a sink in memory that never fails
 pub record Keeping : Type 0 where
@@ -36,14 +38,12 @@ pub record Keeping : Type 0 where
   pub holds : Option (List ℕ)
   -- how many bytes are kept at most
   pub room : ℕ
+  -- how often it was finished
+  pub finishes : ℕ
 
 -- the call with this number is one of those that fail
 abbrev pub is_failing : List ℕ → ℕ → Bool
 is_failing failing call = list_any (λ n. n == call) failing
-
--- a count plus one, which stays at its largest value
-abbrev pub one_more : ℕ → ℕ
-one_more count = min (count + 1) (2 ^ 64 - 1)
 
 -- the bytes held after a piece was taken: a piece that does not fit is not kept, and then the bytes
 -- are no longer known

@@ -1,9 +1,13 @@
 -- What a source gives, what a sink takes, and when they fail.
-use Rattle.std.specs.Prelude.{◌≡◌, ◌⊎◌, ℕ, ◌-◌, ◌^◌, ◌<◌, ◌≤◌, List, [], ◌++◌, length, take, ⊤, Option, None, Some, Result, MatchResult, OnOk, OnErr}
+use Rattle.std.specs.Prelude.{◌≡◌, ◌⊎◌, ℕ, ◌+◌, ◌-◌, ◌^◌, ◌<◌, ◌≤◌, min, List, [], ◌++◌, length, take, ⊤, Option, None, Some, Result, MatchResult, OnOk, OnErr}
 
 -- the count of faults rose, or is at its largest value
 abbrev pub Rose : ℕ → ℕ → Type 0
 Rose before after = (before < after) ⊎ (2 ^ 64 - 1 ≤ after)
+
+-- a count plus one, which stays at its largest value
+abbrev pub one_more : ℕ → ℕ
+one_more count = min (count + 1) (2 ^ 64 - 1)
 
 -- if the bytes held are known afterwards, they were known before, and these were appended
 abbrev pub Grew : Option (List ℕ) → Option (List ℕ) → List ℕ → Type 0
@@ -30,8 +34,8 @@ told_since None now = None
 told_since (Some first) now = now
 
 -- a call that writes a text wrote the whole text, or failed after a prefix of it
-pub record Writes {K E : Type 0} (holds : K → Option (List ℕ)) (faults : K → ℕ) (old new : K) (result : Result ⊤ E)
-    (text : List ℕ) : Type 0 where
+pub record Writes {K E : Type 0} (holds : K → Option (List ℕ)) (faults finishes : K → ℕ) (old new : K)
+    (result : Result ⊤ E) (text : List ℕ) : Type 0 where
   -- at `Ok` the sink grew by the text
   pub whole : OnOk result (Grew (holds old) (holds new) text)
   -- at `Err` it grew by a prefix of the text
@@ -40,3 +44,21 @@ pub record Writes {K E : Type 0} (holds : K → Option (List ℕ)) (faults : K �
   pub count : faults old ≤ faults new
   -- a call answers `Err` only if the count rose, or is at its largest value
   pub cause : OnErr result (Rose (faults old) (faults new))
+  -- the sink was not finished
+  pub unfinished : finishes new ≡ finishes old
+
+-- a call that writes a text and finishes the sink wrote the whole text and finished once, or failed after a prefix
+pub record WritesLast {K E : Type 0} (holds : K → Option (List ℕ)) (faults finishes : K → ℕ) (old new : K)
+    (result : Result ⊤ E) (text : List ℕ) : Type 0 where
+  -- at `Ok` the sink grew by the text
+  pub whole : OnOk result (Grew (holds old) (holds new) text)
+  -- at `Err` it grew by a prefix of the text
+  pub part : OnErr result (GrewByPrefix (holds old) (holds new) text)
+  -- the count of faults didn't fall
+  pub count : faults old ≤ faults new
+  -- a call answers `Err` only if the count rose, or is at its largest value
+  pub cause : OnErr result (Rose (faults old) (faults new))
+  -- at `Ok` the sink was finished once
+  pub finished : OnOk result (finishes new ≡ one_more (finishes old))
+  -- at `Err` it was not finished, if a write failed, or once, if that failed
+  pub broken : OnErr result ((finishes new ≡ finishes old) ⊎ (finishes new ≡ one_more (finishes old)))

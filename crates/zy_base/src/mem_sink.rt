@@ -1,7 +1,7 @@
 //! Sinks in memory.
 ghost use Rattle.std.specs.Prelude.{◌≡◌, ℕ, ◌≤◌, ◌<◌, ◌+◌, [], length, take, min, is_err, option_map, if◌then◌else◌, Some, IfOk, OnOk, OnErr};
-ghost use Rattle.zy_base.specs.Outside.{Rose, Grew, WriteGrew, TakesSome};
-ghost use Rattle.zy_base.specs.Memory.{is_failing, one_more, held_after};
+ghost use Rattle.zy_base.specs.Outside.{Rose, Grew, WriteGrew, TakesSome, one_more};
+ghost use Rattle.zy_base.specs.Memory.{is_failing, held_after};
 
 use crate::call_numbers::CallNumbers;
 use crate::outside::{Failed, NoMemory, Sink};
@@ -32,6 +32,7 @@ impl Model for MemSink {
       failing = s.failing;
       calls = s.calls;
       faults = s.faults;
+      finishes = s.kept.finishes;
     } };
 
     ghost invariant = { λ s. 1 ≤ s.most };
@@ -54,6 +55,7 @@ impl MemSink {
           failing = failing;
           calls = 0;
           faults = 0;
+          finishes = 0;
         }) }
     {
         let kept = SureSink::new(alloc, room)?;
@@ -89,11 +91,14 @@ impl Sink for MemSink {
 
     ghost faults = { λ s. s.faults };
 
+    ghost finishes = { λ s. s.finishes };
+
     fn write(&mut self, from: &[u8]) -> Result<usize, Failed>
         ensures bound { TakesSome result from.now }
         ensures bytes { WriteGrew self.old.holds self.new.holds result from.now }
         ensures count { self.old.faults ≤ self.new.faults }
         ensures cause { OnErr result (Rose self.old.faults self.new.faults) }
+        ensures unfinished { self.new.finishes ≡ self.old.finishes }
         ensures fails { is_err result ≡ is_failing self.old.failing self.old.calls }
         ensures takes { IfOk result (λ n. n ≡ min self.old.most (length from.now)) }
         ensures ok { IfOk result (λ n. self.new ≡ record self.old {
@@ -118,13 +123,19 @@ impl Sink for MemSink {
         ensures bytes { Grew self.old.holds self.new.holds [] }
         ensures count { self.old.faults ≤ self.new.faults }
         ensures cause { OnErr result (Rose self.old.faults self.new.faults) }
+        ensures finished { self.new.finishes ≡ one_more self.old.finishes }
         ensures fails { is_err result ≡ is_failing self.old.failing self.old.calls }
-        ensures ok { OnOk result (self.new ≡ record self.old { calls = one_more self.old.calls }) }
+        ensures ok { OnOk result (self.new ≡ record self.old {
+          calls = one_more self.old.calls;
+          finishes = one_more self.old.finishes;
+        }) }
         ensures err { OnErr result (self.new ≡ record self.old {
           calls = one_more self.old.calls;
           faults = one_more self.old.faults;
+          finishes = one_more self.old.finishes;
         }) }
     {
+        self.kept.count_finish();
         if self.fails() {
             self.faults = self.faults.saturating_add(1);
             return Err(Failed);

@@ -1,8 +1,8 @@
 //! Sources in memory.
 ghost use Rattle.std.specs.Prelude.{◌≡◌, ℕ, ◌≤◌, ◌+◌, [], length, take, drop, min, is_err, Some, IfOk, OnErr};
 ghost use Rattle.std.specs.Io.KnownBytes.{ReadConsumes};
-ghost use Rattle.zy_base.specs.Outside.{Rose};
-ghost use Rattle.zy_base.specs.Memory.{is_failing, one_more};
+ghost use Rattle.zy_base.specs.Outside.{Rose, one_more};
+ghost use Rattle.zy_base.specs.Memory.{is_failing};
 
 use crate::blob::Blob;
 use crate::call_numbers::CallNumbers;

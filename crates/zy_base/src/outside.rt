@@ -1,7 +1,7 @@
 //! Where bytes come from and go to, and the gate that a command passes.
 ghost use Rattle.std.specs.Prelude.{◌≡◌, ℕ, ◌≤◌, ⊤, List, [], length, Option, IfOk, OnErr, OnOk};
 ghost use Rattle.std.specs.Io.KnownBytes.{ReadConsumes};
-ghost use Rattle.zy_base.specs.Outside.{Rose, Grew, WriteGrew, TakesSome};
+ghost use Rattle.zy_base.specs.Outside.{Rose, Grew, WriteGrew, TakesSome, one_more};
 
 use std::alloc::{AllocError, AllocFailed};
 
@@ -56,6 +56,9 @@ pub trait Sink {
     // How often a write or a finish failed.
     ghost faults: { Self → ℕ };
 
+    // How often `finish` was called.
+    ghost finishes: { Self → ℕ };
+
     /// Takes the first bytes of a piece, at least one if the piece is not empty, and returns their
     /// number.
     ///
@@ -65,14 +68,16 @@ pub trait Sink {
         ensures bound { TakesSome result from.now }
         ensures bytes { WriteGrew (holds self.old) (holds self.new) result from.now }
         ensures count { faults self.old ≤ faults self.new }
-        ensures cause { OnErr result (Rose (faults self.old) (faults self.new)) };
+        ensures cause { OnErr result (Rose (faults self.old) (faults self.new)) }
+        ensures unfinished { finishes self.new ≡ finishes self.old };
 
     /// Makes sure that all that was taken has reached its destination. It takes no byte, even if it
-    /// fails.
+    /// fails. The call is counted, also if it fails.
     fn finish(&mut self) -> Result<(), Failed>
         ensures bytes { Grew (holds self.old) (holds self.new) [] }
         ensures count { faults self.old ≤ faults self.new }
-        ensures cause { OnErr result (Rose (faults self.old) (faults self.new)) };
+        ensures cause { OnErr result (Rose (faults self.old) (faults self.new)) }
+        ensures finished { finishes self.new ≡ one_more (finishes self.old) };
 }
 
 /// A gate is passed once for each command, when the command is begun. It has no contract.

@@ -1,6 +1,6 @@
 //! Sinks in memory that never fail.
 ghost use Rattle.std.specs.Prelude.{◌≡◌, ℕ, ◌≤◌, [], length, option_map, Some, IsOk, IfOk};
-ghost use Rattle.zy_base.specs.Outside.{Grew, WriteGrew, TakesSome};
+ghost use Rattle.zy_base.specs.Outside.{Grew, WriteGrew, TakesSome, one_more};
 ghost use Rattle.zy_base.specs.Memory.{held_after};
 
 use crate::outside::{Failed, NoMemory, Sink};
@@ -14,6 +14,7 @@ pub struct SureSink {
     bytes: Vec<u8>,
     room: usize,
     is_told: bool,
+    finishes: u64,
 }
 
 impl Model for SureSink {
@@ -22,7 +23,11 @@ impl Model for SureSink {
 
     ghost Value = { Keeping };
 
-    ghost view = { λ s. record { holds = if s.is_told then Some s.bytes.items else None; room = s.room } };
+    ghost view = { λ s. record {
+      holds = if s.is_told then Some s.bytes.items else None;
+      room = s.room;
+      finishes = s.finishes;
+    } };
 
     ghost invariant = { λ s. record { within : length s.bytes.items ≤ s.room; reserved : s.room ≤ vec_capacity s.bytes } };
 }
@@ -30,13 +35,14 @@ impl Model for SureSink {
 impl SureSink {
     /// Keeps at most `room` bytes; the room for them is reserved here.
     pub fn new(alloc: Global, room: usize) -> Result<SureSink, NoMemory>
-        ensures value { IfOk result (λ sink. sink ≡ record { holds = Some []; room = room }) }
+        ensures value { IfOk result (λ sink. sink ≡ record { holds = Some []; room = room; finishes = 0 }) }
     {
         match Vec::with_capacity(alloc, room) {
             Ok(bytes) => Ok(SureSink {
                 bytes,
                 room,
                 is_told: true,
+                finishes: 0,
             }),
             Err(_) => Err(NoMemory),
         }
@@ -63,6 +69,13 @@ impl SureSink {
             self.is_told = false;
         }
     }
+
+    // Counts a finish.
+    pub(crate) fn count_finish(&mut self)
+        ensures value { self.new ≡ record self.old { finishes = one_more self.old.finishes } }
+    {
+        self.finishes = self.finishes.saturating_add(1);
+    }
 }
 
 impl Sink for SureSink {
@@ -70,9 +83,12 @@ impl Sink for SureSink {
 
     ghost faults = { λ _. 0 };
 
+    ghost finishes = { λ s. s.finishes };
+
     fn write(&mut self, from: &[u8]) -> Result<usize, Failed>
         ensures bound { TakesSome result from.now }
         ensures bytes { WriteGrew self.old.holds self.new.holds result from.now }
+        ensures unfinished { self.new.finishes ≡ self.old.finishes }
         ensures takes { result ≡ Ok (length from.now) }
         ensures kept { self.new ≡ record self.old { holds = held_after self.old.holds self.old.room from.now } }
     {
@@ -82,9 +98,11 @@ impl Sink for SureSink {
 
     fn finish(&mut self) -> Result<(), Failed>
         ensures bytes { Grew self.old.holds self.new.holds [] }
+        ensures finished { self.new.finishes ≡ one_more self.old.finishes }
         ensures succeeds { IsOk result }
-        ensures kept { self.new ≡ self.old }
+        ensures kept { self.new ≡ record self.old { finishes = one_more self.old.finishes } }
     {
+        self.count_finish();
         Ok(())
     }
 }

@@ -20,3 +20,4 @@ pub mod SoFarLemmas
 pub mod RepliesSoFarLemmas
 pub mod AddLemmas
 pub mod TellLemmas
+pub mod LengthLemmas

@@ -28,14 +28,15 @@ numbered_split text number (x ∷ xs) (suc i) within =
     ∙ ap (λ (l : List ℕ). text number x ++ l) (numbered_split text (number + 1) xs i (omega (arith, within)))
 
 -- one of the texts failed after those before it were written whole
-pub numbered_failed : {K E X : Type 0} (holds : K → Option (List ℕ)) (faults : K → ℕ) (old between new : K) (e : E) (text : ℕ → X → List ℕ) (xs : List X) (i : ℕ) (d : X) → i < length xs
-    → Grew (holds old) (holds between) (numbered_from text 0 (take i xs)) → faults old ≤ faults between → Writes holds faults between new (Err e) (text i (get_or xs i d)) → Writes holds faults old new (Err e) (numbered_from text 0 xs)
-numbered_failed holds faults old between new e text xs i d within front count here =
-    let so_far = writes_on holds faults old between new (Err e) (numbered_from text 0 (take i xs)) (text i (get_or xs i d)) front count here in
+pub numbered_failed : {K E X : Type 0} (holds : K → Option (List ℕ)) (faults finishes : K → ℕ) (old between new : K) (e : E) (text : ℕ → X → List ℕ) (xs : List X) (i : ℕ) (d : X) → i < length xs
+    → Grew (holds old) (holds between) (numbered_from text 0 (take i xs)) → faults old ≤ faults between → finishes between ≡ finishes old
+    → Writes holds faults finishes between new (Err e) (text i (get_or xs i d)) → Writes holds faults finishes old new (Err e) (numbered_from text 0 xs)
+numbered_failed holds faults finishes old between new e text xs i d within front count same here =
+    let so_far = writes_on holds faults finishes old between new (Err e) (numbered_from text 0 (take i xs)) (text i (get_or xs i d)) front count same here in
     let upto : numbered_from text 0 (take (suc i) xs) ≡ numbered_from text 0 (take i xs) ++ text i (get_or xs i d) =
     numbered-take text 0 xs i d within ∙ ap (λ (n : ℕ). numbered_from text 0 (take i xs) ++ text n (get_or xs i d)) (omega arith) in
-    subst (Writes holds faults old new (Err e)) (numbered_split text 0 xs (suc i) (omega (arith, within)))
-    (writes_no_more holds faults old new e (numbered_from text 0 (take (suc i) xs)) (numbered_from text (0 + suc i) (drop (suc i) xs)) (subst (Writes holds faults old new (Err e)) (sym upto) so_far))
+    subst (Writes holds faults finishes old new (Err e)) (numbered_split text 0 xs (suc i) (omega (arith, within)))
+    (writes_no_more holds faults finishes old new e (numbered_from text 0 (take (suc i) xs)) (numbered_from text (0 + suc i) (drop (suc i) xs)) (subst (Writes holds faults finishes old new (Err e)) (sym upto) so_far))
 
 -- one further text was written whole
 pub numbered_on : {X : Type 0} (a b c : Option (List ℕ)) (text : ℕ → X → List ℕ) (xs : List X) (i : ℕ) (d : X) → i < length xs

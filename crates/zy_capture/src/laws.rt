@@ -1,6 +1,6 @@
 //! Laws over the definitions of this crate.
 ghost use Rattle.std.specs.Prelude.{◌≡◌, ◌≢◌, ◌⊎◌, ◌≤◌, ◌↔◌, ◌+◌, ◌<◌, ℕ, List, [], ◌∷◌, ◌++◌, length, codes, None, Some};
-ghost use Rattle.std.specs.List.{concat, slice_index_or};
+ghost use Rattle.std.specs.List.{concat, slice_index_or, sum_by};
 ghost use Rattle.zy_base.specs.declared.file_fault.FileFault.{FileFault};
 ghost use Rattle.zy_base.specs.declared.file_fault.FileFault.TheVariants as FileFaults;
 ghost use Rattle.zy_read.specs.Standing.{Feeds, FeedsPieces};
@@ -111,6 +111,17 @@ pub fn a_further_record_is_added_last()
         ≡ with_record (with_records connections items) item }
 {}
 
+/// The streams of a capture have together no more bytes than the capture, and no more sessions than
+/// it has connections and bytes.
+pub fn a_capture_has_few_streams()
+    ensures bytes { (text : List ℕ) (version count : ℕ) (items : List Record)
+        → Spells text version count items
+        → sum_by (λ sessions. sum_by length sessions) (with_records (no_bytes count) items) ≤ length text }
+    ensures sessions { (text : List ℕ) (version count : ℕ) (items : List Record)
+        → Spells text version count items
+        → sum_by length (with_records (no_bytes count) items) ≤ count + length text }
+{}
+
 // ---- replies files
 
 /// A text is a good replies file, with a version and outputs, exactly where it is their spelling,
@@ -190,6 +201,12 @@ pub fn written_replies_are_read_again()
         → length (replies_bytes outputs) ≤ replies_limit
         → Replies.verdict (replies_bytes outputs)
         ≡ Replies.Verdict.Good outputs.version (items_of outputs) }
+{}
+
+/// A replies file has at most 17 bytes for each session beside its output, and nine others.
+pub fn a_replies_file_has_few_bytes()
+    ensures whole { (outputs : AllOutputs) → length (replies_bytes outputs)
+        ≤ 9 + sum_by (λ sessions. sum_by (λ bytes. 17 + length bytes) sessions) outputs.sessions }
 {}
 
 // ---- worked files, in which each character is the byte of its code

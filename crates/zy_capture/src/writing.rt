@@ -12,7 +12,7 @@ use zy_base::{Failed, Sink, write_pieces, write_whole};
 /// Answers `Failed` only if the sink's count of faults rose, or is at its largest value; then the
 /// sink has grown by a prefix of that text.
 pub fn write_replies<K: Sink>(sink: &mut K, outputs: &Outputs) -> Result<(), Failed>
-    ensures writes { Writes K.holds K.faults sink.old sink.new result (replies_bytes outputs.now) }
+    ensures writes { Writes K.holds K.faults K.finishes sink.old sink.new result (replies_bytes outputs.now) }
 {
     if let Err(failed) = write_whole(sink, magic_of(outputs.version())) {
         return Err(failed);
@@ -37,7 +37,7 @@ fn magic_of(version: u32) -> &'static [u8]
 
 // The records of all connections.
 fn write_connections<K: Sink>(sink: &mut K, outputs: &Outputs) -> Result<(), Failed>
-    ensures writes { Writes K.holds K.faults sink.old sink.new result
+    ensures writes { Writes K.holds K.faults K.finishes sink.old sink.new result
         (numbered_from (connection_text outputs.now.version) 0 outputs.now.sessions) }
 {
     for conn in 0..outputs.count() {
@@ -51,7 +51,7 @@ fn write_connections<K: Sink>(sink: &mut K, outputs: &Outputs) -> Result<(), Fai
 // The records of a connection.
 fn write_connection<K: Sink>(sink: &mut K, outputs: &Outputs, conn: u32) -> Result<(), Failed>
     requires within { conn < length outputs.now.sessions }
-    ensures writes { Writes K.holds K.faults sink.old sink.new result
+    ensures writes { Writes K.holds K.faults K.finishes sink.old sink.new result
         (connection_text outputs.now.version conn (sessions_of outputs.now.sessions conn)) }
 {
     for session in 0..outputs.sessions(conn) {
@@ -76,7 +76,7 @@ fn write_output<K: Sink>(
     session: u32,
     bytes: &[u8],
 ) -> Result<(), Failed>
-    ensures writes { Writes K.holds K.faults sink.old sink.new result
+    ensures writes { Writes K.holds K.faults K.finishes sink.old sink.new result
         (output_text version conn session bytes.now) }
 {
     let conn = conn.to_be_bytes();

@@ -1,5 +1,6 @@
 -- The input of the command check: a capture, a journal and a replies file, one after the other. The
--- end of each part is known from its own bytes, and the first fault of the input counts.
+-- end of each part is known from its own bytes, and the first fault of the input counts. And a
+-- journal alone, the input of the command report.
 use Rattle.std.specs.Prelude.{◌≡◌, ℕ, true, List, ◌++◌, Option, Result, Ok, Err, IfSome, ⊤}
 use Rattle.std.specs.Io.KnownBytes.{Consumes, IsAtEnd}
 use Rattle.zy_base.specs.declared.file_fault.FileFault.{FileFault}
@@ -89,19 +90,24 @@ HasPartFault text (OfJournal fault) = HasJournalFault text fault
 HasPartFault text (OfReplies fault) = HasRepliesFault text fault
 HasPartFault text (Pcap fault) = ⊥
 
+-- an input of a check can have this fault
+abbrev pub IsPartFault : Refusal → Type 0
+IsPartFault refusal = (text : List ℕ) × HasPartFault text refusal
+
 -- ---- reading
 
 -- the source held these bytes, if that is known, and is at its end
 abbrev pub ReadsAll : Option (List ℕ) → Option (List ℕ) → List ℕ → Type 0
 ReadsAll before after bytes = Consumes before after bytes × IsAtEnd after
 
--- the parts are those of all that the source gave; or its text has this fault; or its count of
--- faults rose, or is at its largest value; `NoMemory` needs no cause
+-- the parts are those of all that the source gave; or some input has this fault, and the source's text
+-- has it, if that is known; or the count of faults rose, or is at its largest value; `NoMemory` needs no cause
 abbrev pub HasReadParts : {S : Type 0} → (S → Option (List ℕ)) → (S → ℕ) → S → S → Result Parts (Stop Refusal) → Type 0
 HasReadParts rest faults first now (Ok parts) =
     (text : List ℕ) × ReadsAll (rest first) (rest now) text × AreParts text parts.streams parts.journal parts.outputs
     × AreOutputs parts.outputs
-HasReadParts rest faults first now (Err (Refused refusal)) = IfSome (rest first) (λ text. HasPartFault text refusal)
+HasReadParts rest faults first now (Err (Refused refusal)) =
+    IsPartFault refusal × IfSome (rest first) (λ text. HasPartFault text refusal)
 HasReadParts rest faults first now (Err ReadFault) = Rose (faults first) (faults now)
 HasReadParts rest faults first now (Err NoMemory) = ⊤
 
@@ -124,3 +130,14 @@ HasReadStreams rest faults first now (Err (Refused (Capture fault))) =
 HasReadStreams rest faults first now (Err (Refused other)) = ⊥
 HasReadStreams rest faults first now (Err ReadFault) = Rose (faults first) (faults now)
 HasReadStreams rest faults first now (Err NoMemory) = ⊤
+
+-- the journal is that of all that the source gave; or its text has this fault as a journal; or the
+-- source's count of faults rose, or is at its largest value; `NoMemory` needs no cause
+abbrev pub HasReadJournal : {S : Type 0} → (S → Option (List ℕ)) → (S → ℕ) → S → S → Result Journal (Stop Refusal) → Type 0
+HasReadJournal rest faults first now (Ok journal) =
+    (text : List ℕ) × ReadsAll (rest first) (rest now) text × (Journals.verdict text ≡ Journals.Verdict.Good journal)
+HasReadJournal rest faults first now (Err (Refused (OfJournal fault))) =
+    IfSome (rest first) (λ text. Journals.verdict text ≡ Journals.Verdict.Bad fault)
+HasReadJournal rest faults first now (Err (Refused other)) = ⊥
+HasReadJournal rest faults first now (Err ReadFault) = Rose (faults first) (faults now)
+HasReadJournal rest faults first now (Err NoMemory) = ⊤

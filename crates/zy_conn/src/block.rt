@@ -1,8 +1,9 @@
 //! A connection's block.
-ghost use Rattle.std.specs.Prelude.{◌≡◌, ◌+◌, ◌<◌, ◌≤◌, [], ◌++◌, length, IfOk, IfErr};
+ghost use Rattle.std.specs.Prelude.{◌≡◌, ◌+◌, ◌<◌, ◌≤◌, [], ◌++◌, length, IfOk, IfErr, OnOk, OnErr};
+ghost use Rattle.zy_calls.specs.Output.{with_batch};
 ghost use Rattle.mc_store.specs.Pass.{passed};
 ghost use Rattle.zy_rx.specs.Ring.{offering};
-ghost use Rattle.zy_conn.specs.Work.{worked, idle, has_event, texts_taken, mark_of};
+ghost use Rattle.zy_conn.specs.Work.{worked, idle, has_event, texts_taken, batch_waiting, mark_of};
 ghost use Rattle.zy_conn.specs.Kept.{Kept};
 ghost use Rattle.zy_conn.specs.Hold.{AreHolds, HeldTo, IsRecorded};
 ghost use Rattle.zy_conn.specs.Block.{blocked};
@@ -14,7 +15,7 @@ use mc_store::{Pass, StoreTable};
 use std::alloc::Global;
 use std::marker::Model;
 use zy_base::{Gate, Hold, Holds, NoMemory};
-use zy_calls::Batch;
+use zy_calls::{Batch, Output};
 use zy_shuffle::Marked;
 
 /// What travels with a connection: its pass on the store, its events, the command in progress, the
@@ -22,7 +23,8 @@ use zy_shuffle::Marked;
 /// to hold it, and the list of its holds.
 #[derive(Drop)]
 pub struct Block {
-    work: Work,
+    // Blocks are passed on often, and their work is large.
+    work: Box<Work>,
     cores: u32,
     holds: Vec<Hold>,
 }
@@ -33,9 +35,9 @@ impl Model for Block {
 
     ghost Value = { Blocked };
 
-    ghost view = { λ b. blocked b.work b.cores b.holds.items };
+    ghost view = { λ b. blocked b.work.value b.cores b.holds.items };
 
-    ghost invariant = { λ b. AreHolds b.cores b.work.conn b.work.finished b.holds.items };
+    ghost invariant = { λ b. AreHolds b.cores b.work.value.conn b.work.value.finished b.holds.items };
 }
 
 impl Marked for Block {
@@ -66,14 +68,20 @@ impl Block {
         ensures returned { IfErr result (λ e. e.0 ≡ pass) }
     {
         match Work::new(alloc, pass) {
-            Ok((work, inlet)) => Ok((
-                Block {
-                    work,
-                    cores,
-                    holds: Vec::new(alloc),
-                },
-                inlet,
-            )),
+            Ok((work, inlet)) => match Box::new(alloc, work) {
+                Ok(work) => Ok((
+                    Block {
+                        work,
+                        cores,
+                        holds: Vec::new(alloc),
+                    },
+                    inlet,
+                )),
+                Err(refused) => {
+                    drop(inlet);
+                    Err((refused.value.into_pass(), NoMemory))
+                }
+            },
             Err(e) => Err(e),
         }
     }
@@ -126,6 +134,22 @@ impl Block {
         self.work.take_batch()
     }
 
+    /// Moves the texts that wait to an output, with the number of finished commands; no text is left.
+    /// The block keeps their room for further texts. After a refusal block and output are as they were.
+    pub fn send_to(&mut self, output: &mut Output) -> Result<(), NoMemory>
+        ensures output { OnOk result (output.new ≡ with_batch output.old (batch_waiting self.old.work)) }
+        ensures block { OnOk result (self.new ≡ record self.old {
+          work = record self.old.work {
+            shown = self.old.work.finished;
+            batch = [];
+          };
+        }) }
+        ensures texts { OnOk result (texts_taken self.new.work ≡ texts_taken self.old.work ++ self.old.work.batch) }
+        ensures err { OnErr result ((self.new ≡ self.old) × (output.new ≡ output.old)) }
+    {
+        self.work.send_to(output)
+    }
+
     /// Carries out commands in order, at most 64. A hold that finished commands is recorded; the
     /// room for the record is reserved first. After a refusal the calls that were made stay made,
     /// and a further hold goes on from there.
@@ -152,7 +176,7 @@ impl Block {
         if self.holds.reserve(1).is_err() {
             return Err(NoMemory);
         }
-        let (count, end) = carry_out(&mut self.work, store, gate, core);
+        let (count, end) = carry_out(&mut *self.work, store, gate, core);
         if count > 0 {
             let conn = self.work.conn();
             self.holds.push_reserved(Hold { core, conn, count });
@@ -171,6 +195,6 @@ impl Block {
             cores: _,
             holds,
         } = self;
-        (work.into_pass(), Holds::from_vec(holds))
+        (Box::into_inner(work).into_pass(), Holds::from_vec(holds))
     }
 }

@@ -9,7 +9,7 @@ use Rattle.zy_home.specs.Home.{Homed, HomeStands, is_settled, conns_in}
 use Rattle.zy_steal.specs.Order.{other_core}
 use Rattle.zy_steal.specs.Steal.{Thief, PassList, SeatOf, AreIdle, seats_of}
 use Rattle.zy_control.specs.declared.view.Role.TheVariants.{Core}
-use Rattle.zy_control.specs.View.{has_counted}
+use Rattle.zy_control.specs.View.{has_counted, has_announced}
 use Rattle.zy_control.specs.Pass as control
 use Rattle.zy_core.specs.Share.{Sharing}
 
@@ -28,6 +28,10 @@ pub record Cored : Type 0 where
 abbrev pub cored : Homed → Thief → PassList Blocked → Taking → control.Held → ℕ → Cored
 cored home thief passes outlet control turns =
     record { home = home; thief = thief; passes = passes; outlet = outlet; control = control; turns = turns }
+
+-- the core after steps of its pass on the control words, after which the pass is this
+abbrev pub stepped : control.Held → Cored → Cored
+stepped pass c = cored c.home c.thief c.passes c.outlet pass c.turns
 
 -- ---- what each core keeps
 
@@ -50,7 +54,7 @@ pub record CoreKeeps (c : Cored) : Type 0 where
   -- it has published fewer than 2^13 times in each turn
   pub count : c.home.pass.count ≤ c.turns * 8192
   -- its pass on the control words is its own
-  pub number : c.control.role ≡ Core c.home.core (has_counted c.control.role)
+  pub number : c.control.role ≡ Core c.home.core (has_counted c.control.role) (has_announced c.control.role)
   -- a core that has counted itself is settled
   pub settled : has_counted c.control.role ≡ true → is_settled c.home ≡ true
 

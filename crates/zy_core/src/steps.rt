@@ -14,11 +14,8 @@ use zy_rx::Outlet;
 use zy_shuffle::Ring;
 use zy_steal::Look;
 
-// The most items that a turn takes.
-const ITEMS_AT_ONCE: u32 = 64;
-
-// Takes items and has the home receive them, until none is known or there were 64. Says whether there
-// was one.
+// Has the home receive the next items, until none is known or there were 64. Says whether there was
+// one.
 pub(crate) fn receive_all(
     home: &mut Home,
     outlet: &mut Outlet,
@@ -35,11 +32,9 @@ pub(crate) fn receive_all(
     ensures refused { home.new.refused ≡ is_err result }
     ensures ring { outlet.new.ring ≡ outlet.old.ring }
 {
-    for taken in 0..ITEMS_AT_ONCE {
-        let Some(item) = outlet.take() else {
-            return Ok(taken > 0);
-        };
-        home.receive(ring, item)?;
+    let count = home.receive_all(ring, outlet)?;
+    if count == 0 {
+        return Ok(false);
     }
     Ok(true)
 }

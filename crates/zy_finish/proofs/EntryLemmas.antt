@@ -4,7 +4,7 @@ use Rattle.std.specs.List.{AllByRecursion, filter, range_with_len}
 use Rattle.std.proofs.Common.{◌≡◌, ℕ, zero, suc, ◌+◌, ◌<◌, ◌≤◌, ◌^◌, List, [], ◌∷◌, Bool, true, false, cond, refl, sym, ap, ◌∙◌, subst, arith, eq-eqb}
 use Rattle.zy_base.specs.declared.entry.Entry.{Entry}
 use Rattle.zy_base.specs.declared.hold.Hold.{Hold}
-use Rattle.zy_base.specs.Bounds.{IsReply, IsCallWithin}
+use Rattle.zy_base.specs.Bounds.{IsReply, IsCallWithin, FitsEntry}
 use Rattle.zy_base.specs.Order.{of_connection, history_of, AreBelow, StampsRise, AreStampsBelow, IsMergeOf}
 use Rattle.zy_base.specs.History.{AreHistories}
 use Rattle.zy_capture.specs.Capture.{connection_limit}
@@ -40,6 +40,12 @@ merged_stamps : (shards : ℕ) (histories : List (List Entry)) (es : List Entry)
 merged_stamps shards histories es all merge =
     all_of_parts (λ (e : Entry). 0 < e.stamp) (λ e. e.shard) es
     (λ shard. subst (AllByRecursion (λ (e : Entry). 0 < e.stamp)) (sym (merge.parts shard)) (some_stamps 0 (history_of histories shard) (all.each shard).stamps))
+
+-- the numbers of a merge fit their fields
+pub merged_fit : (shards : ℕ) (histories : List (List Entry)) (es : List Entry) → AreHistories shards histories → IsMergeOf histories es → AllByRecursion FitsEntry es
+merged_fit shards histories es all merge =
+    all_of_parts FitsEntry (λ e. e.shard) es
+    (λ shard. subst (AllByRecursion FitsEntry) (sym (merge.parts shard)) (all.each shard).fits)
 
 -- ---- entries
 

@@ -53,7 +53,7 @@ use Rattle.zy_finish.specs.Rest.{rest_of, place_of, rest_at, blocks_left, ends_l
 use Rattle.zy_finish.proofs.HomeLemmas.{IsHeld, is_held, is_there}
 use Rattle.zy_finish.proofs.CommandLemmas.{entries_within}
 use Rattle.zy_finish.proofs.GatherLemmas as gather
-use Rattle.zy_finish.proofs.EntryLemmas.{merged_entries, holds_of, holds_within, holds_by, all_holds_within}
+use Rattle.zy_finish.proofs.EntryLemmas.{merged_entries, merged_fit, holds_of, holds_within, holds_by, all_holds_within}
 
 -- ---- the passes that were joined
 
@@ -226,6 +226,7 @@ module _ (store : TableId) (shards version count : ℕ) (homes : List Homed) (ov
     order = merged.merged.ordered;
     spans = spans;
     journal = record { ordered = merged.merged.ordered; entries = entries; rising = spans.rising; holds = held };
+    fits = merged_fit shards merged.histories f.journal.entries merged.closed.sound merged.merged;
     version_is = version_is;
     outputs = sessions ∙ sent_is_outputs shards count records (left_of version rests) (joined_to rests count) f.journal.entries are_served;
     lawful = lawful;

@@ -1,6 +1,8 @@
 -- What a run leaves: its journal, and its outputs.
 use Rattle.std.specs.Prelude.{◌≡◌, ℕ, ◌<◌, ◌≤◌, List, None, Some, slice_get}
+use Rattle.std.specs.List.{AllByRecursion}
 use Rattle.zy_base.specs.declared.hold.Hold.{Hold}
+use Rattle.zy_base.specs.Bounds.{FitsEntry}
 use Rattle.zy_base.specs.Order.{IsOrdered}
 use Rattle.zy_capture.specs.declared.record.Record.{Record}
 use Rattle.zy_capture.specs.Outputs.{AreOutputs}
@@ -34,6 +36,8 @@ pub record IsFinished (shards version count : ℕ) (records : List Record) (fini
   pub spans : Spans finished.journal.holds count (commands_in records)
   -- and it is within the bounds of its format
   pub journal : IsJournal finished.journal
+  -- its numbers fit their fields
+  pub fits : AllByRecursion FitsEntry finished.journal.entries
   -- the outputs are of this version, and are those of the run, session by session
   pub version_is : finished.outputs.version ≡ version
   pub outputs : finished.outputs.sessions ≡ all_outputs count (streams_in records) finished.journal.entries

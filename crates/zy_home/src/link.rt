@@ -1,5 +1,5 @@
 //! A connection of a home without its block.
-ghost use Rattle.std.specs.Prelude.{◌≡◌, ◌≢◌, ◌++◌, [], false, None, IfOk, OnOk, IfNone, option_to_list};
+ghost use Rattle.std.specs.Prelude.{◌≡◌, ◌≢◌, ◌++◌, [], true, false, None, IfOk, OnOk, IfNone, option_to_list};
 ghost use Rattle.zy_conn.specs.Work.{has_event};
 ghost use Rattle.zy_conn.specs.Block.{label_in};
 ghost use Rattle.zy_rx.specs.Session.{Sessions, with_bytes, with_close};
@@ -70,6 +70,14 @@ impl Link {
         ensures value { result ≡ conn_of self.now }
     {
         self.output.conn()
+    }
+
+    /// Whether a frame waits.
+    pub fn is_waiting(&self) -> bool
+        ensures some { result ≡ true → self.now.waiting ≢ [] }
+        ensures none { result ≡ false → self.now.waiting ≡ [] }
+    {
+        self.front.is_some() || self.waiting.len() > 0
     }
 
     /// Receives an item of this connection: the bytes of a segment are cut, and the new frames
@@ -145,12 +153,8 @@ impl Link {
         ensures same { SameLink self.old self.new }
         ensures label { label_in block.new ≡ label_in block.old }
     {
-        match self.output.carry_out(block.take_batch()) {
-            Ok(()) => {}
-            Err((batch, e)) => {
-                drop(batch);
-                return Err(e);
-            }
+        if let Err(e) = block.send_to(&mut self.output) {
+            return Err(e);
         }
         block.meet(&mut self.inlet);
         self.offer_waiting();

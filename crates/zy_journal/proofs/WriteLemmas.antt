@@ -13,6 +13,9 @@ text_3 x a b c p q r one two three = rw (one, two, three, append-nil r) refl
 pub text_5 : (x : ℕ) (a b c d e p q r s t : List ℕ) → a ≡ p → b ≡ q → c ≡ r → d ≡ s → e ≡ t → (x ∷ []) ++ (a ++ (b ++ (c ++ (d ++ (e ++ []))))) ≡ x ∷ (p ++ (q ++ (r ++ (s ++ t))))
 text_5 x a b c d e p q r s t one two three four five = rw (one, two, three, four, five, append-nil t) refl
 
+pub numbers_5 : (a b c d e p q r s t : List ℕ) → a ≡ p → b ≡ q → c ≡ r → d ≡ s → e ≡ t → a ++ (b ++ (c ++ (d ++ (e ++ [])))) ≡ p ++ (q ++ (r ++ (s ++ t)))
+numbers_5 a b c d e p q r s t one two three four five = rw (one, two, three, four, five, append-nil t) refl
+
 -- the texts of one further thing
 pub texts_more : {X : Type 0} (text : X → List ℕ) (xs : List X) (i : ℕ) (d : X) → i < length xs → flat_map text (take i xs) ++ text (get_or xs i d) ≡ flat_map text (take (i + 1) xs)
 texts_more text xs i d within =
@@ -43,12 +46,13 @@ pub all_written : {X : Type 0} (before after : Option (List ℕ)) (text : X → 
 all_written before after text all left are none =
     subst (λ l. Grew before after (flat_map text l)) (sym (are.split ∙ ap (λ l. are.taken ++ l) none ∙ append-nil are.taken)) are.grew
 
-module _ {K E X : Type 0} (holds : K → Option (List ℕ)) (faults : K → ℕ) (old between new : K) (text : X → List ℕ) (all left rest : List X) (x : X) where
+module _ {K E X : Type 0} (holds : K → Option (List ℕ)) (faults finishes : K → ℕ) (old between new : K) (text : X → List ℕ) (all left rest : List X) (x : X) where
   -- the text of the next thing failed
-  pub next_failed : (e : E) → AreWritten (holds old) (holds between) text all left → left ≡ x ∷ rest → faults old ≤ faults between → Writes holds faults between new (Err e) (text x) → Writes holds faults old new (Err e) (flat_map text all)
-  next_failed e are is count failed =
+  pub next_failed : (e : E) → AreWritten (holds old) (holds between) text all left → left ≡ x ∷ rest → faults old ≤ faults between → finishes between ≡ finishes old
+      → Writes holds faults finishes between new (Err e) (text x) → Writes holds faults finishes old new (Err e) (flat_map text all)
+  next_failed e are is count same failed =
       let whole : flat_map text all ≡ flat_map text are.taken ++ (text x ++ flat_map text rest) =
       ap (flat_map text) (are.split ∙ ap (λ l. are.taken ++ l) is) ∙ flat_map-append text are.taken (x ∷ rest) in
-      subst (Writes holds faults old new (Err e)) (sym whole)
-      (writes_on holds faults old between new (Err e) (flat_map text are.taken) (text x ++ flat_map text rest) are.grew count
-      (writes_no_more holds faults between new e (text x) (flat_map text rest) failed))
+      subst (Writes holds faults finishes old new (Err e)) (sym whole)
+      (writes_on holds faults finishes old between new (Err e) (flat_map text are.taken) (text x ++ flat_map text rest) are.grew count same
+      (writes_no_more holds faults finishes between new e (text x) (flat_map text rest) failed))

@@ -6,11 +6,13 @@ ghost use Rattle.zy_base.specs.Bounds.{IsKey, IsValue, IsCall, IsReply};
 ghost use Rattle.zy_base.specs.Outside.{Writes};
 ghost use Rattle.zy_journal.specs.Journal.{IsJournal, IsEntry, journal_bytes};
 ghost use Rattle.zy_journal.specs.Journal.{entry_head, entry_text, call_text, reply_text, hold_text};
-ghost use Rattle.zy_journal.specs.Journal.{key_text, value_text, field_text, fields_text};
+ghost use Rattle.zy_journal.specs.Journal.{key_text, value_text, counts_text, field_text, fields_text};
 
 use crate::journal::Journal;
 use crate::walk::Walk;
-use zy_base::{Blob, Call, CallReply, Entry, Failed, Hold, Sink, write_pieces, write_whole};
+use zy_base::{
+    Blob, Call, CallReply, Entry, Failed, Hold, Sink, Tallied, write_pieces, write_whole,
+};
 
 /// Writes a journal whose numbers, keys and values are within the format's bounds. Takes no memory.
 ///
@@ -18,7 +20,7 @@ use zy_base::{Blob, Call, CallReply, Entry, Failed, Hold, Sink, write_pieces, wr
 /// sink has grown by a prefix of that text.
 pub fn write_journal<K: Sink>(sink: &mut K, journal: &Journal) -> Result<(), Failed>
     requires fits { IsJournal journal.now }
-    ensures writes { Writes K.holds K.faults sink.old sink.new result (journal_bytes journal.now) }
+    ensures writes { Writes K.holds K.faults K.finishes sink.old sink.new result (journal_bytes journal.now) }
 {
     if let Err(failed) = write_whole(sink, b"ZYGJRN1\n") {
         return Err(failed);
@@ -34,7 +36,7 @@ pub fn write_journal<K: Sink>(sink: &mut K, journal: &Journal) -> Result<(), Fai
 
 fn write_entries<K: Sink>(sink: &mut K, entries: Walk<'_>) -> Result<(), Failed>
     requires fits { AllByRecursion IsEntry entries }
-    ensures writes { Writes K.holds K.faults sink.old sink.new result (flat_map entry_text entries.entry) }
+    ensures writes { Writes K.holds K.faults K.finishes sink.old sink.new result (flat_map entry_text entries.entry) }
 {
     let mut left = entries;
     while let Some(entry) = left.next() {
@@ -46,7 +48,7 @@ fn write_entries<K: Sink>(sink: &mut K, entries: Walk<'_>) -> Result<(), Failed>
 }
 
 fn write_holds<K: Sink>(sink: &mut K, holds: &[Hold]) -> Result<(), Failed>
-    ensures writes { Writes K.holds K.faults sink.old sink.new result
+    ensures writes { Writes K.holds K.faults K.finishes sink.old sink.new result
         (flat_map hold_text holds.now) }
 {
     for hold in holds {
@@ -58,7 +60,7 @@ fn write_holds<K: Sink>(sink: &mut K, holds: &[Hold]) -> Result<(), Failed>
 }
 
 fn write_hold<K: Sink>(sink: &mut K, hold: &Hold) -> Result<(), Failed>
-    ensures writes { Writes K.holds K.faults sink.old sink.new result (hold_text hold.now) }
+    ensures writes { Writes K.holds K.faults K.finishes sink.old sink.new result (hold_text hold.now) }
 {
     let conn = hold.conn.to_be_bytes();
     let core = hold.core.to_be_bytes();
@@ -68,7 +70,7 @@ fn write_hold<K: Sink>(sink: &mut K, hold: &Hold) -> Result<(), Failed>
 
 fn write_entry<K: Sink>(sink: &mut K, entry: &Entry) -> Result<(), Failed>
     requires fits { IsEntry entry.now }
-    ensures writes { Writes K.holds K.faults sink.old sink.new result (entry_text entry.now) }
+    ensures writes { Writes K.holds K.faults K.finishes sink.old sink.new result (entry_text entry.now) }
 {
     if let Err(failed) = write_head(sink, entry) {
         return Err(failed);
@@ -80,7 +82,7 @@ fn write_entry<K: Sink>(sink: &mut K, entry: &Entry) -> Result<(), Failed>
 }
 
 fn write_head<K: Sink>(sink: &mut K, entry: &Entry) -> Result<(), Failed>
-    ensures writes { Writes K.holds K.faults sink.old sink.new result (entry_head entry.now) }
+    ensures writes { Writes K.holds K.faults K.finishes sink.old sink.new result (entry_head entry.now) }
 {
     let stamp = entry.stamp.to_be_bytes();
     let shard = entry.shard.to_be_bytes();
@@ -92,7 +94,7 @@ fn write_head<K: Sink>(sink: &mut K, entry: &Entry) -> Result<(), Failed>
 
 fn write_call<K: Sink>(sink: &mut K, call: &Call) -> Result<(), Failed>
     requires fits { IsCall call.now }
-    ensures writes { Writes K.holds K.faults sink.old sink.new result (call_text call.now) }
+    ensures writes { Writes K.holds K.faults K.finishes sink.old sink.new result (call_text call.now) }
 {
     if let Err(failed) = write_start(sink, call.code(), call.key()) {
         return Err(failed);
@@ -102,18 +104,39 @@ fn write_call<K: Sink>(sink: &mut K, call: &Call) -> Result<(), Failed>
 
 fn write_reply<K: Sink>(sink: &mut K, reply: &CallReply) -> Result<(), Failed>
     requires fits { IsReply reply.now }
-    ensures writes { Writes K.holds K.faults sink.old sink.new result (reply_text reply.now) }
+    ensures writes { Writes K.holds K.faults K.finishes sink.old sink.new result (reply_text reply.now) }
 {
     if let Err(failed) = write_whole(sink, &[reply.code()]) {
+        return Err(failed);
+    }
+    if let Err(failed) = write_counts(sink, reply.counts()) {
         return Err(failed);
     }
     write_fields(sink, reply.flags(), reply.number(), reply.value())
 }
 
+// The five numbers of a tally, where they are there.
+fn write_counts<K: Sink>(sink: &mut K, counts: Option<Tallied>) -> Result<(), Failed>
+    ensures writes { Writes K.holds K.faults K.finishes sink.old sink.new result
+        (field_text counts_text counts) }
+{
+    match counts {
+        Some(counts) => {
+            let gets = counts.gets.to_be_bytes();
+            let sets = counts.sets.to_be_bytes();
+            let hits = counts.hits.to_be_bytes();
+            let misses = counts.misses.to_be_bytes();
+            let items = counts.items.to_be_bytes();
+            write_pieces(sink, &[&gets, &sets, &hits, &misses, &items])
+        }
+        None => write_whole(sink, &[]),
+    }
+}
+
 // A code, and a key where there is one.
 fn write_start<K: Sink>(sink: &mut K, code: u8, key: Option<&Blob>) -> Result<(), Failed>
     requires fits { IfSome (option_copied key) IsKey }
-    ensures writes { Writes K.holds K.faults sink.old sink.new result
+    ensures writes { Writes K.holds K.faults K.finishes sink.old sink.new result
         (code ∷ field_text key_text (option_copied key.entry)) }
 {
     match key {
@@ -133,7 +156,7 @@ fn write_fields<K: Sink>(
     value: Option<&Blob>,
 ) -> Result<(), Failed>
     requires fits { IfSome (option_copied value) IsValue }
-    ensures writes { Writes K.holds K.faults sink.old sink.new result
+    ensures writes { Writes K.holds K.faults K.finishes sink.old sink.new result
         (fields_text flags number (option_copied value.entry)) }
 {
     if let Err(failed) = write_flags(sink, flags) {
@@ -146,7 +169,7 @@ fn write_fields<K: Sink>(
 }
 
 fn write_flags<K: Sink>(sink: &mut K, flags: Option<u32>) -> Result<(), Failed>
-    ensures writes { Writes K.holds K.faults sink.old sink.new result
+    ensures writes { Writes K.holds K.faults K.finishes sink.old sink.new result
         (field_text (to_be_bytes w32) flags) }
 {
     match flags {
@@ -156,7 +179,7 @@ fn write_flags<K: Sink>(sink: &mut K, flags: Option<u32>) -> Result<(), Failed>
 }
 
 fn write_number<K: Sink>(sink: &mut K, number: Option<u64>) -> Result<(), Failed>
-    ensures writes { Writes K.holds K.faults sink.old sink.new result
+    ensures writes { Writes K.holds K.faults K.finishes sink.old sink.new result
         (field_text (to_be_bytes w64) number) }
 {
     match number {
@@ -167,7 +190,7 @@ fn write_number<K: Sink>(sink: &mut K, number: Option<u64>) -> Result<(), Failed
 
 fn write_value<K: Sink>(sink: &mut K, value: Option<&Blob>) -> Result<(), Failed>
     requires fits { IfSome (option_copied value) IsValue }
-    ensures writes { Writes K.holds K.faults sink.old sink.new result
+    ensures writes { Writes K.holds K.faults K.finishes sink.old sink.new result
         (field_text value_text (option_copied value.entry)) }
 {
     match value {

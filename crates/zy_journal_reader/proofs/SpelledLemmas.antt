@@ -10,7 +10,7 @@ use Rattle.zy_base.specs.declared.call_reply.CallReply.{CallReply}
 use Rattle.zy_base.specs.declared.entry.Entry.{Entry}
 use Rattle.zy_base.specs.declared.hold.Hold.{Hold}
 use Rattle.zy_base.specs.Code.{call_of}
-use Rattle.zy_base.specs.Bounds.{IsCall, IsReply}
+use Rattle.zy_base.specs.Bounds.{IsCall, IsReply, FitsCall, FitsReply, FitsEntry}
 use Rattle.zy_base.specs.Order.{IsOrdered, IsBehind}
 use Rattle.zy_base.proofs.CodeLemmas.{call_same, of_kinds}
 use Rattle.zy_read.specs.Format.{Reading, read_on, reading_of, verdict_on}
@@ -24,7 +24,7 @@ use Rattle.zy_journal_reader.specs.declared.due.NumberField.TheVariants.{Shard, 
 use Rattle.zy_journal_reader.specs.declared.due.LongField.TheVariants.{Stamp, Index}
 use Rattle.zy_journal_reader.specs.Fields.{fresh}
 use Rattle.zy_journal_reader.specs.Steps.{Progress, start, after_byte, journal_limit}
-use Rattle.zy_journal_reader.specs.Verdict.{read_from, ended, verdict, FitsCall, FitsReply, FitsEntry, SpellsJournal}
+use Rattle.zy_journal_reader.specs.Verdict.{read_from, ended, verdict, SpellsJournal}
 use Rattle.zy_journal_reader.specs.Verdict.Verdict.{Good}
 use Rattle.zy_journal_reader.proofs.PlaceLemmas.{place, Goes, both, goes_on, read_byte, one_byte, four_bytes, eight_bytes}
 use Rattle.zy_journal_reader.proofs.GoesLemmas.{between, below_is, stamp_is, shard_is, conn_is, plain, known, call_goes, after, reply_goes}

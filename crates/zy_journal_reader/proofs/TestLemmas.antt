@@ -13,7 +13,8 @@ use Rattle.zy_base.specs.Order.{IsOrdered, IsBefore}
 use Rattle.zy_journal.specs.Journal.{magic, entry_text, hold_text, IsEntry, IsHold, AreByConnection}
 use Rattle.zy_journal_reader.specs.declared.past.Past.{Past}
 use Rattle.zy_journal_reader.specs.Steps.{four, eight, bytes}
-use Rattle.zy_journal_reader.specs.Verdict.{FitsEntry, AreBytes}
+use Rattle.zy_base.specs.Bounds.{FitsEntry}
+use Rattle.zy_journal_reader.specs.Verdict.{AreBytes}
 use Rattle.zy_journal_reader.proofs.SoFar.{front, ComesAfter, Kept, IsField}
 
 -- ---- tests

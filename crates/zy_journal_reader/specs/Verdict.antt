@@ -3,12 +3,9 @@
 -- in src/laws.rt.
 use Rattle.std.specs.Prelude.{◌≡◌, ℕ, ◌^◌, ◌<◌, ◌≤◌, Bool, true, false, List, length, Option, IfSome, ⊤}
 use Rattle.std.specs.List.{AllByRecursion}
-use Rattle.zy_base.specs.declared.call.Call.{Call}
-use Rattle.zy_base.specs.declared.call_reply.CallReply.{CallReply}
-use Rattle.zy_base.specs.declared.entry.Entry.{Entry}
 use Rattle.zy_base.specs.declared.file_fault.FileFault.{FileFault}
 use Rattle.zy_base.specs.declared.file_fault.FileFault.TheVariants.{Truncated}
-use Rattle.zy_base.specs.Code.{call_flags, call_number, reply_flags, reply_number}
+use Rattle.zy_base.specs.Bounds.{FitsEntry}
 use Rattle.zy_read.specs.Format.{Format, Reading, read_on, fault_met, verdict_on}
 use Rattle.zy_journal.specs.declared.journal.Journal.{Journal}
 use Rattle.zy_journal.specs.Journal.{IsJournal, journal_bytes}
@@ -58,24 +55,6 @@ abbrev pub fault_of : List ℕ → Option FileFault
 fault_of text = fault_met journals text
 
 -- ---- spellings
-
--- flags have four bytes, and a number has eight
-abbrev pub FitFields : Option ℕ → Option ℕ → Type 0
-FitFields flags number = IfSome flags (λ n. n < 2 ^ 32) × IfSome number (λ n. n < 2 ^ 64)
-
--- the flags of a call have four bytes, and its unique or its amount has eight
-abbrev pub FitsCall : Call → Type 0
-FitsCall call = FitFields (call_flags call) (call_number call)
-
--- so do those of a reply
-abbrev pub FitsReply : CallReply → Type 0
-FitsReply reply = FitFields (reply_flags reply) (reply_number reply)
-
--- an entry's numbers without a bound of their own fit their bytes
-pub record FitsEntry (e : Entry) : Type 0 where
-  pub part : e.tag.part < 2 ^ 32
-  pub call : FitsCall e.call
-  pub reply : FitsReply e.reply
 
 -- a journal that can be read: one with a spelling, whose numbers fit their bytes
 pub record IsReadable (journal : Journal) : Type 0 where

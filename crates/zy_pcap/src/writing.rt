@@ -22,7 +22,7 @@ const STREAM_END: u32 = 1 << 31;
 /// `Failed` comes only where the sink's count of faults rose, or stands at its last value; then the
 /// sink has grown by a prefix of that text.
 pub fn write_flows<K: Sink>(sink: &mut K, flows: &Flows) -> Result<(), Failed>
-    ensures writes { Writes K.holds K.faults sink.old sink.new result (capture_of flows.now) }
+    ensures writes { Writes K.holds K.faults K.finishes sink.old sink.new result (capture_of flows.now) }
 {
     let all = flows.kept();
     if let Err(failed) = write_start(sink, flows.count()) {
@@ -37,7 +37,7 @@ pub fn write_flows<K: Sink>(sink: &mut K, flows: &Flows) -> Result<(), Failed>
 // The beginning.
 #[tactic(auto, unfolding(crate::specs::Texts::start_text))]
 fn write_start<K: Sink>(sink: &mut K, count: u32) -> Result<(), Failed>
-    ensures writes { Writes K.holds K.faults sink.old sink.new result (start_text count) }
+    ensures writes { Writes K.holds K.faults K.finishes sink.old sink.new result (start_text count) }
 {
     let count = count.to_be_bytes();
     write_pieces(sink, &[b"ZYGCAP2\n", &count])
@@ -46,7 +46,7 @@ fn write_start<K: Sink>(sink: &mut K, count: u32) -> Result<(), Failed>
 // The records of all connections.
 fn write_connections<K: Sink>(sink: &mut K, flows: &[Option<KeptFlow>]) -> Result<(), Failed>
     requires few { length flows.now ≤ 4096 }
-    ensures writes { Writes K.holds K.faults sink.old sink.new result
+    ensures writes { Writes K.holds K.faults K.finishes sink.old sink.new result
         (numbered_from kept_connection 0 flows.now) }
 {
     for conn in 0..flows.len() as u32 {
@@ -59,7 +59,7 @@ fn write_connections<K: Sink>(sink: &mut K, flows: &[Option<KeptFlow>]) -> Resul
 
 // The records of a connection, which may have been given to no flow.
 fn write_connection<K: Sink>(sink: &mut K, conn: u32, flow: &Option<KeptFlow>) -> Result<(), Failed>
-    ensures writes { Writes K.holds K.faults sink.old sink.new result
+    ensures writes { Writes K.holds K.faults K.finishes sink.old sink.new result
         (kept_connection conn flow.now) }
 {
     match flow {
@@ -70,7 +70,7 @@ fn write_connection<K: Sink>(sink: &mut K, conn: u32, flow: &Option<KeptFlow>) -
 
 // The records of a flow's sessions.
 fn write_sessions<K: Sink>(sink: &mut K, conn: u32, sessions: &[KeptSession]) -> Result<(), Failed>
-    ensures writes { Writes K.holds K.faults sink.old sink.new result
+    ensures writes { Writes K.holds K.faults K.finishes sink.old sink.new result
         (numbered_from (kept_text conn) 0 sessions.now) }
 {
     for session in 0..sessions.len() {
@@ -88,7 +88,7 @@ fn write_session<K: Sink>(
     session: usize,
     stream: &KeptStream,
 ) -> Result<(), Failed>
-    ensures writes { Writes K.holds K.faults sink.old sink.new result
+    ensures writes { Writes K.holds K.faults K.finishes sink.old sink.new result
         (session_text conn session (longest (byte_held stream.now))) }
 {
     if session == 0 {
@@ -103,7 +103,7 @@ fn write_session<K: Sink>(
 // A close record.
 #[tactic(auto, unfolding(crate::specs::Texts::close_text))]
 fn write_close<K: Sink>(sink: &mut K, conn: u32) -> Result<(), Failed>
-    ensures writes { Writes K.holds K.faults sink.old sink.new result (close_text conn) }
+    ensures writes { Writes K.holds K.faults K.finishes sink.old sink.new result (close_text conn) }
 {
     let number = conn.to_be_bytes();
     write_pieces(sink, &[b"C", &number])
@@ -111,7 +111,7 @@ fn write_close<K: Sink>(sink: &mut K, conn: u32) -> Result<(), Failed>
 
 // The segments of a stream.
 fn write_stream<K: Sink>(sink: &mut K, conn: u32, stream: &KeptStream) -> Result<(), Failed>
-    ensures writes { Writes K.holds K.faults sink.old sink.new result
+    ensures writes { Writes K.holds K.faults K.finishes sink.old sink.new result
         (stream_text conn (longest (byte_held stream.now))) }
 {
     let mut at = 0;
@@ -138,7 +138,7 @@ fn write_segment<K: Sink>(
 ) -> Result<(), Failed>
     requires within { at + size ≤ 2 ^ 31 }
     requires there { length (longest_from (byte_held stream.now) at size) ≡ size }
-    ensures writes { Writes K.holds K.faults sink.old sink.new result
+    ensures writes { Writes K.holds K.faults K.finishes sink.old sink.new result
         (segment_text conn (longest_from (byte_held stream.now) at size)) }
 {
     if let Err(failed) = write_head(sink, conn, size) {
@@ -150,7 +150,7 @@ fn write_segment<K: Sink>(
 // The beginning of a segment.
 #[tactic(auto, unfolding(crate::specs::Texts::head_text))]
 fn write_head<K: Sink>(sink: &mut K, conn: u32, size: u32) -> Result<(), Failed>
-    ensures writes { Writes K.holds K.faults sink.old sink.new result (head_text conn size) }
+    ensures writes { Writes K.holds K.faults K.finishes sink.old sink.new result (head_text conn size) }
 {
     let number = conn.to_be_bytes();
     let length = size.to_be_bytes();
@@ -161,7 +161,7 @@ fn write_head<K: Sink>(sink: &mut K, conn: u32, size: u32) -> Result<(), Failed>
 fn write_run<K: Sink>(sink: &mut K, stream: &KeptStream, at: u32, size: u32) -> Result<(), Failed>
     requires within { at + size ≤ 2 ^ 31 }
     requires there { length (longest_from (byte_held stream.now) at size) ≡ size }
-    ensures writes { Writes K.holds K.faults sink.old sink.new result
+    ensures writes { Writes K.holds K.faults K.finishes sink.old sink.new result
         (longest_from (byte_held stream.now) at size) }
 {
     let mut done = 0;

@@ -7,6 +7,7 @@ use zy_base::{Failed, Sink};
 #[derive(Drop)]
 pub(crate) struct Counting {
     pub(crate) bytes: u64,
+    pub(crate) finishes: u64,
 }
 
 impl Sink for Counting {
@@ -14,12 +15,15 @@ impl Sink for Counting {
 
     ghost faults = { λ s. 0 };
 
+    ghost finishes = { λ s. s.finishes };
+
     fn write(&mut self, from: &[u8]) -> Result<usize, Failed> {
         self.bytes = self.bytes.saturating_add(from.len() as u64);
         Ok(from.len())
     }
 
     fn finish(&mut self) -> Result<(), Failed> {
+        self.finishes = self.finishes.saturating_add(1);
         Ok(())
     }
 }

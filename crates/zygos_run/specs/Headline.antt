@@ -4,12 +4,14 @@ use Rattle.std.specs.List.{AllByRecursion}
 use Rattle.zy_base.specs.declared.entry.Entry.{Entry}
 use Rattle.zy_base.specs.Order.{IsOrdered}
 use Rattle.zy_capture.specs.declared.record.Record.{Record}
-use Rattle.zy_capture.specs.Outputs.{AllOutputs}
+use Rattle.zy_capture.specs.Capture.{AreBytes, Spells}
+use Rattle.zy_capture.specs.Outputs.{AllOutputs, AreOutputs}
 use Rattle.zy_capture.specs.Replies.{replies_bytes}
 use Rattle.zy_capture.specs.Verdict.{verdict}
 use Rattle.zy_capture.specs.Verdict.Verdict.{Good}
 use Rattle.zy_journal.specs.declared.journal.Journal.{Journal}
 use Rattle.zy_journal.specs.Journal.{journal_bytes}
+use Rattle.zy_journal_reader.specs.Verdict.{IsReadable}
 use Rattle.zy_run.specs.Commands.{streams_in, commands_in}
 use Rattle.zy_run.specs.Run.{IsRun}
 use Rattle.zy_run.specs.Output.{all_outputs}
@@ -41,6 +43,8 @@ pub record IsServed (asked : Run) (bytes : List ℕ) (journal : Journal) (output
   pub records : List Record
   -- the bytes are a capture, with these records
   pub capture : verdict bytes ≡ Good version count records
+  -- and, if each of them is a byte, they are the spelling of these
+  pub spelled : AreBytes bytes → Spells bytes version count records
   -- the entries are one legal run of its commands: each is carried out once, in the order of
   -- arrival, none after quit, and none is left
   pub run : IsRun asked.shards journal.entries count (commands_in records)
@@ -52,6 +56,10 @@ pub record IsServed (asked : Run) (bytes : List ℕ) (journal : Journal) (output
   pub held : AllByRecursion (IsHoldBy asked.cores) journal.holds
   -- the outputs are exactly each session's replies in that order
   pub replies : outputs ≡ outputs_of version count records journal.entries
+  -- the journal is within the bounds of its format, so it can be written and read again
+  pub readable : IsReadable journal
+  -- so are the outputs
+  pub lawful : AreOutputs outputs
 
 -- the same, and all that is expected of it was written
 pub record IsWritten (asked : Run) (out : Out) (bytes : List ℕ) (journal : Journal) (sink : Side) : Type 0 where

@@ -19,7 +19,7 @@ pub(crate) enum Piece {
 
 /// Writes the pieces of a line, one after the other.
 pub(crate) fn write_line<K: Sink>(sink: &mut K, pieces: &[Piece]) -> Result<(), Failed>
-    ensures writes { Writes K.holds K.faults sink.old sink.new result (flat_map piece_text pieces.now) }
+    ensures writes { Writes K.holds K.faults K.finishes sink.old sink.new result (flat_map piece_text pieces.now) }
 {
     for piece in pieces {
         if let Err(failed) = write_piece(sink, *piece) {
@@ -30,7 +30,7 @@ pub(crate) fn write_line<K: Sink>(sink: &mut K, pieces: &[Piece]) -> Result<(), 
 }
 
 fn write_piece<K: Sink>(sink: &mut K, piece: Piece) -> Result<(), Failed>
-    ensures writes { Writes K.holds K.faults sink.old sink.new result (piece_text piece) }
+    ensures writes { Writes K.holds K.faults K.finishes sink.old sink.new result (piece_text piece) }
 {
     match piece {
         Piece::Text(text) => write_whole(sink, text),
@@ -47,7 +47,7 @@ pub(crate) fn write_number<K: Sink>(
     text: &'static [u8],
     number: u64,
 ) -> Result<(), Failed>
-    ensures writes { Writes K.holds K.faults sink.old sink.new result (line_with text.now number) }
+    ensures writes { Writes K.holds K.faults K.finishes sink.old sink.new result (line_with text.now number) }
 {
     let pieces = [Piece::Text(text), Piece::Number(number), Piece::Text(b"\n")];
     write_line(sink, &pieces)
@@ -61,7 +61,7 @@ pub(crate) fn write_two<K: Sink>(
     middle: &'static [u8],
     other: u64,
 ) -> Result<(), Failed>
-    ensures writes { Writes K.holds K.faults sink.old sink.new result
+    ensures writes { Writes K.holds K.faults K.finishes sink.old sink.new result
         (line_with_two text.now number middle.now other) }
 {
     let pieces = [
@@ -76,7 +76,7 @@ pub(crate) fn write_two<K: Sink>(
 
 /// Writes the line of a verdict.
 pub(crate) fn write_verdict<K: Sink>(sink: &mut K, verdict: Verdict) -> Result<(), Failed>
-    ensures writes { Writes K.holds K.faults sink.old sink.new result (verdict_line verdict) }
+    ensures writes { Writes K.holds K.faults K.finishes sink.old sink.new result (verdict_line verdict) }
 {
     match verdict {
         Verdict::Yes => write_whole(sink, b"yes\n"),
@@ -86,7 +86,7 @@ pub(crate) fn write_verdict<K: Sink>(sink: &mut K, verdict: Verdict) -> Result<(
 
 // Writes the line of a cause.
 fn write_cause<K: Sink>(sink: &mut K, cause: Cause) -> Result<(), Failed>
-    ensures writes { Writes K.holds K.faults sink.old sink.new result (cause_line cause) }
+    ensures writes { Writes K.holds K.faults K.finishes sink.old sink.new result (cause_line cause) }
 {
     let text = cause_text(cause);
     match cause {
@@ -107,7 +107,7 @@ fn write_output<K: Sink>(
     session: u32,
     at: u64,
 ) -> Result<(), Failed>
-    ensures writes { Writes K.holds K.faults sink.old sink.new result (output_line text.now conn session at) }
+    ensures writes { Writes K.holds K.faults K.finishes sink.old sink.new result (output_line text.now conn session at) }
 {
     let text = Piece::Text(text);
     let conn = Piece::Number(conn as u64);
@@ -138,7 +138,7 @@ fn cause_text(cause: Cause) -> &'static [u8]
 
 /// Writes the line of the numbers of a test run.
 pub(crate) fn write_summary<K: Sink>(sink: &mut K, summary: &Summary) -> Result<(), Failed>
-    ensures writes { Writes K.holds K.faults sink.old sink.new result (summary_line summary.now) }
+    ensures writes { Writes K.holds K.faults K.finishes sink.old sink.new result (summary_line summary.now) }
 {
     let pieces = [
         Piece::Text(b"commands "),

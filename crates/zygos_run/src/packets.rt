@@ -1,10 +1,11 @@
 //! Making the capture of recorded packets.
 ghost use Rattle.std.specs.Prelude.{◌≡◌, ◌≤◌, Some, [], List, ℕ};
-ghost use Rattle.zy_base.specs.Outside.{Writes};
+ghost use Rattle.zy_base.specs.Outside.{WritesLast};
 ghost use Rattle.zy_command_line.specs.Range.{IsPort};
 ghost use Rattle.zy_command_line.specs.declared.request.Request.TheVariants as Requests;
 ghost use Rattle.zy_pcap.specs.Made.{capture_of};
 ghost use Rattle.zygos_run.specs.Seen.{side, seen};
+ghost use Rattle.zygos_run.specs.Finish.{FinishesOnce};
 ghost use Rattle.zygos_run.specs.Ends.{Ends, LeavesSink};
 ghost use Rattle.zygos_run.specs.Packets.{ReadsPackets, HasFed, FeedsAll, Advances, came_of, ended_by};
 
@@ -30,6 +31,7 @@ pub(crate) fn make_packets<S: Source, K: Sink>(
     ensures ends { Ends (Some (Requests.Pcap port))
         (seen (side S.rest S.faults source.old source.new) (side K.holds K.faults sink.old sink.new)) result }
     ensures sink_kept { LeavesSink result → sink.new ≡ sink.old }
+    ensures finished { FinishesOnce result (K.finishes sink.old) (K.finishes sink.new) }
 {
     match read_packets(alloc, port, source) {
         Ok(flows) => {
@@ -48,7 +50,7 @@ pub(crate) fn make_packets<S: Source, K: Sink>(
 
 // Writes the capture, and finishes.
 fn write_capture<K: Sink>(sink: &mut K, flows: &Flows) -> Result<(), Failed>
-    ensures writes { Writes K.holds K.faults sink.old sink.new result (capture_of flows.now) }
+    ensures writes { WritesLast K.holds K.faults K.finishes sink.old sink.new result (capture_of flows.now) }
 {
     write_flows(sink, flows)?;
     sink.finish()

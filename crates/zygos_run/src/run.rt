@@ -1,12 +1,13 @@
 //! Serving a capture, and writing what came.
 ghost use Rattle.std.specs.Prelude.{◌≡◌, ◌≤◌, Some};
-ghost use Rattle.zy_base.specs.Outside.{Writes};
+ghost use Rattle.zy_base.specs.Outside.{Writes, WritesLast};
 ghost use Rattle.zy_capture.specs.Outputs.{AreOutputs};
 ghost use Rattle.zy_capture.specs.Replies.{replies_bytes};
 ghost use Rattle.zy_journal.specs.Journal.{IsJournal};
 ghost use Rattle.zy_command_line.specs.Range.{IsRunnable};
 ghost use Rattle.zy_command_line.specs.declared.request.Request.TheVariants as Requests;
 ghost use Rattle.zygos_run.specs.Seen.{side, seen};
+ghost use Rattle.zygos_run.specs.Finish.{FinishesOnce};
 ghost use Rattle.zygos_run.specs.Ends.{Ends, LeavesSink};
 ghost use Rattle.zygos_run.specs.Headline.{front, written};
 
@@ -43,6 +44,7 @@ pub(crate) fn serve_capture<R: Threads + Wait + Sync, S: Source, K: Sink, G: Gat
     ensures ends { Ends (Some (Requests.Run run out))
         (seen (side S.rest S.faults source.old source.new) (side K.holds K.faults sink.old sink.new)) result }
     ensures sink_kept { LeavesSink result → sink.new ≡ sink.old }
+    ensures finished { FinishesOnce result (K.finishes sink.old) (K.finishes sink.new) }
 {
     match run_capture(rt, alloc, run, source, gate) {
         Ok(done) => match write_all(sink, out, &done) {
@@ -59,7 +61,8 @@ pub(crate) fn serve_capture<R: Threads + Wait + Sync, S: Source, K: Sink, G: Gat
 fn write_all<K: Sink>(sink: &mut K, out: Out, done: &Finished) -> Result<(), Failed>
     requires outputs { AreOutputs done.now.outputs }
     requires journal { IsJournal done.now.journal }
-    ensures writes { Writes K.holds K.faults sink.old sink.new result (written out done.now.journal done.now.outputs) }
+    ensures writes { WritesLast K.holds K.faults K.finishes sink.old sink.new result
+        (written out done.now.journal done.now.outputs) }
 {
     match write_front(sink, out, &done.journal) {
         Ok(()) => write_back(sink, &done.outputs),
@@ -70,7 +73,7 @@ fn write_all<K: Sink>(sink: &mut K, out: Out, done: &Finished) -> Result<(), Fai
 // Writes the replies, and finishes.
 fn write_back<K: Sink>(sink: &mut K, outputs: &Outputs) -> Result<(), Failed>
     requires outputs { AreOutputs outputs.now }
-    ensures writes { Writes K.holds K.faults sink.old sink.new result (replies_bytes outputs.now) }
+    ensures writes { WritesLast K.holds K.faults K.finishes sink.old sink.new result (replies_bytes outputs.now) }
 {
     write_replies(sink, outputs)?;
     sink.finish()
@@ -79,7 +82,7 @@ fn write_back<K: Sink>(sink: &mut K, outputs: &Outputs) -> Result<(), Failed>
 // Writes what comes before the replies.
 fn write_front<K: Sink>(sink: &mut K, out: Out, journal: &Journal) -> Result<(), Failed>
     requires journal { IsJournal journal.now }
-    ensures writes { Writes K.holds K.faults sink.old sink.new result (front out journal.now) }
+    ensures writes { Writes K.holds K.faults K.finishes sink.old sink.new result (front out journal.now) }
 {
     match out {
         Out::Replies => Ok(()),

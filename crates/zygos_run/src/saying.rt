@@ -20,7 +20,7 @@ pub(crate) fn say<E: Sink>(says: &mut E, answer: &Answer)
 }
 
 fn say_line<E: Sink>(says: &mut E, answer: &Answer) -> Result<(), Failed>
-    ensures writes { Writes E.holds E.faults says.old says.new result (line_of answer.now) }
+    ensures writes { Writes E.holds E.faults E.finishes says.old says.new result (line_of answer.now) }
 {
     match answer {
         Answer::Refused(Refusal::Capture(fault)) => say_fault(says, *fault),
@@ -65,7 +65,7 @@ fn plain_line(answer: &Answer) -> &'static [u8]
     match answer {
         Answer::Served(_) | Answer::Checked(_) | Answer::Made | Answer::Tested(_, _) => b"",
         Answer::Refused(_) => b"",
-        Answer::Usage => b"zygos: usage: zygos run|check|gen|self|pcap [options]\n",
+        Answer::Usage => b"zygos: usage: zygos run|check|gen|self|pcap|report [options]\n",
         Answer::ReadFault => b"zygos: reading failed\n",
         Answer::WriteFault => b"zygos: writing failed\n",
         Answer::OutOfMemory => b"zygos: out of memory\n",
@@ -74,7 +74,7 @@ fn plain_line(answer: &Answer) -> &'static [u8]
 
 // The line of a fault of a capture.
 fn say_fault<E: Sink>(says: &mut E, fault: CaptureFault) -> Result<(), Failed>
-    ensures writes { Writes E.holds E.faults says.old says.new result (fault_line fault) }
+    ensures writes { Writes E.holds E.faults E.finishes says.old says.new result (fault_line fault) }
 {
     let text = fault_text(fault);
     let middle = fault_middle(fault);
@@ -124,7 +124,7 @@ fn say_file_fault<E: Sink>(
     text: &'static [u8],
     fault: FileFault,
 ) -> Result<(), Failed>
-    ensures writes { Writes E.holds E.faults says.old says.new result (file_line text.now fault) }
+    ensures writes { Writes E.holds E.faults E.finishes says.old says.new result (file_line text.now fault) }
 {
     match fault {
         FileFault::Form { at } | FileFault::Truncated { at } => write_number(says, text, at),

@@ -1,6 +1,6 @@
 //! Test runs: generated traffic is served, and what came is checked.
 ghost use Rattle.std.specs.Prelude.{◌≡◌, ◌≤◌, ℕ, List, Some, IfOk};
-ghost use Rattle.zy_base.specs.Outside.{Writes};
+ghost use Rattle.zy_base.specs.Outside.{WritesLast};
 ghost use Rattle.zy_capture.specs.declared.record.Record.{Record};
 ghost use Rattle.zy_capture.specs.Streams.{no_bytes, with_records};
 ghost use Rattle.zy_capture.specs.Verdict.{verdict};
@@ -8,6 +8,7 @@ ghost use Rattle.zy_capture.specs.Verdict.Verdict.{Good};
 ghost use Rattle.zy_command_line.specs.Range.{IsMakeable, IsRunnable, AreShards};
 ghost use Rattle.zy_command_line.specs.declared.request.Request.TheVariants as Requests;
 ghost use Rattle.zygos_run.specs.Seen.{Side, side, seen};
+ghost use Rattle.zygos_run.specs.Finish.{FinishesOnce};
 ghost use Rattle.zygos_run.specs.Ends.{Ends, IsTested, LeavesSink, traffic_bytes};
 ghost use Rattle.zygos_run.specs.Headline.{IsServed};
 ghost use Rattle.zygos_run.specs.Lines.{summary_line};
@@ -48,6 +49,7 @@ pub(crate) fn test_traffic<R: Threads + Wait + Sync, K: Sink, G: Gate + Sync>(
     ensures ends { (source : Side) → Ends (Some (Requests.SelfTest traffic run))
         (seen source (side K.holds K.faults sink.old sink.new)) result }
     ensures sink_kept { LeavesSink result → sink.new ≡ sink.old }
+    ensures finished { FinishesOnce result (K.finishes sink.old) (K.finishes sink.new) }
 {
     match run_test(rt, alloc, traffic, run, gate) {
         Err(NoMemory) => Answer::OutOfMemory,
@@ -139,7 +141,7 @@ fn certify(
 
 // Writes the line of the numbers, and finishes.
 fn write_line<K: Sink>(sink: &mut K, summary: &Summary) -> Result<(), Failed>
-    ensures writes { Writes K.holds K.faults sink.old sink.new result (summary_line summary.now) }
+    ensures writes { WritesLast K.holds K.faults K.finishes sink.old sink.new result (summary_line summary.now) }
 {
     write_summary(sink, summary)?;
     sink.finish()

@@ -40,12 +40,13 @@ impl<R: Read> Source for StdSource<R> {
     }
 }
 
-/// Writes to a writer, and counts its errors and the writes that take no byte of a piece. Its bytes
-/// are known if the writer's are: over memory they are, over standard output they are not.
+/// Writes to a writer, and counts its flushes, its errors and the writes that take no byte of a piece.
+/// Its bytes are known if the writer's are: over memory they are, over standard output they are not.
 #[derive(Drop)]
 pub struct StdSink<W: Write> {
     writer: W,
     faults: u64,
+    finishes: u64,
     first: Snapshot<W>,
     ghost tells: { IsSome (W.contents first.value) → IsSome (W.contents writer) },
 }
@@ -55,11 +56,13 @@ impl<W: Write> StdSink<W> {
     pub fn new(writer: W) -> StdSink<W>
         ensures writer { result.writer ≡ writer }
         ensures faults { result.faults ≡ 0 }
+        ensures finishes { result.finishes ≡ 0 }
     {
         let first = Snapshot::of(&writer);
         StdSink {
             writer,
             faults: 0,
+            finishes: 0,
             first,
         }
     }
@@ -69,6 +72,8 @@ impl<W: Write> Sink for StdSink<W> {
     ghost holds = { λ s. told_since (W.contents s.first.value) (W.contents s.writer) };
 
     ghost faults = { λ s. s.faults };
+
+    ghost finishes = { λ s. s.finishes };
 
     fn write(&mut self, from: &[u8]) -> Result<usize, Failed> {
         match self.writer.write(from) {
@@ -81,6 +86,7 @@ impl<W: Write> Sink for StdSink<W> {
     }
 
     fn finish(&mut self) -> Result<(), Failed> {
+        self.finishes = self.finishes.saturating_add(1);
         match self.writer.flush() {
             Ok(()) => Ok(()),
             Err(_) => {

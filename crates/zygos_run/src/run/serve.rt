@@ -17,6 +17,7 @@ use std::alloc::Global;
 use std::sync::Wait;
 use std::thread::Threads;
 use zy_base::{Gate, NoMemory, Source};
+use zy_capture::a_capture_is_good_exactly_where_it_is_a_spelling;
 use zy_command_line::Run;
 use zy_feed::{Intake, Stop};
 use zy_finish::{Finished, Taken, finish, take};
@@ -33,6 +34,7 @@ pub(crate) fn run_capture<R: Threads + Wait + Sync, S: Source, G: Gate + Sync>(
     ensures reads { S.faults source.old ≤ S.faults source.new }
     ensures ends { RunsTo run (side S.rest S.faults source.old source.new) result }
 {
+    a_capture_is_good_exactly_where_it_is_a_spelling();
     let (intake, header) = Intake::begin(alloc, source)?;
     let prepared = prepare(alloc, run, intake, header)?;
     let ran = drive_capture(rt, alloc, run, source, prepared, gate)?;

@@ -1,4 +1,4 @@
-use Rattle.std.proofs.Common.{◌≤◌, take}
+use Rattle.std.proofs.Common.{◌≡◌, ◌≤◌, take}
 use Rattle.std.specs.Prelude.{flat_map}
 use Rattle.zy_base.specs.Outside.{Grew}
 use Rattle.zy_base.proofs.writing.write_pieces.Given as goal
@@ -8,4 +8,5 @@ abbrev pub invariant-loop-piece : goal.invariant-loop-piece
 invariant-loop-piece g l = record {
   taken : Grew (g.K.Sink.holds l.initial.sink) (g.K.Sink.holds l.sink) (flat_map (λ piece. piece.now) (take l.piece-index l.pieces));
   count : g.K.Sink.faults l.initial.sink ≤ g.K.Sink.faults l.sink;
+  unfinished : g.K.Sink.finishes l.sink ≡ g.K.Sink.finishes l.initial.sink;
 }

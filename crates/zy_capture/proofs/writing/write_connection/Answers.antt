@@ -1,4 +1,4 @@
-use Rattle.std.proofs.Common.{◌≡◌, ◌<◌, ℕ, List, [], length, refl, get_or, subst, arith}
+use Rattle.std.proofs.Common.{◌∙◌, ◌≡◌, ◌<◌, ℕ, List, [], length, refl, get_or, subst, arith}
 use Rattle.std.specs.Prelude.{Err}
 use Rattle.zy_base.specs.Outside.{Grew, Writes}
 use Rattle.zy_capture.specs.Streams.{sessions_of}
@@ -12,8 +12,8 @@ returns-in-Err g c =
     let same : output_text c.version.result c.args.conn c.loop-session.session c.output.result.now ≡ output_text c.args.outputs.now.version c.args.conn c.loop-session.session (get_or sessions c.loop-session.session []) = rw (c.version.ensures.value, c.output.ensures.value) refl in
     let within : c.loop-session.session < length sessions = omega (arith, c.loop-session-test.true, c.sessions-session-end.ensures.value) in
     record {
-      writes = numbered_failed g.K.Sink.holds g.K.Sink.faults c.args.sink.now c.loop-session.sink c.write_output.new.sink c.in-Err.failed (output_text c.args.outputs.now.version c.args.conn) sessions c.loop-session.session [] within c.loop-session.invariant.written c.loop-session.invariant.count
-          (subst (λ (l : List ℕ). Writes g.K.Sink.holds g.K.Sink.faults c.loop-session.sink c.write_output.new.sink (Err c.in-Err.failed) l) same c.in-Err.ensures.writes);
+      writes = numbered_failed g.K.Sink.holds g.K.Sink.faults g.K.Sink.finishes c.args.sink.now c.loop-session.sink c.write_output.new.sink c.in-Err.failed (output_text c.args.outputs.now.version c.args.conn) sessions c.loop-session.session [] within c.loop-session.invariant.written c.loop-session.invariant.count c.loop-session.invariant.unfinished
+          (subst (λ (l : List ℕ). Writes g.K.Sink.holds g.K.Sink.faults g.K.Sink.finishes c.loop-session.sink c.write_output.new.sink (Err c.in-Err.failed) l) same c.in-Err.ensures.writes);
     }
 
 pub loop-session-preserved : goal.loop-session-preserved
@@ -25,4 +25,5 @@ loop-session-preserved g c =
       written = numbered_on (g.K.Sink.holds c.args.sink.now) (g.K.Sink.holds c.loop-session.sink) (g.K.Sink.holds c.write_output.new.sink) (output_text c.args.outputs.now.version c.args.conn) sessions c.loop-session.session [] within c.loop-session.invariant.written
           (subst (λ (l : List ℕ). Grew (g.K.Sink.holds c.loop-session.sink) (g.K.Sink.holds c.write_output.new.sink) l) same c.in_default.ensures.writes.whole);
       count = omega (arith, c.loop-session.invariant.count, c.in_default.ensures.writes.count);
+      unfinished = c.in_default.ensures.writes.unfinished ∙ c.loop-session.invariant.unfinished;
     }

@@ -11,8 +11,8 @@ returns-in-Err g c =
     let version = c.args.outputs.now.version in
     let body : List ℕ = numbered_from (connection_text version) 0 c.args.outputs.now.sessions in
     let head : c.magic_of.result.now ≡ magic version = c.magic_of.ensures.value ∙ rw c.version.ensures.value refl in
-    let P : List ℕ → Type 0 = λ text. Writes g.K.Sink.holds g.K.Sink.faults c.args.sink.now c.write_whole.new.sink (Err c.in-Err.failed) text in
-    record { writes = writes_no_more g.K.Sink.holds g.K.Sink.faults c.args.sink.now c.write_whole.new.sink c.in-Err.failed (magic version) (body ++ 69 ∷ []) (subst P head c.in-Err.ensures.writes) }
+    let P : List ℕ → Type 0 = λ text. Writes g.K.Sink.holds g.K.Sink.faults g.K.Sink.finishes c.args.sink.now c.write_whole.new.sink (Err c.in-Err.failed) text in
+    record { writes = writes_no_more g.K.Sink.holds g.K.Sink.faults g.K.Sink.finishes c.args.sink.now c.write_whole.new.sink c.in-Err.failed (magic version) (body ++ 69 ∷ []) (subst P head c.in-Err.ensures.writes) }
 
 pub returns-in-Err-write_connections : goal.returns-in-Err-write_connections
 unfolding replies_bytes
@@ -22,8 +22,8 @@ returns-in-Err-write_connections g c =
     let head : c.magic_of.result.now ≡ magic version = c.magic_of.ensures.value ∙ rw c.version.ensures.value refl in
     let begun : Grew (g.K.Sink.holds c.args.sink.now) (g.K.Sink.holds c.write_whole.new.sink) (magic version) = subst (λ (l : List ℕ). Grew (g.K.Sink.holds c.args.sink.now) (g.K.Sink.holds c.write_whole.new.sink) l) head c.in_default.ensures.writes.whole in
     record {
-      writes = writes_on g.K.Sink.holds g.K.Sink.faults c.args.sink.now c.write_whole.new.sink c.write_connections.new.sink (Err c.in-Err-write_connections.failed) (magic version) (body ++ 69 ∷ []) begun c.in_default.ensures.writes.count
-          (writes_no_more g.K.Sink.holds g.K.Sink.faults c.write_whole.new.sink c.write_connections.new.sink c.in-Err-write_connections.failed body (69 ∷ []) c.in-Err-write_connections.ensures.writes);
+      writes = writes_on g.K.Sink.holds g.K.Sink.faults g.K.Sink.finishes c.args.sink.now c.write_whole.new.sink c.write_connections.new.sink (Err c.in-Err-write_connections.failed) (magic version) (body ++ 69 ∷ []) begun c.in_default.ensures.writes.count c.in_default.ensures.writes.unfinished
+          (writes_no_more g.K.Sink.holds g.K.Sink.faults g.K.Sink.finishes c.write_whole.new.sink c.write_connections.new.sink c.in-Err-write_connections.failed body (69 ∷ []) c.in-Err-write_connections.ensures.writes);
     }
 
 pub returns : goal.returns
@@ -34,6 +34,6 @@ returns g c =
     let head : c.magic_of.result.now ≡ magic version = c.magic_of.ensures.value ∙ rw c.version.ensures.value refl in
     let begun : Grew (g.K.Sink.holds c.args.sink.now) (g.K.Sink.holds c.write_whole.new.sink) (magic version) = subst (λ (l : List ℕ). Grew (g.K.Sink.holds c.args.sink.now) (g.K.Sink.holds c.write_whole.new.sink) l) head c.in_default.ensures.writes.whole in
     record {
-      writes = writes_on g.K.Sink.holds g.K.Sink.faults c.args.sink.now c.write_whole.new.sink c.write_whole-2.new.sink c.write_whole-2.result (magic version) (body ++ 69 ∷ []) begun c.in_default.ensures.writes.count
-          (writes_on g.K.Sink.holds g.K.Sink.faults c.write_whole.new.sink c.write_connections.new.sink c.write_whole-2.new.sink c.write_whole-2.result body (69 ∷ []) c.in_default-write_connections.ensures.writes.whole c.in_default-write_connections.ensures.writes.count c.write_whole-2.ensures.writes);
+      writes = writes_on g.K.Sink.holds g.K.Sink.faults g.K.Sink.finishes c.args.sink.now c.write_whole.new.sink c.write_whole-2.new.sink c.write_whole-2.result (magic version) (body ++ 69 ∷ []) begun c.in_default.ensures.writes.count c.in_default.ensures.writes.unfinished
+          (writes_on g.K.Sink.holds g.K.Sink.faults g.K.Sink.finishes c.write_whole.new.sink c.write_connections.new.sink c.write_whole-2.new.sink c.write_whole-2.result body (69 ∷ []) c.in_default-write_connections.ensures.writes.whole c.in_default-write_connections.ensures.writes.count c.in_default-write_connections.ensures.writes.unfinished c.write_whole-2.ensures.writes);
     }

@@ -11,7 +11,7 @@ unfolding call_text
 returns-in-Err g c =
     let call : Call = c.args.call.now in
     record {
-      writes = writes_no_more g.K.Sink.holds g.K.Sink.faults c.args.sink.now c.write_start.new.sink c.in-Err.failed (call_code call ∷ field_text key_text (key_of call)) (fields_text (call_flags call) (call_number call) (call_value call))
+      writes = writes_no_more g.K.Sink.holds g.K.Sink.faults g.K.Sink.finishes c.args.sink.now c.write_start.new.sink c.in-Err.failed (call_code call ∷ field_text key_text (key_of call)) (fields_text (call_flags call) (call_number call) (call_value call))
           (rw (← c.code.ensures.value, ← c.key.ensures.value) c.in-Err.ensures.writes);
     }
 
@@ -20,7 +20,7 @@ unfolding call_text
 returns g c =
     let call : Call = c.args.call.now in
     record {
-      writes = writes_on g.K.Sink.holds g.K.Sink.faults c.args.sink.now c.write_start.new.sink c.write_fields.new.sink c.write_fields.result (call_code call ∷ field_text key_text (key_of call)) (fields_text (call_flags call) (call_number call) (call_value call))
-          (rw (← c.code.ensures.value, ← c.key.ensures.value) c.in_default.ensures.writes.whole) c.in_default.ensures.writes.count
+      writes = writes_on g.K.Sink.holds g.K.Sink.faults g.K.Sink.finishes c.args.sink.now c.write_start.new.sink c.write_fields.new.sink c.write_fields.result (call_code call ∷ field_text key_text (key_of call)) (fields_text (call_flags call) (call_number call) (call_value call))
+          (rw (← c.code.ensures.value, ← c.key.ensures.value) c.in_default.ensures.writes.whole) c.in_default.ensures.writes.count c.in_default.ensures.writes.unfinished
           (rw (← c.flags.ensures.value, ← c.number.ensures.value, ← c.value.ensures.value) c.write_fields.ensures.writes);
     }

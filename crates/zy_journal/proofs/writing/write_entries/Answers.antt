@@ -1,4 +1,4 @@
-use Rattle.std.proofs.Common.{arith, subst}
+use Rattle.std.proofs.Common.{◌∙◌, arith, subst}
 use Rattle.std.specs.List.{AllByRecursion}
 use Rattle.zy_journal.specs.Journal.{IsEntry, entry_text}
 use Rattle.zy_journal.proofs.WriteLemmas.{one_written, next_failed}
@@ -6,8 +6,8 @@ use Rattle.zy_journal.proofs.writing.write_entries.Goals as goal
 
 pub returns-in-Err : goal.returns-in-Err
 returns-in-Err g c = record {
-  writes = next_failed g.K.Sink.holds g.K.Sink.faults c.args.sink.now c.loop-entry.sink c.write_entry.new.sink entry_text c.args.entries c.loop-entry.left c.next.new.self c.in-Some.entry.now
-      c.in-Err.failed c.loop-entry.invariant.written c.in-Some.ensures.some c.loop-entry.invariant.count c.in-Err.ensures.writes;
+  writes = next_failed g.K.Sink.holds g.K.Sink.faults g.K.Sink.finishes c.args.sink.now c.loop-entry.sink c.write_entry.new.sink entry_text c.args.entries c.loop-entry.left c.next.new.self c.in-Some.entry.now
+      c.in-Err.failed c.loop-entry.invariant.written c.in-Some.ensures.some c.loop-entry.invariant.count c.loop-entry.invariant.unfinished c.in-Err.ensures.writes;
 }
 
 pub loop-entry-preserved : goal.loop-entry-preserved
@@ -18,5 +18,6 @@ loop-entry-preserved g c =
       written = one_written (g.K.Sink.holds c.args.sink.now) (g.K.Sink.holds c.loop-entry.sink) (g.K.Sink.holds c.write_entry.new.sink) entry_text c.args.entries c.loop-entry.left c.next.new.self c.in-Some.entry.now
           c.loop-entry.invariant.written c.in-Some.ensures.some c.in_default-write_entry.ensures.writes.whole;
       count = omega (arith, before, more);
+      unfinished = c.write_entry.ensures.writes.unfinished ∙ c.loop-entry.invariant.unfinished;
       fits = (subst (AllByRecursion IsEntry) c.in-Some.ensures.some c.loop-entry.invariant.fits).1;
     }

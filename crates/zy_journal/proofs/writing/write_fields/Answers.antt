@@ -11,8 +11,8 @@ returns-in-Err-write_number g c =
     let number : List ℕ = field_text (to_be_bytes w64) c.args.number in
     let value : List ℕ = field_text value_text (option_copied c.args.value) in
     record {
-      writes = writes_on g.K.Sink.holds g.K.Sink.faults c.args.sink.now c.write_flags.new.sink c.write_number.new.sink (Err c.in-Err-write_number.failed) flags (number ++ value) c.in_default.ensures.writes.whole c.in_default.ensures.writes.count
-          (writes_no_more g.K.Sink.holds g.K.Sink.faults c.write_flags.new.sink c.write_number.new.sink c.in-Err-write_number.failed number value c.in-Err-write_number.ensures.writes);
+      writes = writes_on g.K.Sink.holds g.K.Sink.faults g.K.Sink.finishes c.args.sink.now c.write_flags.new.sink c.write_number.new.sink (Err c.in-Err-write_number.failed) flags (number ++ value) c.in_default.ensures.writes.whole c.in_default.ensures.writes.count c.in_default.ensures.writes.unfinished
+          (writes_no_more g.K.Sink.holds g.K.Sink.faults g.K.Sink.finishes c.write_flags.new.sink c.write_number.new.sink c.in-Err-write_number.failed number value c.in-Err-write_number.ensures.writes);
     }
 
 pub returns : goal.returns
@@ -21,6 +21,6 @@ returns g c =
     let number : List ℕ = field_text (to_be_bytes w64) c.args.number in
     let value : List ℕ = field_text value_text (option_copied c.args.value) in
     record {
-      writes = writes_on g.K.Sink.holds g.K.Sink.faults c.args.sink.now c.write_flags.new.sink c.write_value.new.sink c.write_value.result flags (number ++ value) c.in_default.ensures.writes.whole c.in_default.ensures.writes.count
-          (writes_on g.K.Sink.holds g.K.Sink.faults c.write_flags.new.sink c.write_number.new.sink c.write_value.new.sink c.write_value.result number value c.in_default-write_number.ensures.writes.whole c.in_default-write_number.ensures.writes.count c.write_value.ensures.writes);
+      writes = writes_on g.K.Sink.holds g.K.Sink.faults g.K.Sink.finishes c.args.sink.now c.write_flags.new.sink c.write_value.new.sink c.write_value.result flags (number ++ value) c.in_default.ensures.writes.whole c.in_default.ensures.writes.count c.in_default.ensures.writes.unfinished
+          (writes_on g.K.Sink.holds g.K.Sink.faults g.K.Sink.finishes c.write_flags.new.sink c.write_number.new.sink c.write_value.new.sink c.write_value.result number value c.in_default-write_number.ensures.writes.whole c.in_default-write_number.ensures.writes.count c.in_default-write_number.ensures.writes.unfinished c.write_value.ensures.writes);
     }

@@ -9,7 +9,7 @@ unfolding journal_bytes
 returns-in-Err g c =
     let entries : List ℕ = flat_map entry_text c.args.journal.now.entries in
     let holds : List ℕ = flat_map hold_text c.args.journal.now.holds in
-    record { writes = writes_no_more g.K.Sink.holds g.K.Sink.faults c.args.sink.now c.write_whole.new.sink c.in-Err.failed magic (entries ++ (holds ++ 69 ∷ [])) c.in-Err.ensures.writes }
+    record { writes = writes_no_more g.K.Sink.holds g.K.Sink.faults g.K.Sink.finishes c.args.sink.now c.write_whole.new.sink c.in-Err.failed magic (entries ++ (holds ++ 69 ∷ [])) c.in-Err.ensures.writes }
 
 pub returns-in-Err-write_entries : goal.returns-in-Err-write_entries
 unfolding journal_bytes
@@ -17,8 +17,8 @@ returns-in-Err-write_entries g c =
     let entries : List ℕ = flat_map entry_text c.args.journal.now.entries in
     let holds : List ℕ = flat_map hold_text c.args.journal.now.holds in
     record {
-      writes = writes_on g.K.Sink.holds g.K.Sink.faults c.args.sink.now c.write_whole.new.sink c.write_entries.new.sink (Err c.in-Err-write_entries.failed) magic (entries ++ (holds ++ 69 ∷ [])) c.in_default.ensures.writes.whole c.in_default.ensures.writes.count
-          (writes_no_more g.K.Sink.holds g.K.Sink.faults c.write_whole.new.sink c.write_entries.new.sink c.in-Err-write_entries.failed entries (holds ++ 69 ∷ []) (rw (← c.entries.ensures.value) c.in-Err-write_entries.ensures.writes));
+      writes = writes_on g.K.Sink.holds g.K.Sink.faults g.K.Sink.finishes c.args.sink.now c.write_whole.new.sink c.write_entries.new.sink (Err c.in-Err-write_entries.failed) magic (entries ++ (holds ++ 69 ∷ [])) c.in_default.ensures.writes.whole c.in_default.ensures.writes.count c.in_default.ensures.writes.unfinished
+          (writes_no_more g.K.Sink.holds g.K.Sink.faults g.K.Sink.finishes c.write_whole.new.sink c.write_entries.new.sink c.in-Err-write_entries.failed entries (holds ++ 69 ∷ []) (rw (← c.entries.ensures.value) c.in-Err-write_entries.ensures.writes));
     }
 
 pub returns-in-Err-write_holds : goal.returns-in-Err-write_holds
@@ -27,9 +27,9 @@ returns-in-Err-write_holds g c =
     let entries : List ℕ = flat_map entry_text c.args.journal.now.entries in
     let holds : List ℕ = flat_map hold_text c.args.journal.now.holds in
     record {
-      writes = writes_on g.K.Sink.holds g.K.Sink.faults c.args.sink.now c.write_whole.new.sink c.write_holds.new.sink (Err c.in-Err-write_holds.failed) magic (entries ++ (holds ++ 69 ∷ [])) c.in_default.ensures.writes.whole c.in_default.ensures.writes.count
-          (writes_on g.K.Sink.holds g.K.Sink.faults c.write_whole.new.sink c.write_entries.new.sink c.write_holds.new.sink (Err c.in-Err-write_holds.failed) entries (holds ++ 69 ∷ []) (rw (← c.entries.ensures.value) c.in_default-write_entries.ensures.writes.whole) c.in_default-write_entries.ensures.writes.count
-          (writes_no_more g.K.Sink.holds g.K.Sink.faults c.write_entries.new.sink c.write_holds.new.sink c.in-Err-write_holds.failed holds (69 ∷ []) (rw (← c.holds.ensures.value) c.in-Err-write_holds.ensures.writes)));
+      writes = writes_on g.K.Sink.holds g.K.Sink.faults g.K.Sink.finishes c.args.sink.now c.write_whole.new.sink c.write_holds.new.sink (Err c.in-Err-write_holds.failed) magic (entries ++ (holds ++ 69 ∷ [])) c.in_default.ensures.writes.whole c.in_default.ensures.writes.count c.in_default.ensures.writes.unfinished
+          (writes_on g.K.Sink.holds g.K.Sink.faults g.K.Sink.finishes c.write_whole.new.sink c.write_entries.new.sink c.write_holds.new.sink (Err c.in-Err-write_holds.failed) entries (holds ++ 69 ∷ []) (rw (← c.entries.ensures.value) c.in_default-write_entries.ensures.writes.whole) c.in_default-write_entries.ensures.writes.count c.in_default-write_entries.ensures.writes.unfinished
+          (writes_no_more g.K.Sink.holds g.K.Sink.faults g.K.Sink.finishes c.write_entries.new.sink c.write_holds.new.sink c.in-Err-write_holds.failed holds (69 ∷ []) (rw (← c.holds.ensures.value) c.in-Err-write_holds.ensures.writes)));
     }
 
 pub returns : goal.returns
@@ -38,7 +38,7 @@ returns g c =
     let entries : List ℕ = flat_map entry_text c.args.journal.now.entries in
     let holds : List ℕ = flat_map hold_text c.args.journal.now.holds in
     record {
-      writes = writes_on g.K.Sink.holds g.K.Sink.faults c.args.sink.now c.write_whole.new.sink c.write_whole-2.new.sink c.write_whole-2.result magic (entries ++ (holds ++ 69 ∷ [])) c.in_default.ensures.writes.whole c.in_default.ensures.writes.count
-          (writes_on g.K.Sink.holds g.K.Sink.faults c.write_whole.new.sink c.write_entries.new.sink c.write_whole-2.new.sink c.write_whole-2.result entries (holds ++ 69 ∷ []) (rw (← c.entries.ensures.value) c.in_default-write_entries.ensures.writes.whole) c.in_default-write_entries.ensures.writes.count
-          (writes_on g.K.Sink.holds g.K.Sink.faults c.write_entries.new.sink c.write_holds.new.sink c.write_whole-2.new.sink c.write_whole-2.result holds (69 ∷ []) (rw (← c.holds.ensures.value) c.in_default-write_holds.ensures.writes.whole) c.in_default-write_holds.ensures.writes.count c.write_whole-2.ensures.writes));
+      writes = writes_on g.K.Sink.holds g.K.Sink.faults g.K.Sink.finishes c.args.sink.now c.write_whole.new.sink c.write_whole-2.new.sink c.write_whole-2.result magic (entries ++ (holds ++ 69 ∷ [])) c.in_default.ensures.writes.whole c.in_default.ensures.writes.count c.in_default.ensures.writes.unfinished
+          (writes_on g.K.Sink.holds g.K.Sink.faults g.K.Sink.finishes c.write_whole.new.sink c.write_entries.new.sink c.write_whole-2.new.sink c.write_whole-2.result entries (holds ++ 69 ∷ []) (rw (← c.entries.ensures.value) c.in_default-write_entries.ensures.writes.whole) c.in_default-write_entries.ensures.writes.count c.in_default-write_entries.ensures.writes.unfinished
+          (writes_on g.K.Sink.holds g.K.Sink.faults g.K.Sink.finishes c.write_entries.new.sink c.write_holds.new.sink c.write_whole-2.new.sink c.write_whole-2.result holds (69 ∷ []) (rw (← c.holds.ensures.value) c.in_default-write_holds.ensures.writes.whole) c.in_default-write_holds.ensures.writes.count c.in_default-write_holds.ensures.writes.unfinished c.write_whole-2.ensures.writes));
     }

@@ -1,4 +1,4 @@
-use Rattle.std.proofs.Common.{◌<◌, length, subst, arith}
+use Rattle.std.proofs.Common.{◌∙◌, ◌<◌, length, subst, arith}
 use Rattle.std.specs.Prelude.{Option, Err}
 use Rattle.zy_base.specs.Outside.{Grew, Writes}
 use Rattle.zy_pcap.specs.declared.kept_flow.KeptFlow.{KeptFlow}
@@ -10,8 +10,8 @@ pub returns-in-Err : goal.returns-in-Err
 returns-in-Err g c =
     let within : c.loop-conn.conn < length c.args.flows.now = omega (arith, c.loop-conn-test.true) in
     record {
-      writes = numbered_failed g.K.Sink.holds g.K.Sink.faults c.args.sink.now c.loop-conn.sink c.write_connection.new.sink c.in-Err.failed kept_connection c.args.flows.now c.loop-conn.conn c.index-flows-conn.result within c.loop-conn.invariant.written c.loop-conn.invariant.count
-          (subst (λ (o : Option KeptFlow). Writes g.K.Sink.holds g.K.Sink.faults c.loop-conn.sink c.write_connection.new.sink (Err c.in-Err.failed) (kept_connection c.loop-conn.conn o)) c.index-flows-conn.is c.in-Err.ensures.writes);
+      writes = numbered_failed g.K.Sink.holds g.K.Sink.faults g.K.Sink.finishes c.args.sink.now c.loop-conn.sink c.write_connection.new.sink c.in-Err.failed kept_connection c.args.flows.now c.loop-conn.conn c.index-flows-conn.result within c.loop-conn.invariant.written c.loop-conn.invariant.count c.loop-conn.invariant.unfinished
+          (subst (λ (o : Option KeptFlow). Writes g.K.Sink.holds g.K.Sink.faults g.K.Sink.finishes c.loop-conn.sink c.write_connection.new.sink (Err c.in-Err.failed) (kept_connection c.loop-conn.conn o)) c.index-flows-conn.is c.in-Err.ensures.writes);
     }
 
 pub loop-conn-preserved : goal.loop-conn-preserved
@@ -21,4 +21,5 @@ loop-conn-preserved g c =
       written = numbered_on (g.K.Sink.holds c.args.sink.now) (g.K.Sink.holds c.loop-conn.sink) (g.K.Sink.holds c.write_connection.new.sink) kept_connection c.args.flows.now c.loop-conn.conn c.index-flows-conn.result within c.loop-conn.invariant.written
           (subst (λ (o : Option KeptFlow). Grew (g.K.Sink.holds c.loop-conn.sink) (g.K.Sink.holds c.write_connection.new.sink) (kept_connection c.loop-conn.conn o)) c.index-flows-conn.is c.in_default.ensures.writes.whole);
       count = omega (arith, c.loop-conn.invariant.count, c.in_default.ensures.writes.count);
+      unfinished = c.in_default.ensures.writes.unfinished ∙ c.loop-conn.invariant.unfinished;
     }

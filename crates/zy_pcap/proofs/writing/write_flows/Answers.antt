@@ -13,8 +13,8 @@ returns-in-Err g c =
     let rest : List ℕ = numbered_from kept_connection 0 c.kept-all.result.now ++ 69 ∷ [] in
     let whole : start_text c.count.result ++ rest ≡ capture_of c.args.flows.now = capture_written c.kept-all.result.now c.args.flows.now c.count.result c.kept-all.ensures.value c.count.ensures.value in
     record {
-      writes = subst (Writes g.K.Sink.holds g.K.Sink.faults c.args.sink.now c.write_start.new.sink (Err c.in-Err.failed)) whole
-          (writes_no_more g.K.Sink.holds g.K.Sink.faults c.args.sink.now c.write_start.new.sink c.in-Err.failed (start_text c.count.result) rest c.in-Err.ensures.writes);
+      writes = subst (Writes g.K.Sink.holds g.K.Sink.faults g.K.Sink.finishes c.args.sink.now c.write_start.new.sink (Err c.in-Err.failed)) whole
+          (writes_no_more g.K.Sink.holds g.K.Sink.faults g.K.Sink.finishes c.args.sink.now c.write_start.new.sink c.in-Err.failed (start_text c.count.result) rest c.in-Err.ensures.writes);
     }
 
 pub returns-in-Err-write_connections : goal.returns-in-Err-write_connections
@@ -22,9 +22,9 @@ returns-in-Err-write_connections g c =
     let body : List ℕ = numbered_from kept_connection 0 c.kept-all.result.now in
     let whole : start_text c.count.result ++ (body ++ 69 ∷ []) ≡ capture_of c.args.flows.now = capture_written c.kept-all.result.now c.args.flows.now c.count.result c.kept-all.ensures.value c.count.ensures.value in
     record {
-      writes = subst (Writes g.K.Sink.holds g.K.Sink.faults c.args.sink.now c.write_connections.new.sink (Err c.in-Err-write_connections.failed)) whole
-          (writes_on g.K.Sink.holds g.K.Sink.faults c.args.sink.now c.write_start.new.sink c.write_connections.new.sink (Err c.in-Err-write_connections.failed) (start_text c.count.result) (body ++ 69 ∷ []) c.in_default.ensures.writes.whole c.in_default.ensures.writes.count
-          (writes_no_more g.K.Sink.holds g.K.Sink.faults c.write_start.new.sink c.write_connections.new.sink c.in-Err-write_connections.failed body (69 ∷ []) c.in-Err-write_connections.ensures.writes));
+      writes = subst (Writes g.K.Sink.holds g.K.Sink.faults g.K.Sink.finishes c.args.sink.now c.write_connections.new.sink (Err c.in-Err-write_connections.failed)) whole
+          (writes_on g.K.Sink.holds g.K.Sink.faults g.K.Sink.finishes c.args.sink.now c.write_start.new.sink c.write_connections.new.sink (Err c.in-Err-write_connections.failed) (start_text c.count.result) (body ++ 69 ∷ []) c.in_default.ensures.writes.whole c.in_default.ensures.writes.count c.in_default.ensures.writes.unfinished
+          (writes_no_more g.K.Sink.holds g.K.Sink.faults g.K.Sink.finishes c.write_start.new.sink c.write_connections.new.sink c.in-Err-write_connections.failed body (69 ∷ []) c.in-Err-write_connections.ensures.writes));
     }
 
 pub returns : goal.returns
@@ -32,7 +32,7 @@ returns g c =
     let body : List ℕ = numbered_from kept_connection 0 c.kept-all.result.now in
     let whole : start_text c.count.result ++ (body ++ 69 ∷ []) ≡ capture_of c.args.flows.now = capture_written c.kept-all.result.now c.args.flows.now c.count.result c.kept-all.ensures.value c.count.ensures.value in
     record {
-      writes = subst (Writes g.K.Sink.holds g.K.Sink.faults c.args.sink.now c.write_whole.new.sink c.write_whole.result) whole
-          (writes_on g.K.Sink.holds g.K.Sink.faults c.args.sink.now c.write_start.new.sink c.write_whole.new.sink c.write_whole.result (start_text c.count.result) (body ++ 69 ∷ []) c.in_default.ensures.writes.whole c.in_default.ensures.writes.count
-          (writes_on g.K.Sink.holds g.K.Sink.faults c.write_start.new.sink c.write_connections.new.sink c.write_whole.new.sink c.write_whole.result body (69 ∷ []) c.in_default-write_connections.ensures.writes.whole c.in_default-write_connections.ensures.writes.count c.write_whole.ensures.writes));
+      writes = subst (Writes g.K.Sink.holds g.K.Sink.faults g.K.Sink.finishes c.args.sink.now c.write_whole.new.sink c.write_whole.result) whole
+          (writes_on g.K.Sink.holds g.K.Sink.faults g.K.Sink.finishes c.args.sink.now c.write_start.new.sink c.write_whole.new.sink c.write_whole.result (start_text c.count.result) (body ++ 69 ∷ []) c.in_default.ensures.writes.whole c.in_default.ensures.writes.count c.in_default.ensures.writes.unfinished
+          (writes_on g.K.Sink.holds g.K.Sink.faults g.K.Sink.finishes c.write_start.new.sink c.write_connections.new.sink c.write_whole.new.sink c.write_whole.result body (69 ∷ []) c.in_default-write_connections.ensures.writes.whole c.in_default-write_connections.ensures.writes.count c.in_default-write_connections.ensures.writes.unfinished c.write_whole.ensures.writes));
     }

@@ -17,9 +17,9 @@ returns-in-Err g c =
     let more = run_more f c.args.at done run c.part-part.result.now all (omega (arith, c.min-run.ensures)) c.part-part.ensures.there in
     let rest : List ℕ = longest_from f (c.args.at + (done + run)) (c.args.size - (done + run)) in
     record {
-      writes = subst (Writes g.K.Sink.holds g.K.Sink.faults c.args.sink.now c.write_whole.new.sink (Err c.in-Err.failed)) (ap (λ (l : List ℕ). l ++ rest) (sym more.0) ∙ sym (part_of f c.args.at c.args.size (done + run) within more.1))
-          (writes_no_more g.K.Sink.holds g.K.Sink.faults c.args.sink.now c.write_whole.new.sink c.in-Err.failed (longest_from f c.args.at done ++ take run c.part-part.result.now) rest
-          (writes_on g.K.Sink.holds g.K.Sink.faults c.args.sink.now c.loop-done.sink c.write_whole.new.sink (Err c.in-Err.failed) (longest_from f c.args.at done) (take run c.part-part.result.now) c.loop-done.invariant.written c.loop-done.invariant.count c.in-Err.ensures.writes));
+      writes = subst (Writes g.K.Sink.holds g.K.Sink.faults g.K.Sink.finishes c.args.sink.now c.write_whole.new.sink (Err c.in-Err.failed)) (ap (λ (l : List ℕ). l ++ rest) (sym more.0) ∙ sym (part_of f c.args.at c.args.size (done + run) within more.1))
+          (writes_no_more g.K.Sink.holds g.K.Sink.faults g.K.Sink.finishes c.args.sink.now c.write_whole.new.sink c.in-Err.failed (longest_from f c.args.at done ++ take run c.part-part.result.now) rest
+          (writes_on g.K.Sink.holds g.K.Sink.faults g.K.Sink.finishes c.args.sink.now c.loop-done.sink c.write_whole.new.sink (Err c.in-Err.failed) (longest_from f c.args.at done) (take run c.part-part.result.now) c.loop-done.invariant.written c.loop-done.invariant.count c.loop-done.invariant.unfinished c.in-Err.ensures.writes));
     }
 
 pub loop-done-smaller : goal.loop-done-smaller
@@ -39,4 +39,5 @@ loop-done-preserved g c =
       written = subst (Grew (g.K.Sink.holds c.args.sink.now) (g.K.Sink.holds c.write_whole.new.sink)) (sym more.0)
           (grew_on (g.K.Sink.holds c.args.sink.now) (g.K.Sink.holds c.loop-done.sink) (g.K.Sink.holds c.write_whole.new.sink) (longest_from f c.args.at done) (take run c.part-part.result.now) c.loop-done.invariant.written c.in_default.ensures.writes.whole);
       count = omega (arith, c.loop-done.invariant.count, c.in_default.ensures.writes.count);
+      unfinished = c.in_default.ensures.writes.unfinished ∙ c.loop-done.invariant.unfinished;
     }

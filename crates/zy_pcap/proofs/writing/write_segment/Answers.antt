@@ -13,8 +13,8 @@ returns-in-Err g c =
     let run : List ℕ = longest_from (byte_held c.args.stream.now) c.args.at c.args.size in
     let whole : head_text c.args.conn c.args.size ++ run ≡ segment_text c.args.conn run = ap (λ (n : ℕ). head_text c.args.conn n ++ run) (sym c.requires.there) ∙ segment_is c.args.conn run in
     record {
-      writes = subst (Writes g.K.Sink.holds g.K.Sink.faults c.args.sink.now c.write_head.new.sink (Err c.in-Err.failed)) whole
-          (writes_no_more g.K.Sink.holds g.K.Sink.faults c.args.sink.now c.write_head.new.sink c.in-Err.failed (head_text c.args.conn c.args.size) run c.in-Err.ensures.writes);
+      writes = subst (Writes g.K.Sink.holds g.K.Sink.faults g.K.Sink.finishes c.args.sink.now c.write_head.new.sink (Err c.in-Err.failed)) whole
+          (writes_no_more g.K.Sink.holds g.K.Sink.faults g.K.Sink.finishes c.args.sink.now c.write_head.new.sink c.in-Err.failed (head_text c.args.conn c.args.size) run c.in-Err.ensures.writes);
     }
 
 pub returns : goal.returns
@@ -22,6 +22,6 @@ returns g c =
     let run : List ℕ = longest_from (byte_held c.args.stream.now) c.args.at c.args.size in
     let whole : head_text c.args.conn c.args.size ++ run ≡ segment_text c.args.conn run = ap (λ (n : ℕ). head_text c.args.conn n ++ run) (sym c.requires.there) ∙ segment_is c.args.conn run in
     record {
-      writes = subst (Writes g.K.Sink.holds g.K.Sink.faults c.args.sink.now c.write_run.new.sink c.write_run.result) whole
-          (writes_on g.K.Sink.holds g.K.Sink.faults c.args.sink.now c.write_head.new.sink c.write_run.new.sink c.write_run.result (head_text c.args.conn c.args.size) run c.in_default.ensures.writes.whole c.in_default.ensures.writes.count c.write_run.ensures.writes);
+      writes = subst (Writes g.K.Sink.holds g.K.Sink.faults g.K.Sink.finishes c.args.sink.now c.write_run.new.sink c.write_run.result) whole
+          (writes_on g.K.Sink.holds g.K.Sink.faults g.K.Sink.finishes c.args.sink.now c.write_head.new.sink c.write_run.new.sink c.write_run.result (head_text c.args.conn c.args.size) run c.in_default.ensures.writes.whole c.in_default.ensures.writes.count c.in_default.ensures.writes.unfinished c.write_run.ensures.writes);
     }

@@ -12,21 +12,21 @@ pub returns-then-session-eq0 : goal.returns-then-session-eq0
 returns-then-session-eq0 g c =
     let stream : List ℕ = longest (byte_held c.args.stream.now) in
     record {
-      writes = subst (Writes g.K.Sink.holds g.K.Sink.faults c.args.sink.now c.write_stream.new.sink c.write_stream.result) (sym (first_session c.args.conn c.args.session stream (omega arith))) c.write_stream.ensures.writes;
+      writes = subst (Writes g.K.Sink.holds g.K.Sink.faults g.K.Sink.finishes c.args.sink.now c.write_stream.new.sink c.write_stream.result) (sym (first_session c.args.conn c.args.session stream (omega arith))) c.write_stream.ensures.writes;
     }
 
 pub returns-in-Err : goal.returns-in-Err
 returns-in-Err g c =
     let stream : List ℕ = longest (byte_held c.args.stream.now) in
     record {
-      writes = subst (Writes g.K.Sink.holds g.K.Sink.faults c.args.sink.now c.write_close.new.sink (Err c.in-Err.failed)) (sym (later_session c.args.conn c.args.session stream (omega arith)))
-          (writes_no_more g.K.Sink.holds g.K.Sink.faults c.args.sink.now c.write_close.new.sink c.in-Err.failed (close_text c.args.conn) (stream_text c.args.conn stream) c.in-Err.ensures.writes);
+      writes = subst (Writes g.K.Sink.holds g.K.Sink.faults g.K.Sink.finishes c.args.sink.now c.write_close.new.sink (Err c.in-Err.failed)) (sym (later_session c.args.conn c.args.session stream (omega arith)))
+          (writes_no_more g.K.Sink.holds g.K.Sink.faults g.K.Sink.finishes c.args.sink.now c.write_close.new.sink c.in-Err.failed (close_text c.args.conn) (stream_text c.args.conn stream) c.in-Err.ensures.writes);
     }
 
 pub returns : goal.returns
 returns g c =
     let stream : List ℕ = longest (byte_held c.args.stream.now) in
     record {
-      writes = subst (Writes g.K.Sink.holds g.K.Sink.faults c.args.sink.now c.write_stream-2.new.sink c.write_stream-2.result) (sym (later_session c.args.conn c.args.session stream (omega arith)))
-          (writes_on g.K.Sink.holds g.K.Sink.faults c.args.sink.now c.write_close.new.sink c.write_stream-2.new.sink c.write_stream-2.result (close_text c.args.conn) (stream_text c.args.conn stream) c.in_default.ensures.writes.whole c.in_default.ensures.writes.count c.write_stream-2.ensures.writes);
+      writes = subst (Writes g.K.Sink.holds g.K.Sink.faults g.K.Sink.finishes c.args.sink.now c.write_stream-2.new.sink c.write_stream-2.result) (sym (later_session c.args.conn c.args.session stream (omega arith)))
+          (writes_on g.K.Sink.holds g.K.Sink.faults g.K.Sink.finishes c.args.sink.now c.write_close.new.sink c.write_stream-2.new.sink c.write_stream-2.result (close_text c.args.conn) (stream_text c.args.conn stream) c.in_default.ensures.writes.whole c.in_default.ensures.writes.count c.in_default.ensures.writes.unfinished c.write_stream-2.ensures.writes);
     }

@@ -10,5 +10,5 @@ unfolding start_text
 returns g c =
     let is : c.to_be_bytes-count.result ≡ to_be_bytes w32 c.args.count = c.to_be_bytes-count.ensures in
     record {
-      writes = subst (λ (l : List ℕ). Writes g.K.Sink.holds g.K.Sink.faults c.args.sink.now c.write_pieces.new.sink c.write_pieces.result (90 ∷ 89 ∷ 71 ∷ 67 ∷ 65 ∷ 80 ∷ 50 ∷ 10 ∷ l)) (append-nil c.to_be_bytes-count.result ∙ is) c.write_pieces.ensures.writes;
+      writes = subst (λ (l : List ℕ). Writes g.K.Sink.holds g.K.Sink.faults g.K.Sink.finishes c.args.sink.now c.write_pieces.new.sink c.write_pieces.result (90 ∷ 89 ∷ 71 ∷ 67 ∷ 65 ∷ 80 ∷ 50 ∷ 10 ∷ l)) (append-nil c.to_be_bytes-count.result ∙ is) c.write_pieces.ensures.writes;
     }

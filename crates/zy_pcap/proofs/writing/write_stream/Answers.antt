@@ -17,6 +17,7 @@ loop-at-init g c = record {
   written = grew_nothing (g.K.Sink.holds c.args.sink.now);
   left = stream_whole (byte_held c.args.stream.now) c.args.conn;
   count = omega arith;
+  unfinished = refl;
 }
 
 pub returns-then-size-eq0 : goal.returns-then-size-eq0
@@ -29,6 +30,7 @@ returns-then-size-eq0 g c =
         whole = subst (Grew (g.K.Sink.holds c.args.sink.now) (g.K.Sink.holds c.loop-at.sink)) whole c.loop-at.invariant.written;
         part = tt;
         count = c.loop-at.invariant.count;
+        unfinished = c.loop-at.invariant.unfinished;
         cause = tt;
       };
     }
@@ -46,9 +48,9 @@ returns-in-Err g c =
     let steps = stream_steps f c.args.conn c.loop-at.at c.min.result c.run_size-size.result c.loop-at.invariant.within c.min.ensures c.run_size-size.ensures.value (omega arith) in
     let whole : text ++ (segment ++ rest) ≡ stream_text c.args.conn (longest f) = ap (λ (l : List ℕ). text ++ l) (sym steps) ∙ c.loop-at.invariant.left in
     record {
-      writes = subst (Writes g.K.Sink.holds g.K.Sink.faults c.args.sink.now c.write_segment.new.sink (Err c.in-Err.failed)) whole
-          (writes_on g.K.Sink.holds g.K.Sink.faults c.args.sink.now c.loop-at.sink c.write_segment.new.sink (Err c.in-Err.failed) text (segment ++ rest) c.loop-at.invariant.written c.loop-at.invariant.count
-          (writes_no_more g.K.Sink.holds g.K.Sink.faults c.loop-at.sink c.write_segment.new.sink c.in-Err.failed segment rest c.in-Err.ensures.writes));
+      writes = subst (Writes g.K.Sink.holds g.K.Sink.faults g.K.Sink.finishes c.args.sink.now c.write_segment.new.sink (Err c.in-Err.failed)) whole
+          (writes_on g.K.Sink.holds g.K.Sink.faults g.K.Sink.finishes c.args.sink.now c.loop-at.sink c.write_segment.new.sink (Err c.in-Err.failed) text (segment ++ rest) c.loop-at.invariant.written c.loop-at.invariant.count c.loop-at.invariant.unfinished
+          (writes_no_more g.K.Sink.holds g.K.Sink.faults g.K.Sink.finishes c.loop-at.sink c.write_segment.new.sink c.in-Err.failed segment rest c.in-Err.ensures.writes));
     }
 
 pub loop-at-preserved : goal.loop-at-preserved
@@ -64,6 +66,7 @@ loop-at-preserved g c =
       written = grew_on (g.K.Sink.holds c.args.sink.now) (g.K.Sink.holds c.loop-at.sink) (g.K.Sink.holds c.write_segment.new.sink) text segment c.loop-at.invariant.written c.in_default.ensures.writes.whole;
       left = append_assoc text segment rest ∙ ap (λ (l : List ℕ). text ++ l) (sym steps) ∙ c.loop-at.invariant.left;
       count = omega (arith, c.loop-at.invariant.count, c.in_default.ensures.writes.count);
+      unfinished = c.in_default.ensures.writes.unfinished ∙ c.loop-at.invariant.unfinished;
     }
 
 pub returns : goal.returns
@@ -76,6 +79,7 @@ returns g c =
         whole = subst (Grew (g.K.Sink.holds c.args.sink.now) (g.K.Sink.holds c.loop-at.sink)) whole c.loop-at.invariant.written;
         part = tt;
         count = c.loop-at.invariant.count;
+        unfinished = c.loop-at.invariant.unfinished;
         cause = tt;
       };
     }

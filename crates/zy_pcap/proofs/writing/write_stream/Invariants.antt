@@ -13,6 +13,7 @@ invariant-loop-at g l = record {
   written : Grew (g.K.Sink.holds l.initial.sink) (g.K.Sink.holds l.sink) text;
   left : text ++ stream_text l.fn.conn (longest_from (byte_held l.stream) l.at (2 ^ 31 - l.at)) ≡ stream_text l.fn.conn (longest (byte_held l.stream));
   count : g.K.Sink.faults l.initial.sink ≤ g.K.Sink.faults l.sink;
+  unfinished : g.K.Sink.finishes l.sink ≡ g.K.Sink.finishes l.initial.sink;
 }
 
 abbrev pub decreases-loop-at : goal.decreases-loop-at
