@@ -1,22 +1,24 @@
 #!/usr/bin/env python3
-"""Serves the same traffic on 1, 2 and 4 threads with as many cores, once even and once skewed, and prints what it costs.
+"""Serves the same traffic on 1, 2, 3 and 4 threads with as many cores, in three kinds of capture, and prints what it costs.
 
-The traffic is 1,000,000 commands of 200 connections; a third of them store values of 100 bytes, the others retrieve, each
-connection under 16 keys of its own. In the even capture the connections are at home at all cores, in the skewed one all at
-core 0, so that the other cores have only what they steal. The skewed one is also served by one core on one thread.
-Printed are the median seconds and processor seconds of the runs, how they compare, and which share of the holds was by
-another core than the connection's home.
+The traffic is that of `zygos gen --number 1` with 200 connections and 1,000,000 commands. The capture `even` is the
+generated one, with its own short segments: the connections are at home at all cores. In `skewed` all connections are at
+home at core 0, so that the other cores have only what they steal; it is also served by one core on one thread. In
+`large` the streams of `even` come in turn in segments of 1,400 bytes. Printed are the load of the machine, and for each
+kind and number of threads the medians of wall seconds and of processor seconds of the runs, how these compare with one
+thread, and from the journal of one further run the number of holds, the commands of a hold, how many holds had 1, 2 to 3,
+4 to 7 and so on up to 64 commands, and the share that was by another core than the connection's home.
 
-usage: bench/run scale [--commands N] [--runs N] [--picture] [PROGRAM]
+usage: bench/run scale [--commands N] [--runs N] [--only KIND] [--picture] [PROGRAM]
 
---commands N  so many commands (1000000)
---runs N      so many timed runs of each kind (3)
---picture     writes docs/scale.svg
+--commands N  the number of commands (1000000)
+--runs N      the number of timed runs of each kind (5)
+--only KIND   even, skewed or large alone
+--picture     writes docs/scale.svg, for which all kinds are served
 PROGRAM       a program that is built (otherwise ./zygos, which proves and builds it first where it isn't)
 """
 import argparse
 import os
-import random
 import statistics
 import struct
 import subprocess
@@ -25,33 +27,58 @@ import tempfile
 import time
 
 TOP = os.path.dirname(os.path.dirname(os.path.realpath(__file__)))
-CONNECTIONS, MOST = 200, 4
-THREADS = (1, 2, 4)
-SEGMENT = 1500
+CONNECTIONS, MOST, NUMBERS = 200, 4, 4096
+THREADS = (1, 2, 3, 4)
+SEGMENT = 1400
+SIZES = ("1", "2-3", "4-7", "8-15", "16-31", "32-63", "64")
 
 
-def request(draw, number):
-    key = b"k%d:%d" % (number, draw.randrange(16))
-    if draw.randrange(3) == 0:
-        return b"set %s 0 0 100\r\n%s\r\n" % (key, b"v" * 100)
-    return b"get %s\r\n" % key
+def segments(capture):
+    """The connection and the bytes of each segment of a generated capture."""
+    at = 12
+    while capture[at] == 83:  # S
+        conn, length = struct.unpack_from(">II", capture, at + 1)
+        yield conn, capture[at + 9 : at + 9 + length]
+        at += 9 + length
 
 
-def capture(commands, name_of):
-    """The traffic in segments of at most 1,500 bytes, in turn, where connection i has the number that is given for it."""
-    draw = random.Random(7)
-    streams = [b"".join(request(draw, i) for _ in range(commands // CONNECTIONS)) for i in range(CONNECTIONS)]
-    parts = [b"ZYGCAP1\n" + struct.pack(">I", MOST * CONNECTIONS)]
-    for at in range(0, max(map(len, streams)), SEGMENT):
-        for i, stream in enumerate(streams):
-            text = stream[at : at + SEGMENT]
-            if text:
-                parts.append(b"S" + struct.pack(">II", name_of(i), len(text)) + text)
-    return b"".join(parts) + b"E"
+def written(path, records):
+    """Writes a capture of these segments."""
+    with open(path, "wb") as file:
+        file.write(b"ZYGCAP1\n" + struct.pack(">I", NUMBERS))
+        for conn, text in records:
+            file.write(b"S" + struct.pack(">II", conn, len(text)) + text)
+        file.write(b"E")
 
 
-# The home of connection c of 1, 2 or 4 cores is c modulo that number.
-KINDS = {"even": lambda i: MOST * i + i % MOST, "skewed": lambda i: MOST * i}
+def at_core_0(conn):
+    """A number for each connection whose home is core 0 of 1, 2, 3 and 4 cores: the home of connection c of n cores is
+    c modulo 128 modulo n."""
+    return conn // 11 * 128 + conn % 11 * 12
+
+
+def in_turn(records):
+    """The streams of these segments, in segments of 1,400 bytes which come in turn."""
+    streams = {}
+    for conn, text in records:
+        streams.setdefault(conn, bytearray()).extend(text)
+    for at in range(0, max(map(len, streams.values())), SEGMENT):
+        for conn, text in sorted(streams.items()):
+            if at < len(text):
+                yield conn, bytes(text[at : at + SEGMENT])
+
+
+KINDS = {
+    "even": lambda records: records,
+    "skewed": lambda records: ((at_core_0(conn), text) for conn, text in records),
+    "large": in_turn,
+}
+
+
+def generated(program, commands):
+    """A generated capture of this number of commands."""
+    words = ["gen", "--number", "1", "--conns", str(CONNECTIONS), "--commands", str(commands // CONNECTIONS)]
+    return subprocess.run([program, *words], stdin=subprocess.DEVNULL, check=True, capture_output=True).stdout
 
 
 def run(program, words, path, sink):
@@ -65,41 +92,41 @@ def run(program, words, path, sink):
     return time.time() - begin, used.ru_utime + used.ru_stime
 
 
-def stolen(program, words, path, cores):
-    """The share of holds by another core than the home of their connection."""
+def holds(program, words, path, commands):
+    """The connection, the core and the number of commands of each hold of a run. They are the last records of the
+    journal, 13 bytes each, and have all commands together."""
     with tempfile.TemporaryFile() as file:
         run(program, [*words, "--out", "both"], path, file)
         file.seek(0)
         journal = file.read()
-    at, holds, away = 8, 0, 0
-    while journal[at] == 74:  # J
-        at = reply_end(journal, call_end(journal, at + 29))
-    while journal[at] == 72:  # H
-        conn, core, _ = struct.unpack_from(">III", journal, at + 1)
-        holds, away, at = holds + 1, away + (core != conn % cores), at + 13
-    return away / max(1, holds)
+    found, at, left = [], journal.index(b"EZYGREP1\n") - 13, commands
+    while left > 0:
+        tag, conn, core, count = struct.unpack_from(">BIII", journal, at)
+        if tag != 72:  # H
+            sys.exit("bench/run scale: the holds of the journal do not have all commands")
+        found.append((conn, core, count))
+        at, left = at - 13, left - count
+    return found
 
 
-def call_end(journal, at):
-    """Where the call at this place ends: here a get, or a set with flags and a value of 100 bytes."""
-    key = at + 2 + journal[at + 1]
-    return key if journal[at] == 1 else key + 8 + 100
-
-
-def reply_end(journal, at):
-    """Where the reply at this place ends: here only a hit has fields, with a value of 100 bytes."""
-    return at + 17 + 100 if journal[at] == 2 else at + 1
-
-
-def measured(program, path, threads, cores, runs):
+def measured(program, path, threads, cores, runs, commands):
+    """The median seconds and processor seconds of the runs, and what is said of the holds of a further one."""
     words = ["--cores", str(cores), "--threads", str(threads)]
     with open(os.devnull, "wb") as sink:
         times = [run(program, words, path, sink) for _ in range(runs)]
-    return (*(statistics.median(column) for column in zip(*times)), stolen(program, words, path, cores))
+    found = holds(program, words, path, commands)
+    sizes = [0] * len(SIZES)
+    for _, _, count in found:
+        sizes[count.bit_length() - 1] += 1
+    away = sum(core != conn % 128 % cores for conn, core, _ in found) / len(found)
+    said = f"{len(found)} holds of {commands / len(found):.1f} commands, {away:.0%} stolen; " + ", ".join(
+        f"{size}: {count}" for size, count in zip(SIZES, sizes)
+    )
+    return (*(statistics.median(column) for column in zip(*times)), said)
 
 
 def picture(found, commands):
-    """A chart of commands a second by threads, for both kinds."""
+    """A chart of commands a second by threads, for all kinds."""
     rates = {kind: [commands / found[kind, threads][0] for threads in THREADS] for kind in KINDS}
     top = max(rates["even"][0] * max(THREADS), *(rate for row in rates.values() for rate in row))
     x = {threads: 70 + 110 * (threads - 1) for threads in THREADS}
@@ -119,8 +146,8 @@ def picture(found, commands):
     first = rates["even"][0]
     ideal = " ".join(f"{x[threads]},{y(first * threads):.0f}" for threads in THREADS)
     lines.append(f'<polyline points="{ideal}" fill="none" stroke="gray" stroke-dasharray="4 4"/>')
-    names = [(y(first * max(THREADS)), "so many times one thread", "gray")]
-    for kind, colour in (("even", "#1f5fa8"), ("skewed", "#c0501f")):
+    names = [(y(first * max(THREADS)), "one thread, multiplied", "gray")]
+    for kind, colour in (("even", "#1f5fa8"), ("skewed", "#c0501f"), ("large", "#3a8a3a")):
         points = [(x[threads], y(rate)) for threads, rate in zip(THREADS, rates[kind])]
         drawn = " ".join(f"{at:.0f},{up:.0f}" for at, up in points)
         lines.append(f'<polyline points="{drawn}" fill="none" stroke="{colour}" stroke-width="2"/>')
@@ -134,38 +161,41 @@ def picture(found, commands):
     return "\n".join(lines)
 
 
-def main():
+def words_given():
     words = argparse.ArgumentParser(description=__doc__.strip(), formatter_class=argparse.RawDescriptionHelpFormatter)
     words.add_argument("--commands", type=int, default=1000000)
-    words.add_argument("--runs", type=int, default=3)
+    words.add_argument("--runs", type=int, default=5)
+    words.add_argument("--only", choices=KINDS)
     words.add_argument("--picture", action="store_true")
     words.add_argument("program", nargs="?", default=os.path.join(TOP, "zygos"))
-    given = words.parse_args()
+    return words.parse_args()
+
+
+def main():
+    given = words_given()
+    kinds = [given.only] if given.only and not given.picture else list(KINDS)
     commands = max(1, given.commands // CONNECTIONS) * CONNECTIONS
-    subprocess.run([given.program], stdout=subprocess.DEVNULL, stderr=subprocess.DEVNULL, check=False)
-    found = {}
-    print(f"{commands} commands, median of {given.runs} runs, {os.cpu_count()} processors")
+    capture, found = generated(given.program, commands), {}
+    load = ", ".join(f"{part:.1f}" for part in os.getloadavg())
+    print(f"{commands} commands, median of {given.runs} runs, {os.cpu_count()} processors, load before: {load}", flush=True)
     with tempfile.TemporaryDirectory() as room:
-        for kind, name_of in KINDS.items():
+        for kind in kinds:
             path = os.path.join(room, kind)
-            with open(path, "wb") as file:
-                file.write(capture(commands, name_of))
+            written(path, KINDS[kind](segments(capture)))
             for threads in THREADS:
-                found[kind, threads] = measured(given.program, path, threads, threads, given.runs)
-                told(found, kind, threads)
-    wall, used, _ = found["skewed", MOST]
-    alone = found["skewed", 1]
-    print(f"skewed, {MOST} threads against one core on one thread: {alone[0] / wall:.2f} times as fast, "
-          f"{used / alone[1]:.2f} times the processor time; against even: {wall / found['even', MOST][0]:.2f} times the time")
+                found[kind, threads] = measured(given.program, path, threads, threads, given.runs, commands)
+                report(found, kind, threads)
+            os.remove(path)
     if given.picture:
         with open(os.path.join(TOP, "docs", "scale.svg"), "w", encoding="utf-8") as file:
             file.write(picture(found, commands))
 
 
-def told(found, kind, threads):
-    wall, used, away = found[kind, threads]
+def report(found, kind, threads):
+    wall, used, said = found[kind, threads]
+    alone = found[kind, 1]
     print(f"{kind}, {threads} cores on as many threads: {wall:.2f} s, {used:.2f} s of processor time, "
-          f"{found[kind, 1][0] / wall:.2f} times as fast as one, {away:.0%} of the holds stolen", flush=True)
+          f"{alone[0] / wall:.2f} times as fast as one, {used / alone[1]:.2f} times the processor time\n  {said}", flush=True)
 
 
 main()

@@ -165,7 +165,9 @@ def drawn(numbers=range(100)):
         shards = draw.choice((1, 3, 16, 256))
         whole = drawn_capture(draw, shards)
         read = read_capture(Part("capture", whole))
-        words = ["--cores", str(draw.randrange(1, 9)), "--threads", "1", "--order", str(draw.randrange(100))]
+        threads = draw.choice((1, 4))
+        words = ["--cores", str(draw.randrange(threads, 9)), "--threads", str(threads)]
+        words += ["--order", str(draw.randrange(100))] if threads == 1 else []
         made = plain.run_of(read, shards, draw)
         for name, files in ((f"drawn run {number}", run(["run", *words, *of_shards(shards), *BOTH], whole).stdout),
                             (f"drawn run {number} of the plain model", edits.written(made, read.version))):

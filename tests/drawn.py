@@ -1,4 +1,5 @@
-"""Drawn captures: a few connections that send commands of all kinds on the same few keys, and some faulty lines."""
+"""Drawn captures: a few connections that send commands of all kinds, classic and meta, on the same few keys, and some
+faulty lines."""
 from formats import capture, close, segment
 from model import shard_of
 
@@ -7,7 +8,10 @@ KEYS = [b"a", b"b", b"c", b"k" * 250]
 LINES = """
 version; version 1; verbosity 1; verbosity 4294967295 noreply; verbosity 4294967296; verbosity noreply; verbosity
 flush_all; flush_all noreply; flush_all 00 noreply; flush_all 1; flush_all 0 0; flush_all noreply noreply
-stats; GET a; get; gets; quit now; delete; delete noreply; delete a noreply; delete a 1; delete b 00; delete a 0 a
+mn; mn q; mg; mg a v v; mg a vk; mg a O7; mg a q1; mg b q; mg b k q; MG a; mgx a; ma a; md; md a v; md a k k; md b k q
+ms; ms a; ms a x; ms a 4294967296; ms a 000000000000000000001; ms a S1 F5; ms a 1 F; ms a 1 F4294967296; ms a 1 F1 F1
+ms a 1 C; ms a 1 C18446744073709551616; ms a 1 C5 ME; ms a 1 M; ms a 1 Mset; ms a 1 T; ms a 1 T+1; ms a 1 v; ms a 1 q1
+stats; stats; stats items; stats noreply; GET a; get; gets; quit now; delete; delete noreply; delete a noreply; delete a 1; delete b 00; delete a 0 a
 delete b 00 noreply; incr a; incr a z; incr a noreply; incr a z noreply; decr a 1 1; incr a 18446744073709551615
 incr a 18446744073709551616; incr a 00000000000000000001 noreply; incr a 000000000000000000001; decr a -1; get noreply
 set a 0 0; set a 0 0 -1; set a 0 0 1 norepl; set a 4294967296 0 1; set a 0 0 4294967296; set a 0 +1 1; set a 0 - 1
@@ -32,10 +36,26 @@ def storage(draw, shards):
     return b"%s %s %d 0 %d%s%s\r\n%s%s" % (verb, key, draw.randrange(9), len(value), unique, quiet, value, end)
 
 
+def meta(draw, shards):
+    """A line of a meta command, with its block if it stores."""
+    name = draw.choice((b"mg", b"mg", b"ms", b"ms", b"md", b"mn"))
+    key, value = draw.choice(KEYS), b"7" * draw.randrange(3)
+    letters = {b"mg": "vkfcsq", b"ms": "FCMTkq", b"md": "kq", b"mn": ""}[name]
+    tokens = {"F": draw.randrange(9), "M": draw.choice("EAPRSsa"), "T": -1,
+              "C": shards * draw.randrange(1, 4) + shard_of(key, shards)}
+    flags = [f"{letter}{tokens.get(letter, '')}".encode() for letter in letters if draw.randrange(3) == 0]
+    draw.shuffle(flags)
+    end = b"\n\n" if draw.randrange(9) == 0 else b"\r\n"
+    words = {b"mn": [name], b"ms": [name, key, b"%d" % len(value), *flags]}.get(name, [name, key, *flags])
+    return b" ".join(words) + b"\r\n" + (value + end if name == b"ms" else b"")
+
+
 def request(draw, shards):
-    key, quiet, kind = draw.choice(KEYS), draw.choice((b"", b"", b" noreply")), draw.randrange(10)
+    key, quiet, kind = draw.choice(KEYS), draw.choice((b"", b"", b" noreply")), draw.randrange(14)
     if kind < 4:
         return storage(draw, shards)
+    if kind > 9:
+        return meta(draw, shards)
     if kind < 7:
         keys = [draw.choice(KEYS) for _ in range(draw.randrange(1, 4))]
         return b" ".join([draw.choice((b"get", b"gets")), *keys]) + b"\r\n"

@@ -17,7 +17,7 @@ FORMS = {
     "cas": "key flags exptime bytes unique [noreply]",
     "get": "key", "gets": "key", "delete": "key [zero] [noreply]",
     "incr": "key amount [noreply]", "decr": "key amount [noreply]",
-    "version": "", "verbosity": "level [noreply]", "flush_all": "[zero] [noreply]", "quit": "",
+    "version": "", "stats": "", "verbosity": "level [noreply]", "flush_all": "[zero] [noreply]", "quit": "",
 }
 # what the number of a word is below
 BOUNDS = {"flags": 1 << 32, "bytes": 1 << 32, "level": 1 << 32, "unique": 1 << 64, "amount": 1 << 64, "zero": 1}
@@ -33,8 +33,22 @@ TEXTS = {
     "no number": b"CLIENT_ERROR cannot increment or decrement non-numeric value",
 }
 
-# a command; `error` is the text of a faulty one, and `numbers` has those of its words that are numbers
-Command = namedtuple("Command", "verb keys numbers value quiet error", defaults=[(), {}, None, False, None])
+# the lines of `stats`: the name of each number, and its field in a tally
+STATS = [(b"cmd_get", "gets"), (b"cmd_set", "sets"), (b"get_hits", "hits"), (b"get_misses", "misses"), (b"curr_items", "items")]
+
+# how many words must follow a meta command's name, the letters that it may have, and what the tokens of some say
+LEAST = {"mn": 0, "mg": 1, "ms": 2, "md": 1}
+LETTERS = {"mg": "vkfcsq", "ms": "FCMTkq", "md": "kq"}
+TOKENS = {"F": "flags", "C": "unique", "T": "exptime", "M": "mode"}
+MODES = {b"E": "add", b"A": "append", b"P": "prepend", b"R": "replace", b"S": "set"}
+# the codes of replies, and which replies the flag `q` hides
+CODES = {"stored": b"HD", "deleted": b"HD", "hit": b"HD", "not stored": b"NS", "exists": b"EX", "not found": b"NF"}
+HIDDEN = {"mg": ["miss"], "ms": ["stored"], "md": ["deleted", "not found"]}
+
+# a command; `error` is the text of a faulty one, `numbers` has those of its words that are numbers, and a meta command
+# has its letters without a token, and the name of its call
+Command = namedtuple("Command", "verb keys numbers value quiet error letters call",
+                     defaults=[(), {}, None, False, None, "", None])
 Item = namedtuple("Item", "flags value unique")
 
 
@@ -63,10 +77,42 @@ def has_noreply(names, words):
     return can_be and (len(words) == len(names) or "[zero]" in names and len(words) == len(names) - 1)
 
 
+def said_by(letter, token):
+    """What a letter's token says; None where it is a bad one."""
+    if letter in "FCT":
+        return number_of(TOKENS[letter], token)
+    if letter == "M":
+        return token.upper() if token.upper() in MODES else None
+    return None if token else 0
+
+
+def meta_of(verb, words):
+    """The meta command of the words after its name; one that stores has no value yet."""
+    if len(words) < LEAST[verb] or verb == "mn" and words:
+        return faulty(ERROR)
+    if verb == "mn":
+        return Command(verb)
+    key, *flags = words
+    numbers = {"flags": 0, "bytes": number_of("bytes", flags.pop(0))} if verb == "ms" else {}
+    letters = "".join(flag[:1].decode("latin-1") for flag in flags)
+    said = {letter: said_by(letter, flag[1:]) for letter, flag in zip(letters, flags)}
+    is_listed = set(letters) <= set(LETTERS[verb]) and len(said) == len(letters)
+    mode = said.pop("M", b"S")
+    is_read = None not in [mode, *said.values(), *numbers.values()] and ("C" not in said or mode == b"S")
+    if len(key) > MOST_KEY or not is_listed or not is_read:
+        return faulty(BAD_LINE)
+    numbers.update({TOKENS[letter]: number for letter, number in said.items() if letter in TOKENS})
+    call = {"mg": "get", "md": "delete", "ms": "cas" if "C" in said else MODES[mode]}[verb]
+    marks = "".join(letter for letter in letters if letter not in TOKENS)
+    return Command(verb, [key], numbers, letters=marks, call=call)
+
+
 def command_of(line):
     """The command of a line; that of a storage line has no value yet."""
     words = [word for word in line.split(b" ") if word]
     verb = words.pop(0).decode("latin-1") if words else ""
+    if verb in LEAST:
+        return meta_of(verb, words)
     if verb not in FORMS:
         return faulty(ERROR)
     names = names_of(verb, len(words))
@@ -141,15 +187,15 @@ def shard_of(key, shards):
 
 def call_of(command, key):
     """The call of a command on one of its keys."""
-    flags = None if command.verb in ("append", "prepend") else command.numbers.get("flags")
-    name = "get" if command.verb == "gets" else command.verb
+    name = command.call or ("get" if command.verb == "gets" else command.verb)
+    flags = None if name in ("append", "prepend") else command.numbers.get("flags")
     return Call(name, key, flags, command.numbers.get("unique"), command.value, command.numbers.get("amount"))
 
 
 def calls(shards, command):
     """The calls of a command, each after its shard."""
-    if command.verb == "flush_all":
-        return [(shard, Call("flush")) for shard in range(shards)]
+    if command.verb in ("flush_all", "stats"):
+        return [(shard, Call("flush" if command.verb == "flush_all" else "tally")) for shard in range(shards)]
     return [(shard_of(key, shards), call_of(command, key)) for key in command.keys]
 
 
@@ -157,10 +203,10 @@ def calls(shards, command):
 
 
 class Shard:
-    """A shard: its items, and how many it stored."""
+    """A shard: its items, how many it stored, and its calls with their replies."""
 
     def __init__(self, number, shards):
-        self.number, self.shards, self.items, self.stored = number, shards, {}, 0
+        self.number, self.shards, self.items, self.stored, self.made = number, shards, {}, 0, []
 
     def store(self, key, flags, value):
         self.stored += 1
@@ -169,6 +215,12 @@ class Shard:
 
     def reply(self, call):
         """Makes a call, and gives its reply."""
+        reply = tally(self.made) if call.name == "tally" else self.answer(call)
+        self.made.append((call, reply))
+        return reply
+
+    def answer(self, call):
+        """Makes a call other than a tally."""
         item = self.items.get(call.key)
         if call.name == "get":
             return Reply("hit", item.flags, item.unique, item.value) if item else Reply("miss")
@@ -204,6 +256,27 @@ class Shard:
         return Reply("number", number=number)
 
 
+def keys_after(made):
+    """The keys of items after these calls."""
+    keys = set()
+    for call, reply in made:
+        if call.name == "flush":
+            keys = set()
+        elif call.key is not None and reply.name in ("stored", "number"):
+            keys.add(call.key)
+        elif call.key is not None and reply.name == "deleted":
+            keys.discard(call.key)
+    return keys
+
+
+def tally(made):
+    """What is counted of these calls and their replies."""
+    gets = [reply.name for call, reply in made if call.name == "get"]
+    sets = [call for call, _ in made if call.name in STORAGE or call.name == "cas"]
+    return Reply("tally", gets=len(gets), sets=len(sets), hits=gets.count("hit"), misses=gets.count("miss"),
+                 items=len(keys_after(made)))
+
+
 # ---- texts
 
 
@@ -215,6 +288,21 @@ def value_text(verb, key, reply):
     return b"VALUE %s %d %d%s\r\n%s\r\n" % (key, reply.flags, len(reply.value), unique, reply.value)
 
 
+def meta_text(command, reply):
+    """The text that answers a meta command with a key."""
+    if "q" in command.letters and reply.name in HIDDEN[command.verb]:
+        return b""
+    if reply.name in ("miss", "too large"):
+        return (b"EN" if reply.name == "miss" else TOO_LARGE) + b"\r\n"
+    shown, code, value = {"k": command.keys[0]}, CODES[reply.name], b""
+    if reply.name == "hit":
+        shown.update({"f": b"%d" % reply.flags, "c": b"%d" % reply.unique, "s": b"%d" % len(reply.value)})
+        if "v" in command.letters:
+            code, value = b"VA %d" % len(reply.value), reply.value + b"\r\n"
+    marks = [b" %s%s" % (letter.encode(), shown[letter]) for letter in command.letters if letter in shown]
+    return code + b"".join(marks) + b"\r\n" + value
+
+
 def text_of(command, replies):
     """The text that answers a command with these replies."""
     if command.quiet:
@@ -223,9 +311,15 @@ def text_of(command, replies):
         return command.error + b"\r\n"
     if command.verb in ("get", "gets"):
         return b"".join(value_text(command.verb, *one) for one in zip(command.keys, replies)) + b"END\r\n"
+    if command.verb == "stats":
+        return b"".join(b"STAT %s %d\r\n" % (name, sum(getattr(reply, field) for reply in replies)) for name, field in STATS) + b"END\r\n"
     if command.verb == "version":
         return b"VERSION zygos-1.0\r\n"
     if command.verb in ("verbosity", "flush_all"):
         return b"OK\r\n"
+    if command.verb == "mn":
+        return b"MN\r\n"
     [reply] = replies
+    if command.verb in LETTERS:
+        return meta_text(command, reply)
     return (b"%d" % reply.number if reply.name == "number" else TEXTS[reply.name]) + b"\r\n"

@@ -13,7 +13,7 @@ Segment = namedtuple("Segment", "connection text")
 Close = namedtuple("Close", "connection")
 Capture = namedtuple("Capture", "version count records")
 Call = namedtuple("Call", "name key flags unique value number", defaults=[None] * 5)
-Reply = namedtuple("Reply", "name flags unique value number", defaults=[None] * 4)
+Reply = namedtuple("Reply", "name flags unique value number gets sets hits misses items", defaults=[None] * 9)
 Entry = namedtuple("Entry", "stamp shard connection index part call reply")
 Hold = namedtuple("Hold", "connection core count")
 Journal = namedtuple("Journal", "entries holds")
@@ -23,10 +23,10 @@ Replies = namedtuple("Replies", "version outputs")
 # the calls and the replies by their codes, from 1 on, each with its fields in order
 CALLS = [("get", "key"), ("set", "key flags value"), ("add", "key flags value"), ("replace", "key flags value"),
          ("append", "key value"), ("prepend", "key value"), ("cas", "key flags unique value"),
-         ("incr", "key number"), ("decr", "key number"), ("delete", "key"), ("flush", "")]
+         ("incr", "key number"), ("decr", "key number"), ("delete", "key"), ("flush", ""), ("tally", "")]
 REPLIES = [("miss", ""), ("hit", "flags unique value"), ("stored", ""), ("not stored", ""), ("exists", ""),
            ("not found", ""), ("deleted", ""), ("number", "number"), ("no number", ""), ("too large", ""),
-           ("flushed", "")]
+           ("flushed", ""), ("tally", "gets sets hits misses items")]
 
 
 # how the files of each format begin

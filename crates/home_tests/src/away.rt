@@ -1,6 +1,6 @@
 //! What a home receives while another core has a block.
 ghost use Rattle.std.specs.Prelude.{◌≡◌, ◌+◌, ◌<◌, ◌≤◌, ◌^◌, length, false};
-ghost use Rattle.zy_table.specs.Name.{name_of};
+ghost use Rattle.zy_conn.specs.Block.{label_of};
 
 use crate::home_parts::{Setup, first_end, set_up};
 use crate::receiving::{Item, receive, settle};
@@ -11,10 +11,10 @@ use zy_base::Ungated;
 use zy_calls::Output;
 use zy_shuffle::Claim;
 
-// Received first: a command and a part of one, and a command of a connection of no core.
+// Received first: a command and a part of one, and a command of a connection of the other core.
 const BEFORE: [Item; 2] = [
     Item::Text(0, 1, b"set a 0 0 1\r\nx\r\nget"),
-    Item::Text(2, 1, b"get a\r\n"),
+    Item::Text(1, 1, b"get a\r\n"),
 ];
 
 // Received while the block is away: more frames than its ring has room for, the end of the session,
@@ -41,10 +41,11 @@ fn steal_while(rt: &impl Abort, alloc: Global, setup: &mut Setup, items: &[Item]
     requires home { setup.old.home.pass.table ≡ setup.old.ring.id }
     requires few { setup.old.home.pass.count + length items.now < 2 ^ 63 }
     requires live { setup.old.home.refused ≡ false }
-    requires label { setup.old.thief.label ≡ name_of setup.old.store.id }
+    requires label { setup.old.thief.label ≡ label_of setup.old.store.id 2 }
     requires thief { setup.old.thief.table ≡ setup.old.ring.id }
     ensures table { setup.new.home.pass.table ≡ setup.old.home.pass.table }
     ensures label { setup.new.home.pass.label ≡ setup.old.home.pass.label }
+    ensures cores { setup.new.home.cores ≡ setup.old.home.cores }
     ensures count { setup.new.home.pass.count ≤ setup.old.home.pass.count + length items.now }
     ensures live { setup.new.home.refused ≡ false }
     ensures same { (setup.new.ring ≡ setup.old.ring) × (setup.new.store ≡ setup.old.store) }

@@ -1,6 +1,6 @@
 //! A home receives while another thread holds the block.
 ghost use Rattle.std.specs.Prelude.{◌≡◌, ◌≤◌, false};
-ghost use Rattle.zy_table.specs.Name.{name_of};
+ghost use Rattle.zy_conn.specs.Block.{label_of};
 ghost use Rattle.zy_conn.specs.Work.{mark_of};
 
 use crate::home_parts::{Setup, first_end, set_up};
@@ -28,6 +28,7 @@ fn receive_all(rt: &impl Abort, alloc: Global, ring: &Ring<Block>, mut home: Hom
     requires live { home.refused ≡ false }
     ensures table { result.pass.table ≡ home.pass.table }
     ensures label { result.pass.label ≡ home.pass.label }
+    ensures cores { result.cores ≡ home.cores }
     ensures count { result.pass.count ≤ 1000 }
     ensures live { result.refused ≡ false }
 {
@@ -40,7 +41,9 @@ fn receive_all(rt: &impl Abort, alloc: Global, ring: &Ring<Block>, mut home: Hom
 // Holds the block again and again, until half of the commands are finished.
 fn hold_often(rt: &impl Abort, store: &StoreTable, mut block: Block) -> Block
     requires table { block.work.table ≡ store.now.id }
+    requires cores { block.cores ≡ 2 }
     ensures table { result.work.table ≡ block.work.table }
+    ensures cores { result.cores ≡ block.cores }
     ensures mark { mark_of result.work ≡ mark_of block.work }
 {
     for _ in 0..100_000 {
@@ -66,11 +69,14 @@ fn receive_beside<R: Threads + Abort + Sync>(
     requires few { home.pass.count ≤ 10 }
     requires live { home.refused ≡ false }
     requires store { block.work.table ≡ store.now.id }
+    requires cores { block.cores ≡ 2 }
     ensures table { result.0.pass.table ≡ home.pass.table }
     ensures label { result.0.pass.label ≡ home.pass.label }
+    ensures cores { result.0.cores ≡ home.cores }
     ensures count { result.0.pass.count ≤ 1000 }
     ensures live { result.0.refused ≡ false }
     ensures block { result.1.work.table ≡ block.work.table }
+    ensures held { result.1.cores ≡ block.cores }
     ensures mark { mark_of result.1.work ≡ mark_of block.work }
 {
     thread::join(
@@ -81,12 +87,15 @@ fn receive_beside<R: Threads + Abort + Sync>(
             requires live { home.refused ≡ false }
             ensures table { result.pass.table ≡ home.pass.table }
             ensures label { result.pass.label ≡ home.pass.label }
+            ensures cores { result.cores ≡ home.cores }
             ensures count { result.pass.count ≤ 1000 }
             ensures live { result.refused ≡ false }
         { receive_all(rt, alloc, ring, home) },
         move || -> Block
             requires store { block.work.table ≡ store.now.id }
+            requires cores { block.cores ≡ 2 }
             ensures table { result.work.table ≡ block.work.table }
+            ensures cores { result.cores ≡ block.cores }
             ensures mark { mark_of result.work ≡ mark_of block.work }
         { hold_often(rt, store, block) },
     )
@@ -97,13 +106,15 @@ fn steal_beside<R: Threads + Abort + Sync>(rt: &R, alloc: Global, setup: Setup) 
     requires home { setup.home.pass.table ≡ setup.ring.id }
     requires few { setup.home.pass.count ≤ 10 }
     requires live { setup.home.refused ≡ false }
-    requires label { setup.thief.label ≡ name_of setup.store.id }
-    requires own { setup.home.pass.label ≡ name_of setup.store.id }
+    requires label { setup.thief.label ≡ label_of setup.store.id 2 }
+    requires own { setup.home.pass.label ≡ label_of setup.store.id 2 }
+    requires cores { setup.home.cores ≡ 2 }
     requires thief { setup.thief.table ≡ setup.ring.id }
     ensures home { result.home.pass.table ≡ result.ring.id }
     ensures few { result.home.pass.count ≤ 1000 }
     ensures live { result.home.refused ≡ false }
-    ensures label { result.home.pass.label ≡ name_of result.store.id }
+    ensures label { result.home.pass.label ≡ label_of result.store.id 2 }
+    ensures cores { result.home.cores ≡ 2 }
 {
     let Setup {
         store,

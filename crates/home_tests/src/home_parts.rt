@@ -1,12 +1,11 @@
 //! A home of two connections over a store, with a pass of another core on its ring.
 ghost use Rattle.std.specs.Prelude.{◌≡◌, ◌<◌, [], ◌∷◌, ◌++◌, false};
-ghost use Rattle.zy_table.specs.Name.{name_of};
 ghost use Rattle.zy_table.specs.Member.{is_in};
 ghost use Rattle.mc_store.specs.Pass.{passed};
 ghost use Rattle.mc_store.specs.View.{untraced};
 ghost use Rattle.zy_shuffle.specs.Pass.{HasAll, newly_held};
 ghost use Rattle.zy_conn.specs.Work.{worked, idle};
-ghost use Rattle.zy_conn.specs.Block.{blocked};
+ghost use Rattle.zy_conn.specs.Block.{blocked, label_of};
 ghost use Rattle.zy_home.specs.Parts.{AreParts};
 
 use crate::sure::sure;
@@ -28,14 +27,14 @@ pub(crate) struct Setup {
     pub(crate) thief: CorePass<Block>,
 }
 
-// A ring of two places with the store's label.
+// A ring of two places with the label of the store and two cores.
 fn ring_of<L: Label>(
     rt: &impl Abort,
     alloc: Global,
     store: &StoreTable,
 ) -> (Ring<Block>, HomePass<Block>)
-    requires label { L.label ≡ name_of store.now.id }
-    ensures pass { result.1 ≡ newly_held result.0.id (name_of store.now.id) 2 }
+    requires label { L.label ≡ label_of store.now.id 2 }
+    ensures pass { result.1 ≡ newly_held result.0.id (label_of store.now.id 2) 2 }
     ensures count { result.0.id.slots ≡ 2 }
     ensures hand { HasAll 2 result.1.hand }
 {
@@ -56,12 +55,12 @@ fn block_of(
     requires within { conn < 4096 }
     requires fresh { is_in conn root.old.given ≡ false }
     ensures block { result.0 ≡ blocked
-        (worked (passed store.now.id conn [] untraced) result.1.ring [] [] idle 0 0 []) [] }
+        (worked (passed store.now.id conn [] untraced) result.1.ring [] [] idle 0 0 []) 2 [] }
     ensures inlet { result.1.sent ≡ [] }
     ensures root { (root.new.table ≡ store.now.id) × (root.new.given ≡ conn ∷ root.old.given) }
 {
     let pass = sure(rt, store.split(root, conn));
-    sure(rt, Block::new(alloc, conn, pass))
+    sure(rt, Block::new(alloc, conn, 2, pass))
 }
 
 // Appends a block and its inlet.
@@ -74,7 +73,7 @@ fn push_both(rt: &impl Abort, parts: &mut HomeParts, block: Block, inlet: EventI
     sure(rt, parts.inlets.push(inlet));
 }
 
-// The parts of a home of the connections 0 and 1.
+// The parts of a home of the connections 0 and 2.
 fn parts_of(
     rt: &impl Abort,
     alloc: Global,
@@ -83,13 +82,13 @@ fn parts_of(
     pass: HomePass<Block>,
 ) -> HomeParts
     requires table { (root.old.table ≡ store.now.id) × (root.old.given ≡ []) }
-    requires label { pass.label ≡ name_of store.now.id }
+    requires label { pass.label ≡ label_of store.now.id 2 }
     requires places { (pass.table.slots ≡ 2) × HasAll 2 pass.hand }
-    ensures parts { AreParts 0 1 2 result }
+    ensures parts { AreParts 0 2 3 result }
     ensures pass { result.pass ≡ pass }
 {
     let (first, inlet) = block_of(rt, alloc, store, root, 0);
-    let (second, other) = block_of(rt, alloc, store, root, 1);
+    let (second, other) = block_of(rt, alloc, store, root, 2);
     let mut parts = HomeParts {
         pass,
         blocks: Blocks::new(alloc),
@@ -100,20 +99,21 @@ fn parts_of(
     parts
 }
 
-/// A home of two connections on a store of 16 shards.
+/// The home of the first of two cores, with two connections, on a store of 16 shards.
 pub(crate) fn set_up(rt: &impl Abort, alloc: Global) -> Setup
     ensures home { result.home.pass.table ≡ result.ring.id }
     ensures count { result.home.pass.count ≡ 0 }
     ensures live { result.home.refused ≡ false }
-    ensures label { result.home.pass.label ≡ name_of result.store.id }
-    ensures thief { (result.thief.table ≡ result.ring.id) × (result.thief.label ≡ name_of result.store.id) }
+    ensures cores { result.home.cores ≡ 2 }
+    ensures label { result.home.pass.label ≡ label_of result.store.id 2 }
+    ensures thief { (result.thief.table ≡ result.ring.id) × (result.thief.label ≡ label_of result.store.id 2) }
 {
     let (store, mut root) = sure(rt, StoreTable::new(alloc, 16));
     let (ring, mut pass) = ring_of::<Brand>(rt, alloc, &store);
     let thief = sure(rt, ring.split(&mut pass));
     let parts = parts_of(rt, alloc, &store, &mut root, pass);
     drop(root);
-    let home = sure(rt, Home::new(alloc, 0, 1, 2, parts));
+    let home = sure(rt, Home::new(alloc, 0, 2, 3, parts));
     Setup {
         store,
         ring,

@@ -80,6 +80,7 @@ fn hold_until<R: Wait + Abort>(
     done: &AtomicBool,
 ) -> (Block, Sent)
     requires table { block.work.table ≡ store.now.id }
+    requires cores { block.cores ≡ 2 }
     ensures ring { result.0.work.ring ≡ block.work.ring }
 {
     let mut output = Output::new(alloc, block.conn());
@@ -124,6 +125,7 @@ fn hold_beside<R: Threads + Wait + Abort + Sync>(
 ) -> (EventInlet, (Block, Sent))
     requires other { other.table ≡ store.now.id }
     requires table { block.work.table ≡ store.now.id }
+    requires cores { block.cores ≡ 2 }
     ensures inlet { result.0.ring ≡ inlet.ring }
     ensures block { result.1.0.work.ring ≡ block.work.ring }
 {

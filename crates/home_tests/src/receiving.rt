@@ -1,6 +1,6 @@
 //! What a home receives, and what it does until it is settled.
 ghost use Rattle.std.specs.Prelude.{◌≡◌, ◌+◌, ◌<◌, ◌≤◌, ◌^◌, length, false};
-ghost use Rattle.zy_table.specs.Name.{name_of};
+ghost use Rattle.zy_conn.specs.Block.{label_of};
 
 use crate::home_parts::Setup;
 use crate::sure::sure;
@@ -49,6 +49,7 @@ pub(crate) fn receive(
     requires live { home.old.refused ≡ false }
     ensures table { home.new.pass.table ≡ home.old.pass.table }
     ensures label { home.new.pass.label ≡ home.old.pass.label }
+    ensures cores { home.new.cores ≡ home.old.cores }
     ensures count { home.new.pass.count ≤ home.old.pass.count + length items.now }
     ensures live { home.new.refused ≡ false }
 {
@@ -63,7 +64,8 @@ pub(crate) fn settle(rt: &impl Abort, setup: &mut Setup)
     requires home { setup.old.home.pass.table ≡ setup.old.ring.id }
     requires few { setup.old.home.pass.count < 2 ^ 62 }
     requires live { setup.old.home.refused ≡ false }
-    requires label { setup.old.home.pass.label ≡ name_of setup.old.store.id }
+    requires label { setup.old.home.pass.label ≡ label_of setup.old.store.id 2 }
+    requires cores { setup.old.home.cores ≡ 2 }
 {
     for _round in 0..100u32 {
         if setup.home.is_settled() {

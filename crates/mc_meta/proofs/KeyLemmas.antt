@@ -114,5 +114,5 @@ of_words line (name ∷ key ∷ more) texts all =
     found_in line name key more (key_of (line_of name.text (key ∷ more))) texts all.1.0 (line_has name.text (key ∷ more))
 
 -- the key of a line is a word of it
-pub key_of-line : (line : List ℕ) → IfSome (key_of (meta_line line)) (IsKeyIn line)
-key_of-line line = of_words line (words_at 0 line) (words_at-texts 0 line) (words_at-places line)
+pub line_key : (line : List ℕ) → IfSome (key_of (meta_line line)) (IsKeyIn line)
+line_key line = of_words line (words_at 0 line) (words_at-texts 0 line) (words_at-places line)

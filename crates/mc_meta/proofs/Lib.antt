@@ -1,5 +1,7 @@
 mod NumberLemmas
 mod WordLemmas
 mod RoomLemmas
-mod PlaceLemmas
-mod KeyLemmas
+pub mod PlaceLemmas
+pub mod KeyLemmas
+pub mod LineLemmas
+pub mod SaidLemmas

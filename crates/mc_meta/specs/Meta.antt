@@ -1,6 +1,6 @@
 -- What a line says as a meta command: memcached's protocol.txt, "Meta Commands". Which lines are faulty is this
 -- project's own rule.
-use Rattle.std.specs.Prelude.{ℕ, ◌+◌, Bool, true, ◌==◌, nat_le, if◌then◌else◌, List, [], ◌∷◌, length, codes, Option, None, Some}
+use Rattle.std.specs.Prelude.{ℕ, ◌+◌, Bool, true, ◌||◌, ◌==◌, nat_le, if◌then◌else◌, List, [], ◌∷◌, length, codes, Option, None, Some}
 use Rattle.std.specs.Str.{bytes_eq}
 use Rattle.mc_meta.specs.declared.meta_line.Span.{Span}
 use Rattle.mc_meta.specs.declared.meta_line.MetaLine.{MetaLine}
@@ -74,6 +74,11 @@ delete_line [] = WrongCount
 delete_line (key ∷ words) = keyed key (delete_with key (flags_of delete_letters words))
 
 -- ---- lines
+
+-- the name of a meta command
+abbrev pub is_meta_name : List ℕ → Bool
+is_meta_name name =
+    bytes_eq name (codes "mn") || bytes_eq name (codes "mg") || bytes_eq name (codes "ms") || bytes_eq name (codes "md")
 
 -- what a line says whose first word is this name, with the words after it
 abbrev pub line_of : List ℕ → List Placed → MetaLine

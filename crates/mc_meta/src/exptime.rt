@@ -4,7 +4,7 @@ ghost use Rattle.std.specs.Str.{all_ascii_digits};
 ghost use Rattle.mc_meta.specs.Number.{is_exptime, without_sign};
 
 /// Whether a word is an exptime: 1 to 19 digits, with a minus sign before them or not.
-pub(crate) fn is_exptime(word: &[u8]) -> bool
+pub fn is_exptime(word: &[u8]) -> bool
     ensures value { result ≡ is_exptime word.now }
 {
     let digits = without_sign(word);

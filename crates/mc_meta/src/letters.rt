@@ -45,11 +45,18 @@ impl Letters {
         }
     }
 
-    // Whether a letter is one of them.
-    pub(crate) fn has(&self, letter: u8) -> bool
+    /// The letters, in the line's order.
+    pub fn bytes(&self) -> &[u8]
+        ensures value { result.now ≡ self.now }
+    {
+        &self.bytes[..self.count]
+    }
+
+    /// Whether a letter is one of them.
+    pub fn has(&self, letter: u8) -> bool
         ensures value { result ≡ is_among self.now letter }
     {
-        self.bytes[..self.count].contains(&letter)
+        self.bytes().contains(&letter)
     }
 
     // Appends a letter.

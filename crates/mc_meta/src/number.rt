@@ -34,8 +34,8 @@ fn with_digit(number: u64, digit: u8) -> Option<u64>
     }
 }
 
-/// The number below 2^32 that a word spells.
-pub(crate) fn read_small_number(word: &[u8]) -> Option<u32>
+/// The number below 2^32 that a word of 1 to 20 digits spells; leading zeros are allowed.
+pub fn read_small_number(word: &[u8]) -> Option<u32>
     ensures value { result ≡ small_number_of word.now }
 {
     match read_number(word) {

@@ -1,6 +1,7 @@
 //! What a line says as a meta command.
-ghost use Rattle.std.specs.Prelude.{◌≡◌, ◌≤◌, ◌+◌, length, Option};
+ghost use Rattle.std.specs.Prelude.{◌≡◌, ◌≤◌, ◌+◌, length, Option, IfSome};
 ghost use Rattle.mc_meta.specs.Words.{words_at, line_limit};
+ghost use Rattle.mc_meta.specs.Key.{key_of, IsKeyIn};
 ghost use Rattle.mc_meta.specs.Meta.{meta_line, line_of, noop_line, get_line, set_line, delete_line, set_with, agrees};
 
 use crate::flags::{Flags, read_flags};
@@ -8,11 +9,12 @@ use crate::meta_line::{MetaLine, Span};
 use crate::number::read_small_number;
 use crate::word::{Split, next_word};
 
-/// What a line says as a meta command. The line is given without the bytes that end it. Takes no
-/// memory.
+/// What a line says as a meta command. The line is given without the bytes that end it. The key that it
+/// has is a word of it. Takes no memory.
 pub fn read_meta(line: &[u8]) -> MetaLine
     requires within { length line.now ≤ line_limit }
     ensures value { result ≡ meta_line line.now }
+    ensures key { IfSome (key_of result) (IsKeyIn line.now) }
 {
     match next_word(0, line) {
         Some(name) => read_after(name.word, name.to, name.rest),

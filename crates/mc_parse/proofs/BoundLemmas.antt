@@ -2,13 +2,25 @@
 use Rattle.std.specs.Prelude.{◌&&◌, if◌then◌else◌, filter, Option, None, Some, option_map, not}
 use Rattle.std.specs.List.{AllByRecursion, list_all, range_with_len}
 use Rattle.std.specs.Str.{bytes_eq}
-use Rattle.std.proofs.Common.{◌≡◌, ℕ, zero, suc, ◌+◌, ◌<◌, ◌≤◌, List, [], ◌∷◌, length, map, Bool, true, false, refl, sym, ap, subst, arith}
+use Rattle.std.proofs.Common.{◌≡◌, ℕ, zero, suc, ◌+◌, ◌<◌, ◌≤◌, List, [], ◌∷◌, length, map, Bool, true, false, refl, sym, ap, subst, arith, ◌-◌, drop, length-take}
+use Rattle.std.specs.Prelude.{IfSome}
+use Rattle.std.proofs.lemmas.List.{length-drop}
 use borrow.Author.Tests.{leb-true}
-use Rattle.zy_base.specs.declared.call.Call.TheVariants.{Flush as FlushCall}
+use Rattle.zy_base.specs.declared.call.Call.{Call}
+use Rattle.zy_base.specs.declared.call.Call.TheVariants.{Flush as FlushCall, Tally}
+use Rattle.zy_base.specs.Call.{key_of}
 use Rattle.zy_base.specs.Number.{number_of}
-use Rattle.zy_base.specs.Bounds.{IsKey, IsValue}
+use Rattle.zy_base.specs.Bounds.{IsKey, IsValue, IsCall}
 use Rattle.mc_parse.specs.declared.command.Command.{Command}
-use Rattle.mc_parse.specs.declared.command.Command.TheVariants.{Store, Cas, Get, Delete, Count, Flush, Fault}
+use Rattle.mc_parse.specs.declared.command.Command.TheVariants.{Store, Cas, Get, Delete, Count, Flush, Fault, Meta, Stats}
+use Rattle.mc_parse.specs.declared.meta.Meta.{Meta as MetaCommand}
+use Rattle.mc_parse.specs.declared.meta.Meta.TheVariants as Commands
+use Rattle.mc_meta.specs.declared.meta_line.Span.{Span}
+use Rattle.mc_meta.specs.declared.meta_line.MetaLine.{MetaLine}
+use Rattle.mc_meta.specs.declared.meta_line.MetaLine.TheVariants as Metas
+use Rattle.mc_meta.specs.Meta.{is_meta_name, meta_line}
+use Rattle.mc_meta.specs.Key.{key_of as key_at, bytes_in, IsKeyIn}
+use Rattle.mc_meta.proofs.KeyLemmas.{line_key}
 use Rattle.mc_parse.specs.declared.error_line.ErrorLine.{ErrorLine}
 use Rattle.mc_parse.specs.declared.error_line.ErrorLine.TheVariants as Errors
 use Rattle.mc_parse.specs.declared.verb.Verb.{Verb}
@@ -18,10 +30,11 @@ use Rattle.mc_parse.specs.Words.{words, has_byte, pieces_of}
 use Rattle.mc_parse.specs.Name.{names, name_among, arity_of}
 use Rattle.mc_parse.specs.Number.{small_number_of, is_zero}
 use Rattle.mc_parse.specs.Arity.{Following, but_last, following, has_count, lacks_noreply, asks_silence}
-use Rattle.mc_parse.specs.Form.{Ask, stores, exchanges, gets, deletes, counts, sets_verbosity, flushes, Form, faulty, asks, is_key, first_word, keys_among, sizes_of, store_ask, store_words, cas_ask, cas_words, delete_words, count_words, verbosity_words, with_zero, ask_of, number_fault, check, find, form_with, form_after, form_of, line_form}
-use Rattle.mc_parse.specs.Meaning.{is_ended, value_of, value_command, command_for, block_command_for, large_command_for, line_command, block_command, large_command}
-use Rattle.mc_parse.specs.Calls.{calls_of, get_calls, on_shard, tagged, due_at, due_from}
-use Rattle.mc_parse.specs.Bounds.{IsCommand, IsShardCall, IsDueWithin}
+use Rattle.mc_parse.specs.MetaAsk.{MetaAsk, noops, meta_gets, meta_stores, meta_exchanges, meta_deletes}
+use Rattle.mc_parse.specs.Form.{Ask, stores, exchanges, gets, deletes, counts, sets_verbosity, flushes, metas, Form, faulty, asks, is_key, first_word, keys_among, sizes_of, store_ask, store_words, cas_ask, cas_words, delete_words, count_words, verbosity_words, with_zero, ask_of, number_fault, check, find, form_with, form_after, form_of, meta_form, form_in, line_form}
+use Rattle.mc_parse.specs.Meaning.{is_ended, value_of, alone_meta, value_meta, value_command, command_for, block_command_for, large_command_for, line_command, block_command, large_command}
+use Rattle.mc_parse.specs.Calls.{calls_of, get_calls, call_alone, meta_calls, on_shard, tagged, due_at, due_from}
+use Rattle.mc_parse.specs.Bounds.{IsMeta, IsCommand, IsShardCall, IsDueWithin}
 use Rattle.mc_parse.proofs.PlainLemmas.{each-append}
 
 -- ---- lists
@@ -77,12 +90,20 @@ all_keys (word ∷ ws) some short =
 
 -- ---- what a line asks for
 
+abbrev IsMetaAsk : MetaAsk → Type 0
+IsMetaAsk noops = Unit {0}
+IsMetaAsk (meta_gets key flags) = IsKey key
+IsMetaAsk (meta_stores verb key flags bytes marks) = IsKey key
+IsMetaAsk (meta_exchanges key flags bytes unique marks) = IsKey key
+IsMetaAsk (meta_deletes key flags) = IsKey key
+
 abbrev IsAsk : Ask → Type 0
 IsAsk (stores verb key flags bytes) = IsKey key
 IsAsk (exchanges key flags bytes unique) = IsKey key
 IsAsk (gets keys unique) = AllByRecursion IsKey keys
 IsAsk (deletes key) = IsKey key
 IsAsk (counts key up amount) = IsKey key
+IsAsk (metas ask) = IsMetaAsk ask
 IsAsk ask = Unit {0}
 
 abbrev IsForm : Form → Type 0
@@ -197,23 +218,70 @@ words_form (word ∷ ws) some =
     subst (λ o. IsForm (find o Errors.Unknown (λ name. form_after name ws))) (sym (is_among word names))
     (among_form (λ name. (ws : List (List ℕ)) → AreSome ws → list_all is_key (keys_among name ws) ≡ true → IsAskFound (ask_of name ws))
     (λ name. form_after name ws) (λ name found. after_form name ws found rest) word names
-    (store_found Verbs.Set, (store_found Verbs.Add, (store_found Verbs.Replace, (store_found Verbs.Append, (store_found Verbs.Prepend, (exchange_found, (all_keys, (all_keys, (delete_found, (count_found true, (count_found false, (λ ws some short. tt, (λ ws some short. verbosity_found ws, (λ ws some short. flush_found ws, (λ ws some short. tt, tt))))))))))))))))
+    (store_found Verbs.Set, (store_found Verbs.Add, (store_found Verbs.Replace, (store_found Verbs.Append, (store_found Verbs.Prepend, (exchange_found, (all_keys, (all_keys, (delete_found, (count_found true, (count_found false, (λ ws some short. tt, (λ ws some short. verbosity_found ws, (λ ws some short. flush_found ws, (λ ws some short. tt, (λ ws some short. tt, tt)))))))))))))))))
+
+-- ---- meta lines
+
+-- a key in its line is a key
+key_bound : (line : List ℕ) (key : Span) → IsKeyIn line key → IsKey (bytes_in line key)
+key_bound line key is =
+    let size = length-take (key.to - key.from) (drop key.from line) in
+    let after = length-drop key.from line in
+    (omega (arith, size, after, is.some, is.within), omega (arith, size, after, is.some, is.within, is.short))
+
+meta_bound : (line : List ℕ) (said : MetaLine) → IfSome (key_at said) (IsKeyIn line) → IsForm (meta_form line said)
+meta_bound line Metas.Other is = tt
+meta_bound line Metas.WrongCount is = tt
+meta_bound line Metas.Bad is = tt
+meta_bound line Metas.Noop is = tt
+meta_bound line (Metas.Get key flags) is = key_bound line key is
+meta_bound line (Metas.Set key bytes flags None mode marks) is = key_bound line key is
+meta_bound line (Metas.Set key bytes flags (Some unique) mode marks) is = key_bound line key is
+meta_bound line (Metas.Delete key flags) is = key_bound line key is
 
 line_keys : (line : List ℕ) → IsForm (line_form line)
-line_keys line = words_form (words line) (words_some line)
+line_keys line = go (words line) (words_some line)
+  where
+    choose : (b : Bool) (form : Form) → IsForm form → IsForm (if b then meta_form line (meta_line line) else form)
+    choose true form is = meta_bound line (meta_line line) (line_key line)
+    choose false form is = is
+
+    go : (ws : List (List ℕ)) → AreSome ws → IsForm (form_in line ws)
+    go [] some = tt
+    go (word ∷ ws) some = choose (is_meta_name word) (form_of (word ∷ ws)) (words_form (word ∷ ws) some)
 
 -- ---- commands
+
+alone_meta_bound : (ask : MetaAsk) → IsMetaAsk ask → IsCommand (alone_meta ask)
+alone_meta_bound noops is = tt
+alone_meta_bound (meta_gets key flags) is = is
+alone_meta_bound (meta_stores verb key flags bytes marks) is = tt
+alone_meta_bound (meta_exchanges key flags bytes unique marks) is = tt
+alone_meta_bound (meta_deletes key flags) is = is
+
+value_meta_bound : (ask : MetaAsk) (value : List ℕ) → IsMetaAsk ask → IsValue value → IsCommand (value_meta ask value)
+value_meta_bound noops value is small = tt
+value_meta_bound (meta_gets key flags) value is small = tt
+value_meta_bound (meta_stores Verbs.Set key flags bytes marks) value is small = (is, (is, small))
+value_meta_bound (meta_stores Verbs.Add key flags bytes marks) value is small = (is, (is, small))
+value_meta_bound (meta_stores Verbs.Replace key flags bytes marks) value is small = (is, (is, small))
+value_meta_bound (meta_stores Verbs.Append key flags bytes marks) value is small = (is, (is, small))
+value_meta_bound (meta_stores Verbs.Prepend key flags bytes marks) value is small = (is, (is, small))
+value_meta_bound (meta_exchanges key flags bytes unique marks) value is small = (is, (is, small))
+value_meta_bound (meta_deletes key flags) value is small = tt
 
 alone_bound : (form : Form) → IsForm form → IsCommand (command_for form)
 alone_bound (faulty line) is = tt
 alone_bound (asks (gets keys unique) quiet) is = is
 alone_bound (asks (deletes key) quiet) is = is
 alone_bound (asks (counts key up amount) quiet) is = is
+alone_bound (asks (metas ask) quiet) is = alone_meta_bound ask is
 alone_bound (asks ask quiet) is = tt
 
 value_bound : (ask : Ask) (quiet : Bool) (value : List ℕ) → IsAsk ask → IsValue value → IsCommand (value_command ask quiet value)
 value_bound (stores verb key flags bytes) quiet value is small = (is, small)
 value_bound (exchanges key flags bytes unique) quiet value is small = (is, small)
+value_bound (metas ask) quiet value is small = value_meta_bound ask value is small
 value_bound ask quiet value is small = tt
 
 ended_bound : (form : Form) (block : List ℕ) → IsForm form → IsValue (value_of block) → IsCommand (block_command_for block form)
@@ -249,9 +317,19 @@ gets_within : (shards : ℕ) (keys : List (List ℕ)) → AllByRecursion IsKey k
 gets_within shards [] each = tt
 gets_within shards (key ∷ keys) each = (each.0, gets_within shards keys each.1)
 
-flushes_within : (first count : ℕ) → AllByRecursion IsShardCall (map (on_shard FlushCall) (range_with_len first count))
-flushes_within first zero = tt
-flushes_within first (suc count) = (tt, flushes_within (first + 1) count)
+on_all_within : (call : Call) (first count : ℕ) → IsCall call → AllByRecursion IsShardCall (map (on_shard call) (range_with_len first count))
+on_all_within call first zero is = tt
+on_all_within call first (suc count) is = (is, on_all_within call (first + 1) count is)
+
+alone_within : (shards : ℕ) (call : Call) (key : Option (List ℕ)) → IsShardCall (on_shard call 0) → AllByRecursion IsShardCall (call_alone shards call key)
+alone_within shards call None is = tt
+alone_within shards call (Some key) is = (is, tt)
+
+metas_within : (shards : ℕ) (meta : MetaCommand) → IsMeta meta → AllByRecursion IsShardCall (meta_calls shards meta)
+metas_within shards Commands.Noop is = tt
+metas_within shards (Commands.Get key flags) is = (is, tt)
+metas_within shards (Commands.Set key call marks) is = alone_within shards call (key_of call) is.1
+metas_within shards (Commands.Delete key flags) is = (is, tt)
 
 -- the calls of a command within its bounds are within their bounds
 pub calls_within : (shards : ℕ) (command : Command) → IsCommand command → AllByRecursion IsShardCall (calls_of shards command)
@@ -265,7 +343,9 @@ calls_within shards (Get keys unique) is = gets_within shards keys is
 calls_within shards (Delete key quiet) is = (is, tt)
 calls_within shards (Count key true amount quiet) is = (is, tt)
 calls_within shards (Count key false amount quiet) is = (is, tt)
-calls_within shards (Flush quiet) is = flushes_within 0 shards
+calls_within shards (Flush quiet) is = on_all_within FlushCall 0 shards tt
+calls_within shards Stats is = on_all_within Tally 0 shards tt
+calls_within shards (Meta meta) is = metas_within shards meta is
 calls_within shards command is = tt
 
 tagged_within : (n conn index part : ℕ) (calls : List ShardCall) → index < n → AllByRecursion IsShardCall calls → AllByRecursion (IsDueWithin n) (tagged conn index part calls)

@@ -7,15 +7,17 @@ use Rattle.std.proofs.lemmas.Option.{slice_get_past, slice_get_read, slice_get-m
 use Rattle.std.proofs.lemmas.List.FromFn.{length-map-range_with_len, get_or-map-range_with_len}
 use Rattle.zy_base.specs.Key.{shard_of}
 use Rattle.zy_base.specs.Call.{key_of}
-use Rattle.zy_base.specs.declared.call.Call.TheVariants.{Get as GetCall, Set as SetCall, Add as AddCall, Replace as ReplaceCall, Append as AppendCall, Prepend as PrependCall, Cas as CasCall, Incr, Decr, Delete as DeleteCall, Flush as FlushCall}
+use Rattle.zy_base.specs.declared.call.Call.TheVariants.{Get as GetCall, Set as SetCall, Add as AddCall, Replace as ReplaceCall, Append as AppendCall, Prepend as PrependCall, Cas as CasCall, Incr, Decr, Delete as DeleteCall, Flush as FlushCall, Tally}
 use Rattle.zy_base.specs.declared.call.Call.{Call}
 use Rattle.mc_parse.specs.declared.verb.Verb.TheVariants.{Set, Add, Replace, Append, Prepend}
 use Rattle.mc_parse.specs.declared.command.Command.{Command}
-use Rattle.mc_parse.specs.declared.command.Command.TheVariants.{Store, Cas, Get, Delete, Count, Flush}
+use Rattle.mc_parse.specs.declared.command.Command.TheVariants.{Store, Cas, Get, Delete, Count, Flush, Meta, Stats}
+use Rattle.mc_parse.specs.declared.meta.Meta.{Meta as MetaCommand}
+use Rattle.mc_parse.specs.declared.meta.Meta.TheVariants as Metas
 use Rattle.mc_parse.specs.declared.shard_call.ShardCall.{ShardCall}
 use Rattle.zy_base.specs.declared.entry.Entry.{Entry}
 use Rattle.std.proofs.lemmas.List.{map-append}
-use Rattle.mc_parse.specs.Calls.{calls_of, flush_calls, asked_by, Due, due, due_at, due_from, due_of, dues_of, tag_of, tagged, at_key, get_at, on_shard, IsAtKey, IsOnShard, IsDueOn}
+use Rattle.mc_parse.specs.Calls.{calls_of, calls_on_all, call_alone, meta_calls, asked_by, Due, due, due_at, due_from, due_of, dues_of, tag_of, tagged, at_key, get_at, on_shard, IsAtKey, IsOnShard, IsDueOn}
 
 -- the calls of gets are the gets of the keys asked for
 pub asked_by-gets : (shards : ℕ) (keys : List (List ℕ)) → asked_by (map (get_at shards) keys) ≡ map GetCall keys
@@ -28,21 +30,32 @@ asked_by-gets shards (key ∷ keys) = ap (λ (rest : List Call). GetCall key ∷
 pub none_later : (call : ShardCall) (part : ℕ) → 0 < part → slice_get (call ∷ []) part ≡ None
 none_later call part later = slice_get_past (call ∷ []) part (omega (arith, later))
 
+-- a meta command has no second call
+pub no_later_meta : (shards : ℕ) (meta : MetaCommand) (part : ℕ) → 0 < part → slice_get (meta_calls shards meta) part ≡ None
+no_later_meta shards Metas.Noop part later = let none : List ShardCall = [] in slice_get_past none part (omega arith)
+no_later_meta shards (Metas.Get key flags) part later = none_later (get_at shards key) part later
+no_later_meta shards (Metas.Set key call marks) part later = go (key_of call)
+  where
+    go : (key : Option (List ℕ)) → slice_get (call_alone shards call key) part ≡ None
+    go None = let none : List ShardCall = [] in slice_get_past none part (omega arith)
+    go (Some key) = none_later (at_key shards key call) part later
+no_later_meta shards (Metas.Delete key flags) part later = none_later (at_key shards key (DeleteCall key)) part later
+
 -- the get of a key
 pub get_there : (shards : ℕ) (keys : List (List ℕ)) (part : ℕ) → slice_get (map (get_at shards) keys) part ≡ option_map (get_at shards) (slice_get keys part)
 get_there shards keys part = slice_get-map (get_at shards) keys part
 
--- the flush of a shard
-pub flush_there : (shards part : ℕ) → part < shards → slice_get (flush_calls shards) part ≡ Some (on_shard FlushCall part)
-flush_there shards part within =
-    slice_get_read (flush_calls shards) shards part (on_shard FlushCall part) (sym (length-map-range_with_len (on_shard FlushCall) 0 shards)) within
-    (sym (get_or-map-range_with_len (on_shard FlushCall) 0 shards part part (on_shard FlushCall part) within (omega arith)))
+-- the call on a shard of one that is made on all
+pub on_all_there : (call : Call) (shards part : ℕ) → part < shards → slice_get (calls_on_all call shards) part ≡ Some (on_shard call part)
+on_all_there call shards part within =
+    slice_get_read (calls_on_all call shards) shards part (on_shard call part) (sym (length-map-range_with_len (on_shard call) 0 shards)) within
+    (sym (get_or-map-range_with_len (on_shard call) 0 shards part part (on_shard call part) within (omega arith)))
 
 -- there is none past the last shard
-pub flush_past : (shards part : ℕ) → shards ≤ part → slice_get (flush_calls shards) part ≡ None
-flush_past shards part past =
-    let long = length-map-range_with_len (on_shard FlushCall) 0 shards in
-    slice_get_past (flush_calls shards) part (omega arith)
+pub on_all_past : (call : Call) (shards part : ℕ) → shards ≤ part → slice_get (calls_on_all call shards) part ≡ None
+on_all_past call shards part past =
+    let long = length-map-range_with_len (on_shard call) 0 shards in
+    slice_get_past (calls_on_all call shards) part (omega arith)
 
 -- ---- a property of every call
 
@@ -53,40 +66,55 @@ all_gets : (P : ShardCall → Type 0) (shards : ℕ) → ((key : List ℕ) → P
 all_gets P shards each [] = All-nil P
 all_gets P shards each (key ∷ keys) = All-cons P (get_at shards key) (map (get_at shards) keys) (each key) (all_gets P shards each keys)
 
-all_flushes : (P : ShardCall → Type 0) (first count : ℕ) → ((shard : ℕ) → first ≤ shard → shard < first + count → P (on_shard FlushCall shard))
-    → All P (map (on_shard FlushCall) (range_with_len first count))
-all_flushes P first zero each = All-nil P
-all_flushes P first (suc count) each =
-    All-cons P (on_shard FlushCall first) (map (on_shard FlushCall) (range_with_len (first + 1) count)) (each first (omega arith) (omega arith))
-    (all_flushes P (first + 1) count (λ shard low high. each shard (omega arith) (omega arith)))
+all_shards : (P : ShardCall → Type 0) (call : Call) (first count : ℕ) → ((shard : ℕ) → first ≤ shard → shard < first + count → P (on_shard call shard))
+    → All P (map (on_shard call) (range_with_len first count))
+all_shards P call first zero each = All-nil P
+all_shards P call first (suc count) each =
+    All-cons P (on_shard call first) (map (on_shard call) (range_with_len (first + 1) count)) (each first (omega arith) (omega arith))
+    (all_shards P call (first + 1) count (λ shard low high. each shard (omega arith) (omega arith)))
 
--- what holds of each call on the shard of its key, and of a flush on each shard, holds of every
--- call of a command
+all_metas : (P : ShardCall → Type 0) (shards : ℕ) → ((key : List ℕ) (call : Call) → key_of call ≡ Some key → P (at_key shards key call)) → (meta : MetaCommand) → All P (meta_calls shards meta)
+all_metas P shards keyed Metas.Noop = All-nil P
+all_metas P shards keyed (Metas.Get key flags) = one P (at_key shards key (GetCall key)) (keyed key (GetCall key) refl)
+all_metas P shards keyed (Metas.Set key call marks) = go (key_of call) refl
+  where
+    go : (found : Option (List ℕ)) → key_of call ≡ found → All P (call_alone shards call found)
+    go None is = All-nil P
+    go (Some key) is = one P (at_key shards key call) (keyed key call is)
+all_metas P shards keyed (Metas.Delete key flags) = one P (at_key shards key (DeleteCall key)) (keyed key (DeleteCall key) refl)
+
+-- what holds of each call on the shard of its key, and of a call without a key on each shard, holds of
+-- every call of a command
 pub all_calls : (P : ShardCall → Type 0) (shards : ℕ) → ((key : List ℕ) (call : Call) → key_of call ≡ Some key → P (at_key shards key call))
-    → ((shard : ℕ) → shard < shards → P (on_shard FlushCall shard)) → (command : Command) → All P (calls_of shards command)
-all_calls P shards keyed flush (Store Set key flags value quiet) = one P (at_key shards key (SetCall key flags value)) (keyed key (SetCall key flags value) refl)
-all_calls P shards keyed flush (Store Add key flags value quiet) = one P (at_key shards key (AddCall key flags value)) (keyed key (AddCall key flags value) refl)
-all_calls P shards keyed flush (Store Replace key flags value quiet) = one P (at_key shards key (ReplaceCall key flags value)) (keyed key (ReplaceCall key flags value) refl)
-all_calls P shards keyed flush (Store Append key flags value quiet) = one P (at_key shards key (AppendCall key value)) (keyed key (AppendCall key value) refl)
-all_calls P shards keyed flush (Store Prepend key flags value quiet) = one P (at_key shards key (PrependCall key value)) (keyed key (PrependCall key value) refl)
-all_calls P shards keyed flush (Cas key flags unique value quiet) = one P (at_key shards key (CasCall key flags unique value)) (keyed key (CasCall key flags unique value) refl)
-all_calls P shards keyed flush (Get keys unique) = all_gets P shards (λ key. keyed key (GetCall key) refl) keys
-all_calls P shards keyed flush (Delete key quiet) = one P (at_key shards key (DeleteCall key)) (keyed key (DeleteCall key) refl)
-all_calls P shards keyed flush (Count key true amount quiet) = one P (at_key shards key (Incr key amount)) (keyed key (Incr key amount) refl)
-all_calls P shards keyed flush (Count key false amount quiet) = one P (at_key shards key (Decr key amount)) (keyed key (Decr key amount) refl)
-all_calls P shards keyed flush (Flush quiet) = all_flushes P 0 shards (λ shard low high. flush shard (omega arith))
-all_calls P shards keyed flush command = All-nil P
+    → ((call : Call) (shard : ℕ) → key_of call ≡ None → shard < shards → P (on_shard call shard)) → (command : Command) → All P (calls_of shards command)
+all_calls P shards keyed bare (Store Set key flags value quiet) = one P (at_key shards key (SetCall key flags value)) (keyed key (SetCall key flags value) refl)
+all_calls P shards keyed bare (Store Add key flags value quiet) = one P (at_key shards key (AddCall key flags value)) (keyed key (AddCall key flags value) refl)
+all_calls P shards keyed bare (Store Replace key flags value quiet) = one P (at_key shards key (ReplaceCall key flags value)) (keyed key (ReplaceCall key flags value) refl)
+all_calls P shards keyed bare (Store Append key flags value quiet) = one P (at_key shards key (AppendCall key value)) (keyed key (AppendCall key value) refl)
+all_calls P shards keyed bare (Store Prepend key flags value quiet) = one P (at_key shards key (PrependCall key value)) (keyed key (PrependCall key value) refl)
+all_calls P shards keyed bare (Cas key flags unique value quiet) = one P (at_key shards key (CasCall key flags unique value)) (keyed key (CasCall key flags unique value) refl)
+all_calls P shards keyed bare (Get keys unique) = all_gets P shards (λ key. keyed key (GetCall key) refl) keys
+all_calls P shards keyed bare (Delete key quiet) = one P (at_key shards key (DeleteCall key)) (keyed key (DeleteCall key) refl)
+all_calls P shards keyed bare (Count key true amount quiet) = one P (at_key shards key (Incr key amount)) (keyed key (Incr key amount) refl)
+all_calls P shards keyed bare (Count key false amount quiet) = one P (at_key shards key (Decr key amount)) (keyed key (Decr key amount) refl)
+all_calls P shards keyed bare (Flush quiet) = all_shards P FlushCall 0 shards (λ shard low high. bare FlushCall shard refl (omega arith))
+all_calls P shards keyed bare Stats = all_shards P Tally 0 shards (λ shard low high. bare Tally shard refl (omega arith))
+all_calls P shards keyed bare (Meta meta) = all_metas P shards keyed meta
+all_calls P shards keyed bare command = All-nil P
 
 -- every call is on the shard of its key
 pub all_at_keys : (shards : ℕ) (command : Command) → All (IsAtKey shards) (calls_of shards command)
-all_at_keys shards command = all_calls (IsAtKey shards) shards (at_its_key shards) (λ shard within. tt) command
+all_at_keys shards command = all_calls (IsAtKey shards) shards (at_its_key shards) (no_key shards) command
   where
+    no_key : (shards : ℕ) (call : Call) (shard : ℕ) → key_of call ≡ None → shard < shards → IsAtKey shards (on_shard call shard)
+    no_key shards call shard is within = subst (λ (found : Option (List ℕ)). IfSome found (λ k. shard ≡ shard_of k shards)) (sym is) tt
+
     at_its_key : (shards : ℕ) (key : List ℕ) (call : Call) → key_of call ≡ Some key → IsAtKey shards (at_key shards key call)
     at_its_key shards key call is = subst (λ (found : Option (List ℕ)). IfSome found (λ k. shard_of key shards ≡ shard_of k shards)) (sym is) refl
 
 -- every call is on one of the shards
 pub all_within : (shards : ℕ) (command : Command) → 1 ≤ shards → All (λ (c : ShardCall). c.shard < shards) (calls_of shards command)
-all_within shards command some = all_calls (λ (c : ShardCall). c.shard < shards) shards (λ key call is. omega arith) (λ shard within. within) command
+all_within shards command some = all_calls (λ (c : ShardCall). c.shard < shards) shards (λ key call is. omega arith) (λ call shard is within. within) command
 
 -- ---- expected calls
 

@@ -1,4 +1,6 @@
 pub mod WordLemmas
+pub mod MetaLemmas
+pub mod NumberLemmas
 pub mod ArityLemmas
 pub mod NoreplyLemmas
 pub mod CheckLemmas
@@ -8,3 +10,4 @@ pub mod PlainLemmas
 pub mod BoundLemmas
 pub mod SameLemmas
 pub mod NeedLemmas
+pub mod SameCallLemmas

@@ -6,7 +6,7 @@ use Rattle.zy_base.specs.Number.{number_of}
 use Rattle.mc_parse.specs.declared.error_line.ErrorLine.{ErrorLine}
 use Rattle.mc_parse.specs.declared.error_line.ErrorLine.TheVariants.{Unknown}
 use Rattle.mc_parse.specs.declared.name.Name.{Name}
-use Rattle.mc_parse.specs.declared.name.Name.TheVariants.{Store, Cas, Get, Delete, Count, Version, Verbosity, Flush, Quit}
+use Rattle.mc_parse.specs.declared.name.Name.TheVariants.{Store, Cas, Get, Delete, Count, Version, Verbosity, Flush, Quit, Stats}
 use Rattle.mc_parse.specs.declared.need.Need.TheVariants.{Nothing}
 use Rattle.mc_parse.specs.Arity.{following_of}
 use Rattle.mc_parse.specs.Name.{arity_of}
@@ -45,6 +45,7 @@ asked Cas words quiet plain = absurd (true≢false plain)
 asked Quit words quiet plain = absurd (true≢false plain)
 asked (Get unique) words quiet plain = refl
 asked Version words quiet plain = refl
+asked Stats words quiet plain = refl
 asked Delete [] quiet plain = refl
 asked Delete (key ∷ words) quiet plain = zeroed (number_fault Delete) quiet (deletes key) words refl
 asked (Count up) [] quiet plain = refl

@@ -11,20 +11,25 @@ use Rattle.mc_parse.specs.declared.error_line.ErrorLine.{ErrorLine}
 use Rattle.mc_parse.specs.declared.error_line.ErrorLine.TheVariants.{Unknown, BadLine, BadChunk}
 use Rattle.mc_parse.specs.declared.need.Need.TheVariants.{Nothing}
 use Rattle.mc_parse.specs.declared.command.Command.{Command}
-use Rattle.mc_parse.specs.declared.command.Command.TheVariants.{Store as StoreCommand, Cas as CasCommand, Fault}
+use Rattle.mc_parse.specs.declared.command.Command.TheVariants.{Store as StoreCommand, Cas as CasCommand, Fault, Meta}
+use Rattle.mc_parse.specs.declared.meta.Meta.TheVariants.{Set as SetMeta}
+use Rattle.zy_base.specs.declared.call.Call.TheVariants.{Cas as CasCall}
+use Rattle.mc_parse.specs.Calls.{stored_by}
+use Rattle.mc_parse.specs.MetaAsk.{noops, meta_gets, meta_stores, meta_exchanges, meta_deletes}
 use Rattle.mc_parse.specs.declared.verb.Verb.{Verb}
 use Rattle.mc_parse.specs.declared.name.Name.{Name}
-use Rattle.mc_parse.specs.declared.name.Name.TheVariants.{Store, Cas, Get, Delete, Count, Version, Verbosity, Flush, Quit}
+use Rattle.mc_parse.specs.declared.name.Name.TheVariants.{Store, Cas, Get, Delete, Count, Version, Verbosity, Flush, Quit, Stats}
 use Rattle.mc_parse.specs.declared.sizes.Sizes.{Sizes}
 use Rattle.mc_parse.specs.Words.{words as words_of, is_noreply}
 use Rattle.mc_parse.specs.Name.{name_of, arity_of}
 use Rattle.mc_parse.specs.Number.{small_number_of, is_zero}
 use Rattle.mc_parse.specs.Arity.{Following, from_to, has_count, ends_in_noreply, but_last, lacks_noreply, asks_silence, following, following_of}
-use Rattle.mc_parse.specs.Form.{Ask, stores, exchanges, gets, deletes, counts, tells_version, sets_verbosity, flushes, quits, Form, faulty, asks, is_key, keys_among, sizes_of, store_ask, cas_ask, store_words, cas_words, with_zero, delete_words, count_words, verbosity_words, ask_of, number_fault, check, find, form_with, form_after, form_of}
+use Rattle.mc_parse.specs.Form.{Ask, stores, exchanges, gets, deletes, counts, tells_version, tells_counts, sets_verbosity, flushes, quits, metas, Form, faulty, asks, is_key, keys_among, sizes_of, store_ask, cas_ask, store_words, cas_words, with_zero, delete_words, count_words, verbosity_words, ask_of, number_fault, check, find, form_with, form_after, form_of, line_form}
 use Rattle.mc_parse.specs.Need.{need_for}
 use Rattle.mc_parse.specs.Meaning.{command_for, block_command_for, large_command_for, is_ended, value_of, IsBlockFor, IsTooLarge, silenced}
 use Rattle.mc_parse.specs.Noreply.{may_be_quiet, is_loud, is_quiet, silent, with_noreply, EndsInNoreply}
 use Rattle.mc_parse.proofs.WordLemmas.{words-parted, words-one}
+use Rattle.mc_parse.proofs.MetaLemmas.{plain_form, loud_plain, quiet_plain}
 use Rattle.mc_parse.proofs.ArityLemmas.{noreply, is_the_word, ends-split, unsilenced, follows_silently, follows_by, both}
 
 -- ---- what is said of an ask, found or not
@@ -241,6 +246,7 @@ silences_after (Get unique) words loud = let no : false ≡ true = sym (never_so
 silences_after Delete words loud = silences_some Delete 1 3 delete_ends words loud
 silences_after (Count up) words loud = silences_some (Count up) 2 3 (count_ends up) words loud
 silences_after Version words loud = let no : false ≡ true = sym (never_some Version words (has_count (arity_of Version) (length words)) refl) ∙ loud in absurd (cc)
+silences_after Stats words loud = let no : false ≡ true = sym (never_some Stats words (has_count (arity_of Stats) (length words)) refl) ∙ loud in absurd (cc)
 silences_after Verbosity words loud = silences_some Verbosity 1 2 verbosity_ends words loud
 silences_after Flush words loud = silences_some Flush 0 2 flush_ends words loud
 silences_after Quit words loud = let no : false ≡ true = sym (never_some Quit words (has_count (arity_of Quit) (length words)) refl) ∙ loud in absurd (cc)
@@ -259,8 +265,13 @@ words-noreply : (line : List ℕ) → words_of (with_noreply line) ≡ words_of 
 words-noreply line = words-parted line noreply ∙ ap (λ (more : List (List ℕ)). words_of line ++ more) (words-one noreply refl)
 
 -- a line with noreply added says the same without an answer
-pub form-noreply : (line : List ℕ) → is_loud (form_of (words_of line)) ≡ true → form_of (words_of (with_noreply line)) ≡ silent (form_of (words_of line))
-form-noreply line loud = ap form_of (words-noreply line) ∙ silences_words (words_of line) loud
+pub form-noreply : (line : List ℕ) → is_loud (line_form line) ≡ true → line_form (with_noreply line) ≡ silent (line_form line)
+form-noreply line loud =
+    let is = loud_plain line loud in
+    let same = plain_form line is.name is.rest is.split is.plain in
+    let split : words_of (with_noreply line) ≡ is.name ∷ (is.rest ++ noreply ∷ []) = words-noreply line ∙ ap (λ (ws : List (List ℕ)). ws ++ noreply ∷ []) is.split in
+    plain_form (with_noreply line) is.name (is.rest ++ noreply ∷ []) split is.plain
+    ∙ silences_words (is.name ∷ is.rest) (sym (ap is_loud same) ∙ loud) ∙ ap silent (sym same)
 
 -- ---- a line that asks for no answer
 
@@ -346,6 +357,7 @@ quiet_after (Get unique) words quiet = let no : false ≡ true = sym (never_quie
 quiet_after Delete words quiet = quiet_some Delete 1 3 delete_ends words quiet
 quiet_after (Count up) words quiet = quiet_some (Count up) 2 3 (count_ends up) words quiet
 quiet_after Version words quiet = let no : false ≡ true = sym (never_quiet Version words (has_count (arity_of Version) (length words))) ∙ quiet in absurd (cc)
+quiet_after Stats words quiet = let no : false ≡ true = sym (never_quiet Stats words (has_count (arity_of Stats) (length words))) ∙ quiet in absurd (cc)
 quiet_after Verbosity words quiet = quiet_some Verbosity 1 2 verbosity_ends words quiet
 quiet_after Flush words quiet = quiet_some Flush 0 2 flush_ends words quiet
 quiet_after Quit words quiet = let no : false ≡ true = sym (never_quiet Quit words (has_count (arity_of Quit) (length words))) ∙ quiet in absurd (cc)
@@ -367,10 +379,12 @@ quiet_words [] quiet = absurd (cc)
 quiet_words (word ∷ words) quiet = (word ∷ but_last words, quiet_found (name_of word) word words refl quiet)
 
 -- a line that asks for no answer ends in noreply, and without it says the same with an answer
-pub quiet_line : (line : List ℕ) → is_quiet (form_of (words_of line)) ≡ true → EndsInNoreply line
+pub quiet_line : (line : List ℕ) → is_quiet (line_form line) ≡ true → EndsInNoreply line
 quiet_line line quiet =
-    let found = quiet_words (words_of line) quiet in
-    record { front = found.0; ends = found.1.ends; loud = found.1.loud; says = found.1.says }
+    let is = quiet_plain line quiet in
+    let same = plain_form line is.name is.rest is.split is.plain in
+    let found = quiet_words (is.name ∷ is.rest) (sym (ap is_quiet same) ∙ quiet) in
+    record { front = found.0; ends = is.split ∙ found.1.ends; loud = found.1.loud; says = same ∙ found.1.says }
 
 -- ---- commands
 
@@ -388,9 +402,11 @@ silent-line (asks (gets keys unique) quiet) loud alone = refl
 silent-line (asks (deletes key) quiet) loud alone = refl
 silent-line (asks (counts key up amount) quiet) loud alone = refl
 silent-line (asks tells_version quiet) loud alone = refl
+silent-line (asks tells_counts quiet) loud alone = refl
 silent-line (asks sets_verbosity quiet) loud alone = refl
 silent-line (asks flushes quiet) loud alone = refl
 silent-line (asks quits quiet) loud alone = absurd (cc)
+silent-line (asks (metas ask) quiet) loud alone = absurd (cc)
 
 ended_same : (ended quiet : Bool) (quietly loudly : Command) → quietly ≡ silenced loudly
     → (if ended then quietly else Fault BadChunk true) ≡ silenced (if ended then loudly else Fault BadChunk quiet)
@@ -406,9 +422,17 @@ silent-block (asks (gets keys unique) quiet) block fits = absurd fits
 silent-block (asks (deletes key) quiet) block fits = absurd fits
 silent-block (asks (counts key up amount) quiet) block fits = absurd fits
 silent-block (asks tells_version quiet) block fits = absurd fits
+silent-block (asks tells_counts quiet) block fits = absurd fits
 silent-block (asks sets_verbosity quiet) block fits = absurd fits
 silent-block (asks flushes quiet) block fits = absurd fits
 silent-block (asks quits quiet) block fits = absurd fits
+silent-block (asks (metas noops) quiet) block fits = absurd fits
+silent-block (asks (metas (meta_gets key flags)) quiet) block fits = absurd fits
+silent-block (asks (metas (meta_deletes key flags)) quiet) block fits = absurd fits
+silent-block (asks (metas (meta_stores verb key flags bytes marks)) quiet) block fits =
+    let stored : Command = Meta (SetMeta key (stored_by verb key flags (value_of block)) marks) in ended_same (is_ended block) quiet stored stored refl
+silent-block (asks (metas (meta_exchanges key flags bytes unique marks)) quiet) block fits =
+    let stored : Command = Meta (SetMeta key (CasCall key flags unique (value_of block)) marks) in ended_same (is_ended block) quiet stored stored refl
 
 -- with a block that is too large it is the same fault, silenced
 pub silent-large : (form : Form) → IsTooLarge (need_for form) → large_command_for (silent form) ≡ silenced (large_command_for form)

@@ -3,9 +3,18 @@ use Rattle.std.specs.Prelude.{ℕ, ◌<◌}
 use Rattle.std.specs.List.{AllByRecursion}
 use Rattle.zy_base.specs.Bounds.{IsKey, IsValue, IsCall}
 use Rattle.mc_parse.specs.declared.command.Command.{Command}
-use Rattle.mc_parse.specs.declared.command.Command.TheVariants.{Store, Cas, Get, Delete, Count}
+use Rattle.mc_parse.specs.declared.command.Command.TheVariants.{Store, Cas, Get, Delete, Count, Meta}
+use Rattle.mc_parse.specs.declared.meta.Meta.{Meta as MetaCommand}
+use Rattle.mc_parse.specs.declared.meta.Meta.TheVariants as Metas
 use Rattle.mc_parse.specs.declared.shard_call.ShardCall.{ShardCall}
 use Rattle.mc_parse.specs.Calls.{Due}
+
+-- the key and the call of a meta command are within their bounds
+abbrev pub IsMeta : MetaCommand → Type 0
+IsMeta Metas.Noop = Unit {0}
+IsMeta (Metas.Get key flags) = IsKey key
+IsMeta (Metas.Set key call marks) = IsKey key × IsCall call
+IsMeta (Metas.Delete key flags) = IsKey key
 
 -- the keys and the value of a command are within their bounds
 abbrev pub IsCommand : Command → Type 0
@@ -14,6 +23,7 @@ IsCommand (Cas key flags unique value quiet) = IsKey key × IsValue value
 IsCommand (Get keys unique) = AllByRecursion IsKey keys
 IsCommand (Delete key quiet) = IsKey key
 IsCommand (Count key up amount quiet) = IsKey key
+IsCommand (Meta meta) = IsMeta meta
 IsCommand command = Unit {0}
 
 -- the call on a shard is within its bounds

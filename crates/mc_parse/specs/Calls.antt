@@ -1,8 +1,8 @@
 -- The calls of a command, and the expected calls of a connection (docs/PROFILE.md, "Calls").
-use Rattle.std.specs.Prelude.{◌≡◌, ℕ, ◌+◌, ◌<◌, length, Bool, true, false, List, [], ◌∷◌, ◌++◌, map, IfSome}
+use Rattle.std.specs.Prelude.{◌≡◌, ℕ, ◌+◌, ◌<◌, length, Bool, true, false, List, [], ◌∷◌, ◌++◌, map, Option, None, Some, IfSome}
 use Rattle.std.specs.List.{range_with_len}
 use Rattle.zy_base.specs.declared.call.Call.{Call}
-use Rattle.zy_base.specs.declared.call.Call.TheVariants.{Get as GetCall, Set as SetCall, Add as AddCall, Replace as ReplaceCall, Append as AppendCall, Prepend as PrependCall, Cas as CasCall, Incr, Decr, Delete as DeleteCall, Flush as FlushCall}
+use Rattle.zy_base.specs.declared.call.Call.TheVariants.{Get as GetCall, Set as SetCall, Add as AddCall, Replace as ReplaceCall, Append as AppendCall, Prepend as PrependCall, Cas as CasCall, Incr, Decr, Delete as DeleteCall, Flush as FlushCall, Tally}
 use Rattle.zy_base.specs.declared.entry.Tag.{Tag}
 use Rattle.zy_base.specs.declared.entry.Entry.{Entry}
 use Rattle.zy_base.specs.Call.{key_of}
@@ -11,7 +11,9 @@ use Rattle.mc_parse.specs.declared.verb.Verb.{Verb}
 use Rattle.mc_parse.specs.declared.verb.Verb.TheVariants.{Set, Add, Replace, Append, Prepend}
 use Rattle.mc_parse.specs.declared.shard_call.ShardCall.{ShardCall}
 use Rattle.mc_parse.specs.declared.command.Command.{Command}
-use Rattle.mc_parse.specs.declared.command.Command.TheVariants.{Store, Cas, Get, Delete, Count, Flush}
+use Rattle.mc_parse.specs.declared.command.Command.TheVariants.{Store, Cas, Get, Delete, Count, Flush, Meta, Stats}
+use Rattle.mc_parse.specs.declared.meta.Meta.{Meta as MetaCommand}
+use Rattle.mc_parse.specs.declared.meta.Meta.TheVariants as Metas
 
 -- ---- one command
 
@@ -44,9 +46,21 @@ get_at shards key = at_key shards key (GetCall key)
 abbrev pub get_calls : ℕ → List (List ℕ) → List ShardCall
 get_calls shards keys = map (get_at shards) keys
 
--- the calls that remove all items, one on each shard
-abbrev pub flush_calls : ℕ → List ShardCall
-flush_calls shards = map (on_shard FlushCall) (range_with_len 0 shards)
+-- the same call, once on each shard
+abbrev pub calls_on_all : Call → ℕ → List ShardCall
+calls_on_all call shards = map (on_shard call) (range_with_len 0 shards)
+
+-- a call alone, on the shard of its key; none where it has no key
+abbrev pub call_alone : ℕ → Call → Option (List ℕ) → List ShardCall
+call_alone shards call None = []
+call_alone shards call (Some key) = at_key shards key call ∷ []
+
+-- the calls of a meta command
+abbrev pub meta_calls : ℕ → MetaCommand → List ShardCall
+meta_calls shards Metas.Noop = []
+meta_calls shards (Metas.Get key flags) = get_at shards key ∷ []
+meta_calls shards (Metas.Set key call marks) = call_alone shards call (key_of call)
+meta_calls shards (Metas.Delete key flags) = at_key shards key (DeleteCall key) ∷ []
 
 -- the calls of a command on `shards` shards, in their order
 abbrev pub calls_of : ℕ → Command → List ShardCall
@@ -57,7 +71,9 @@ calls_of shards (Cas key flags unique value quiet) =
 calls_of shards (Get keys unique) = get_calls shards keys
 calls_of shards (Delete key quiet) = at_key shards key (DeleteCall key) ∷ []
 calls_of shards (Count key up amount quiet) = at_key shards key (counted_by up key amount) ∷ []
-calls_of shards (Flush quiet) = flush_calls shards
+calls_of shards (Flush quiet) = calls_on_all FlushCall shards
+calls_of shards Stats = calls_on_all Tally shards
+calls_of shards (Meta meta) = meta_calls shards meta
 calls_of shards command = []
 
 -- a call is on the shard of its key, where it has one

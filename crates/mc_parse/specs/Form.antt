@@ -1,5 +1,5 @@
 -- What the words of a line say, or their first fault (docs/PROFILE.md, "The order of checks").
-use Rattle.std.specs.Prelude.{ℕ, Bool, true, false, nat_le, if◌then◌else◌, List, [], ◌∷◌, length, Option, None, Some, option_map}
+use Rattle.std.specs.Prelude.{ℕ, Bool, true, false, if◌then◌else◌, List, [], ◌∷◌, Option, None, Some, option_map}
 use Rattle.std.specs.List.{list_all}
 use Rattle.zy_base.specs.Number.{number_of}
 use Rattle.mc_parse.specs.declared.asking.Ask.{Ask as SeenAsk}
@@ -8,8 +8,14 @@ use Rattle.mc_parse.specs.declared.error_line.ErrorLine.{ErrorLine}
 use Rattle.mc_parse.specs.declared.error_line.ErrorLine.TheVariants.{Unknown, BadLine, BadDelta}
 use Rattle.mc_parse.specs.declared.verb.Verb.{Verb}
 use Rattle.mc_parse.specs.declared.name.Name.{Name}
-use Rattle.mc_parse.specs.declared.name.Name.TheVariants.{Store, Cas, Get, Delete, Count, Version, Verbosity, Flush, Quit}
+use Rattle.mc_parse.specs.declared.name.Name.TheVariants.{Store, Cas, Get, Delete, Count, Version, Verbosity, Flush, Quit, Stats}
 use Rattle.mc_parse.specs.declared.sizes.Sizes.{Sizes}
+use Rattle.mc_meta.specs.declared.meta_line.MetaLine.{MetaLine}
+use Rattle.mc_meta.specs.declared.meta_line.MetaLine.TheVariants as Metas
+pub use Rattle.mc_meta.specs.Meta.{is_key, key_limit}
+use Rattle.mc_meta.specs.Meta.{is_meta_name, meta_line}
+use Rattle.mc_meta.specs.Key.{bytes_in}
+use Rattle.mc_parse.specs.MetaAsk.{MetaAsk, noops, meta_gets, meta_deletes, storing_ask}
 use Rattle.mc_parse.specs.Words.{words}
 use Rattle.mc_parse.specs.Name.{name_of, arity_of}
 use Rattle.mc_parse.specs.Number.{small_number_of, is_zero, is_exptime}
@@ -31,12 +37,16 @@ pub data Ask : Type 0 where
   counts : List ℕ → Bool → ℕ → Ask
   -- report the version
   tells_version : Ask
+  -- report the counts
+  tells_counts : Ask
   -- set the verbosity
   sets_verbosity : Ask
   -- remove all items
   flushes : Ask
   -- end the connection
   quits : Ask
+  -- what a meta command asks for
+  metas : MetaAsk → Ask
 
 -- what a line says
 pub data Form : Type 0 where
@@ -53,19 +63,12 @@ ask_seen (Asked.Get keys unique) = gets (words keys.now) unique
 ask_seen (Asked.Delete key) = deletes key.now
 ask_seen (Asked.Count key up amount) = counts key.now up amount
 ask_seen Asked.Version = tells_version
+ask_seen Asked.Stats = tells_counts
 ask_seen Asked.Verbosity = sets_verbosity
 ask_seen Asked.Flush = flushes
 ask_seen Asked.Quit = quits
 
 -- ---- keys
-
--- the most bytes that a key may have
-abbrev pub key_limit : ℕ
-key_limit = 250
-
--- a key is not too long
-abbrev pub is_key : List ℕ → Bool
-is_key word = nat_le (length word) key_limit
 
 -- the first word, where there is one
 abbrev pub first_word : List (List ℕ) → List (List ℕ)
@@ -143,6 +146,7 @@ ask_of (Get unique) words = Some (gets words unique)
 ask_of Delete words = delete_words words
 ask_of (Count up) words = count_words up words
 ask_of Version words = Some tells_version
+ask_of Stats words = Some tells_counts
 ask_of Verbosity words = verbosity_words words
 ask_of Flush words = with_zero flushes words
 ask_of Quit words = Some quits
@@ -177,11 +181,30 @@ abbrev pub form_after : Name → List (List ℕ) → Form
 form_after name words =
     find (following_of (arity_of name) words) Unknown (λ following. form_with name following)
 
--- what the words of a line say
+-- what the words of a line say, unless it is a meta command
 abbrev pub form_of : List (List ℕ) → Form
 form_of [] = faulty Unknown
 form_of (name ∷ words) = find (name_of name) Unknown (λ name. form_after name words)
 
+-- ---- lines
+
+-- what a line says as a meta command, which does not take the word noreply
+abbrev pub meta_form : List ℕ → MetaLine → Form
+meta_form line Metas.Other = faulty Unknown
+meta_form line Metas.WrongCount = faulty Unknown
+meta_form line Metas.Bad = faulty BadLine
+meta_form line Metas.Noop = asks (metas noops) false
+meta_form line (Metas.Get key flags) = asks (metas (meta_gets (bytes_in line key) flags)) false
+meta_form line (Metas.Set key bytes flags unique mode marks) =
+    asks (metas (storing_ask (bytes_in line key) bytes flags unique mode marks)) false
+meta_form line (Metas.Delete key flags) = asks (metas (meta_deletes (bytes_in line key) flags)) false
+
+-- what a line with these words says: the name of a meta command decides how it is read
+abbrev pub form_in : List ℕ → List (List ℕ) → Form
+form_in line [] = faulty Unknown
+form_in line (name ∷ words) =
+    if is_meta_name name then meta_form line (meta_line line) else form_of (name ∷ words)
+
 -- what a line says
 abbrev pub line_form : List ℕ → Form
-line_form line = form_of (words line)
+line_form line = form_in line (words line)

@@ -2,6 +2,7 @@ pub mod Words
 pub mod Name
 pub mod Number
 pub mod Arity
+pub mod MetaAsk
 pub mod Form
 pub mod Checks
 pub mod Line
@@ -11,4 +12,6 @@ pub mod Calls
 pub mod Bounds
 pub mod Plain
 pub mod Noreply
+pub mod SameCalls
 pub mod Worked
+pub mod OnAll

@@ -2,13 +2,17 @@
 use Rattle.std.specs.Prelude.{◌≡◌, ℕ, ◌+◌, ◌-◌, ◌<◌, ◌≤◌, Bool, true, false, if◌then◌else◌, List, [], ◌∷◌, length, take, drop}
 use Rattle.std.specs.Str.{bytes_eq}
 use Rattle.mc_parse.specs.declared.command.Command.{Command}
-use Rattle.mc_parse.specs.declared.command.Command.TheVariants.{Store, Cas, Get, Delete, Count, Version, Verbosity, Flush, Fault}
+use Rattle.mc_parse.specs.declared.command.Command.TheVariants.{Store, Cas, Get, Delete, Count, Version, Verbosity, Flush, Fault, Meta, Stats}
+use Rattle.mc_parse.specs.declared.meta.Meta.TheVariants as Metas
 use Rattle.mc_parse.specs.declared.error_line.ErrorLine.{ErrorLine}
 use Rattle.mc_parse.specs.declared.error_line.ErrorLine.TheVariants.{Unknown, LongLine, BadChunk, TooLarge}
+use Rattle.zy_base.specs.declared.call.Call.TheVariants.{Cas as CasCall}
 use Rattle.zy_base.specs.Shard.{value_limit}
 use Rattle.mc_parse.specs.declared.need.Need.{Need}
 use Rattle.mc_parse.specs.declared.need.Need.TheVariants.{Nothing, Block, Quit}
-use Rattle.mc_parse.specs.Form.{Ask, stores, exchanges, gets, deletes, counts, tells_version, sets_verbosity, flushes, quits, Form, line_form, faulty, asks}
+use Rattle.mc_parse.specs.Calls.{stored_by}
+use Rattle.mc_parse.specs.MetaAsk.{MetaAsk, noops, meta_gets, meta_stores, meta_exchanges, meta_deletes}
+use Rattle.mc_parse.specs.Form.{Ask, stores, exchanges, gets, deletes, counts, tells_version, tells_counts, sets_verbosity, flushes, quits, metas, Form, line_form, faulty, asks}
 
 -- ---- blocks
 
@@ -42,6 +46,22 @@ IsTooLarge Quit = ⊥
 abbrev pub fault : ErrorLine → Command
 fault line = Fault line false
 
+-- what a meta line that needs nothing asks for; one that needs a block counts as unknown
+abbrev pub alone_meta : MetaAsk → Command
+alone_meta noops = Meta Metas.Noop
+alone_meta (meta_gets key flags) = Meta (Metas.Get key flags)
+alone_meta (meta_stores verb key flags bytes marks) = fault Unknown
+alone_meta (meta_exchanges key flags bytes unique marks) = fault Unknown
+alone_meta (meta_deletes key flags) = Meta (Metas.Delete key flags)
+
+-- what a meta line asks for with a value; one that takes no value counts as unknown
+abbrev pub value_meta : MetaAsk → List ℕ → Command
+value_meta (meta_stores verb key flags bytes marks) value =
+    Meta (Metas.Set key (stored_by verb key flags value) marks)
+value_meta (meta_exchanges key flags bytes unique marks) value =
+    Meta (Metas.Set key (CasCall key flags unique value) marks)
+value_meta ask value = fault Unknown
+
 -- what a line that needs nothing asks for; a request that needs a block, or ends the connection,
 -- counts as unknown
 abbrev pub alone_command : Ask → Bool → Command
@@ -51,14 +71,17 @@ alone_command (gets keys unique) quiet = Get keys unique
 alone_command (deletes key) quiet = Delete key quiet
 alone_command (counts key up amount) quiet = Count key up amount quiet
 alone_command tells_version quiet = Version
+alone_command tells_counts quiet = Stats
 alone_command sets_verbosity quiet = Verbosity quiet
 alone_command flushes quiet = Flush quiet
 alone_command quits quiet = fault Unknown
+alone_command (metas ask) quiet = alone_meta ask
 
 -- what is asked for with a value; a request that takes no value counts as unknown
 abbrev pub value_command : Ask → Bool → List ℕ → Command
 value_command (stores verb key flags bytes) quiet value = Store verb key flags value quiet
 value_command (exchanges key flags bytes unique) quiet value = Cas key flags unique value quiet
+value_command (metas ask) quiet value = value_meta ask value
 value_command ask quiet value = fault Unknown
 
 -- a line that needs nothing
@@ -97,7 +120,7 @@ long_command = fault LongLine
 
 -- ---- answers
 
--- a command without its answer; a retrieval and the version always have one
+-- a command without its answer; a retrieval, the version and a meta command do not take the word noreply
 abbrev pub silenced : Command → Command
 silenced (Store verb key flags value quiet) = Store verb key flags value true
 silenced (Cas key flags unique value quiet) = Cas key flags unique value true
@@ -105,6 +128,8 @@ silenced (Get keys unique) = Get keys unique
 silenced (Delete key quiet) = Delete key true
 silenced (Count key up amount quiet) = Count key up amount true
 silenced Version = Version
+silenced Stats = Stats
 silenced (Verbosity quiet) = Verbosity true
 silenced (Flush quiet) = Flush true
 silenced (Fault line quiet) = Fault line true
+silenced (Meta meta) = Meta meta

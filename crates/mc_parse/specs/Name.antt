@@ -4,7 +4,7 @@ use Rattle.std.specs.Str.{bytes_eq}
 use Rattle.mc_parse.specs.declared.verb.Verb.TheVariants.{Set, Add, Replace, Append, Prepend}
 use Rattle.mc_parse.specs.declared.arity.Arity.{Arity}
 use Rattle.mc_parse.specs.declared.name.Name.{Name}
-use Rattle.mc_parse.specs.declared.name.Name.TheVariants.{Store, Cas, Get, Delete, Count, Version, Verbosity, Flush, Quit}
+use Rattle.mc_parse.specs.declared.name.Name.TheVariants.{Store, Cas, Get, Delete, Count, Version, Verbosity, Flush, Quit, Stats}
 use Rattle.mc_parse.specs.Arity.{from_to, at_least, no_more}
 
 -- the names, each with how it is written
@@ -14,7 +14,7 @@ names =
     ∷ (codes "append", Store Append) ∷ (codes "prepend", Store Prepend) ∷ (codes "cas", Cas)
     ∷ (codes "get", Get false) ∷ (codes "gets", Get true) ∷ (codes "delete", Delete)
     ∷ (codes "incr", Count true) ∷ (codes "decr", Count false) ∷ (codes "version", Version)
-    ∷ (codes "verbosity", Verbosity) ∷ (codes "flush_all", Flush) ∷ (codes "quit", Quit) ∷ []
+    ∷ (codes "verbosity", Verbosity) ∷ (codes "flush_all", Flush) ∷ (codes "quit", Quit) ∷ (codes "stats", Stats) ∷ []
 
 -- the name that a word is, of some names
 abbrev pub name_among : List ℕ → List (List ℕ × Name) → Option Name
@@ -37,3 +37,4 @@ arity_of Version = no_more
 arity_of Verbosity = from_to 1 2
 arity_of Flush = from_to 0 2
 arity_of Quit = no_more
+arity_of Stats = no_more

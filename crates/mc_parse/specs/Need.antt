@@ -4,13 +4,21 @@ use Rattle.mc_parse.specs.declared.need.Need.{Need}
 use Rattle.mc_parse.specs.declared.need.Need.TheVariants.{Nothing, Block, Quit}
 use Rattle.mc_parse.specs.declared.name.Name.{Name}
 use Rattle.mc_parse.specs.declared.name.Name.TheVariants.{Store, Cas, Quit as QuitName}
-use Rattle.mc_parse.specs.Form.{Ask, stores, exchanges, quits, Form, line_form, faulty, asks}
+use Rattle.mc_parse.specs.MetaAsk.{MetaAsk, meta_stores, meta_exchanges}
+use Rattle.mc_parse.specs.Form.{Ask, stores, exchanges, quits, metas, Form, line_form, faulty, asks}
+
+-- what must come with what a meta command asks for
+abbrev pub meta_need : MetaAsk → Need
+meta_need (meta_stores verb key flags bytes marks) = Block bytes
+meta_need (meta_exchanges key flags bytes unique marks) = Block bytes
+meta_need ask = Nothing
 
 -- what must come with what is asked for
 abbrev pub ask_need : Ask → Need
 ask_need (stores verb key flags bytes) = Block bytes
 ask_need (exchanges key flags bytes unique) = Block bytes
 ask_need quits = Quit
+ask_need (metas ask) = meta_need ask
 ask_need ask = Nothing
 
 -- what a line that says this needs

@@ -4,7 +4,7 @@ use Rattle.mc_parse.specs.declared.need.Need.TheVariants.{Nothing}
 use Rattle.mc_parse.specs.Words.{words}
 use Rattle.mc_parse.specs.Need.{need}
 use Rattle.mc_parse.specs.Meaning.{line_command, block_command, large_command, silenced, IsBlockFor, IsTooLarge}
-use Rattle.mc_parse.specs.Form.{Ask, gets, tells_version, quits, Form, form_of, line_form, faulty, asks}
+use Rattle.mc_parse.specs.Form.{Ask, gets, tells_version, tells_counts, quits, metas, Form, form_of, line_form, faulty, asks}
 
 -- ---- lines
 
@@ -16,7 +16,9 @@ with_noreply line = line ++ codes " noreply"
 abbrev pub may_be_quiet : Ask → Bool
 may_be_quiet (gets keys unique) = false
 may_be_quiet tells_version = false
+may_be_quiet tells_counts = false
 may_be_quiet quits = false
+may_be_quiet (metas ask) = false
 may_be_quiet ask = true
 
 -- what a line says may be asked for without an answer, but asks for one

@@ -1,17 +1,33 @@
 -- Which keys a command calls, and which commands are plain: they call keys alone, and show or
 -- compare no unique.
-use Rattle.std.specs.Prelude.{◌≡◌, ℕ, ◌<◌, true, false, List, [], ◌∷◌, flat_map, Some}
+use Rattle.std.specs.Prelude.{◌≡◌, ℕ, ◌<◌, true, false, List, [], ◌∷◌, flat_map, Option, None, Some}
 use Rattle.std.specs.List.{AllByRecursion, Contains}
 use Rattle.zy_base.specs.Call.{key_of}
 use Rattle.zy_base.specs.Key.{shard_of}
 use Rattle.zy_base.specs.Told.{IsSteady}
 use Rattle.mc_parse.specs.declared.command.Command.{Command}
-use Rattle.mc_parse.specs.declared.command.Command.TheVariants.{Store, Cas, Get, Delete, Count, Flush}
+use Rattle.mc_meta.specs.Flags.{is_among}
+use Rattle.mc_parse.specs.declared.command.Command.TheVariants.{Store, Cas, Get, Delete, Count, Flush, Meta, Stats}
+use Rattle.mc_parse.specs.declared.meta.Meta.{Meta as MetaCommand}
+use Rattle.mc_parse.specs.declared.meta.Meta.TheVariants as Metas
 use Rattle.mc_parse.specs.declared.shard_call.ShardCall.{ShardCall}
-use Rattle.mc_parse.specs.Form.{Ask, stores, exchanges, gets, deletes, counts, flushes, Form, faulty, asks}
+use Rattle.mc_parse.specs.MetaAsk.{MetaAsk, noops, meta_gets, meta_stores, meta_exchanges, meta_deletes}
+use Rattle.mc_parse.specs.Form.{Ask, stores, exchanges, gets, deletes, counts, flushes, tells_counts, metas, Form, faulty, asks}
 use Rattle.mc_parse.specs.Calls.{Due, on_shard}
 
 -- ---- commands
+
+-- the key that a call has, as a list
+abbrev pub key_list : Option (List ℕ) → List (List ℕ)
+key_list None = []
+key_list (Some key) = key ∷ []
+
+-- the keys that a meta command calls
+abbrev pub meta_keys : MetaCommand → List (List ℕ)
+meta_keys Metas.Noop = []
+meta_keys (Metas.Get key flags) = key ∷ []
+meta_keys (Metas.Set key call marks) = key_list (key_of call)
+meta_keys (Metas.Delete key flags) = key ∷ []
 
 -- the keys that a command calls
 abbrev pub keys_of : Command → List (List ℕ)
@@ -20,17 +36,30 @@ keys_of (Cas key flags unique value quiet) = key ∷ []
 keys_of (Get keys unique) = keys
 keys_of (Delete key quiet) = key ∷ []
 keys_of (Count key up amount quiet) = key ∷ []
+keys_of (Meta meta) = meta_keys meta
 keys_of command = []
 
 -- the keys that commands call
 abbrev pub all_keys_of : List Command → List (List ℕ)
 all_keys_of commands = flat_map keys_of commands
 
--- the command is no `gets`, no `cas` and no `flush_all`
+-- the letter of the flag that asks for a unique
+abbrev pub unique_letter : ℕ
+unique_letter = 99
+
+-- the meta command is no `mg` with `c`, and no `ms` with `C`
+abbrev pub IsPlainMeta : MetaCommand → Type 0
+IsPlainMeta (Metas.Get key flags) = is_among flags unique_letter ≡ false
+IsPlainMeta (Metas.Set key call marks) = IsSteady call
+IsPlainMeta meta = Unit {0}
+
+-- the command is no `gets`, no `cas`, no `flush_all`, no `stats`, no `mg` with `c` and no `ms` with `C`
 abbrev pub IsPlain : Command → Type 0
 IsPlain (Get keys true) = ⊥
 IsPlain (Cas key flags unique value quiet) = ⊥
 IsPlain (Flush quiet) = ⊥
+IsPlain Stats = ⊥
+IsPlain (Meta meta) = IsPlainMeta meta
 IsPlain command = Unit {0}
 
 -- a command is plain, and each key that it calls has this property
@@ -40,6 +69,14 @@ pub record IsOwnCommand (IsOwn : List ℕ → Type 0) (command : Command) : Type
 
 -- ---- what lines say
 
+-- what a meta command asks for is plain, and its key has this property
+abbrev pub IsOwnMeta : (List ℕ → Type 0) → MetaAsk → Type 0
+IsOwnMeta IsOwn noops = Unit {0}
+IsOwnMeta IsOwn (meta_gets key flags) = (is_among flags unique_letter ≡ false) × IsOwn key
+IsOwnMeta IsOwn (meta_stores verb key flags bytes marks) = IsOwn key
+IsOwnMeta IsOwn (meta_exchanges key flags bytes unique marks) = ⊥
+IsOwnMeta IsOwn (meta_deletes key flags) = IsOwn key
+
 -- what is asked for is plain, and each of its keys has this property
 abbrev pub IsOwnAsk : (List ℕ → Type 0) → Ask → Type 0
 IsOwnAsk IsOwn (stores verb key flags bytes) = IsOwn key
@@ -48,6 +85,8 @@ IsOwnAsk IsOwn (gets keys unique) = (unique ≡ false) × AllByRecursion IsOwn k
 IsOwnAsk IsOwn (deletes key) = IsOwn key
 IsOwnAsk IsOwn (counts key up amount) = IsOwn key
 IsOwnAsk IsOwn flushes = ⊥
+IsOwnAsk IsOwn tells_counts = ⊥
+IsOwnAsk IsOwn (metas ask) = IsOwnMeta IsOwn ask
 IsOwnAsk IsOwn ask = Unit {0}
 
 -- what a line says is plain, and each of its keys has this property

@@ -1,5 +1,6 @@
 -- Worked lines, grouped by what they say. memcached's own answers to most of them were seen.
-use Rattle.std.specs.Prelude.{◌≡◌, ℕ, true, false, List, [], ◌∷◌, ◌++◌, map, replicate, codes}
+use Rattle.std.specs.Prelude.{◌≡◌, ℕ, true, false, List, [], ◌∷◌, ◌++◌, map, codes}
+pub use Rattle.mc_meta.specs.Worked.{long_key}
 use Rattle.mc_parse.specs.declared.command.Command.{Command}
 use Rattle.mc_parse.specs.declared.command.Command.TheVariants.{Store, Get}
 use Rattle.mc_parse.specs.declared.need.Need.TheVariants.{Nothing}
@@ -24,10 +25,6 @@ Means line command = (need line ≡ Nothing) × (line_command line ≡ command)
 -- store a block of this size under "a", with these flags
 abbrev pub sets : ℕ → ℕ → Ask
 sets flags bytes = stores Set (codes "a") flags bytes
-
--- a key of `count` bytes
-abbrev pub long_key : ℕ → List ℕ
-long_key count = replicate count 107
 
 -- lines of each command with this key
 abbrev pub lines_with_key : List ℕ → List (List ℕ)
@@ -61,15 +58,14 @@ nameless_lines =
 -- commands of memcached that are not supported here
 abbrev pub other_commands : List (List ℕ)
 other_commands =
-    codes "stats"
-    ∷ codes "stats reset"
+    codes "stats reset"
     ∷ codes "bget a"
     ∷ codes "touch a 0"
     ∷ codes "gat 0 a"
     ∷ codes "gats 0 a"
     ∷ codes "slabs automove 0"
-    ∷ codes "mg a v"
-    ∷ codes "ms a 1"
+    ∷ codes "ma a"
+    ∷ codes "me a"
     ∷ codes "shutdown"
     ∷ []
 

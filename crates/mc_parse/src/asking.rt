@@ -4,11 +4,11 @@ ghost use Rattle.mc_parse.specs.Form.{number_fault, sizes_of, store_words, cas_a
 ghost use Rattle.mc_parse.specs.Line.{texts, HasFew};
 
 use crate::error_line::ErrorLine;
-use crate::exptime::is_exptime;
 use crate::name::Name;
-use crate::number::{is_zero, read_small_number};
+use crate::number::is_zero;
 use crate::sizes::Sizes;
 use crate::verb::Verb;
+use mc_meta::{is_exptime, read_small_number};
 use zy_base::read_number;
 
 /// What a line asks for. Its words are parts of the line.
@@ -51,6 +51,8 @@ pub(crate) enum Ask<'a> {
     Flush,
     /// End the connection.
     Quit,
+    /// Report the counts.
+    Stats,
 }
 
 /// What a name asks for with the words that follow; `None` where a number is bad.
@@ -68,6 +70,7 @@ pub(crate) fn read_ask<'a>(name: Name, words: &[&'a [u8]]) -> Option<Ask<'a>>
         Name::Verbosity => read_verbosity(words),
         Name::Flush => read_zero(Ask::Flush, words),
         Name::Quit => Some(Ask::Quit),
+        Name::Stats => Some(Ask::Stats),
     }
 }
 

@@ -1,6 +1,7 @@
 //! Commands.
 
 use crate::error_line::ErrorLine;
+use crate::meta::Meta;
 use crate::verb::Verb;
 use zy_base::{Blob, Items};
 
@@ -45,6 +46,8 @@ pub enum Command {
     },
     /// Reports the text of the version.
     Version,
+    /// Reports what all shards count.
+    Stats,
     /// Does nothing, but is answered.
     Verbosity {
         quiet: bool,
@@ -57,5 +60,9 @@ pub enum Command {
     Fault {
         line: ErrorLine,
         quiet: bool,
+    },
+    /// A meta command.
+    Meta {
+        meta: Meta,
     },
 }

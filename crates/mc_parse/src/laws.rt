@@ -10,11 +10,16 @@ ghost use Rattle.mc_parse.specs.declared.command.Command.{Command};
 ghost use Rattle.mc_parse.specs.declared.error_line.ErrorLine.{ErrorLine};
 ghost use Rattle.mc_parse.specs.declared.error_line.ErrorLine.TheVariants as Errors;
 ghost use Rattle.mc_parse.specs.declared.name.Name.{Name};
+ghost use Rattle.mc_parse.specs.declared.meta.Meta.TheVariants as Metas;
 ghost use Rattle.mc_parse.specs.declared.need.Need.{Need};
 ghost use Rattle.mc_parse.specs.declared.verb.Verb.TheVariants as Verbs;
+ghost use Rattle.mc_meta.specs.Meta.{is_meta_name, meta_line};
+ghost use Rattle.mc_parse.specs.Number.{is_exptime};
+ghost use Rattle.mc_parse.specs.SameCalls.{spaced, AreWords, AskTheSame};
 ghost use Rattle.mc_parse.specs.Words.{words, is_word, space};
 ghost use Rattle.mc_parse.specs.Name.{name_of};
-ghost use Rattle.mc_parse.specs.Form.{Ask, stores, exchanges, gets, deletes, counts, tells_version, sets_verbosity, flushes, quits, asks, faulty, number_fault, form_after, form_of, line_form};
+ghost use Rattle.mc_parse.specs.Form.{Ask, stores, exchanges, gets, deletes, counts, tells_version, sets_verbosity, flushes, quits, metas, asks, faulty, number_fault, form_after, form_of, meta_form, line_form};
+ghost use Rattle.mc_parse.specs.MetaAsk.{noops, meta_gets, meta_stores, meta_exchanges, meta_deletes};
 ghost use Rattle.mc_parse.specs.Checks.{HasBadCount, LacksNoreply, HasLongKey, HasBadNumber, Asks, is_silenced};
 ghost use Rattle.mc_parse.specs.Need.{need};
 ghost use Rattle.mc_parse.specs.Meaning.{line_end, is_ended, value_of, value_command, line_command, block_command, large_command, fault, IsBlockFor, IsTooLarge};
@@ -63,6 +68,34 @@ pub fn lines_are_checked_in_order()
         → form_after name words ≡ faulty (number_fault name) }
     ensures value { (name : Name) (words : List (List ℕ)) (ask : Ask) → Asks name words ask
         → form_after name words ≡ asks ask (is_silenced name words) }
+{}
+
+/// A line whose first word is the name of a meta command says what is read in it as a meta command; any other
+/// line says what its words say.
+pub fn a_name_decides_how_a_line_is_read()
+    ensures empty { (line : List ℕ) → words line ≡ [] → line_form line ≡ faulty Errors.Unknown }
+    ensures meta { (line name : List ℕ) (ws : List (List ℕ)) → words line ≡ name ∷ ws
+        → is_meta_name name ≡ true → line_form line ≡ meta_form line (meta_line line) }
+    ensures other { (line name : List ℕ) (ws : List (List ℕ)) → words line ≡ name ∷ ws
+        → is_meta_name name ≡ false → line_form line ≡ form_of (name ∷ ws) }
+{}
+
+/// A meta line asks for the same calls as a classic line: `mg` as `get` of one key, `ms` with the flags as
+/// `set`, with the flags and the unique as `cas`, and `md` as `delete`. The same must come with both, and
+/// they are followed by the same block.
+pub fn meta_lines_ask_for_the_same_calls()
+    ensures get { (key : List ℕ) → is_word key ≡ true
+        → AskTheSame (spaced (codes "get" ∷ key ∷ [])) (spaced (codes "mg" ∷ key ∷ [])) }
+    ensures set { (key flags exptime bytes : List ℕ)
+        → AreWords (key ∷ flags ∷ exptime ∷ bytes ∷ []) → is_exptime exptime ≡ true
+        → AskTheSame (spaced (codes "set" ∷ key ∷ flags ∷ exptime ∷ bytes ∷ []))
+        (spaced (codes "ms" ∷ key ∷ bytes ∷ (codes "F" ++ flags) ∷ [])) }
+    ensures cas { (key flags exptime bytes unique : List ℕ)
+        → AreWords (key ∷ flags ∷ exptime ∷ bytes ∷ unique ∷ []) → is_exptime exptime ≡ true
+        → AskTheSame (spaced (codes "cas" ∷ key ∷ flags ∷ exptime ∷ bytes ∷ unique ∷ []))
+        (spaced (codes "ms" ∷ key ∷ bytes ∷ (codes "F" ++ flags) ∷ (codes "C" ++ unique) ∷ [])) }
+    ensures delete { (key : List ℕ) → is_word key ≡ true
+        → AskTheSame (spaced (codes "delete" ∷ key ∷ [])) (spaced (codes "md" ∷ key ∷ [])) }
 {}
 
 /// A line with a fault is a request by itself, and is always answered.
@@ -143,7 +176,7 @@ pub fn entries_tell_what_was_due()
 
 /// Worked lines of no command: an unknown name, too few or too many words, another word in the
 /// place of noreply.
-#[tactic(auto, unfolding(crate::specs::Words::words))]
+#[tactic(auto, unfolding(mc_meta::specs::Words::words))]
 pub fn worked_lines_of_no_command()
     ensures nameless { AllSay (faulty Errors.Unknown) nameless_lines }
     ensures other { AllSay (faulty Errors.Unknown) other_commands }
@@ -153,7 +186,7 @@ pub fn worked_lines_of_no_command()
 {}
 
 /// Worked lines with a bad number.
-#[tactic(auto, unfolding(crate::specs::Words::words))]
+#[tactic(auto, unfolding(mc_meta::specs::Words::words))]
 pub fn worked_lines_with_a_bad_number()
     ensures deletion { AllSay (faulty Errors.BadLine) bad_deletions }
     ensures amount { AllSay (faulty Errors.BadDelta) bad_amounts }
@@ -166,7 +199,7 @@ pub fn worked_lines_with_a_bad_number()
 
 /// Worked keys of 250 and of 251 bytes: a key is checked after the number of words, and before the
 /// numbers.
-#[tactic(auto, unfolding(crate::specs::Words::words))]
+#[tactic(auto, unfolding(mc_meta::specs::Words::words))]
 pub fn worked_keys()
     ensures within { map line_form (lines_with_key (long_key 250)) ≡ forms_with_key (long_key 250) }
     ensures beyond { AllSay (faulty Errors.BadLine) (lines_with_key (long_key 251)) }
@@ -177,7 +210,7 @@ pub fn worked_keys()
 {}
 
 /// Worked retrievals: a key is any word, and noreply is one.
-#[tactic(auto, unfolding(crate::specs::Words::words))]
+#[tactic(auto, unfolding(mc_meta::specs::Words::words))]
 pub fn worked_retrievals()
     ensures one { line_form (codes "get a") ≡ asks (gets (codes "a" ∷ []) false) false }
     ensures unique { line_form (codes "gets a") ≡ asks (gets (codes "a" ∷ []) true) false }
@@ -194,7 +227,7 @@ pub fn worked_retrievals()
 {}
 
 /// Worked deletions.
-#[tactic(auto, unfolding(crate::specs::Words::words))]
+#[tactic(auto, unfolding(mc_meta::specs::Words::words))]
 pub fn worked_deletions()
     ensures loud { AllSay (asks (deletes (codes "a")) false) deletions_of_a }
     ensures quiet { AllSay (asks (deletes (codes "a")) true)
@@ -206,7 +239,7 @@ pub fn worked_deletions()
 {}
 
 /// Worked lines that count.
-#[tactic(auto, unfolding(crate::specs::Words::words))]
+#[tactic(auto, unfolding(mc_meta::specs::Words::words))]
 pub fn worked_counts()
     ensures up { line_form (codes "incr a 1") ≡ asks (counts (codes "a") true 1) false }
     ensures down { line_form (codes "decr a 5") ≡ asks (counts (codes "a") false 5) false }
@@ -220,7 +253,7 @@ pub fn worked_counts()
 {}
 
 /// Worked lines without a key.
-#[tactic(auto, unfolding(crate::specs::Words::words))]
+#[tactic(auto, unfolding(mc_meta::specs::Words::words))]
 pub fn worked_lines_without_a_key()
     ensures version { AllSay (asks tells_version false) (codes "version" ∷ codes " version " ∷ []) }
     ensures verbosity { line_form (codes "verbosity 1") ≡ asks sets_verbosity false }
@@ -233,7 +266,7 @@ pub fn worked_lines_without_a_key()
 {}
 
 /// Worked storage lines: the verbs.
-#[tactic(auto, unfolding(crate::specs::Words::words))]
+#[tactic(auto, unfolding(mc_meta::specs::Words::words))]
 pub fn worked_verbs()
     ensures set { AllSay (asks (sets 0 1) false) sets_of_a }
     ensures add { line_form (codes "add a 7 0 1") ≡ asks (stores Verbs.Add (codes "a") 7 1) false }
@@ -248,7 +281,7 @@ pub fn worked_verbs()
 {}
 
 /// Worked storage lines: numbers at their limits, and noreply.
-#[tactic(auto, unfolding(crate::specs::Words::words))]
+#[tactic(auto, unfolding(mc_meta::specs::Words::words))]
 pub fn worked_storage_lines()
     ensures flags { line_form (codes "set a 4294967295 0 1") ≡ asks (sets 4294967295 1) false }
     ensures padded { line_form (codes "set a 00000000000000000005 0 1") ≡ asks (sets 5 1) false }
@@ -263,8 +296,45 @@ pub fn worked_storage_lines()
         ≡ asks (exchanges (codes "noreply") 0 1 0) true }
 {}
 
+/// Worked meta lines.
+#[tactic(auto, unfolding(mc_meta::specs::Words::words, mc_meta::specs::Words::words_at))]
+pub fn worked_meta_lines()
+    ensures noop { line_form (codes "mn") ≡ asks (metas noops) false }
+    ensures get { line_form (codes "mg a s v f k")
+        ≡ asks (metas (meta_gets (codes "a") (codes "svfk"))) false }
+    ensures set { line_form (codes "ms a 1 F5 MS")
+        ≡ asks (metas (meta_stores Verbs.Set (codes "a") 5 1 [])) false }
+    ensures mode { line_form (codes "ms key 3 k Me q")
+        ≡ asks (metas (meta_stores Verbs.Add (codes "key") 0 3 (codes "kq"))) false }
+    ensures unique { line_form (codes "ms a 0 C7 T300 k")
+        ≡ asks (metas (meta_exchanges (codes "a") 0 0 7 (codes "k"))) false }
+    ensures delete { line_form (codes "md  a q ")
+        ≡ asks (metas (meta_deletes (codes "a") (codes "q"))) false }
+    ensures count { line_form (codes "mn q") ≡ faulty Errors.Unknown }
+    ensures bad { line_form (codes "ms a 2 ME c") ≡ faulty Errors.BadLine }
+{}
+
+/// Worked meta commands: what must come with a line, and faults, which are never quiet.
+#[tactic(auto, unfolding(mc_meta::specs::Words::words, mc_meta::specs::Words::words_at, crate::specs::Need::need, crate::specs::Meaning::line_command, crate::specs::Meaning::block_command, crate::specs::Meaning::large_command))]
+pub fn worked_meta_commands()
+    ensures noop { Means (codes "mn") (Command.Meta Metas.Noop) }
+    ensures get { Means (codes "mg a q v") (Command.Meta (Metas.Get (codes "a") (codes "qv"))) }
+    ensures delete { Means (codes "md a q") (Command.Meta (Metas.Delete (codes "a") (codes "q"))) }
+    ensures fault { Means (codes "mg a v v") (Command.Fault Errors.BadLine false) }
+    ensures need { need (codes "ms a 1048577 q") ≡ Need.Block 1048577 }
+    ensures set { block_command (codes "ms a 1 F5 q") (codes "x\r\n")
+        ≡ Command.Meta (Metas.Set (codes "a") (Calls.Set (codes "a") 5 (codes "x")) (codes "q")) }
+    ensures append { block_command (codes "ms a 1 MA") (codes "x\r\n")
+        ≡ Command.Meta (Metas.Set (codes "a") (Calls.Append (codes "a") (codes "x")) []) }
+    ensures cas { block_command (codes "ms a 0 C7 k") (codes "\r\n")
+        ≡ Command.Meta (Metas.Set (codes "a") (Calls.Cas (codes "a") 0 7 []) (codes "k")) }
+    ensures chunk { block_command (codes "ms a 1 q") (codes "xyz")
+        ≡ Command.Fault Errors.BadChunk false }
+    ensures large { large_command (codes "ms a 1048577 q") ≡ Command.Fault Errors.TooLarge false }
+{}
+
 /// Worked needs.
-#[tactic(auto, unfolding(crate::specs::Words::words, crate::specs::Need::need))]
+#[tactic(auto, unfolding(mc_meta::specs::Words::words, crate::specs::Need::need))]
 pub fn worked_needs()
     ensures none { need (codes "get a") ≡ Need.Nothing }
     ensures faulty { need (codes "set a x 0 1") ≡ Need.Nothing }
@@ -274,20 +344,21 @@ pub fn worked_needs()
 {}
 
 /// Worked commands of lines without a block.
-#[tactic(auto, unfolding(crate::specs::Words::words, crate::specs::Need::need, crate::specs::Meaning::line_command))]
+#[tactic(auto, unfolding(mc_meta::specs::Words::words, crate::specs::Need::need, crate::specs::Meaning::line_command))]
 pub fn worked_commands()
     ensures get { Means (codes "gets a b") (Command.Get (codes "a" ∷ codes "b" ∷ []) true) }
     ensures delete { Means (codes "delete a noreply") (Command.Delete (codes "a") true) }
     ensures incr { Means (codes "incr a 1") (Command.Count (codes "a") true 1 false) }
     ensures decr { Means (codes "decr a 1 noreply") (Command.Count (codes "a") false 1 true) }
     ensures version { Means (codes "version") Command.Version }
+    ensures stats { Means (codes "stats") Command.Stats }
     ensures verbosity { Means (codes "verbosity 1 noreply") (Command.Verbosity true) }
     ensures flush { Means (codes "flush_all") (Command.Flush false) }
     ensures fault { Means (codes "incr a x noreply") (Command.Fault Errors.BadDelta false) }
 {}
 
 /// Worked blocks: any bytes may be a value, and only a carriage return and a line feed end a block.
-#[tactic(auto, unfolding(crate::specs::Words::words, crate::specs::Meaning::block_command))]
+#[tactic(auto, unfolding(mc_meta::specs::Words::words, crate::specs::Meaning::block_command))]
 pub fn worked_blocks()
     ensures value { block_command (codes "append a 7 0 2 noreply") (codes "xy\r\n")
         ≡ Command.Store Verbs.Append (codes "a") 7 (codes "xy") true }
@@ -306,7 +377,7 @@ pub fn worked_blocks()
 {}
 
 /// Worked storage lines whose value is too large.
-#[tactic(auto, unfolding(crate::specs::Words::words, crate::specs::Meaning::large_command))]
+#[tactic(auto, unfolding(mc_meta::specs::Words::words, crate::specs::Meaning::large_command))]
 pub fn worked_large_values()
     ensures set { large_command (codes "set b 0 0 1048577")
         ≡ Command.Fault Errors.TooLarge false }
@@ -335,6 +406,8 @@ pub fn worked_calls()
         ≡ on_shard (Calls.Delete (codes "a")) 12 ∷ [] }
     ensures flush { calls_of 2 (Command.Flush false)
         ≡ on_shard Calls.Flush 0 ∷ on_shard Calls.Flush 1 ∷ [] }
+    ensures stats { calls_of 2 Command.Stats
+        ≡ on_shard Calls.Tally 0 ∷ on_shard Calls.Tally 1 ∷ [] }
     ensures none { calls_of 16 Command.Version ≡ [] }
 {}
 

@@ -1,9 +1,12 @@
 //! The calls of a command.
 ghost use Rattle.std.specs.Prelude.{◌≡◌, ◌≤◌, [], ◌∷◌, ◌++◌, Err, IfOk, IfErr, OnOk};
 ghost use Rattle.zy_base.specs.declared.call.Call.{Call};
-ghost use Rattle.mc_parse.specs.Calls.{calls_of, on_shard, at_key, get_calls, flush_calls, stored_by, counted_by};
+ghost use Rattle.mc_parse.specs.OnAll.{made_by};
+ghost use Rattle.mc_parse.specs.Calls.{calls_of, on_shard, at_key, get_calls, meta_calls, calls_on_all, stored_by, counted_by};
 
 use crate::command::Command;
+use crate::meta::Meta;
+use crate::on_all::OnAll;
 use crate::shard_call::{Calls, ShardCall};
 use crate::verb::Verb;
 use std::alloc::Global;
@@ -38,10 +41,28 @@ pub fn calls(alloc: Global, command: &Command, shards: u32) -> Result<Calls, NoM
             amount,
             ..
         } => one_call(alloc, key, counted_by(*up, key, *amount), shards),
-        Command::Flush { .. } => flush_calls(alloc, shards),
+        Command::Flush { .. } => calls_on_all(alloc, OnAll::Flush, shards),
+        Command::Stats => calls_on_all(alloc, OnAll::Tally, shards),
+        Command::Meta { meta } => meta_calls(alloc, meta, shards),
         Command::Version | Command::Verbosity { .. } | Command::Fault { .. } => {
             Ok(Calls::new(alloc))
         }
+    }
+}
+
+// The call of a meta command.
+fn meta_calls(alloc: Global, meta: &Meta, shards: u32) -> Result<Calls, NoMemory>
+    requires some { 1 ≤ shards }
+    ensures value { IfOk result (λ calls. calls ≡ meta_calls shards meta.now) }
+{
+    match meta {
+        Meta::Noop => Ok(Calls::new(alloc)),
+        Meta::Get { key, .. } => one_call(alloc, key, got(key), shards),
+        Meta::Set { call, .. } => match call.key() {
+            Some(key) => one_call(alloc, key, call.copy(), shards),
+            None => Ok(Calls::new(alloc)),
+        },
+        Meta::Delete { key, .. } => one_call(alloc, key, deleted(key), shards),
     }
 }
 
@@ -60,7 +81,7 @@ pub(crate) fn stored_by(verb: Verb, key: &Blob, flags: u32, value: &Blob) -> Res
 }
 
 // The call that stores this value as a verb says.
-fn storing(verb: Verb, key: Blob, flags: u32, value: Blob) -> Call
+pub(crate) fn storing(verb: Verb, key: Blob, flags: u32, value: Blob) -> Call
     ensures value { result ≡ stored_by verb key flags value }
 {
     match verb {
@@ -89,6 +110,14 @@ pub(crate) fn exchanged(key: &Blob, flags: u32, unique: u64, value: &Blob) -> Re
             Err(e)
         }
     }
+}
+
+// The call that gets the item.
+pub(crate) fn got(key: &Blob) -> Result<Call, NoMemory>
+    ensures value { IfOk result (λ call. call ≡ Call.Get key.now) }
+{
+    let key = key.copy()?;
+    Ok(Call::Get { key })
 }
 
 // The call that removes the item.
@@ -173,13 +202,13 @@ fn push(calls: &mut Calls, call: ShardCall) -> Result<(), NoMemory>
     }
 }
 
-// A flush of each shard.
-fn flush_calls(alloc: Global, shards: u32) -> Result<Calls, NoMemory>
-    ensures value { IfOk result (λ calls. calls ≡ flush_calls shards) }
+// The same call on each shard.
+fn calls_on_all(alloc: Global, made: OnAll, shards: u32) -> Result<Calls, NoMemory>
+    ensures value { IfOk result (λ calls. calls ≡ calls_on_all (made_by made) shards) }
 {
     let mut calls = Calls::new(alloc);
     for shard in 0..shards {
-        let call = Call::Flush;
+        let call = made.call();
         if let Err(e) = push(&mut calls, ShardCall { shard, call }) {
             drop(calls);
             return Err(e);

@@ -28,6 +28,8 @@ pub(crate) enum Name {
     Flush,
     /// `quit`.
     Quit,
+    /// `stats`.
+    Stats,
 }
 
 /// The name that a word is.
@@ -37,6 +39,7 @@ pub(crate) fn name_of(word: &[u8]) -> Option<Name>
     match word.len() {
         3 => name_of_three(word),
         4 => name_of_four(word),
+        5 => name_of_five(word),
         6 => name_of_six(word),
         7 => name_of_seven(word),
         9 => name_of_nine(word),
@@ -60,7 +63,7 @@ pub(crate) fn arity_of(name: Name) -> Arity
         Name::Count { .. } => from_to(2, 3),
         Name::Verbosity => from_to(1, 2),
         Name::Flush => from_to(0, 2),
-        Name::Version | Name::Quit => Arity {
+        Name::Version | Name::Quit | Name::Stats => Arity {
             least: 0,
             most: Some(0),
             noreply: false,
@@ -97,6 +100,17 @@ fn name_of_four(word: &[u8]) -> Option<Name>
         Some(Name::Count { up: false })
     } else if is(word, b"quit") {
         Some(Name::Quit)
+    } else {
+        None
+    }
+}
+
+// The name that a word of five bytes is.
+fn name_of_five(word: &[u8]) -> Option<Name>
+    ensures value { result ≡ name_among word.now (names_of_length 5) }
+{
+    if is(word, b"stats") {
+        Some(Name::Stats)
     } else {
         None
     }

@@ -1,9 +1,12 @@
 //! One call of a command.
 ghost use Rattle.std.specs.Prelude.{◌≡◌, ◌<◌, ◌≤◌, IfOk, IfErr, IfSome, Some, Err, slice_get};
-ghost use Rattle.mc_parse.specs.Calls.{calls_of, get_calls, flush_calls, at_key, IsOnShard};
+ghost use Rattle.mc_parse.specs.OnAll.{made_by};
+ghost use Rattle.mc_parse.specs.Calls.{calls_of, get_calls, calls_on_all, meta_calls, at_key, IsOnShard};
 
 use crate::command::Command;
-use crate::listing::{counted_by, deleted, exchanged, stored_by};
+use crate::listing::{counted_by, deleted, exchanged, got, stored_by};
+use crate::meta::Meta;
+use crate::on_all::OnAll;
 use crate::shard_call::ShardCall;
 use zy_base::{Blob, Call, NoMemory, shard_of};
 
@@ -51,13 +54,15 @@ fn first_call(command: &Command, shards: u32) -> Result<Option<ShardCall>, NoMem
             amount,
             ..
         } => only_call(key, counted_by(*up, key, *amount), shards),
-        Command::Flush { .. } => Ok(flush_at(0, shards)),
+        Command::Flush { .. } => Ok(on_all_at(OnAll::Flush, 0, shards)),
+        Command::Stats => Ok(on_all_at(OnAll::Tally, 0, shards)),
+        Command::Meta { meta } => meta_call(meta, shards),
         Command::Version | Command::Verbosity { .. } | Command::Fault { .. } => Ok(None),
     }
 }
 
 // A call of a command that is not its first.
-#[tactic(auto, using(crate::proofs::CallLemmas::none_later))]
+#[tactic(auto, using(crate::proofs::CallLemmas::none_later, crate::proofs::CallLemmas::no_later_meta))]
 fn later_call(command: &Command, part: usize, shards: u32) -> Result<Option<ShardCall>, NoMemory>
     requires some { 1 ≤ shards }
     requires later { 0 < part }
@@ -66,14 +71,33 @@ fn later_call(command: &Command, part: usize, shards: u32) -> Result<Option<Shar
 {
     match command {
         Command::Get { keys, .. } => get_at(keys.items(), part, shards),
-        Command::Flush { .. } => Ok(flush_at(part, shards)),
+        Command::Flush { .. } => Ok(on_all_at(OnAll::Flush, part, shards)),
+        Command::Stats => Ok(on_all_at(OnAll::Tally, part, shards)),
         Command::Store { .. }
         | Command::Cas { .. }
         | Command::Delete { .. }
         | Command::Count { .. }
         | Command::Version
         | Command::Verbosity { .. }
-        | Command::Fault { .. } => Ok(None),
+        | Command::Fault { .. }
+        | Command::Meta { .. } => Ok(None),
+    }
+}
+
+// The call of a meta command.
+fn meta_call(meta: &Meta, shards: u32) -> Result<Option<ShardCall>, NoMemory>
+    requires some { 1 ≤ shards }
+    ensures value { IfOk result (λ call. call ≡ slice_get (meta_calls shards meta.now) 0) }
+    ensures within { IfOk result (λ call. IfSome call (IsOnShard shards)) }
+{
+    match meta {
+        Meta::Noop => Ok(None),
+        Meta::Get { key, .. } => only_call(key, got(key), shards),
+        Meta::Set { call, .. } => match call.key() {
+            Some(key) => only_call(key, call.copy(), shards),
+            None => Ok(None),
+        },
+        Meta::Delete { key, .. } => only_call(key, deleted(key), shards),
     }
 }
 
@@ -117,16 +141,16 @@ fn get_at(keys: &[Blob], part: usize, shards: u32) -> Result<Option<ShardCall>, 
     }
 }
 
-// The flush of the shard with this number.
-#[tactic(auto, using(crate::proofs::CallLemmas::flush_there, crate::proofs::CallLemmas::flush_past))]
-fn flush_at(part: usize, shards: u32) -> Option<ShardCall>
-    ensures value { result ≡ slice_get (flush_calls shards) part }
+// The call that is made on all shards, on the shard with this number.
+#[tactic(auto, using(crate::proofs::CallLemmas::on_all_there, crate::proofs::CallLemmas::on_all_past))]
+fn on_all_at(made: OnAll, part: usize, shards: u32) -> Option<ShardCall>
+    ensures value { result ≡ slice_get (calls_on_all (made_by made) shards) part }
     ensures within { IfSome result (IsOnShard shards) }
 {
     if part < shards as usize {
         Some(ShardCall {
             shard: part as u32,
-            call: Call::Flush,
+            call: made.call(),
         })
     } else {
         None

@@ -1,10 +1,11 @@
 //! The command of a line, and of a line with its block.
-ghost use Rattle.std.specs.Prelude.{◌≡◌, ◌≤◌, [], ◌∷◌, ◌++◌, length, IfOk, IfErr, OnOk};
+ghost use Rattle.std.specs.Prelude.{◌≡◌, ◌≤◌, false, [], ◌∷◌, ◌++◌, length, IfOk, IfErr, OnOk};
 ghost use Rattle.mc_parse.specs.declared.need.Need.{Need};
 ghost use Rattle.mc_parse.specs.declared.command.Command.{Command};
 ghost use Rattle.mc_parse.specs.Words.{words, line_limit};
 ghost use Rattle.mc_parse.specs.Need.{need};
-ghost use Rattle.mc_parse.specs.Form.{ask_seen};
+ghost use Rattle.mc_parse.specs.MetaAsk.{meta_ask_seen};
+ghost use Rattle.mc_parse.specs.Form.{ask_seen, asks, metas};
 ghost use Rattle.mc_parse.specs.Line.{form_seen};
 ghost use Rattle.mc_parse.specs.Meaning.{line_command, block_command, large_command, alone_command, value_command, command_for, block_command_for, large_command_for, fault, is_ended, value_of, IsBlockFor, IsTooLarge};
 
@@ -12,6 +13,8 @@ use crate::asking::Ask;
 use crate::command::{Command, Keys};
 use crate::error_line::ErrorLine;
 use crate::line::Line;
+use crate::meta_ask::MetaAsk;
+use crate::meta_command::{alone_meta, value_meta};
 use crate::reading::read_line;
 use crate::word::next_word;
 use std::alloc::Global;
@@ -58,6 +61,7 @@ fn command_for(alloc: Global, line: Line<'_>) -> Result<Command, NoMemory>
     match line {
         Line::Fault(line) => Ok(fault(line)),
         Line::Asks { ask, quiet } => alone_command(alloc, ask, quiet),
+        Line::Meta(ask) => alone_meta(alloc, ask),
     }
 }
 
@@ -70,6 +74,7 @@ fn alone_command(alloc: Global, ask: Ask<'_>, quiet: bool) -> Result<Command, No
         Ask::Delete { key } => delete_command(alloc, key, quiet),
         Ask::Count { key, up, amount } => count_command(alloc, key, up, amount, quiet),
         Ask::Version => Ok(Command::Version),
+        Ask::Stats => Ok(Command::Stats),
         Ask::Verbosity => Ok(Command::Verbosity { quiet }),
         Ask::Flush => Ok(Command::Flush { quiet }),
         Ask::Store { .. } | Ask::Cas { .. } | Ask::Quit => Ok(fault(ErrorLine::Unknown)),
@@ -136,7 +141,24 @@ fn block_command_for(
             }
             value_command(alloc, ask, quiet, block)
         }
+        Line::Meta(ask) => meta_block(alloc, ask, block),
     }
+}
+
+// The meta command that asks for this, with its block. Its faults are never quiet.
+fn meta_block(alloc: Global, ask: MetaAsk<'_>, mut block: Blob) -> Result<Command, (Blob, NoMemory)>
+    ensures value { IfOk result (λ command. command
+        ≡ block_command_for block (asks (metas (meta_ask_seen ask.entry)) false)) }
+    ensures returned { IfErr result (λ e. e.0 ≡ block) }
+{
+    if !is_ended(&block) {
+        drop(block);
+        return Ok(fault(ErrorLine::BadChunk));
+    }
+    if let Err(e) = block.share() {
+        return Err((block, e));
+    }
+    value_meta(alloc, ask, block)
 }
 
 // The command that asks for this with the value of a block.
@@ -195,11 +217,12 @@ fn large_command_for(line: Line<'_>) -> Command
     match line {
         Line::Fault(line) => fault(line),
         Line::Asks { quiet, .. } => block_fault(ErrorLine::TooLarge, quiet),
+        Line::Meta(_) => fault(ErrorLine::TooLarge),
     }
 }
 
-// A fault of a line, which is never quiet.
-fn fault(line: ErrorLine) -> Command
+// A fault of a line or of a meta command, which is never quiet.
+pub(crate) fn fault(line: ErrorLine) -> Command
     ensures value { result ≡ fault line }
 {
     Command::Fault { line, quiet: false }
@@ -221,7 +244,7 @@ fn is_ended(block: &Blob) -> bool
 }
 
 // The value in a block, moved out of it.
-fn value_of(mut block: Blob) -> Blob
+pub(crate) fn value_of(mut block: Blob) -> Blob
     ensures value { result ≡ value_of block }
 {
     let len = block.bytes().len().saturating_sub(2);

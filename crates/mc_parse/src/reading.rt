@@ -1,28 +1,31 @@
 //! What a line says, read from its words in one pass.
-ghost use Rattle.std.specs.Prelude.{◌≡◌, not};
+ghost use Rattle.std.specs.Prelude.{◌≡◌, ◌≤◌, length, not};
 ghost use Rattle.std.specs.List.{list_all};
 ghost use Rattle.mc_parse.specs.declared.name.Name.TheVariants as Names;
-ghost use Rattle.mc_parse.specs.Words.{words};
-ghost use Rattle.mc_parse.specs.Form.{is_key, keys_among, form_with, form_after, form_of};
+ghost use Rattle.mc_parse.specs.Words.{words, line_limit};
+ghost use Rattle.mc_parse.specs.Form.{is_key, keys_among, form_with, form_after, line_form};
 ghost use Rattle.mc_parse.specs.Line.{texts, form_seen, HasFew};
 
 use crate::args::Args;
 use crate::asking::{Ask, number_fault, read_ask};
 use crate::error_line::ErrorLine;
 use crate::line::Line;
+use crate::meta_ask::read_meta_line;
 use crate::name::{Name, arity_of, name_of};
 use crate::word::{is_key, next_word};
 
 /// What a line says, or its first fault.
+#[tactic(auto, using(crate::proofs::MetaLemmas::named_form))]
 pub(crate) fn read_line(line: &[u8]) -> Line<'_>
-    ensures value { form_seen result ≡ form_of (words line.now) }
+    requires within { length line.now ≤ line_limit }
+    ensures value { form_seen result ≡ line_form line.now }
 {
     let Some(first) = next_word(line) else {
         return Line::Fault(ErrorLine::Unknown);
     };
     match name_of(first.word) {
         Some(name) => read_after(name, first.rest),
-        None => Line::Fault(ErrorLine::Unknown),
+        None => read_meta_line(line),
     }
 }
 

@@ -1,16 +1,20 @@
 -- The texts of plain commands show no unique.
 use Rattle.std.proofs.Common.{◌≡◌, ℕ, ◌+◌, Bool, true, false, cond, List, [], ◌∷◌, ◌++◌, map, refl, ap, ◌∙◌}
-use Rattle.std.specs.Prelude.{◌==◌, filter, codes}
+use Rattle.std.specs.Prelude.{◌==◌, ◌||◌, filter, codes, decimal, if◌then◌else◌, Some}
 use Rattle.std.specs.List.{AllByRecursion}
 use Rattle.zy_base.specs.declared.call_reply.CallReply.{CallReply}
 use Rattle.zy_base.specs.declared.call_reply.CallReply.TheVariants.{Hit}
 use Rattle.zy_base.specs.declared.entry.Entry.{Entry}
 use Rattle.zy_base.specs.Replies.{replies_at}
 use Rattle.mc_parse.specs.declared.command.Command.{Command}
-use Rattle.mc_parse.specs.declared.command.Command.TheVariants.{Store, Cas, Get, Delete, Count, Flush}
+use Rattle.mc_parse.specs.declared.command.Command.TheVariants.{Store, Cas, Get, Delete, Count, Flush, Meta, Stats}
+use Rattle.mc_parse.specs.declared.meta.Meta.{Meta as MetaCommand}
+use Rattle.mc_parse.specs.declared.meta.Meta.TheVariants as Metas
 use Rattle.mc_reply.specs.Text.{text, line, reply_line, only_line, item_text, items_text, unless}
 use Rattle.mc_reply.specs.Texts.{texts_from}
-use Rattle.mc_parse.specs.Plain.{IsPlain}
+use Rattle.mc_reply.specs.MetaText.{found_of, mark_text, marks_text, marked, hit_text, get_text, set_text, delete_text, meta_text}
+use Rattle.mc_meta.specs.Flags.{is_among}
+use Rattle.mc_parse.specs.Plain.{IsPlain, IsPlainMeta}
 use Rattle.zy_base.specs.Told.{told, told_of, all_told}
 
 -- ---- one command
@@ -36,6 +40,59 @@ items-told (key ∷ keys) (reply ∷ replies) =
     ap (λ (item : List ℕ). item ++ items_text false keys (map told replies)) (item-told key reply)
     ∙ ap (λ (items : List ℕ). item_text false key reply ++ items) (items-told keys replies)
 
+-- ---- one meta command
+
+mark-told : (key value : List ℕ) (flags unique letter : ℕ) → (letter == 99) ≡ false → mark_text key (Some (found_of flags 0 value)) letter ≡ mark_text key (Some (found_of flags unique value)) letter
+mark-told key value flags unique letter other = rw other refl
+
+neither : (a b : Bool) → a || b ≡ false → (a ≡ false) × (b ≡ false)
+neither false b is = (refl, is)
+neither true b is = absurd (cc)
+
+marks-told : (key value : List ℕ) (flags unique : ℕ) (letters : List ℕ) → is_among letters 99 ≡ false → marks_text key (Some (found_of flags 0 value)) letters ≡ marks_text key (Some (found_of flags unique value)) letters
+marks-told key value flags unique [] other = refl
+marks-told key value flags unique (letter ∷ letters) other =
+    let parts = neither (letter == 99) (is_among letters 99) other in
+    ap (λ (mark : List ℕ). mark ++ marks_text key (Some (found_of flags 0 value)) letters) (mark-told key value flags unique letter parts.0)
+    ∙ ap (λ (marks : List ℕ). mark_text key (Some (found_of flags unique value)) letter ++ marks) (marks-told key value flags unique letters parts.1)
+
+hit-told : (key value letters : List ℕ) (flags unique : ℕ) → is_among letters 99 ≡ false → hit_text key letters (found_of flags 0 value) value ≡ hit_text key letters (found_of flags unique value) value
+hit-told key value letters flags unique other = go (is_among letters 118)
+  where
+    head : List ℕ
+    head = codes "VA " ++ decimal (found_of flags unique value).bytes
+
+    go : (shown : Bool) → (if shown then marked head key (Some (found_of flags 0 value)) letters ++ line value else marked (codes "HD") key (Some (found_of flags 0 value)) letters)
+        ≡ (if shown then marked head key (Some (found_of flags unique value)) letters ++ line value else marked (codes "HD") key (Some (found_of flags unique value)) letters)
+    go true = ap (λ (marks : List ℕ). line (head ++ marks) ++ line value) (marks-told key value flags unique letters other)
+    go false = ap (λ (marks : List ℕ). line (codes "HD" ++ marks)) (marks-told key value flags unique letters other)
+
+get-told : (key letters : List ℕ) (reply : CallReply) → is_among letters 99 ≡ false → get_text key letters (told reply) ≡ get_text key letters reply
+get-told key letters (Hit flags unique value) other = hit-told key value letters flags unique other
+get-told key letters reply other = refl
+
+set-told : (key marks : List ℕ) (reply : CallReply) → set_text key marks (told reply) ≡ set_text key marks reply
+set-told key marks (Hit flags unique value) = refl
+set-told key marks reply = refl
+
+delete-told : (key flags : List ℕ) (reply : CallReply) → delete_text key flags (told reply) ≡ delete_text key flags reply
+delete-told key flags (Hit item_flags unique value) = refl
+delete-told key flags reply = refl
+
+meta-told : (meta : MetaCommand) (replies : List CallReply) → IsPlainMeta meta → meta_text meta (map told replies) ≡ meta_text meta replies
+meta-told Metas.Noop replies plain = refl
+meta-told (Metas.Get key flags) [] plain = refl
+meta-told (Metas.Get key flags) (reply ∷ []) plain = get-told key flags reply plain
+meta-told (Metas.Get key flags) (reply ∷ next ∷ replies) plain = refl
+meta-told (Metas.Set key call marks) [] plain = refl
+meta-told (Metas.Set key call marks) (reply ∷ []) plain = set-told key marks reply
+meta-told (Metas.Set key call marks) (reply ∷ next ∷ replies) plain = refl
+meta-told (Metas.Delete key flags) [] plain = refl
+meta-told (Metas.Delete key flags) (reply ∷ []) plain = delete-told key flags reply
+meta-told (Metas.Delete key flags) (reply ∷ next ∷ replies) plain = refl
+
+-- ---- one command of any kind
+
 -- the text of a plain command is the text of its replies without their uniques
 pub text-told : (command : Command) (replies : List CallReply) → IsPlain command → text command (map told replies) ≡ text command replies
 unfolding text
@@ -46,6 +103,8 @@ text-told (Get keys false) replies plain = ap (λ (items : List ℕ). items ++ l
 text-told (Delete key quiet) replies plain = ap (unless quiet) (only_line-told replies)
 text-told (Count key up amount quiet) replies plain = ap (unless quiet) (only_line-told replies)
 text-told (Flush quiet) replies plain = absurd plain
+text-told Stats replies plain = absurd plain
+text-told (Meta meta) replies plain = meta-told meta replies plain
 text-told command replies plain = refl
 
 -- ---- all commands

@@ -1,26 +1,17 @@
 -- The text that answers a command with its replies (docs/PROFILE.md, "Answers"; memcached's
 -- protocol.txt).
-use Rattle.std.specs.Prelude.{ℕ, Bool, true, false, if◌then◌else◌, List, [], ◌∷◌, ◌++◌, length, codes, decimal}
+use Rattle.std.specs.Prelude.{ℕ, Bool, true, false, List, [], ◌∷◌, ◌++◌, length, codes, decimal}
 use Rattle.zy_base.specs.declared.call_reply.CallReply.{CallReply}
-use Rattle.zy_base.specs.declared.call_reply.CallReply.TheVariants.{Miss, Hit, Stored, NotStored, Exists, NotFound, Deleted, Number, NotNumber, TooLarge, Flushed}
+use Rattle.zy_base.specs.declared.call_reply.CallReply.TheVariants.{Miss, Hit, Stored, NotStored, Exists, NotFound, Deleted, Number, NotNumber, TooLarge, Flushed, Tally}
 use Rattle.mc_parse.specs.declared.error_line.ErrorLine.{ErrorLine}
 use Rattle.mc_parse.specs.declared.error_line.ErrorLine.TheVariants as Errors
 use Rattle.mc_parse.specs.declared.command.Command.{Command}
-use Rattle.mc_parse.specs.declared.command.Command.TheVariants.{Store, Cas, Get, Delete, Count, Version, Verbosity, Flush, Fault}
+use Rattle.mc_parse.specs.declared.command.Command.TheVariants.{Store, Cas, Get, Delete, Count, Version, Verbosity, Flush, Fault, Meta, Stats}
+pub use Rattle.mc_reply.specs.Line.{line_end, line, too_large, unless}
+use Rattle.mc_reply.specs.MetaText.{meta_text}
+use Rattle.mc_reply.specs.StatsText.{stats_text}
 
 -- ---- lines
-
--- the bytes that end a line
-abbrev pub line_end : List ℕ
-line_end = codes "\r\n"
-
--- a text as a line
-abbrev pub line : List ℕ → List ℕ
-line text = text ++ line_end
-
--- an object that is too large, as one value or joined from two
-abbrev pub too_large : List ℕ
-too_large = codes "SERVER_ERROR object too large for cache"
 
 -- the line of a fault
 abbrev pub error_line : ErrorLine → List ℕ
@@ -44,6 +35,7 @@ reply_line TooLarge = line too_large
 reply_line Miss = []
 reply_line (Hit flags unique value) = []
 reply_line Flushed = []
+reply_line (Tally gets sets hits misses items) = []
 
 -- the line of the one reply
 abbrev pub only_line : List CallReply → List ℕ
@@ -80,10 +72,6 @@ items_text asked keys replies = []
 
 -- ---- commands
 
--- nothing, where no answer is asked for
-abbrev pub unless : Bool → List ℕ → List ℕ
-unless quiet text = if quiet then [] else text
-
 -- the text of a command with its replies
 unfoldable pub text : Command → List CallReply → List ℕ
 text (Store verb key flags value quiet) replies = unless quiet (only_line replies)
@@ -91,7 +79,9 @@ text (Cas key flags unique value quiet) replies = unless quiet (only_line replie
 text (Get keys unique) replies = items_text unique keys replies ++ line (codes "END")
 text (Delete key quiet) replies = unless quiet (only_line replies)
 text (Count key up amount quiet) replies = unless quiet (only_line replies)
+text Stats replies = stats_text replies
 text Version replies = line (codes "VERSION zygos-1.0")
 text (Verbosity quiet) replies = unless quiet (line (codes "OK"))
 text (Flush quiet) replies = unless quiet (line (codes "OK"))
 text (Fault fault quiet) replies = unless quiet (error_line fault)
+text (Meta meta) replies = meta_text meta replies

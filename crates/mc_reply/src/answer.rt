@@ -1,6 +1,6 @@
 //! Answers other than items.
 
-/// The answer to a command other than a retrieval.
+/// The answer to a command other than a retrieval or a meta command.
 #[derive(Clone, Copy)]
 pub(crate) enum Answer {
     /// Nothing, where no answer is asked for.

@@ -1,4 +1,4 @@
-//! The answer to a command other than a retrieval.
+//! The answer to a command other than a retrieval or a meta command.
 ghost use Rattle.std.specs.Prelude.{◌≡◌};
 ghost use Rattle.mc_reply.specs.Text.{text, unless, error_line, reply_line, only_line};
 ghost use Rattle.mc_reply.specs.Answers.{AnswerCommand};
@@ -25,7 +25,7 @@ pub(crate) fn answer_to(command: &Command, replies: &[CallReply]) -> Answer
             unless(*quiet, Answer::Line(lines::OK))
         }
         Command::Fault { line, quiet } => unless(*quiet, fault_answer(*line)),
-        Command::Get { .. } => unreachable!(),
+        Command::Get { .. } | Command::Meta { .. } | Command::Stats => unreachable!(),
     }
 }
 
@@ -59,7 +59,8 @@ fn reply_answer(reply: &CallReply) -> Answer
         CallReply::Number { number } => Answer::Number(*number),
         CallReply::NotNumber => Answer::Line(lines::NOT_NUMBER),
         CallReply::TooLarge => Answer::Line(lines::TOO_LARGE),
-        CallReply::Miss | CallReply::Hit { .. } | CallReply::Flushed => Answer::Nothing,
+        CallReply::Miss | CallReply::Hit { .. } | CallReply::Flushed | CallReply::Tally { .. } =>
+            Answer::Nothing,
     }
 }
 

@@ -5,10 +5,14 @@ ghost use Rattle.zy_base.specs.declared.call_reply.CallReply.TheVariants as Repl
 ghost use Rattle.zy_base.specs.declared.entry.Entry.{Entry};
 ghost use Rattle.zy_base.specs.Replies.{replies_at};
 ghost use Rattle.mc_parse.specs.declared.command.Command.{Command};
+ghost use Rattle.mc_parse.specs.declared.meta.Meta.TheVariants as Metas;
+ghost use Rattle.zy_base.specs.declared.call.Call.TheVariants as Calls;
 ghost use Rattle.mc_parse.specs.declared.verb.Verb.TheVariants as Verbs;
 ghost use Rattle.mc_parse.specs.declared.error_line.ErrorLine.TheVariants as Errors;
 ghost use Rattle.zy_base.specs.Told.{told};
 ghost use Rattle.mc_parse.specs.Plain.{IsPlain};
+ghost use Rattle.mc_reply.specs.declared.stats.Stat.TheVariants as Stats;
+ghost use Rattle.mc_reply.specs.StatsText.{sum_in, stat_line};
 ghost use Rattle.mc_reply.specs.Text.{text};
 ghost use Rattle.mc_reply.specs.Texts.{texts_from, texts_of};
 
@@ -28,6 +32,8 @@ pub fn worked_answers()
     ensures number { text (Command.Count (codes "a") true 1 false) (Replies.Number 100 ∷ [])
         ≡ codes "100\r\n" }
     ensures version { text Command.Version [] ≡ codes "VERSION zygos-1.0\r\n" }
+    ensures stats { text Command.Stats (Replies.Tally 2 0 1 1 0 ∷ Replies.Tally 0 1 0 0 1 ∷ [])
+        ≡ codes "STAT cmd_get 2\r\nSTAT cmd_set 1\r\nSTAT get_hits 1\r\nSTAT get_misses 1\r\nSTAT curr_items 1\r\nEND\r\n" }
     ensures fault { text (Command.Fault Errors.TooLarge false) []
         ≡ codes "SERVER_ERROR object too large for cache\r\n" }
 {}
@@ -70,6 +76,35 @@ pub fn worked_faults()
     ensures silent { text (Command.Fault Errors.BadChunk true) [] ≡ [] }
 {}
 
+/// Worked answers to meta commands: the marks are in the order of the line, and `q` hides some answers.
+#[tactic(auto, unfolding(crate::specs::Text::text))]
+pub fn worked_meta_answers()
+    ensures noop { text (Command.Meta Metas.Noop) [] ≡ codes "MN\r\n" }
+    ensures marks { text (Command.Meta (Metas.Get (codes "a") (codes "svfkc")))
+        (Replies.Hit 5 28 (codes "x") ∷ [])
+        ≡ codes "VA 1 s1 f5 ka c28\r\nx\r\n" }
+    ensures hit { text (Command.Meta (Metas.Get (codes "a") (codes "kq")))
+        (Replies.Hit 5 28 (codes "x") ∷ [])
+        ≡ codes "HD ka\r\n" }
+    ensures miss { text (Command.Meta (Metas.Get (codes "a") (codes "vk"))) (Replies.Miss ∷ [])
+        ≡ codes "EN\r\n" }
+    ensures quiet_miss { text (Command.Meta (Metas.Get (codes "a") (codes "kq"))) (Replies.Miss ∷ [])
+        ≡ [] }
+    ensures stored { map (λ marks. text (Command.Meta (Metas.Set (codes "a") Calls.Flush marks))
+        (Replies.Stored ∷ [])) ([] ∷ codes "k" ∷ codes "kq" ∷ [])
+        ≡ codes "HD\r\n" ∷ codes "HD ka\r\n" ∷ [] ∷ [] }
+    ensures others { map (λ reply. text (Command.Meta (Metas.Set (codes "a") Calls.Flush (codes "qk")))
+        (reply ∷ [])) (Replies.NotStored ∷ Replies.Exists ∷ Replies.NotFound ∷ Replies.TooLarge ∷ [])
+        ≡ codes "NS ka\r\n" ∷ codes "EX ka\r\n" ∷ codes "NF ka\r\n"
+        ∷ codes "SERVER_ERROR object too large for cache\r\n" ∷ [] }
+    ensures deleted { map (λ reply. text (Command.Meta (Metas.Delete (codes "a") (codes "k")))
+        (reply ∷ [])) (Replies.Deleted ∷ Replies.NotFound ∷ [])
+        ≡ codes "HD ka\r\n" ∷ codes "NF ka\r\n" ∷ [] }
+    ensures quiet { map (λ reply. text (Command.Meta (Metas.Delete (codes "a") (codes "kq")))
+        (reply ∷ [])) (Replies.Deleted ∷ Replies.NotFound ∷ [])
+        ≡ [] ∷ [] ∷ [] }
+{}
+
 /// Worked answers with numbers at their limits, and a value of two lines.
 #[tactic(auto, unfolding(crate::specs::Text::text))]
 pub fn worked_limits()
@@ -82,6 +117,8 @@ pub fn worked_limits()
         ≡ codes "18446744073709551615\r\n" }
     ensures zero { text (Command.Count (codes "a") false 1 false) (Replies.Number 0 ∷ [])
         ≡ codes "0\r\n" }
+    ensures sum { stat_line Stats.Gets (sum_in Stats.Gets (Replies.Tally 18446744073709551615 0 0 0 0
+        ∷ Replies.Tally 1 0 0 0 0 ∷ [])) ≡ codes "STAT cmd_get 18446744073709551616\r\n" }
 {}
 
 /// Each command has one text, made from the replies in its own entries.

@@ -23,6 +23,10 @@ pub(crate) const OK: &[u8] = b"OK\r\n";
 
 pub(crate) const END: &[u8] = b"END\r\n";
 
+pub(crate) const NOOP: &[u8] = b"MN\r\n";
+
+pub(crate) const MISS: &[u8] = b"EN\r\n";
+
 pub(crate) const UNKNOWN: &[u8] = b"ERROR\r\n";
 
 pub(crate) const BAD_LINE: &[u8] = b"CLIENT_ERROR bad command line format\r\n";

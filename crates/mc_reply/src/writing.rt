@@ -9,6 +9,8 @@ use crate::answering::answer_to;
 use crate::item::put_item;
 use crate::length::items_length;
 use crate::lines::{END, LINE_END};
+use crate::meta_answer::append_meta;
+use crate::stats::append_stats;
 use mc_parse::Command;
 use std::mem;
 use zy_base::{Blob, CallReply, NoMemory, Replies, Reserved, number_text};
@@ -25,6 +27,8 @@ pub fn reply_text(out: &mut Blob, command: &Command, replies: &Replies) -> Resul
         Command::Get { keys, unique } => {
             append_items(out, *unique, keys.items(), replies.items())
         }
+        Command::Meta { meta } => append_meta(out, meta, replies.items()),
+        Command::Stats => append_stats(out, replies.items()),
         _ => append_answer(out, answer_to(command, replies.items())),
     }
 }

@@ -8,12 +8,13 @@ use Rattle.std.specs.Cmp.Lexicographic.{slice_cmp, nat_list_cmp_total}
 use Rattle.std.specs.FinMap.{get, get-empty, get-insert, get-remove, slice_cmp-IsAntisymmetric, nat_cmp-IsAntisymmetric}
 use Rattle.zy_base.specs.declared.item.Item.{Item}
 use Rattle.zy_base.specs.declared.call.Call.{Call}
-use Rattle.zy_base.specs.declared.call.Call.TheVariants.{Get, Set, Add, Replace, Append, Prepend, Cas, Incr, Decr, Delete, Flush}
+use Rattle.zy_base.specs.declared.call.Call.TheVariants.{Get, Set, Add, Replace, Append, Prepend, Cas, Incr, Decr, Delete, Flush, Tally}
 use Rattle.zy_base.specs.declared.call_reply.CallReply.{CallReply}
 use Rattle.zy_base.specs.declared.call_reply.CallReply.TheVariants.{Stored, TooLarge}
+use Rattle.zy_base.specs.declared.tallied.Tallied.{Tallied}
 use Rattle.zy_base.specs.Call.{key_of}
 use Rattle.zy_base.specs.Number.{number_of}
-use Rattle.zy_base.specs.Shard.{Items, State, Effect, keeps, stores, removes, empties, Outcome, value_limit, joined, counted_up, counted_down, outcome_of, outcome_on, state_with, state_after, reply_to}
+use Rattle.zy_base.specs.Shard.{Items, State, tallied, Effect, keeps, stores, removes, empties, Outcome, value_limit, joined, counted_up, counted_down, outcome_of, outcome_on, item_at, state_with, state_after, reply_to}
 use Rattle.mc_shard.specs.KeyReplies.{is_cas, AreWithoutCas, is_same, is_key, is_about, calls_about, without_unique, replies_about}
 
 -- ---- one key without uniques
@@ -34,10 +35,14 @@ plain_after found (stores key flags value) = Some (record { flags = flags; value
 plain_after found (removes key) = None
 plain_after found empties = None
 
+-- what a shard counts, of which calls on a key do not depend
+abbrev nothing : Tallied
+nothing = record { gets = 0; sets = 0; hits = 0; misses = 0; items = 0 }
+
 -- the replies to the calls on one key, which has this item at first
 abbrev replies_from : Option Item → List Call → List CallReply
 replies_from found [] = []
-replies_from found (call ∷ calls) = (outcome_of call found).reply ∷ replies_from (plain_after found (outcome_of call found).effect) calls
+replies_from found (call ∷ calls) = (outcome_of nothing call found).reply ∷ replies_from (plain_after found (outcome_of nothing call found).effect) calls
 
 -- an outcome without the unique that it shows
 abbrev plain_outcome : Outcome → Outcome
@@ -58,29 +63,30 @@ plain-counted_down : (key : List ℕ) (item : Item) (amount : ℕ) (number : Opt
 plain-counted_down key item amount None = refl
 plain-counted_down key item amount (Some number) = refl
 
--- without a cas, no unique is read
-plain-outcome_of : (call : Call) (found : Option Item) → is_cas call ≡ false → plain_outcome (outcome_of call found) ≡ outcome_of call (plain found)
-plain-outcome_of (Get key) None is = refl
-plain-outcome_of (Get key) (Some item) is = refl
-plain-outcome_of (Set key flags value) None is = refl
-plain-outcome_of (Set key flags value) (Some item) is = refl
-plain-outcome_of (Add key flags value) None is = refl
-plain-outcome_of (Add key flags value) (Some item) is = refl
-plain-outcome_of (Replace key flags value) None is = refl
-plain-outcome_of (Replace key flags value) (Some item) is = refl
-plain-outcome_of (Append key value) None is = refl
-plain-outcome_of (Append key value) (Some item) is = plain-joined key item (item.value ++ value)
-plain-outcome_of (Prepend key value) None is = refl
-plain-outcome_of (Prepend key value) (Some item) is = plain-joined key item (value ++ item.value)
-plain-outcome_of (Cas key flags unique value) found is = cc
-plain-outcome_of (Incr key amount) None is = refl
-plain-outcome_of (Incr key amount) (Some item) is = plain-counted_up key item amount (number_of item.value)
-plain-outcome_of (Decr key amount) None is = refl
-plain-outcome_of (Decr key amount) (Some item) is = plain-counted_down key item amount (number_of item.value)
-plain-outcome_of (Delete key) None is = refl
-plain-outcome_of (Delete key) (Some item) is = refl
-plain-outcome_of Flush None is = refl
-plain-outcome_of Flush (Some item) is = refl
+-- without a cas, no unique is read; a tally is not on a key
+plain-outcome_of : (counts : Tallied) (key : List ℕ) (call : Call) (found : Option Item) → is_about key call ≡ true → is_cas call ≡ false → plain_outcome (outcome_of counts call found) ≡ outcome_of nothing call (plain found)
+plain-outcome_of counts at (Get key) None about is = refl
+plain-outcome_of counts at (Get key) (Some item) about is = refl
+plain-outcome_of counts at (Set key flags value) None about is = refl
+plain-outcome_of counts at (Set key flags value) (Some item) about is = refl
+plain-outcome_of counts at (Add key flags value) None about is = refl
+plain-outcome_of counts at (Add key flags value) (Some item) about is = refl
+plain-outcome_of counts at (Replace key flags value) None about is = refl
+plain-outcome_of counts at (Replace key flags value) (Some item) about is = refl
+plain-outcome_of counts at (Append key value) None about is = refl
+plain-outcome_of counts at (Append key value) (Some item) about is = plain-joined key item (item.value ++ value)
+plain-outcome_of counts at (Prepend key value) None about is = refl
+plain-outcome_of counts at (Prepend key value) (Some item) about is = plain-joined key item (value ++ item.value)
+plain-outcome_of counts at (Cas key flags unique value) found about is = cc
+plain-outcome_of counts at (Incr key amount) None about is = refl
+plain-outcome_of counts at (Incr key amount) (Some item) about is = plain-counted_up key item amount (number_of item.value)
+plain-outcome_of counts at (Decr key amount) None about is = refl
+plain-outcome_of counts at (Decr key amount) (Some item) about is = plain-counted_down key item amount (number_of item.value)
+plain-outcome_of counts at (Delete key) None about is = refl
+plain-outcome_of counts at (Delete key) (Some item) about is = refl
+plain-outcome_of counts at Flush None about is = refl
+plain-outcome_of counts at Flush (Some item) about is = refl
+plain-outcome_of counts at Tally found about is = cc
 
 -- ---- a call touches its own key
 
@@ -106,29 +112,30 @@ counted_down_for : (key : List ℕ) (item : Item) (amount : ℕ) (number : Optio
 counted_down_for key item amount None = tt
 counted_down_for key item amount (Some number) = refl
 
-effect_for : (call : Call) (found : Option Item) → IsFor (key_of call) (outcome_of call found).effect
-effect_for (Get key) None = tt
-effect_for (Get key) (Some item) = tt
-effect_for (Set key flags value) None = refl
-effect_for (Set key flags value) (Some item) = refl
-effect_for (Add key flags value) None = refl
-effect_for (Add key flags value) (Some item) = tt
-effect_for (Replace key flags value) None = tt
-effect_for (Replace key flags value) (Some item) = refl
-effect_for (Append key value) None = tt
-effect_for (Append key value) (Some item) = chosen_for (Some key) (nat_lt value_limit (length (item.value ++ value))) _ _ tt refl
-effect_for (Prepend key value) None = tt
-effect_for (Prepend key value) (Some item) = chosen_for (Some key) (nat_lt value_limit (length (value ++ item.value))) _ _ tt refl
-effect_for (Cas key flags unique value) None = tt
-effect_for (Cas key flags unique value) (Some item) = chosen_for (Some key) (item.unique == unique) _ _ refl tt
-effect_for (Incr key amount) None = tt
-effect_for (Incr key amount) (Some item) = counted_up_for key item amount (number_of item.value)
-effect_for (Decr key amount) None = tt
-effect_for (Decr key amount) (Some item) = counted_down_for key item amount (number_of item.value)
-effect_for (Delete key) None = tt
-effect_for (Delete key) (Some item) = refl
-effect_for Flush None = tt
-effect_for Flush (Some item) = tt
+effect_for : (counts : Tallied) (call : Call) (found : Option Item) → IsFor (key_of call) (outcome_of counts call found).effect
+effect_for counts (Get key) None = tt
+effect_for counts (Get key) (Some item) = tt
+effect_for counts (Set key flags value) None = refl
+effect_for counts (Set key flags value) (Some item) = refl
+effect_for counts (Add key flags value) None = refl
+effect_for counts (Add key flags value) (Some item) = tt
+effect_for counts (Replace key flags value) None = tt
+effect_for counts (Replace key flags value) (Some item) = refl
+effect_for counts (Append key value) None = tt
+effect_for counts (Append key value) (Some item) = chosen_for (Some key) (nat_lt value_limit (length (item.value ++ value))) _ _ tt refl
+effect_for counts (Prepend key value) None = tt
+effect_for counts (Prepend key value) (Some item) = chosen_for (Some key) (nat_lt value_limit (length (value ++ item.value))) _ _ tt refl
+effect_for counts (Cas key flags unique value) None = tt
+effect_for counts (Cas key flags unique value) (Some item) = chosen_for (Some key) (item.unique == unique) _ _ refl tt
+effect_for counts (Incr key amount) None = tt
+effect_for counts (Incr key amount) (Some item) = counted_up_for key item amount (number_of item.value)
+effect_for counts (Decr key amount) None = tt
+effect_for counts (Decr key amount) (Some item) = counted_down_for key item amount (number_of item.value)
+effect_for counts (Delete key) None = tt
+effect_for counts (Delete key) (Some item) = refl
+effect_for counts Flush None = tt
+effect_for counts Flush (Some item) = tt
+effect_for counts Tally found = tt
 
 chosen : {A : Type 0} (b : Bool) (x y : A) → b ≡ true → cond b x y ≡ x
 chosen true x y is = refl
@@ -174,22 +181,33 @@ equal Greater is = cc
 same_item : (items : Items) (key other : List ℕ) → is_same key other ≡ true → get items other ≡ get items key
 same_item items key other is = ap (get items) (sym (slice_cmp-IsAntisymmetric nat_cmp-IsAntisymmetric key other (equal _ is)))
 
--- the outcome of a call about the key, on the items, is its outcome on the item of the key
-finds : (items : Items) (key : List ℕ) (call : Call) → is_about key call ≡ true → outcome_on items call ≡ outcome_of call (get items key)
-finds items key (Get k) is = ap (outcome_of (Get k)) (same_item items key k is)
-finds items key (Set k flags value) is = ap (outcome_of (Set k flags value)) (same_item items key k is)
-finds items key (Add k flags value) is = ap (outcome_of (Add k flags value)) (same_item items key k is)
-finds items key (Replace k flags value) is = ap (outcome_of (Replace k flags value)) (same_item items key k is)
-finds items key (Append k value) is = ap (outcome_of (Append k value)) (same_item items key k is)
-finds items key (Prepend k value) is = ap (outcome_of (Prepend k value)) (same_item items key k is)
-finds items key (Cas k flags unique value) is = ap (outcome_of (Cas k flags unique value)) (same_item items key k is)
-finds items key (Incr k amount) is = ap (outcome_of (Incr k amount)) (same_item items key k is)
-finds items key (Decr k amount) is = ap (outcome_of (Decr k amount)) (same_item items key k is)
-finds items key (Delete k) is = ap (outcome_of (Delete k)) (same_item items key k is)
-finds items key Flush is = refl
+-- the outcome of a call about the key is its outcome on the item of the key
+finds : (state : State) (key : List ℕ) (call : Call) → is_about key call ≡ true → outcome_on state call ≡ outcome_of (tallied state) call (get state.items key)
+finds state key (Get k) is = ap (outcome_of (tallied state) (Get k)) (same_item state.items key k is)
+finds state key (Set k flags value) is = ap (outcome_of (tallied state) (Set k flags value)) (same_item state.items key k is)
+finds state key (Add k flags value) is = ap (outcome_of (tallied state) (Add k flags value)) (same_item state.items key k is)
+finds state key (Replace k flags value) is = ap (outcome_of (tallied state) (Replace k flags value)) (same_item state.items key k is)
+finds state key (Append k value) is = ap (outcome_of (tallied state) (Append k value)) (same_item state.items key k is)
+finds state key (Prepend k value) is = ap (outcome_of (tallied state) (Prepend k value)) (same_item state.items key k is)
+finds state key (Cas k flags unique value) is = ap (outcome_of (tallied state) (Cas k flags unique value)) (same_item state.items key k is)
+finds state key (Incr k amount) is = ap (outcome_of (tallied state) (Incr k amount)) (same_item state.items key k is)
+finds state key (Decr k amount) is = ap (outcome_of (tallied state) (Decr k amount)) (same_item state.items key k is)
+finds state key (Delete k) is = ap (outcome_of (tallied state) (Delete k)) (same_item state.items key k is)
+finds state key Flush is = refl
+finds state key Tally is = cc
 
-plain-outcome_on : (items : Items) (key : List ℕ) (call : Call) → is_about key call ≡ true → is_cas call ≡ false → plain_outcome (outcome_on items call) ≡ outcome_of call (plain (get items key))
-plain-outcome_on items key call is no_cas = ap plain_outcome (finds items key call is) ∙ plain-outcome_of call (get items key) no_cas
+plain-outcome_on : (state : State) (key : List ℕ) (call : Call) → is_about key call ≡ true → is_cas call ≡ false → plain_outcome (outcome_on state call) ≡ outcome_of nothing call (plain (get state.items key))
+plain-outcome_on state key call is no_cas = ap plain_outcome (finds state key call is) ∙ plain-outcome_of (tallied state) key call (get state.items key) is no_cas
+
+-- a call about the key has that key, or none
+about_key : (key : List ℕ) (call : Call) → is_about key call ≡ true → is_key key (key_of call) ≡ true
+about_key key Tally is = cc
+about_key key call is = is
+
+-- a call that is not about the key leaves its item
+untouched : (shards number : ℕ) (state : State) (key : List ℕ) (call : Call) → is_about key call ≡ false → get (state_after shards number state call).items key ≡ get state.items key
+untouched shards number state key Tally is = refl
+untouched shards number state key call is = elsewhere shards number state key (key_of call) (outcome_on state call).effect (effect_for (tallied state) call (item_at state.items (key_of call))) is
 
 -- ---- along a list
 
@@ -197,12 +215,12 @@ step : (shards number : ℕ) (state : State) (key : List ℕ) (call : Call) (res
     → rest ≡ replies_from (plain (get (state_after shards number state call).items key)) calls
     → cond b (without_unique (reply_to state call) ∷ rest) rest ≡ replies_from (plain (get state.items key)) (cond b (call ∷ calls) calls)
 step shards number state key call rest calls true is no_cas more =
-    let outcome : plain_outcome (outcome_on state.items call) ≡ outcome_of call (plain (get state.items key)) = plain-outcome_on state.items key call is no_cas in
-    let after : plain (get (state_after shards number state call).items key) ≡ plain_after (plain (get state.items key)) (outcome_of call (plain (get state.items key))).effect =
-    here shards number state key (key_of call) (outcome_on state.items call).effect (effect_for call _) is ∙ ap (λ o. plain_after (plain (get state.items key)) o.effect) outcome in
+    let outcome : plain_outcome (outcome_on state call) ≡ outcome_of nothing call (plain (get state.items key)) = plain-outcome_on state key call is no_cas in
+    let after : plain (get (state_after shards number state call).items key) ≡ plain_after (plain (get state.items key)) (outcome_of nothing call (plain (get state.items key))).effect =
+    here shards number state key (key_of call) (outcome_on state call).effect (effect_for (tallied state) call _) (about_key key call is) ∙ ap (λ o. plain_after (plain (get state.items key)) o.effect) outcome in
     (λ i. (outcome i).reply ∷ (more ∙ ap (λ found. replies_from found calls) after) i)
 step shards number state key call rest calls false is no_cas more =
-    more ∙ ap (λ found. replies_from (plain found) calls) (elsewhere shards number state key (key_of call) (outcome_on state.items call).effect (effect_for call _) is)
+    more ∙ ap (λ found. replies_from (plain found) calls) (untouched shards number state key call is)
 
 -- the replies are those of the calls on the key, made on the item of the key
 pub replies_alone : (shards number : ℕ) (state : State) (key : List ℕ) (calls : List Call) → AreWithoutCas calls

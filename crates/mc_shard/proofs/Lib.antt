@@ -2,3 +2,4 @@ pub mod MapLemmas
 pub mod SoundLemmas
 pub mod UniqueLemmas
 pub mod KeyLemmas
+pub mod CountLemmas

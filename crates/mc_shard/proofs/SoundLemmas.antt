@@ -2,25 +2,40 @@
 use Rattle.std.proofs.Common.{◌≡◌, ℕ, ◌<◌, List, [], ◌∷◌, ◌++◌, sym, ap, subst, ◌∙◌}
 use Rattle.std.specs.Prelude.{Option, Result, Ok, Err, IfOk, OnOk}
 use Rattle.zy_base.specs.declared.call.Call.{Call}
+use Rattle.zy_base.specs.declared.call_reply.CallReply.{CallReply}
 use Rattle.zy_base.specs.declared.entry.Entry.{Entry}
 use Rattle.zy_base.specs.declared.entry.Tag.{Tag}
 use Rattle.zy_base.specs.Call.{key_of}
-use Rattle.zy_base.specs.Shard.{State, empty_state, Outcome, outcome_of, item_at, outcome_on, reply_to, state_with, state_after}
+use Rattle.zy_base.specs.Code.{tally}
+use Rattle.zy_base.specs.Counted.{CallCounts, calls_with}
+use Rattle.zy_base.specs.Shard.{State, empty_state, tallied, with_calls, Effect, Outcome, outcome_of, item_at, outcome_on, reply_to, state_with, state_after}
 use Rattle.zy_base.specs.Bounds.{FitsEntry}
 use Rattle.zy_base.specs.History.{IsHistory, replayed}
 use Rattle.zy_base.specs.Order.{last_stamp}
 use Rattle.zy_base.proofs.EntryLemmas.{last_stamp-push}
-use Rattle.zy_base.proofs.ReplayLemmas.{replayed-push, IsHistory-push}
+use Rattle.zy_base.proofs.ReplayLemmas.{replayed-push, calls-state_with, IsHistory-push}
+use Rattle.zy_base.proofs.CountedLemmas.{tallied-replayed}
 use Rattle.mc_shard.specs.declared.made.Made.{Made}
-use Rattle.mc_shard.specs.Shard.{Kept, state_of, entry_of, with_entry, state_past}
+use Rattle.mc_shard.specs.Shard.{Kept, TallyCounts, state_of, entry_of, with_entry, state_past}
 use Rattle.mc_shard.specs.Contents.{IsSound}
+
+-- the counts of calls are those before the change
+pub calls-made : (shards number : ℕ) (old made : State) (effect : Effect) → made ≡ state_with shards number old effect → made.calls ≡ old.calls
+calls-made shards number old made effect is = ap (λ (s : State). s.calls) is ∙ calls-state_with shards number old effect
+
+-- a call was counted after its change was made
+pub noted : (shards number : ℕ) (old made new : State) (effect : Effect) (call : Call) (reply : CallReply) → made ≡ state_with shards number old effect
+    → new ≡ with_calls made (calls_with made.calls call reply) → new ≡ with_calls (state_with shards number old effect) (calls_with old.calls call reply)
+noted shards number old made new effect call reply is counted =
+    counted ∙ ap (λ (calls : CallCounts). with_calls made (calls_with calls call reply)) (calls-made shards number old made effect is)
+    ∙ ap (λ (s : State). with_calls s (calls_with old.calls call reply)) is
 
 -- the shard after a call, from what each step of the call gives
 pub IsSound-applied : (number shards last last' : ℕ) (contents contents' : State) (es es' : List Entry) (e : Entry) (key : Option (List ℕ)) (outcome : Outcome)
     → IsSound number shards last contents es
     → key ≡ key_of e.call
-    → outcome ≡ outcome_of e.call (item_at contents.items key)
-    → contents' ≡ state_with shards number contents outcome.effect
+    → outcome ≡ outcome_of (tallied contents) e.call (item_at contents.items key)
+    → contents' ≡ with_calls (state_with shards number contents outcome.effect) (calls_with contents.calls e.call outcome.reply)
     → es' ≡ es ++ e ∷ []
     → e.shard ≡ number
     → e.stamp ≡ last'
@@ -29,8 +44,8 @@ pub IsSound-applied : (number shards last last' : ℕ) (contents contents' : Sta
     → FitsEntry e
     → IsSound number shards last' contents' es'
 IsSound-applied number shards last last' contents contents' es es' e key outcome sound key_is outcome_is contents_are longer here stamp above reply fits =
-    let of_table : outcome ≡ outcome_on contents.items e.call = outcome_is ∙ ap (λ k. outcome_of e.call (item_at contents.items k)) key_is in
-    let past : contents' ≡ state_after shards number contents e.call = contents_are ∙ ap (λ (o : Outcome). state_with shards number contents o.effect) of_table in
+    let of_table : outcome ≡ outcome_on contents e.call = outcome_is ∙ ap (λ k. outcome_of (tallied contents) e.call (item_at contents.items k)) key_is in
+    let past : contents' ≡ state_after shards number contents e.call = contents_are ∙ ap (λ (o : Outcome). with_calls (state_with shards number contents o.effect) (calls_with contents.calls e.call o.reply)) of_table in
     let answered : e.reply ≡ reply_to (replayed shards number empty_state es) e.call =
     reply ∙ ap (λ (o : Outcome). o.reply) of_table ∙ ap (λ (s : State). reply_to s e.call) sound.contents_are in
     let higher : last_stamp 0 es < e.stamp = subst (λ n. n < e.stamp) sound.last_is (subst (λ n. last < n) (sym stamp) above) in
@@ -48,3 +63,9 @@ pub state_by : {E : Type 0} (old new : Kept) (tag : Tag) (call given : Call) (re
 state_by old new tag call given (Ok made) longer same =
     ap state_of longer ∙ replayed-push old.shards old.number empty_state old.history (entry_of tag old.number given made.reply made.stamp) ∙ ap (state_past old) same
 state_by old new tag call given (Err refused) longer same = tt
+
+-- what a tally answers is counted of the history
+pub tally_counts : (shards number : ℕ) (es : List Entry) (call : Call) (reply : CallReply) → IsHistory shards number es
+    → reply ≡ reply_to (replayed shards number empty_state es) call → TallyCounts call reply es
+tally_counts shards number es call reply history answered is =
+    answered ∙ ap (reply_to (replayed shards number empty_state es)) is ∙ ap tally (tallied-replayed shards number es history.replay)

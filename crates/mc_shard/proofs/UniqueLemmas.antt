@@ -27,7 +27,7 @@ next_by unique empties = []
 -- the unique that an entry's call gives is the next of its shard
 abbrev next_given : ℕ → (ℕ → State) → Entry → List ℕ
 next_given shards states e =
-    next_by (unique_of shards e.shard ((states e.shard).count + 1)) (outcome_on (states e.shard).items e.call).effect
+    next_by (unique_of shards e.shard ((states e.shard).count + 1)) (outcome_on (states e.shard) e.call).effect
 
 -- what is put at a key is found there
 found_there : (items : Items) (key : List ℕ) (item : Item) → get (insert items key item) key ≡ Some item
@@ -42,7 +42,7 @@ given_is shards number state (removes key) = refl
 given_is shards number state empties = refl
 
 given_is_next : (shards : ℕ) (states : ℕ → State) (e : Entry) → given shards states e ≡ next_given shards states e
-given_is_next shards states e = given_is shards e.shard (states e.shard) (outcome_on (states e.shard).items e.call).effect
+given_is_next shards states e = given_is shards e.shard (states e.shard) (outcome_on (states e.shard) e.call).effect
 
 -- ---- on one shard
 
@@ -85,7 +85,7 @@ rise_here : (shards before : ℕ) (states : ℕ → State) (e : Entry) (rest : L
     → ((before' : ℕ) → IsBelowNext shards e.shard (states_after shards states e e.shard) before' → AreRising before' rest)
     → AreRising before (given shards states e ++ rest)
 rise_here shards before states e rest some above more =
-    subst (λ unique. AreRising before (unique ++ rest)) (sym (given_is_next shards states e)) (rise_after shards e.shard before (states e.shard) (outcome_on (states e.shard).items e.call).effect rest some above
+    subst (λ unique. AreRising before (unique ++ rest)) (sym (given_is_next shards states e)) (rise_after shards e.shard before (states e.shard) (outcome_on (states e.shard) e.call).effect rest some above
     (λ before' above'. more before' (subst (λ s. IsBelowNext shards e.shard s before') (sym (state_here shards states e)) above')))
 
 rise_step : (shards number before : ℕ) (states : ℕ → State) (e : Entry) (rest : List ℕ) (b : Bool) → (e.shard == number) ≡ b → 1 ≤ shards → IsBelowNext shards number (states number) before
@@ -135,7 +135,7 @@ of_step : (shards number unique : ℕ) (states : ℕ → State) (e : Entry) (res
 of_step shards number unique states e rest true is within more among =
     let here : e.shard ≡ number = eqb-true e.shard number is in
     subst (λ n. IsOf shards n unique) here
-    (of_effect shards e.shard ((states e.shard).count + 1) unique (outcome_on (states e.shard).items e.call).effect rest within (λ later. subst (λ n. IsOf shards n unique) (sym here) (more later))
+    (of_effect shards e.shard ((states e.shard).count + 1) unique (outcome_on (states e.shard) e.call).effect rest within (λ later. subst (λ n. IsOf shards n unique) (sym here) (more later))
     (subst (λ given. IsIn (given ++ rest) unique) (given_is_next shards states e) among))
 of_step shards number unique states e rest false is within more among = more among
 

@@ -6,11 +6,13 @@ use Rattle.std.specs.declared.cmp.Ordering.{Ordering}
 use Rattle.std.specs.Ordering.{nat_cmp, ordering_then}
 use Rattle.std.specs.Cmp.{IsTotalOrder, then_total, on_total, nat_cmp_total}
 use Rattle.std.specs.Cmp.Lexicographic.{slice_cmp, nat_list_cmp_total}
-use Rattle.std.specs.FinMap.{from_entries, code, insert}
+use Rattle.std.specs.FinMap.{from_entries, code, insert, len}
 use Rattle.zy_base.specs.declared.item.Item.{Item}
 use Rattle.zy_base.specs.declared.entry.Entry.{Entry}
 use Rattle.zy_base.specs.Key.{hash_of}
+use Rattle.zy_base.specs.Counted.{CallCounts}
 use Rattle.zy_base.specs.Shard.{Items, State, empty_state}
+use Rattle.mc_stats.specs.declared.counts.Counts.{Counts}
 use Rattle.zy_base.specs.History.{IsHistory, replayed}
 use Rattle.zy_base.specs.Order.{last_stamp}
 
@@ -28,7 +30,18 @@ items_in entries = from_entries entries
 -- a shard after this item was put at the key of a call, and counted; a call without a key puts none
 abbrev pub with_item : State → Option (List ℕ) → Item → State
 with_item state None item = state
-with_item state (Some key) item = record { items = insert state.items key item; count = state.count + 1 }
+with_item state (Some key) item = record state { items = insert state.items key item; count = state.count + 1 }
+
+-- the counts of calls among the counts of a shard
+abbrev pub call_counts_in : Counts → CallCounts
+call_counts_in counts = record { gets = counts.gets; sets = counts.sets; hits = counts.hits; misses = counts.misses }
+
+-- the counts are those of a shard that has these items and ever stored `count` items
+pub record AreCounts (counts : Counts) (count : ℕ) (items : Items) : Type 0 where
+  pub items_are : counts.items ≡ len items
+  pub few_items : counts.items ≤ count
+  pub few_hits : counts.hits ≤ counts.gets
+  pub few_misses : counts.misses ≤ counts.gets
 
 -- what every shard keeps: its items and its counter are those that its history leaves, and the last
 -- stamp is the history's

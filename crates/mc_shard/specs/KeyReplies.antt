@@ -3,7 +3,7 @@ use Rattle.std.specs.Prelude.{◌≡◌, ℕ, Bool, true, false, if◌then◌els
 use Rattle.std.specs.Ordering.{nat_cmp, eq_by_cmp}
 use Rattle.std.specs.Cmp.Lexicographic.{slice_cmp}
 use Rattle.zy_base.specs.declared.call.Call.{Call}
-use Rattle.zy_base.specs.declared.call.Call.TheVariants.{Cas}
+use Rattle.zy_base.specs.declared.call.Call.TheVariants.{Cas, Tally}
 use Rattle.zy_base.specs.declared.call_reply.CallReply.{CallReply}
 use Rattle.zy_base.specs.declared.call_reply.CallReply.TheVariants.{Hit}
 use Rattle.zy_base.specs.Call.{key_of}
@@ -23,13 +23,14 @@ AreWithoutCas (call ∷ calls) = (is_cas call ≡ false) × AreWithoutCas calls
 abbrev pub is_same : List ℕ → List ℕ → Bool
 is_same key other = eq_by_cmp (slice_cmp nat_cmp) key other
 
--- the key is that of the call, or the call is a flush
+-- the key is that of the call, or the call has none
 abbrev pub is_key : List ℕ → Option (List ℕ) → Bool
 is_key key None = true
 is_key key (Some other) = is_same key other
 
 -- a call is on the key, or is a flush
 abbrev pub is_about : List ℕ → Call → Bool
+is_about key Tally = false
 is_about key call = is_key key (key_of call)
 
 -- the calls on the key, and the flushes, in the list's order

@@ -4,7 +4,8 @@ use Rattle.zy_base.specs.declared.call.Call.{Call}
 use Rattle.zy_base.specs.declared.call.Call.TheVariants.{Get, Add, Replace, Cas, Flush}
 use Rattle.zy_base.specs.declared.call_reply.CallReply.TheVariants.{Stored, Miss}
 use Rattle.zy_base.specs.declared.entry.Entry.{Entry}
-use Rattle.zy_base.specs.Shard.{State, empty_state, reply_to, state_after}
+use Rattle.zy_base.specs.Counted.{calls_with}
+use Rattle.zy_base.specs.Shard.{State, empty_state, reply_to, state_after, with_calls}
 use Rattle.zy_base.specs.History.{IsLegal, replayed}
 use Rattle.mc_shard.specs.Uniques.{uniques_at, AreRising, IsIn}
 use Rattle.mc_shard.specs.KeyReplies.{AreWithoutCas, calls_about, replies_about}
@@ -23,20 +24,21 @@ UniquesDiffer =
 
 -- ---- one call
 
--- a call whose reply is not that it stored changes nothing
+-- a call whose reply is not that it stored is counted, and changes nothing else
 abbrev pub KeepsUnlessStored : Call → Type 0
 KeepsUnlessStored call =
-    (shards number : ℕ) (state : State) → reply_to state call ≢ Stored → state_after shards number state call ≡ state
+    (shards number : ℕ) (state : State) → reply_to state call ≢ Stored
+    → state_after shards number state call ≡ with_calls state (calls_with state.calls call (reply_to state call))
 
--- a cas that does not store changes nothing
+-- a cas that does not store is counted, and changes nothing else
 abbrev pub FailedCasKeeps : Type 0
 FailedCasKeeps = (key : List ℕ) (flags unique : ℕ) (value : List ℕ) → KeepsUnlessStored (Cas key flags unique value)
 
--- an add that does not store changes nothing
+-- an add that does not store is counted, and changes nothing else
 abbrev pub FailedAddKeeps : Type 0
 FailedAddKeeps = (key : List ℕ) (flags : ℕ) (value : List ℕ) → KeepsUnlessStored (Add key flags value)
 
--- a replace that does not store changes nothing
+-- a replace that does not store is counted, and changes nothing else
 abbrev pub FailedReplaceKeeps : Type 0
 FailedReplaceKeeps = (key : List ℕ) (flags : ℕ) (value : List ℕ) → KeepsUnlessStored (Replace key flags value)
 

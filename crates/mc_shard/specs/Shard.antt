@@ -1,9 +1,12 @@
 -- The view of a shard: its number, the number of shards, and the history of its calls.
-use Rattle.std.specs.Prelude.{ℕ, List, [], ◌∷◌, ◌++◌}
+use Rattle.std.specs.Prelude.{◌≡◌, ℕ, List, [], ◌∷◌, ◌++◌}
 use Rattle.zy_base.specs.declared.call.Call.{Call}
+use Rattle.zy_base.specs.declared.call.Call.TheVariants.{Tally}
 use Rattle.zy_base.specs.declared.call_reply.CallReply.{CallReply}
 use Rattle.zy_base.specs.declared.entry.Entry.{Entry}
 use Rattle.zy_base.specs.declared.entry.Tag.{Tag}
+use Rattle.zy_base.specs.Code.{tally}
+use Rattle.zy_base.specs.Counted.{counted}
 use Rattle.zy_base.specs.Shard.{State, empty_state, reply_to, state_after}
 use Rattle.zy_base.specs.History.{replayed}
 use Rattle.zy_base.specs.Order.{last_stamp}
@@ -44,3 +47,7 @@ reply_of shard call = reply_to (state_of shard) call
 -- its items and its counter after a call
 abbrev pub state_past : Kept → Call → State
 state_past shard call = state_after shard.shards shard.number (state_of shard) call
+
+-- a tally answers what is counted of the entries before it
+abbrev pub TallyCounts : Call → CallReply → List Entry → Type 0
+TallyCounts call reply history = call ≡ Tally → reply ≡ tally (counted history)

@@ -22,7 +22,7 @@ given_by after empties = []
 abbrev pub given : ℕ → (ℕ → State) → Entry → List ℕ
 given shards states e =
     given_by (state_after shards e.shard (states e.shard) e.call).items
-    (outcome_on (states e.shard).items e.call).effect
+    (outcome_on (states e.shard) e.call).effect
 
 -- the uniques that the calls on one shard give, in the list's order, from these states of the shards
 abbrev pub uniques_from : ℕ → ℕ → (ℕ → State) → List Entry → List ℕ

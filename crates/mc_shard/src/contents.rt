@@ -1,34 +1,46 @@
-//! The items of a shard with their counter, and the changes that calls make.
+//! The items of a shard with their counter and its counts, and the changes that calls make.
 ghost use Rattle.std.specs.Prelude.{◌≡◌, ◌+◌, ◌^◌, ◌<◌, ◌≤◌, OnOk, OnErr, option_copied};
 ghost use Rattle.std.specs.FinMap.{insert, remove, empty};
-ghost use Rattle.zy_base.specs.Shard.{item_at, empty_state, unique_of, state_with};
+ghost use Rattle.zy_base.specs.Kind.{MayAnswer};
+ghost use Rattle.zy_base.specs.Counted.{calls_with};
+ghost use Rattle.zy_base.specs.Shard.{item_at, empty_state, tallied, unique_of, state_with, with_calls};
 ghost use Rattle.mc_shard.specs.Contents.{with_item};
 ghost use Rattle.mc_shard.specs.Step.{effect_in};
 
 use crate::change::Change;
+use crate::counting::{count_put, count_removed};
 use crate::hashed::Hashed;
+use mc_stats::Counts;
 use std::alloc::Global;
 use std::collections::BTreeMap;
 use std::marker::Model;
-use zy_base::{Item, NoMemory};
+use zy_base::{Call, CallReply, Item, NoMemory, Tallied};
 
-/// The items of a shard, and how many items it ever stored. Contracts see it as both.
+/// The items of a shard, how many items it ever stored, and what it counted. Contracts see it as
+/// its items, its counter and its counts of calls.
 #[derive(Drop)]
 pub struct Contents {
     items: BTreeMap<Hashed, Item>,
     count: u64,
+    counts: Counts,
 }
 
 impl Model for Contents {
     ghost use Rattle.zy_base.specs.Shard.{State};
     ghost use Rattle.std.specs.Coded.{codes};
-    ghost use Rattle.mc_shard.specs.Contents.{items_in, items_code};
+    ghost use Rattle.mc_shard.specs.Contents.{items_in, call_counts_in, items_code, AreCounts};
 
     ghost Value = { State };
 
     ghost coded = { Prim.hlevel (codes, items_code) };
 
-    ghost view = { λ c. record { items = items_in c.items.entries; count = c.count } };
+    ghost view = { λ c. record {
+      items = items_in c.items.entries;
+      count = c.count;
+      calls = call_counts_in c.counts;
+    } };
+
+    ghost invariant = { λ c. AreCounts c.counts c.count (items_in c.items.entries) };
 }
 
 impl Contents {
@@ -39,6 +51,7 @@ impl Contents {
         Contents {
             items: BTreeMap::new(alloc),
             count: 0,
+            counts: Counts::new(),
         }
     }
 
@@ -47,6 +60,33 @@ impl Contents {
         ensures value { result ≡ self.now.count }
     {
         self.count
+    }
+
+    /// What the shard counts.
+    pub fn tallied(&self) -> Tallied
+        ensures value { result ≡ tallied self.now }
+    {
+        Tallied {
+            gets: self.counts.gets,
+            sets: self.counts.sets,
+            hits: self.counts.hits,
+            misses: self.counts.misses,
+            items: self.counts.items,
+        }
+    }
+
+    /// Counts a call with this reply.
+    pub fn note(&mut self, call: &Call, reply: &CallReply)
+        requires answers { MayAnswer call.now reply.now }
+        requires gets { self.old.calls.gets < 2 ^ 60 }
+        requires sets { self.old.calls.sets < 2 ^ 60 }
+        ensures value { self.new ≡ with_calls self.old (calls_with self.old.calls call.now reply.now) }
+    {
+        if call.is_get() {
+            self.counts.got(call.is_hit(reply));
+        } else if call.is_set() {
+            self.counts.stored();
+        }
     }
 
     /// The item of a key.
@@ -107,7 +147,7 @@ impl Contents {
         }
     }
 
-    // Puts the item at the key of a call, and counts it; a flush has no key.
+    // Puts the item at the key of a call, and counts it; a call without a key puts none.
     fn put_at(&mut self, key: Option<Hashed>, item: Item) -> Result<(), NoMemory>
         requires room { self.old.count < 2 ^ 52 }
         ensures ok { OnOk result (self.new ≡ with_item self.old key item) }
@@ -125,7 +165,7 @@ impl Contents {
     // Puts the item at the key, and counts it.
     fn put(&mut self, key: Hashed, item: Item) -> Result<(), NoMemory>
         requires room { self.old.count < 2 ^ 52 }
-        ensures ok { OnOk result (self.new ≡ record {
+        ensures ok { OnOk result (self.new ≡ record self.old {
           items = insert self.old.items key item;
           count = self.old.count + 1;
         }) }
@@ -133,6 +173,7 @@ impl Contents {
     {
         match self.items.insert(key, item) {
             Ok(before) => {
+                count_put(&mut self.counts, before.is_some());
                 drop(before);
                 self.count += 1;
                 Ok(())
@@ -146,16 +187,19 @@ impl Contents {
 
     // Removes the item of the key.
     fn remove(&mut self, key: &Hashed)
-        ensures value { self.new ≡ record { items = remove self.old.items key.now; count = self.old.count } }
+        ensures value { self.new ≡ record self.old { items = remove self.old.items key.now } }
     {
-        drop(self.items.remove(key));
+        let found = self.items.remove(key);
+        count_removed(&mut self.counts, found.is_some());
+        drop(found);
     }
 
     // Removes all items.
     fn clear(&mut self)
-        ensures value { self.new ≡ record { items = empty; count = self.old.count } }
+        ensures value { self.new ≡ record self.old { items = empty } }
     {
         self.items.clear();
+        self.counts.emptied();
     }
 }
 

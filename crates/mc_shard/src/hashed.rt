@@ -28,7 +28,7 @@ impl Model for Hashed {
 }
 
 impl Hashed {
-    /// A copy of the key of a call, with its hash; a flush has none.
+    /// A copy of the key of a call, with its hash; a flush and a tally have none.
     pub fn of_call(call: &Call) -> Result<Option<Hashed>, NoMemory>
         ensures value { IfOk result (λ key. key ≡ key_of call.now) }
     {

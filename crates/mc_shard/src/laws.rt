@@ -4,57 +4,57 @@ ghost use Rattle.std.specs.Prelude.{◌≡◌, codes, decimal, None};
 ghost use Rattle.zy_base.specs.declared.call.Call.TheVariants as Calls;
 ghost use Rattle.zy_base.specs.declared.call_reply.CallReply.TheVariants as Replies;
 ghost use Rattle.zy_base.specs.Shard.{outcome_of, stores, removes, empties, keeps};
-ghost use Rattle.mc_shard.specs.Worked.{item_of, outcome};
+ghost use Rattle.mc_shard.specs.Worked.{none, item_of, outcome};
 
 /// Worked calls on a key without an item: what the table of calls computes.
 pub fn worked_calls_without_an_item()
-    ensures get { outcome_of (Calls.Get (codes "a")) None ≡ outcome Replies.Miss keeps }
-    ensures add { outcome_of (Calls.Add (codes "a") 5 (codes "x")) None
+    ensures get { outcome_of none (Calls.Get (codes "a")) None ≡ outcome Replies.Miss keeps }
+    ensures add { outcome_of none (Calls.Add (codes "a") 5 (codes "x")) None
         ≡ outcome Replies.Stored (stores (codes "a") 5 (codes "x")) }
-    ensures replace { outcome_of (Calls.Replace (codes "a") 5 (codes "x")) None ≡ outcome Replies.NotStored keeps }
-    ensures append { outcome_of (Calls.Append (codes "a") (codes "x")) None ≡ outcome Replies.NotStored keeps }
-    ensures cas { outcome_of (Calls.Cas (codes "a") 5 19 (codes "x")) None ≡ outcome Replies.NotFound keeps }
-    ensures incr { outcome_of (Calls.Incr (codes "a") 1) None ≡ outcome Replies.NotFound keeps }
-    ensures delete { outcome_of (Calls.Delete (codes "a")) None ≡ outcome Replies.NotFound keeps }
-    ensures flush { outcome_of Calls.Flush None ≡ outcome Replies.Flushed empties }
+    ensures replace { outcome_of none (Calls.Replace (codes "a") 5 (codes "x")) None ≡ outcome Replies.NotStored keeps }
+    ensures append { outcome_of none (Calls.Append (codes "a") (codes "x")) None ≡ outcome Replies.NotStored keeps }
+    ensures cas { outcome_of none (Calls.Cas (codes "a") 5 19 (codes "x")) None ≡ outcome Replies.NotFound keeps }
+    ensures incr { outcome_of none (Calls.Incr (codes "a") 1) None ≡ outcome Replies.NotFound keeps }
+    ensures delete { outcome_of none (Calls.Delete (codes "a")) None ≡ outcome Replies.NotFound keeps }
+    ensures flush { outcome_of none Calls.Flush None ≡ outcome Replies.Flushed empties }
 {}
 
 /// Worked calls on a key whose item has the flags 7 and the unique 19: what the table of calls
 /// computes.
 pub fn worked_calls_with_an_item()
-    ensures get { outcome_of (Calls.Get (codes "a")) (item_of (codes "one"))
+    ensures get { outcome_of none (Calls.Get (codes "a")) (item_of (codes "one"))
         ≡ outcome (Replies.Hit 7 19 (codes "one")) keeps }
-    ensures add { outcome_of (Calls.Add (codes "a") 5 (codes "x")) (item_of (codes "one"))
+    ensures add { outcome_of none (Calls.Add (codes "a") 5 (codes "x")) (item_of (codes "one"))
         ≡ outcome Replies.NotStored keeps }
-    ensures replace { outcome_of (Calls.Replace (codes "a") 5 (codes "x")) (item_of (codes "one"))
+    ensures replace { outcome_of none (Calls.Replace (codes "a") 5 (codes "x")) (item_of (codes "one"))
         ≡ outcome Replies.Stored (stores (codes "a") 5 (codes "x")) }
-    ensures append { outcome_of (Calls.Append (codes "a") (codes "+")) (item_of (codes "one"))
+    ensures append { outcome_of none (Calls.Append (codes "a") (codes "+")) (item_of (codes "one"))
         ≡ outcome Replies.Stored (stores (codes "a") 7 (codes "one+")) }
-    ensures prepend { outcome_of (Calls.Prepend (codes "a") (codes "-")) (item_of (codes "one"))
+    ensures prepend { outcome_of none (Calls.Prepend (codes "a") (codes "-")) (item_of (codes "one"))
         ≡ outcome Replies.Stored (stores (codes "a") 7 (codes "-one")) }
-    ensures exists { outcome_of (Calls.Cas (codes "a") 5 20 (codes "x")) (item_of (codes "one"))
+    ensures exists { outcome_of none (Calls.Cas (codes "a") 5 20 (codes "x")) (item_of (codes "one"))
         ≡ outcome Replies.Exists keeps }
-    ensures cas { outcome_of (Calls.Cas (codes "a") 5 19 (codes "x")) (item_of (codes "one"))
+    ensures cas { outcome_of none (Calls.Cas (codes "a") 5 19 (codes "x")) (item_of (codes "one"))
         ≡ outcome Replies.Stored (stores (codes "a") 5 (codes "x")) }
-    ensures delete { outcome_of (Calls.Delete (codes "a")) (item_of (codes "one"))
+    ensures delete { outcome_of none (Calls.Delete (codes "a")) (item_of (codes "one"))
         ≡ outcome Replies.Deleted (removes (codes "a")) }
 {}
 
 /// Worked counts: what the table of calls computes.
 pub fn worked_counts()
-    ensures wraps { outcome_of (Calls.Incr (codes "n") 11) (item_of (codes "18446744073709551615"))
+    ensures wraps { outcome_of none (Calls.Incr (codes "n") 11) (item_of (codes "18446744073709551615"))
         ≡ outcome (Replies.Number 10) (stores (codes "n") 7 (decimal 10)) }
-    ensures down { outcome_of (Calls.Decr (codes "n") 1) (item_of (codes "10"))
+    ensures down { outcome_of none (Calls.Decr (codes "n") 1) (item_of (codes "10"))
         ≡ outcome (Replies.Number 9) (stores (codes "n") 7 (decimal 9)) }
-    ensures floor { outcome_of (Calls.Decr (codes "n") 10) (item_of (codes "9"))
+    ensures floor { outcome_of none (Calls.Decr (codes "n") 10) (item_of (codes "9"))
         ≡ outcome (Replies.Number 0) (stores (codes "n") 7 (decimal 0)) }
-    ensures padded { outcome_of (Calls.Incr (codes "n") 0) (item_of (codes "00000000000000000042"))
+    ensures padded { outcome_of none (Calls.Incr (codes "n") 0) (item_of (codes "00000000000000000042"))
         ≡ outcome (Replies.Number 42) (stores (codes "n") 7 (decimal 42)) }
-    ensures long { outcome_of (Calls.Incr (codes "n") 1) (item_of (codes "000000000000000000042"))
+    ensures long { outcome_of none (Calls.Incr (codes "n") 1) (item_of (codes "000000000000000000042"))
         ≡ outcome Replies.NotNumber keeps }
-    ensures great { outcome_of (Calls.Decr (codes "n") 1) (item_of (codes "18446744073709551616"))
+    ensures great { outcome_of none (Calls.Decr (codes "n") 1) (item_of (codes "18446744073709551616"))
         ≡ outcome Replies.NotNumber keeps }
-    ensures empty { outcome_of (Calls.Incr (codes "n") 1) (item_of (codes "")) ≡ outcome Replies.NotNumber keeps }
+    ensures empty { outcome_of none (Calls.Incr (codes "n") 1) (item_of (codes "")) ≡ outcome Replies.NotNumber keeps }
 {}
 
 /// In a legal list the uniques that are given on one shard rise strictly, and are above its number.
@@ -67,7 +67,7 @@ pub fn uniques_of_two_shards_differ()
     ensures differ { UniquesDiffer }
 {}
 
-/// A cas, an add or a replace that does not store changes nothing.
+/// A cas, an add or a replace that does not store is counted, and changes nothing else.
 pub fn what_is_not_stored_changes_nothing()
     ensures cas { FailedCasKeeps }
     ensures add { FailedAddKeeps }

@@ -3,6 +3,7 @@
 
 mod change;
 mod contents;
+mod counting;
 mod hashed;
 mod laws;
 mod made;

@@ -14,8 +14,11 @@ use zy_base::{Call, CallReply, NoMemory};
 // A shard stores fewer items than this, ever.
 const ITEM_LIMIT: u64 = 1 << 52;
 
+// There are fewer gets than this, and fewer calls that store a value.
+const CALL_LIMIT: u64 = 1 << 60;
+
 /// A shard of the store without a history, on which calls are made again. Contracts see it as its
-/// number, the number of shards, and its items with their counter.
+/// number, the number of shards, and its items with their counter and its counts of calls.
 #[derive(Drop)]
 pub struct Replay {
     alloc: Global,
@@ -55,18 +58,22 @@ impl Replay {
     }
 
     /// Makes a call and returns its reply. May answer `NoMemory`, and does once 2^52 items were
-    /// stored; after that the shard is as it was.
+    /// stored, or 2^60 calls of a kind that is counted were made; after that the shard is as it was.
     pub fn answer(&mut self, call: &Call) -> Result<CallReply, NoMemory>
         ensures reply { IfOk result (λ reply. reply ≡ reply_to self.old.state call.now) }
         ensures ok { OnOk result (self.new ≡ state_replayed self.old call.now) }
         ensures err { OnErr result (self.new ≡ self.old) }
     {
-        if self.contents.count() >= ITEM_LIMIT {
+        let counts = self.contents.tallied();
+        if self.contents.count() >= ITEM_LIMIT
+            || counts.gets >= CALL_LIMIT
+            || counts.sets >= CALL_LIMIT
+        {
             return Err(NoMemory);
         }
         let key = Hashed::of_call(call)?;
         let found = self.contents.found(&key);
-        let mut step = match step_of(self.alloc, call, found) {
+        let mut step = match step_of(self.alloc, call, counts, found) {
             Ok(step) => step,
             Err(refused) => {
                 drop(key);
@@ -83,7 +90,10 @@ impl Replay {
             .contents
             .carry_out(self.number, self.shards, key, change)
         {
-            Ok(()) => Ok(reply),
+            Ok(()) => {
+                self.contents.note(call, &reply);
+                Ok(reply)
+            }
             Err(refused) => {
                 drop(reply);
                 Err(refused)

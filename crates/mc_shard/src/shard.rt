@@ -2,7 +2,7 @@
 ghost use Rattle.std.specs.Prelude.{◌≡◌, ◌+◌, ◌^◌, ◌<◌, ◌≤◌, [], length, max, IfOk, IfErr, OnOk, OnErr};
 ghost use Rattle.zy_base.specs.Call.{key_of};
 ghost use Rattle.zy_base.specs.History.{IsHistory};
-ghost use Rattle.mc_shard.specs.Shard.{kept, state_of, last_of, entry_of, reply_of, with_entry, state_past};
+ghost use Rattle.mc_shard.specs.Shard.{kept, state_of, last_of, TallyCounts, entry_of, reply_of, with_entry, state_past};
 
 use crate::change::Step;
 use crate::contents::Contents;
@@ -13,9 +13,9 @@ use std::alloc::Global;
 use std::marker::Model;
 use zy_base::{Call, Entries, Entry, NoMemory, Tag, numbers_fit};
 
-/// A shard of the store: items by their keys, how many items were ever stored, and the history of
-/// all calls on it. Contracts see it as its number, the number of shards, and the history; its
-/// items and its counter are the replay of the history.
+/// A shard of the store: items by their keys, how many items were ever stored, what was counted, and
+/// the history of all calls on it. Contracts see it as its number, the number of shards, and the history; its
+/// items, its counter and its counts are the replay of the history.
 #[derive(Drop)]
 pub struct Shard {
     number: u32,
@@ -87,6 +87,7 @@ impl Shard {
         ensures shard { IfOk result (λ entry. entry.shard ≡ self.old.number) }
         ensures call { IfOk result (λ entry. entry.call ≡ call) }
         ensures reply { IfOk result (λ entry. entry.reply ≡ reply_of self.old call) }
+        ensures counts { IfOk result (λ entry. TallyCounts call entry.reply self.old.history) }
         ensures stamp { IfOk result (λ entry. entry.stamp ≡ max (last_of self.old) seen + 1) }
 
         // The shard.
@@ -129,6 +130,7 @@ impl Shard {
 
         // The answer.
         ensures reply { IfOk result (λ made. made.reply ≡ reply_of self.old call) }
+        ensures counts { IfOk result (λ made. TallyCounts call made.reply self.old.history) }
         ensures stamp { IfOk result (λ made. made.stamp ≡ max (last_of self.old) seen + 1) }
         ensures returned { IfErr result (λ e. e.0 ≡ call) }
 
@@ -159,6 +161,7 @@ impl Shard {
         requires count { (state_of self.old).count < 2 ^ 52 }
         requires key { key ≡ key_of call }
         ensures reply { IfOk result (λ made. made.reply ≡ reply_of self.old call) }
+        ensures counts { IfOk result (λ made. TallyCounts call made.reply self.old.history) }
         ensures stamp { IfOk result (λ made. made.stamp ≡ max (last_of self.old) seen + 1) }
         ensures returned { IfErr result (λ e. e.0 ≡ call) }
         ensures ok { IfOk result (λ made. self.new
@@ -168,7 +171,12 @@ impl Shard {
     {
         let stamp = self.last.max(seen) + 1;
         let found = self.contents.found(&key);
-        let Step { reply, change } = match step_of(*self.history.allocator(), &call, found) {
+        let Step { reply, change } = match step_of(
+            *self.history.allocator(),
+            &call,
+            self.contents.tallied(),
+            found,
+        ) {
             Ok(step) => step,
             Err(refused) => {
                 drop(key);
@@ -197,6 +205,7 @@ impl Shard {
             .carry_out(self.number, self.shards, key, change)
         {
             Ok(()) => {
+                self.contents.note(&call, &reply);
                 self.history.push_reserved(Entry {
                     tag,
                     shard: self.number,

@@ -2,27 +2,37 @@
 ghost use Rattle.std.specs.Prelude.{◌≡◌, ℕ, List, ◌++◌, None, Some, option_copied, decimal, OnOk};
 ghost use Rattle.zy_base.specs.declared.call_reply.CallReply.TheVariants.{Hit};
 ghost use Rattle.zy_base.specs.Call.{key_of};
+ghost use Rattle.zy_base.specs.Code.{tally};
 ghost use Rattle.zy_base.specs.Number.{number_of};
 ghost use Rattle.zy_base.specs.Shard as table;
 ghost use Rattle.mc_shard.specs.Step.{outcome_in, Gives};
 
 use crate::change::{Change, Step};
 use std::alloc::Global;
-use zy_base::{Blob, Call, CallReply, Item, NoMemory, VALUE_LIMIT, number_text, read_number};
+use zy_base::{
+    Blob, Call, CallReply, Item, NoMemory, Tallied, VALUE_LIMIT, number_text, read_number,
+};
 
-/// The reply and the change of a call, where its key has this item or none.
-pub fn step_of(alloc: Global, call: &Call, found: Option<&Item>) -> Result<Step, NoMemory>
-    ensures value { Gives (key_of call.now) result (table.outcome_of call.now (option_copied found.entry)) }
+/// The reply and the change of a call, on a shard that counts this, where the call's key has this item
+/// or none.
+pub fn step_of(
+    alloc: Global,
+    call: &Call,
+    counts: Tallied,
+    found: Option<&Item>,
+) -> Result<Step, NoMemory>
+    ensures value { Gives (key_of call.now) result
+        (table.outcome_of counts call.now (option_copied found.entry)) }
 {
     match found {
-        None => step_without(call),
-        Some(item) => step_with(alloc, call, item),
+        None => step_without(call, counts),
+        Some(item) => step_with(alloc, call, counts, item),
     }
 }
 
 // The reply and the change of a call whose key has no item.
-fn step_without(call: &Call) -> Result<Step, NoMemory>
-    ensures value { Gives (key_of call.now) result (table.outcome_of call.now None) }
+fn step_without(call: &Call, counts: Tallied) -> Result<Step, NoMemory>
+    ensures value { Gives (key_of call.now) result (table.outcome_of counts call.now None) }
 {
     match call {
         Call::Get { .. } => Ok(reply_alone(CallReply::Miss)),
@@ -36,12 +46,13 @@ fn step_without(call: &Call) -> Result<Step, NoMemory>
         Call::Decr { .. } => Ok(reply_alone(CallReply::NotFound)),
         Call::Delete { .. } => Ok(reply_alone(CallReply::NotFound)),
         Call::Flush => Ok(clear()),
+        Call::Tally => Ok(tallied(counts)),
     }
 }
 
 // The reply and the change of a call whose key has this item.
-fn step_with(alloc: Global, call: &Call, item: &Item) -> Result<Step, NoMemory>
-    ensures value { Gives (key_of call.now) result (table.outcome_of call.now (Some item.now)) }
+fn step_with(alloc: Global, call: &Call, counts: Tallied, item: &Item) -> Result<Step, NoMemory>
+    ensures value { Gives (key_of call.now) result (table.outcome_of counts call.now (Some item.now)) }
 {
     match call {
         Call::Get { .. } => hit(item),
@@ -60,6 +71,7 @@ fn step_with(alloc: Global, call: &Call, item: &Item) -> Result<Step, NoMemory>
         Call::Decr { amount, .. } => count_down(alloc, item, *amount),
         Call::Delete { .. } => Ok(remove()),
         Call::Flush => Ok(clear()),
+        Call::Tally => Ok(tallied(counts)),
     }
 }
 
@@ -161,7 +173,7 @@ fn count_down(alloc: Global, item: &Item, amount: u64) -> Result<Step, NoMemory>
 
 // The number is put as digits with the item's flags.
 fn put_number(alloc: Global, item: &Item, number: u64) -> Result<Step, NoMemory>
-    ensures value { (key : List ℕ) → Gives (Some key) result (table.counted key item.now number) }
+    ensures value { (key : List ℕ) → Gives (Some key) result (table.renumbered key item.now number) }
 {
     let mut value = Blob::new(alloc);
     if let Err(refused) = write_digits(&mut value, number) {
@@ -203,4 +215,11 @@ fn clear() -> Step
         reply: CallReply::Flushed,
         change: Change::Clear,
     }
+}
+
+// The reply is what the shard counts.
+fn tallied(counts: Tallied) -> Step
+    ensures value { result ≡ record { reply = tally counts; change = Change.Nothing } }
+{
+    reply_alone(CallReply::tally(counts))
 }

@@ -1,4 +1,4 @@
-//! Reads and writes that fail, each in turn, end a run.
+//! Reads and writes that fail, each in turn, end a run, and a report.
 use crate::serving::{Failing, Given};
 use crate::sure::must;
 use std::alloc::Global;
@@ -11,11 +11,33 @@ const FIRST: &[u8] = b"ZYGCAP1\n\0\0\0\x01S\0\0\0\0\0\0\0\x17set a 0 0 1\r\nx\r\
 const REPLIES: &[u8] =
     b"ZYGREP1\nR\0\0\0\0\0\0\0\0\0\0\0\x1dSTORED\r\nVALUE a 0 1\r\nx\r\nEND\r\nE";
 
-// The reads of the first capture's bytes, and that of its end.
-const READS: u64 = 46;
+// A command, what it reads, and what it writes.
+#[derive(Clone, Copy)]
+struct Case {
+    word: &'static [u8],
+    given: &'static [u8],
+    whole: &'static [u8],
+    // The reads of the bytes given, and that of their end.
+    reads: u64,
+    // The writes of the bytes written; then the sink is finished.
+    writes: u64,
+}
 
-// The writes of its replies' bytes; then the sink is finished.
-const WRITES: u64 = 51;
+const RUN: Case = Case {
+    word: b"run",
+    given: FIRST,
+    whole: REPLIES,
+    reads: 46,
+    writes: 51,
+};
+
+const REPORT: Case = Case {
+    word: b"report",
+    given: b"ZYGJRN1\nE",
+    whole: b"all           0           0           0           0           0\n",
+    reads: 10,
+    writes: 64,
+};
 
 // Three records of two connections, and the read of the third record's first byte.
 const THREE: &[u8] =
@@ -23,8 +45,8 @@ const THREE: &[u8] =
 
 const THIRD: u64 = 48;
 
-// The exit status of a run, and the number of bytes that were written, if they are the first bytes
-// of the replies of the first capture.
+// The exit status of a call, and the number of bytes that were written, if they are the first bytes
+// of those to write.
 #[derive(Clone, Copy)]
 struct End {
     status: u8,
@@ -44,48 +66,82 @@ fn end_of<R: Threads + Wait + Abort + Sync>(
     rt: &R,
     alloc: Global,
     words: &[&[u8]],
-    capture: &[u8],
+    given: &[u8],
+    whole: &[u8],
     failing: Failing,
 ) -> End {
-    let mut given = Given::ungated(rt, alloc, words, capture, failing);
+    let mut given = Given::ungated(rt, alloc, words, given, failing);
     let status = given.status(rt, alloc);
-    let written = given.part_of(REPLIES);
+    let written = given.part_of(whole);
     drop(given);
     End { status, written }
 }
 
-// Whether a run of the first capture ends as it should when this read fails.
-fn is_ended_by_read<R: Threads + Wait + Abort + Sync>(rt: &R, alloc: Global, call: u64) -> bool {
-    let end = end_of(rt, alloc, &[b"run"], FIRST, Failing::Read(call));
-    if call < READS {
+// How a command ends.
+fn end_of_case<R: Threads + Wait + Abort + Sync>(
+    rt: &R,
+    alloc: Global,
+    case: Case,
+    failing: Failing,
+) -> End {
+    end_of(rt, alloc, &[case.word], case.given, case.whole, failing)
+}
+
+// Whether a command ends as it should when this read fails.
+fn is_ended_by_read<R: Threads + Wait + Abort + Sync>(
+    rt: &R,
+    alloc: Global,
+    case: Case,
+    call: u64,
+) -> bool {
+    let end = end_of_case(rt, alloc, case, Failing::Read(call));
+    if call < case.reads {
         end.is(4, 0)
     } else {
-        end.is(0, WRITES)
+        end.is(0, case.writes)
+    }
+}
+
+// Whether a command ends as it should when this write fails; the last call is to finish.
+fn is_ended_by_write<R: Threads + Wait + Abort + Sync>(
+    rt: &R,
+    alloc: Global,
+    case: Case,
+    call: u64,
+) -> bool {
+    let end = end_of_case(rt, alloc, case, Failing::Write(call));
+    if call <= case.writes {
+        end.is(5, call)
+    } else {
+        end.is(0, case.writes)
     }
 }
 
 #[test]
 fn a_read_that_fails_ends_the_run(rt: HostRuntime) {
-    for call in 0..READS + 1 {
-        must(&rt, is_ended_by_read(&rt, rt.alloc(), call));
-    }
-}
-
-// Whether a run of the first capture ends as it should when this write fails; the last call is to
-// finish.
-fn is_ended_by_write<R: Threads + Wait + Abort + Sync>(rt: &R, alloc: Global, call: u64) -> bool {
-    let end = end_of(rt, alloc, &[b"run"], FIRST, Failing::Write(call));
-    if call <= WRITES {
-        end.is(5, call)
-    } else {
-        end.is(0, WRITES)
+    for call in 0..47 {
+        must(&rt, is_ended_by_read(&rt, rt.alloc(), RUN, call));
     }
 }
 
 #[test]
 fn a_write_that_fails_ends_the_run(rt: HostRuntime) {
-    for call in 0..WRITES + 2 {
-        must(&rt, is_ended_by_write(&rt, rt.alloc(), call));
+    for call in 0..53 {
+        must(&rt, is_ended_by_write(&rt, rt.alloc(), RUN, call));
+    }
+}
+
+#[test]
+fn a_read_that_fails_ends_the_report(rt: HostRuntime) {
+    for call in 0..11 {
+        must(&rt, is_ended_by_read(&rt, rt.alloc(), REPORT, call));
+    }
+}
+
+#[test]
+fn a_write_that_fails_ends_the_report(rt: HostRuntime) {
+    for call in 0..66 {
+        must(&rt, is_ended_by_write(&rt, rt.alloc(), REPORT, call));
     }
 }
 
@@ -98,7 +154,7 @@ const WORDS: [[&[u8]; 3]; 3] = [
 
 // Whether the feeder breaks at its third step, and the run ends.
 fn is_broken<R: Threads + Wait + Abort + Sync>(rt: &R, alloc: Global, words: &[&[u8]]) -> bool {
-    end_of(rt, alloc, words, THREE, Failing::Read(THIRD)).is(4, 0)
+    end_of(rt, alloc, words, THREE, REPLIES, Failing::Read(THIRD)).is(4, 0)
 }
 
 #[test]

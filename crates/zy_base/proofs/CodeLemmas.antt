@@ -5,11 +5,12 @@ use Rattle.std.proofs.lemmas.Bool.Decides.{nat_tests}
 use Rattle.zy_base.specs.declared.call.Call.{Call}
 use Rattle.zy_base.specs.declared.call.Call.TheVariants as Calls
 use Rattle.zy_base.specs.declared.call_kind.CallKind.{CallKind}
-use Rattle.zy_base.specs.declared.call_kind.CallKind.TheVariants.{Get, Set, Add, Replace, Append, Prepend, Cas, Incr, Decr, Delete, Flush}
+use Rattle.zy_base.specs.declared.call_kind.CallKind.TheVariants.{Get, Set, Add, Replace, Append, Prepend, Cas, Incr, Decr, Delete, Flush, Tally}
 use Rattle.zy_base.specs.declared.call_reply.CallReply.{CallReply}
 use Rattle.zy_base.specs.declared.call_reply.CallReply.TheVariants as Replies
+use Rattle.zy_base.specs.declared.tallied.Tallied.{Tallied}
 use Rattle.zy_base.specs.Call.{key_of}
-use Rattle.zy_base.specs.Code.{code_of, kind_of, fields_of, call_of, call_kind, call_flags, call_number, call_value, hit_code, number_code, last_call_code, last_reply_code, reply_code, reply_flags, reply_number, reply_value, plain_reply}
+use Rattle.zy_base.specs.Code.{code_of, kind_of, fields_of, call_of, call_kind, call_flags, call_number, call_value, hit_code, number_code, tally_code, last_call_code, last_reply_code, reply_code, reply_flags, reply_number, reply_value, reply_counts, tally, plain_reply}
 use Rattle.zy_base.specs.Bounds.{IsKey, IsValue, IsCall, IsReply}
 
 -- ---- codes of calls
@@ -19,10 +20,12 @@ code_back code some most = grind (arith, nat_tests)
 
 pub kind_back : (kind : CallKind) → kind_of (code_of kind) ≡ kind
 kind_back Flush = refl
+kind_back Tally = refl
 kind_back kind = refl
 
 pub code_within : (kind : CallKind) → (1 ≤ code_of kind) × (code_of kind ≤ last_call_code)
 code_within Flush = (omega arith, omega arith)
+code_within Tally = (omega arith, omega arith)
 code_within kind = (omega arith, omega arith)
 
 -- ---- the fields of a call of a kind
@@ -47,12 +50,14 @@ pub record Has (kind : CallKind) (key : List ℕ) (flags number : ℕ) (value : 
 
 pub call_has : (kind : CallKind) (key : List ℕ) (flags number : ℕ) (value : List ℕ) → Has kind key flags number value (call_of kind key flags number value)
 call_has Flush key flags number value = record { kind_is = refl; key_is = refl; flags_are = refl; number_is = refl; value_is = refl }
+call_has Tally key flags number value = record { kind_is = refl; key_is = refl; flags_are = refl; number_is = refl; value_is = refl }
 call_has kind key flags number value = record { kind_is = refl; key_is = refl; flags_are = refl; number_is = refl; value_is = refl }
 
 -- fields that a kind has not are of no account
 pub call_same : (kind : CallKind) (key : List ℕ) (flags number : ℕ) (value : List ℕ) (key' : List ℕ) (flags' number' : ℕ) (value' : List ℕ)
     → call_of kind (either_of (fields_of kind).key key key') (either_of (fields_of kind).flags flags flags') (either_of (fields_of kind).number number number') (either_of (fields_of kind).value value value') ≡ call_of kind key flags number value
 call_same Flush key flags number value key' flags' number' value' = refl
+call_same Tally key flags number value key' flags' number' value' = refl
 call_same kind key flags number value key' flags' number' value' = refl
 
 -- every call is one of its kind
@@ -68,6 +73,7 @@ of_kinds P each (Calls.Incr key amount) = each Incr key 0 amount key
 of_kinds P each (Calls.Decr key amount) = each Decr key 0 amount key
 of_kinds P each (Calls.Delete key) = each Delete key 0 0 key
 of_kinds P each Calls.Flush = each Flush [] 0 0 []
+of_kinds P each Calls.Tally = each Tally [] 0 0 []
 
 -- ---- bounds
 
@@ -84,6 +90,7 @@ call_within (Calls.Incr key amount) is small = is
 call_within (Calls.Decr key amount) is small = is
 call_within (Calls.Delete key) is small = is
 call_within Calls.Flush is small = tt
+call_within Calls.Tally is small = tt
 
 -- and then they are
 pub key_within : (call : Call) → IsCall call → IfSome (key_of call) IsKey
@@ -98,6 +105,7 @@ key_within (Calls.Incr key amount) is = is
 key_within (Calls.Decr key amount) is = is
 key_within (Calls.Delete key) is = is
 key_within Calls.Flush is = tt
+key_within Calls.Tally is = tt
 
 pub value_within : (call : Call) → IsCall call → IfSome (call_value call) IsValue
 value_within (Calls.Set key flags value) is = is.1
@@ -120,6 +128,7 @@ pub record IsPlain (code : ℕ) (reply : CallReply) : Type 0 where
   pub no_flags : reply_flags reply ≡ None
   pub no_number : reply_number reply ≡ None
   pub no_value : reply_value reply ≡ None
+  pub no_counts : reply_counts reply ≡ None
 
 -- a fact of both ways that a test may go
 either : {S : Type 0} (P : S → Type 0) (test : Bool) (x y : S) → P x → P y → P (if test then x else y)
@@ -133,26 +142,28 @@ of_plain P miss stored not_stored exists not_found deleted not_number too_large 
     either P (code == 1) _ _ miss (either P (code == 3) _ _ stored (either P (code == 4) _ _ not_stored (either P (code == 5) _ _ exists (either P (code == 6) _ _ not_found
     (either P (code == 7) _ _ deleted (either P (code == 9) _ _ not_number (either P (code == 10) _ _ too_large flushed)))))))
 
--- each code but those of a hit and of a number has such a reply
-pub plain_is : (code : ℕ) → 1 ≤ code → code ≤ last_reply_code → (code == hit_code) ≡ false → (code == number_code) ≡ false → IsPlain code (plain_reply code)
-plain_is code some most no_hit no_number = record {
+-- each code but those of a hit, of a number and of a tally has such a reply
+pub plain_is : (code : ℕ) → 1 ≤ code → code ≤ last_reply_code → (code == hit_code) ≡ false → (code == number_code) ≡ false → (code == tally_code) ≡ false → IsPlain code (plain_reply code)
+plain_is code some most no_hit no_number no_tally = record {
   code_is = grind (arith, nat_tests);
   no_flags = of_plain (λ reply. reply_flags reply ≡ None) refl refl refl refl refl refl refl refl refl code;
   no_number = of_plain (λ reply. reply_number reply ≡ None) refl refl refl refl refl refl refl refl refl code;
   no_value = of_plain (λ reply. reply_value reply ≡ None) refl refl refl refl refl refl refl refl refl code;
+  no_counts = of_plain (λ reply. reply_counts reply ≡ None) refl refl refl refl refl refl refl refl refl code;
 }
 
--- every reply is a hit, a number, or the one of its code
-pub of_forms : (P : CallReply → Type 0) → ((flags unique : ℕ) (value : List ℕ) → P (Replies.Hit flags unique value)) → ((number : ℕ) → P (Replies.Number number))
-    → ((code : ℕ) → 1 ≤ code → code ≤ last_reply_code → (code == hit_code) ≡ false → (code == number_code) ≡ false → P (plain_reply code)) → (reply : CallReply) → P reply
-of_forms P hit number plain Replies.Miss = plain 1 (omega arith) (omega arith) refl refl
-of_forms P hit number plain (Replies.Hit flags unique value) = hit flags unique value
-of_forms P hit number plain Replies.Stored = plain 3 (omega arith) (omega arith) refl refl
-of_forms P hit number plain Replies.NotStored = plain 4 (omega arith) (omega arith) refl refl
-of_forms P hit number plain Replies.Exists = plain 5 (omega arith) (omega arith) refl refl
-of_forms P hit number plain Replies.NotFound = plain 6 (omega arith) (omega arith) refl refl
-of_forms P hit number plain Replies.Deleted = plain 7 (omega arith) (omega arith) refl refl
-of_forms P hit number plain (Replies.Number n) = number n
-of_forms P hit number plain Replies.NotNumber = plain 9 (omega arith) (omega arith) refl refl
-of_forms P hit number plain Replies.TooLarge = plain 10 (omega arith) (omega arith) refl refl
-of_forms P hit number plain Replies.Flushed = plain 11 (omega arith) (omega arith) refl refl
+-- every reply is a hit, a number, a tally, or the one of its code
+pub of_forms : (P : CallReply → Type 0) → ((flags unique : ℕ) (value : List ℕ) → P (Replies.Hit flags unique value)) → ((number : ℕ) → P (Replies.Number number)) → ((counts : Tallied) → P (tally counts))
+    → ((code : ℕ) → 1 ≤ code → code ≤ last_reply_code → (code == hit_code) ≡ false → (code == number_code) ≡ false → (code == tally_code) ≡ false → P (plain_reply code)) → (reply : CallReply) → P reply
+of_forms P hit number tallied plain Replies.Miss = plain 1 (omega arith) (omega arith) refl refl refl
+of_forms P hit number tallied plain (Replies.Hit flags unique value) = hit flags unique value
+of_forms P hit number tallied plain Replies.Stored = plain 3 (omega arith) (omega arith) refl refl refl
+of_forms P hit number tallied plain Replies.NotStored = plain 4 (omega arith) (omega arith) refl refl refl
+of_forms P hit number tallied plain Replies.Exists = plain 5 (omega arith) (omega arith) refl refl refl
+of_forms P hit number tallied plain Replies.NotFound = plain 6 (omega arith) (omega arith) refl refl refl
+of_forms P hit number tallied plain Replies.Deleted = plain 7 (omega arith) (omega arith) refl refl refl
+of_forms P hit number tallied plain (Replies.Number n) = number n
+of_forms P hit number tallied plain Replies.NotNumber = plain 9 (omega arith) (omega arith) refl refl refl
+of_forms P hit number tallied plain Replies.TooLarge = plain 10 (omega arith) (omega arith) refl refl refl
+of_forms P hit number tallied plain Replies.Flushed = plain 11 (omega arith) (omega arith) refl refl refl
+of_forms P hit number tallied plain (Replies.Tally gets sets hits misses items) = tallied (record { gets = gets; sets = sets; hits = hits; misses = misses; items = items })

@@ -1,7 +1,7 @@
 -- Lists of entries that are one longer, or joined: their parts, their places, their stamps and their order.
 use Rattle.std.specs.Prelude.{◌==◌, filter, Option, None, Some}
 use Rattle.std.specs.List.{last_or}
-use Rattle.std.proofs.Common.{◌≡◌, ◌≢◌, ℕ, ◌<◌, ◌≤◌, Bool, true, false, cond, List, [], ◌∷◌, ◌++◌, map, refl, sym, ap, ◌∙◌, eq-eqb, ne_eqb, eqb-true, arith}
+use Rattle.std.proofs.Common.{◌≡◌, ◌≢◌, ℕ, ◌+◌, ◌<◌, ◌≤◌, Bool, true, false, cond, List, [], ◌∷◌, ◌++◌, length, map, refl, sym, ap, ◌∙◌, eq-eqb, ne_eqb, eqb-true, arith}
 use Rattle.std.proofs.lemmas.List.{append-nil, map-append}
 use Rattle.std.proofs.lemmas.List.Elements.{filter-append}
 use Rattle.zy_base.specs.declared.entry.Entry.{Entry}
@@ -153,6 +153,14 @@ StampsRise-lower lower before (e ∷ es) below stamps = ((let above = stamps.0 i
 pub last_stamp-rises : (before : ℕ) (es : List Entry) → StampsRise before es → before ≤ last_stamp before es
 last_stamp-rises before [] stamps = omega arith
 last_stamp-rises before (e ∷ es) stamps = let above = stamps.0 in let rest = last_stamp-rises e.stamp es stamps.1 in omega arith
+
+-- a list is no longer than its stamps have risen
+pub StampsRise-length : (before : ℕ) (es : List Entry) → StampsRise before es → before + length es ≤ last_stamp before es
+StampsRise-length before [] rise = omega arith
+StampsRise-length before (e ∷ es) rise =
+    let rest = StampsRise-length e.stamp es rise.1 in
+    let above = rise.0 in
+    omega (arith, rest, above)
 
 -- where the last of rising stamps is below a limit, all are
 pub AreStampsBelow-last : (before limit : ℕ) (es : List Entry) → StampsRise before es → last_stamp before es < limit → AreStampsBelow limit es

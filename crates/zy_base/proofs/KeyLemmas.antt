@@ -8,28 +8,31 @@ use Rattle.std.specs.Cmp.Lexicographic.{slice_cmp, nat_list_cmp_total}
 use Rattle.std.specs.FinMap.{get, get-empty, get-insert, get-remove, nat_cmp-IsAntisymmetric, slice_cmp-IsAntisymmetric}
 use Rattle.zy_base.specs.declared.item.Item.{Item}
 use Rattle.zy_base.specs.declared.call.Call.{Call}
-use Rattle.zy_base.specs.declared.call.Call.TheVariants.{Get, Set, Add, Replace, Append, Prepend, Cas, Incr, Decr, Delete, Flush}
+use Rattle.zy_base.specs.declared.call.Call.TheVariants.{Get, Set, Add, Replace, Append, Prepend, Cas, Incr, Decr, Delete, Flush, Tally}
 use Rattle.zy_base.specs.declared.call_reply.CallReply.TheVariants.{TooLarge}
+use Rattle.zy_base.specs.declared.tallied.Tallied.{Tallied}
 use Rattle.zy_base.specs.Call.{key_of}
 use Rattle.zy_base.specs.Number.{number_of}
-use Rattle.zy_base.specs.Shard.{Items, State, Effect, keeps, stores, removes, empties, value_limit, unique_of, reply_to, state_after, state_with, item_at, outcome_of, outcome_on, answers, stored, counted_up, counted_down}
+use Rattle.zy_base.specs.Shard.{Items, State, Effect, keeps, stores, removes, empties, value_limit, unique_of, reply_to, state_after, state_with, tallied, item_at, outcome_of, outcome_on, answers, stored, counted_up, counted_down}
 use Rattle.zy_base.specs.Told.{told, seen, seen_at, seen_after, IsSteady, IsAtOnly}
 
 -- ---- what a call answers and does
 
--- a call's answer, without its unique, depends on what is found without its unique
-told-outcome_of : (call : Call) (found : Option Item) → IsSteady call → told (outcome_of call found).reply ≡ told (outcome_of call (seen found)).reply
-told-outcome_of (Cas key flags unique value) found steady = absurd steady
-told-outcome_of Flush found steady = absurd steady
-told-outcome_of call None steady = refl
-told-outcome_of call (Some item) steady = refl
+-- a call's answer, without its unique, depends on what is found without its unique, and not on what the shard counts
+told-outcome_of : (counts others : Tallied) (call : Call) (found : Option Item) → IsSteady call → told (outcome_of counts call found).reply ≡ told (outcome_of others call (seen found)).reply
+told-outcome_of counts others (Cas key flags unique value) found steady = absurd steady
+told-outcome_of counts others Flush found steady = absurd steady
+told-outcome_of counts others Tally found steady = absurd steady
+told-outcome_of counts others call None steady = refl
+told-outcome_of counts others call (Some item) steady = refl
 
--- its effect depends on what is found without its unique
-effect-outcome_of : (call : Call) (found : Option Item) → IsSteady call → (outcome_of call found).effect ≡ (outcome_of call (seen found)).effect
-effect-outcome_of (Cas key flags unique value) found steady = absurd steady
-effect-outcome_of Flush found steady = absurd steady
-effect-outcome_of call None steady = refl
-effect-outcome_of call (Some item) steady = refl
+-- and so does its effect
+effect-outcome_of : (counts others : Tallied) (call : Call) (found : Option Item) → IsSteady call → (outcome_of counts call found).effect ≡ (outcome_of others call (seen found)).effect
+effect-outcome_of counts others (Cas key flags unique value) found steady = absurd steady
+effect-outcome_of counts others Flush found steady = absurd steady
+effect-outcome_of counts others Tally found steady = absurd steady
+effect-outcome_of counts others call None steady = refl
+effect-outcome_of counts others call (Some item) steady = refl
 
 -- ---- the key of an effect
 
@@ -46,30 +49,31 @@ at-counted_down key item amount None = tt
 at-counted_down key item amount (Some number) = refl
 
 -- the effect of a call is at its key
-at-outcome_of : (key : List ℕ) (call : Call) (found : Option Item) → IsSteady call → key_of call ≡ Some key → IsAtOnly key (outcome_of call found).effect
-at-outcome_of key (Get at) None steady is = tt
-at-outcome_of key (Get at) (Some item) steady is = tt
-at-outcome_of key (Set at flags value) found steady is = cc
-at-outcome_of key (Add at flags value) None steady is = cc
-at-outcome_of key (Add at flags value) (Some item) steady is = tt
-at-outcome_of key (Replace at flags value) None steady is = tt
-at-outcome_of key (Replace at flags value) (Some item) steady is = cc
-at-outcome_of key (Append at value) None steady is = tt
-at-outcome_of key (Append at value) (Some item) steady is =
-    let same : at ≡ key = cc in subst (λ k. IsAtOnly k (outcome_of (Append at value) (Some item)).effect) same (at-stored at item (item.value ++ value) (nat_lt value_limit (length (item.value ++ value))))
-at-outcome_of key (Prepend at value) None steady is = tt
-at-outcome_of key (Prepend at value) (Some item) steady is =
-    let same : at ≡ key = cc in subst (λ k. IsAtOnly k (outcome_of (Prepend at value) (Some item)).effect) same (at-stored at item (value ++ item.value) (nat_lt value_limit (length (value ++ item.value))))
-at-outcome_of key (Cas at flags unique value) found steady is = absurd steady
-at-outcome_of key (Incr at amount) None steady is = tt
-at-outcome_of key (Incr at amount) (Some item) steady is =
-    let same : at ≡ key = cc in subst (λ k. IsAtOnly k (outcome_of (Incr at amount) (Some item)).effect) same (at-counted_up at item amount (number_of item.value))
-at-outcome_of key (Decr at amount) None steady is = tt
-at-outcome_of key (Decr at amount) (Some item) steady is =
-    let same : at ≡ key = cc in subst (λ k. IsAtOnly k (outcome_of (Decr at amount) (Some item)).effect) same (at-counted_down at item amount (number_of item.value))
-at-outcome_of key (Delete at) None steady is = tt
-at-outcome_of key (Delete at) (Some item) steady is = cc
-at-outcome_of key Flush found steady is = absurd steady
+at-outcome_of : (counts : Tallied) (key : List ℕ) (call : Call) (found : Option Item) → IsSteady call → key_of call ≡ Some key → IsAtOnly key (outcome_of counts call found).effect
+at-outcome_of counts key (Get at) None steady is = tt
+at-outcome_of counts key (Get at) (Some item) steady is = tt
+at-outcome_of counts key (Set at flags value) found steady is = cc
+at-outcome_of counts key (Add at flags value) None steady is = cc
+at-outcome_of counts key (Add at flags value) (Some item) steady is = tt
+at-outcome_of counts key (Replace at flags value) None steady is = tt
+at-outcome_of counts key (Replace at flags value) (Some item) steady is = cc
+at-outcome_of counts key (Append at value) None steady is = tt
+at-outcome_of counts key (Append at value) (Some item) steady is =
+    let same : at ≡ key = cc in subst (λ k. IsAtOnly k (outcome_of counts (Append at value) (Some item)).effect) same (at-stored at item (item.value ++ value) (nat_lt value_limit (length (item.value ++ value))))
+at-outcome_of counts key (Prepend at value) None steady is = tt
+at-outcome_of counts key (Prepend at value) (Some item) steady is =
+    let same : at ≡ key = cc in subst (λ k. IsAtOnly k (outcome_of counts (Prepend at value) (Some item)).effect) same (at-stored at item (value ++ item.value) (nat_lt value_limit (length (value ++ item.value))))
+at-outcome_of counts key (Cas at flags unique value) found steady is = absurd steady
+at-outcome_of counts key (Incr at amount) None steady is = tt
+at-outcome_of counts key (Incr at amount) (Some item) steady is =
+    let same : at ≡ key = cc in subst (λ k. IsAtOnly k (outcome_of counts (Incr at amount) (Some item)).effect) same (at-counted_up at item amount (number_of item.value))
+at-outcome_of counts key (Decr at amount) None steady is = tt
+at-outcome_of counts key (Decr at amount) (Some item) steady is =
+    let same : at ≡ key = cc in subst (λ k. IsAtOnly k (outcome_of counts (Decr at amount) (Some item)).effect) same (at-counted_down at item amount (number_of item.value))
+at-outcome_of counts key (Delete at) None steady is = tt
+at-outcome_of counts key (Delete at) (Some item) steady is = cc
+at-outcome_of counts key Flush found steady is = absurd steady
+at-outcome_of counts key Tally found steady is = absurd steady
 
 -- ---- a shard after an effect
 
@@ -113,30 +117,30 @@ item-named items call key named = ap (item_at items) named
 pub told-reply_to : (state other : State) (call : Call) (key : List ℕ) → IsSteady call → key_of call ≡ Some key → seen_at key state ≡ seen_at key other
     → told (reply_to state call) ≡ told (reply_to other call)
 told-reply_to state other call key steady named same =
-    told-outcome_of call (item_at state.items (key_of call)) steady
-    ∙ ap (λ found. told (outcome_of call found).reply) (ap seen (item-named state.items call key named) ∙ same ∙ sym (ap seen (item-named other.items call key named)))
-    ∙ sym (told-outcome_of call (item_at other.items (key_of call)) steady)
+    told-outcome_of (tallied state) (tallied other) call (item_at state.items (key_of call)) steady
+    ∙ ap (λ found. told (outcome_of (tallied other) call found).reply) (ap seen (item-named state.items call key named) ∙ same ∙ sym (ap seen (item-named other.items call key named)))
+    ∙ sym (told-outcome_of (tallied other) (tallied other) call (item_at other.items (key_of call)) steady)
 
 -- and the call has the same effect on them
 pub effect-same : (state other : State) (call : Call) (key : List ℕ) → IsSteady call → key_of call ≡ Some key → seen_at key state ≡ seen_at key other
-    → (outcome_on state.items call).effect ≡ (outcome_on other.items call).effect
+    → (outcome_on state call).effect ≡ (outcome_on other call).effect
 effect-same state other call key steady named same =
-    effect-outcome_of call (item_at state.items (key_of call)) steady
-    ∙ ap (λ found. (outcome_of call found).effect) (ap seen (item-named state.items call key named) ∙ same ∙ sym (ap seen (item-named other.items call key named)))
-    ∙ sym (effect-outcome_of call (item_at other.items (key_of call)) steady)
+    effect-outcome_of (tallied state) (tallied other) call (item_at state.items (key_of call)) steady
+    ∙ ap (λ found. (outcome_of (tallied other) call found).effect) (ap seen (item-named state.items call key named) ∙ same ∙ sym (ap seen (item-named other.items call key named)))
+    ∙ sym (effect-outcome_of (tallied other) (tallied other) call (item_at other.items (key_of call)) steady)
 
 -- so a key at which the same is seen has the same after the call, also where the shards have other numbers
 pub seen_at-both : (shards number shards' number' : ℕ) (state other : State) (call : Call) (own key : List ℕ) → IsSteady call → key_of call ≡ Some own
     → seen_at own state ≡ seen_at own other → seen_at key state ≡ seen_at key other → seen_at key (state_after shards number state call) ≡ seen_at key (state_after shards' number' other call)
 seen_at-both shards number shards' number' state other call own key steady named same_own same =
-    seen_at-state_with shards number state (outcome_on state.items call).effect key
+    seen_at-state_with shards number state (outcome_on state call).effect key
     ∙ ap (λ effect. seen_after effect key (seen_at key state)) (effect-same state other call own steady named same_own)
-    ∙ ap (seen_after (outcome_on other.items call).effect key) same
-    ∙ sym (seen_at-state_with shards' number' other (outcome_on other.items call).effect key)
+    ∙ ap (seen_after (outcome_on other call).effect key) same
+    ∙ sym (seen_at-state_with shards' number' other (outcome_on other call).effect key)
 
 -- a call leaves what is seen at other keys
 pub seen_at-other : (shards number : ℕ) (state : State) (call : Call) (own key : List ℕ) → IsSteady call → key_of call ≡ Some own → (own ≡ key → ⊥)
     → seen_at key (state_after shards number state call) ≡ seen_at key state
 seen_at-other shards number state call own key steady named apart =
-    seen_at-state_with shards number state (outcome_on state.items call).effect key
-    ∙ seen_after-other (outcome_on state.items call).effect own key (seen_at key state) (at-outcome_of own call (item_at state.items (key_of call)) steady named) apart
+    seen_at-state_with shards number state (outcome_on state call).effect key
+    ∙ seen_after-other (outcome_on state call).effect own key (seen_at key state) (at-outcome_of (tallied state) own call (item_at state.items (key_of call)) steady named) apart

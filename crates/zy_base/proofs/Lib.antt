@@ -13,3 +13,4 @@ pub mod KeyLemmas
 pub mod ReplyLemmas
 pub mod SameLemmas
 pub mod CodeLemmas
+pub mod CountedLemmas

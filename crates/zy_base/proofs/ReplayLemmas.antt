@@ -45,6 +45,15 @@ IsHistory-push shards number es e history here above reply fits = record {
   fits = all_push FitsEntry es e history.fits fits;
 }
 
+-- ---- the counts of calls
+
+-- an effect leaves them
+pub calls-state_with : (shards number : ℕ) (state : State) (effect : Effect) → (state_with shards number state effect).calls ≡ state.calls
+calls-state_with shards number state keeps = refl
+calls-state_with shards number state (stores key flags value) = refl
+calls-state_with shards number state (removes key) = refl
+calls-state_with shards number state empties = refl
+
 -- ---- the counter
 
 pub count-state_with : (shards number : ℕ) (state : State) (effect : Effect) → (state_with shards number state effect).count ≤ state.count + 1
@@ -56,7 +65,7 @@ count-state_with shards number state empties = omega arith
 count_by : (shards number : ℕ) (state : State) (es : List Entry) → (replayed shards number state es).count ≤ state.count + length es
 count_by shards number state [] = omega arith
 count_by shards number state (e ∷ es) =
-    let one = count-state_with shards number state (outcome_on state.items e.call).effect in
+    let one = count-state_with shards number state (outcome_on state e.call).effect in
     let more = count_by shards number (state_after shards number state e.call) es in
     omega arith
 

@@ -10,11 +10,12 @@ use Rattle.std.proofs.lemmas.Fmt.{length-decimal-le}
 use borrow.Author.Tests.{ltb-true, ltb-false}
 use Rattle.zy_base.specs.declared.item.Item.{Item}
 use Rattle.zy_base.specs.declared.call.Call.{Call}
-use Rattle.zy_base.specs.declared.call.Call.TheVariants.{Get, Set, Add, Replace, Append, Prepend, Cas, Incr, Decr, Delete, Flush}
+use Rattle.zy_base.specs.declared.call.Call.TheVariants.{Get, Set, Add, Replace, Append, Prepend, Cas, Incr, Decr, Delete, Flush, Tally}
 use Rattle.zy_base.specs.declared.call_reply.CallReply.TheVariants as Replies
 use Rattle.zy_base.specs.declared.entry.Entry.{Entry}
+use Rattle.zy_base.specs.declared.tallied.Tallied.{Tallied}
 use Rattle.zy_base.specs.Number.{number_of, is_numeral}
-use Rattle.zy_base.specs.Shard.{State, Outcome, Effect, keeps, stores, removes, empties, empty_state, value_limit, answers, stored, joined, counted_up, counted_down, exchanged, outcome_of, item_at, state_after, state_with, unique_of}
+use Rattle.zy_base.specs.Shard.{State, Outcome, Effect, keeps, stores, removes, empties, empty_state, value_limit, answers, stored, joined, counted_up, counted_down, exchanged, tallied, outcome_of, item_at, state_after, state_with, unique_of}
 use Rattle.zy_base.specs.Call.{key_of}
 use Rattle.zy_base.specs.History.{IsLegalFrom, IsLegal, states_after}
 use Rattle.zy_base.specs.Bounds.{IsValue, IsCall, IsReply, IsFound, AreItems, IsEffect, IsCallWithin}
@@ -58,29 +59,31 @@ exchanged_within key item flags unique value small = go (item.unique == unique)
     go true = (tt, small)
     go false = (tt, tt)
 
-outcome_within : (call : Call) (found : Option Item) → IsCall call → IsFound found → IsOutcome (outcome_of call found)
-outcome_within (Get key) None is small = (tt, tt)
-outcome_within (Get key) (Some item) is small = (small, tt)
-outcome_within (Set key flags value) None is small = (tt, is.1)
-outcome_within (Set key flags value) (Some item) is small = (tt, is.1)
-outcome_within (Add key flags value) None is small = (tt, is.1)
-outcome_within (Add key flags value) (Some item) is small = (tt, tt)
-outcome_within (Replace key flags value) None is small = (tt, tt)
-outcome_within (Replace key flags value) (Some item) is small = (tt, is.1)
-outcome_within (Append key value) None is small = (tt, tt)
-outcome_within (Append key value) (Some item) is small = joined_within key item (item.value ++ value)
-outcome_within (Prepend key value) None is small = (tt, tt)
-outcome_within (Prepend key value) (Some item) is small = joined_within key item (value ++ item.value)
-outcome_within (Cas key flags unique value) None is small = (tt, tt)
-outcome_within (Cas key flags unique value) (Some item) is small = exchanged_within key item flags unique value is.1
-outcome_within (Incr key amount) None is small = (tt, tt)
-outcome_within (Incr key amount) (Some item) is small = up_within key item amount (number_of item.value)
-outcome_within (Decr key amount) None is small = (tt, tt)
-outcome_within (Decr key amount) (Some item) is small = down_within key item amount (number_of item.value) refl
-outcome_within (Delete key) None is small = (tt, tt)
-outcome_within (Delete key) (Some item) is small = (tt, tt)
-outcome_within Flush None is small = (tt, tt)
-outcome_within Flush (Some item) is small = (tt, tt)
+outcome_within : (counts : Tallied) (call : Call) (found : Option Item) → IsCall call → IsFound found → IsOutcome (outcome_of counts call found)
+outcome_within counts (Get key) None is small = (tt, tt)
+outcome_within counts (Get key) (Some item) is small = (small, tt)
+outcome_within counts (Set key flags value) None is small = (tt, is.1)
+outcome_within counts (Set key flags value) (Some item) is small = (tt, is.1)
+outcome_within counts (Add key flags value) None is small = (tt, is.1)
+outcome_within counts (Add key flags value) (Some item) is small = (tt, tt)
+outcome_within counts (Replace key flags value) None is small = (tt, tt)
+outcome_within counts (Replace key flags value) (Some item) is small = (tt, is.1)
+outcome_within counts (Append key value) None is small = (tt, tt)
+outcome_within counts (Append key value) (Some item) is small = joined_within key item (item.value ++ value)
+outcome_within counts (Prepend key value) None is small = (tt, tt)
+outcome_within counts (Prepend key value) (Some item) is small = joined_within key item (value ++ item.value)
+outcome_within counts (Cas key flags unique value) None is small = (tt, tt)
+outcome_within counts (Cas key flags unique value) (Some item) is small = exchanged_within key item flags unique value is.1
+outcome_within counts (Incr key amount) None is small = (tt, tt)
+outcome_within counts (Incr key amount) (Some item) is small = up_within key item amount (number_of item.value)
+outcome_within counts (Decr key amount) None is small = (tt, tt)
+outcome_within counts (Decr key amount) (Some item) is small = down_within key item amount (number_of item.value) refl
+outcome_within counts (Delete key) None is small = (tt, tt)
+outcome_within counts (Delete key) (Some item) is small = (tt, tt)
+outcome_within counts Flush None is small = (tt, tt)
+outcome_within counts Flush (Some item) is small = (tt, tt)
+outcome_within counts Tally None is small = (tt, tt)
+outcome_within counts Tally (Some item) is small = (tt, tt)
 
 -- ---- one shard
 
@@ -104,8 +107,8 @@ effect_within shards number state empties small are key = subst IsFound (sym (ge
 empty_within : AreItems empty_state
 empty_within key = subst IsFound (sym (get-empty (slice_cmp nat_cmp) key)) tt
 
-call_within : (state : State) (call : Call) → IsCall call → AreItems state → IsOutcome (outcome_of call (item_at state.items (key_of call)))
-call_within state call is are = outcome_within call (item_at state.items (key_of call)) is (item_within state (key_of call) are)
+call_within : (state : State) (call : Call) → IsCall call → AreItems state → IsOutcome (outcome_of (tallied state) call (item_at state.items (key_of call)))
+call_within state call is are = outcome_within (tallied state) call (item_at state.items (key_of call)) is (item_within state (key_of call) are)
 
 -- ---- all shards
 

@@ -6,11 +6,12 @@ use mathlib.Core.HLevel.{×_discrete}
 use mathlib.Core.List.{List-discrete}
 use native.Mathlib.Decide.{ℕ_discrete}
 use Rattle.zy_base.specs.declared.call.Call.{Call}
-use Rattle.zy_base.specs.declared.call.Call.TheVariants.{Flush}
+use Rattle.zy_base.specs.declared.call.Call.TheVariants.{Flush, Tally}
 use Rattle.zy_base.specs.declared.call_reply.CallReply.{CallReply}
 use Rattle.zy_base.specs.declared.call_reply.CallReply.TheVariants.{Hit, Number}
+use Rattle.zy_base.specs.declared.tallied.Tallied.{Tallied}
 use Rattle.zy_base.specs.Call.{key_of}
-use Rattle.zy_base.specs.Code.{kind_of, call_of, call_code, call_flags, call_number, call_value, hit_code, number_code, reply_code, reply_flags, reply_number, reply_value, plain_reply}
+use Rattle.zy_base.specs.Code.{kind_of, call_of, call_code, call_flags, call_number, call_value, hit_code, number_code, tally_code, reply_code, reply_flags, reply_number, reply_value, reply_counts, tally, plain_reply}
 
 -- values that are read back from codes can be compared if the codes can
 pub told_by : {A B : Type 0} (code : A → B) (read : B → A) → ((a : A) → read (code a) ≡ a) → Discrete B → Discrete A
@@ -48,6 +49,7 @@ call_by (code, (key, (flags, (number, value)))) = call_of (kind_of code) key fla
 
 call_back : (call : Call) → call_by (call_parts call) ≡ call
 call_back Flush = refl
+call_back Tally = refl
 call_back call = refl
 
 pub call_told : Discrete Call
@@ -55,20 +57,38 @@ call_told = told_by call_parts call_by call_back (×_discrete ℕ_discrete (×_d
 
 -- ---- replies
 
--- the code of a reply, its flags, its unique or number, and its value
+-- the five numbers of a tally
+abbrev CountParts : Type 0
+CountParts = ℕ × (ℕ × (ℕ × (ℕ × ℕ)))
+
+abbrev count_parts : Tallied → CountParts
+count_parts counts = (counts.gets, (counts.sets, (counts.hits, (counts.misses, counts.items))))
+
+abbrev counts_by : CountParts → Tallied
+counts_by (gets, (sets, (hits, (misses, items)))) = record { gets = gets; sets = sets; hits = hits; misses = misses; items = items }
+
+abbrev nothing : Tallied
+nothing = record { gets = 0; sets = 0; hits = 0; misses = 0; items = 0 }
+
+-- the code of a reply, its flags, its unique or number, its value, and its counts
 abbrev ReplyParts : Type 0
-ReplyParts = ℕ × (ℕ × (ℕ × List ℕ))
+ReplyParts = ℕ × (ℕ × (ℕ × (List ℕ × CountParts)))
 
 abbrev reply_parts : CallReply → ReplyParts
-reply_parts reply = (reply_code reply, (unwrap_or (reply_flags reply) 0, (unwrap_or (reply_number reply) 0, unwrap_or (reply_value reply) [])))
+reply_parts reply = (reply_code reply, (unwrap_or (reply_flags reply) 0, (unwrap_or (reply_number reply) 0, (unwrap_or (reply_value reply) [], count_parts (unwrap_or (reply_counts reply) nothing)))))
 
 abbrev reply_by : ReplyParts → CallReply
-reply_by (code, (flags, (number, value))) =
-    if code == hit_code then Hit flags number value else if code == number_code then Number number else plain_reply code
+reply_by (code, (flags, (number, (value, counts)))) =
+    if code == hit_code then Hit flags number value else if code == number_code then Number number
+    else if code == tally_code then tally (counts_by counts) else plain_reply code
 
 reply_back : (reply : CallReply) → reply_by (reply_parts reply) ≡ reply
 reply_back (Hit flags unique value) = refl
 reply_back reply = refl
 
+counts_told : Discrete CountParts
+counts_told = ×_discrete ℕ_discrete (×_discrete ℕ_discrete (×_discrete ℕ_discrete (×_discrete ℕ_discrete ℕ_discrete)))
+
 pub reply_told : Discrete CallReply
-reply_told = told_by reply_parts reply_by reply_back (×_discrete ℕ_discrete (×_discrete ℕ_discrete (×_discrete ℕ_discrete bytes_told)))
+reply_told =
+    told_by reply_parts reply_by reply_back (×_discrete ℕ_discrete (×_discrete ℕ_discrete (×_discrete ℕ_discrete (×_discrete bytes_told counts_told))))

@@ -10,7 +10,8 @@ use Rattle.zy_base.specs.declared.item.Item.{Item}
 use Rattle.zy_base.specs.declared.call.Call.{Call}
 use Rattle.zy_base.specs.declared.call_reply.CallReply.{CallReply}
 use Rattle.zy_base.specs.Call.{key_of}
-use Rattle.zy_base.specs.Shard.{Items, State, unique_of, Effect, keeps, stores, removes, empties, outcome_of, item_at, state_with}
+use Rattle.zy_base.specs.Counted.{CallCounts, calls_with}
+use Rattle.zy_base.specs.Shard.{Items, State, tallied, unique_of, Effect, keeps, stores, removes, empties, Outcome, outcome_of, item_at, state_with, with_calls}
 use Rattle.zy_base.specs.Worked.{answers_from}
 
 -- the pairs of other keys
@@ -32,9 +33,9 @@ without_key items key =
     ∙ ap (λ b. cond b None (find (slice_cmp nat_cmp) q items)) ((eq_by_cmp_equiv nat_list_cmp_total).symm key q)
     ∙ sym (get-remove nat_list_cmp_total (from_entries items) key q ∙ ap (λ found. cond (eq_by_cmp (slice_cmp nat_cmp) q key) None found) (get-from_entries nat_list_cmp_total items q)))
 
--- the shard that has these items and this counter
-abbrev plain : List (List ℕ × Item) → ℕ → State
-plain items count = record { items = from_entries items; count = count }
+-- the shard that has these items, this counter and these counts
+abbrev plain : List (List ℕ × Item) → ℕ → CallCounts → State
+plain items count calls = record { items = from_entries items; count = count; calls = calls }
 
 -- the item of a call's key
 abbrev found : List (List ℕ × Item) → Option (List ℕ) → Option Item
@@ -58,24 +59,32 @@ count_with count (stores key flags value) = count + 1
 count_with count (removes key) = count
 count_with count empties = count
 
-has_effect : (shards number : ℕ) (items : List (List ℕ × Item)) (count : ℕ) (effect : Effect) → state_with shards number (plain items count) effect ≡ plain (items_with shards number items count effect) (count_with count effect)
-has_effect shards number items count keeps = refl
-has_effect shards number items count (stores key flags value) = refl
-has_effect shards number items count (removes key) = ap (λ (map : Items). record { items = map; count = count }) (sym (without_key items key))
-has_effect shards number items count empties = refl
+has_effect : (shards number : ℕ) (items : List (List ℕ × Item)) (count : ℕ) (calls : CallCounts) (effect : Effect)
+    → state_with shards number (plain items count calls) effect ≡ plain (items_with shards number items count effect) (count_with count effect) calls
+has_effect shards number items count calls keeps = refl
+has_effect shards number items count calls (stores key flags value) = refl
+has_effect shards number items count calls (removes key) = ap (λ (map : Items). record { items = map; count = count; calls = calls }) (sym (without_key items key))
+has_effect shards number items count calls empties = refl
+
+-- what a call answers and does there
+abbrev outcome_at : List (List ℕ × Item) → ℕ → CallCounts → Call → Outcome
+outcome_at items count calls call = outcome_of (tallied (plain items count calls)) call (found items (key_of call))
 
 -- what the shard answers
-abbrev pub told : ℕ → ℕ → List (List ℕ × Item) → ℕ → List Call → List CallReply
-told shards number items count [] = []
-told shards number items count (call ∷ calls) =
-    (outcome_of call (found items (key_of call))).reply
-    ∷ told shards number (items_with shards number items count (outcome_of call (found items (key_of call))).effect) (count_with count (outcome_of call (found items (key_of call))).effect) calls
+abbrev pub told : ℕ → ℕ → List (List ℕ × Item) → ℕ → CallCounts → List Call → List CallReply
+told shards number items count calls [] = []
+told shards number items count calls (call ∷ rest) =
+    (outcome_at items count calls call).reply
+    ∷ told shards number (items_with shards number items count (outcome_at items count calls call).effect) (count_with count (outcome_at items count calls call).effect)
+    (calls_with calls call (outcome_at items count calls call).reply) rest
 
-pub is_told : (shards number : ℕ) (calls : List Call) (items : List (List ℕ × Item)) (count : ℕ) → answers_from shards number (plain items count) calls ≡ told shards number items count calls
-is_told shards number [] items count = refl
-is_told shards number (call ∷ calls) items count =
-    let effect : Effect = (outcome_of call (found items (key_of call))).effect in
-    let reply : CallReply = (outcome_of call (found items (key_of call))).reply in
-    ap (λ (item : Option Item). (outcome_of call item).reply ∷ answers_from shards number (state_with shards number (plain items count) (outcome_of call item).effect) calls) (is_found items (key_of call))
-    ∙ ap (λ (state : State). reply ∷ answers_from shards number state calls) (has_effect shards number items count effect)
-    ∙ ap (λ (replies : List CallReply). reply ∷ replies) (is_told shards number calls (items_with shards number items count effect) (count_with count effect))
+pub is_told : (shards number : ℕ) (list : List Call) (items : List (List ℕ × Item)) (count : ℕ) (calls : CallCounts)
+    → answers_from shards number (plain items count calls) list ≡ told shards number items count calls list
+is_told shards number [] items count calls = refl
+is_told shards number (call ∷ rest) items count calls =
+    let now : State = plain items count calls in
+    let outcome : Outcome = outcome_at items count calls call in
+    ap (λ (item : Option Item). (outcome_of (tallied now) call item).reply
+    ∷ answers_from shards number (with_calls (state_with shards number now (outcome_of (tallied now) call item).effect) (calls_with calls call (outcome_of (tallied now) call item).reply)) rest) (is_found items (key_of call))
+    ∙ ap (λ (state : State). outcome.reply ∷ answers_from shards number (with_calls state (calls_with calls call outcome.reply)) rest) (has_effect shards number items count calls outcome.effect)
+    ∙ ap (λ (replies : List CallReply). outcome.reply ∷ replies) (is_told shards number rest (items_with shards number items count outcome.effect) (count_with count outcome.effect) (calls_with calls call outcome.reply))

@@ -3,11 +3,12 @@ use Rattle.std.specs.Prelude.{ℕ, ◌^◌, ◌<◌, ◌≤◌, List, length, Op
 use Rattle.std.specs.FinMap.{get}
 use Rattle.zy_base.specs.declared.item.Item.{Item}
 use Rattle.zy_base.specs.declared.call.Call.{Call}
-use Rattle.zy_base.specs.declared.call.Call.TheVariants.{Get, Set, Add, Replace, Append, Prepend, Cas, Incr, Decr, Delete, Flush}
+use Rattle.zy_base.specs.declared.call.Call.TheVariants.{Get, Set, Add, Replace, Append, Prepend, Cas, Incr, Decr, Delete, Flush, Tally}
 use Rattle.zy_base.specs.declared.call_reply.CallReply.{CallReply}
 use Rattle.zy_base.specs.declared.call_reply.CallReply.TheVariants.{Hit}
 use Rattle.zy_base.specs.declared.entry.Entry.{Entry}
-use Rattle.zy_base.specs.Code.{call_flags, call_number, reply_flags, reply_number}
+use Rattle.zy_base.specs.declared.tallied.Tallied.{Tallied}
+use Rattle.zy_base.specs.Code.{call_flags, call_number, reply_flags, reply_number, reply_counts}
 use Rattle.zy_base.specs.Limits.{key_limit, value_limit}
 use Rattle.zy_base.specs.Shard.{State, Effect, keeps, stores, removes, empties}
 
@@ -34,6 +35,7 @@ IsCall (Incr key amount) = IsKey key
 IsCall (Decr key amount) = IsKey key
 IsCall (Delete key) = IsKey key
 IsCall Flush = Unit {0}
+IsCall Tally = Unit {0}
 
 -- the value of a reply is within its bound
 abbrev pub IsReply : CallReply → Type 0
@@ -54,9 +56,15 @@ FitFields flags number = IfSome flags (λ n. n < 2 ^ 32) × IfSome number (λ n.
 abbrev pub FitsCall : Call → Type 0
 FitsCall call = FitFields (call_flags call) (call_number call)
 
--- so do those of a reply
+-- the numbers of a tally have eight bytes each
+abbrev pub FitCounts : Tallied → Type 0
+FitCounts counts =
+    (counts.gets < 2 ^ 64) × (counts.sets < 2 ^ 64) × (counts.hits < 2 ^ 64) × (counts.misses < 2 ^ 64)
+    × (counts.items < 2 ^ 64)
+
+-- so do those of a reply, and its five numbers, where it is a tally, have eight bytes each
 abbrev pub FitsReply : CallReply → Type 0
-FitsReply reply = FitFields (reply_flags reply) (reply_number reply)
+FitsReply reply = FitFields (reply_flags reply) (reply_number reply) × IfSome (reply_counts reply) FitCounts
 
 -- an entry's numbers without a bound of their own fit their bytes
 pub record FitsEntry (e : Entry) : Type 0 where

@@ -3,10 +3,11 @@ use Rattle.std.specs.Prelude.{ℕ, ◌==◌, if◌then◌else◌, Bool, true, fa
 use Rattle.zy_base.specs.declared.call.Call.{Call}
 use Rattle.zy_base.specs.declared.call.Call.TheVariants as Calls
 use Rattle.zy_base.specs.declared.call_kind.CallKind.{CallKind}
-use Rattle.zy_base.specs.declared.call_kind.CallKind.TheVariants.{Get, Set, Add, Replace, Append, Prepend, Cas, Incr, Decr, Delete, Flush}
+use Rattle.zy_base.specs.declared.call_kind.CallKind.TheVariants.{Get, Set, Add, Replace, Append, Prepend, Cas, Incr, Decr, Delete, Flush, Tally}
 use Rattle.zy_base.specs.declared.call_kind.CallFields.{CallFields}
 use Rattle.zy_base.specs.declared.call_reply.CallReply.{CallReply}
 use Rattle.zy_base.specs.declared.call_reply.CallReply.TheVariants as Replies
+use Rattle.zy_base.specs.declared.tallied.Tallied.{Tallied}
 
 -- ---- calls
 
@@ -23,13 +24,14 @@ code_of Incr = 8
 code_of Decr = 9
 code_of Delete = 10
 code_of Flush = 11
+code_of Tally = 12
 
--- the kind that has a code, 1 to 11
+-- the kind that has a code, 1 to 12
 abbrev pub kind_of : ℕ → CallKind
 kind_of code =
     if code == 1 then Get else if code == 2 then Set else if code == 3 then Add else if code == 4 then Replace
     else if code == 5 then Append else if code == 6 then Prepend else if code == 7 then Cas else if code == 8 then Incr
-    else if code == 9 then Decr else if code == 10 then Delete else Flush
+    else if code == 9 then Decr else if code == 10 then Delete else if code == 11 then Flush else Tally
 
 -- a key, flags, a number and a value, or some of these
 abbrev pub having : Bool → Bool → Bool → Bool → CallFields
@@ -48,6 +50,7 @@ fields_of Incr = having true false true false
 fields_of Decr = having true false true false
 fields_of Delete = having true false false false
 fields_of Flush = having false false false false
+fields_of Tally = having false false false false
 
 -- the call of a kind, with its fields
 abbrev pub call_of : CallKind → List ℕ → ℕ → ℕ → List ℕ → Call
@@ -62,6 +65,7 @@ call_of Incr key flags number value = Calls.Incr key number
 call_of Decr key flags number value = Calls.Decr key number
 call_of Delete key flags number value = Calls.Delete key
 call_of Flush key flags number value = Calls.Flush
+call_of Tally key flags number value = Calls.Tally
 
 -- the kind of a call
 abbrev pub call_kind : Call → CallKind
@@ -76,6 +80,7 @@ call_kind (Calls.Incr key amount) = Incr
 call_kind (Calls.Decr key amount) = Decr
 call_kind (Calls.Delete key) = Delete
 call_kind Calls.Flush = Flush
+call_kind Calls.Tally = Tally
 
 -- the code of a call
 abbrev pub call_code : Call → ℕ
@@ -108,7 +113,7 @@ call_value call = None
 
 -- the greatest code of a call
 abbrev pub last_call_code : ℕ
-last_call_code = 11
+last_call_code = 12
 
 -- ---- replies
 
@@ -120,9 +125,13 @@ hit_code = 2
 abbrev pub number_code : ℕ
 number_code = 8
 
+-- the code of a tally
+abbrev pub tally_code : ℕ
+tally_code = 12
+
 -- the greatest code of a reply
 abbrev pub last_reply_code : ℕ
-last_reply_code = 11
+last_reply_code = 12
 
 -- the code of each reply
 abbrev pub reply_code : CallReply → ℕ
@@ -137,6 +146,7 @@ reply_code (Replies.Number number) = number_code
 reply_code Replies.NotNumber = 9
 reply_code Replies.TooLarge = 10
 reply_code Replies.Flushed = 11
+reply_code (Replies.Tally gets sets hits misses items) = tally_code
 
 -- the flags of a hit
 abbrev pub reply_flags : CallReply → Option ℕ
@@ -153,6 +163,16 @@ reply_number reply = None
 abbrev pub reply_value : CallReply → Option (List ℕ)
 reply_value (Replies.Hit flags unique value) = Some value
 reply_value reply = None
+
+-- the five numbers of a tally
+abbrev pub reply_counts : CallReply → Option Tallied
+reply_counts (Replies.Tally gets sets hits misses items) =
+    Some (record { gets = gets; sets = sets; hits = hits; misses = misses; items = items })
+reply_counts reply = None
+
+-- the tally that has five numbers
+abbrev pub tally : Tallied → CallReply
+tally counts = Replies.Tally counts.gets counts.sets counts.hits counts.misses counts.items
 
 -- the reply that has a code and no fields
 abbrev pub plain_reply : ℕ → CallReply

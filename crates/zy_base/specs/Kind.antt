@@ -1,9 +1,10 @@
 -- The kinds of reply that the table of calls gives for each call, whatever the shard has.
 use Rattle.std.specs.Prelude.{List, [], ◌∷◌}
 use Rattle.zy_base.specs.declared.call.Call.{Call}
-use Rattle.zy_base.specs.declared.call.Call.TheVariants.{Get, Set, Add, Replace, Append, Prepend, Cas, Incr, Decr, Delete, Flush}
+use Rattle.zy_base.specs.declared.call.Call.TheVariants.{Get, Set, Add, Replace, Append, Prepend, Cas, Incr, Decr, Delete, Flush, Tally}
 use Rattle.zy_base.specs.declared.call_reply.CallReply.{CallReply}
 use Rattle.zy_base.specs.declared.call_reply.CallReply.TheVariants.{Miss, Hit, Stored, NotStored, Exists, NotFound, Deleted, Number, NotNumber, TooLarge, Flushed}
+use Rattle.zy_base.specs.declared.call_reply.CallReply.TheVariants as Replies
 use Rattle.zy_base.specs.declared.entry.Entry.{Entry}
 
 -- a call may get this reply
@@ -33,6 +34,7 @@ MayAnswer (Decr key amount) NotFound = Unit {0}
 MayAnswer (Delete key) Deleted = Unit {0}
 MayAnswer (Delete key) NotFound = Unit {0}
 MayAnswer Flush Flushed = Unit {0}
+MayAnswer Tally (Replies.Tally gets sets hits misses items) = Unit {0}
 MayAnswer call reply = ⊥
 
 -- each entry's call may get its reply

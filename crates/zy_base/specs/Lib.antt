@@ -5,6 +5,7 @@ pub mod Key
 pub mod Number
 pub mod Limits
 pub mod Call
+pub mod Counted
 pub mod Shard
 pub mod Kind
 pub mod Code
@@ -14,5 +15,6 @@ pub mod Told
 pub mod Replies
 pub mod History
 pub mod Reserved
+pub mod Filling
 pub mod Worked
 pub mod Held

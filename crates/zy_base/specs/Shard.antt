@@ -1,16 +1,19 @@
 -- What each call answers and does on one shard of the store: memcached's protocol.txt, "Storage commands",
--- "Retrieval command", "Deletion" and "Increment/Decrement". Uniques, the limit of a value and the form of
+-- "Retrieval command", "Deletion", "Increment/Decrement" and "General-purpose statistics". Uniques, the limit of a value and the form of
 -- counted values are this project's (docs/PROFILE.md).
 use Rattle.std.specs.Prelude.{ℕ, ◌+◌, ◌-◌, ◌*◌, ◌%◌, ◌^◌, ◌==◌, nat_lt, if◌then◌else◌, List, ◌++◌, length, decimal, Option, None, Some}
 use Rattle.std.specs.Ordering.{nat_cmp}
 use Rattle.std.specs.Cmp.Lexicographic.{slice_cmp}
-use Rattle.std.specs.FinMap.{FinMap, empty, get, insert, remove}
+use Rattle.std.specs.FinMap.{FinMap, empty, get, insert, remove, len}
 use Rattle.zy_base.specs.declared.item.Item.{Item}
 use Rattle.zy_base.specs.declared.call.Call.{Call}
-use Rattle.zy_base.specs.declared.call.Call.TheVariants.{Get, Set, Add, Replace, Append, Prepend, Cas, Incr, Decr, Delete, Flush}
+use Rattle.zy_base.specs.declared.call.Call.TheVariants.{Get, Set, Add, Replace, Append, Prepend, Cas, Incr, Decr, Delete, Flush, Tally}
 use Rattle.zy_base.specs.declared.call_reply.CallReply.{CallReply}
+use Rattle.zy_base.specs.declared.tallied.Tallied.{Tallied}
 use Rattle.zy_base.specs.declared.call_reply.CallReply.TheVariants.{Miss, Hit, Stored, NotStored, Exists, NotFound, Deleted, Number, NotNumber, TooLarge, Flushed}
 use Rattle.zy_base.specs.Call.{key_of}
+use Rattle.zy_base.specs.Code.{tally}
+use Rattle.zy_base.specs.Counted.{CallCounts, no_calls, calls_with}
 use Rattle.zy_base.specs.Number.{number_of}
 pub use Rattle.zy_base.specs.Limits.{value_limit}
 
@@ -20,14 +23,25 @@ pub use Rattle.zy_base.specs.Limits.{value_limit}
 abbrev pub Items : Type 0
 Items = FinMap (slice_cmp nat_cmp) Item
 
--- a shard: its items, and how many items it ever stored
+-- a shard: its items, how many items it ever stored, and how many calls of each kind there were
 pub record State : Type 0 where
   pub items : Items
   pub count : ℕ
+  pub calls : CallCounts
 
 -- a shard on which no call was made
 abbrev pub empty_state : State
-empty_state = record { items = empty; count = 0 }
+empty_state = record { items = empty; count = 0; calls = no_calls }
+
+-- what a shard counts: its calls, and the keys of its items
+abbrev pub tallied : State → Tallied
+tallied state = record {
+  gets = state.calls.gets;
+  sets = state.calls.sets;
+  hits = state.calls.hits;
+  misses = state.calls.misses;
+  items = len state.items;
+}
 
 -- the unique of the item that shard `number` of `shards` stores with this count
 abbrev pub unique_of : ℕ → ℕ → ℕ → ℕ
@@ -64,45 +78,46 @@ abbrev pub joined : List ℕ → Item → List ℕ → Outcome
 joined key item value = if nat_lt value_limit (length value) then answers TooLarge else stored key item.flags value
 
 -- the number is stored as digits without padding, with the flags of the item that was there
-abbrev pub counted : List ℕ → Item → ℕ → Outcome
-counted key item number = record { reply = Number number; effect = stores key item.flags (decimal number) }
+abbrev pub renumbered : List ℕ → Item → ℕ → Outcome
+renumbered key item number = record { reply = Number number; effect = stores key item.flags (decimal number) }
 
 -- a value that is a number is counted up, modulo 2^64
 abbrev pub counted_up : List ℕ → Item → ℕ → Option ℕ → Outcome
 counted_up key item amount None = answers NotNumber
-counted_up key item amount (Some number) = counted key item ((number + amount) % 2 ^ 64)
+counted_up key item amount (Some number) = renumbered key item ((number + amount) % 2 ^ 64)
 
 -- a value that is a number is counted down, and not below 0
 abbrev pub counted_down : List ℕ → Item → ℕ → Option ℕ → Outcome
 counted_down key item amount None = answers NotNumber
-counted_down key item amount (Some number) = counted key item (number - amount)
+counted_down key item amount (Some number) = renumbered key item (number - amount)
 
 -- an item is exchanged where it has the unique that the caller saw
 abbrev pub exchanged : List ℕ → Item → ℕ → ℕ → List ℕ → Outcome
 exchanged key item flags unique value = if item.unique == unique then stored key flags value else answers Exists
 
--- the table: each call, where its key has no item and where it has one
-abbrev pub outcome_of : Call → Option Item → Outcome
-outcome_of (Get key) None = answers Miss
-outcome_of (Get key) (Some item) = answers (Hit item.flags item.unique item.value)
-outcome_of (Set key flags value) found = stored key flags value
-outcome_of (Add key flags value) None = stored key flags value
-outcome_of (Add key flags value) (Some item) = answers NotStored
-outcome_of (Replace key flags value) None = answers NotStored
-outcome_of (Replace key flags value) (Some item) = stored key flags value
-outcome_of (Append key value) None = answers NotStored
-outcome_of (Append key value) (Some item) = joined key item (item.value ++ value)
-outcome_of (Prepend key value) None = answers NotStored
-outcome_of (Prepend key value) (Some item) = joined key item (value ++ item.value)
-outcome_of (Cas key flags unique value) None = answers NotFound
-outcome_of (Cas key flags unique value) (Some item) = exchanged key item flags unique value
-outcome_of (Incr key amount) None = answers NotFound
-outcome_of (Incr key amount) (Some item) = counted_up key item amount (number_of item.value)
-outcome_of (Decr key amount) None = answers NotFound
-outcome_of (Decr key amount) (Some item) = counted_down key item amount (number_of item.value)
-outcome_of (Delete key) None = answers NotFound
-outcome_of (Delete key) (Some item) = record { reply = Deleted; effect = removes key }
-outcome_of Flush found = record { reply = Flushed; effect = empties }
+-- the table: each call, on a shard that counts this, where its key has no item and where it has one
+abbrev pub outcome_of : Tallied → Call → Option Item → Outcome
+outcome_of counts (Get key) None = answers Miss
+outcome_of counts (Get key) (Some item) = answers (Hit item.flags item.unique item.value)
+outcome_of counts (Set key flags value) found = stored key flags value
+outcome_of counts (Add key flags value) None = stored key flags value
+outcome_of counts (Add key flags value) (Some item) = answers NotStored
+outcome_of counts (Replace key flags value) None = answers NotStored
+outcome_of counts (Replace key flags value) (Some item) = stored key flags value
+outcome_of counts (Append key value) None = answers NotStored
+outcome_of counts (Append key value) (Some item) = joined key item (item.value ++ value)
+outcome_of counts (Prepend key value) None = answers NotStored
+outcome_of counts (Prepend key value) (Some item) = joined key item (value ++ item.value)
+outcome_of counts (Cas key flags unique value) None = answers NotFound
+outcome_of counts (Cas key flags unique value) (Some item) = exchanged key item flags unique value
+outcome_of counts (Incr key amount) None = answers NotFound
+outcome_of counts (Incr key amount) (Some item) = counted_up key item amount (number_of item.value)
+outcome_of counts (Decr key amount) None = answers NotFound
+outcome_of counts (Decr key amount) (Some item) = counted_down key item amount (number_of item.value)
+outcome_of counts (Delete key) None = answers NotFound
+outcome_of counts (Delete key) (Some item) = record { reply = Deleted; effect = removes key }
+outcome_of counts Flush found = record { reply = Flushed; effect = empties }
+outcome_of counts Tally found = answers (tally counts)
 
 -- ---- the step
 
@@ -111,23 +126,29 @@ abbrev pub item_at : Items → Option (List ℕ) → Option Item
 item_at items None = None
 item_at items (Some key) = get items key
 
--- what a call answers, and what it does, on these items
-abbrev pub outcome_on : Items → Call → Outcome
-outcome_on items call = outcome_of call (item_at items (key_of call))
+-- what a call answers, and what it does, on this shard
+abbrev pub outcome_on : State → Call → Outcome
+outcome_on state call = outcome_of (tallied state) call (item_at state.items (key_of call))
 
 -- the shard after an effect: only what is stored raises the counter
 abbrev pub state_with : ℕ → ℕ → State → Effect → State
 state_with shards number state keeps = state
 state_with shards number state (stores key flags value) =
     let item : Item = record { flags = flags; value = value; unique = unique_of shards number (state.count + 1) } in
-    record { items = insert state.items key item; count = state.count + 1 }
-state_with shards number state (removes key) = record { items = remove state.items key; count = state.count }
-state_with shards number state empties = record { items = empty; count = state.count }
+    record state { items = insert state.items key item; count = state.count + 1 }
+state_with shards number state (removes key) = record state { items = remove state.items key }
+state_with shards number state empties = record state { items = empty }
+
+-- the shard with these counts of calls
+abbrev pub with_calls : State → CallCounts → State
+with_calls state calls = record state { calls = calls }
 
 -- what the shard answers to a call
 abbrev pub reply_to : State → Call → CallReply
-reply_to state call = (outcome_on state.items call).reply
+reply_to state call = (outcome_on state call).reply
 
 -- shard `number` of `shards` after a call
 abbrev pub state_after : ℕ → ℕ → State → Call → State
-state_after shards number state call = state_with shards number state (outcome_on state.items call).effect
+state_after shards number state call =
+    with_calls (state_with shards number state (outcome_on state call).effect)
+    (calls_with state.calls call (reply_to state call))

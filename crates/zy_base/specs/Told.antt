@@ -5,7 +5,7 @@ use Rattle.std.specs.Cmp.Lexicographic.{slice_cmp}
 use Rattle.std.specs.FinMap.{get}
 use Rattle.zy_base.specs.declared.item.Item.{Item}
 use Rattle.zy_base.specs.declared.call.Call.{Call}
-use Rattle.zy_base.specs.declared.call.Call.TheVariants.{Cas, Flush}
+use Rattle.zy_base.specs.declared.call.Call.TheVariants.{Cas, Flush, Tally}
 use Rattle.zy_base.specs.declared.call_reply.CallReply.{CallReply}
 use Rattle.zy_base.specs.declared.call_reply.CallReply.TheVariants.{Hit}
 use Rattle.zy_base.specs.declared.entry.Entry.{Entry}
@@ -37,11 +37,12 @@ seen_at key state = seen (get state.items key)
 
 -- ---- calls and effects
 
--- the reply to the call does not depend on a unique, except for the unique that it shows, and its
--- effect is at one key
+-- the reply to the call depends on its key's item alone, and not on a unique, except for the unique that it
+-- shows, and its effect is at one key
 abbrev pub IsSteady : Call → Type 0
 IsSteady (Cas key flags unique value) = ⊥
 IsSteady Flush = ⊥
+IsSteady Tally = ⊥
 IsSteady call = Unit {0}
 
 -- the item at a key after an effect, without its unique, from that before it

@@ -66,6 +66,16 @@ impl Blob {
         }
     }
 
+    // The bytes that are in place. Takes no memory.
+    pub(crate) fn from_short(alloc: Global, short: Short) -> Blob
+        ensures value { result ≡ short }
+    {
+        Blob {
+            alloc,
+            storage: Storage::Short(short),
+        }
+    }
+
     /// The same bytes. Takes no memory where they are in place or shared.
     pub fn copy(&self) -> Result<Blob, NoMemory>
         ensures value { IfOk result (λ copy. copy ≡ self.now) }

@@ -66,10 +66,12 @@ pub enum Call {
     },
     /// Removes all items of the shard.
     Flush,
+    /// Asks how many calls of each kind there were on the shard, and how many items it has.
+    Tally,
 }
 
 impl Call {
-    /// The key that the call is about. A flush has none.
+    /// The key that the call is about. A flush and a tally have none.
     pub fn key(&self) -> Option<&Blob>
         ensures value { option_copied result ≡ key_of self.now }
     {
@@ -84,7 +86,7 @@ impl Call {
             Call::Incr { key, .. } => Some(key),
             Call::Decr { key, .. } => Some(key),
             Call::Delete { key } => Some(key),
-            Call::Flush => None,
+            Call::Flush | Call::Tally => None,
         }
     }
 
@@ -104,6 +106,7 @@ impl Call {
             Call::Decr { .. } => CallKind::Decr,
             Call::Delete { .. } => CallKind::Delete,
             Call::Flush => CallKind::Flush,
+            Call::Tally => CallKind::Tally,
         }
     }
 
@@ -199,6 +202,7 @@ impl Call {
             }),
             Call::Delete { key } => Ok(Call::Delete { key: key.copy()? }),
             Call::Flush => Ok(Call::Flush),
+            Call::Tally => Ok(Call::Tally),
         }
     }
 
@@ -217,7 +221,7 @@ impl Call {
             Call::Incr { key, .. } => key.share(),
             Call::Decr { key, .. } => key.share(),
             Call::Delete { key } => key.share(),
-            Call::Flush => Ok(()),
+            Call::Flush | Call::Tally => Ok(()),
         }
     }
 }

@@ -19,10 +19,11 @@ pub enum CallKind {
     Decr,
     Delete,
     Flush,
+    Tally,
 }
 
 /// The greatest code of a call.
-pub const LAST_CALL_CODE: u8 = 11;
+pub const LAST_CALL_CODE: u8 = 12;
 
 /// Which fields a kind of call has. In a file they are in this order.
 #[derive(Clone, Copy)]
@@ -35,7 +36,7 @@ pub struct CallFields {
 }
 
 impl CallKind {
-    /// The kind that has this code, 1 to 11.
+    /// The kind that has this code, 1 to 12.
     pub fn of(code: u8) -> CallKind
         ensures value { result ≡ kind_of code }
     {
@@ -50,7 +51,8 @@ impl CallKind {
             8 => CallKind::Incr,
             9 => CallKind::Decr,
             10 => CallKind::Delete,
-            _ => CallKind::Flush,
+            11 => CallKind::Flush,
+            _ => CallKind::Tally,
         }
     }
 
@@ -70,6 +72,7 @@ impl CallKind {
             CallKind::Decr => 9,
             CallKind::Delete => 10,
             CallKind::Flush => 11,
+            CallKind::Tally => 12,
         }
     }
 
@@ -83,7 +86,7 @@ impl CallKind {
             CallKind::Append | CallKind::Prepend => having(true, false, false, true),
             CallKind::Cas => having(true, true, true, true),
             CallKind::Incr | CallKind::Decr => having(true, false, true, false),
-            CallKind::Flush => having(false, false, false, false),
+            CallKind::Flush | CallKind::Tally => having(false, false, false, false),
         }
     }
 
@@ -125,6 +128,11 @@ impl CallKind {
                 drop(value);
                 drop(key);
                 Call::Flush
+            }
+            CallKind::Tally => {
+                drop(value);
+                drop(key);
+                Call::Tally
             }
         }
     }

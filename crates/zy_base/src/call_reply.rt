@@ -1,10 +1,11 @@
 //! What a shard answers to a call.
 ghost use Rattle.std.specs.Prelude.{◌≡◌, IfOk, option_copied};
-ghost use Rattle.zy_base.specs.Code.{reply_code, reply_flags, reply_number, reply_value, plain_reply};
+ghost use Rattle.zy_base.specs.Code.{reply_code, reply_flags, reply_number, reply_value, reply_counts, tally, plain_reply};
 
 use crate::blob::Blob;
 use crate::items::Items;
 use crate::outside::NoMemory;
+use crate::tallied::Tallied;
 
 /// What a shard answers to a call.
 #[derive(PartialEq, Eq, Drop)]
@@ -37,16 +38,32 @@ pub enum CallReply {
     TooLarge,
     /// All items of the shard were removed.
     Flushed,
+    /// What was counted of the calls on the shard before this one.
+    Tally {
+        /// Calls that get the item of a key.
+        gets: u64,
+        /// Calls that store a value, whatever their reply.
+        sets: u64,
+        /// The gets that found an item.
+        hits: u64,
+        /// The gets that found none.
+        misses: u64,
+        /// The items that the shard has.
+        items: u64,
+    },
 }
 
 /// The greatest code of a reply.
-pub const LAST_REPLY_CODE: u8 = 11;
+pub const LAST_REPLY_CODE: u8 = 12;
 
 /// The code of a hit, after which its flags, its unique and its value come.
 pub const HIT_CODE: u8 = 2;
 
 /// The code of a number, after which it comes.
 pub const NUMBER_CODE: u8 = 8;
+
+/// The code of a tally, after which its five numbers come.
+pub const TALLY_CODE: u8 = 12;
 
 impl CallReply {
     /// The code of the reply in a journal.
@@ -65,6 +82,7 @@ impl CallReply {
             CallReply::NotNumber => 9,
             CallReply::TooLarge => 10,
             CallReply::Flushed => 11,
+            CallReply::Tally { .. } => TALLY_CODE,
         }
     }
 
@@ -96,6 +114,48 @@ impl CallReply {
         match self {
             CallReply::Hit { value, .. } => Some(value),
             _ => None,
+        }
+    }
+
+    /// The five numbers of a tally.
+    pub fn counts(&self) -> Option<Tallied>
+        ensures value { result ≡ reply_counts self.now }
+    {
+        match self {
+            CallReply::Tally {
+                gets,
+                sets,
+                hits,
+                misses,
+                items,
+            } => Some(Tallied {
+                gets: *gets,
+                sets: *sets,
+                hits: *hits,
+                misses: *misses,
+                items: *items,
+            }),
+            _ => None,
+        }
+    }
+
+    /// The tally that has these numbers.
+    pub fn tally(counts: Tallied) -> CallReply
+        ensures value { result ≡ tally counts }
+    {
+        let Tallied {
+            gets,
+            sets,
+            hits,
+            misses,
+            items,
+        } = counts;
+        CallReply::Tally {
+            gets,
+            sets,
+            hits,
+            misses,
+            items,
         }
     }
 
@@ -140,6 +200,19 @@ impl CallReply {
             CallReply::NotNumber => Ok(CallReply::NotNumber),
             CallReply::TooLarge => Ok(CallReply::TooLarge),
             CallReply::Flushed => Ok(CallReply::Flushed),
+            CallReply::Tally {
+                gets,
+                sets,
+                hits,
+                misses,
+                items,
+            } => Ok(CallReply::Tally {
+                gets: *gets,
+                sets: *sets,
+                hits: *hits,
+                misses: *misses,
+                items: *items,
+            }),
         }
     }
 }

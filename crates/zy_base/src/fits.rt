@@ -36,7 +36,7 @@ fn call_fits(call: &Call)
     }
 }
 
-// The flags and the number of a reply.
+// The flags, the number and the counts of a reply.
 fn reply_fits(reply: &CallReply)
     ensures value { FitsReply reply.now }
 {
@@ -47,6 +47,19 @@ fn reply_fits(reply: &CallReply)
         }
         CallReply::Number { number } => {
             let _number = *number;
+        }
+        CallReply::Tally {
+            gets,
+            sets,
+            hits,
+            misses,
+            items,
+        } => {
+            let _gets = *gets;
+            let _sets = *sets;
+            let _hits = *hits;
+            let _misses = *misses;
+            let _items = *items;
         }
         _ => {}
     }

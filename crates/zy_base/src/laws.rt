@@ -1,6 +1,7 @@
 //! Laws of the definitions: each is the contract of a function without a body.
 ghost use Rattle.std.specs.Prelude.{◌≡◌, ◌≢◌, ℕ, ◌<◌, ◌^◌, List, [], ◌∷◌, ◌++◌, length, codes, decimal, None, Some};
 ghost use Rattle.std.specs.List.{AllByRecursion};
+ghost use Rattle.std.specs.FinMap.{len};
 ghost use Rattle.zy_base.specs.declared.call.Call.{Call};
 ghost use Rattle.zy_base.specs.declared.entry.Entry.{Entry};
 ghost use Rattle.zy_base.specs.declared.call.Call.TheVariants as Calls;
@@ -8,7 +9,8 @@ ghost use Rattle.zy_base.specs.declared.call_reply.CallReply.TheVariants as Answ
 ghost use Rattle.zy_base.specs.declared.item.Item.{Item};
 ghost use Rattle.zy_base.specs.Number.{number_of};
 ghost use Rattle.zy_base.specs.Key.{hash_of, shard_of};
-ghost use Rattle.zy_base.specs.Shard.{State, empty_state, reply_to, outcome_of, value_limit};
+ghost use Rattle.zy_base.specs.Counted.{counted};
+ghost use Rattle.zy_base.specs.Shard.{State, empty_state, tallied, reply_to, state_after, outcome_of, value_limit};
 ghost use Rattle.zy_base.specs.Worked as Worked;
 ghost use Rattle.zy_base.specs.Limits.{stamp_limit};
 ghost use Rattle.zy_base.specs.Kind.{MayAnswer, AreAnswers};
@@ -16,7 +18,7 @@ ghost use Rattle.zy_base.specs.Call.{key_of};
 ghost use Rattle.zy_base.specs.Bounds.{IsCallWithin, IsReply};
 ghost use Rattle.zy_base.specs.Told.{told, seen_at, IsSteady};
 ghost use Rattle.zy_base.specs.Replies.{replies_at};
-ghost use Rattle.zy_base.specs.History.{IsReplay, IsLegal, replayed, AreHistories};
+ghost use Rattle.zy_base.specs.History.{IsReplay, IsLegal, AreAnswered, replayed, AreHistories};
 ghost use Rattle.zy_base.specs.Order.{of_connection, at_shard, AreBelow, AreByShard, StampsRise, AreStampsBelow, history_of, IsMergeOf, AreCallsOf};
 
 // ---- worked examples
@@ -129,6 +131,30 @@ pub fn a_legal_list_grows_by_a_reply()
         → IsLegal shards (es ++ e ∷ []) → e.shard < shards }
     ensures reply { (shards : ℕ) (es : List Entry) (e : Entry) → IsLegal shards (es ++ e ∷ [])
         → e.reply ≡ reply_to (replayed shards e.shard empty_state (at_shard e.shard es)) e.call }
+{}
+
+// ---- tallies
+
+/// A tally changes nothing.
+pub fn a_tally_changes_nothing()
+    ensures same { (shards number : ℕ) (state : State) → state_after shards number state Calls.Tally ≡ state }
+{}
+
+/// What a shard counts is counted from the entries of its calls alone, and the items that are
+/// counted are the keys that it has.
+pub fn a_shard_counts_its_entries()
+    ensures replay { (shards number : ℕ) (es : List Entry) → IsReplay shards number empty_state es
+        → tallied (replayed shards number empty_state es) ≡ counted es }
+    ensures items { (shards number : ℕ) (es : List Entry) → IsLegal shards es
+        → (counted (at_shard number es)).items
+        ≡ len (replayed shards number empty_state (at_shard number es)).items }
+{}
+
+/// A list is legal exactly where each tally answers what is counted of the entries of its shard
+/// before it, and every other call what the replay of these entries answers.
+pub fn a_legal_list_has_counted_tallies()
+    ensures answered { (shards : ℕ) (es : List Entry) → IsLegal shards es → AreAnswered shards [] es }
+    ensures legal { (shards : ℕ) (es : List Entry) → AreAnswered shards [] es → IsLegal shards es }
 {}
 
 // ---- merges

@@ -44,6 +44,16 @@ impl Reserved {
         self.append(buffer.format(number).as_bytes());
     }
 
+    /// Appends the decimal digits of a number of up to 128 bits, without padding. Takes no memory.
+    pub fn append_wide(&mut self, number: u128)
+        requires fits { length (decimal number) ≤ self.old.room }
+        ensures value { self.new.bytes ≡ self.old.bytes ++ decimal number }
+        ensures room { self.old.room ≤ self.new.room + length (decimal number) }
+    {
+        let mut buffer = Buffer::new();
+        self.append(buffer.format(number).as_bytes());
+    }
+
     /// The bytes. Takes no memory.
     pub fn into_blob(self) -> Blob
         ensures value { result ≡ self.bytes }

@@ -1,5 +1,5 @@
 //! Byte strings that are kept in place.
-ghost use Rattle.std.specs.Prelude.{◌≡◌, ◌+◌, ◌≤◌, [], ◌++◌, length, take};
+ghost use Rattle.std.specs.Prelude.{◌≡◌, ◌+◌, ◌<◌, ◌≤◌, [], ◌∷◌, ◌++◌, length, take};
 
 use std::marker::Model;
 
@@ -60,6 +60,15 @@ impl Short {
         let end = at + bytes.len();
         self.bytes[at..end].copy_from_slice(bytes);
         self.len = end;
+    }
+
+    // Appends a byte for which there is room.
+    pub(crate) fn push(&mut self, byte: u8)
+        requires room { length self.old < 16 }
+        ensures value { self.new ≡ self.old ++ byte ∷ [] }
+    {
+        self.bytes[self.len] = byte;
+        self.len += 1;
     }
 
     // Cuts the end off, so that at most `len` bytes are left.

@@ -1,6 +1,7 @@
 //! Outputs of connections.
 ghost use Rattle.std.specs.Prelude.{◌≡◌, ◌≤◌, length, OnOk, OnErr, IfErr};
 ghost use Rattle.std.specs.List.{concat};
+ghost use Rattle.zy_calls.specs.Batch.{no_text};
 ghost use Rattle.zy_calls.specs.Output.{nothing_sent, with_batch, bytes_upto};
 
 use crate::batch::Batch;
@@ -52,6 +53,22 @@ impl Output {
                 Ok(())
             }
             Err((texts, e)) => Err((Batch { texts, finished }, e)),
+        }
+    }
+
+    /// Takes the texts of a batch, and sets the number of finished commands to the batch's. The batch
+    /// is left without texts, and keeps its room for further ones. After a refusal both are as they were.
+    pub fn take_texts(&mut self, batch: &mut Batch) -> Result<(), NoMemory>
+        ensures ok { OnOk result (self.new ≡ with_batch self.old batch.old) }
+        ensures batch { OnOk result (batch.new ≡ no_text batch.old.finished) }
+        ensures err { OnErr result ((self.new ≡ self.old) × (batch.new ≡ batch.old)) }
+    {
+        match self.texts.take_all(&mut batch.texts) {
+            Ok(()) => {
+                self.finished = batch.finished;
+                Ok(())
+            }
+            Err(e) => Err(e),
         }
     }
 

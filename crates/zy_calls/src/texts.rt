@@ -10,6 +10,9 @@ use std::marker::Model;
 use std::mem;
 use zy_base::{Blob, NoMemory};
 
+// The most bytes of texts whose room is kept for further texts.
+const ROOM_LIMIT: usize = 65_536;
+
 /// A list of texts, kept as their bytes and the place where each ends. Contracts see it as the list.
 #[derive(Drop)]
 pub(crate) struct Texts {
@@ -87,19 +90,60 @@ impl Texts {
             drop(mem::replace(self, other));
             return Ok(());
         }
+        match self.append_copy(&other) {
+            Ok(()) => {
+                drop(other);
+                Ok(())
+            }
+            Err(e) => Err((other, e)),
+        }
+    }
+
+    /// Moves the texts of another list behind its own; the other list keeps its room for further texts.
+    pub(crate) fn take_all(&mut self, other: &mut Texts) -> Result<(), NoMemory>
+        ensures ok { OnOk result (self.new ≡ self.old ++ other.old) }
+        ensures other { OnOk result (other.new ≡ []) }
+        ensures err { OnErr result ((self.new ≡ self.old) × (other.new ≡ other.old)) }
+    {
+        match self.append_copy(other) {
+            Ok(()) => {
+                other.clear();
+                Ok(())
+            }
+            Err(e) => Err(e),
+        }
+    }
+
+    // Appends copies of the texts of another list.
+    fn append_copy(&mut self, other: &Texts) -> Result<(), NoMemory>
+        ensures ok { OnOk result (self.new ≡ self.old ++ other.now) }
+        ensures err { OnErr result (self.new ≡ self.old) }
+    {
         if self.ends.reserve(other.ends.len()).is_err() {
-            return Err((other, NoMemory));
+            return Err(NoMemory);
         }
         let start = self.bytes.bytes().len();
         if start.checked_add(other.bytes.bytes().len()).is_none() {
-            return Err((other, NoMemory));
+            return Err(NoMemory);
         }
         if let Err(e) = self.bytes.append(other.bytes.bytes()) {
-            return Err((other, e));
+            return Err(e);
         }
         append_further(&mut self.ends, start, other.ends.as_slice());
-        drop(other);
         Ok(())
+    }
+
+    // Drops all texts. Room for many bytes is given back, so that one large text does not keep it.
+    fn clear(&mut self)
+        ensures value { self.new ≡ [] }
+    {
+        if self.bytes.bytes().len() > ROOM_LIMIT {
+            let none = Texts::new(*self.ends.allocator());
+            drop(mem::replace(self, none));
+            return;
+        }
+        self.bytes.truncate(0);
+        self.ends.clear();
     }
 
     /// The bytes of all texts.

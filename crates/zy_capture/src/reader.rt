@@ -16,6 +16,7 @@ use crate::due::Due;
 use crate::record::Record;
 use std::alloc::Global;
 use std::marker::Model;
+use zy_base::Filling;
 use zy_read::{Fed, Field, MagicPart, feed, feed_piece};
 
 /// Reads a capture, byte by byte or in pieces.
@@ -24,14 +25,14 @@ pub struct Reader {
     alloc: Global,
     due: Due,
     field: Field,
-    payload: Vec<u8>,
+    payload: Filling,
     version: u32,
     count: u32,
     at: u64,
 }
 
 impl Model for Reader {
-    ghost use Rattle.std.specs.Prelude.{◌<◌, ◌≤◌, length, vec_capacity};
+    ghost use Rattle.std.specs.Prelude.{◌+◌, ◌<◌, ◌≤◌, length};
     ghost use Rattle.zy_capture.specs.Steps.{Progress};
     ghost use Rattle.zy_capture.specs.Standing.{IsWithin};
 
@@ -40,14 +41,14 @@ impl Model for Reader {
     ghost view = { λ r. record {
       due = r.due;
       field = r.field;
-      payload = r.payload.items;
+      payload = r.payload.bytes;
       version = r.version;
       count = r.count;
       at = r.at;
     } };
 
     ghost invariant = { λ r. (length r.field < 4) × (length r.field ≤ r.at)
-        × IsWithin r.due r.at r.payload.items (vec_capacity r.payload) };
+        × IsWithin r.due r.at r.payload.bytes (length r.payload.bytes + r.payload.room) };
 }
 
 impl Reader {
@@ -59,7 +60,7 @@ impl Reader {
             alloc,
             due: Due::Magic(MagicPart::Letters),
             field: Field::new(),
-            payload: Vec::new(alloc),
+            payload: Filling::new(alloc),
             version: 0,
             count: 0,
             at: 0,

@@ -6,7 +6,7 @@ use Rattle.zy_base.specs.declared.call_kind.CallFields.{CallFields}
 use Rattle.zy_base.specs.declared.call_reply.CallReply.TheVariants as Replies
 use Rattle.zy_base.specs.declared.file_fault.FileFault.{FileFault}
 use Rattle.zy_base.specs.declared.file_fault.FileFault.TheVariants.{Form, TooLong}
-use Rattle.zy_base.specs.Code.{kind_of, fields_of, hit_code, number_code, plain_reply}
+use Rattle.zy_base.specs.Code.{kind_of, fields_of, hit_code, number_code, tally_code, plain_reply}
 use Rattle.zy_read.specs.declared.not_taken.NotTaken.{NotTaken}
 use Rattle.zy_read.specs.declared.not_taken.NotTaken.TheVariants.{Fault}
 use Rattle.zy_read.specs.Standing.{given_in, Feeds, MeetsFault, TellsFault}
@@ -18,7 +18,7 @@ use Rattle.zy_journal_reader.specs.declared.due.ByteField.TheVariants.{Magic, Ta
 use Rattle.zy_journal_reader.specs.declared.due.NumberField.{NumberField}
 use Rattle.zy_journal_reader.specs.declared.due.NumberField.TheVariants.{Shard, Connection, Part, Flags, ValueLength, FoundFlags, FoundLength, HoldConnection, HoldCore, HoldCount}
 use Rattle.zy_journal_reader.specs.declared.due.LongField.{LongField}
-use Rattle.zy_journal_reader.specs.declared.due.LongField.TheVariants.{Stamp, Index, CallNumber, FoundUnique, ReplyNumber}
+use Rattle.zy_journal_reader.specs.declared.due.LongField.TheVariants.{Stamp, Index, CallNumber, FoundUnique, ReplyNumber, Gets, Sets, Hits, Misses, Items}
 use Rattle.zy_journal_reader.specs.declared.due.BytesField.{BytesField}
 use Rattle.zy_journal_reader.specs.declared.due.BytesField.TheVariants.{Key, Value, FoundValue}
 use Rattle.zy_journal_reader.specs.Fields.{fault_in, at_key, at_flags, at_number, at_value}
@@ -77,8 +77,10 @@ byte_ends Tag p byte =
 byte_ends CallCode p byte = λ none is. key_goes (fields_of (kind_of byte)) is
 byte_ends KeyLength p byte = λ none is. cc
 byte_ends ReplyCode p byte =
-    either EndsNothing (byte == hit_code) (goes p (Number FoundFlags)) (if byte == number_code then goes p (Long ReplyNumber) else ends_entry p (plain_reply byte)) (λ none is. cc)
-    (either EndsNothing (byte == number_code) (goes p (Long ReplyNumber)) (ends_entry p (plain_reply byte)) (λ none is. cc) (λ none is. cc))
+    let other = if byte == tally_code then goes p (Long Gets) else ends_entry p (plain_reply byte) in
+    either EndsNothing (byte == hit_code) (goes p (Number FoundFlags)) (if byte == number_code then goes p (Long ReplyNumber) else other) (λ none is. cc)
+    (either EndsNothing (byte == number_code) (goes p (Long ReplyNumber)) other (λ none is. cc)
+    (either EndsNothing (byte == tally_code) (goes p (Long Gets)) (ends_entry p (plain_reply byte)) (λ none is. cc) (λ none is. cc)))
 
 four_ends : (field : NumberField) (p : Progress) (n : ℕ) → EndsNothing (after_four field p n)
 four_ends Flags p n = λ none is. number_goes (fields_of p.draft.kind) is
@@ -100,6 +102,11 @@ eight_ends Index p n none is = cc
 eight_ends CallNumber p n none is = value_goes (fields_of p.draft.kind) is
 eight_ends FoundUnique p n none is = cc
 eight_ends ReplyNumber p n none is = cc
+eight_ends Gets p n none is = cc
+eight_ends Sets p n none is = cc
+eight_ends Hits p n none is = cc
+eight_ends Misses p n none is = cc
+eight_ends Items p n none is = cc
 
 bytes_end : (field : BytesField) (p : Progress) (bytes : List ℕ) → EndsNothing (after_bytes field p bytes)
 bytes_end Key p bytes none is = flags_go (fields_of p.draft.kind) is

@@ -6,3 +6,4 @@ pub mod JournalLemmas
 pub mod WholeLemmas
 pub mod FaultLemmas
 pub mod DivisionLemmas
+pub mod FileLemmas

@@ -62,7 +62,7 @@ replies_begun rest faults first now left bytes part given reader outputs = recor
 
 -- ---- stops
 
-if_some : (told : Option (List ℕ)) (P Q : List ℕ → Type 0) → ((text : List ℕ) → P text → Q text) → IfSome told P → IfSome told Q
+pub if_some : (told : Option (List ℕ)) (P Q : List ℕ → Type 0) → ((text : List ℕ) → P text → Q text) → IfSome told P → IfSome told Q
 if_some None P Q implies holds = tt
 if_some (Some text) P Q implies holds = implies text holds
 
@@ -111,25 +111,25 @@ replies_fault text bytes more (OfReplies fault) good journal behind = record {
 
 pub stopped_in_capture : {S : Type 0} (rest : S → Option (List ℕ)) (faults : S → ℕ) (first now : S) (stop : Stop Refusal) → StopsBy capture_kind rest faults first now [] stop → HasReadParts rest faults first now (Err stop)
 stopped_in_capture rest faults first now (Refused refusal) stops = (
-      (stops.0.0, capture_fault stops.0.0 refusal (record { rest = stops.0.0; whole = refl; faulty = stops.0.1 })),
-      if_some (rest first) (λ text. HasFaultBehind capture_kind [] text refusal) (λ text. HasPartFault text refusal) (λ text. capture_fault text refusal) stops.1,
-    )
+  (stops.0.0, capture_fault stops.0.0 refusal (record { rest = stops.0.0; whole = refl; faulty = stops.0.1 })),
+  if_some (rest first) (λ text. HasFaultBehind capture_kind [] text refusal) (λ text. HasPartFault text refusal) (λ text. capture_fault text refusal) stops.1,
+)
 stopped_in_capture rest faults first now ReadFault stops = stops
 stopped_in_capture rest faults first now NoMemory stops = tt
 
 pub stopped_in_journal : {S : Type 0} (rest : S → Option (List ℕ)) (faults : S → ℕ) (first now : S) (bytes : List ℕ) (stop : Stop Refusal) → IsCapture bytes → StopsBy journal_kind rest faults first now bytes stop → HasReadParts rest faults first now (Err stop)
 stopped_in_journal rest faults first now bytes (Refused refusal) good stops = (
-      (bytes ++ stops.0.0, journal_fault (bytes ++ stops.0.0) bytes refusal good (record { rest = stops.0.0; whole = refl; faulty = stops.0.1 })),
-      if_some (rest first) (λ text. HasFaultBehind journal_kind bytes text refusal) (λ text. HasPartFault text refusal) (λ text. journal_fault text bytes refusal good) stops.1,
-    )
+  (bytes ++ stops.0.0, journal_fault (bytes ++ stops.0.0) bytes refusal good (record { rest = stops.0.0; whole = refl; faulty = stops.0.1 })),
+  if_some (rest first) (λ text. HasFaultBehind journal_kind bytes text refusal) (λ text. HasPartFault text refusal) (λ text. journal_fault text bytes refusal good) stops.1,
+)
 stopped_in_journal rest faults first now bytes ReadFault good stops = stops
 stopped_in_journal rest faults first now bytes NoMemory good stops = tt
 
 pub stopped_in_replies : {S : Type 0} (rest : S → Option (List ℕ)) (faults : S → ℕ) (first now : S) (bytes more : List ℕ) (stop : Stop Refusal) → IsCapture bytes → IsJournal more → StopsBy replies_kind rest faults first now (bytes ++ more) stop → HasReadParts rest faults first now (Err stop)
 stopped_in_replies rest faults first now bytes more (Refused refusal) good journal stops = (
-      ((bytes ++ more) ++ stops.0.0, replies_fault ((bytes ++ more) ++ stops.0.0) bytes more refusal good journal (record { rest = stops.0.0; whole = refl; faulty = stops.0.1 })),
-      if_some (rest first) (λ text. HasFaultBehind replies_kind (bytes ++ more) text refusal) (λ text. HasPartFault text refusal) (λ text. replies_fault text bytes more refusal good journal) stops.1,
-    )
+  ((bytes ++ more) ++ stops.0.0, replies_fault ((bytes ++ more) ++ stops.0.0) bytes more refusal good journal (record { rest = stops.0.0; whole = refl; faulty = stops.0.1 })),
+  if_some (rest first) (λ text. HasFaultBehind replies_kind (bytes ++ more) text refusal) (λ text. HasPartFault text refusal) (λ text. replies_fault text bytes more refusal good journal) stops.1,
+)
 stopped_in_replies rest faults first now bytes more ReadFault good journal stops = stops
 stopped_in_replies rest faults first now bytes more NoMemory good journal stops = tt
 

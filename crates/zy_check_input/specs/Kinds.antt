@@ -1,4 +1,4 @@
--- The three kinds of parts: which bytes brought their readers to where they are, and what a text of each kind gives. No
+-- The kinds of parts: which bytes brought their readers to where they are, and what a text of each kind gives. No
 -- public clause cites this module.
 use Rattle.std.specs.Prelude.{◌≡◌, ◌⊎◌, ℕ, ◌+◌, Bool, false, List, [], length, Option, None, Some, ⊤}
 use Rattle.zy_capture.specs.declared.record.Record.{Record}
@@ -14,6 +14,7 @@ use Rattle.zy_journal.specs.declared.journal.Journal.{Journal}
 use Rattle.zy_journal_reader.specs.Standing.{StandsForJournal}
 use Rattle.zy_journal_reader.specs.Verdict as Journals
 use Rattle.zy_check_input.specs.declared.capture_part.CapturePart.{CapturePart}
+use Rattle.zy_check_input.specs.declared.journal_file.JournalFile.{JournalFile}
 use Rattle.zy_check_input.specs.declared.journal_part.JournalPart.{JournalPart}
 use Rattle.zy_check_input.specs.declared.replies_part.RepliesPart.{RepliesPart}
 use Rattle.zy_check_input.specs.declared.stop.Refusal.{Refusal}
@@ -67,6 +68,27 @@ journal_kind = record {
   whole = IsJournal;
   gives = λ journal text. Journals.verdict text ≡ Journals.Verdict.Good journal;
   faulty = IsFaultyJournal;
+}
+
+-- ---- journals after which the source ends
+
+-- these bytes of a journal were fed
+pub record StandsForJournalFile (part : JournalFile) (bytes : List ℕ) : Type 0 where
+  pub given : List ⊤
+  pub reader : StandsForJournal part.reader given bytes
+
+-- the text has this fault as a journal, a byte after its end included
+abbrev pub IsFaultyJournalFile : List ℕ → Refusal → Type 0
+IsFaultyJournalFile text (OfJournal fault) = Journals.verdict text ≡ Journals.Verdict.Bad fault
+IsFaultyJournalFile text refusal = ⊥
+
+abbrev pub journal_file_kind : Kind JournalFile Journal
+journal_file_kind = record {
+  stands = StandsForJournalFile;
+  goes_on = λ text. Journals.fault_of text ≡ None;
+  whole = λ text. ⊥;
+  gives = λ journal text. Journals.verdict text ≡ Journals.Verdict.Good journal;
+  faulty = IsFaultyJournalFile;
 }
 
 -- ---- replies files, which end with the source

@@ -1,5 +1,6 @@
 -- The input of the command check: a capture, a journal and a replies file, one after the other. The
--- end of each part is known from its own bytes, and the first fault of the input counts.
+-- end of each part is known from its own bytes, and the first fault of the input counts. And a
+-- journal alone, the input of the command report.
 use Rattle.std.specs.Prelude.{◌≡◌, ℕ, true, List, ◌++◌, Option, Result, Ok, Err, IfSome, ⊤}
 use Rattle.std.specs.Io.KnownBytes.{Consumes, IsAtEnd}
 use Rattle.zy_base.specs.declared.file_fault.FileFault.{FileFault}
@@ -129,3 +130,14 @@ HasReadStreams rest faults first now (Err (Refused (Capture fault))) =
 HasReadStreams rest faults first now (Err (Refused other)) = ⊥
 HasReadStreams rest faults first now (Err ReadFault) = Rose (faults first) (faults now)
 HasReadStreams rest faults first now (Err NoMemory) = ⊤
+
+-- the journal is that of all that the source gave; or its text has this fault as a journal; or the
+-- source's count of faults rose, or is at its largest value; `NoMemory` needs no cause
+abbrev pub HasReadJournal : {S : Type 0} → (S → Option (List ℕ)) → (S → ℕ) → S → S → Result Journal (Stop Refusal) → Type 0
+HasReadJournal rest faults first now (Ok journal) =
+    (text : List ℕ) × ReadsAll (rest first) (rest now) text × (Journals.verdict text ≡ Journals.Verdict.Good journal)
+HasReadJournal rest faults first now (Err (Refused (OfJournal fault))) =
+    IfSome (rest first) (λ text. Journals.verdict text ≡ Journals.Verdict.Bad fault)
+HasReadJournal rest faults first now (Err (Refused other)) = ⊥
+HasReadJournal rest faults first now (Err ReadFault) = Rose (faults first) (faults now)
+HasReadJournal rest faults first now (Err NoMemory) = ⊤

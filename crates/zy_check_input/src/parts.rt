@@ -1,8 +1,9 @@
 //! The parts of the input of a check.
 ghost use Rattle.std.specs.Prelude.{◌≤◌};
-ghost use Rattle.zy_check_input.specs.Parts.{HasReadParts, HasReadStreams};
+ghost use Rattle.zy_check_input.specs.Parts.{HasReadParts, HasReadStreams, HasReadJournal};
 
 use crate::capture_part::CapturePart;
+use crate::journal_file::JournalFile;
 use crate::journal_part::JournalPart;
 use crate::part::read_part;
 use crate::replies_part::RepliesPart;
@@ -63,4 +64,16 @@ pub fn read_streams<S: Source>(alloc: Global, source: &mut S) -> Result<Streams,
         Err(NoMemory) => return Err(Stop::NoMemory),
     };
     read_part(CapturePart::new(alloc), &mut pieces, source)
+}
+
+/// Reads a journal to the end of the source.
+pub fn read_journal<S: Source>(alloc: Global, source: &mut S) -> Result<Journal, Stop>
+    ensures journal { HasReadJournal S.rest S.faults source.old source.new result }
+    ensures count { S.faults source.old ≤ S.faults source.new }
+{
+    let mut pieces = match Pieces::new(alloc) {
+        Ok(pieces) => pieces,
+        Err(NoMemory) => return Err(Stop::NoMemory),
+    };
+    read_part(JournalFile::new(alloc), &mut pieces, source)
 }

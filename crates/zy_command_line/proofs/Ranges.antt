@@ -111,6 +111,7 @@ AsksFine (Some (Requests.Check shards)) = AreShards shards
 AsksFine (Some (Requests.Gen traffic)) = IsMakeable traffic
 AsksFine (Some (Requests.SelfTest traffic run)) = IsMakeable traffic × IsRunnable run
 AsksFine (Some (Requests.Pcap port)) = IsPort port
+AsksFine (Some Requests.Report) = Unit {0}
 
 outed : (run : Run) (out : Option Out) → IsRunnable run → AsksFine (option_map (Requests.Run run) out)
 outed run None is = tt
@@ -146,6 +147,7 @@ asks Verbs.Check options = check_asks (shards_of options) (given 1 256 16 (value
 asks Verbs.Gen options = gen_asks (traffic_of options) (traffic_fine options)
 asks Verbs.SelfTest options = self_asks options (traffic_of options) (traffic_fine options)
 asks Verbs.Pcap options = pcap_asks (port_of options) (given 1 65535 11211 (value_of (codes "port") options) (omega arith) (omega arith))
+asks Verbs.Report options = tt
 
 spelled : (verb : Verb) (options : Option Options) → AsksFine (option_and_then (asked_by verb) options)
 spelled verb None = tt

@@ -108,13 +108,17 @@ traffic_of options = option_and_then (λ number. option_and_then (λ conns. opti
 
 -- ---- commands
 
+-- the command that a word names, of those that read recorded packets or a journal
+abbrev pub reader_named : Word → Option Verb
+reader_named word = if bytes_eq word (codes "pcap") then Some Verbs.Pcap
+    else (if bytes_eq word (codes "report") then Some Verbs.Report else None)
+
 -- the command that a word names
 abbrev pub verb_named : Word → Option Verb
 verb_named word = if bytes_eq word (codes "run") then Some Verbs.Run
     else (if bytes_eq word (codes "check") then Some Verbs.Check
     else (if bytes_eq word (codes "gen") then Some Verbs.Gen
-    else (if bytes_eq word (codes "self") then Some Verbs.SelfTest
-    else (if bytes_eq word (codes "pcap") then Some Verbs.Pcap else None))))
+    else (if bytes_eq word (codes "self") then Some Verbs.SelfTest else reader_named word)))
 
 -- the options that a command takes
 abbrev pub names_of : Verb → List Word
@@ -124,6 +128,7 @@ names_of Verbs.Gen = codes "number" ∷ codes "conns" ∷ codes "commands" ∷ [
 names_of Verbs.SelfTest = codes "number" ∷ codes "conns" ∷ codes "commands" ∷ codes "cores" ∷ codes "threads" ∷ codes
     "order" ∷ codes "shards" ∷ []
 names_of Verbs.Pcap = codes "port" ∷ []
+names_of Verbs.Report = []
 
 -- serve a capture
 abbrev pub run_by : Options → Option Request
@@ -141,6 +146,7 @@ asked_by Verbs.Check options = option_map Requests.Check (shards_of options)
 asked_by Verbs.Gen options = option_map Requests.Gen (traffic_of options)
 asked_by Verbs.SelfTest options = self_by options
 asked_by Verbs.Pcap options = option_map Requests.Pcap (port_of options)
+asked_by Verbs.Report options = Some Requests.Report
 
 -- what a command asks for with the options that the words after it spell
 abbrev pub asked_with : List Word → Verb → Option Request

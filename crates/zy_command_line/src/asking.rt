@@ -59,6 +59,7 @@ fn asked_by(verb: Verb, given: &ArgMatches<'_>) -> Option<Request>
             Some(port) => Some(Request::Pcap { port }),
             None => None,
         },
+        Verb::Report => Some(Request::Report),
     }
 }
 

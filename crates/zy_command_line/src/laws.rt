@@ -30,6 +30,8 @@ pub fn worked_requests()
     ensures port { request_of (codes "pcap" ∷ codes "--port=65535" ∷ []) ≡ Some (Requests.Pcap 65535) }
     ensures no_port { request_of (codes "pcap" ∷ codes "--port" ∷ codes "0" ∷ []) ≡ None }
     ensures port_over { request_of (codes "pcap" ∷ codes "--port=65536" ∷ []) ≡ None }
+    ensures report { request_of (codes "report" ∷ []) ≡ Some Requests.Report }
+    ensures report_option { request_of (codes "report" ∷ codes "--shards=1" ∷ []) ≡ None }
     ensures too_much { request_of (codes "gen" ∷ codes "--conns=1001" ∷ codes "--commands=1000" ∷ []) ≡ None }
 {}
 

@@ -11,6 +11,8 @@ pub enum Request {
     Gen { traffic: Traffic },
     /// Make a capture of recorded packets to this port, 1 to 65,535.
     Pcap { port: u16 },
+    /// Count the calls and the items of a journal.
+    Report,
     /// Make a capture, serve it, and check the result.
     SelfTest { traffic: Traffic, run: Run },
 }

@@ -1,6 +1,6 @@
 //! The commands of the program, and the options that each takes.
 ghost use Rattle.std.specs.Prelude.{◌≡◌, map};
-ghost use Rattle.zy_command_line.specs.Request.{verb_named, names_of};
+ghost use Rattle.zy_command_line.specs.Request.{verb_named, reader_named, names_of};
 
 /// A command of the program.
 #[derive(Clone, Copy)]
@@ -10,6 +10,7 @@ pub(crate) enum Verb {
     Gen,
     SelfTest,
     Pcap,
+    Report,
 }
 
 /// The command that a word names.
@@ -21,8 +22,20 @@ pub(crate) fn verb_named(word: &[u8]) -> Option<Verb>
         b"check" => Some(Verb::Check),
         b"gen" => Some(Verb::Gen),
         b"self" => Some(Verb::SelfTest),
-        b"pcap" => Some(Verb::Pcap),
-        _ => None,
+        _ => reader_named(word),
+    }
+}
+
+// The command that a word names, of those that read recorded packets or a journal.
+fn reader_named(word: &[u8]) -> Option<Verb>
+    ensures value { result ≡ reader_named word.now }
+{
+    if word == b"pcap".as_slice() {
+        Some(Verb::Pcap)
+    } else if word == b"report".as_slice() {
+        Some(Verb::Report)
+    } else {
+        None
     }
 }
 
@@ -38,5 +51,6 @@ pub(crate) fn names_of(verb: Verb) -> &'static [&'static str]
             "number", "conns", "commands", "cores", "threads", "order", "shards",
         ],
         Verb::Pcap => &["port"],
+        Verb::Report => &[],
     }
 }

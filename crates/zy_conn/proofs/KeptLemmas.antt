@@ -9,7 +9,7 @@ use Rattle.zy_base.specs.Replies.{replies_at}
 use Rattle.zy_base.proofs.EntryLemmas.{replies_at-push, replies_at-push_other, AreAnswers-push}
 use Rattle.mc_parse.specs.declared.command.Command.{Command}
 use Rattle.mc_parse.specs.declared.shard_call.ShardCall.{ShardCall}
-use Rattle.mc_parse.specs.Calls.{Due, due, due_at, due_of, dues_of, tag_of, tagged}
+use Rattle.mc_parse.specs.Calls.{Due, calls_of, due, due_at, due_of, dues_of, tag_of, tagged}
 use Rattle.mc_parse.proofs.CallLemmas.{due-more, dues_of-more, tagged-append}
 use Rattle.mc_reply.specs.Text.{text}
 use Rattle.mc_reply.specs.Texts.{texts_of}
@@ -150,6 +150,24 @@ module _ (w : Worked) (k : Kept w) where
         shown = k.shown;
         room = omega (arith, length-append w.taken (frame ∷ []));
       }
+
+  -- the command of the frame that is begun is read
+  pub kept_reads : (frame : FrameKind) → w.begun ≡ raw frame → 1 ≤ w.table.slots → w.table.slots ≤ 256
+      → Kept (record w { begun = going (command_of frame) (calls_of w.table.slots (command_of frame)) [] })
+  kept_reads frame e some limit = record {
+    slots = k.slots;
+    done = k.done;
+    frames = k.frames ∙ ap (λ s. k.done ++ command_begun s) e;
+    count = k.count;
+    dues = k.dues ∙ ap (λ s. due w.table.slots w.conn k.done ++ dues_begun w.conn w.finished s) e;
+    kinds = k.kinds;
+    begun = record { some = some; limit = limit; all = refl; few = omega arith; answers = tt };
+    now = k.now ∙ ap replies_begun e;
+    later = k.later;
+    texts = k.texts;
+    shown = k.shown;
+    room = k.room;
+  }
 
   module _ (command : Command) (calls : List ShardCall) (replies : List CallReply) (e : w.begun ≡ going command calls replies) where
     pub going_on : IsGoingOn w.table.slots command calls replies

@@ -1,6 +1,6 @@
 -- What each step keeps, for values that are given by equations.
 use Rattle.std.proofs.Common.{◌≡◌, ◌≢◌, inl, ℕ, ◌+◌, ◌<◌, ◌≤◌, ◌^◌, List, [], ◌∷◌, ◌++◌, length, Some, Result, Ok, Err, MatchResult, IfOk, slice_get, refl, sym, ap, ◌∙◌, subst, arith, length-append}
-use Rattle.std.specs.Prelude.{All, IsSome}
+use Rattle.std.specs.Prelude.{All, IsSome, OnOk, OnErr}
 use Rattle.std.proofs.lemmas.Option.{slice_get_within}
 use Rattle.zy_base.specs.declared.call_reply.CallReply.{CallReply}
 use Rattle.mc_parse.specs.declared.command.Command.{Command}
@@ -11,17 +11,20 @@ use Rattle.mc_store.specs.declared.store.view.Trace.{Trace}
 use Rattle.mc_store.specs.Call.{WasBusy}
 use Rattle.mc_store.specs.Pass.{Passed}
 use Rattle.zy_calls.specs.Batch.{Batch, with_text, with_finished}
+use Rattle.zy_frame.specs.Frame.{command_of}
 use Rattle.zy_frame.specs.declared.frame_kind.FrameKind.{FrameKind}
 use Rattle.zy_rx.specs.Ring.{RingName}
+use Rattle.zy_conn.specs.declared.begun.Begun.{Begun}
+use Rattle.zy_conn.specs.declared.begun.Begun.TheVariants.{Raw, Going}
 use Rattle.zy_conn.specs.declared.hold_end.HoldEnd.{HoldEnd}
 use Rattle.zy_conn.specs.declared.hold_end.HoldEnd.TheVariants.{Drained, Limit, Spent, Busy}
 use Rattle.zy_conn.specs.declared.calling.Made.{Made}
 use Rattle.zy_conn.specs.declared.calling.Made.TheVariants.{Call, Done, Stopped}
-use Rattle.zy_conn.specs.Work.{Start, idle, raw, going, Worked, worked, texts_taken, mark_of}
+use Rattle.zy_conn.specs.Work.{Start, idle, raw, going, start_of, Worked, worked, texts_taken, mark_of}
 use Rattle.zy_conn.specs.Kept.{Kept}
 use Rattle.zy_conn.specs.Hold.{call_due, FoundBusy, HeldTo}
 use Rattle.zy_conn.specs.Step.{IsWhole, text_begun, calls_left, SamePass, CallStopsBy, Makes, Goes, StopsBy, MadeFrom}
-use Rattle.zy_conn.proofs.KeptLemmas.{kept_looks, texts_begin, kept_begins, going_on, texts_call, kept_calls, kept_finishes}
+use Rattle.zy_conn.proofs.KeptLemmas.{kept_looks, texts_begin, kept_begins, kept_reads, going_on, texts_call, kept_calls, kept_finishes}
 
 -- ---- a frame is taken
 
@@ -31,6 +34,24 @@ module _ (p : Passed) (r r' : RingName) (taken taken' known known' : List FrameK
       subst (λ y. Kept (worked p r' taken' known' y f sh b)) (sym begun)
       (subst (λ l. Kept (worked p r' l known' (raw frame) f sh b)) (sym is)
       (subst (λ y. Kept (worked p y (taken ++ frame ∷ []) known' (raw frame) f sh b)) (sym ring) (kept_begins (worked p r taken known s f sh b) k frame known' e below)))
+
+  pub kept_reads_as : f ≢ 2 ^ 40 → r' ≡ r → taken' ≡ taken ++ frame ∷ [] → 1 ≤ p.table.slots → p.table.slots ≤ 256
+      → s' ≡ going (command_of frame) (calls_of p.table.slots (command_of frame)) [] → Kept (worked p r' taken' known' s' f sh b)
+  kept_reads_as below ring is some limit begun =
+      subst (λ y. Kept (worked p r' taken' known' y f sh b)) (sym begun)
+      (subst (λ l. Kept (worked p r' l known' (going (command_of frame) (calls_of p.table.slots (command_of frame)) []) f sh b)) (sym is)
+      (subst (λ y. Kept (worked p y (taken ++ frame ∷ []) known' (going (command_of frame) (calls_of p.table.slots (command_of frame)) []) f sh b)) (sym ring)
+      (kept_reads (worked p r (taken ++ frame ∷ []) known' (raw frame) f sh b) (kept_begins (worked p r taken known s f sh b) k frame known' e below) frame refl some limit)))
+
+  -- the command of the frame is read, or the frame stays
+  pub kept_begun_as : {A E : Type 0} (read : Result A E) (b' : Begun) (replies' : List CallReply) → s' ≡ start_of p.table.slots b' replies' → replies' ≡ []
+      → OnOk read (b' ≡ Going (command_of frame)) → OnErr read (b' ≡ Raw frame)
+      → f ≢ 2 ^ 40 → r' ≡ r → taken' ≡ taken ++ frame ∷ [] → 1 ≤ p.table.slots → p.table.slots ≤ 256 → Kept (worked p r' taken' known' s' f sh b)
+  kept_begun_as (Ok x) b' replies' start none ok err below ring is some limit =
+      kept_reads_as below ring is some limit
+      (start ∙ ap (λ y. start_of p.table.slots y replies') ok ∙ ap (λ l. going (command_of frame) (calls_of p.table.slots (command_of frame)) l) none)
+  kept_begun_as (Err x) b' replies' start none ok err below ring is some limit =
+      kept_begins_as below ring is (start ∙ ap (λ y. start_of p.table.slots y replies') err)
 
   pub goes_begins_as : r' ≡ r → taken' ≡ taken ++ frame ∷ [] → Goes (worked p r taken known s f sh b) (worked p r' taken' known' s' f sh b)
   goes_begins_as ring is = record {

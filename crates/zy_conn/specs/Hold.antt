@@ -12,21 +12,22 @@ use Rattle.zy_conn.specs.Block.{Blocked}
 
 -- ---- the holds of a connection
 
--- a core held this connection, and finished 1 to 64 of its commands
-pub record IsHold (connection : ℕ) (hold : Hold) : Type 0 where
+-- one of this number of cores held this connection, and finished 1 to 64 of its commands
+pub record IsHold (cores connection : ℕ) (hold : Hold) : Type 0 where
   pub some : 1 ≤ hold.count
   pub limit : hold.count ≤ 64
-  pub core_is : hold.core < 64
+  pub core_is : hold.core < cores
   pub conn_is : hold.conn ≡ connection
 
--- each is a hold of this connection
-abbrev pub EachIsHold : ℕ → List Hold → Type 0
-EachIsHold connection [] = Unit {0}
-EachIsHold connection (hold ∷ holds) = IsHold connection hold × EachIsHold connection holds
+-- each is a hold of this connection by one of these cores
+abbrev pub EachIsHold : ℕ → ℕ → List Hold → Type 0
+EachIsHold cores connection [] = Unit {0}
+EachIsHold cores connection (hold ∷ holds) = IsHold cores connection hold × EachIsHold cores connection holds
 
--- the holds of a connection with `finished` finished commands
-pub record AreHolds (connection finished : ℕ) (holds : List Hold) : Type 0 where
-  pub each : EachIsHold connection holds
+-- the holds, by at most 64 cores, of a connection with `finished` finished commands
+pub record AreHolds (cores connection finished : ℕ) (holds : List Hold) : Type 0 where
+  pub few : cores ≤ 64
+  pub each : EachIsHold cores connection holds
   pub all : held_in holds ≡ finished
 
 -- ---- what a hold records

@@ -10,6 +10,7 @@ use Rattle.mc_parse.specs.Calls.{calls_of}
 use Rattle.mc_reply.specs.Texts.{texts_of}
 use Rattle.mc_store.specs.declared.store.view.Trace.{Trace}
 use Rattle.mc_store.specs.Pass.{Passed}
+use Rattle.zy_calls.specs.Batch.{Batch}
 use Rattle.zy_frame.specs.declared.frame_kind.FrameKind.{FrameKind}
 use Rattle.zy_frame.specs.Frame.{command_of}
 use Rattle.zy_rx.specs.Ring.{RingName}
@@ -87,6 +88,10 @@ texts_all work = texts_of (commands_of_frames work.taken) work.calls
 -- the texts that were ever taken
 abbrev pub texts_taken : Worked → List (List ℕ)
 texts_taken work = take work.shown (texts_all work)
+
+-- the texts that wait, with the number of finished commands
+abbrev pub batch_waiting : Worked → Batch
+batch_waiting work = record { texts = work.batch; finished = work.finished }
 
 -- ---- the mark
 

@@ -1,8 +1,9 @@
 //! A connection's block.
-ghost use Rattle.std.specs.Prelude.{◌≡◌, ◌+◌, ◌<◌, ◌≤◌, [], ◌++◌, length, IfOk, IfErr};
+ghost use Rattle.std.specs.Prelude.{◌≡◌, ◌+◌, ◌<◌, ◌≤◌, [], ◌++◌, length, IfOk, IfErr, OnOk, OnErr};
+ghost use Rattle.zy_calls.specs.Output.{with_batch};
 ghost use Rattle.mc_store.specs.Pass.{passed};
 ghost use Rattle.zy_rx.specs.Ring.{offering};
-ghost use Rattle.zy_conn.specs.Work.{worked, idle, has_event, texts_taken, mark_of};
+ghost use Rattle.zy_conn.specs.Work.{worked, idle, has_event, texts_taken, batch_waiting, mark_of};
 ghost use Rattle.zy_conn.specs.Kept.{Kept};
 ghost use Rattle.zy_conn.specs.Hold.{AreHolds, HeldTo, IsRecorded};
 ghost use Rattle.zy_conn.specs.Block.{blocked};
@@ -14,14 +15,17 @@ use mc_store::{Pass, StoreTable};
 use std::alloc::Global;
 use std::marker::Model;
 use zy_base::{Gate, Hold, Holds, NoMemory};
-use zy_calls::Batch;
+use zy_calls::{Batch, Output};
 use zy_shuffle::Marked;
 
 /// What travels with a connection: its pass on the store, its events, the command in progress, the
-/// texts that wait, and its holds. Contracts see it as its work and the list of its holds.
+/// texts that wait, and its holds. Contracts see it as its work, the number of cores that there are
+/// to hold it, and the list of its holds.
 #[derive(Drop)]
 pub struct Block {
-    work: Work,
+    // Blocks are passed on often, and their work is large.
+    work: Box<Work>,
+    cores: u32,
     holds: Vec<Hold>,
 }
 
@@ -31,44 +35,53 @@ impl Model for Block {
 
     ghost Value = { Blocked };
 
-    ghost view = { λ b. blocked b.work b.holds.items };
+    ghost view = { λ b. blocked b.work.value b.cores b.holds.items };
 
-    ghost invariant = { λ b. AreHolds b.work.conn b.work.finished b.holds.items };
+    ghost invariant = { λ b. AreHolds b.cores b.work.value.conn b.work.value.finished b.holds.items };
 }
 
 impl Marked for Block {
-    ghost use Rattle.zy_table.specs.Name.{name_of};
     ghost use Rattle.zy_conn.specs.Work.{Mark, mark_of};
+    ghost use Rattle.zy_conn.specs.Block.{label_in};
 
     ghost Mark = { Mark };
 
     ghost mark = { λ b. mark_of b.work };
 
-    ghost label = { λ b. name_of b.work.table };
+    ghost label = { label_in };
 }
 
 impl Block {
-    /// The block of a connection, with the other end of its event ring. After a refusal the pass is
-    /// handed back.
+    /// The block of a connection that is held by cores below `cores`, with the other end of its event
+    /// ring. After a refusal the pass is handed back.
     pub fn new(
         alloc: Global,
         conn: u32,
+        cores: u32,
         pass: Pass,
     ) -> Result<(Block, EventInlet), (Pass, NoMemory)>
         requires conn { pass.conn ≡ conn }
         requires empty { pass.calls ≡ [] }
-        ensures block { IfOk result (λ made. made.0 ≡ blocked (worked pass made.1.ring [] [] idle 0 0 []) []) }
+        requires few { cores ≤ 64 }
+        ensures block { IfOk result (λ made. made.0 ≡ blocked (worked pass made.1.ring [] [] idle 0 0 []) cores []) }
         ensures inlet { IfOk result (λ made. made.1 ≡ offering made.1.ring [] 64) }
         ensures returned { IfErr result (λ e. e.0 ≡ pass) }
     {
         match Work::new(alloc, pass) {
-            Ok((work, inlet)) => Ok((
-                Block {
-                    work,
-                    holds: Vec::new(alloc),
-                },
-                inlet,
-            )),
+            Ok((work, inlet)) => match Box::new(alloc, work) {
+                Ok(work) => Ok((
+                    Block {
+                        work,
+                        cores,
+                        holds: Vec::new(alloc),
+                    },
+                    inlet,
+                )),
+                Err(refused) => {
+                    drop(inlet);
+                    Err((refused.value.into_pass(), NoMemory))
+                }
+            },
             Err(e) => Err(e),
         }
     }
@@ -121,6 +134,22 @@ impl Block {
         self.work.take_batch()
     }
 
+    /// Moves the texts that wait to an output, with the number of finished commands; no text is left.
+    /// The block keeps their room for further texts. After a refusal block and output are as they were.
+    pub fn send_to(&mut self, output: &mut Output) -> Result<(), NoMemory>
+        ensures output { OnOk result (output.new ≡ with_batch output.old (batch_waiting self.old.work)) }
+        ensures block { OnOk result (self.new ≡ record self.old {
+          work = record self.old.work {
+            shown = self.old.work.finished;
+            batch = [];
+          };
+        }) }
+        ensures texts { OnOk result (texts_taken self.new.work ≡ texts_taken self.old.work ++ self.old.work.batch) }
+        ensures err { OnErr result ((self.new ≡ self.old) × (output.new ≡ output.old)) }
+    {
+        self.work.send_to(output)
+    }
+
     /// Carries out commands in order, at most 64. A hold that finished commands is recorded; the
     /// room for the record is reserved first. After a refusal the calls that were made stay made,
     /// and a further hold goes on from there.
@@ -131,7 +160,7 @@ impl Block {
         core: u32,
     ) -> Result<HoldEnd, NoMemory>
         requires table { self.old.work.table ≡ store.now.id }
-        requires core { core < 64 }
+        requires core { core < self.old.cores }
 
         // Why it ends, and what is recorded.
         ensures end { IfOk result (HeldTo self.old.work self.new.work) }
@@ -139,6 +168,7 @@ impl Block {
 
         // What stays, also after a refusal.
         ensures table { self.new.work.table ≡ self.old.work.table }
+        ensures cores { self.new.cores ≡ self.old.cores }
         ensures mark { mark_of self.new.work ≡ mark_of self.old.work }
         ensures more { self.old.work.finished ≤ self.new.work.finished }
         ensures limit { self.new.work.finished ≤ self.old.work.finished + 64 }
@@ -146,7 +176,7 @@ impl Block {
         if self.holds.reserve(1).is_err() {
             return Err(NoMemory);
         }
-        let (count, end) = carry_out(&mut self.work, store, gate, core);
+        let (count, end) = carry_out(&mut *self.work, store, gate, core);
         if count > 0 {
             let conn = self.work.conn();
             self.holds.push_reserved(Hold { core, conn, count });
@@ -158,9 +188,13 @@ impl Block {
     pub fn into_parts(self) -> (Pass, Holds)
         ensures pass { result.0 ≡ passed self.work.table self.work.conn self.work.calls self.work.trace }
         ensures holds { result.1 ≡ self.holds }
-        ensures kept { Kept self.work × AreHolds self.work.conn self.work.finished self.holds }
+        ensures kept { Kept self.work × AreHolds self.cores self.work.conn self.work.finished self.holds }
     {
-        let Block { work, holds } = self;
-        (work.into_pass(), Holds::from_vec(holds))
+        let Block {
+            work,
+            cores: _,
+            holds,
+        } = self;
+        (Box::into_inner(work).into_pass(), Holds::from_vec(holds))
     }
 }

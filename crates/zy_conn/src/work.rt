@@ -1,8 +1,9 @@
 //! A connection's work: all of a block except its holds.
-ghost use Rattle.std.specs.Prelude.{◌≡◌, ◌≢◌, ◌+◌, ◌≤◌, [], ◌++◌, length, IfOk, IfErr, MatchBool};
+ghost use Rattle.std.specs.Prelude.{◌≡◌, ◌≢◌, ◌+◌, ◌≤◌, [], ◌++◌, length, IfOk, IfErr, OnOk, OnErr, MatchBool};
+ghost use Rattle.zy_calls.specs.Output.{with_batch};
 ghost use Rattle.mc_store.specs.Pass.{passed};
 ghost use Rattle.zy_rx.specs.Ring.{offering};
-ghost use Rattle.zy_conn.specs.Work.{worked, idle, has_event, texts_taken};
+ghost use Rattle.zy_conn.specs.Work.{worked, idle, has_event, texts_taken, batch_waiting};
 ghost use Rattle.zy_conn.specs.Kept.{Kept};
 
 mod run;
@@ -14,7 +15,7 @@ use std::alloc::Global;
 use std::marker::Model;
 use std::mem;
 use zy_base::{CallReply, NoMemory};
-use zy_calls::Batch;
+use zy_calls::{Batch, Output};
 use zy_frame::Frame;
 use zy_rx::{RingInlet, RingOutlet, both_ends, ring};
 
@@ -132,6 +133,23 @@ impl Work {
         let finished = self.batch.finished();
         self.shown = finished;
         mem::replace(&mut self.batch, Batch::new(self.alloc, finished))
+    }
+
+    /// Moves the texts that wait to an output, with the number of finished commands; no text is left,
+    /// and the room of the texts is kept. After a refusal nothing has changed.
+    pub(crate) fn send_to(&mut self, output: &mut Output) -> Result<(), NoMemory>
+        ensures output { OnOk result (output.new ≡ with_batch output.old (batch_waiting self.old)) }
+        ensures work { OnOk result (self.new ≡ record self.old { shown = self.old.finished; batch = [] }) }
+        ensures texts { OnOk result (texts_taken self.new ≡ texts_taken self.old ++ self.old.batch) }
+        ensures err { OnErr result ((self.new ≡ self.old) × (output.new ≡ output.old)) }
+    {
+        match output.take_texts(&mut self.batch) {
+            Ok(()) => {
+                self.shown = self.batch.finished();
+                Ok(())
+            }
+            Err(e) => Err(e),
+        }
     }
 
     /// The pass, with what the work has kept.

@@ -31,8 +31,8 @@ cores_end (x ∷ xs) v = let r = cores_end xs v in omega arith
 -- only cores count themselves, each once
 one_le : (r : Role) → has_one r ≤ is_one r
 one_le (Root given) = omega arith
-one_le (Core number true) = omega arith
-one_le (Core number false) = omega arith
+one_le (Core number true announced) = omega arith
+one_le (Core number false announced) = omega arith
 one_le Watcher = omega arith
 
 pub counted_le : (vs : List View) → counted_in vs ≤ cores_in vs
@@ -41,8 +41,8 @@ counted_le (v ∷ vs) = let a = one_le v.role in let b = counted_le vs in omega 
 
 one_less : (r : Role) → IsUncounted r → has_one r < is_one r
 one_less (Root given) is = absurd is
-one_less (Core number true) is = absurd (cc)
-one_less (Core number false) is = omega arith
+one_less (Core number true announced) is = absurd (cc)
+one_less (Core number false announced) is = omega arith
 one_less Watcher is = absurd is
 
 -- while a core has not counted itself, the count is below the number of cores

@@ -1,3 +1,5 @@
 pub mod CountLemmas
+pub mod RestLemmas
 pub mod MoveLemmas
+pub mod SleepLemmas
 pub mod SeatLemmas

@@ -1,10 +1,10 @@
 -- The views of the control words and of the passes on them.
-use Rattle.std.specs.Prelude.{ℕ}
+use Rattle.std.specs.Prelude.{ℕ, Bool}
 use Rattle.atomic_table.specs.Seated.{TableId}
 use Rattle.zy_control.specs.declared.view.Trace.{Trace}
 use Rattle.zy_control.specs.declared.view.Role.{Role}
 use Rattle.zy_control.specs.declared.view.Role.TheVariants.{Watcher}
-use Rattle.zy_control.specs.View.{untraced, done_step, stop_step, counted}
+use Rattle.zy_control.specs.View.{untraced, done_step, stop_step, sleepers_step, counted, announcing}
 
 -- the control words: which table they are, and the number of cores
 pub record Controlled : Type 0 where
@@ -50,3 +50,11 @@ seeing_done value p = held p.table p.role p.cores (done_step value p.trace)
 -- a pass that has seen or set stop
 abbrev pub seeing_stop : ℕ → Held → Held
 seeing_stop value p = held p.table p.role p.cores (stop_step value p.trace)
+
+-- a pass that has seen sleepers
+abbrev pub seeing_sleepers : ℕ → Held → Held
+seeing_sleepers value p = held p.table p.role p.cores (sleepers_step value p.trace)
+
+-- the pass of a core that has announced itself, or withdrawn that; after that step sleepers had this value
+abbrev pub resting : Bool → ℕ → Held → Held
+resting is value p = held p.table (announcing is p.role) p.cores (sleepers_step value p.trace)

@@ -12,7 +12,7 @@ IsRootSeat given cores m = (m.1 ≡ []) × (m.0.role ≡ Root given) × (m.0.cor
 -- counted itself
 abbrev pub IsPassRole : ℕ → Bool → Role → Type 0
 IsPassRole number has (Root given) = ⊥
-IsPassRole number has (Core n counted) = (number ≡ n) × (has ≡ counted)
+IsPassRole number has (Core n counted announced) = (number ≡ n) × (has ≡ counted)
 IsPassRole number has Watcher = (number ≡ 0) × (has ≡ false)
 
 -- the seat of a pass

@@ -2,11 +2,13 @@
 ghost use Rattle.std.specs.Prelude.{◌≡◌, ◌+◌, ◌<◌, ◌≤◌, true, false, ◌==◌, not, IfOk, IsOk};
 ghost use Rattle.std.specs.Int.{bit_at};
 ghost use Rattle.zy_control.specs.declared.view.Role.TheVariants.{Core};
-ghost use Rattle.zy_control.specs.View.{untraced, IsUncounted, MustHaveCounted, Covers};
-ghost use Rattle.zy_control.specs.Pass.{rooted, held, watching, counting, seeing_done, seeing_stop};
+ghost use Rattle.zy_control.specs.View.{untraced, number_of, HasBit, IsUncounted, MustHaveCounted, Covers};
+ghost use Rattle.zy_control.specs.Pass.{rooted, held, watching, counting, seeing_done, seeing_stop, seeing_sleepers, resting};
 
 use crate::pass::{ControlPass, ControlRoot};
-use crate::plays::{Counts, Enters, Gives, SeesDone, SeesStop, Stops};
+use crate::plays::{
+    Announces, Counts, Enters, Gives, SeesDone, SeesSleepers, SeesStop, Stops, Withdraws,
+};
 use crate::view::View;
 use atomic_table::{Table, TableRule};
 use std::alloc::Global;
@@ -16,6 +18,8 @@ use zy_base::NoMemory;
 const DONE: usize = 0;
 
 const STOP: usize = 1;
+
+const SLEEPERS: usize = 2;
 
 // The rule of the control words, which holds between any two steps.
 pub(crate) struct Rule;
@@ -29,7 +33,7 @@ impl TableRule<u8, View, u64> for Rule {
     ghost first = { root_view };
 }
 
-/// The words done and stop. Contracts see which table they are, and the number of cores.
+/// The words done, stop and sleepers. Contracts see which table they are, and the number of cores.
 #[derive(Drop)]
 pub struct Control {
     table: Table<u8, View, u64, Rule, Global>,
@@ -44,16 +48,16 @@ impl Model for Control {
 
     ghost view = { λ c. controlled c.table.shared.table_id c.cores };
 
-    ghost invariant = { λ c. (c.table.shared.table_id.words ≡ 2) × (c.table.shared.key ≡ c.cores) × (c.cores < 2 ^ 64) };
+    ghost invariant = { λ c. (c.table.shared.table_id.words ≡ 3) × (c.table.shared.key ≡ c.cores) × (c.cores < 2 ^ 64) };
 }
 
 impl Control {
-    /// The words of `cores` cores, of which none is done, and their root.
+    /// The words of `cores` cores, of which none is done and none rests, and their root.
     pub fn new(alloc: Global, cores: u64) -> Result<(Control, ControlRoot), NoMemory>
         ensures cores { IfOk result (λ made. made.0.cores ≡ cores) }
         ensures root { IfOk result (λ made. made.1 ≡ rooted made.0.id 0 cores) }
     {
-        match Table::of_words(alloc, &[0, 0], &cores) {
+        match Table::of_words(alloc, &[0, 0, 0], &cores) {
             Ok((table, seat)) => Ok((
                 Control { table, cores },
                 ControlRoot {
@@ -72,7 +76,7 @@ impl Control {
         requires few { root.old.given < self.now.cores }
         ensures succeeds { IsOk result }
         ensures value { IfOk result (λ pass. pass ≡ held root.old.table
-            (Core root.old.given false) root.old.cores untraced) }
+            (Core root.old.given false false) root.old.cores untraced) }
         ensures ok { root.new ≡ rooted root.old.table (root.old.given + 1) root.old.cores }
     {
         let number = root.given;
@@ -115,6 +119,17 @@ impl Control {
         pass.counted = true;
     }
 
+    /// How many cores have counted themselves, by one load of done. If all have, this core is among
+    /// them.
+    pub fn load_done(&self, pass: &mut ControlPass) -> u64
+        requires table { pass.old.table ≡ self.now.id }
+        ensures pass { pass.new ≡ seeing_done result pass.old }
+        ensures counted { result ≡ pass.old.cores → MustHaveCounted pass.old.role }
+        ensures lasts { pass.old.trace.done.value ≤ result }
+    {
+        self.table.shared.load::<SeesDone>(&mut pass.seat, DONE)
+    }
+
     /// Whether all cores have counted themselves, by one load of done. If so, this core is among them.
     pub fn is_done(&self, pass: &mut ControlPass) -> bool
         requires table { pass.old.table ≡ self.now.id }
@@ -123,8 +138,7 @@ impl Control {
         ensures counted { result ≡ true → MustHaveCounted pass.old.role }
         ensures lasts { pass.old.trace.done.value ≤ pass.new.trace.done.value }
     {
-        let done = self.table.shared.load::<SeesDone>(&mut pass.seat, DONE);
-        done == pass.cores
+        self.load_done(pass) == pass.cores
     }
 
     /// Asks all cores to stop: bit 0 of stop is set.
@@ -137,6 +151,15 @@ impl Control {
         self.table.shared.fetch_or::<Stops>(&mut pass.seat, STOP, 1);
     }
 
+    /// One load of stop, which is 0 while the cores are not to stop.
+    pub fn load_stop(&self, pass: &mut ControlPass) -> u64
+        requires table { pass.old.table ≡ self.now.id }
+        ensures pass { pass.new ≡ seeing_stop result pass.old }
+        ensures lasts { Covers pass.old.trace.stop.value result }
+    {
+        self.table.shared.load::<SeesStop>(&mut pass.seat, STOP)
+    }
+
     /// Whether the cores are to stop, by one load of stop.
     pub fn is_stopped(&self, pass: &mut ControlPass) -> bool
         requires table { pass.old.table ≡ self.now.id }
@@ -144,7 +167,42 @@ impl Control {
         ensures pass { pass.new ≡ seeing_stop pass.new.trace.stop.value pass.old }
         ensures lasts { Covers pass.old.trace.stop.value pass.new.trace.stop.value }
     {
-        let stop = self.table.shared.load::<SeesStop>(&mut pass.seat, STOP);
-        stop != 0
+        self.load_stop(pass) != 0
+    }
+
+    /// The core announces that it rests unless it finds something to do: its bit of sleepers is set.
+    pub fn announce(&self, pass: &mut ControlPass)
+        requires table { pass.old.table ≡ self.now.id }
+        requires core { HasBit pass.old.role }
+        ensures value { pass.new ≡ resting true pass.new.trace.sleepers.value pass.old }
+        ensures set { bit_at pass.new.trace.sleepers.value (number_of pass.old.role) ≡ 1 }
+    {
+        let bit = 1 << pass.number;
+        self.table
+            .shared
+            .fetch_or::<Announces>(&mut pass.seat, SLEEPERS, bit);
+    }
+
+    /// The core no longer rests: its bit of sleepers is cleared.
+    pub fn withdraw(&self, pass: &mut ControlPass)
+        requires table { pass.old.table ≡ self.now.id }
+        requires core { HasBit pass.old.role }
+        ensures value { pass.new ≡ resting false pass.new.trace.sleepers.value pass.old }
+        ensures cleared { bit_at pass.new.trace.sleepers.value (number_of pass.old.role) ≡ 0 }
+    {
+        let bit = 1 << pass.number;
+        self.table
+            .shared
+            .fetch_and::<Withdraws>(&mut pass.seat, SLEEPERS, !bit);
+    }
+
+    /// One load of sleepers: the bit with the number of a core is 1 where it has announced itself.
+    pub fn load_sleepers(&self, pass: &mut ControlPass) -> u64
+        requires table { pass.old.table ≡ self.now.id }
+        ensures pass { pass.new ≡ seeing_sleepers result pass.old }
+    {
+        self.table
+            .shared
+            .load::<SeesSleepers>(&mut pass.seat, SLEEPERS)
     }
 }

@@ -1,6 +1,6 @@
 //! What a seat learns from each step on the control words. These types are for the proofs alone.
 ghost use Rattle.zy_control.specs.View.{gave, newcomer};
-ghost use Rattle.zy_control.specs.Step.{counts, sees_done, sees_stop, stops, enters};
+ghost use Rattle.zy_control.specs.Step.{counts, sees_done, sees_stop, stops, announces, withdraws, sees_sleepers, enters};
 
 use crate::view::View;
 use atomic_table::{Play, Split};
@@ -31,6 +31,27 @@ pub(crate) struct Stops;
 
 impl Play<u8, View> for Stops {
     ghost then = { λ step before found after. stops step.first before found after };
+}
+
+// A fetch-or of sleepers, by which a core announces itself.
+pub(crate) struct Announces;
+
+impl Play<u8, View> for Announces {
+    ghost then = { λ step before found after. announces step.first before found after };
+}
+
+// A fetch-and of sleepers, by which a core withdraws.
+pub(crate) struct Withdraws;
+
+impl Play<u8, View> for Withdraws {
+    ghost then = { λ step before found after. withdraws step.first before found after };
+}
+
+// A load of sleepers.
+pub(crate) struct SeesSleepers;
+
+impl Play<u8, View> for SeesSleepers {
+    ghost then = { λ step before found after. sees_sleepers before found after };
 }
 
 // A load of stop that makes the seat of a watcher.

@@ -11,13 +11,14 @@ pub struct Trace {
     pub steps: u64,
     pub done: Sight,
     pub stop: Sight,
+    pub sleepers: Sight,
 }
 
-/// The role of a seat: the root knows how many seats it gave; a core knows its number, and whether
-/// it has counted itself; a watcher never counts itself.
+/// The role of a seat: the root knows how many seats it gave; a core knows its number, whether it
+/// has counted itself, and whether it has announced itself; a watcher does neither.
 pub enum Role {
     Root(u64),
-    Core(u64, bool),
+    Core(u64, bool, bool),
     Watcher,
 }
 

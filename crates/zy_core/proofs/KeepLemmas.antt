@@ -8,7 +8,7 @@ use Rattle.zy_home.specs.Home.{Homed, HomeStands, all_here, is_settled}
 use Rattle.zy_steal.specs.Steal.{Thief, PassList, AreIdle, SeatOf, seats_of}
 use Rattle.zy_steal.proofs.SeatLemmas.{seats-length}
 use Rattle.zy_control.specs.declared.view.Role.TheVariants.{Core}
-use Rattle.zy_control.specs.View.{has_counted}
+use Rattle.zy_control.specs.View.{has_counted, has_announced}
 use Rattle.zy_core.specs.Core.{Cored, cored, CoreKeeps, identity_of}
 use Rattle.zy_core.specs.Step.{Kin, IsStill}
 
@@ -95,7 +95,7 @@ keeps_on a h t p o most k m few s stands = record {
   stands = stands;
   idle = subst (λ (x : Name × List SeatOf). AreIdle x.0 x.1) (λ i. (sym m.kin.label i, sym s.seats i)) k.idle;
   count = omega (arith, k.count, m.count);
-  number = k.number ∙ ap (λ n. Core n (has_counted a.control.role)) (sym m.kin.core);
+  number = k.number ∙ ap (λ n. Core n (has_counted a.control.role) (has_announced a.control.role)) (sym m.kin.core);
   settled = λ e. m.still (k.settled e);
 }
 

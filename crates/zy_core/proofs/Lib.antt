@@ -4,4 +4,6 @@ pub mod DealLemmas
 pub mod CoreLemmas
 pub mod KeepLemmas
 pub mod TurnLemmas
+pub mod NapLemmas
 pub mod GroupLemmas
+pub mod ItemLemmas

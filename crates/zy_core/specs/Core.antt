@@ -2,15 +2,14 @@
 use Rattle.std.specs.Prelude.{◌≡◌, ℕ, ◌+◌, ◌*◌, ◌<◌, ◌≤◌, List, length, Some, slice_get, true, false}
 use Rattle.atomic_table.specs.Seated.{TableId}
 use Rattle.zy_table.specs.declared.name.Name.{Name}
-use Rattle.zy_table.specs.Name.{name_of}
 use Rattle.zy_rx.specs.Ring.{RingName, Taking}
 use Rattle.zy_shuffle.specs.Pass.{Ringed}
-use Rattle.zy_conn.specs.Block.{Blocked}
+use Rattle.zy_conn.specs.Block.{Blocked, label_of}
 use Rattle.zy_home.specs.Home.{Homed, HomeStands, is_settled, conns_in}
 use Rattle.zy_steal.specs.Order.{other_core}
 use Rattle.zy_steal.specs.Steal.{Thief, PassList, SeatOf, AreIdle, seats_of}
 use Rattle.zy_control.specs.declared.view.Role.TheVariants.{Core}
-use Rattle.zy_control.specs.View.{has_counted}
+use Rattle.zy_control.specs.View.{has_counted, has_announced}
 use Rattle.zy_control.specs.Pass as control
 use Rattle.zy_core.specs.Share.{Sharing}
 
@@ -29,6 +28,10 @@ pub record Cored : Type 0 where
 abbrev pub cored : Homed → Thief → PassList Blocked → Taking → control.Held → ℕ → Cored
 cored home thief passes outlet control turns =
     record { home = home; thief = thief; passes = passes; outlet = outlet; control = control; turns = turns }
+
+-- the core after steps of its pass on the control words, after which the pass is this
+abbrev pub stepped : control.Held → Cored → Cored
+stepped pass c = cored c.home c.thief c.passes c.outlet pass c.turns
 
 -- ---- what each core keeps
 
@@ -51,7 +54,7 @@ pub record CoreKeeps (c : Cored) : Type 0 where
   -- it has published fewer than 2^13 times in each turn
   pub count : c.home.pass.count ≤ c.turns * 8192
   -- its pass on the control words is its own
-  pub number : c.control.role ≡ Core c.home.core (has_counted c.control.role)
+  pub number : c.control.role ≡ Core c.home.core (has_counted c.control.role) (has_announced c.control.role)
   -- a core that has counted itself is settled
   pub settled : has_counted c.control.role ≡ true → is_settled c.home ≡ true
 
@@ -92,5 +95,5 @@ pub record Fits (shared : Sharing) (i : Identity) : Type 0 where
   pub ring : (r : Ringed) → slice_get shared.rings i.core ≡ Some r → i.table ≡ r.id
   pub others : (at : ℕ) (s : SeatOf) (r : Ringed) → slice_get i.seats at ≡ Some s
       → slice_get shared.rings (other_core i.core at) ≡ Some r → s.table ≡ r.id
-  pub store : i.label ≡ name_of shared.store.id
+  pub store : i.label ≡ label_of shared.store.id i.cores
   pub control : i.control ≡ shared.control.id

@@ -2,6 +2,7 @@ pub mod Share
 pub mod Core
 pub mod Steal
 pub mod Turn
+pub mod Nap
 pub mod Round
 pub mod Drive
 pub mod Step

@@ -1,5 +1,5 @@
 -- A turn of a core: its steps, and its answer.
-use Rattle.std.specs.Prelude.{◌≡◌, ◌⊎◌, ℕ, ◌+◌, ◌<◌, ◌≤◌, List, [], length, Bool, true, false, Option, Some, None}
+use Rattle.std.specs.Prelude.{◌≡◌, ◌⊎◌, ℕ, zero, suc, ◌+◌, ◌<◌, ◌≤◌, List, [], length, Bool, true, false, Option, Some, None}
 use Rattle.zy_rx.specs.Ring.{Taking}
 use Rattle.zy_conn.specs.declared.hold_end.HoldEnd.{HoldEnd}
 use Rattle.zy_home.specs.declared.own.Own.{Own}
@@ -8,10 +8,11 @@ use Rattle.zy_home.specs.Home.{Homed, is_settled}
 use Rattle.zy_home.specs.Place.{CollectsTo, OwnsTo}
 use Rattle.zy_steal.specs.declared.looks.Look.{Look}
 use Rattle.zy_steal.specs.declared.looks.Look.TheVariants.{Empty, Raced}
-use Rattle.zy_steal.specs.Steal.{AllLooked}
+use Rattle.zy_steal.specs.Steal.{PassList, AllLooked}
+use Rattle.zy_conn.specs.Block.{Blocked}
 use Rattle.zy_core.specs.declared.turn.Turn.{Turn}
 use Rattle.zy_core.specs.declared.turn.Turn.TheVariants.{Worked, Idle, Settled}
-use Rattle.zy_core.specs.Steal.{Steals}
+use Rattle.zy_core.specs.Steal.{Steals, StealsTo}
 use Rattle.zy_core.specs.Core.{Cored}
 
 -- ---- the steps
@@ -28,9 +29,27 @@ abbrev pub ReceivesTo : Homed → Taking → Homed → Taking → Bool → Type 
 ReceivesTo h o h' o' true = Receives o o'
 ReceivesTo h o h' o' false = (h' ≡ h) × (o'.taken ≡ o.taken) × (o'.known ≡ [])
 
--- blocks were collected, beginning with one of the home as it was; or the ring's collect took nothing
+-- so many blocks were collected, each from the home as the one before left it
+abbrev pub CollectsCount : ℕ → ℕ → Homed → Homed → Type 0
+CollectsCount places zero h h' = h' ≡ h
+CollectsCount places (suc count) h h' =
+    (between : Homed) × CollectsCount places count h between × CollectsTo places between h' true
+
+-- why collecting ended after this number of blocks: the ring's collect took nothing; or there were as many as places
+abbrev pub CollectingEnds : ℕ → ℕ → Homed → Homed → Type 0
+CollectingEnds places count h h' = CollectsTo places h h' false ⊎ ((count ≡ places) × (h' ≡ h))
+
+-- blocks were collected, at least one, until collecting ended
+pub record CollectsSome (places : ℕ) (h h' : Homed) : Type 0 where
+  pub count : ℕ
+  pub last : Homed
+  pub some : 1 ≤ count
+  pub collected : CollectsCount places count h last
+  pub ends : CollectingEnds places count last h'
+
+-- blocks were collected, until collecting ended; or the ring's collect took nothing
 abbrev pub CollectsAll : ℕ → Homed → Homed → Bool → Type 0
-CollectsAll places h h' true = (first : Homed) × CollectsTo places h first true
+CollectsAll places h h' true = CollectsSome places h h'
 CollectsAll places h h' false = CollectsTo places h h' false
 
 -- the answer of a home whose claim took nothing, for this cause
@@ -55,6 +74,23 @@ answer false own looks false = Idle own looks
 abbrev pub places_of : Cored → ℕ
 places_of c = c.home.pass.table.slots
 
+-- a block was claimed from the core's own queue, and no other core was looked at; or none was claimed, for a cause,
+-- and one was stolen, or a claim at every other core took nothing
+abbrev pub ServesTo : ℕ → Homed → Homed → PassList Blocked → PassList Blocked → Type 0
+ServesTo places h h' passes passes' = (ClaimsTo places h h' None × (passes' ≡ passes))
+    ⊎ ((look : Look) × ClaimsTo places h h' (Some look)
+    × ((looks : Option (List (Option Look))) × StealsTo passes passes' looks))
+
+-- the steps that each turn has: items are received, blocks are collected, and one block is claimed or stolen
+pub record HasSteps (before after : Cored) : Type 0 where
+  pub is_received : Bool
+  pub is_collected : Bool
+  pub received : Homed
+  pub collected : Homed
+  pub receives : ReceivesTo before.home before.outlet received after.outlet is_received
+  pub collects : CollectsAll (places_of before) received collected is_collected
+  pub serves : ServesTo (places_of before) collected after.home before.passes after.passes
+
 -- nothing was received, collected, claimed or stolen. A look showed that the outlet knew no item; then the ring's
 -- collect took nothing; then the home's own claim, and one at every other core
 pub record FindsNothing (before after : Cored) (own : Look) (looks : List (Option Look)) : Type 0 where
@@ -71,7 +107,7 @@ HasReceived before after = length before.outlet.taken < length after.outlet.take
 
 -- a block was collected
 abbrev pub HasCollected : Cored → Type 0
-HasCollected before = (first : Homed) × CollectsTo (places_of before) before.home first true
+HasCollected before = (collected : Homed) × CollectsAll (places_of before) before.home collected true
 
 -- a block was claimed from the core's own queue
 abbrev pub HasClaimed : Cored → Cored → Type 0

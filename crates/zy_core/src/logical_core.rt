@@ -1,21 +1,28 @@
 //! One logical core. (A file `core.rt` would be a module with the name of a library.)
-ghost use Rattle.std.specs.Prelude.{◌≡◌, ◌↔◌, ◌+◌, ◌<◌, ◌^◌, true, false, [], Some, slice_get, OnOk, IfOk};
+ghost use Rattle.std.specs.Prelude.{◌≡◌, ◌↔◌, ◌+◌, ◌<◌, ◌^◌, true, false, [], length, Some, slice_get, OnOk, OnErr, IfOk};
 ghost use Rattle.zy_home.specs.Home.{HomeStands, is_settled};
 ghost use Rattle.zy_steal.specs.Steal.{AreIdle, seats_of};
 ghost use Rattle.zy_control.specs.declared.view.Role.TheVariants as roles;
-ghost use Rattle.zy_core.specs.Core.{AreOfOne, CoreKeeps, Fits, cored, identity_of};
-ghost use Rattle.zy_core.specs.Turn.{TurnTo};
+ghost use Rattle.zy_control.specs.View.{has_announced, has_counted};
+ghost use Rattle.zy_control.specs.Pass.{seeing_done, seeing_stop, seeing_sleepers, resting};
+ghost use Rattle.zy_park.specs.Pass.{ringing_each};
+ghost use Rattle.zy_core.specs.Core.{AreOfOne, CoreKeeps, Fits, cored, stepped, identity_of};
+ghost use Rattle.zy_core.specs.Turn.{HasSteps, TurnTo};
+ghost use Rattle.zy_core.specs.Nap.{NapTo, RestTo, rested};
 ghost use Rattle.zy_rx.specs.Feed.{rings_of};
 
+use crate::nap::Nap;
 use crate::shared::Shared;
 use crate::stealing::steal_once;
 use crate::steps::{claim_own, collect_all, receive_all};
 use crate::turn::Turn;
 use std::marker::Model;
+use std::sync::Wait;
 use zy_base::{Gate, NoMemory};
 use zy_conn::Block;
 use zy_control::ControlPass;
 use zy_home::Home;
+use zy_park::{BellPass, Bells};
 use zy_rx::{Feeder, Outlet};
 use zy_steal::{Passes, Victims};
 
@@ -58,7 +65,7 @@ impl Core {
         requires fresh { home.pass.count ≡ 0 }
         requires outlet { outlet.taken ≡ [] }
         requires idle { AreIdle home.pass.label (seats_of passes.items) }
-        requires control { control.role ≡ roles.Core home.core false }
+        requires control { control.role ≡ roles.Core home.core false false }
         ensures value { result ≡ cored home victims passes outlet control 0 }
     {
         // The call tells the prover what the home keeps.
@@ -81,6 +88,7 @@ impl Core {
         requires few { self.old.turns < 2 ^ 48 }
         requires live { self.old.home.refused ≡ false }
         ensures turn { IfOk result (TurnTo self.old self.new) }
+        ensures steps { OnOk result (HasSteps self.old self.new) }
         ensures live { OnOk result (self.new.home.refused ≡ false) }
         ensures same { identity_of self.new ≡ identity_of self.old }
         ensures turns { self.new.turns ≡ self.old.turns + 1 }
@@ -139,6 +147,123 @@ impl Core {
         ensures same { identity_of self.new ≡ identity_of self.old }
     {
         shared.control.is_done(&mut self.control)
+    }
+
+    /// A nap: the core announces itself, takes a turn, and loads done and stop. It rests until it is
+    /// rung if the turn found nothing to do and the run does not end. It ends by withdrawing what it
+    /// announced, also after `NoMemory`. The call may wait.
+    pub fn nap<R: Wait, G: Gate>(
+        &mut self,
+        rt: &R,
+        shared: &Shared,
+        bells: &Bells,
+        pass: &mut BellPass,
+        gate: &G,
+    ) -> Result<Nap, NoMemory>
+        requires fits { Fits shared.now (identity_of self.old) }
+        requires few { self.old.turns < 2 ^ 48 }
+        requires live { self.old.home.refused ≡ false }
+        requires bells { pass.old.bells ≡ bells.now }
+        requires core { pass.old.core ≡ self.old.home.core }
+        ensures nap { IfOk result (NapTo (length shared.now.rings) self.old self.new) }
+        ensures rested { IfOk result (λ nap. pass.new ≡ rested nap pass.old) }
+        ensures kept { OnErr result (pass.new ≡ pass.old) }
+        ensures withdrawn { has_announced self.new.control.role ≡ false }
+        ensures live { OnOk result (self.new.home.refused ≡ false) }
+        ensures same { identity_of self.new ≡ identity_of self.old }
+        ensures turns { self.new.turns ≡ self.old.turns + 1 }
+        ensures still { is_settled self.old.home ≡ true → is_settled self.new.home ≡ true }
+    {
+        self.announce(shared);
+        let nap = self.rest_if_idle(rt, shared, bells, pass, gate);
+        self.withdraw(shared);
+        nap
+    }
+
+    // The turn of a nap, and the rest, once the core has announced itself.
+    fn rest_if_idle<R: Wait, G: Gate>(
+        &mut self,
+        rt: &R,
+        shared: &Shared,
+        bells: &Bells,
+        pass: &mut BellPass,
+        gate: &G,
+    ) -> Result<Nap, NoMemory>
+        requires announced { has_announced self.old.control.role ≡ true }
+        requires fits { Fits shared.now (identity_of self.old) }
+        requires few { self.old.turns < 2 ^ 48 }
+        requires live { self.old.home.refused ≡ false }
+        requires bells { pass.old.bells ≡ bells.now }
+        ensures nap { IfOk result (RestTo (length shared.now.rings) self.old self.new) }
+        ensures rested { IfOk result (λ nap. pass.new ≡ rested nap pass.old) }
+        ensures kept { OnErr result (pass.new ≡ pass.old) }
+        ensures live { OnOk result (self.new.home.refused ≡ false) }
+        ensures same { identity_of self.new ≡ identity_of self.old }
+        ensures turns { self.new.turns ≡ self.old.turns + 1 }
+        ensures still { is_settled self.old.home ≡ true → is_settled self.new.home ≡ true }
+    {
+        let turn = self.turn(shared, gate)?;
+        let done = self.load_done(shared);
+        let stop = self.load_stop(shared);
+        let is_counted = self.is_counted();
+        let nap = Nap::of(turn, is_counted, shared.count(), done, stop);
+        nap.rest(rt, bells, pass);
+        Ok(nap)
+    }
+
+    // Announces that the core rests unless it finds something to do.
+    fn announce(&mut self, shared: &Shared)
+        requires fits { Fits shared.now (identity_of self.old) }
+        ensures value { self.new ≡ stepped (resting true self.new.control.trace.sleepers.value self.old.control) self.old }
+        ensures announced { has_announced self.new.control.role ≡ true }
+    {
+        shared.control.announce(&mut self.control);
+    }
+
+    // Withdraws what it announced.
+    fn withdraw(&mut self, shared: &Shared)
+        requires fits { Fits shared.now (identity_of self.old) }
+        ensures value { self.new ≡ stepped (resting false self.new.control.trace.sleepers.value self.old.control) self.old }
+    {
+        shared.control.withdraw(&mut self.control);
+    }
+
+    // Whether it has counted itself.
+    fn is_counted(&self) -> bool
+        ensures value { result ≡ has_counted self.now.control.role }
+    {
+        self.control.is_counted()
+    }
+
+    // How many cores have counted themselves.
+    fn load_done(&mut self, shared: &Shared) -> u64
+        requires fits { Fits shared.now (identity_of self.old) }
+        ensures value { self.new ≡ stepped (seeing_done result self.old.control) self.old }
+    {
+        shared.control.load_done(&mut self.control)
+    }
+
+    // The word stop.
+    fn load_stop(&mut self, shared: &Shared) -> u64
+        requires fits { Fits shared.now (identity_of self.old) }
+        ensures value { self.new ≡ stepped (seeing_stop result self.old.control) self.old }
+    {
+        shared.control.load_stop(&mut self.control)
+    }
+
+    /// Loads sleepers once, and rings each core whose bit is 1. Returns what it loaded, and takes no
+    /// memory.
+    pub fn call_up(&mut self, shared: &Shared, bells: &Bells, pass: &mut BellPass) -> u64
+        requires fits { Fits shared.now (identity_of self.old) }
+        requires core { pass.old.core ≡ self.old.home.core }
+        requires bells { pass.old.bells ≡ bells.now }
+        requires count { length bells.now ≡ length shared.now.rings }
+        ensures value { self.new ≡ stepped (seeing_sleepers result self.old.control) self.old }
+        ensures rung { pass.new ≡ ringing_each result pass.old }
+    {
+        let sleepers = shared.control.load_sleepers(&mut self.control);
+        bells.ring_each(pass, sleepers);
+        sleepers
     }
 
     /// How many turns it has taken.

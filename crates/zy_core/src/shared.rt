@@ -75,10 +75,17 @@ impl Shared {
         requires few { root.old.given < length self.now.rings }
         ensures succeeds { IsOk result }
         ensures value { IfOk result (λ pass. pass ≡ held root.old.table
-            (Core root.old.given false) root.old.cores untraced) }
+            (Core root.old.given false false) root.old.cores untraced) }
         ensures ok { root.new ≡ rooted root.old.table (root.old.given + 1) root.old.cores }
     {
         self.control.seat(root)
+    }
+
+    // The number of cores.
+    pub(crate) fn count(&self) -> u64
+        ensures value { result ≡ length self.now.rings }
+    {
+        self.rings.count() as u64
     }
 
     /// The rings and the store. Takes no memory.

@@ -1,6 +1,6 @@
 //! The last step of a turn: a block is stolen, held, and given back.
-ghost use Rattle.std.specs.Prelude.{◌≡◌, ◌<◌, ◌+◌, ◌%◌, ◌^◌, length, OnOk, IfOk};
-ghost use Rattle.zy_table.specs.Name.{name_of};
+ghost use Rattle.std.specs.Prelude.{◌≡◌, ◌+◌, ◌%◌, ◌^◌, length, OnOk, IfOk};
+ghost use Rattle.zy_conn.specs.Block.{label_of};
 ghost use Rattle.zy_steal.specs.Steal.{ArePasses, AreIdle, seats_of};
 ghost use Rattle.zy_core.specs.Steal.{StealsTo};
 
@@ -9,8 +9,8 @@ use zy_base::{Gate, NoMemory};
 use zy_conn::Block;
 use zy_steal::{Looks, Passes, Rings, Stolen, Victims};
 
-// Steals once. A block that was taken is held and given back, even if its hold was refused memory;
-// if none was taken, the looks at the other cores are the answer.
+// Steals once. A block that was taken is held by this core and given back, even if its hold was
+// refused memory; if none was taken, the looks at the other cores are the answer.
 pub(crate) fn steal_once<G: Gate>(
     victims: &mut Victims,
     passes: &mut Passes<Block>,
@@ -20,9 +20,9 @@ pub(crate) fn steal_once<G: Gate>(
     core: u32,
 ) -> Result<Option<Looks>, NoMemory>
     requires within { ArePasses rings.now passes.old }
-    requires core { (passes.old.core ≡ victims.old.core) × (core < 64) }
+    requires core { (core ≡ passes.old.core) × (passes.old.core ≡ victims.old.core) }
     requires cores { length rings.now ≡ victims.old.cores }
-    requires idle { AreIdle (name_of store.now.id) (seats_of passes.old.items) }
+    requires idle { AreIdle (label_of store.now.id (length rings.now)) (seats_of passes.old.items) }
     ensures value { IfOk result (StealsTo passes.old passes.new) }
     ensures same { (passes.new.core ≡ passes.old.core) × (seats_of passes.new.items ≡ seats_of passes.old.items) }
     ensures victims { victims.new ≡ record victims.old { calls = (victims.old.calls + 1) % 2 ^ 64 } }

@@ -1,6 +1,6 @@
 //! The first three steps of a turn: items are received, blocks are collected, and one is claimed.
 ghost use Rattle.std.specs.Prelude.{◌≡◌, ◌+◌, ◌<◌, ◌≤◌, ◌^◌, true, false, OnOk, IfOk, is_err};
-ghost use Rattle.zy_table.specs.Name.{name_of};
+ghost use Rattle.zy_conn.specs.Block.{label_of};
 ghost use Rattle.zy_home.specs.Home.{HomeStands, StandsHome, all_here};
 ghost use Rattle.zy_home.specs.Place.{Looked};
 ghost use Rattle.zy_core.specs.Turn.{ReceivesTo, CollectsAll, ClaimsTo};
@@ -14,11 +14,8 @@ use zy_rx::Outlet;
 use zy_shuffle::Ring;
 use zy_steal::Look;
 
-// The most items that a turn takes.
-const ITEMS_AT_ONCE: u32 = 64;
-
-// Takes items and has the home receive them, until none is known or there were 64. Says whether there
-// was one.
+// Has the home receive the next items, until none is known or there were 64. Says whether there was
+// one.
 pub(crate) fn receive_all(
     home: &mut Home,
     outlet: &mut Outlet,
@@ -35,11 +32,9 @@ pub(crate) fn receive_all(
     ensures refused { home.new.refused ≡ is_err result }
     ensures ring { outlet.new.ring ≡ outlet.old.ring }
 {
-    for taken in 0..ITEMS_AT_ONCE {
-        let Some(item) = outlet.take() else {
-            return Ok(taken > 0);
-        };
-        home.receive(ring, item)?;
+    let count = home.receive_all(ring, outlet)?;
+    if count == 0 {
+        return Ok(false);
     }
     Ok(true)
 }
@@ -61,28 +56,12 @@ pub(crate) fn collect_all(home: &mut Home, ring: &Ring<Block>) -> Result<bool, N
     if !home.collect(ring)? {
         return Ok(false);
     }
-    collect_more(home, ring, places)?;
-    Ok(true)
-}
-
-// Collects and settles further blocks, until there is none, or `places` were collected.
-fn collect_more(home: &mut Home, ring: &Ring<Block>, places: u32) -> Result<(), NoMemory>
-    requires table { home.old.pass.table ≡ ring.now.id }
-    requires few { home.old.pass.count ≤ 2 ^ 62 }
-    requires live { home.old.refused ≡ false }
-    requires places { places ≤ 4096 }
-    ensures stands { OnOk result (StandsHome home.old home.new) }
-    ensures still { IsStill home.old home.new }
-    ensures kin { Kin home.old home.new × (home.new.ended ≡ home.old.ended) }
-    ensures count { home.new.pass.count ≤ home.old.pass.count + 4095 }
-    ensures refused { home.new.refused ≡ is_err result }
-{
     for _ in 1..places {
         if !home.collect(ring)? {
-            return Ok(());
+            return Ok(true);
         }
     }
-    Ok(())
+    Ok(true)
 }
 
 // Claims once at home. A block that was taken is held and settled; where none was, its cause is the
@@ -96,7 +75,7 @@ pub(crate) fn claim_own<G: Gate>(
     requires table { home.old.pass.table ≡ ring.now.id }
     requires few { home.old.pass.count < 2 ^ 63 }
     requires live { home.old.refused ≡ false }
-    requires store { home.old.pass.label ≡ name_of store.now.id }
+    requires store { home.old.pass.label ≡ label_of store.now.id home.old.cores }
     ensures value { IfOk result (ClaimsTo home.old.pass.table.slots home.old home.new) }
     ensures stands { OnOk result (StandsHome home.old home.new) }
     ensures still { IsStill home.old home.new }

@@ -10,6 +10,7 @@ use Rattle.zy_base.specs.History.{AreHistories}
 use Rattle.zy_capture.specs.Capture.{connection_limit}
 use Rattle.zy_journal.specs.Journal.{IsEntry, IsHold}
 use Rattle.zy_conn.specs.Hold.{EachIsHold}
+use Rattle.zy_finish.specs.Finish.{IsHoldBy}
 use Rattle.zy_run.specs.Run.{AreOfConnections}
 use Rattle.zy_finish.specs.Left.{AreOf}
 use Rattle.zy_setup.proofs.ListLemmas.{all_append}
@@ -78,21 +79,33 @@ merged_entries shards count histories es few_shards few all merge below stamps c
 -- ---- holds
 
 -- holds of a connection are of it alone
-pub holds_of : (conn other : ℕ) (hs : List Hold) → EachIsHold other hs → other ≡ conn → AreOf conn hs
-holds_of conn other [] each same = tt
-holds_of conn other (h ∷ hs) each same = (each.0.conn_is ∙ same, holds_of conn other hs each.1 same)
+pub holds_of : (cores conn other : ℕ) (hs : List Hold) → EachIsHold cores other hs → other ≡ conn → AreOf conn hs
+holds_of cores conn other [] each same = tt
+holds_of cores conn other (h ∷ hs) each same = (each.0.conn_is ∙ same, holds_of cores conn other hs each.1 same)
 
 -- they are within the bounds of the journal
-pub holds_within : (conn other : ℕ) (hs : List Hold) → EachIsHold other hs → other ≡ conn → conn < connection_limit → AllByRecursion IsHold hs
-holds_within conn other [] each same few = tt
-holds_within conn other (h ∷ hs) each same few = (
+pub holds_within : (cores conn other : ℕ) (hs : List Hold) → cores ≤ 64 → EachIsHold cores other hs → other ≡ conn → conn < connection_limit → AllByRecursion IsHold hs
+holds_within cores conn other [] most each same few = tt
+holds_within cores conn other (h ∷ hs) most each same few = (
   record {
     few_connections = (let is = each.0.conn_is in omega arith);
-    few_cores = each.0.core_is;
+    few_cores = (let is = each.0.core_is in omega arith);
     some_commands = (let some = each.0.some in omega arith);
     few_commands = each.0.limit;
   },
-  holds_within conn other hs each.1 same few,
+  holds_within cores conn other hs most each.1 same few,
+)
+
+-- they are by the cores that there are
+pub holds_by : (cores all other : ℕ) (hs : List Hold) → cores ≡ all → EachIsHold cores other hs → AllByRecursion (IsHoldBy all) hs
+holds_by cores all other [] same each = tt
+holds_by cores all other (h ∷ hs) same each = (
+  record {
+    core_is = (let is = each.0.core_is in omega arith);
+    some = each.0.some;
+    limit = each.0.limit;
+  },
+  holds_by cores all other hs same each.1,
 )
 
 -- the holds of connections from one on

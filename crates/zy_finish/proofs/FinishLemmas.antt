@@ -47,12 +47,13 @@ use Rattle.zy_home.specs.Home.{Homed, Keeps}
 use Rattle.zy_finish.specs.declared.rest.Rest.{Rest}
 use Rattle.zy_finish.specs.declared.finishing.Finished.{Finished}
 use Rattle.zy_finish.specs.Over.{AreOver}
-use Rattle.zy_finish.specs.Finish.{HaveReceived, IsFinished}
+use Rattle.zy_finish.specs.Finish.{HaveReceived, IsFinished, IsHoldBy}
 use Rattle.zy_finish.specs.Part.{session_ends}
-use Rattle.zy_finish.specs.Rest.{rest_of, place_of, rest_at, blocks_left, ends_left, block_of, end_of, calls_in, holds_in, texts_in, ends_in, left_of, joined_to, IsKept, AreMerged}
-use Rattle.zy_finish.proofs.HomeLemmas.{IsHeld, is_held}
+use Rattle.zy_finish.specs.Rest.{rest_of, place_of, rest_at, blocks_left, ends_left, block_of, end_of, calls_in, holds_in, texts_in, ends_in, left_of, joined_to, IsKept, IsThere, AreMerged}
+use Rattle.zy_finish.proofs.HomeLemmas.{IsHeld, is_held, is_there}
 use Rattle.zy_finish.proofs.CommandLemmas.{entries_within}
-use Rattle.zy_finish.proofs.EntryLemmas.{merged_entries, merged_fit, holds_of, holds_within, all_holds_within}
+use Rattle.zy_finish.proofs.GatherLemmas as gather
+use Rattle.zy_finish.proofs.EntryLemmas.{merged_entries, merged_fit, holds_of, holds_within, holds_by, all_holds_within}
 
 -- ---- the passes that were joined
 
@@ -149,7 +150,7 @@ module _ (store : TableId) (version count : ℕ) (homes : List Homed) (over : Ar
       calls_are = ap dues_of calls_same ∙ end.dues ∙ (λ i. due (h.table_is i).slots (h.conn_is i) (commands_over (streams i)));
       texts_are = ap texts_in end_is ∙ end.texts ∙ (λ i. texts_of (commands_over (streams i)) (sym calls_same i));
       ends_are = ends_are;
-      holds_are = subst (AreOf conn) (sym holds_same) (holds_of conn h.block.work.conn h.block.holds k.holds.each conn_same);
+      holds_are = subst (AreOf conn) (sym holds_same) (holds_of h.block.cores conn h.block.work.conn h.block.holds k.holds.each conn_same);
       held = ap held_in holds_same ∙ k.holds.all ∙ finished;
     }
 
@@ -157,7 +158,7 @@ module _ (store : TableId) (version count : ℕ) (homes : List Homed) (over : Ar
     pub are_holds : AllByRecursion IsHold (holds_in (block_of rests conn))
     are_holds =
         let few = over.connections in
-        subst (AllByRecursion IsHold) (sym holds_same) (holds_within conn h.block.work.conn h.block.holds k.holds.each conn_same (omega arith))
+        subst (AllByRecursion IsHold) (sym holds_same) (holds_within h.block.cores conn h.block.work.conn h.block.holds k.holds.few k.holds.each conn_same (omega arith))
 
     -- its commands are not more than can be counted
     pub few_commands : length (commands_in records conn) ≤ 2 ^ 40
@@ -230,3 +231,23 @@ module _ (store : TableId) (shards version count : ℕ) (homes : List Homed) (ov
     outputs = sessions ∙ sent_is_outputs shards count records (left_of version rests) (joined_to rests count) f.journal.entries are_served;
     lawful = lawful;
   }
+
+-- ---- the cores of holds
+
+module _ (store : TableId) (version count : ℕ) (homes : List Homed) (over : AreOver store count homes) (keeps : AllByRecursion Keeps homes)
+    (rests : List Rest) (are : rests ≡ map rest_of homes)
+    (kept : (conn : ℕ) → conn < count → (b : Blocked) → block_of rests conn ≡ Some b → IsKept b) where
+  -- the holds of a connection are by the cores that there are
+  held_by : (conn : ℕ) → conn < count → AllByRecursion (IsHoldBy (length homes)) (holds_in (block_of rests conn))
+  held_by conn within =
+      let there : IsThere store rests conn = is_there store count homes over keeps conn within rests are in
+      let is : block_of rests conn ≡ Some there.block = gather.block_is store rests conn there in
+      let size : length rests ≡ length homes = ap (λ (l : List Rest). length l) are ∙ length-map homes rest_of in
+      subst (AllByRecursion (IsHoldBy (length homes))) (sym (ap holds_in is))
+      (holds_by there.block.cores (length homes) there.block.work.conn there.block.holds (there.cores_is ∙ size) (kept conn within there.block is).holds.each)
+
+  -- and so are all holds
+  pub all_held_by : (f : Finished) → f.journal.holds ≡ all_holds count (left_of version rests) → AllByRecursion (IsHoldBy (length homes)) f.journal.holds
+  all_held_by f holds =
+      subst (AllByRecursion (IsHoldBy (length homes))) (sym holds)
+      (all_holds_within (IsHoldBy (length homes)) (λ conn. (left_of version rests conn).holds) 0 count (λ conn least within. held_by conn (omega arith)))

@@ -5,7 +5,7 @@ use Rattle.std.proofs.Common.{◌≡◌, ℕ, zero, suc, ◌<◌, List, [], ◌�
 use Rattle.std.proofs.lemmas.Option.{slice_get-map, slice_get_within}
 use Rattle.std.proofs.lemmas.List.{length-map}
 use Rattle.atomic_table.specs.Seated.{TableId}
-use Rattle.zy_table.proofs.NameLemmas.{same_id}
+use Rattle.zy_conn.proofs.LabelLemmas.{same_store, same_cores}
 use Rattle.zy_rx.specs.Flow.{home_of}
 use Rattle.zy_conn.specs.Work.{Mark}
 use Rattle.zy_conn.specs.Block.{Blocked}
@@ -78,6 +78,7 @@ pub record IsHeld (store : TableId) (count : ℕ) (homes : List Homed) (conn : �
   pub mark : mark_in block ≡ due_mark link
   pub idle : IsIdle block.work link
   pub table_is : block.work.table ≡ store
+  pub cores_is : block.cores ≡ length homes
 
 module _ (store : TableId) (count : ℕ) (homes : List Homed) (over : AreOver store count homes) (keeps : AllByRecursion Keeps homes) (conn : ℕ) (within : conn < count) where
   held_at : (h : Homed) → slice_get homes (home_of (length homes) conn) ≡ Some h → IsHeld store count homes conn
@@ -102,7 +103,8 @@ module _ (store : TableId) (count : ℕ) (homes : List Homed) (over : AreOver st
         conn_is = l.conn_is;
         mark = at.0;
         idle = at.1;
-        table_is = same_id b.block.work.table store ((k.here place b.block b.slot).1 ∙ o.label);
+        table_is = same_store b.block.work.table store b.block.cores (length homes) ((k.here place b.block b.slot).1 ∙ o.label);
+        cores_is = same_cores b.block.work.table store b.block.cores (length homes) ((k.here place b.block b.slot).1 ∙ o.label);
       }
 
   -- a connection below the count is held by its home
@@ -122,4 +124,5 @@ module _ (store : TableId) (count : ℕ) (homes : List Homed) (over : AreOver st
         end_there = ap (λ n. slice_get (map ended_of h.home.links) (place_of n conn)) size ∙ slice_get-map ended_of h.home.links (place_of (length homes) conn) ∙ ap (option_map ended_of) h.link_there;
         conn_is = ap (λ (m : Mark). m.0) h.mark ∙ h.conn_is;
         table_is = h.table_is;
+        cores_is = h.cores_is ∙ sym size;
       }

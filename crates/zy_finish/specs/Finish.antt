@@ -1,6 +1,7 @@
 -- What a run leaves: its journal, and its outputs.
-use Rattle.std.specs.Prelude.{◌≡◌, ℕ, List, None, Some, slice_get}
+use Rattle.std.specs.Prelude.{◌≡◌, ℕ, ◌<◌, ◌≤◌, List, None, Some, slice_get}
 use Rattle.std.specs.List.{AllByRecursion}
+use Rattle.zy_base.specs.declared.hold.Hold.{Hold}
 use Rattle.zy_base.specs.Bounds.{FitsEntry}
 use Rattle.zy_base.specs.Order.{IsOrdered}
 use Rattle.zy_capture.specs.declared.record.Record.{Record}
@@ -18,6 +19,12 @@ use Rattle.zy_finish.specs.declared.finishing.Finished.{Finished}
 abbrev pub HaveReceived : List Homed → List Record → Type 0
 HaveReceived homes records = (core : ℕ) (h : Homed) → slice_get homes core ≡ Some h
     → HomeStands h (offered_to h.cores h.core records)
+
+-- one of this number of cores held a connection, and finished 1 to 64 of its commands
+pub record IsHoldBy (cores : ℕ) (hold : Hold) : Type 0 where
+  pub core_is : hold.core < cores
+  pub some : 1 ≤ hold.count
+  pub limit : hold.count ≤ 64
 
 -- the result of a run on `shards` shards of the records of a capture
 pub record IsFinished (shards version count : ℕ) (records : List Record) (finished : Finished) : Type 0 where

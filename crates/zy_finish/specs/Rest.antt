@@ -109,13 +109,14 @@ pub record IsThere (store : TableId) (rests : List Rest) (conn : ℕ) : Type 0 w
   pub end_there : slice_get rest.ends (place_of (length rests) conn) ≡ Some end
   pub conn_is : block.work.conn ≡ conn
   pub table_is : block.work.table ≡ store
+  pub cores_is : block.cores ≡ length rests
 
 -- ---- what is gathered
 
 -- the rule of a block that was taken apart
 pub record IsKept (block : Blocked) : Type 0 where
   pub work : Kept block.work
-  pub holds : AreHolds block.work.conn block.work.finished block.holds
+  pub holds : AreHolds block.cores block.work.conn block.work.finished block.holds
 
 -- the calls of the connections below this one, the last one first
 abbrev pub joined_to : List Rest → ℕ → Joined

@@ -1,12 +1,13 @@
 //! Taking homes and the store apart when all is served.
-ghost use Rattle.std.specs.Prelude.{◌≡◌, ◌⊎◌, ℕ, List, true, IfOk};
+ghost use Rattle.std.specs.Prelude.{◌≡◌, ◌⊎◌, ℕ, List, true, length, IfOk};
+ghost use Rattle.std.specs.List.{AllByRecursion};
 ghost use Rattle.zy_table.specs.Member.{is_in};
 ghost use Rattle.zy_capture.specs.declared.record.Record.{Record};
 ghost use Rattle.zy_capture.specs.Capture.{IsCapture};
 ghost use Rattle.mc_store.specs.Joined.{is_joined};
 ghost use Rattle.mc_store.specs.Root.{IsRootOf};
 ghost use Rattle.zy_finish.specs.Over.{AreOver};
-ghost use Rattle.zy_finish.specs.Finish.{HaveReceived, IsFinished};
+ghost use Rattle.zy_finish.specs.Finish.{HaveReceived, IsFinished, IsHoldBy};
 ghost use Rattle.zy_finish.specs.Rest.{AreMerged};
 
 use crate::gathered::Gathered;
@@ -44,6 +45,7 @@ pub fn finish(
     ensures finished { IfOk result (λ finished. (records : List Record) → IsCapture version count records
         → HaveReceived homes.items records
         → IsFinished store.shards version count records finished) }
+    ensures held { IfOk result (λ finished. AllByRecursion (IsHoldBy (length homes.items)) finished.journal.holds) }
 {
     // Does nothing. The call tells the prover that the shards are the slots of the table, at most 256.
     let _shards = store.shards();

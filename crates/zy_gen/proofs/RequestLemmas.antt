@@ -2,7 +2,7 @@
 use Rattle.std.proofs.Common.{◌≡◌, ℕ, zero, suc, ◌+◌, ◌%◌, ◌^◌, ◌<◌, ◌≤◌, Bool, true, false, List, [], ◌∷◌, ◌++◌, length, refl, sym, ap, ◌∙◌, arith, append_assoc, append-nil, length-append}
 use Rattle.std.specs.Prelude.{◌&&◌, None, Some, if◌then◌else◌, option_map, codes, decimal}
 use Rattle.std.specs.List.{AllByRecursion, list_all}
-use Rattle.std.proofs.lemmas.Bool.{le-leb, lt-ltb}
+use Rattle.std.proofs.lemmas.Bool.{le-leb}
 use Rattle.std.proofs.lemmas.Fmt.{length-decimal-le}
 use Rattle.zy_base.specs.Number.{number_of}
 use Rattle.zy_base.proofs.NumberLemmas.{number_of-decimal}
@@ -10,7 +10,8 @@ use Rattle.mc_parse.specs.declared.verb.Verb.{Verb}
 use Rattle.mc_parse.specs.declared.verb.Verb.TheVariants as Verbs
 use Rattle.mc_parse.specs.declared.error_line.ErrorLine.TheVariants as Errors
 use Rattle.mc_parse.specs.Arity.{Following, following}
-use Rattle.mc_parse.specs.Number.{small_number_of, below, is_exptime}
+use Rattle.mc_parse.specs.Number.{small_number_of, is_exptime}
+use Rattle.mc_parse.proofs.NumberLemmas.{small-found}
 use Rattle.mc_parse.specs.Form.{stores, gets, deletes, counts, asks, check, find, form_of, is_key, sizes, store_ask}
 use Rattle.zy_gen.specs.declared.request.Request.{Request}
 use Rattle.zy_gen.specs.declared.request.Request.TheVariants.{Get, GetMany, Set, SetTen, Incr, Append, Delete}
@@ -21,7 +22,7 @@ use Rattle.zy_gen.proofs.SolidLemmas.{word-decimal, word-key}
 -- ---- numbers and keys
 
 small_decimal : (n : ℕ) → n < 2 ^ 32 → small_number_of (decimal n) ≡ Some n
-small_decimal n small = ap (below (2 ^ 32)) (number_of-decimal n (omega arith)) ∙ ap (λ b. if b then Some n else None) (lt-ltb n (2 ^ 32) small)
+small_decimal n small = small-found (decimal n) n (number_of-decimal n (omega arith)) small
 
 key_short : (conn item : ℕ) → conn < 4096 → is_key (key conn item) ≡ true
 unfolding key

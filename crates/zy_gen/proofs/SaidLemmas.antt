@@ -5,6 +5,7 @@ use Rattle.std.specs.Prelude.{None}
 use Rattle.mc_parse.specs.Form.{Ask, asks, form_of, line_form}
 use Rattle.mc_parse.specs.Need.{need, need_for, ask_need}
 use Rattle.mc_parse.specs.Plain.{IsOwnCommand, IsOwnAsk, IsOwnForm}
+use Rattle.mc_parse.proofs.MetaLemmas.{asking_form}
 use Rattle.zy_frame.specs.Line.{first_line, chomped}
 use Rattle.zy_frame.specs.Frame.{IsFrameText, frame_of, frame_in, frame_by, command_of}
 use Rattle.zy_frame.proofs.BoundLemmas.{frame_own}
@@ -28,7 +29,7 @@ module _ (conn : ℕ) (text : List ℕ) (says : Says conn text) (few : length te
 
   form_is : line_form line ≡ asks says.ask says.quiet
   unfolding line
-  form_is = ap form_of (words-spoken says.name says.words says.solid) ∙ says.form
+  form_is = asking_form line says.ask says.quiet (ap form_of (words-spoken says.name says.words says.solid) ∙ says.form)
 
   need_is : need (chomped (line ++ 13 ∷ [])) ≡ ask_need says.ask
   unfolding need

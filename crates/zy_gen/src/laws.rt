@@ -39,7 +39,7 @@ pub fn generated_traffic_has_its_commands()
 {}
 
 /// The connections of generated traffic are apart: no key is called by two of them, and no command
-/// is `gets`, `cas` or `flush_all`.
+/// is `gets`, `cas`, `flush_all` or `stats`.
 pub fn generated_traffic_is_apart()
     ensures value { (number connections commands : ℕ) → IsTraffic number connections commands
         → AreApart connections (commands_in (records_of number connections commands)) }

@@ -1,13 +1,15 @@
 -- When nothing is left to be done for a connection.
 use Rattle.std.specs.Prelude.{◌||◌, nat_lt}
-use Rattle.std.proofs.Common.{◌≡◌, ◌≢◌, ℕ, ◌+◌, ◌≤◌, List, [], ◌∷◌, ◌++◌, length, false, refl, sym, ap, ◌∙◌, arith, append-nil}
+use Rattle.std.proofs.Common.{◌≡◌, ◌≢◌, ◌+◌, ◌≤◌, List, [], ◌∷◌, ◌++◌, length, false, refl, sym, ap, ◌∙◌, arith, append-nil}
 use Rattle.std.proofs.lemmas.Bool.Decides.{nat_tests}
 use Rattle.zy_frame.specs.declared.frame_kind.FrameKind.{FrameKind}
 use Rattle.zy_conn.specs.Ring.{EventInlet}
 use Rattle.zy_conn.specs.Work.{Start, idle, raw, going, Worked, is_begun, has_event}
+use Rattle.zy_conn.specs.Block.{Blocked}
 use Rattle.zy_home.specs.Link.{Link}
 use Rattle.zy_home.specs.Offer.{IsFilled}
 use Rattle.zy_home.specs.Idle.{IsIdle}
+use Rattle.zy_home.specs.Place.{MeetsInlet}
 
 none_known : (frames : List FrameKind) → nat_lt 0 (length frames) ≡ false → frames ≡ []
 none_known [] e = refl
@@ -40,3 +42,11 @@ settled_idle w m a b taken none batch same finished all sent room filled =
       waiting = waiting_gone taken m.waiting a b room filled (sent ∙ is_taken ∙ same);
       finished = finished;
     }
+
+-- ---- what is settled
+
+-- a block whose batch was taken, and which then met its inlet twice
+pub met_twice : (a b c d : Blocked) → b ≡ record a { work = record a.work { shown = a.work.finished; batch = [] } } → c ≡ record b { work = record b.work { known = c.work.known } }
+    → d ≡ record c { work = record c.work { known = d.work.known } } → MeetsInlet a d
+met_twice a b c d taken met again =
+    again ∙ ap (λ (z : Blocked). record z { work = record z.work { known = d.work.known } }) (met ∙ ap (λ (z : Blocked). record z { work = record z.work { known = c.work.known } }) taken)

@@ -5,17 +5,16 @@ use mathlib.Core.Logic.{dite}
 use native.Mathlib.Decide.{ℕ_discrete}
 use Rattle.std.proofs.lemmas.Option.{slice_get-get_or}
 use Rattle.zy_table.specs.Member.{is_in}
-use Rattle.zy_table.specs.Name.{name_of}
 use Rattle.zy_table.proofs.SliceLemmas.{set_there}
 use Rattle.zy_table.proofs.MemberLemmas.{in_cons, in_front}
 use Rattle.zy_shuffle.specs.Hand.{marked}
 use Rattle.zy_shuffle.specs.Pass.{Held, Joined}
 use Rattle.zy_shuffle.proofs.HandLemmas.{marked_else}
-use Rattle.zy_conn.specs.Block.{Blocked}
+use Rattle.zy_conn.specs.Block.{Blocked, label_in}
 use Rattle.zy_home.specs.Link.{Link}
 use Rattle.zy_home.specs.Idle.{due_mark, mark_in}
 use Rattle.zy_home.specs.Home.{Homed, Keeps, SameHome, IsAt, all_here}
-use Rattle.zy_home.specs.Place.{IsOut, label_in, with_pass}
+use Rattle.zy_home.specs.Place.{IsOut, with_pass}
 use Rattle.zy_home.specs.Turn.{Turns}
 use Rattle.zy_home.proofs.TurnLemmas.{at_else, turned_keeps}
 use Rattle.zy_home.proofs.SettleLemmas.{same_turns}
@@ -150,14 +149,14 @@ not_joined h w n p b k j size here =
 -- ---- a block that came is put back
 
 -- memory was refused with a block out: it was put into its slot, with the mark and the label that it has
-pub put_back : (h : Homed) (k : Keeps h) (p : ℕ) (b b' : Blocked) (x : Option Blocked) (o : IsOut h p b) → b'.work.table ≡ b.work.table → x ≡ Some b' → Keeps (record h { blocks = set h.blocks p x; refused = true })
-put_back h k p b b' x o table filled =
+pub put_back : (h : Homed) (k : Keeps h) (p : ℕ) (b b' : Blocked) (x : Option Blocked) (o : IsOut h p b) → label_in b' ≡ label_in b → x ≡ Some b' → Keeps (record h { blocks = set h.blocks p x; refused = true })
+put_back h k p b b' x o label filled =
     let t : Turns h p x o.link o.link h.pass true = record {
       there = o.there;
       conn = refl;
       pass = same_turns p h.pass h.pass refl;
       live = λ e. absurd (cc);
       at = λ e. absurd (cc);
-      here = λ c e. let is : b' ≡ c = cc in (o.hand, ap label_in (sym is) ∙ ap name_of table ∙ o.label);
+      here = λ c e. let is : b' ≡ c = cc in (o.hand, ap label_in (sym is) ∙ label ∙ o.label);
     } in
     subst (λ ls. Keeps (record h { blocks = set h.blocks p x; links = ls; refused = true })) (set_there h.links p o.link o.there) (turned_keeps h p x o.link o.link h.pass true t k)

@@ -12,9 +12,8 @@ use Rattle.zy_shuffle.specs.Pass.{Held, HasAll}
 use Rattle.zy_conn.specs.Ring.{EventInlet}
 use Rattle.zy_conn.specs.Work.{texts_all, texts_taken}
 use Rattle.zy_calls.specs.Output.{Output}
-use Rattle.zy_table.specs.Name.{name_of}
 use Rattle.zy_home.proofs.JoinLemmas.{some_there}
-use Rattle.zy_conn.specs.Block.{Blocked}
+use Rattle.zy_conn.specs.Block.{Blocked, label_in}
 use Rattle.zy_home.specs.Link.{Link, IsFresh, conn_of}
 use Rattle.zy_home.proofs.LinkLemmas.{stands_fresh}
 use Rattle.zy_home.specs.Own.{own_conns}
@@ -141,7 +140,7 @@ module _ (core cores count : ℕ) (pass : Held Blocked) (blocks : List Blocked) 
     here = λ p b e.
         let s = slot_at blocks p (Some b) e in
         let same : s.0 ≡ b = (let one = s.2 in cc) in
-        (hand_at p s.0 s.1, ap (λ (z : Blocked). name_of z.work.table) (sym same) ∙ (new_is p s.0 s.1).labelled ∙ ap (λ (v : Held Blocked). v.label) (sym is_pass));
+        (hand_at p s.0 s.1, ap label_in (sym same) ∙ (new_is p s.0 s.1).labelled ∙ ap (λ (v : Held Blocked). v.label) (sym is_pass));
     each = λ live p x l eb el. let s = slot_at blocks p x eb in subst (IsAt pass p l) (sym s.2) (is_at p s.0 l s.1 el);
   }
 

@@ -9,12 +9,12 @@ use Rattle.zy_shuffle.specs.Pass.{Held, after_publish}
 use Rattle.zy_shuffle.proofs.HandLemmas.{marked_here, marked_else}
 use Rattle.zy_conn.specs.Ring.{EventInlet}
 use Rattle.zy_conn.specs.Work.{has_event}
-use Rattle.zy_conn.specs.Block.{Blocked}
+use Rattle.zy_conn.specs.Block.{Blocked, label_in}
 use Rattle.zy_home.specs.Link.{Link, StandsOn, conn_of}
 use Rattle.zy_home.specs.Offer.{WaitsBehind, WaitsFull}
 use Rattle.zy_home.specs.Idle.{IsIdle, due_mark, mark_in}
 use Rattle.zy_home.specs.Home.{Homed, Keeps, SameHome, StandsHome, IsAt, IsHere}
-use Rattle.zy_home.specs.Place.{IsOut, Settles, PutsBack, SameHand, label_in}
+use Rattle.zy_home.specs.Place.{IsOut, KnowsAll, Settles, PutsBack, SameHand}
 use Rattle.zy_home.specs.Turn.{IsDue, IsSettled, IsPutBack, IsPlace, IsFed, IsUnfed, PassTurns, Turns, turned}
 use Rattle.zy_home.proofs.TurnLemmas.{turned_keeps, turned_same, turned_stands}
 
@@ -46,8 +46,8 @@ same_turns p v w is =
 
 module _ (h : Homed) (p : ℕ) (l m : Link) (w : Held Blocked) (x : Option Blocked) (r : Bool) (there : slice_get h.links p ≡ Some l) (conn : conn_of m ≡ conn_of l) where
   -- the block was settled
-  pub settled_turns : (r ≡ false → h.refused ≡ false) → is_in p h.pass.hand ≡ true → IsSettled p m h.pass w x → Turns h p x l m w r
-  settled_turns live hand s = go (has_event s.block.work) refl
+  pub settled_turns : (given : Blocked) → (r ≡ false → h.refused ≡ false) → is_in p h.pass.hand ≡ true → IsSettled p given m h.pass w x → Turns h p x l m w r
+  settled_turns given live hand s = go (has_event s.block.work) refl
     where
       out : (w ≡ after_publish p s.block h.pass w.trace) × (x ≡ None) → Turns h p x l m w r
       out is = record {
@@ -86,11 +86,13 @@ module _ (h : Homed) (p : ℕ) (l m : Link) (w : Held Blocked) (x : Option Block
         (ap (λ (z : Held Blocked). is_in p z.hand) s.pass_is ∙ hand, ap label_in (sym same) ∙ s.label ∙ ap (λ (z : Held Blocked). z.label) (sym s.pass_is));
   }
 
-  pub settles : IsSettled p m h.pass w x → Settles p h (turned h p x m w r)
-  settles s = record {
+  pub settles : (given : Blocked) → IsSettled p given m h.pass w x → Settles p given h (turned h p x m w r)
+  settles given s = record {
     block = s.block;
+    met = s.met;
     event = λ e. let is = s.event e in (is.0, ap (set h.blocks p) is.1);
     idle = λ e. let is = s.idle e in (is.0, ap (set h.blocks p) is.1);
+    knows = λ n e. subst (λ z. KnowsAll z s.block) (get_set_same h.links p m n e) s.knows;
     behind = λ n e. subst (λ z. WaitsBehind z s.block) (get_set_same h.links p m n e) s.behind;
   }
 
@@ -111,7 +113,7 @@ module _ (h : Homed) (p : ℕ) (l m : Link) (w : Held Blocked) (x : Option Block
 
   -- an item was taken in
   pub fed_turns : (r ≡ false → h.refused ≡ false) → Keeps h → (x0 : Option Blocked) → slice_get h.blocks p ≡ Some x0 → IsFed p l m h.pass w x0 x → Turns h p x l m w r
-  fed_turns live k (Some b) slot s = settled_turns live (k.here p b slot).0 s
+  fed_turns live k (Some b) slot s = settled_turns b live (k.here p b slot).0 s
   fed_turns live k None slot s = away_turns live k slot s.2 s.0 s.1
 
   unfed_away : r ≡ true → w ≡ h.pass → x ≡ None → Turns h p x l m w r
@@ -163,8 +165,8 @@ module _ (h : Homed) (k : Keeps h) (p : ℕ) (b : Blocked) (o : IsOut h p b) (l 
   pub out_due : IsDue h.pass p l b
   out_due = let e : Some o.link ≡ Some l = sym o.there ∙ out_there in let is : o.link ≡ l = cc in record { hand = o.hand; mark = o.mark ∙ ap due_mark is; label = o.label }
 
-  pub out_settled : (r : Bool) → (r ≡ false → h.refused ≡ false) → IsSettled p m h.pass w x → Stepped h (turned h p x m w r) l m
-  out_settled r live s = stepped h p x l m w r k (settled_turns h p l m w x r out_there conn live o.hand s)
+  pub out_settled : (r : Bool) → (r ≡ false → h.refused ≡ false) → IsSettled p b m h.pass w x → Stepped h (turned h p x m w r) l m
+  out_settled r live s = stepped h p x l m w r k (settled_turns h p l m w x r out_there conn b live o.hand s)
 
   pub out_back : IsPutBack h.pass w x → Stepped h (turned h p x m w true) l m
   out_back s = stepped h p x l m w true k (back_turns h p l m w x true out_there conn refl o.hand s)

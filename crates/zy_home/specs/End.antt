@@ -2,8 +2,7 @@
 use Rattle.std.specs.Prelude.{◌≡◌, ℕ, List, [], ◌∷◌, Option, Some, None}
 use Rattle.zy_calls.specs.Output.{Output}
 use Rattle.zy_table.specs.declared.name.Name.{Name}
-use Rattle.zy_table.specs.Name.{name_of}
-use Rattle.zy_conn.specs.Block.{Blocked}
+use Rattle.zy_conn.specs.Block.{Blocked, label_in}
 use Rattle.zy_home.specs.Link.{Link}
 
 -- the blocks that are in these slots
@@ -25,6 +24,6 @@ ended output ends = record { output = output; ends = ends }
 abbrev pub ended_of : Link → Ended
 ended_of l = ended l.output l.ends
 
--- the block's store has this label
+-- the block has this label
 abbrev pub HasLabel : Name → Blocked → Type 0
-HasLabel label block = name_of block.work.table ≡ label
+HasLabel label block = label_in block ≡ label

@@ -1,12 +1,11 @@
 -- What contracts see of a home, what each home keeps, and which items it may have received.
 use Rattle.std.specs.Prelude.{◌≡◌, ℕ, ◌+◌, ◌<◌, ◌≤◌, List, [], ◌∷◌, ◌++◌, length, map, Bool, true, false, ◌&&◌, not, Option, Some, None, slice_get, is_some}
-use Rattle.zy_table.specs.Name.{name_of}
 use Rattle.zy_table.specs.Member.{is_in}
 use Rattle.zy_rx.specs.declared.rx.Rx.{Rx}
 use Rattle.zy_rx.specs.Session.{sessions_of}
 use Rattle.zy_shuffle.specs.Hand.{marked}
 use Rattle.zy_shuffle.specs.Pass.{Held}
-use Rattle.zy_conn.specs.Block.{Blocked}
+use Rattle.zy_conn.specs.Block.{Blocked, label_in}
 use Rattle.zy_home.specs.Link.{Link, LinkStands, conn_of}
 use Rattle.zy_home.specs.Idle.{IsIdle, due_mark, mark_in}
 use Rattle.zy_home.specs.Own.{own_conns}
@@ -61,7 +60,7 @@ IsAt pass place link None =
 
 -- a block in the hand: its place is in the hand of the pass, and it has the ring's label
 abbrev pub IsHere : Held Blocked → ℕ → Blocked → Type 0
-IsHere pass place block = (is_in place pass.hand ≡ true) × (name_of block.work.table ≡ pass.label)
+IsHere pass place block = (is_in place pass.hand ≡ true) × (label_in block ≡ pass.label)
 
 -- the rule that each home keeps
 pub record Keeps (h : Homed) : Type 0 where

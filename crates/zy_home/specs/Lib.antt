@@ -7,5 +7,7 @@ pub mod End
 pub mod Parts
 pub mod Home
 pub mod Place
+pub mod Items
 pub mod Turn
+pub mod Between
 pub mod Settled

@@ -1,16 +1,15 @@
 -- What a step at one place is, of the parts of a home. No public clause cites this module.
-use Rattle.std.specs.Prelude.{◌≡◌, ◌≢◌, ℕ, ◌+◌, ◌<◌, ◌≤◌, List, true, false, Bool, Option, Some, None, slice_get, slice_set, is_some}
+use Rattle.std.specs.Prelude.{◌≡◌, ◌≢◌, ℕ, ◌+◌, ◌≤◌, true, false, Bool, Option, Some, None, slice_get, slice_set}
 use Rattle.zy_table.specs.Member.{is_in}
-use Rattle.zy_rx.specs.declared.rx.Rx.{Rx}
 use Rattle.zy_shuffle.specs.Hand.{marked}
 use Rattle.zy_shuffle.specs.Pass.{Held, after_publish}
 use Rattle.zy_conn.specs.Work.{has_event}
-use Rattle.zy_conn.specs.Block.{Blocked}
+use Rattle.zy_conn.specs.Block.{Blocked, label_in}
 use Rattle.zy_home.specs.Link.{Link, conn_of}
 use Rattle.zy_home.specs.Offer.{WaitsBehind, WaitsFull}
 use Rattle.zy_home.specs.Idle.{IsIdle, due_mark, mark_in}
 use Rattle.zy_home.specs.Home.{Homed, IsAt, IsHere}
-use Rattle.zy_home.specs.Place.{label_in}
+use Rattle.zy_home.specs.Place.{MeetsInlet, KnowsAll}
 
 -- ---- one place
 
@@ -20,15 +19,18 @@ pub record IsDue (pass : Held Blocked) (place : ℕ) (link : Link) (block : Bloc
   pub mark : mark_in block ≡ due_mark link
   pub label : label_in block ≡ pass.label
 
--- a block was settled: it was published if it has an event, and otherwise is in its slot, idle
-pub record IsSettled (place : ℕ) (link' : Link) (pass pass' : Held Blocked) (slot' : Option Blocked) : Type 0 where
+-- the block that was given was settled: it was published if it has an event, and otherwise is in its slot, idle
+pub record IsSettled (place : ℕ) (given : Blocked) (link' : Link) (pass pass' : Held Blocked)
+    (slot' : Option Blocked) : Type 0 where
   pub block : Blocked
+  pub met : MeetsInlet given block
   pub mark : mark_in block ≡ due_mark link'
   pub label : label_in block ≡ pass.label
   pub event : has_event block.work ≡ true
       → (pass' ≡ after_publish place block pass pass'.trace) × (slot' ≡ None)
   pub idle : has_event block.work ≡ false
       → (pass' ≡ pass) × (slot' ≡ Some block) × IsIdle block.work link'
+  pub knows : KnowsAll link' block
   pub behind : WaitsBehind link' block
 
 -- memory was refused, and the block is in its slot
@@ -46,7 +48,7 @@ pub record IsPlace (pass : Held Blocked) (place : ℕ) (link : Link) (slot : Opt
 -- an item was received. If the block is in its slot, it was settled; if it is away, nothing was
 -- published, the frames that wait were offered, and the expected mark is the same
 abbrev pub IsFed : ℕ → Link → Link → Held Blocked → Held Blocked → Option Blocked → Option Blocked → Type 0
-IsFed place link link' pass pass' (Some block) slot' = IsSettled place link' pass pass' slot'
+IsFed place link link' pass pass' (Some block) slot' = IsSettled place block link' pass pass' slot'
 IsFed place link link' pass pass' None slot' =
     (pass' ≡ pass) × (slot' ≡ None) × (due_mark link' ≡ due_mark link) × WaitsFull link'
 

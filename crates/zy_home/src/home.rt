@@ -4,6 +4,7 @@ ghost use Rattle.std.specs.List.{AllByRecursion};
 ghost use Rattle.zy_home.specs.End.{HasLabel, blocks_in, ended_of};
 ghost use Rattle.zy_home.specs.Home.{Keeps, is_settled, all_here};
 
+mod items;
 mod making;
 mod receiving;
 mod settling;

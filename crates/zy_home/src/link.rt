@@ -1,10 +1,12 @@
 //! A connection of a home without its block.
-ghost use Rattle.std.specs.Prelude.{◌≡◌, ◌≢◌, ◌++◌, [], false, None, IfOk, OnOk, IfNone, option_to_list};
+ghost use Rattle.std.specs.Prelude.{◌≡◌, ◌≢◌, ◌++◌, [], true, false, None, IfOk, OnOk, IfNone, option_to_list};
 ghost use Rattle.zy_conn.specs.Work.{has_event};
+ghost use Rattle.zy_conn.specs.Block.{label_in};
 ghost use Rattle.zy_rx.specs.Session.{Sessions, with_bytes, with_close};
 ghost use Rattle.zy_home.specs.Link.{IsFor, IsFresh, LinkStands, SameLink, StandsOn, TakesIn, conn_of};
 ghost use Rattle.zy_home.specs.Offer.{Offers, IsFilled, WaitsBehind, WaitsFull};
 ghost use Rattle.zy_home.specs.Idle.{IsIdle, due_mark, mark_in};
+ghost use Rattle.zy_home.specs.Place.{MeetsInlet, KnowsAll};
 
 use std::alloc::Global;
 use std::marker::Model;
@@ -68,6 +70,14 @@ impl Link {
         ensures value { result ≡ conn_of self.now }
     {
         self.output.conn()
+    }
+
+    /// Whether a frame waits.
+    pub fn is_waiting(&self) -> bool
+        ensures some { result ≡ true → self.now.waiting ≢ [] }
+        ensures none { result ≡ false → self.now.waiting ≡ [] }
+    {
+        self.front.is_some() || self.waiting.len() > 0
     }
 
     /// Receives an item of this connection: the bytes of a segment are cut, and the new frames
@@ -136,17 +146,15 @@ impl Link {
         ensures event { IfOk result (λ event. event ≡ has_event block.new.work) }
         ensures mark { OnOk result (mark_in block.new ≡ due_mark self.new) }
         ensures idle { IfOk result (λ event. event ≡ false → IsIdle block.new.work self.new) }
+        ensures met { OnOk result (MeetsInlet block.old block.new) }
+        ensures knows { OnOk result (KnowsAll self.new block.new) }
         ensures behind { OnOk result (WaitsBehind self.new block.new) }
         ensures stands { OnOk result (StandsOn self.old self.new) }
         ensures same { SameLink self.old self.new }
-        ensures label { block.new.work.table ≡ block.old.work.table }
+        ensures label { label_in block.new ≡ label_in block.old }
     {
-        match self.output.carry_out(block.take_batch()) {
-            Ok(()) => {}
-            Err((batch, e)) => {
-                drop(batch);
-                return Err(e);
-            }
+        if let Err(e) = block.send_to(&mut self.output) {
+            return Err(e);
         }
         block.meet(&mut self.inlet);
         self.offer_waiting();

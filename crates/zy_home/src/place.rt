@@ -1,9 +1,12 @@
 //! The steps at one place of a home: what is done with a block, its link and the pass.
-ghost use Rattle.std.specs.Prelude.{◌≡◌, ◌≢◌, ◌<◌, ◌^◌, ℕ, OnOk, OnErr, IfSome, IfNone, Some, slice_get};
+ghost use Rattle.std.specs.Prelude.{◌≡◌, ◌≢◌, ◌<◌, ◌^◌, ◌||◌, ℕ, false, OnOk, OnErr, IfOk, IfSome, IfNone, Some, None, slice_get};
 ghost use Rattle.zy_home.specs.Link.{Link, SameLink, StandsOn, TakesIn, IsFor, conn_of};
-ghost use Rattle.zy_home.specs.Own.{IsRising, item_conn};
+ghost use Rattle.zy_home.specs.Offer.{WaitsFull};
+ghost use Rattle.zy_home.specs.Idle.{due_mark};
+ghost use Rattle.zy_home.specs.Own.{IsRising, is_end, item_conn};
 ghost use Rattle.zy_home.specs.Home.{conns_in};
 ghost use Rattle.zy_home.specs.Turn.{IsDue, IsSettled, IsPutBack, IsPlace, IsFed, IsUnfed};
+ghost use Rattle.zy_home.specs.Between.{StaysIdle};
 
 use crate::link::Link;
 use std::mem;
@@ -21,6 +24,13 @@ pub(crate) fn conn_in(item: &Rx) -> Option<u32>
         Rx::Close { conn } => Some(*conn),
         Rx::End => None,
     }
+}
+
+// Whether the end was received, once this item is.
+pub(crate) fn ended_by(ended: bool, item: &Rx) -> bool
+    ensures value { result ≡ (ended || is_end item.now) }
+{
+    ended || matches!(item, Rx::End)
 }
 
 // The place of a connection, found by halving.
@@ -65,7 +75,7 @@ pub(crate) fn settle_at(
     requires table { pass.old.table ≡ ring.now.id }
     requires few { pass.old.count < 2 ^ 63 }
     requires due { IsDue pass.old place link.old block }
-    ensures ok { OnOk result (IsSettled place link.new pass.old pass.new slot.new) }
+    ensures ok { OnOk result (IsSettled place block link.new pass.old pass.new slot.new) }
     ensures err { OnErr result (IsPutBack pass.old pass.new slot.new) }
     ensures stands { OnOk result (StandsOn link.old link.new) }
     ensures same { SameLink link.old link.new }
@@ -117,4 +127,24 @@ pub(crate) fn feed_at(
             Ok(())
         }
     }
+}
+
+// Cuts an item of the connection. If its block is away, the frames that wait are offered. Says
+// whether its block is in the slot and was idle until now, and a frame waits for it.
+pub(crate) fn cut_at(slot: &Option<Block>, link: &mut Link, item: &Rx) -> Result<bool, NoMemory>
+    requires own { IsFor (conn_of link.old) item.now }
+    ensures takes { OnOk result (TakesIn item.now link.old link.new) }
+    ensures away { OnOk result (slot.now ≡ None → WaitsFull link.new) }
+    ensures idle { IfOk result (λ touched. touched ≡ false → StaysIdle slot.now link.old link.new) }
+    ensures due { due_mark link.new ≡ due_mark link.old }
+{
+    let waits = link.is_waiting();
+    if let Err(e) = link.receive(item) {
+        return Err(e);
+    }
+    if slot.is_none() {
+        link.offer_waiting();
+        return Ok(false);
+    }
+    Ok(!waits && link.is_waiting())
 }

@@ -7,13 +7,14 @@ use Rattle.zy_base.specs.declared.call.Call.{Call}
 use Rattle.zy_base.specs.declared.call_reply.CallReply.{CallReply}
 use Rattle.zy_base.specs.declared.entry.Entry.{Entry}
 use Rattle.zy_base.specs.declared.hold.Hold.{Hold}
+use Rattle.zy_base.specs.declared.tallied.Tallied.{Tallied}
 use Rattle.zy_base.specs.Call.{key_of}
-use Rattle.zy_base.specs.Code.{call_flags, call_number, call_value, reply_flags, reply_number, reply_value}
+use Rattle.zy_base.specs.Code.{call_flags, call_number, call_value, reply_flags, reply_number, reply_value, reply_counts}
 use Rattle.zy_base.specs.Bounds.{IsKey, IsValue, IsCall, IsReply}
 use Rattle.zy_base.proofs.CodeLemmas.{key_within, value_within}
 use Rattle.zy_base.specs.declared.call_reply.CallReply.TheVariants as Replies
 use Rattle.zy_journal.specs.declared.journal.Journal.{Journal}
-use Rattle.zy_journal.specs.Journal.{magic, key_text, value_text, field_text, fields_text, call_text, reply_text, entry_head, entry_text, hold_text, journal_bytes, IsEntry}
+use Rattle.zy_journal.specs.Journal.{magic, key_text, value_text, counts_text, field_text, fields_text, call_text, reply_text, entry_head, entry_text, hold_text, journal_bytes, IsEntry}
 
 -- ---- fields
 
@@ -32,6 +33,10 @@ number_few (Some n) = omega arith
 value_few : (value : Option (List ℕ)) → IfSome value IsValue → length (field_text value_text value) ≤ 1048580
 value_few None is = omega arith
 value_few (Some value) is = let size = length-append (to_be_bytes w32 (length value)) value in omega (arith, is, size)
+
+counts_few : (counts : Option Tallied) → length (field_text counts_text counts) ≤ 40
+counts_few None = omega arith
+counts_few (Some counts) = omega arith
 
 fields_few : (flags number : Option ℕ) (value : Option (List ℕ)) → IfSome value IsValue → length (fields_text flags number value) ≤ 1048592
 fields_few flags number value is =
@@ -52,9 +57,11 @@ call_few call is =
     let all = length-append (field_text key_text (key_of call)) (fields_text (call_flags call) (call_number call) (call_value call)) in
     omega (arith, all, key_few (key_of call) (key_within call is), fields_few (call_flags call) (call_number call) (call_value call) (value_within call is))
 
-reply_few : (reply : CallReply) → IsReply reply → length (reply_text reply) ≤ 1048593
+reply_few : (reply : CallReply) → IsReply reply → length (reply_text reply) ≤ 1048633
 unfolding reply_text
-reply_few reply is = omega (arith, fields_few (reply_flags reply) (reply_number reply) (reply_value reply) (reply_value_within reply is))
+reply_few reply is =
+    let all = length-append (field_text counts_text (reply_counts reply)) (fields_text (reply_flags reply) (reply_number reply) (reply_value reply)) in
+    omega (arith, all, counts_few (reply_counts reply), fields_few (reply_flags reply) (reply_number reply) (reply_value reply) (reply_value_within reply is))
 
 head_is : (e : Entry) → length (entry_head e) ≡ 29
 unfolding entry_head

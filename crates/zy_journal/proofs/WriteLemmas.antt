@@ -13,6 +13,9 @@ text_3 x a b c p q r one two three = rw (one, two, three, append-nil r) refl
 pub text_5 : (x : ℕ) (a b c d e p q r s t : List ℕ) → a ≡ p → b ≡ q → c ≡ r → d ≡ s → e ≡ t → (x ∷ []) ++ (a ++ (b ++ (c ++ (d ++ (e ++ []))))) ≡ x ∷ (p ++ (q ++ (r ++ (s ++ t))))
 text_5 x a b c d e p q r s t one two three four five = rw (one, two, three, four, five, append-nil t) refl
 
+pub numbers_5 : (a b c d e p q r s t : List ℕ) → a ≡ p → b ≡ q → c ≡ r → d ≡ s → e ≡ t → a ++ (b ++ (c ++ (d ++ (e ++ [])))) ≡ p ++ (q ++ (r ++ (s ++ t)))
+numbers_5 a b c d e p q r s t one two three four five = rw (one, two, three, four, five, append-nil t) refl
+
 -- the texts of one further thing
 pub texts_more : {X : Type 0} (text : X → List ℕ) (xs : List X) (i : ℕ) (d : X) → i < length xs → flat_map text (take i xs) ++ text (get_or xs i d) ≡ flat_map text (take (i + 1) xs)
 texts_more text xs i d within =

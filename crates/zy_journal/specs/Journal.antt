@@ -6,8 +6,9 @@ use Rattle.zy_base.specs.declared.call.Call.{Call}
 use Rattle.zy_base.specs.declared.call_reply.CallReply.{CallReply}
 use Rattle.zy_base.specs.declared.entry.Entry.{Entry}
 use Rattle.zy_base.specs.declared.hold.Hold.{Hold}
+use Rattle.zy_base.specs.declared.tallied.Tallied.{Tallied}
 use Rattle.zy_base.specs.Call.{key_of}
-use Rattle.zy_base.specs.Code.{call_code, call_flags, call_number, call_value, reply_code, reply_flags, reply_number, reply_value}
+use Rattle.zy_base.specs.Code.{call_code, call_flags, call_number, call_value, reply_code, reply_flags, reply_number, reply_value, reply_counts}
 use Rattle.zy_base.specs.Bounds.{IsCall, IsReply}
 use Rattle.zy_base.specs.Limits.{connection_limit, shard_limit, core_limit, hold_limit, command_limit, stamp_limit}
 use Rattle.zy_base.specs.Order.{IsOrdered}
@@ -27,6 +28,12 @@ key_text key = length key ∷ key
 abbrev pub value_text : List ℕ → List ℕ
 value_text value = to_be_bytes w32 (length value) ++ value
 
+-- the five numbers of a tally, eight bytes each
+abbrev pub counts_text : Tallied → List ℕ
+counts_text counts =
+    to_be_bytes w64 counts.gets ++ (to_be_bytes w64 counts.sets ++ (to_be_bytes w64 counts.hits
+    ++ (to_be_bytes w64 counts.misses ++ to_be_bytes w64 counts.items)))
+
 -- a field that is there, and nothing for one that is not
 abbrev pub field_text : {X : Type 0} → (X → List ℕ) → Option X → List ℕ
 field_text text None = []
@@ -45,7 +52,10 @@ call_text call =
 
 -- a reply: its code and its fields
 unfoldable pub reply_text : CallReply → List ℕ
-reply_text reply = reply_code reply ∷ fields_text (reply_flags reply) (reply_number reply) (reply_value reply)
+reply_text reply =
+    reply_code reply
+    ∷ (field_text counts_text (reply_counts reply)
+    ++ fields_text (reply_flags reply) (reply_number reply) (reply_value reply))
 
 -- the tag of an entry, when and where it was, and whose call it is
 unfoldable pub entry_head : Entry → List ℕ

@@ -6,11 +6,13 @@ ghost use Rattle.zy_base.specs.Bounds.{IsKey, IsValue, IsCall, IsReply};
 ghost use Rattle.zy_base.specs.Outside.{Writes};
 ghost use Rattle.zy_journal.specs.Journal.{IsJournal, IsEntry, journal_bytes};
 ghost use Rattle.zy_journal.specs.Journal.{entry_head, entry_text, call_text, reply_text, hold_text};
-ghost use Rattle.zy_journal.specs.Journal.{key_text, value_text, field_text, fields_text};
+ghost use Rattle.zy_journal.specs.Journal.{key_text, value_text, counts_text, field_text, fields_text};
 
 use crate::journal::Journal;
 use crate::walk::Walk;
-use zy_base::{Blob, Call, CallReply, Entry, Failed, Hold, Sink, write_pieces, write_whole};
+use zy_base::{
+    Blob, Call, CallReply, Entry, Failed, Hold, Sink, Tallied, write_pieces, write_whole,
+};
 
 /// Writes a journal whose numbers, keys and values are within the format's bounds. Takes no memory.
 ///
@@ -107,7 +109,28 @@ fn write_reply<K: Sink>(sink: &mut K, reply: &CallReply) -> Result<(), Failed>
     if let Err(failed) = write_whole(sink, &[reply.code()]) {
         return Err(failed);
     }
+    if let Err(failed) = write_counts(sink, reply.counts()) {
+        return Err(failed);
+    }
     write_fields(sink, reply.flags(), reply.number(), reply.value())
+}
+
+// The five numbers of a tally, where they are there.
+fn write_counts<K: Sink>(sink: &mut K, counts: Option<Tallied>) -> Result<(), Failed>
+    ensures writes { Writes K.holds K.faults K.finishes sink.old sink.new result
+        (field_text counts_text counts) }
+{
+    match counts {
+        Some(counts) => {
+            let gets = counts.gets.to_be_bytes();
+            let sets = counts.sets.to_be_bytes();
+            let hits = counts.hits.to_be_bytes();
+            let misses = counts.misses.to_be_bytes();
+            let items = counts.items.to_be_bytes();
+            write_pieces(sink, &[&gets, &sets, &hits, &misses, &items])
+        }
+        None => write_whole(sink, &[]),
+    }
 }
 
 // A code, and a key where there is one.

@@ -4,7 +4,7 @@ use Rattle.std.specs.Prelude.{◌==◌, if◌then◌else◌, Option, IfSome}
 use Rattle.std.specs.Int.{to_be_bytes, w32, w64}
 use Rattle.zy_base.specs.declared.call.Call.{Call}
 use Rattle.zy_base.specs.declared.call_kind.CallFields.{CallFields}
-use Rattle.zy_base.specs.Code.{code_of, fields_of, call_of, hit_code, number_code, last_reply_code, plain_reply}
+use Rattle.zy_base.specs.Code.{code_of, fields_of, call_of, hit_code, number_code, tally_code, last_reply_code, plain_reply}
 use Rattle.zy_base.specs.Bounds.{IsKey, IsValue, IsCall, IsReply, FitsCall, FitsReply}
 use Rattle.zy_base.proofs.CodeLemmas.{there, call_has, call_within, reply_within, plain_is}
 use Rattle.zy_journal.specs.Journal.{key_text, value_text, field_text, call_text, reply_text}
@@ -18,15 +18,15 @@ either P test x y first second = elim test as (λ (t : Bool). P (if t then x els
 
 -- ---- replies without fields
 
-pub plain_text : (n : ℕ) → 1 ≤ n → n ≤ last_reply_code → (n == hit_code) ≡ false → (n == number_code) ≡ false → reply_text (plain_reply n) ≡ n ∷ []
+pub plain_text : (n : ℕ) → 1 ≤ n → n ≤ last_reply_code → (n == hit_code) ≡ false → (n == number_code) ≡ false → (n == tally_code) ≡ false → reply_text (plain_reply n) ≡ n ∷ []
 unfolding reply_text
-plain_text n some most no_hit no_number = let is = plain_is n some most no_hit no_number in rw (is.code_is, is.no_flags, is.no_number, is.no_value) refl
+plain_text n some most no_hit no_number no_tally = let is = plain_is n some most no_hit no_number no_tally in rw (is.code_is, is.no_counts, is.no_flags, is.no_number, is.no_value) refl
 
-pub plain_within : (n : ℕ) → 1 ≤ n → n ≤ last_reply_code → (n == hit_code) ≡ false → (n == number_code) ≡ false → IsReply (plain_reply n)
-plain_within n some most no_hit no_number = reply_within (plain_reply n) (rw (plain_is n some most no_hit no_number).no_value tt)
+pub plain_within : (n : ℕ) → 1 ≤ n → n ≤ last_reply_code → (n == hit_code) ≡ false → (n == number_code) ≡ false → (n == tally_code) ≡ false → IsReply (plain_reply n)
+plain_within n some most no_hit no_number no_tally = reply_within (plain_reply n) (rw (plain_is n some most no_hit no_number no_tally).no_value tt)
 
-pub plain_fits : (n : ℕ) → 1 ≤ n → n ≤ last_reply_code → (n == hit_code) ≡ false → (n == number_code) ≡ false → FitsReply (plain_reply n)
-plain_fits n some most no_hit no_number = let is = plain_is n some most no_hit no_number in rw (is.no_flags, is.no_number) (tt, tt)
+pub plain_fits : (n : ℕ) → 1 ≤ n → n ≤ last_reply_code → (n == hit_code) ≡ false → (n == number_code) ≡ false → (n == tally_code) ≡ false → FitsReply (plain_reply n)
+plain_fits n some most no_hit no_number no_tally = let is = plain_is n some most no_hit no_number no_tally in rw (is.no_flags, is.no_number, is.no_counts) ((tt, tt), tt)
 
 -- ---- the call that was read
 

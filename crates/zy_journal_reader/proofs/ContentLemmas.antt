@@ -58,4 +58,4 @@ content_on FoundValue p whole text ends size some =
     ∙ ap (λ (l : List ℕ). head d ++ (call ++ hit_code ∷ l)) (append_assoc f (u ++ s) whole ∙ ap (λ (l : List ℕ). f ++ l) (append_assoc u s whole))
     ∙ ap (λ (n : ℕ). head d ++ (call ++ hit_code ∷ (f ++ (u ++ (to_be_bytes w32 n ++ whole))))) size
     ∙ sym (append_assoc (head d) call (hit_code ∷ (f ++ (u ++ value_text whole))))))
-    ends.count ends.room ends.kept ends.known.0.0 (omega (arith, size, ends.known.1)) (ends.known.0.1, ends.known.0.2)
+    ends.count ends.room ends.kept ends.known.0.0 (omega (arith, size, ends.known.1)) ((ends.known.0.1, ends.known.0.2), tt)

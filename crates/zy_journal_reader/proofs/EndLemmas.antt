@@ -7,7 +7,7 @@ use Rattle.std.proofs.lemmas.Bool.{eqb-true}
 use Rattle.zy_base.specs.declared.call_reply.CallReply.{CallReply}
 use Rattle.zy_base.specs.declared.entry.Entry.{Entry}
 use Rattle.zy_base.specs.declared.hold.Hold.{Hold}
-use Rattle.zy_base.specs.Code.{code_of, kind_of, hit_code, number_code, last_reply_code, plain_reply}
+use Rattle.zy_base.specs.Code.{code_of, kind_of, hit_code, number_code, tally_code, last_reply_code, plain_reply}
 use Rattle.zy_base.specs.Bounds.{IsReply, FitsReply}
 use Rattle.zy_journal.specs.Journal.{call_text, reply_text, entry_head, entry_text, hold_text}
 use Rattle.zy_journal_reader.specs.declared.due.Due.{Due}
@@ -140,6 +140,15 @@ reply_code_on p byte text ends lawful =
       field = empty 7;
       known = ends.known;
     })
-    (λ no_number. entry_on p (plain_reply byte) text
-    (ends.bytes ∙ ap (λ (l : List ℕ). front p.entries p.holds ++ ((head p.draft ++ call) ++ l)) (sym (plain_text byte is.0 is.1 no_hit no_number)))
-    ends.count ends.room ends.kept ends.known (plain_within byte is.0 is.1 no_hit no_number) (plain_fits byte is.0 is.1 no_hit no_number)))
+    (λ no_number. chosen P (byte == tally_code) _ _
+    (λ tallied. record {
+      bytes = joined text (front p.entries p.holds) (head p.draft ++ call) (byte ∷ []) (head p.draft ++ (call ++ tally_code ∷ [])) ends.bytes (coded tally_code (eqb-true byte tally_code tallied));
+      count = ends.count;
+      short = omega (arith, ends.room);
+      kept = ends.kept;
+      field = empty 7;
+      known = ends.known;
+    })
+    (λ no_tally. entry_on p (plain_reply byte) text
+    (ends.bytes ∙ ap (λ (l : List ℕ). front p.entries p.holds ++ ((head p.draft ++ call) ++ l)) (sym (plain_text byte is.0 is.1 no_hit no_number no_tally)))
+    ends.count ends.room ends.kept ends.known (plain_within byte is.0 is.1 no_hit no_number no_tally) (plain_fits byte is.0 is.1 no_hit no_number no_tally))))

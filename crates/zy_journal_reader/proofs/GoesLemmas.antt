@@ -9,8 +9,9 @@ use Rattle.zy_base.specs.declared.call_kind.CallKind.{CallKind}
 use Rattle.zy_base.specs.declared.call_reply.CallReply.{CallReply}
 use Rattle.zy_base.specs.declared.call_reply.CallReply.TheVariants.{Hit}
 use Rattle.zy_base.specs.declared.call_reply.CallReply.TheVariants as Replies
+use Rattle.zy_base.specs.declared.tallied.Tallied.{Tallied}
 use Rattle.zy_base.specs.Shard.{value_limit}
-use Rattle.zy_base.specs.Code.{code_of, fields_of, call_of, last_call_code, hit_code, number_code, last_reply_code, plain_reply}
+use Rattle.zy_base.specs.Code.{code_of, fields_of, call_of, last_call_code, hit_code, number_code, tally_code, last_reply_code, tally, plain_reply}
 use Rattle.zy_base.specs.Bounds.{IsKey, IsValue, IsCall, IsReply, FitsCall, FitsReply}
 use Rattle.zy_base.proofs.CodeLemmas.{there, either_of, kind_back, code_within, call_has, key_within, value_within, of_forms}
 use Rattle.zy_journal.specs.Journal.{key_text, value_text, field_text, call_text, reply_text}
@@ -19,7 +20,7 @@ use Rattle.zy_journal_reader.specs.declared.due.Due.{Due}
 use Rattle.zy_journal_reader.specs.declared.due.Due.TheVariants.{Byte, Number, Long, Bytes}
 use Rattle.zy_journal_reader.specs.declared.due.ByteField.TheVariants.{Tag, CallCode, KeyLength, ReplyCode}
 use Rattle.zy_journal_reader.specs.declared.due.NumberField.TheVariants.{Flags, ValueLength, FoundFlags, FoundLength}
-use Rattle.zy_journal_reader.specs.declared.due.LongField.TheVariants.{CallNumber, FoundUnique, ReplyNumber}
+use Rattle.zy_journal_reader.specs.declared.due.LongField.TheVariants.{CallNumber, FoundUnique, ReplyNumber, Gets, Sets, Hits, Misses, Items}
 use Rattle.zy_journal_reader.specs.declared.due.BytesField.TheVariants.{Key, Value, FoundValue}
 use Rattle.zy_journal_reader.specs.Fields.{fresh, at_key, at_flags, at_number, at_value, entry_of}
 use Rattle.zy_journal_reader.specs.Steps.{Progress}
@@ -154,11 +155,11 @@ abbrev pub after : Progress → Draft → CallReply → Progress
 after p d reply = record p { entries = p.entries ++ entry_of d reply ∷ []; past = record p.past { stamp = d.stamp; shard = d.shard } }
 
 -- a reply without fields
-pub plain_goes : (p : Progress) (d : Draft) (code : ℕ) → 1 ≤ code → code ≤ last_reply_code → (code == hit_code) ≡ false → (code == number_code) ≡ false
+pub plain_goes : (p : Progress) (d : Draft) (code : ℕ) → 1 ≤ code → code ≤ last_reply_code → (code == hit_code) ≡ false → (code == number_code) ≡ false → (code == tally_code) ≡ false
     → Goes p d (Byte ReplyCode) (reply_text (plain_reply code)) (after p d (plain_reply code)) fresh (Byte Tag)
-plain_goes p d code some most no_hit no_number =
-    subst (λ (l : List ℕ). Goes p d (Byte ReplyCode) l (after p d (plain_reply code)) fresh (Byte Tag)) (sym (plain_text code some most no_hit no_number))
-    (one_byte p (after p d (plain_reply code)) d fresh ReplyCode (Byte Tag) code (λ at. between code 1 last_reply_code some most) (λ at. rw (no_hit, no_number) refl))
+plain_goes p d code some most no_hit no_number no_tally =
+    subst (λ (l : List ℕ). Goes p d (Byte ReplyCode) l (after p d (plain_reply code)) fresh (Byte Tag)) (sym (plain_text code some most no_hit no_number no_tally))
+    (one_byte p (after p d (plain_reply code)) d fresh ReplyCode (Byte Tag) code (λ at. between code 1 last_reply_code some most) (λ at. rw (no_hit, no_number, no_tally) refl))
 
 -- the value that a get found
 pub found_goes : (p : Progress) (d : Draft) (value : List ℕ) → IsValue value → Goes p d (Number FoundLength) (value_text value) (after p d (Hit d.found_flags d.found_unique value)) fresh (Byte Tag)
@@ -179,8 +180,8 @@ hit_goes p d flags unique value is fits =
     let e : Draft = record d { found_flags = flags } in
     let f : Draft = record e { found_unique = unique } in
     both (hit_code ∷ []) (to_be_bytes w32 flags ++ (to_be_bytes w64 unique ++ value_text value)) (one_byte p p d d ReplyCode (Number FoundFlags) hit_code (λ at. refl) (λ at. refl))
-    (both (to_be_bytes w32 flags) (to_be_bytes w64 unique ++ value_text value) (four_bytes p p d e FoundFlags (Long FoundUnique) flags fits.0 (λ at l. refl) (λ at l. refl))
-    (both (to_be_bytes w64 unique) (value_text value) (eight_bytes p p e f FoundUnique (Number FoundLength) unique fits.1 (λ at l. refl) (λ at l. refl))
+    (both (to_be_bytes w32 flags) (to_be_bytes w64 unique ++ value_text value) (four_bytes p p d e FoundFlags (Long FoundUnique) flags fits.0.0 (λ at l. refl) (λ at l. refl))
+    (both (to_be_bytes w64 unique) (value_text value) (eight_bytes p p e f FoundUnique (Number FoundLength) unique fits.0.1 (λ at l. refl) (λ at l. refl))
     (found_goes p f value is)))
 
 -- a number
@@ -189,11 +190,33 @@ unfolding reply_text
 number_goes p d number fits =
     nothing_more (number_code ∷ to_be_bytes w64 number)
     (both (number_code ∷ []) (to_be_bytes w64 number) (one_byte p p d d ReplyCode (Long ReplyNumber) number_code (λ at. refl) (λ at. refl))
-    (eight_bytes p (after p d (Replies.Number number)) d fresh ReplyNumber (Byte Tag) number fits.1 (λ at l. refl) (λ at l. refl)))
+    (eight_bytes p (after p d (Replies.Number number)) d fresh ReplyNumber (Byte Tag) number fits.0.1 (λ at l. refl) (λ at l. refl)))
+
+-- a tally
+pub tally_goes : (p : Progress) (d : Draft) (counts : Tallied) → FitsReply (tally counts) → Goes p d (Byte ReplyCode) (reply_text (tally counts)) (after p d (tally counts)) fresh (Byte Tag)
+unfolding reply_text
+tally_goes p d counts fits =
+    let g : List ℕ = to_be_bytes w64 counts.gets in
+    let s : List ℕ = to_be_bytes w64 counts.sets in
+    let h : List ℕ = to_be_bytes w64 counts.hits in
+    let m : List ℕ = to_be_bytes w64 counts.misses in
+    let i : List ℕ = to_be_bytes w64 counts.items in
+    let d1 : Draft = record d { counts = record d.counts { gets = counts.gets } } in
+    let d2 : Draft = record d1 { counts = record d1.counts { sets = counts.sets } } in
+    let d3 : Draft = record d2 { counts = record d2.counts { hits = counts.hits } } in
+    let d4 : Draft = record d3 { counts = record d3.counts { misses = counts.misses } } in
+    nothing_more (tally_code ∷ (g ++ (s ++ (h ++ (m ++ i)))))
+    (both (tally_code ∷ []) (g ++ (s ++ (h ++ (m ++ i)))) (one_byte p p d d ReplyCode (Long Gets) tally_code (λ at. refl) (λ at. refl))
+    (both g (s ++ (h ++ (m ++ i))) (eight_bytes p p d d1 Gets (Long Sets) counts.gets fits.1.0 (λ at l. refl) (λ at l. refl))
+    (both s (h ++ (m ++ i)) (eight_bytes p p d1 d2 Sets (Long Hits) counts.sets fits.1.1 (λ at l. refl) (λ at l. refl))
+    (both h (m ++ i) (eight_bytes p p d2 d3 Hits (Long Misses) counts.hits fits.1.2 (λ at l. refl) (λ at l. refl))
+    (both m i (eight_bytes p p d3 d4 Misses (Long Items) counts.misses fits.1.3 (λ at l. refl) (λ at l. refl))
+    (eight_bytes p (after p d (tally counts)) d4 fresh Items (Byte Tag) counts.items fits.1.4 (λ at l. refl) (λ at l. refl)))))))
 
 pub reply_goes : (p : Progress) (d : Draft) (reply : CallReply) → IsReply reply → FitsReply reply → Goes p d (Byte ReplyCode) (reply_text reply) (after p d reply) fresh (Byte Tag)
 reply_goes p d =
     of_forms (λ (reply : CallReply). IsReply reply → FitsReply reply → Goes p d (Byte ReplyCode) (reply_text reply) (after p d reply) fresh (Byte Tag))
     (λ flags unique value is fits. hit_goes p d flags unique value is fits)
     (λ number is fits. number_goes p d number fits)
-    (λ code some most no_hit no_number is fits. plain_goes p d code some most no_hit no_number)
+    (λ counts is fits. tally_goes p d counts fits)
+    (λ code some most no_hit no_number no_tally is fits. plain_goes p d code some most no_hit no_number no_tally)

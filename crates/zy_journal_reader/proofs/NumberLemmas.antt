@@ -6,7 +6,7 @@ use Rattle.std.proofs.lemmas.List.{append-nil}
 use Rattle.std.proofs.lemmas.Bool.{eqb-true}
 use Rattle.zy_base.specs.declared.call_reply.CallReply.TheVariants as Replies
 use Rattle.zy_base.specs.Shard.{value_limit}
-use Rattle.zy_base.specs.Code.{code_of, hit_code, number_code}
+use Rattle.zy_base.specs.Code.{code_of, hit_code, number_code, tally_code, tally}
 use Rattle.zy_base.specs.Bounds.{IsValue}
 use Rattle.zy_journal.specs.Journal.{value_text, call_text, reply_text}
 use Rattle.zy_journal_reader.specs.declared.draft.Draft.{Draft}
@@ -14,7 +14,7 @@ use Rattle.zy_journal_reader.specs.declared.due.Due.TheVariants.{Number, Long}
 use Rattle.zy_journal_reader.specs.declared.due.NumberField.{NumberField}
 use Rattle.zy_journal_reader.specs.declared.due.NumberField.TheVariants.{Shard, Connection, Part, Flags, ValueLength, FoundFlags, FoundLength, HoldConnection, HoldCore, HoldCount}
 use Rattle.zy_journal_reader.specs.declared.due.LongField.{LongField}
-use Rattle.zy_journal_reader.specs.declared.due.LongField.TheVariants.{Stamp, Index, CallNumber, FoundUnique, ReplyNumber}
+use Rattle.zy_journal_reader.specs.declared.due.LongField.TheVariants.{Stamp, Index, CallNumber, FoundUnique, ReplyNumber, Gets, Sets, Hits, Misses, Items}
 use Rattle.zy_journal_reader.specs.Steps.{Progress, Step, lawful_number, lawful_long, after_four, after_eight}
 use Rattle.zy_journal_reader.proofs.CallLemmas.{fields_in, call_in, key_bytes, flags_bytes, to_flags, to_number, to_value, its_bytes, its_field, call_text_is}
 use Rattle.zy_journal_reader.proofs.SoFar.{front, head, IsReadTo}
@@ -89,7 +89,7 @@ found_length_on p n text ends lawful =
     (grown ∙ ap (λ (k : ℕ). head d ++ (call ++ hit_code ∷ (f ++ (u ++ to_be_bytes w32 k)))) (eqb-true n 0 none)
     ∙ ap (λ (l : List ℕ). head d ++ (call ++ hit_code ∷ (f ++ (u ++ l)))) (sym (append-nil (to_be_bytes w32 0)))
     ∙ sym (append_assoc (head d) call (hit_code ∷ (f ++ (u ++ value_text []))))))
-    ends.count ends.room ends.kept ends.known.0 (omega arith) (ends.known.1, ends.known.2))
+    ends.count ends.room ends.kept ends.known.0 (omega arith) ((ends.known.1, ends.known.2), tt))
     (λ some. record {
       bytes = ended_by ends grown;
       count = ends.count;
@@ -182,6 +182,29 @@ call_number_on p n text ends small =
       known = ends.known.0;
     }) ends.known.1 ends.known.2 (its_field (λ k. k < 2 ^ 64) (fields_in d).number n ends.known.3 small)
 
+-- a number after some bytes of a reply
+pub after_call : (start call before last : List ℕ) → (start ++ (call ++ before)) ++ last ≡ start ++ (call ++ (before ++ last))
+after_call start call before last = append_assoc start (call ++ before) last ∙ ap (λ (l : List ℕ). start ++ l) (append_assoc call before last)
+
+-- the last number of a tally
+pub items_on : (p : Progress) (n : ℕ) (text : List ℕ) → Ends (Long Items) p (to_be_bytes w64 n) text → n < 2 ^ 64 → IsReadTo (after_eight Items p n).next.due (after_eight Items p n).next text
+unfolding reply_text
+items_on p n text ends small =
+    let call : List ℕ = call_text (call_in p.draft) in
+    let g : List ℕ = to_be_bytes w64 p.draft.counts.gets in
+    let s : List ℕ = to_be_bytes w64 p.draft.counts.sets in
+    let h : List ℕ = to_be_bytes w64 p.draft.counts.hits in
+    let m : List ℕ = to_be_bytes w64 p.draft.counts.misses in
+    let i : List ℕ = to_be_bytes w64 n in
+    entry_on p (tally (record p.draft.counts { items = n })) text
+    (ends.bytes ∙ ap (λ (l : List ℕ). front p.entries p.holds ++ l)
+    (after_call (head p.draft) call (tally_code ∷ (g ++ (s ++ (h ++ m)))) i
+    ∙ ap (λ (l : List ℕ). head p.draft ++ (call ++ tally_code ∷ l))
+    (append_assoc g (s ++ (h ++ m)) i ∙ ap (λ (l : List ℕ). g ++ l) (append_assoc s (h ++ m) i ∙ ap (λ (l : List ℕ). s ++ l) (append_assoc h m i)))
+    ∙ ap (λ (l : List ℕ). head p.draft ++ (call ++ tally_code ∷ l)) (sym (append-nil (g ++ (s ++ (h ++ (m ++ i))))))
+    ∙ sym (append_assoc (head p.draft) call (tally_code ∷ ((g ++ (s ++ (h ++ (m ++ i)))) ++ [])))))
+    ends.count ends.room ends.kept ends.known.0.0.0.0 tt ((tt, tt), (ends.known.0.0.0.1, ends.known.0.0.1, ends.known.0.1, ends.known.1, small))
+
 pub eight_on : (field : LongField) (p : Progress) (n : ℕ) (text : List ℕ) → Ends (Long field) p (to_be_bytes w64 n) text → n < 2 ^ 64 → lawful_long field p n ≡ true → IsReadTo (after_eight field p n).next.due (after_eight field p n).next text
 unfolding reply_text
 eight_on Stamp p n text ends small lawful =
@@ -225,4 +248,53 @@ eight_on ReplyNumber p n text ends small lawful =
     (ends.bytes ∙ ap (λ (l : List ℕ). front p.entries p.holds ++ l)
     (append_assoc (head p.draft) (call ++ number_code ∷ []) (to_be_bytes w64 n) ∙ ap (λ (l : List ℕ). head p.draft ++ l) (append_assoc call (number_code ∷ []) (to_be_bytes w64 n)) ∙ sym (append_assoc (head p.draft) call (number_code ∷ to_be_bytes w64 n))
     ∙ ap (λ (l : List ℕ). (head p.draft ++ call) ++ number_code ∷ l) (sym (append-nil (to_be_bytes w64 n)))))
-    ends.count ends.room ends.kept ends.known tt (tt, small)
+    ends.count ends.room ends.kept ends.known tt ((tt, small), tt)
+eight_on Gets p n text ends small lawful =
+    let call : List ℕ = call_text (call_in p.draft) in
+    record {
+      bytes = ended_by ends (after_call (head p.draft) call (tally_code ∷ []) (to_be_bytes w64 n));
+      count = ends.count;
+      short = omega (arith, ends.room);
+      kept = ends.kept;
+      field = empty 7;
+      known = (ends.known, small);
+    }
+eight_on Sets p n text ends small lawful =
+    let call : List ℕ = call_text (call_in p.draft) in
+    let g : List ℕ = to_be_bytes w64 p.draft.counts.gets in
+    record {
+      bytes = ended_by ends (after_call (head p.draft) call (tally_code ∷ g) (to_be_bytes w64 n));
+      count = ends.count;
+      short = omega (arith, ends.room);
+      kept = ends.kept;
+      field = empty 7;
+      known = (ends.known, small);
+    }
+eight_on Hits p n text ends small lawful =
+    let call : List ℕ = call_text (call_in p.draft) in
+    let g : List ℕ = to_be_bytes w64 p.draft.counts.gets in
+    let s : List ℕ = to_be_bytes w64 p.draft.counts.sets in
+    record {
+      bytes = ended_by ends (after_call (head p.draft) call (tally_code ∷ (g ++ s)) (to_be_bytes w64 n) ∙ ap (λ (l : List ℕ). head p.draft ++ (call ++ tally_code ∷ l)) (append_assoc g s (to_be_bytes w64 n)));
+      count = ends.count;
+      short = omega (arith, ends.room);
+      kept = ends.kept;
+      field = empty 7;
+      known = (ends.known, small);
+    }
+eight_on Misses p n text ends small lawful =
+    let call : List ℕ = call_text (call_in p.draft) in
+    let g : List ℕ = to_be_bytes w64 p.draft.counts.gets in
+    let s : List ℕ = to_be_bytes w64 p.draft.counts.sets in
+    let h : List ℕ = to_be_bytes w64 p.draft.counts.hits in
+    record {
+      bytes = ended_by ends
+          (after_call (head p.draft) call (tally_code ∷ (g ++ (s ++ h))) (to_be_bytes w64 n)
+          ∙ ap (λ (l : List ℕ). head p.draft ++ (call ++ tally_code ∷ l)) (append_assoc g (s ++ h) (to_be_bytes w64 n) ∙ ap (λ (l : List ℕ). g ++ l) (append_assoc s h (to_be_bytes w64 n))));
+      count = ends.count;
+      short = omega (arith, ends.room);
+      kept = ends.kept;
+      field = empty 7;
+      known = (ends.known, small);
+    }
+eight_on Items p n text ends small lawful = items_on p n text ends small

@@ -7,7 +7,7 @@ use Rattle.zy_base.specs.declared.entry.Entry.{Entry}
 use Rattle.zy_base.specs.declared.hold.Hold.{Hold}
 use Rattle.zy_base.specs.Order.{IsOrdered}
 use Rattle.zy_base.specs.Shard.{value_limit}
-use Rattle.zy_base.specs.Code.{code_of, hit_code, number_code}
+use Rattle.zy_base.specs.Code.{code_of, hit_code, number_code, tally_code}
 use Rattle.zy_base.specs.Bounds.{IsCall, FitsCall, FitsEntry}
 use Rattle.zy_journal.specs.Journal.{magic, call_text, entry_text, hold_text, IsEntry, IsHold, AreByConnection}
 use Rattle.zy_journal_reader.specs.declared.draft.Draft.{Draft}
@@ -16,7 +16,7 @@ use Rattle.zy_journal_reader.specs.declared.due.Due.{Due}
 use Rattle.zy_journal_reader.specs.declared.due.Due.TheVariants.{Byte, Number, Long, Bytes, Nothing, Broken}
 use Rattle.zy_journal_reader.specs.declared.due.ByteField.TheVariants.{Magic, CallCode, KeyLength, ReplyCode}
 use Rattle.zy_journal_reader.specs.declared.due.NumberField.TheVariants.{Shard, Connection, Part, Flags, ValueLength, FoundFlags, FoundLength, HoldConnection, HoldCore, HoldCount}
-use Rattle.zy_journal_reader.specs.declared.due.LongField.TheVariants.{Stamp, Index, CallNumber, FoundUnique, ReplyNumber}
+use Rattle.zy_journal_reader.specs.declared.due.LongField.TheVariants.{Stamp, Index, CallNumber, FoundUnique, ReplyNumber, Gets, Sets, Hits, Misses, Items}
 use Rattle.zy_journal_reader.specs.declared.due.BytesField.TheVariants.{Key, Value, FoundValue}
 use Rattle.zy_journal_reader.specs.Steps.{Progress, journal_limit}
 use Rattle.zy_journal_reader.specs.Verdict.{AreBytes}
@@ -50,6 +50,12 @@ before (Long Index) d = 74 ∷ (to_be_bytes w64 d.stamp ++ (to_be_bytes w32 d.sh
 before (Long CallNumber) d = head d ++ to_number d
 before (Long FoundUnique) d = head d ++ (call_text (call_in d) ++ hit_code ∷ to_be_bytes w32 d.found_flags)
 before (Long ReplyNumber) d = head d ++ (call_text (call_in d) ++ number_code ∷ [])
+before (Long Gets) d = head d ++ (call_text (call_in d) ++ tally_code ∷ [])
+before (Long Sets) d = head d ++ (call_text (call_in d) ++ tally_code ∷ to_be_bytes w64 d.counts.gets)
+before (Long Hits) d = head d ++ (call_text (call_in d) ++ tally_code ∷ (to_be_bytes w64 d.counts.gets ++ to_be_bytes w64 d.counts.sets))
+before (Long Misses) d = head d ++ (call_text (call_in d) ++ tally_code ∷ (to_be_bytes w64 d.counts.gets ++ (to_be_bytes w64 d.counts.sets ++ to_be_bytes w64 d.counts.hits)))
+before (Long Items) d =
+    head d ++ (call_text (call_in d) ++ tally_code ∷ (to_be_bytes w64 d.counts.gets ++ (to_be_bytes w64 d.counts.sets ++ (to_be_bytes w64 d.counts.hits ++ to_be_bytes w64 d.counts.misses))))
 before (Bytes Key) d = head d ++ (code_of d.kind ∷ d.size ∷ [])
 before (Bytes Value) d = head d ++ (to_value d ++ to_be_bytes w32 d.size)
 before (Bytes FoundValue) d = head d ++ (call_text (call_in d) ++ hit_code ∷ (to_be_bytes w32 d.found_flags ++ (to_be_bytes w64 d.found_unique ++ to_be_bytes w32 d.size)))
@@ -102,6 +108,19 @@ CallKnown past d hs = HeadKnown past d hs × IsCall (call_in d) × FitsCall (cal
 abbrev pub FoundKnown : Past → Draft → List Hold → Type 0
 FoundKnown past d hs = CallKnown past d hs × (d.found_flags < 2 ^ 32) × (d.found_unique < 2 ^ 64)
 
+-- what is known of a tally after its numbers of gets, of sets, and so on
+abbrev pub GetsKnown : Past → Draft → List Hold → Type 0
+GetsKnown past d hs = CallKnown past d hs × (d.counts.gets < 2 ^ 64)
+
+abbrev pub SetsKnown : Past → Draft → List Hold → Type 0
+SetsKnown past d hs = GetsKnown past d hs × (d.counts.sets < 2 ^ 64)
+
+abbrev pub HitsKnown : Past → Draft → List Hold → Type 0
+HitsKnown past d hs = SetsKnown past d hs × (d.counts.hits < 2 ^ 64)
+
+abbrev pub MissesKnown : Past → Draft → List Hold → Type 0
+MissesKnown past d hs = HitsKnown past d hs × (d.counts.misses < 2 ^ 64)
+
 -- what is known where this is expected
 abbrev pub Known : Due → Past → Draft → List Hold → Type 0
 Known (Byte CallCode) past d hs = HeadKnown past d hs
@@ -122,6 +141,11 @@ Known (Long Index) past d hs = ConnectionKnown past d hs
 Known (Long CallNumber) past d hs = HeadKnown past d hs × KeyKnown d × FlagsKnown d × ((fields_in d).number ≡ true)
 Known (Long FoundUnique) past d hs = CallKnown past d hs × (d.found_flags < 2 ^ 32)
 Known (Long ReplyNumber) past d hs = CallKnown past d hs
+Known (Long Gets) past d hs = CallKnown past d hs
+Known (Long Sets) past d hs = GetsKnown past d hs
+Known (Long Hits) past d hs = SetsKnown past d hs
+Known (Long Misses) past d hs = HitsKnown past d hs
+Known (Long Items) past d hs = MissesKnown past d hs
 Known (Bytes Key) past d hs = HeadKnown past d hs × ((fields_in d).key ≡ true) × (d.size ≤ 250)
 Known (Bytes Value) past d hs = HeadKnown past d hs × KeyKnown d × FlagsKnown d × NumberKnown d × ((fields_in d).value ≡ true) × (d.size ≤ value_limit)
 Known (Bytes FoundValue) past d hs = FoundKnown past d hs × (d.size ≤ value_limit)

@@ -4,6 +4,7 @@ use Rattle.zy_base.specs.declared.call_kind.CallKind.TheVariants.{Flush}
 use Rattle.zy_base.specs.declared.call_kind.CallFields.{CallFields}
 use Rattle.zy_base.specs.declared.call_reply.CallReply.{CallReply}
 use Rattle.zy_base.specs.declared.entry.Entry.{Entry}
+use Rattle.zy_base.specs.declared.tallied.Tallied.{Tallied}
 use Rattle.zy_base.specs.declared.hold.Hold.{Hold}
 use Rattle.zy_base.specs.declared.file_fault.FileFault.{FileFault}
 use Rattle.zy_base.specs.Code.{call_of}
@@ -34,6 +35,10 @@ at_key fields = if fields.key then Byte KeyLength else at_flags fields
 
 -- ---- records
 
+-- no number of a tally was read
+abbrev pub nothing_counted : Tallied
+nothing_counted = record { gets = 0; sets = 0; hits = 0; misses = 0; items = 0 }
+
 -- a record of which nothing was read
 abbrev pub fresh : Draft
 fresh = record {
@@ -49,6 +54,7 @@ fresh = record {
   value = [];
   found_flags = 0;
   found_unique = 0;
+  counts = nothing_counted;
   core = 0;
   size = 0;
 }

@@ -8,7 +8,7 @@ use Rattle.zy_journal_reader.specs.declared.due.Due.{Due}
 use Rattle.zy_journal_reader.specs.declared.due.Due.TheVariants.{Byte, Number, Long, Bytes}
 use Rattle.zy_journal_reader.specs.declared.due.ByteField.TheVariants.{ReplyCode}
 use Rattle.zy_journal_reader.specs.declared.due.NumberField.TheVariants.{FoundLength, HoldCount}
-use Rattle.zy_journal_reader.specs.declared.due.LongField.TheVariants.{ReplyNumber}
+use Rattle.zy_journal_reader.specs.declared.due.LongField.TheVariants.{ReplyNumber, Items}
 use Rattle.zy_journal_reader.specs.Steps.{Progress, Step}
 use Rattle.zy_journal_reader.specs.Verdict.{Verdict, journals, verdict}
 use Rattle.zy_journal_reader.specs.Verdict.Verdict.{Good, Bad}
@@ -34,6 +34,7 @@ takes_memory (Byte ReplyCode) = true
 takes_memory (Number FoundLength) = true
 takes_memory (Number HoldCount) = true
 takes_memory (Long ReplyNumber) = true
+takes_memory (Long Items) = true
 takes_memory due = false
 
 -- the reader may need memory for the byte

@@ -9,7 +9,7 @@ use Rattle.zy_base.specs.declared.call_reply.CallReply.{CallReply}
 use Rattle.zy_base.specs.declared.call_reply.CallReply.TheVariants as Replies
 use Rattle.zy_base.specs.declared.entry.Entry.{Entry}
 use Rattle.zy_base.specs.declared.hold.Hold.{Hold}
-use Rattle.zy_base.specs.Code.{kind_of, fields_of, last_call_code, last_reply_code, hit_code, number_code, plain_reply}
+use Rattle.zy_base.specs.Code.{kind_of, fields_of, last_call_code, last_reply_code, hit_code, number_code, tally_code, tally, plain_reply}
 use Rattle.zy_base.specs.Limits.{key_limit, value_limit, connection_limit, shard_limit, core_limit, hold_limit, command_limit, stamp_limit}
 use Rattle.zy_read.specs.Format as Reads
 use Rattle.zy_journal.specs.Journal.{magic}
@@ -22,7 +22,7 @@ use Rattle.zy_journal_reader.specs.declared.due.ByteField.TheVariants.{Magic, Ta
 use Rattle.zy_journal_reader.specs.declared.due.NumberField.{NumberField}
 use Rattle.zy_journal_reader.specs.declared.due.NumberField.TheVariants.{Shard, Connection, Part, Flags, ValueLength, FoundFlags, FoundLength, HoldConnection, HoldCore, HoldCount}
 use Rattle.zy_journal_reader.specs.declared.due.LongField.{LongField}
-use Rattle.zy_journal_reader.specs.declared.due.LongField.TheVariants.{Stamp, Index, CallNumber, FoundUnique, ReplyNumber}
+use Rattle.zy_journal_reader.specs.declared.due.LongField.TheVariants.{Stamp, Index, CallNumber, FoundUnique, ReplyNumber, Gets, Sets, Hits, Misses, Items}
 use Rattle.zy_journal_reader.specs.declared.due.BytesField.{BytesField}
 use Rattle.zy_journal_reader.specs.declared.due.BytesField.TheVariants.{Key, Value, FoundValue}
 use Rattle.zy_journal_reader.specs.Fields.{at_key, at_flags, at_number, at_value, fresh, entry_of, hold_of}
@@ -140,7 +140,7 @@ after_byte CallCode p byte = knows p (record p.draft { kind = kind_of byte }) (a
 after_byte KeyLength p byte = begins p Key byte
 after_byte ReplyCode p byte =
     if byte == hit_code then goes p (Number FoundFlags) else if byte == number_code then goes p (Long ReplyNumber)
-    else ends_entry p (plain_reply byte)
+    else if byte == tally_code then goes p (Long Gets) else ends_entry p (plain_reply byte)
 
 -- ---- numbers of four bytes
 
@@ -181,6 +181,11 @@ lawful_long Index p n = nat_lt n command_limit
 lawful_long CallNumber p n = true
 lawful_long FoundUnique p n = true
 lawful_long ReplyNumber p n = true
+lawful_long Gets p n = true
+lawful_long Sets p n = true
+lawful_long Hits p n = true
+lawful_long Misses p n = true
+lawful_long Items p n = true
 
 -- what a lawful one does
 abbrev pub after_eight : LongField → Progress → ℕ → Step
@@ -189,6 +194,11 @@ after_eight Index p n = knows p (record p.draft { index = n }) (Number Part)
 after_eight CallNumber p n = knows p (record p.draft { number = n }) (at_value (fields_of p.draft.kind))
 after_eight FoundUnique p n = knows p (record p.draft { found_unique = n }) (Number FoundLength)
 after_eight ReplyNumber p n = ends_entry p (Replies.Number n)
+after_eight Gets p n = knows p (record p.draft { counts = record p.draft.counts { gets = n } }) (Long Sets)
+after_eight Sets p n = knows p (record p.draft { counts = record p.draft.counts { sets = n } }) (Long Hits)
+after_eight Hits p n = knows p (record p.draft { counts = record p.draft.counts { hits = n } }) (Long Misses)
+after_eight Misses p n = knows p (record p.draft { counts = record p.draft.counts { misses = n } }) (Long Items)
+after_eight Items p n = ends_entry p (tally (record p.draft.counts { items = n }))
 
 -- ---- keys and values
 

@@ -3,7 +3,7 @@ ghost use Rattle.std.specs.Prelude.{◌≡◌};
 ghost use Rattle.zy_journal_reader.specs.Fields.{fresh, entry_of};
 
 use std::alloc::Global;
-use zy_base::{Blob, CallKind, CallReply, Entry, Tag};
+use zy_base::{Blob, CallKind, CallReply, Entry, Tag, Tallied};
 
 /// What was read of a record so far; 0 and empty where a field was not read.
 #[derive(Drop)]
@@ -22,6 +22,8 @@ pub(crate) struct Draft {
     /// The flags and the unique that a get found.
     pub(crate) found_flags: u32,
     pub(crate) found_unique: u64,
+    /// The numbers of a tally.
+    pub(crate) counts: Tallied,
     /// The core of a hold.
     pub(crate) core: u32,
     /// The length of the bytes that are expected.
@@ -46,6 +48,13 @@ impl Draft {
             value: Blob::new(alloc),
             found_flags: 0,
             found_unique: 0,
+            counts: Tallied {
+                gets: 0,
+                sets: 0,
+                hits: 0,
+                misses: 0,
+                items: 0,
+            },
             core: 0,
             size: 0,
         }

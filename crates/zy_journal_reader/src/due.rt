@@ -55,6 +55,12 @@ pub(crate) enum LongField {
     FoundUnique,
     /// The number in a reply.
     ReplyNumber,
+    /// The five numbers of a tally, in this order.
+    Gets,
+    Sets,
+    Hits,
+    Misses,
+    Items,
 }
 
 /// Bytes whose length was read before.

@@ -9,7 +9,7 @@ use Rattle.std.proofs.lemmas.List.Elements.{All-from_recursion}
 use Rattle.zy_base.specs.declared.item.Item.{Item}
 use Rattle.zy_base.specs.declared.call.Call.TheVariants as Calls
 use Rattle.zy_base.specs.declared.call_reply.CallReply.TheVariants as Replies
-use Rattle.zy_base.specs.Shard.{empty_state, reply_to, state_after, outcome_of}
+use Rattle.zy_base.specs.Shard.{State, empty_state, tallied, reply_to, state_after, outcome_of}
 use Rattle.zy_base.specs.History.{IsLegal}
 use Rattle.mc_parse.specs.Calls.{due, dues_of}
 use Rattle.mc_parse.specs.Words.{words}
@@ -26,13 +26,14 @@ use Rattle.zy_run.specs.ApartWorked.{apart_records, apart_entries}
 -- ---- the run
 
 missed : Replies.Miss ≡ reply_to empty_state (Calls.Get (codes "b"))
-missed = sym (ap (λ (found : Option Item). (outcome_of (Calls.Get (codes "b")) found).reply) (get-empty (slice_cmp nat_cmp) (codes "b")))
+missed = sym (ap (λ (found : Option Item). (outcome_of (tallied empty_state) (Calls.Get (codes "b")) found).reply) (get-empty (slice_cmp nat_cmp) (codes "b")))
 
 hit : Replies.Hit 0 28 (codes "x") ≡ reply_to (state_after 16 12 empty_state (Calls.Set (codes "a") 0 (codes "x"))) (Calls.Get (codes "a"))
 hit =
     let item : Item = record { flags = 0; value = codes "x"; unique = 28 } in
     let found : get (insert empty_state.items (codes "a") item) (codes "a") ≡ Some item = get-insert nat_list_cmp_total empty_state.items (codes "a") item (codes "a") in
-    sym (ap (λ (found : Option Item). (outcome_of (Calls.Get (codes "a")) found).reply) found)
+    let after : State = state_after 16 12 empty_state (Calls.Set (codes "a") 0 (codes "x")) in
+    sym (ap (λ (found : Option Item). (outcome_of (tallied after) (Calls.Get (codes "a")) found).reply) found)
 
 worked_is_legal : IsLegal 16 apart_entries
 worked_is_legal = (omega arith, missed, (omega arith, refl, (omega arith, hit, tt)))

@@ -11,7 +11,7 @@ commands_of_all streams conn = commands_over (streams conn)
 
 -- the commands of the first `count` connections are apart
 pub record AreApart (count : ℕ) (commands : ℕ → List Command) : Type 0 where
-  -- no command is `gets`, `cas` or `flush_all`
+  -- no command is `gets`, `cas`, `flush_all` or `stats`, `mg` with `c` or `ms` with `C`
   pub plain : (conn : ℕ) → conn < count → All IsPlain (commands conn)
   -- no key is called by two connections
   pub keys : (conn other : ℕ) (key : List ℕ) → conn < count → other < count

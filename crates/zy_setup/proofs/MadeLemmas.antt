@@ -3,10 +3,9 @@ use Rattle.std.proofs.Common.{◌≡◌, ◌⊎◌, inl, inr, ℕ, suc, ◌+◌,
 use Rattle.std.proofs.lemmas.Option.{slice_get_within}
 use Rattle.atomic_table.specs.Seated.{TableId}
 use Rattle.mc_store.specs.Pass.{Stored}
-use Rattle.zy_table.specs.Name.{name_of}
 use Rattle.zy_shuffle.specs.Pass.{Held, Ringed, newly_held}
-use Rattle.zy_steal.specs.Steal.{PassList}
-use Rattle.zy_conn.specs.Block.{Blocked}
+use Rattle.zy_steal.specs.Steal.{PassList, AreIdle, seats_of}
+use Rattle.zy_conn.specs.Block.{Blocked, label_of}
 use Rattle.zy_home.specs.Home.{Homed, HomeStands, IsMade}
 use Rattle.zy_setup.specs.declared.own.Own.{Own}
 use Rattle.zy_setup.specs.declared.made.Made.{Made}
@@ -21,15 +20,15 @@ made_none store cores count made homes rings passes = record {
   all = ap (λ (l : List (PassList Blocked)). length l) passes ∙ length-no_passes cores;
   homes = λ core h h_at. let none : slice_get {X = Homed} [] core ≡ Some h = ap (λ l. slice_get l core) (sym homes) ∙ h_at in absurd (cc);
   counts = λ core h h_at. let none : slice_get {X = Homed} [] core ≡ Some h = ap (λ l. slice_get l core) (sym homes) ∙ h_at in absurd (cc);
-  passes = λ core p p_at. subst (λ l. HasPasses (name_of store) l core p) (sym rings) (passes_none (name_of store) cores core p (ap (λ l. slice_get l core) (sym passes) ∙ p_at));
+  passes = λ core p p_at. subst (λ l. HasPasses (label_of store cores) l core p) (sym rings) (passes_none (label_of store cores) cores core p (ap (λ l. slice_get l core) (sym passes) ∙ p_at));
 }
 
 -- a new home on the last ring
 pub new_home : (store : TableId) (rings rings' : List Ringed) (core cores count places : ℕ) (ring : Ringed) (first pass : Held Blocked) (blocks : List Blocked) (h : Homed)
     → rings' ≡ rings ++ ring ∷ [] → core ≡ length rings
-    → first ≡ newly_held ring.id (name_of store) places → pass ≡ record first { out = pass.out } → IsMade core cores count pass blocks h → HomeStands h [] → IsNewHome rings' (name_of store) cores core h
+    → first ≡ newly_held ring.id (label_of store cores) places → pass ≡ record first { out = pass.out } → IsMade core cores count pass blocks h → HomeStands h [] → IsNewHome rings' (label_of store cores) cores core h
 new_home store rings rings' core cores count places ring first pass blocks h rings_are last is given made stands =
-    let held : h.pass ≡ record (newly_held ring.id (name_of store) places) { out = pass.out } = made.pass_is ∙ given ∙ ap (λ (v : Held Blocked). record v { out = pass.out }) is in record {
+    let held : h.pass ≡ record (newly_held ring.id (label_of store cores) places) { out = pass.out } = made.pass_is ∙ given ∙ ap (λ (v : Held Blocked). record v { out = pass.out }) is in record {
       core_is = made.core_is;
       cores_is = made.cores_is;
       ring = λ r at. ap (λ (v : Held Blocked). v.table) held ∙ ap (λ (x : Ringed). x.id) (last_ring r (push_at rings ring core r (ap (λ l. slice_get l core) (sym rings_are) ∙ at)));
@@ -47,9 +46,9 @@ new_home store rings rings' core cores count places ring first pass blocks h rin
 module _ (store : TableId) (cores count : ℕ) (made made' : Made) (are : AreMade store cores count made) (home : Homed) (ring : Ringed) (pass : Held Blocked)
     (homes_are : made'.homes.items ≡ made.homes.items ++ home ∷ []) (rings_are : made'.rings ≡ made.rings ++ ring ∷ [])
     (passes' : List (PassList Blocked)) (passes_are : made'.passes.items ≡ passes') (gives : Gives (length made.homes.items) pass made.passes.items passes') (size : length passes' ≡ length made.passes.items)
-    (new : IsNewHome made'.rings (name_of store) cores (length made.homes.items) home) (counted : home.count ≡ count)
-    (table : pass.table ≡ ring.id) (labelled : pass.label ≡ name_of store) (empty : pass.hand ≡ []) where
-  home_at : (core : ℕ) (h : Homed) → (slice_get made.homes.items core ≡ Some h) ⊎ ((core ≡ length made.homes.items) × (home ≡ h)) → IsNewHome made'.rings (name_of store) cores core h
+    (new : IsNewHome made'.rings (label_of store cores) cores (length made.homes.items) home) (counted : home.count ≡ count)
+    (table : pass.table ≡ ring.id) (labelled : pass.label ≡ label_of store cores) (empty : pass.hand ≡ []) where
+  home_at : (core : ℕ) (h : Homed) → (slice_get made.homes.items core ≡ Some h) ⊎ ((core ≡ length made.homes.items) × (home ≡ h)) → IsNewHome made'.rings (label_of store cores) cores core h
   home_at core h (inl there) =
       let was = are.homes core h there in
       let below = slice_get_within made.homes.items core h there in
@@ -62,7 +61,7 @@ module _ (store : TableId) (cores count : ℕ) (made made' : Made) (are : AreMad
         live = was.live;
         stands = was.stands;
       }
-  home_at core h (inr last) = subst (λ n. IsNewHome made'.rings (name_of store) cores n h) (sym last.0) (subst (IsNewHome made'.rings (name_of store) cores (length made.homes.items)) last.1 new)
+  home_at core h (inr last) = subst (λ n. IsNewHome made'.rings (label_of store cores) cores n h) (sym last.0) (subst (IsNewHome made'.rings (label_of store cores) cores (length made.homes.items)) last.1 new)
 
   count_at : (core : ℕ) (h : Homed) → (slice_get made.homes.items core ≡ Some h) ⊎ ((core ≡ length made.homes.items) × (home ≡ h)) → h.count ≡ count
   count_at core h (inl there) = are.counts core h there
@@ -75,8 +74,8 @@ module _ (store : TableId) (cores count : ℕ) (made made' : Made) (are : AreMad
     all = ap (λ (l : List (PassList Blocked)). length l) passes_are ∙ size ∙ are.all;
     homes = λ core h at. home_at core h (push_at made.homes.items home core h (ap (λ l. slice_get l core) (sym homes_are) ∙ at));
     counts = λ core h at. count_at core h (push_at made.homes.items home core h (ap (λ l. slice_get l core) (sym homes_are) ∙ at));
-    passes = λ core p p_at. subst (λ l. HasPasses (name_of store) l core p) (sym rings_are)
-        (passes_next (name_of store) made.rings ring pass table labelled empty made.passes.items passes'
+    passes = λ core p p_at. subst (λ l. HasPasses (label_of store cores) l core p) (sym rings_are)
+        (passes_next (label_of store cores) made.rings ring pass table labelled empty made.passes.items passes'
         (subst (λ n. Gives n pass made.passes.items passes') (sym are.same) gives) are.passes core p (ap (λ l. slice_get l core) (sym passes_are) ∙ p_at));
   }
 
@@ -91,13 +90,13 @@ ready_of store cores count made are all some few =
       few = omega arith;
       homes_are = omega arith;
       passes_are = omega arith;
-      each_home = λ core h at. subst (λ (n : ℕ). IsNewHome made.rings (name_of store.id) n core h) rings (are.homes core h at);
+      each_home = λ core h at. subst (λ (n : ℕ). IsNewHome made.rings (label_of store.id n) n core h) rings (are.homes core h at);
       each_passes = λ core p at.
           let has = are.passes core p at in
           let below = slice_get_within made.passes.items core p at in record {
             core_is = has.core_is;
-            passes = passes_all (name_of store.id) made.rings core p has (omega arith);
-            idle = has.idle;
+            passes = passes_all (label_of store.id cores) made.rings core p has (omega arith);
+            idle = subst (λ (n : ℕ). AreIdle (label_of store.id n) (seats_of p.items)) rings has.idle;
           };
     }
 

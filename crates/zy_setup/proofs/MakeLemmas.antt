@@ -1,9 +1,8 @@
 -- How cores are made one after the other.
 use Rattle.std.proofs.Common.{◌≡◌, ℕ, suc, ◌+◌, ◌≤◌, List, [], ◌∷◌, ◌++◌, length, Some, slice_get, refl, sym, ap, ◌∙◌, subst, arith, append_assoc}
 use Rattle.std.proofs.lemmas.List.{append-nil}
-use Rattle.zy_table.specs.Name.{name_of}
 use Rattle.zy_rx.specs.Ring.{Offering, Taking}
-use Rattle.zy_conn.specs.Block.{Blocked}
+use Rattle.zy_conn.specs.Block.{Blocked, label_of}
 use Rattle.zy_control.specs.Pass as control
 use Rattle.zy_home.specs.Home.{Homed}
 use Rattle.zy_steal.specs.Order.{other_core}
@@ -21,7 +20,7 @@ use Rattle.zy_setup.proofs.ListLemmas.{map_at, of_map, map_push, length_push, le
 
 -- a core of new parts fits
 pub fits_new : (shared : Sharing) (number : ℕ) (home : Homed) (thief : Thief) (passes : PassList Blocked) (outlet : Taking) (pass : control.Held)
-    → IsNewHome shared.rings (name_of shared.store.id) (length shared.rings) number home → AreNewPasses shared.rings (name_of shared.store.id) number passes
+    → IsNewHome shared.rings (label_of shared.store.id (length shared.rings)) (length shared.rings) number home → AreNewPasses shared.rings (label_of shared.store.id (length shared.rings)) number passes
     → pass.table ≡ shared.control.id → Fits shared (identity_of (cored home thief passes outlet pass 0))
 fits_new shared number home thief passes outlet pass new own words = record {
   cores = sym new.cores_is;
@@ -30,7 +29,7 @@ fits_new shared number home thief passes outlet pass new own words = record {
       let v = of_map seat_of passes.items at s seat in
       let same : passes.core ≡ home.core = own.core_is ∙ sym new.core_is in
       ap (λ x. x.table) (sym v.2) ∙ own.passes.tables at v.0 r v.1 (ap (λ k. slice_get shared.rings (other_core k at)) same ∙ there);
-  store = new.label_is;
+  store = new.label_is ∙ ap (label_of shared.store.id) (sym new.cores_is);
   control = words;
 }
 

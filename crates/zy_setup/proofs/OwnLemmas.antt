@@ -10,12 +10,11 @@ use Rattle.std.proofs.lemmas.List.Elements.{All-get_or}
 use Rattle.std.proofs.lemmas.Option.{get_or_from_slice_get, slice_get_within}
 use Rattle.atomic_table.specs.Seated.{TableId}
 use Rattle.zy_table.specs.Member.{is_in}
-use Rattle.zy_table.specs.Name.{name_of}
 use Rattle.zy_table.proofs.MemberLemmas.{not_in}
 use Rattle.zy_table.proofs.SliceLemmas.{get_at, get_set_else, get_set_same}
 use Rattle.zy_rx.specs.Flow.{home_of}
 use Rattle.zy_conn.specs.Ring.{EventInlet}
-use Rattle.zy_conn.specs.Block.{Blocked}
+use Rattle.zy_conn.specs.Block.{Blocked, label_of}
 use Rattle.zy_home.specs.Own.{own_conns}
 use Rattle.zy_home.specs.Parts.{IsNew, IsUnused, conns_of_blocks, rings_of_blocks, rings_of_inlets}
 use Rattle.zy_home.proofs.OwnLemmas.{own-here, own-else}
@@ -38,7 +37,7 @@ own_none : (store : TableId) (core cores : ℕ) (own : Own) → IsEmpty own → 
 own_none store core cores own is = record {
   places_are = is.places_are ∙ sym (ap (λ (l : List Blocked). length l) is.blocks_are);
   conns = ap conns_of_blocks is.blocks_are;
-  new = subst (AllByRecursion (IsNew (name_of store))) (sym is.blocks_are) tt;
+  new = subst (AllByRecursion (IsNew (label_of store cores))) (sym is.blocks_are) tt;
   rings = ap rings_of_inlets is.inlets_are ∙ sym (ap rings_of_blocks is.blocks_are);
   unused = subst (AllByRecursion IsUnused) (sym is.inlets_are) tt;
 }
@@ -54,12 +53,12 @@ places_few store core cores count own is =
 
 module _ (store : TableId) (core cores conn : ℕ) (own : Own) (is : IsOwnOf store core cores conn own) where
   -- a connection of the core is added
-  own_added : (own' : Own) (block : Blocked) (inlet : EventInlet) → home_of cores conn ≡ core → IsConnection store conn block inlet → HasOneMore block inlet own own' → IsOwnOf store core cores (conn + 1) own'
+  own_added : (own' : Own) (block : Blocked) (inlet : EventInlet) → home_of cores conn ≡ core → IsConnection store cores conn block inlet → HasOneMore block inlet own own' → IsOwnOf store core cores (conn + 1) own'
   own_added own' block inlet here new more = record {
     places_are = (let places = is.places_are in let one = more.places_are in let size = ap (λ (l : List Blocked). length l) more.blocks_are in let long = length-append own.blocks (block ∷ []) in omega arith);
     conns = ap conns_of_blocks more.blocks_are ∙ map-append (λ (b : Blocked). b.work.conn) own.blocks (block ∷ [])
         ∙ (λ i. is.conns i ++ new.conn_is i ∷ []) ∙ sym (own-here core cores conn here);
-    new = subst (AllByRecursion (IsNew (name_of store))) (sym more.blocks_are) (all_append (IsNew (name_of store)) own.blocks (block ∷ []) is.new (new.new, tt));
+    new = subst (AllByRecursion (IsNew (label_of store cores))) (sym more.blocks_are) (all_append (IsNew (label_of store cores)) own.blocks (block ∷ []) is.new (new.new, tt));
     rings = ap rings_of_inlets more.inlets_are ∙ map-append (λ (x : EventInlet). x.ring) own.inlets (inlet ∷ [])
         ∙ (λ i. is.rings i ++ new.ring_is i ∷ [])
         ∙ sym (ap rings_of_blocks more.blocks_are ∙ map-append (λ (b : Blocked). b.work.ring) own.blocks (block ∷ []));
@@ -94,7 +93,7 @@ module _ (store : TableId) (cores conn : ℕ) (owns : List Own) (are : AreOwns s
   pub own_room : conn < 4096 → own.places < 4096
   own_room below = let few = places_few store core cores conn own own_at_core in omega arith
 
-  pub owns_next : (own' : Own) (block : Blocked) (inlet : EventInlet) → IsConnection store conn block inlet → HasOneMore block inlet own own' → AreOwns store cores (conn + 1) (set owns core own')
+  pub owns_next : (own' : Own) (block : Blocked) (inlet : EventInlet) → IsConnection store cores conn block inlet → HasOneMore block inlet own own' → AreOwns store cores (conn + 1) (set owns core own')
   owns_next own' block inlet new more = record {
     count = length-set owns core own' ∙ are.count;
     each = λ k x at. dite (ℕ_discrete k core)

@@ -3,12 +3,11 @@ use Rattle.std.specs.Prelude.{◌≡◌, ℕ, zero, suc, ◌+◌, ◌-◌, ◌==
 use Rattle.std.specs.List.{AllByRecursion}
 use Rattle.atomic_table.specs.Seated.{TableId}
 use Rattle.zy_table.specs.declared.name.Name.{Name}
-use Rattle.zy_table.specs.Name.{name_of}
 use Rattle.zy_shuffle.specs.Pass.{Held, Ringed}
 use Rattle.zy_steal.specs.Order.{other_core}
 use Rattle.zy_steal.specs.Steal.{PassList, pass_list, AreIdle, seats_of}
 use Rattle.zy_conn.specs.Ring.{EventInlet}
-use Rattle.zy_conn.specs.Block.{Blocked}
+use Rattle.zy_conn.specs.Block.{Blocked, label_of}
 use Rattle.zy_home.specs.Own.{own_conns}
 use Rattle.zy_home.specs.Parts.{IsNew, IsUnused, conns_of_blocks, rings_of_blocks, rings_of_inlets}
 use Rattle.zy_home.specs.Home.{Homed}
@@ -24,10 +23,10 @@ pub record IsEmpty (own : Own) : Type 0 where
   pub blocks_are : own.blocks ≡ []
   pub inlets_are : own.inlets ≡ []
 
--- a block with its inlet, of a new connection of this store
-pub record IsConnection (store : TableId) (conn : ℕ) (block : Blocked) (inlet : EventInlet) : Type 0 where
+-- a block with its inlet, of a new connection of this store and this number of cores
+pub record IsConnection (store : TableId) (cores conn : ℕ) (block : Blocked) (inlet : EventInlet) : Type 0 where
   pub conn_is : block.work.conn ≡ conn
-  pub new : IsNew (name_of store) block
+  pub new : IsNew (label_of store cores) block
   pub ring_is : inlet.ring ≡ block.work.ring
   pub unused : IsUnused inlet
 
@@ -41,7 +40,7 @@ pub record HasOneMore (block : Blocked) (inlet : EventInlet) (own own' : Own) : 
 pub record IsOwnOf (store : TableId) (core cores conn : ℕ) (own : Own) : Type 0 where
   pub places_are : own.places ≡ length own.blocks
   pub conns : conns_of_blocks own.blocks ≡ own_conns core cores conn
-  pub new : AllByRecursion (IsNew (name_of store)) own.blocks
+  pub new : AllByRecursion (IsNew (label_of store cores)) own.blocks
   pub rings : rings_of_inlets own.inlets ≡ rings_of_blocks own.blocks
   pub unused : AllByRecursion IsUnused own.inlets
 
@@ -86,7 +85,7 @@ pub record AreMade (store : TableId) (cores count : ℕ) (made : Made) : Type 0 
   pub same : length made.rings ≡ length made.homes.items
   pub all : length made.passes.items ≡ cores
   pub homes : (core : ℕ) (h : Homed) → slice_get made.homes.items core ≡ Some h
-      → IsNewHome made.rings (name_of store) cores core h
+      → IsNewHome made.rings (label_of store cores) cores core h
   pub counts : (core : ℕ) (h : Homed) → slice_get made.homes.items core ≡ Some h → h.count ≡ count
   pub passes : (core : ℕ) (p : PassList Blocked) → slice_get made.passes.items core ≡ Some p
-      → HasPasses (name_of store) made.rings core p
+      → HasPasses (label_of store cores) made.rings core p

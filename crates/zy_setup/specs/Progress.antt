@@ -1,8 +1,7 @@
 -- How far the making of cores has come. No public clause cites this module.
 use Rattle.std.specs.Prelude.{◌≡◌, ℕ, ◌+◌, List, [], ◌∷◌, ◌++◌, length, Some, slice_get}
-use Rattle.zy_table.specs.Name.{name_of}
 use Rattle.zy_rx.specs.Ring.{Offering}
-use Rattle.zy_conn.specs.Block.{Blocked}
+use Rattle.zy_conn.specs.Block.{Blocked, label_of}
 use Rattle.zy_control.specs.Pass.{rooted}
 use Rattle.zy_home.specs.Home.{Homed}
 use Rattle.zy_steal.specs.Steal.{PassList}
@@ -39,9 +38,10 @@ pub record HasMade (shared : Sharing) (homes : List Homed) (m : Making) (left : 
   pub each : (i : ℕ) (c : Cored) → slice_get m.cores i ≡ Some c → Fits shared (identity_of c)
   pub fresh : AreFresh m.inlets.items
   pub each_home : (i core : ℕ) (h : Homed) → slice_get left i ≡ Some h → core ≡ length m.inlets.items + i
-      → IsNewHome shared.rings (name_of shared.store.id) (length shared.rings) core h
+      → IsNewHome shared.rings (label_of shared.store.id (length shared.rings)) (length shared.rings) core h
   pub each_passes : (i core : ℕ) (p : PassList Blocked) → slice_get passes i ≡ Some p
-      → core ≡ length m.inlets.items + i → AreNewPasses shared.rings (name_of shared.store.id) core p
+      → core ≡ length m.inlets.items + i
+      → AreNewPasses shared.rings (label_of shared.store.id (length shared.rings)) core p
 
 -- cores were made of all homes
 pub record HasMadeAll (shared : Sharing) (homes : List Homed) (m : Making) : Type 0 where

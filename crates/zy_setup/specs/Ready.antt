@@ -1,11 +1,10 @@
 -- The parts of which the cores of a run are made, and the receive rings that they get.
 use Rattle.std.specs.Prelude.{◌≡◌, ℕ, ◌≤◌, List, [], length, false, Some, slice_get}
 use Rattle.zy_table.specs.declared.name.Name.{Name}
-use Rattle.zy_table.specs.Name.{name_of}
 use Rattle.mc_store.specs.Pass.{Stored}
 use Rattle.zy_rx.specs.Ring.{Offering, offering}
 use Rattle.zy_shuffle.specs.Pass.{Ringed}
-use Rattle.zy_conn.specs.Block.{Blocked}
+use Rattle.zy_conn.specs.Block.{Blocked, label_of}
 use Rattle.zy_home.specs.Home.{Homed, HomeStands}
 use Rattle.zy_steal.specs.Steal.{PassList, ArePasses, AreIdle, seats_of}
 
@@ -34,9 +33,9 @@ pub record AreReady (rings : List Ringed) (store : Stored) (homes : List Homed)
   pub homes_are : length homes ≡ length rings
   pub passes_are : length passes ≡ length rings
   pub each_home : (core : ℕ) (h : Homed) → slice_get homes core ≡ Some h
-      → IsNewHome rings (name_of store.id) (length rings) core h
+      → IsNewHome rings (label_of store.id (length rings)) (length rings) core h
   pub each_passes : (core : ℕ) (p : PassList Blocked) → slice_get passes core ≡ Some p
-      → AreNewPasses rings (name_of store.id) core p
+      → AreNewPasses rings (label_of store.id (length rings)) core p
 
 -- nothing was offered to a receive ring of 256 slots, and all of them are free
 pub record IsFresh (inlet : Offering) : Type 0 where

@@ -12,21 +12,23 @@ use zy_base::NoMemory;
 use zy_conn::{Block, EventInlet};
 use zy_rx::FlowTable;
 
-// The block and the inlet of a connection that got no pass before.
+// The block and the inlet of a connection that got no pass before, of a run of this number of cores.
 fn connection(
     alloc: Global,
     store: &StoreTable,
     root: &mut Root,
     conn: u32,
+    cores: u32,
 ) -> Result<(Block, EventInlet), NoMemory>
+    requires cores { cores ≤ 64 }
     requires table { root.old.table ≡ store.now.id }
     requires within { conn < 4096 }
     requires fresh { is_in conn root.old.given ≡ false }
-    ensures new { IfOk result (λ made. IsConnection store.now.id conn made.0 made.1) }
+    ensures new { IfOk result (λ made. IsConnection store.now.id cores conn made.0 made.1) }
     ensures root { OnOk result (root.new ≡ rooted root.old.table (conn ∷ root.old.given) root.old.joined) }
 {
     let pass = store.split(root, conn)?;
-    match Block::new(alloc, conn, pass) {
+    match Block::new(alloc, conn, cores, pass) {
         Ok(made) => Ok(made),
         Err((pass, e)) => {
             drop(pass);
@@ -71,7 +73,7 @@ fn add_connections(
     let homes = FlowTable::new(cores);
     for conn in 0..count {
         let core = homes.home_of(conn) as usize;
-        let (block, inlet) = connection(alloc, store, root, conn)?;
+        let (block, inlet) = connection(alloc, store, root, conn, cores)?;
         owns[core].push(block, inlet)?;
     }
     Ok(())

@@ -119,7 +119,7 @@ impl Made {
         ensures one { OnOk result (length self.new.homes.items ≡ length self.old.homes.items + 1) }
     {
         let core = self.homes.len() as u32;
-        let (ring, mut pass) = match ring_of(alloc, store, own.places) {
+        let (ring, mut pass) = match ring_of(alloc, store, cores, own.places) {
             Ok(made) => made,
             Err(e) => {
                 drop(own);

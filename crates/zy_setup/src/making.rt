@@ -1,6 +1,6 @@
 //! Making the cores of a run.
 ghost use Rattle.std.specs.Prelude.{◌≡◌, ◌<◌, ◌≤◌, [], ◌∷◌, ◌++◌, length, IfOk, OnOk};
-ghost use Rattle.zy_table.specs.Name.{name_of};
+ghost use Rattle.zy_conn.specs.Block.{label_of};
 ghost use Rattle.zy_control.specs.Pass.{rooted};
 ghost use Rattle.zy_core.specs.Drive.{identities, AreCores, AreInlets};
 ghost use Rattle.zy_rx.specs.Feed.{rings_of, sent_by};
@@ -154,9 +154,9 @@ impl Making {
         requires few { count ≤ 64 }
         requires next { length self.old.inlets.items < count }
         requires root { self.old.root ≡ rooted shared.now.control.id (length self.old.inlets.items) count }
-        requires home { IsNewHome shared.now.rings (name_of shared.now.store.id) (length shared.now.rings)
-            (length self.old.inlets.items) home }
-        requires passes { AreNewPasses shared.now.rings (name_of shared.now.store.id)
+        requires home { IsNewHome shared.now.rings (label_of shared.now.store.id (length shared.now.rings))
+            (length shared.now.rings) (length self.old.inlets.items) home }
+        requires passes { AreNewPasses shared.now.rings (label_of shared.now.store.id (length shared.now.rings))
             (length self.old.inlets.items) passes }
         ensures ok { OnOk result (Adds shared.now home self.old self.new) }
     {

@@ -1,6 +1,6 @@
 //! Making a ring, and giving the passes on it.
 ghost use Rattle.std.specs.Prelude.{◌≡◌, ◌≤◌, ◌<◌, length, IfOk, OnOk};
-ghost use Rattle.zy_table.specs.Name.{name_of};
+ghost use Rattle.zy_conn.specs.Block.{label_of};
 ghost use Rattle.zy_shuffle.specs.Pass.{HasAll, newly_held, newly_given};
 ghost use Rattle.zy_setup.specs.Make.{Gives, with_pass};
 
@@ -12,30 +12,33 @@ use zy_conn::Block;
 use zy_shuffle::{HomePass, Label, Ring};
 use zy_steal::Passes;
 
-/// A ring with `places` places, all in the home's hand, that has the store as its label.
+/// A ring with `places` places, all in the home's hand, whose label is that of the blocks of the store
+/// and this number of cores.
 pub(crate) fn ring_of(
     alloc: Global,
     store: &StoreTable,
+    cores: u32,
     places: u32,
 ) -> Result<(Ring<Block>, HomePass<Block>), NoMemory>
     requires few { places ≤ 4096 }
     ensures places { IfOk result (λ made. made.0.places ≡ places) }
-    ensures pass { IfOk result (λ made. made.1 ≡ newly_held made.0.id (name_of store.now.id) places) }
+    ensures pass { IfOk result (λ made. made.1 ≡ newly_held made.0.id (label_of store.now.id cores) places) }
     ensures hand { IfOk result (λ made. HasAll places made.1.hand) }
 {
-    ring_as::<Brand>(alloc, store, places)
+    ring_as::<Brand>(alloc, store, cores, places)
 }
 
 // The same, with a marker type that has this label.
 fn ring_as<L: Label>(
     alloc: Global,
     _store: &StoreTable,
+    _cores: u32,
     places: u32,
 ) -> Result<(Ring<Block>, HomePass<Block>), NoMemory>
-    requires picked { name_of _store.now.id ≡ L.label }
+    requires picked { label_of _store.now.id _cores ≡ L.label }
     requires few { places ≤ 4096 }
     ensures places { IfOk result (λ made. made.0.places ≡ places) }
-    ensures pass { IfOk result (λ made. made.1 ≡ newly_held made.0.id (name_of _store.now.id) places) }
+    ensures pass { IfOk result (λ made. made.1 ≡ newly_held made.0.id (label_of _store.now.id _cores) places) }
     ensures hand { IfOk result (λ made. HasAll places made.1.hand) }
 {
     Ring::new::<L>(alloc, places)

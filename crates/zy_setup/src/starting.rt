@@ -26,7 +26,8 @@ pub struct Started {
 
 /// Makes a store with `shards` shards, a pass and a block for each of `count` connections, and for
 /// each core a ring with a place for each of its connections, its home, and its passes on the other
-/// rings. All rings have the store as their label.
+/// rings. All rings have the label of this store and this number of
+/// cores.
 pub fn start(alloc: Global, count: u32, cores: u32, shards: u32) -> Result<Started, NoMemory>
     requires connections { count ≤ 4096 }
     requires some_cores { 1 ≤ cores }

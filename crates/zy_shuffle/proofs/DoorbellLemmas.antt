@@ -12,6 +12,7 @@ use Rattle.std.specs.Int.{bit_at, bit_not, trailing_zeros}
 use Rattle.std.proofs.lemmas.Nat.Bits.{bit_at_set_same, bit_at_set_other, bit_at_clear_same, bit_at_clear_other, bit_at-trailing_zeros}
 use Rattle.atomic_table.specs.Table.{step, takes, gives, Allows}
 use Rattle.atomic_table.proofs.Lists.{set_here, set_else}
+use Rattle.zy_shuffle.proofs.HandLemmas.{marked_else}
 use Rattle.zy_shuffle.proofs.MoveLemmas.{moved, note_else}
 use Rattle.zy_shuffle.specs.Hand.{first_of, marked, rest_of}
 use Rattle.zy_shuffle.specs.Holder.{Holder, at_bell, core_count, cores, in_hand, in_queue, nobody, weight}
@@ -69,7 +70,8 @@ module _ {T M : Type 0} (mark : T → M) (label : T → Name) where
       let f = r.follows in
       let since : ℕ × List Event = (id, between f.events s.views f.known id v at active) in
       let back = sym (since_is f.events s.views f.known id v at active) in
-      let v' : View T = giving since v in (
+      let v' : View T = giving since v ((p, std.Some b) ∷ cs) in
+      let kept' : List (ℕ × T) = (p, b) ∷ v.kept in (
         v',
         gives,
         tt,
@@ -98,11 +100,11 @@ module _ {T M : Type 0} (mark : T → M) (label : T → Name) where
           knows = record {
             hand = λ q e. let g = in_rest q e in let a = k.hand q g.1 in (a.0, put_else r.holders p at_bell q g.0 ∙ a.1);
             apart = apart.1;
-            same = λ q e. let g = in_rest q e in k.same q g.1 ∙ sym (put_else r.marks p (r.marks p) q g.0);
+            same = λ q e. let g = in_rest q e in marked_else mark p q b v.kept g.0 ∙ k.same q g.1 ∙ sym (put_else r.marks p (r.marks p) q g.0);
             head_seen = k.head_seen;
             tail_seen = k.tail_seen;
             note = note_else mark label s.words ws' r.head r.head r.tail r.tail m v.note (omega arith) (omega arith) (λ q _ _. cells q) k.note;
-            role = subst (λ x. IsRole mark label ws' m r.head r.tail holders' marks' r.name (cores s.views) id ks v.label v.kept x) (sym role) core;
+            role = subst (λ x. IsRole mark label ws' m r.head r.tail holders' marks' r.name (cores s.views) id ks v.label kept' x) (sym role) core;
           };
           follows = follows_give m r.marks s.views (set s.views id v') s.words ws' r.head r.tail id p r.holders ordered near mine.1 core.1 (λ k _ _. cells k) f
               (known_more f.events s.views f.known id v at active v' (GiveBack id p) (λ i. GiveBack id (ap first_of front i) ∷ back i) refl refl);

@@ -71,7 +71,7 @@ module _ {T : Type 0} where
 
   pub core_gave : (s s' q : ℕ) (front : std.Option ℕ) (b : T) (m0 m1 m2 m3 : Seated T) → s' ≡ s → IsCorePass s front m0 → IsBrought q m0 m1 → m2 ≡ (m1.0, (q, std.Some b) ∷ rest m1.1) → gave m2 m3 → IsCorePass s' std.None m3
   core_gave s s' q front b m0 m1 m2 m3 same h e f g =
-      let view : m3.0 ≡ giving g.0 m1.0 = ap (λ (m : Seated T). m.0) g.1 ∙ ap (λ (m : Seated T). giving g.0 m.0) f in
+      let view : m3.0 ≡ giving g.0 m1.0 ((q, std.Some b) ∷ rest m1.1) = ap (λ (m : Seated T). m.0) g.1 ∙ ap (λ (m : Seated T). giving g.0 m.0 m.1) f in
       let hand : m3.0.hand ≡ without q m0.0.hand = ap (λ (v : View T). v.hand) view ∙ ap rest_of e.hand in
       let slots : m3.1 ≡ emptied (without q m0.0.hand) = ap (λ (m : Seated T). m.1) g.1 ∙ ap (λ (m : Seated T). rest m.1) f ∙ ap rest e.slots in record {
         seat = (slots ∙ ap emptied (sym hand), ap (λ (v : View T). v.role) view ∙ e.role ∙ h.seat.1, subst (λ (k : ℕ × List ℕ). Within k.0 k.1) (λ j. (sym same j, sym hand j)) (within_less s q m0.0.hand h.seat.2));

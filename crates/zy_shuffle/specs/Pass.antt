@@ -97,9 +97,10 @@ abbrev pub after_publish : {T : Type 0} → ℕ → T → Held T → Trace → H
 after_publish place block v trace =
     record v { hand = without place v.hand; kept = (place, block) ∷ v.kept; count = v.count + 1; trace = trace }
 
--- a core after it gave this place back
-abbrev pub after_give_back : {T : Type 0} → ℕ → Held T → Trace → Held T
-after_give_back place v trace = record v { hand = without place v.hand; trace = trace }
+-- a core after it gave this block back at its place
+abbrev pub after_give_back : {T : Type 0} → ℕ → T → Held T → Trace → Held T
+after_give_back place block v trace =
+    record v { hand = without place v.hand; kept = (place, block) ∷ v.kept; trace = trace }
 
 -- ---- what was found in this call, which began after `begin` steps
 

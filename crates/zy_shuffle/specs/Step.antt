@@ -56,10 +56,13 @@ module _ {T : Type 0} where
   abbrev pub fronting : ℕ → ℕ → View T → View T
   fronting p found v = record v { hand = p ∷ without p v.hand; trace = head_step found v.trace }
 
-  -- the place in front left the hand
-  abbrev pub giving : ℕ × List Event → View T → View T
-  giving since v = record v {
+  -- the place in front left the hand, with this block in its slot
+  abbrev pub giving : ℕ × List Event → View T → List (ℕ × Option T) → View T
+  giving since v [] = v
+  giving since v ((p, None) ∷ cs) = v
+  giving since v ((p, Some b) ∷ cs) = record v {
     hand = rest_of v.hand;
+    kept = (p, b) ∷ v.kept;
     trace = after_event since (GiveBack since.0 (first_of v.hand)) (plain_step v.trace);
   }
 
@@ -117,7 +120,7 @@ module _ {T : Type 0} where
   fronted p m r n = n ≡ (fronting p r m.0, emptied (p ∷ without p m.0.hand))
 
   abbrev pub gave : Seated T → Seated T → Type 0
-  gave m n = (since : ℕ × List Event) × (n ≡ (giving since m.0, rest m.1)) × MayFollow since m.0.trace
+  gave m n = (since : ℕ × List Event) × (n ≡ (giving since m.0 m.1, rest m.1)) × MayFollow since m.0.trace
 
   abbrev pub saw_bells : Step (Option T) → Seated T → ℕ → Seated T → Type 0
   saw_bells st m r n = n ≡ (noting_bells (st.word - (32 + st.slots)) r m.0, m.1)

@@ -51,8 +51,8 @@ module _ {T : Type 0} where
   })
 
   -- giving a block back leaves the passes on the same rings
-  pub gives_within : (rings : List Ringed) (p q : PassList T) (core place : ℕ) → q.core ≡ p.core → GivesTo p q core place → ArePasses rings p → ArePasses rings q
-  gives_within rings p q core place same g h =
+  pub gives_within : (rings : List Ringed) (p q : PassList T) (core place : ℕ) (block : T) → q.core ≡ p.core → GivesTo p q core place block → ArePasses rings p → ArePasses rings q
+  gives_within rings p q core place block same g h =
       passes_tables rings p q same (ap tables_of g.seats ∙ tables-set (seats_of p.items) (number_of p.core core) (seat_of g.before) _ (seats-get p.items (number_of p.core core) g.before g.was) refl) h
 
   module _ {M : Type 0} (mark : T → M) (label : T → Name) where
@@ -74,8 +74,8 @@ module _ {T : Type 0} where
     takes_label z p q core place block idle t = t.holds.labelled ∙ ap (λ (s : SeatOf). s.label) t.seat ∙ (idle_get z p.items (number_of p.core core) t.before idle t.was).0
 
     -- once it was given back, the hands of the passes are as before
-    pub given_back : (z : Name) (p q r : PassList T) (core place : ℕ) (block : T) → q.core ≡ p.core → AreIdle z (seats_of p.items) → TakesFrom mark label p q core place block → GivesTo q r core place → seats_of r.items ≡ seats_of p.items
-    given_back z p q r core place block same idle t g =
+    pub given_back : (z : Name) (p q r : PassList T) (core place : ℕ) (block given : T) → q.core ≡ p.core → AreIdle z (seats_of p.items) → TakesFrom mark label p q core place block → GivesTo q r core place given → seats_of r.items ≡ seats_of p.items
+    given_back z p q r core place block given same idle t g =
         let at : ℕ = number_of p.core core in
         let at_is : number_of q.core core ≡ at = ap (λ c. number_of c core) same in
         let both : Some g.before ≡ Some t.after = sym g.was ∙ ap (slice_get q.items) at_is ∙ t.is in

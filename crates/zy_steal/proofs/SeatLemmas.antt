@@ -1,7 +1,7 @@
 -- What is known of passes by their tables, labels and hands.
 use Rattle.std.proofs.Common.{◌≡◌, ◌≢◌, get_or, subst, ℕ, zero, suc, ◌<◌, List, [], ◌∷◌, length, set, Some, slice_get, refl, sym, ap, ◌∙◌, arith}
 use Rattle.zy_table.specs.declared.name.Name.{Name}
-use Rattle.zy_table.proofs.SliceLemmas.{get_at, get_below}
+use Rattle.zy_table.proofs.SliceLemmas.{get_at, get_below, get_set_there}
 use Rattle.zy_shuffle.specs.declared.ring.view.Trace.{Trace}
 use Rattle.zy_shuffle.specs.Pass.{Held, Ringed, after_give_back}
 use Rattle.zy_steal.specs.Order.{other_core, number_of}
@@ -55,10 +55,14 @@ module _ {T : Type 0} where
   table_is rings core vs at v r h lt is there = h.tables at v r (get_at vs at v v lt is) there
 
   -- the place leaves the hand of one pass
-  pub gives_to : (core victim at place : ℕ) (vs : List (Held T)) (v w : Held T) (trace : Trace) → at ≡ number_of core victim → slice_get vs at ≡ Some v → w ≡ after_give_back place v trace → GivesTo (pass_list core vs) (pass_list core (set vs at w)) victim place
-  gives_to core victim at place vs v w trace is there gave = record {
+  pub gives_to : (core victim at place : ℕ) (block : T) (vs : List (Held T)) (v w : Held T) (trace : Trace) → at ≡ number_of core victim → slice_get vs at ≡ Some v → w ≡ after_give_back place block v trace
+      → GivesTo (pass_list core vs) (pass_list core (set vs at w)) victim place block
+  gives_to core victim at place block vs v w trace is there gave = record {
     before = v;
+    after = w;
     was = ap (slice_get vs) (sym is) ∙ there;
+    is = ap (slice_get (set vs at w)) (sym is) ∙ get_set_there vs at w v there;
+    kept = ap (λ (x : Held T). x.kept) gave;
     seats = seats-set vs at w ∙ (λ i. set (seats_of vs) (is i) (seat_of (gave i)));
   }
 

@@ -109,6 +109,7 @@ module _ {T M : Type 0} (mark : T → M) (label : T → Name) where
         is = ap (slice_get q.items) number ∙ there;
         seat = ap seat_of joined.is;
         seats = ap seats_of c.is ∙ seats-set s.middle taken.at c.after ∙ (λ i. set (s.seats i) (sym number i) (seat_of c.after));
+        kept = ap (λ (v : Held T). v.kept) joined.is;
         holds = record {
           hand = ap (λ (v : Held T). is_in taken.place v.hand) joined.is ∙ in_front taken.place c.before.hand;
           labelled = joined.labelled ∙ sym (ap (λ (v : Held T). v.label) joined.is);

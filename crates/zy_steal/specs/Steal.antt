@@ -77,7 +77,7 @@ pub record HoldsOf {T M : Type 0} (mark : T → M) (label : T → Name) (p : Pas
   pub there : slice_get p.items (number_of p.core core) ≡ Some pass
   pub holds : Holds mark label pass place block
 
--- the block of a place came into the hand of the pass on the ring of this core
+-- the block of a place came into the hand of the pass on the ring of this core, and is the newest that it keeps
 pub record TakesFrom {T M : Type 0} (mark : T → M) (label : T → Name) (p q : PassList T) (core place : ℕ)
     (block : T) : Type 0 where
   pub before : Held T
@@ -86,12 +86,16 @@ pub record TakesFrom {T M : Type 0} (mark : T → M) (label : T → Name) (p q :
   pub is : slice_get q.items (number_of p.core core) ≡ Some after
   pub seat : seat_of after ≡ record { table = before.table; label = before.label; hand = place ∷ before.hand }
   pub seats : seats_of q.items ≡ slice_set (seats_of p.items) (number_of p.core core) (seat_of after)
+  pub kept : after.kept ≡ (place, block) ∷ before.kept
   pub holds : Holds mark label after place block
 
--- the place left the hand of the pass on the ring of this core
-pub record GivesTo {T : Type 0} (p q : PassList T) (core place : ℕ) : Type 0 where
+-- the place left the hand of the pass on the ring of this core, with this block, which is the newest that it keeps
+pub record GivesTo {T : Type 0} (p q : PassList T) (core place : ℕ) (block : T) : Type 0 where
   pub before : Held T
+  pub after : Held T
   pub was : slice_get p.items (number_of p.core core) ≡ Some before
+  pub is : slice_get q.items (number_of p.core core) ≡ Some after
+  pub kept : after.kept ≡ (place, block) ∷ before.kept
   pub seats : seats_of q.items ≡ slice_set (seats_of p.items) (number_of p.core core)
       (record { table = before.table; label = before.label; hand = without place before.hand })
 

@@ -15,9 +15,9 @@ pub fn a_stolen_block_has_the_label<T: Marked>()
 
 /// Once a stolen block was given back, the hands of the passes are as before: empty.
 pub fn a_block_given_back_leaves_the_hands<T: Marked>()
-    ensures value { (label : Name) (p q r : PassList T) (core place : ℕ) (block : T) → q.core ≡ p.core
-        → AreIdle label (seats_of p.items) → TakesFrom T.mark T.label p q core place block → GivesTo q r core place
-        → seats_of r.items ≡ seats_of p.items }
+    ensures value { (label : Name) (p q r : PassList T) (core place : ℕ) (block given : T) → q.core ≡ p.core
+        → AreIdle label (seats_of p.items) → TakesFrom T.mark T.label p q core place block
+        → GivesTo q r core place given → seats_of r.items ≡ seats_of p.items }
 {}
 
 /// Worked orders: the cores that a core looks at in a steal call, by the number of cores, its own

@@ -70,7 +70,7 @@ impl<T: Marked> Passes<T> {
         requires holds { HoldsOf T.mark T.label self.old victim place block }
         ensures kept { self.new.core ≡ self.old.core }
         ensures within { ArePasses rings.now self.new }
-        ensures value { GivesTo self.old self.new victim place }
+        ensures value { GivesTo self.old self.new victim place block }
     {
         let ring = rings.ring(victim);
         let at = number_of(self.core, victim);

@@ -74,7 +74,10 @@ fn writing<R: CpuClock>(rt: &R, alloc: Global, entries: u64) -> Result<Done, NoM
 {
     let journal = Journal::new(history(alloc, 0, entries)?, Holds::new(alloc));
     let before = nanos(rt);
-    let mut sink = Counting { bytes: 0, finishes: 0 };
+    let mut sink = Counting {
+        bytes: 0,
+        finishes: 0,
+    };
     let _ = write_journal(&mut sink, &journal);
     let spent = nanos(rt).saturating_sub(before);
     drop(journal);

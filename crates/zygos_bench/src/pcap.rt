@@ -15,7 +15,10 @@ pub(crate) fn measured<R: CpuClock, I: Read>(
     input: &mut I,
 ) -> Result<Done, NoMemory> {
     let mut reader = PcapReader::new(alloc, 11_211);
-    let mut sink = Counting { bytes: 0, finishes: 0 };
+    let mut sink = Counting {
+        bytes: 0,
+        finishes: 0,
+    };
     let start = nanos(rt);
     read_all(input, &mut reader);
     let written = match reader.finish() {

@@ -11,13 +11,14 @@ use Rattle.zy_check.specs.declared.verdict.Verdict.TheVariants.{Yes}
 use Rattle.zy_check.specs.Given.{given}
 use Rattle.zy_check.specs.Cause.{HasVerdict}
 use Rattle.zy_check.specs.OfRun.{AreOfRun, given_of}
+use Rattle.zy_command_line.specs.declared.request.Run.{Run}
 use Rattle.zygos_run.specs.Headline.{IsServed}
 
-pub only_yes : (shards : ℕ) (bytes : List ℕ) (streams : List (List (List ℕ))) (journal : Journal) (outputs : AllOutputs) (v : Verdict)
+pub only_yes : (run : Run) (bytes : List ℕ) (streams : List (List (List ℕ))) (journal : Journal) (outputs : AllOutputs) (v : Verdict)
     → ((shards count : ℕ) (records : List Record) (journal : Journal) (outputs : AllOutputs) (v : Verdict) → AreOfRun shards count records journal outputs → HasVerdict (given_of shards count records journal outputs) v → v ≡ Yes)
     → ((version count : ℕ) (records : List Record) → verdict bytes ≡ Good version count records → streams ≡ with_records (no_bytes count) records)
-    → IsServed shards bytes journal outputs → HasVerdict (given shards streams journal outputs) v → v ≡ Yes
-only_yes shards bytes streams journal outputs v only of served is =
-    only shards served.count served.records journal outputs v
+    → IsServed run bytes journal outputs → HasVerdict (given run.shards streams journal outputs) v → v ≡ Yes
+only_yes run bytes streams journal outputs v only of served is =
+    only run.shards served.count served.records journal outputs v
     (record { run = served.run; replies = ap (λ (o : AllOutputs). o.sessions) served.replies; holds = served.holds })
-    (subst (λ (s : List (List (List ℕ))). HasVerdict (given shards s journal outputs) v) (of served.version served.count served.records served.capture) is)
+    (subst (λ (s : List (List (List ℕ))). HasVerdict (given run.shards s journal outputs) v) (of served.version served.count served.records served.capture) is)

@@ -23,11 +23,14 @@ use Rattle.zygos_run.specs.declared.answer.Answer.TheVariants.{Served, Checked, 
 use Rattle.zy_pcap.specs.declared.pcap_fault.PcapFault.{PcapFault}
 use Rattle.zy_pcap.specs.Packets.{packets}
 use Rattle.zy_pcap.specs.Packets as Recorded
+use Rattle.zy_base.specs.declared.file_fault.FileFault.{FileFault}
+use Rattle.zy_journal_reader.specs.Verdict as Journals
 use Rattle.zygos_run.specs.Recorded.{IsRecorded}
+use Rattle.zygos_run.specs.Reported.{IsReported}
 use Rattle.zygos_run.specs.Headline.{IsWritten}
 use Rattle.zygos_run.specs.Seen.{Side, Seen, NoneRose, Takes, OfGiven, OfReported, OfTold}
-use Rattle.zygos_run.specs.Ends.{IsChecked, HasServed, HasChecked, HasFault, MayRefuse, Ends}
-use Rattle.zygos_run.specs.Served.{HeadlineHolds, CheckHolds, IsToldGood, IsToldBad, IsDoneOr, IsRefusedOr, IsUsageOr}
+use Rattle.zygos_run.specs.Ends.{IsChecked, HasServed, HasChecked, HasMade, HasFault, MayRefuse, Ends}
+use Rattle.zygos_run.specs.Served.{HeadlineHolds, CheckHolds, ReportHolds, IsToldGood, IsToldBad, IsDoneOr, IsRefusedOr, IsUsageOr}
 
 -- ---- bytes that are reported
 
@@ -42,11 +45,12 @@ told source P given = reported source.before source.after given.0 P given.1.0 gi
 
 pub headline_of : (request : Option Request) (call : Seen) (journal : Journal) → HasServed request call journal → HeadlineHolds request call journal
 headline_of None call journal has = has
-headline_of (Some (Requests.Run run out)) call journal has = told call.source (λ bytes. IsWritten run.shards out bytes journal call.sink) has
+headline_of (Some (Requests.Run run out)) call journal has = told call.source (λ bytes. IsWritten run out bytes journal call.sink) has
 headline_of (Some (Requests.Check shards)) call journal has = has
 headline_of (Some (Requests.Gen traffic)) call journal has = has
 headline_of (Some (Requests.SelfTest traffic run)) call journal has = has
 headline_of (Some (Requests.Pcap port)) call journal has = has
+headline_of (Some Requests.Report) call journal has = has
 
 pub check_of : (request : Option Request) (call : Seen) (found : Certified) → HasChecked request call found → CheckHolds request call found
 check_of None call found has = has
@@ -55,6 +59,16 @@ check_of (Some (Requests.Check shards)) call found has = told call.source (λ by
 check_of (Some (Requests.Gen traffic)) call found has = has
 check_of (Some (Requests.SelfTest traffic run)) call found has = has
 check_of (Some (Requests.Pcap port)) call found has = has
+check_of (Some Requests.Report) call found has = has
+
+pub report_of_made : (request : Option Request) (call : Seen) → HasMade request call → ReportHolds request call
+report_of_made None call has = tt
+report_of_made (Some (Requests.Run run out)) call has = tt
+report_of_made (Some (Requests.Check shards)) call has = tt
+report_of_made (Some (Requests.Gen traffic)) call has = tt
+report_of_made (Some (Requests.SelfTest traffic run)) call has = tt
+report_of_made (Some (Requests.Pcap port)) call has = tt
+report_of_made (Some Requests.Report) call has = told call.source (λ bytes. IsReported bytes (λ table. Takes call.sink table)) has
 
 -- ---- words that are not lawful
 
@@ -88,6 +102,11 @@ no_fault (Some (Requests.Pcap port)) (Some bytes) (Refusals.Pcap f) good may fau
 no_fault (Some (Requests.Pcap port)) (Some bytes) (Refusals.Capture f) good may fault = may
 no_fault (Some (Requests.Pcap port)) (Some bytes) (Refusals.Journal f) good may fault = may
 no_fault (Some (Requests.Pcap port)) (Some bytes) (Refusals.Replies f) good may fault = may
+no_fault (Some Requests.Report) None refusal good may fault = good
+no_fault (Some Requests.Report) (Some bytes) (Refusals.Journal f) good may fault = good f fault
+no_fault (Some Requests.Report) (Some bytes) (Refusals.Capture f) good may fault = may
+no_fault (Some Requests.Report) (Some bytes) (Refusals.Replies f) good may fault = may
+no_fault (Some Requests.Report) (Some bytes) (Refusals.Pcap f) good may fault = may
 
 -- there are words
 some_words : (request : Option Request) (reported : Option (List ℕ)) → IsToldGood request reported → request ≡ None → ⊥
@@ -101,24 +120,28 @@ done_of (Some (Requests.Check shards)) call (Served journal) good none ends = ab
 done_of (Some (Requests.Gen traffic)) call (Served journal) good none ends = absurd ends
 done_of (Some (Requests.SelfTest traffic run)) call (Served journal) good none ends = absurd ends
 done_of (Some (Requests.Pcap port)) call (Served journal) good none ends = absurd ends
+done_of (Some Requests.Report) call (Served journal) good none ends = absurd ends
 done_of None call (Checked found) good none ends = absurd ends
 done_of (Some (Requests.Run run out)) call (Checked found) good none ends = absurd ends
 done_of (Some (Requests.Check shards)) call (Checked found) good none ends = inl tt
 done_of (Some (Requests.Gen traffic)) call (Checked found) good none ends = absurd ends
 done_of (Some (Requests.SelfTest traffic run)) call (Checked found) good none ends = absurd ends
 done_of (Some (Requests.Pcap port)) call (Checked found) good none ends = absurd ends
+done_of (Some Requests.Report) call (Checked found) good none ends = absurd ends
 done_of None call Made good none ends = absurd ends
 done_of (Some (Requests.Run run out)) call Made good none ends = absurd ends
 done_of (Some (Requests.Check shards)) call Made good none ends = absurd ends
 done_of (Some (Requests.Gen traffic)) call Made good none ends = inl tt
 done_of (Some (Requests.SelfTest traffic run)) call Made good none ends = absurd ends
 done_of (Some (Requests.Pcap port)) call Made good none ends = inl tt
+done_of (Some Requests.Report) call Made good none ends = inl tt
 done_of None call (Tested journal numbers) good none ends = absurd ends
 done_of (Some (Requests.Run run out)) call (Tested journal numbers) good none ends = absurd ends
 done_of (Some (Requests.Check shards)) call (Tested journal numbers) good none ends = absurd ends
 done_of (Some (Requests.Gen traffic)) call (Tested journal numbers) good none ends = absurd ends
 done_of (Some (Requests.SelfTest traffic run)) call (Tested journal numbers) good none ends = inl tt
 done_of (Some (Requests.Pcap port)) call (Tested journal numbers) good none ends = absurd ends
+done_of (Some Requests.Report) call (Tested journal numbers) good none ends = absurd ends
 done_of request call Usage good none ends = absurd (some_words request call.source.before good ends)
 done_of request call (Refused refusal) good none ends = absurd (no_fault request call.source.before refusal good ends.0 ends.1)
 done_of request call ReadFault good none ends = absurd (none.0 ends.1)
@@ -141,7 +164,7 @@ module _ (call : Seen) (text : List ℕ) (is_told : call.source.before ≡ Some 
 
   run_refused : (run : Run) (out : Out) (fault : CaptureFault) (answer : Answer) → Ends (Some (Requests.Run run out)) call answer → verdict text ≡ Bad fault → IsRefusedOr (Refusals.Capture fault) answer
   run_refused run out fault (Served journal) ends bad =
-      let is = of_text (λ bytes. IsWritten run.shards out bytes journal call.sink) ends in
+      let is = of_text (λ bytes. IsWritten run out bytes journal call.sink) ends in
       absurd (good_and_bad text is.served.version is.served.count is.served.records fault is.served.capture bad)
   run_refused run out fault (Checked found) ends bad = absurd ends
   run_refused run out fault Made ends bad = absurd ends
@@ -197,6 +220,26 @@ module _ (call : Seen) (text : List ℕ) (is_told : call.source.before ≡ Some 
   pcap_refused port fault WriteFault ends bad = absurd (none.1 ends.1)
   pcap_refused port fault OutOfMemory ends bad = inr refl
 
+  report_refused : (fault : FileFault) (answer : Answer) → Ends (Some Requests.Report) call answer → Journals.verdict text ≡ Journals.Verdict.Bad fault → IsRefusedOr (Refusals.Journal fault) answer
+  report_refused fault (Served journal) ends bad = absurd ends
+  report_refused fault (Checked found) ends bad = absurd ends
+  report_refused fault Made ends bad =
+      let is = of_text (λ bytes. IsReported bytes (λ table. Takes call.sink table)) ends in
+      let both : Journals.Verdict.Good is.journal ≡ Journals.Verdict.Bad fault = sym is.good ∙ bad in cc
+  report_refused fault (Tested journal numbers) ends bad = absurd ends
+  report_refused fault Usage ends bad = absurd (cc)
+  report_refused fault (Refused (Refusals.Capture other)) ends bad = absurd ends.0
+  report_refused fault (Refused (Refusals.Replies other)) ends bad = absurd ends.0
+  report_refused fault (Refused (Refusals.Pcap other)) ends bad = absurd ends.0
+  report_refused fault (Refused (Refusals.Journal other)) ends bad =
+      let cause = ends.1 in
+      let is : Journals.verdict text ≡ Journals.Verdict.Bad other = rw is_told at cause in
+      let both : Journals.Verdict.Bad other ≡ Journals.Verdict.Bad fault = sym is ∙ bad in
+      inl (let same : other ≡ fault = cc in ap (λ f. Refused (Refusals.Journal f)) same)
+  report_refused fault ReadFault ends bad = absurd (none.0 ends.1)
+  report_refused fault WriteFault ends bad = absurd (none.1 ends.1)
+  report_refused fault OutOfMemory ends bad = inr refl
+
 pub refused_of : (request : Option Request) (call : Seen) (answer : Answer) (reported : Option (List ℕ)) (refusal : Refusal)
     → ((text : List ℕ) (streams : List (List (List ℕ))) (journal : Journal) (outputs : AllOutputs) (refusal : Refusal) → AreParts text streams journal outputs → HasPartFault text refusal → ⊥)
     → ((text : List ℕ) (first second : Refusal) → HasPartFault text first → HasPartFault text second → first ≡ second)
@@ -214,3 +257,7 @@ refused_of (Some (Requests.Pcap port)) call answer (Some text) (Refusals.Pcap fa
 refused_of (Some (Requests.Pcap port)) call answer (Some text) (Refusals.Capture fault) parts one is bad none ends = absurd bad
 refused_of (Some (Requests.Pcap port)) call answer (Some text) (Refusals.Journal fault) parts one is bad none ends = absurd bad
 refused_of (Some (Requests.Pcap port)) call answer (Some text) (Refusals.Replies fault) parts one is bad none ends = absurd bad
+refused_of (Some Requests.Report) call answer (Some text) (Refusals.Journal fault) parts one is bad none ends = report_refused call text is none fault answer ends bad
+refused_of (Some Requests.Report) call answer (Some text) (Refusals.Capture fault) parts one is bad none ends = absurd bad
+refused_of (Some Requests.Report) call answer (Some text) (Refusals.Replies fault) parts one is bad none ends = absurd bad
+refused_of (Some Requests.Report) call answer (Some text) (Refusals.Pcap fault) parts one is bad none ends = absurd bad

@@ -4,6 +4,7 @@ use Rattle.std.specs.Prelude.{Some, slice_get}
 use Rattle.zy_setup.proofs.ListLemmas.{map_at, length_map}
 use Rattle.atomic_table.specs.Seated.{TableId}
 use Rattle.zy_capture.specs.Capture.{connection_limit}
+use Rattle.zy_conn.specs.Block.{label_of}
 use Rattle.zy_home.specs.Home.{Homed, is_settled}
 use Rattle.zy_core.specs.Core.{Identity}
 use Rattle.zy_finish.specs.Over.{AreOver}
@@ -22,5 +23,5 @@ over_of store count ids homes within some few stations same settled =
       connections = within;
       each = λ core h found.
           let is = stations core (station_of h) (subst (λ (l : List Station). slice_get l core ≡ Some (station_of h)) same (map_at station_of homes core h found)) in
-          record { core_is = is.core_is; cores_is = is.cores_is ∙ wide; count_is = is.count_is; settled = settled core h found; label = is.label_is };
+          record { core_is = is.core_is; cores_is = is.cores_is ∙ wide; count_is = is.count_is; settled = settled core h found; label = is.label_is ∙ ap (label_of store) wide };
     }

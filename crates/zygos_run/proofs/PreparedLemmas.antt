@@ -10,11 +10,13 @@ use Rattle.zy_rx.specs.Feed.{rings_of, sent_by}
 use Rattle.zy_feed.specs.declared.intake.Header.{Header}
 use Rattle.zy_feed.specs.Feeding.{AreUnsent}
 use Rattle.zy_core.specs.Share.{Sharing}
-use Rattle.zy_core.specs.Core.{Identity}
+use Rattle.zy_core.specs.Core.{Cored, Identity, identity_of}
 use Rattle.zy_core.specs.Drive.{AreCores, AreInlets, EachSettled, identities}
 use Rattle.zy_setup.specs.declared.starting.Started.{Started}
 use Rattle.zy_setup.specs.Start.{IsStart}
-use Rattle.zy_setup.specs.Station.{Station, station_of, stations_of, stations_in, rings_in}
+use Rattle.zy_setup.specs.Station.{Station, station_of, station_in, stations_of, stations_in, rings_in}
+use Rattle.zy_conn.specs.Block.{label_of}
+use Rattle.zy_command_line.specs.declared.request.Run.{Run}
 use Rattle.zygos_run.specs.declared.run.prepare.Prepared.{Prepared}
 use Rattle.zygos_run.specs.declared.run.drive.Ran.{Ran}
 use Rattle.zygos_run.specs.Prepared.{IsStation, AreStations, IsPrepared, IsDriven}
@@ -35,29 +37,35 @@ stations_new count cores shards start stations is same core s e =
     let new = is.ready.each_home core at.home at.found in
     let all : length stations ≡ length start.rings = ap length same ∙ length_map station_of start.homes.items ∙ is.ready.homes_are in
     subst (IsStation start.store.id (length stations) count core) at.same
-    (record { core_is = new.core_is; cores_is = new.cores_is ∙ sym all; count_is = is.counts core at.home at.found; label_is = new.label_is })
+    (record {
+      core_is = new.core_is;
+      cores_is = new.cores_is ∙ sym all;
+      count_is = is.counts core at.home at.found;
+      label_is = new.label_is ∙ ap (label_of start.store.id) (sym all);
+    })
 
-pub prepared_of : (cores shards : ℕ) (start : Started) (p : Prepared) → p.header.count ≤ connection_limit → IsStart p.header.count cores shards start
+pub prepared_of : (asked : Run) (start : Started) (p : Prepared) → p.header.count ≤ connection_limit → IsStart p.header.count asked.cores asked.shards start
     → AreCores p.shared (identities p.cores) → AreInlets (rings_of p.inlets) (identities p.cores) → stations_in (identities p.cores) ≡ stations_of start.homes.items
     → rings_of p.inlets ≡ rings_in (identities p.cores) → p.shared.store ≡ start.store → AreUnsent (sent_by p.inlets) → p.root ≡ start.root
-    → IsPrepared shards p
-prepared_of cores shards start p few is driven feeds same rings store unsent root = record {
+    → IsPrepared asked p
+prepared_of asked start p few is driven feeds same rings store unsent root = record {
   connections = few;
   cores = driven;
   feeds = feeds;
   unsent = unsent;
   rings = rings;
   stations = subst (λ (s : Stored). AreStations s.id p.header.count (stations_in (identities p.cores))) (sym store)
-      (stations_new p.header.count cores shards start (stations_in (identities p.cores)) is same);
+      (stations_new p.header.count asked.cores asked.shards start (stations_in (identities p.cores)) is same);
   shards_are = ap (λ (s : Stored). s.shards) store ∙ is.shards_are;
+  count = sym (length_map identity_of p.cores) ∙ sym (length_map station_in (identities p.cores)) ∙ ap (λ (l : List Station). length l) same ∙ length_map station_of start.homes.items ∙ is.ready.homes_are ∙ is.cores_are;
   root_is = subst (λ (r : Rooted). IsRootOf p.shared.store.id p.header.count r) (sym root)
       (subst (λ (s : Stored). IsRootOf s.id p.header.count start.root) (sym store) is.root);
 }
 
 -- driving keeps it so
-pub driven_of : (shards : ℕ) (p : Prepared) (r : Ran) → IsPrepared shards p → r.header ≡ p.header → r.shared ≡ p.shared → r.root ≡ p.root
+pub driven_of : (asked : Run) (p : Prepared) (r : Ran) → IsPrepared asked p → r.header ≡ p.header → r.shared ≡ p.shared → r.root ≡ p.root
     → identities r.cores ≡ identities p.cores → rings_of r.inlets ≡ rings_of p.inlets → EachSettled r.cores → IsDriven r
-driven_of shards p r is header shared root same rings settled = record {
+driven_of asked p r is header shared root same rings settled = record {
   connections = subst (λ (h : Header). h.count ≤ connection_limit) (sym header) is.connections;
   cores = subst (λ (s : Sharing). AreCores s (identities r.cores)) (sym shared) (subst (AreCores p.shared) (sym same) is.cores);
   settled = settled;
@@ -69,3 +77,8 @@ driven_of shards p r is header shared root same rings settled = record {
       (subst (λ (s : Sharing). IsRootOf s.store.id p.header.count r.root) (sym shared)
       (subst (λ (t : Rooted). IsRootOf p.shared.store.id p.header.count t) (sym root) is.root_is));
 }
+
+-- and the number of cores
+pub driven_count : (asked : Run) (p : Prepared) (cores : List Cored) → IsPrepared asked p → identities cores ≡ identities p.cores → length cores ≡ asked.cores
+driven_count asked p cores is same =
+    sym (length_map identity_of cores) ∙ ap (λ (l : List Identity). length l) same ∙ length_map identity_of p.cores ∙ is.count

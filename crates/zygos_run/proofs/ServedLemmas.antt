@@ -13,15 +13,18 @@ use Rattle.zy_feed.specs.declared.intake.Header.{Header}
 use Rattle.zy_feed.specs.Feeding.{HasFedAll}
 use Rattle.zy_finish.specs.Received.{AllSent}
 use Rattle.zy_feed.specs.Reads.{Intake, HasBegun}
-use Rattle.zy_finish.specs.Finish.{IsFinished}
+use Rattle.std.specs.List.{AllByRecursion}
+use Rattle.zy_command_line.specs.declared.request.Run.{Run}
+use Rattle.zy_finish.specs.Finish.{IsFinished, IsHoldBy}
 use Rattle.zygos_run.specs.Headline.{IsServed, outputs_of}
 use Rattle.zygos_run.specs.Seen.{side}
 use Rattle.zygos_run.specs.Runs.{RunsTo}
 
-pub served_of : (shards version count : ℕ) (records : List Record) (bytes : List ℕ) (done : Finished)
+pub served_of : (asked : Run) (version count : ℕ) (records : List Record) (bytes : List ℕ) (done : Finished)
     → ((text : List ℕ) (version count : ℕ) (items : List Record) → AreBytes text → verdict text ≡ Good version count items ↔ Spells text version count items)
-    → verdict bytes ≡ Good version count records → IsFinished shards version count records done → IsServed shards bytes done.journal done.outputs
-served_of shards version count records bytes done exactly good is = record {
+    → verdict bytes ≡ Good version count records → IsFinished asked.shards version count records done
+    → AllByRecursion (IsHoldBy asked.cores) done.journal.holds → IsServed asked bytes done.journal done.outputs
+served_of asked version count records bytes done exactly good is held = record {
   version = version;
   count = count;
   records = records;
@@ -30,20 +33,21 @@ served_of shards version count records bytes done exactly good is = record {
   run = is.run;
   order = is.order;
   holds = is.spans;
+  held = held;
   replies = ap₂ (λ v s. record { version = v; sessions = s }) is.version_is is.outputs;
   readable = record { valid = is.journal; fits = is.fits };
   lawful = is.lawful;
 }
 
 -- a capture that was fed whole to cores, of which this is left
-pub runs_to : {S : Type 0} (rest : S → Option (List ℕ)) (faults : S → ℕ) (shards : ℕ) (source source' : S) (header : Header) (sents : List (List Rx)) (done : Finished)
+pub runs_to : {S : Type 0} (rest : S → Option (List ℕ)) (faults : S → ℕ) (asked : Run) (source source' : S) (header : Header) (sents : List (List Rx)) (done : Finished)
     → ((text : List ℕ) (version count : ℕ) (items : List Record) → AreBytes text → verdict text ≡ Good version count items ↔ Spells text version count items)
     → HasFedAll rest faults source source' header sents
-    → ((records : List Record) → IsCapture header.version header.count records → AllSent sents records → IsFinished shards header.version header.count records done)
-    → RunsTo shards (side rest faults source source') (Ok done)
-runs_to rest faults shards source source' header sents done exactly fed finished =
+    → ((records : List Record) → IsCapture header.version header.count records → AllSent sents records → IsFinished asked.shards header.version header.count records done)
+    → AllByRecursion (IsHoldBy asked.cores) done.journal.holds → RunsTo asked (side rest faults source source') (Ok done)
+runs_to rest faults asked source source' header sents done exactly fed finished held =
     let is = finished fed.records fed.lawful fed.sent in
-    (fed.bytes, (fed.source, fed.end), served_of shards header.version header.count fed.records fed.bytes done exactly fed.good is)
+    (fed.bytes, (fed.source, fed.end), served_of asked header.version header.count fed.records fed.bytes done exactly fed.good is held)
 
 -- what has begun with these has begun with equals of them
 pub begun_as : {S : Type 0} (rest : S → Option (List ℕ)) (faults : S → ℕ) (first now : S) (intake intake' : Intake) (header header' : Header) → HasBegun rest faults first now intake header

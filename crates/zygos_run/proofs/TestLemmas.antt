@@ -13,6 +13,7 @@ use Rattle.zy_run.specs.declared.summary.Summary.{Summary}
 use Rattle.zy_run.specs.Summary.{summary, summary_of_run}
 use Rattle.zy_gen.specs.Traffic.{records_of}
 use Rattle.zy_command_line.specs.declared.request.Traffic.{Traffic}
+use Rattle.zy_command_line.specs.declared.request.Run.{Run}
 use Rattle.zygos_run.specs.Headline.{IsServed, outputs_of}
 use Rattle.zygos_run.specs.Ends.{IsTested, traffic_bytes}
 
@@ -22,23 +23,23 @@ good_count e = cc
 good_records : {a b c d : ℕ} {r s : List Record} → Good a b r ≡ Good c d s → r ≡ s
 good_records e = cc
 
-pub tested_of : (traffic : Traffic) (shards : ℕ) (records : List Record) (journal : Journal) (outputs : AllOutputs) (numbers : Summary)
+pub tested_of : (traffic : Traffic) (run : Run) (records : List Record) (journal : Journal) (outputs : AllOutputs) (numbers : Summary)
     → records ≡ records_of traffic.number traffic.conns traffic.commands
     → verdict (traffic_bytes traffic) ≡ Good 1 traffic.conns records
-    → ((es : List Entry) → IsRun shards es traffic.conns (commands_in records) → summary_of_run traffic.conns (streams_in records) es ≡ summary shards traffic.conns (streams_in records))
-    → IsServed shards (traffic_bytes traffic) journal outputs
+    → ((es : List Entry) → IsRun run.shards es traffic.conns (commands_in records) → summary_of_run traffic.conns (streams_in records) es ≡ summary run.shards traffic.conns (streams_in records))
+    → IsServed run (traffic_bytes traffic) journal outputs
     → ((count version : ℕ) (records : List Record) → Spans journal.holds count (commands_in records) → outputs ≡ outputs_of version count records journal.entries → numbers ≡ summary_of_run count (streams_in records) journal.entries)
-    → IsTested traffic shards journal numbers
-tested_of traffic shards records journal outputs numbers records_are good all served told =
+    → IsTested traffic run journal numbers
+tested_of traffic run records journal outputs numbers records_are good all served told =
     let same : Good served.version served.count served.records ≡ Good 1 traffic.conns records = sym served.capture ∙ good in
     let count_is : served.count ≡ traffic.conns = good_count same in
     let same_records : served.records ≡ records = good_records same in
-    let run : IsRun shards journal.entries traffic.conns (commands_in records) =
-    subst (λ (n : ℕ). IsRun shards journal.entries n (commands_in records)) count_is
-    (subst (λ (r : List Record). IsRun shards journal.entries served.count (commands_in r)) same_records served.run) in
-    let sums : numbers ≡ summary shards traffic.conns (streams_in records) =
+    let legal : IsRun run.shards journal.entries traffic.conns (commands_in records) =
+    subst (λ (n : ℕ). IsRun run.shards journal.entries n (commands_in records)) count_is
+    (subst (λ (r : List Record). IsRun run.shards journal.entries served.count (commands_in r)) same_records served.run) in
+    let sums : numbers ≡ summary run.shards traffic.conns (streams_in records) =
     told served.count served.version served.records served.holds served.replies
-    ∙ ap₂ (λ (n : ℕ) (r : List Record). summary_of_run n (streams_in r) journal.entries) count_is same_records ∙ all journal.entries run in
+    ∙ ap₂ (λ (n : ℕ) (r : List Record). summary_of_run n (streams_in r) journal.entries) count_is same_records ∙ all journal.entries legal in
     record {
       outputs = outputs;
       served = served;

@@ -8,7 +8,7 @@ use Rattle.zy_run.specs.Commands.{streams_in}
 use Rattle.zy_run.specs.declared.summary.Summary.{Summary}
 use Rattle.zy_run.specs.Summary.{summary}
 use Rattle.zy_check_input.specs.declared.stop.Refusal.{Refusal}
-use Rattle.zy_check_input.specs.declared.stop.Refusal.TheVariants.{Capture, Pcap}
+use Rattle.zy_check_input.specs.declared.stop.Refusal.TheVariants.{Capture, Journal as OfJournal, Pcap}
 use Rattle.zy_check_input.specs.Parts.{AreParts, HasPartFault, IsPartFault}
 use Rattle.zy_check.specs.declared.verdict.Verdict.{Verdict as Certified}
 use Rattle.zy_check.specs.Given.{given}
@@ -16,6 +16,7 @@ use Rattle.zy_check.specs.Cause.{HasVerdict}
 use Rattle.zy_gen.specs.Traffic.{gen_bytes, records_of}
 use Rattle.zy_pcap.specs.Packets.{packets}
 use Rattle.zy_pcap.specs.Packets as Recorded
+use Rattle.zy_journal_reader.specs.Verdict as Journals
 use Rattle.zy_command_line.specs.declared.request.Request.{Request}
 use Rattle.zy_command_line.specs.declared.request.Request.TheVariants as Requests
 use Rattle.zy_command_line.specs.declared.request.Traffic.{Traffic}
@@ -23,6 +24,8 @@ use Rattle.zygos_run.specs.declared.answer.Answer.{Answer}
 use Rattle.zygos_run.specs.declared.answer.Answer.TheVariants.{Served, Checked, Made, Tested, Usage, Refused, ReadFault, WriteFault, OutOfMemory}
 use Rattle.zygos_run.specs.Seen.{Seen, HasRisen, Takes, TakesPart, OfGiven}
 use Rattle.zygos_run.specs.Recorded.{IsRecorded}
+use Rattle.zy_command_line.specs.declared.request.Run.{Run}
+use Rattle.zygos_run.specs.Reported.{IsReported}
 use Rattle.zygos_run.specs.Headline.{IsServed, IsWritten, IsPartWritten}
 use Rattle.zygos_run.specs.Lines.{verdict_line, summary_line}
 
@@ -50,17 +53,17 @@ pub record IsChecked (shards : ℕ) (bytes : List ℕ) (verdict : Certified) : T
   pub verdict_is : HasVerdict (given shards streams journal outputs) verdict
 
 -- the journal is that of a served run of generated traffic, and the numbers are those of all its runs
-pub record IsTested (traffic : Traffic) (shards : ℕ) (journal : Journal) (numbers : Summary) : Type 0 where
+pub record IsTested (traffic : Traffic) (run : Run) (journal : Journal) (numbers : Summary) : Type 0 where
   pub outputs : AllOutputs
-  pub served : IsServed shards (traffic_bytes traffic) journal outputs
-  pub numbers_are : numbers ≡ traffic_summary shards traffic
+  pub served : IsServed run (traffic_bytes traffic) journal outputs
+  pub numbers_are : numbers ≡ traffic_summary run.shards traffic
 
 -- ---- the answers, one by one
 
 -- a run was asked for, it was served of the bytes that the source gave, and all of it was written
 abbrev pub HasServed : Option Request → Seen → Journal → Type 0
 HasServed (Some (Requests.Run run out)) call journal =
-    OfGiven call.source (λ bytes. IsWritten run.shards out bytes journal call.sink)
+    OfGiven call.source (λ bytes. IsWritten run out bytes journal call.sink)
 HasServed request call journal = ⊥
 
 -- a check was asked for, this is the verdict on the bytes that the source gave, and its line was written
@@ -69,25 +72,28 @@ HasChecked (Some (Requests.Check shards)) call found =
     OfGiven call.source (λ bytes. IsChecked shards bytes found) × Takes call.sink (verdict_line found)
 HasChecked request call found = ⊥
 
--- traffic was asked for, and its capture was written; or that of the recorded packets that the source gave
+-- traffic was asked for, and its capture was written; or that of the recorded packets that the source gave; or the
+-- report on the journal that it gave
 abbrev pub HasMade : Option Request → Seen → Type 0
 HasMade (Some (Requests.Gen traffic)) call = Takes call.sink (traffic_bytes traffic)
 HasMade (Some (Requests.Pcap port)) call =
     OfGiven call.source (λ bytes. IsRecorded port bytes (λ capture. Takes call.sink capture))
+HasMade (Some Requests.Report) call = OfGiven call.source (λ bytes. IsReported bytes (λ table. Takes call.sink table))
 HasMade request call = ⊥
 
 -- a test run was asked for, this is its journal, these are its numbers, and their line was written
 abbrev pub HasTested : Option Request → Seen → Journal → Summary → Type 0
 HasTested (Some (Requests.SelfTest traffic run)) call journal numbers =
-    IsTested traffic run.shards journal numbers × Takes call.sink (summary_line numbers)
+    IsTested traffic run journal numbers × Takes call.sink (summary_line numbers)
 HasTested request call journal numbers = ⊥
 
 -- the bytes have this fault as the request reads them: a run reads a capture, a check reads a capture and what
--- follows it, and a capture is made of recorded packets
+-- follows it, a capture is made of recorded packets, and a report of a journal
 abbrev pub HasFault : Option Request → Refusal → List ℕ → Type 0
 HasFault (Some (Requests.Run run out)) (Capture fault) bytes = verdict bytes ≡ Bad fault
 HasFault (Some (Requests.Check shards)) refusal bytes = HasPartFault bytes refusal
 HasFault (Some (Requests.Pcap port)) (Pcap fault) bytes = packets port bytes ≡ Recorded.Found.Bad fault
+HasFault (Some Requests.Report) (OfJournal fault) bytes = Journals.verdict bytes ≡ Journals.Verdict.Bad fault
 HasFault request refusal bytes = ⊥
 
 -- the request reads a part that may have such a fault
@@ -95,6 +101,7 @@ abbrev pub MayRefuse : Option Request → Refusal → Type 0
 MayRefuse (Some (Requests.Run run out)) (Capture fault) = ⊤
 MayRefuse (Some (Requests.Check shards)) refusal = IsPartFault refusal
 MayRefuse (Some (Requests.Pcap port)) (Pcap fault) = ⊤
+MayRefuse (Some Requests.Report) (OfJournal fault) = ⊤
 MayRefuse request refusal = ⊥
 
 -- the request reads a part that may have this fault, and the bytes have it where they are reported
@@ -106,6 +113,7 @@ abbrev pub ReadsInput : Option Request → Type 0
 ReadsInput (Some (Requests.Run run out)) = ⊤
 ReadsInput (Some (Requests.Check shards)) = ⊤
 ReadsInput (Some (Requests.Pcap port)) = ⊤
+ReadsInput (Some Requests.Report) = ⊤
 ReadsInput request = ⊥
 
 -- what was asked for was done of bytes that the source gave, where it reads any, and a prefix of what is expected was
@@ -113,16 +121,18 @@ ReadsInput request = ⊥
 abbrev pub HasPart : Option Request → Seen → Type 0
 HasPart None call = ⊥
 HasPart (Some (Requests.Run run out)) call =
-    OfGiven call.source (λ bytes. IsPartWritten run.shards out bytes call.sink)
+    OfGiven call.source (λ bytes. IsPartWritten run out bytes call.sink)
 HasPart (Some (Requests.Check shards)) call =
     (found : Certified) × OfGiven call.source (λ bytes. IsChecked shards bytes found)
     × TakesPart call.sink (verdict_line found)
 HasPart (Some (Requests.Gen traffic)) call = TakesPart call.sink (traffic_bytes traffic)
 HasPart (Some (Requests.SelfTest traffic run)) call =
-    (journal : Journal) × (numbers : Summary) × IsTested traffic run.shards journal numbers
+    (journal : Journal) × (numbers : Summary) × IsTested traffic run journal numbers
     × TakesPart call.sink (summary_line numbers)
 HasPart (Some (Requests.Pcap port)) call =
     OfGiven call.source (λ bytes. IsRecorded port bytes (λ capture. TakesPart call.sink capture))
+HasPart (Some Requests.Report) call =
+    OfGiven call.source (λ bytes. IsReported bytes (λ table. TakesPart call.sink table))
 
 -- ---- all answers
 
@@ -152,4 +162,5 @@ abbrev pub ReadsNothing : Option Request → Type 0
 ReadsNothing (Some (Requests.Run run out)) = ⊥
 ReadsNothing (Some (Requests.Check shards)) = ⊥
 ReadsNothing (Some (Requests.Pcap port)) = ⊥
+ReadsNothing (Some Requests.Report) = ⊥
 ReadsNothing request = ⊤

@@ -5,10 +5,10 @@ use Rattle.zygos_run.specs.declared.answer.Answer.{Answer}
 use Rattle.zygos_run.specs.declared.answer.Answer.TheVariants.{Served, Checked, Made, Tested, WriteFault}
 
 -- the sink was finished once if all was written, and at most once if writing failed; else it was not finished
-abbrev pub FinishesBy : Answer → ℕ → ℕ → Type 0
-FinishesBy (Served journal) before after = after ≡ one_more before
-FinishesBy (Checked found) before after = after ≡ one_more before
-FinishesBy Made before after = after ≡ one_more before
-FinishesBy (Tested journal numbers) before after = after ≡ one_more before
-FinishesBy WriteFault before after = (after ≡ before) ⊎ (after ≡ one_more before)
-FinishesBy answer before after = after ≡ before
+abbrev pub FinishesOnce : Answer → ℕ → ℕ → Type 0
+FinishesOnce (Served journal) before after = after ≡ one_more before
+FinishesOnce (Checked found) before after = after ≡ one_more before
+FinishesOnce Made before after = after ≡ one_more before
+FinishesOnce (Tested journal numbers) before after = after ≡ one_more before
+FinishesOnce WriteFault before after = (after ≡ before) ⊎ (after ≡ one_more before)
+FinishesOnce answer before after = after ≡ before

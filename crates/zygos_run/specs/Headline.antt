@@ -1,5 +1,6 @@
 -- The headline: what a served run is.
 use Rattle.std.specs.Prelude.{◌≡◌, ℕ, List, [], ◌++◌, None}
+use Rattle.std.specs.List.{AllByRecursion}
 use Rattle.zy_base.specs.declared.entry.Entry.{Entry}
 use Rattle.zy_base.specs.Order.{IsOrdered}
 use Rattle.zy_capture.specs.declared.record.Record.{Record}
@@ -15,6 +16,8 @@ use Rattle.zy_run.specs.Commands.{streams_in, commands_in}
 use Rattle.zy_run.specs.Run.{IsRun}
 use Rattle.zy_run.specs.Output.{all_outputs}
 use Rattle.zy_run.specs.Spans.{Spans}
+use Rattle.zy_finish.specs.Finish.{IsHoldBy}
+use Rattle.zy_command_line.specs.declared.request.Run.{Run}
 use Rattle.zy_command_line.specs.declared.request.Out.{Out}
 use Rattle.zy_command_line.specs.declared.request.Out.TheVariants.{Replies, Both}
 use Rattle.zygos_run.specs.Seen.{Side, Takes, TakesPart}
@@ -32,9 +35,9 @@ front Both journal = journal_bytes journal
 abbrev pub written : Out → Journal → AllOutputs → List ℕ
 written out journal outputs = front out journal ++ replies_bytes outputs
 
--- the journal is that of a served run of the capture that these bytes are, on this number of shards, and these are its
--- outputs
-pub record IsServed (shards : ℕ) (bytes : List ℕ) (journal : Journal) (outputs : AllOutputs) : Type 0 where
+-- the journal is that of a served run of the capture that these bytes are, on the number of shards and cores that were
+-- asked for, and these are its outputs
+pub record IsServed (asked : Run) (bytes : List ℕ) (journal : Journal) (outputs : AllOutputs) : Type 0 where
   pub version : ℕ
   pub count : ℕ
   pub records : List Record
@@ -44,11 +47,13 @@ pub record IsServed (shards : ℕ) (bytes : List ℕ) (journal : Journal) (outpu
   pub spelled : AreBytes bytes → Spells bytes version count records
   -- the entries are one legal run of its commands: each is carried out once, in the order of
   -- arrival, none after quit, and none is left
-  pub run : IsRun shards journal.entries count (commands_in records)
+  pub run : IsRun asked.shards journal.entries count (commands_in records)
   -- the entries are in the order of their stamps
   pub order : IsOrdered None journal.entries
   -- the holds add up to the commands of each connection
   pub holds : Spans journal.holds count (commands_in records)
+  -- each is by one of the cores that were asked for, and is of 1 to 64 commands
+  pub held : AllByRecursion (IsHoldBy asked.cores) journal.holds
   -- the outputs are exactly each session's replies in that order
   pub replies : outputs ≡ outputs_of version count records journal.entries
   -- the journal is within the bounds of its format, so it can be written and read again
@@ -57,14 +62,14 @@ pub record IsServed (shards : ℕ) (bytes : List ℕ) (journal : Journal) (outpu
   pub lawful : AreOutputs outputs
 
 -- the same, and all that is expected of it was written
-pub record IsWritten (shards : ℕ) (out : Out) (bytes : List ℕ) (journal : Journal) (sink : Side) : Type 0 where
+pub record IsWritten (asked : Run) (out : Out) (bytes : List ℕ) (journal : Journal) (sink : Side) : Type 0 where
   pub outputs : AllOutputs
-  pub served : IsServed shards bytes journal outputs
+  pub served : IsServed asked bytes journal outputs
   pub wrote : Takes sink (written out journal outputs)
 
 -- the same, and a prefix of it was written
-pub record IsPartWritten (shards : ℕ) (out : Out) (bytes : List ℕ) (sink : Side) : Type 0 where
+pub record IsPartWritten (asked : Run) (out : Out) (bytes : List ℕ) (sink : Side) : Type 0 where
   pub journal : Journal
   pub outputs : AllOutputs
-  pub served : IsServed shards bytes journal outputs
+  pub served : IsServed asked bytes journal outputs
   pub wrote : TakesPart sink (written out journal outputs)

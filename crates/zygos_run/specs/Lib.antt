@@ -7,6 +7,7 @@ pub mod Headline
 pub mod Packets
 pub mod Prepared
 pub mod Recorded
+pub mod Reported
 pub mod Ends
 pub mod Served
 pub mod Runs

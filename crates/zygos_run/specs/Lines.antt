@@ -118,7 +118,7 @@ refusal_line (Pcap fault) = line_with pcap_text (pcap_number fault)
 
 -- the line of an answer that is not a refusal; none after a command that was carried out
 abbrev pub plain_line : Answer → List ℕ
-plain_line Usage = codes "zygos: usage: zygos run|check|gen|self|pcap [options]\n"
+plain_line Usage = codes "zygos: usage: zygos run|check|gen|self|pcap|report [options]\n"
 plain_line ReadFault = codes "zygos: reading failed\n"
 plain_line WriteFault = codes "zygos: writing failed\n"
 plain_line OutOfMemory = codes "zygos: out of memory\n"

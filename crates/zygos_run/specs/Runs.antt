@@ -1,4 +1,4 @@
--- How running and checking end before anything is written. No public clause cites this module.
+-- How running, checking and reporting end before anything is written. No public clause cites this module.
 use Rattle.std.specs.Prelude.{◌≡◌, ℕ, List, Result, Ok, Err, ⊤, IfSome}
 use Rattle.zy_capture.specs.declared.capture_fault.CaptureFault.{CaptureFault}
 use Rattle.zy_capture.specs.Verdict.{verdict}
@@ -9,7 +9,11 @@ use Rattle.zy_check_input.specs.declared.stop.Refusal.{Refusal}
 use Rattle.zy_check_input.specs.Parts.{HasPartFault, IsPartFault}
 use Rattle.zy_check.specs.declared.verdict.Verdict.{Verdict as Certified}
 use Rattle.zy_finish.specs.declared.finishing.Finished.{Finished}
+use Rattle.zy_command_line.specs.declared.request.Run.{Run}
+use Rattle.zy_check_input.specs.declared.stop.Refusal.TheVariants.{Journal as OfJournal}
+use Rattle.zy_journal_reader.specs.Verdict as Journals
 use Rattle.zygos_run.specs.Seen.{Side, HasRisen, OfGiven}
+use Rattle.zygos_run.specs.Reported.{IsReported}
 use Rattle.zygos_run.specs.Headline.{IsServed}
 use Rattle.zygos_run.specs.Ends.{IsChecked}
 
@@ -20,10 +24,10 @@ StopsFor HasFault source Stops.ReadFault = HasRisen source
 StopsFor HasFault source Stops.NoMemory = ⊤
 
 -- a capture was served, or it stopped
-abbrev pub RunsTo : ℕ → Side → Result Finished (Stop CaptureFault) → Type 0
-RunsTo shards source (Ok done) =
-    OfGiven source (λ bytes. IsServed shards bytes done.journal done.outputs)
-RunsTo shards source (Err stop) = StopsFor (λ fault bytes. verdict bytes ≡ Bad fault) source stop
+abbrev pub RunsTo : Run → Side → Result Finished (Stop CaptureFault) → Type 0
+RunsTo run source (Ok done) =
+    OfGiven source (λ bytes. IsServed run bytes done.journal done.outputs)
+RunsTo run source (Err stop) = StopsFor (λ fault bytes. verdict bytes ≡ Bad fault) source stop
 
 -- a check has its verdict, or it stopped
 abbrev pub ChecksTo : ℕ → Side → Result Certified (Stop Refusal) → Type 0
@@ -32,3 +36,12 @@ ChecksTo shards source (Err (Stops.Refused refusal)) =
     IsPartFault refusal × IfSome source.before (λ bytes. HasPartFault bytes refusal)
 ChecksTo shards source (Err Stops.ReadFault) = HasRisen source
 ChecksTo shards source (Err Stops.NoMemory) = ⊤
+
+-- a report was made, or it stopped, for a fault of the journal, or for a read that failed
+abbrev pub ReportsTo : Side → Result (List ℕ) (Stop Refusal) → Type 0
+ReportsTo source (Ok made) = OfGiven source (λ bytes. IsReported bytes (λ table. made ≡ table))
+ReportsTo source (Err (Stops.Refused (OfJournal fault))) =
+    IfSome source.before (λ bytes. Journals.verdict bytes ≡ Journals.Verdict.Bad fault)
+ReportsTo source (Err (Stops.Refused refusal)) = ⊥
+ReportsTo source (Err Stops.ReadFault) = HasRisen source
+ReportsTo source (Err Stops.NoMemory) = ⊤

@@ -16,7 +16,7 @@ pub enum Answer {
     Served(Journal),
     /// `check`: the input was read to its end, this is the verdict on it, and its line was written.
     Checked(Verdict),
-    /// `gen` or `pcap`: the capture was made and written.
+    /// `gen` or `pcap`: the capture was made and written. `report`: the report was.
     Made,
     /// `self`: the capture was made, served and checked, and the line of these numbers was written.
     Tested(Journal, Summary),

@@ -4,7 +4,7 @@ ghost use Rattle.zy_base.specs.Outside.{WritesLast};
 ghost use Rattle.zy_command_line.specs.Range.{AreShards};
 ghost use Rattle.zy_command_line.specs.declared.request.Request.TheVariants as Requests;
 ghost use Rattle.zygos_run.specs.Seen.{side, seen};
-ghost use Rattle.zygos_run.specs.Finish.{FinishesBy};
+ghost use Rattle.zygos_run.specs.Finish.{FinishesOnce};
 ghost use Rattle.zygos_run.specs.Ends.{Ends, LeavesSink};
 ghost use Rattle.zygos_run.specs.Runs.{ChecksTo};
 ghost use Rattle.zygos_run.specs.Lines.{verdict_line};
@@ -29,7 +29,7 @@ pub(crate) fn check_input<S: Source, K: Sink>(
     ensures ends { Ends (Some (Requests.Check shards))
         (seen (side S.rest S.faults source.old source.new) (side K.holds K.faults sink.old sink.new)) result }
     ensures sink_kept { LeavesSink result → sink.new ≡ sink.old }
-    ensures finished { FinishesBy result (K.finishes sink.old) (K.finishes sink.new) }
+    ensures finished { FinishesOnce result (K.finishes sink.old) (K.finishes sink.new) }
 {
     match check_parts(alloc, shards, source) {
         Ok(verdict) => match write_line(sink, verdict) {

@@ -2,13 +2,14 @@
 ghost use Rattle.std.specs.Prelude.{◌≡◌, ◌≤◌};
 ghost use Rattle.zy_command_line.specs.Request.{request_of};
 ghost use Rattle.zygos_run.specs.Seen.{side, seen};
-ghost use Rattle.zygos_run.specs.Finish.{FinishesBy};
+ghost use Rattle.zygos_run.specs.Finish.{FinishesOnce};
 ghost use Rattle.zygos_run.specs.Ends.{Ends, LeavesSink, ReadsNothing};
 
 use crate::answer::Answer;
 use crate::check::check_input;
 use crate::generate::make_traffic;
 use crate::packets::make_packets;
+use crate::report::report_journal;
 use crate::run::serve_capture;
 use crate::self_test::test_traffic;
 use std::alloc::Global;
@@ -32,7 +33,7 @@ pub(crate) fn carry_out<R: Threads + Wait + Sync, S: Source, K: Sink, G: Gate + 
     ensures ends { Ends (request_of words.now)
         (seen (side S.rest S.faults source.old source.new) (side K.holds K.faults sink.old sink.new)) result }
     ensures sink_kept { LeavesSink result → sink.new ≡ sink.old }
-    ensures finished { FinishesBy result (K.finishes sink.old) (K.finishes sink.new) }
+    ensures finished { FinishesOnce result (K.finishes sink.old) (K.finishes sink.new) }
     ensures source_kept { ReadsNothing (request_of words.now) → source.new ≡ source.old }
 {
     requests_are_in_their_ranges();
@@ -46,6 +47,7 @@ pub(crate) fn carry_out<R: Threads + Wait + Sync, S: Source, K: Sink, G: Gate + 
             test_traffic(rt, alloc, traffic, run, sink, gate)
         }
         Ok(Some(Request::Pcap { port })) => make_packets(alloc, port, source, sink),
+        Ok(Some(Request::Report)) => report_journal(alloc, source, sink),
         Ok(None) => Answer::Usage,
         Err(_) => Answer::OutOfMemory,
     }

@@ -5,7 +5,7 @@ ghost use Rattle.zy_gen.specs.Traffic.{IsTraffic};
 ghost use Rattle.zy_command_line.specs.Range.{IsMakeable};
 ghost use Rattle.zy_command_line.specs.declared.request.Request.TheVariants as Requests;
 ghost use Rattle.zygos_run.specs.Seen.{Side, side, seen};
-ghost use Rattle.zygos_run.specs.Finish.{FinishesBy};
+ghost use Rattle.zygos_run.specs.Finish.{FinishesOnce};
 ghost use Rattle.zygos_run.specs.Ends.{Ends, LeavesSink, traffic_bytes};
 
 use crate::answer::Answer;
@@ -21,7 +21,7 @@ pub(crate) fn make_traffic<K: Sink>(alloc: Global, traffic: Traffic, sink: &mut 
     ensures ends { (source : Side) → Ends (Some (Requests.Gen traffic))
         (seen source (side K.holds K.faults sink.old sink.new)) result }
     ensures sink_kept { LeavesSink result → sink.new ≡ sink.old }
-    ensures finished { FinishesBy result (K.finishes sink.old) (K.finishes sink.new) }
+    ensures finished { FinishesOnce result (K.finishes sink.old) (K.finishes sink.new) }
 {
     match capture_of(alloc, traffic) {
         Err(NoMemory) => Answer::OutOfMemory,
@@ -41,8 +41,8 @@ pub(crate) fn capture_of(alloc: Global, traffic: Traffic) -> Result<Blob, NoMemo
     generate(alloc, traffic.number, traffic.conns, traffic.commands)
 }
 
-// Writes the whole piece, and finishes.
-fn write_last<K: Sink>(sink: &mut K, piece: &[u8]) -> Result<(), Failed>
+/// Writes the whole piece, and finishes.
+pub(crate) fn write_last<K: Sink>(sink: &mut K, piece: &[u8]) -> Result<(), Failed>
     ensures writes { WritesLast K.holds K.faults K.finishes sink.old sink.new result piece.now }
 {
     write_whole(sink, piece)?;

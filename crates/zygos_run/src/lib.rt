@@ -1,4 +1,4 @@
-//! The top call: words and an input in; replies, a verdict, or a capture out.
+//! The top call: words and an input in; replies, a verdict, a capture, or a report out.
 #![tactic(auto)]
 
 mod answer;
@@ -7,6 +7,7 @@ mod command;
 mod generate;
 mod lines;
 mod packets;
+mod report;
 mod run;
 mod saying;
 mod self_test;

@@ -7,7 +7,7 @@ ghost use Rattle.zy_journal.specs.Journal.{IsJournal};
 ghost use Rattle.zy_command_line.specs.Range.{IsRunnable};
 ghost use Rattle.zy_command_line.specs.declared.request.Request.TheVariants as Requests;
 ghost use Rattle.zygos_run.specs.Seen.{side, seen};
-ghost use Rattle.zygos_run.specs.Finish.{FinishesBy};
+ghost use Rattle.zygos_run.specs.Finish.{FinishesOnce};
 ghost use Rattle.zygos_run.specs.Ends.{Ends, LeavesSink};
 ghost use Rattle.zygos_run.specs.Headline.{front, written};
 
@@ -44,7 +44,7 @@ pub(crate) fn serve_capture<R: Threads + Wait + Sync, S: Source, K: Sink, G: Gat
     ensures ends { Ends (Some (Requests.Run run out))
         (seen (side S.rest S.faults source.old source.new) (side K.holds K.faults sink.old sink.new)) result }
     ensures sink_kept { LeavesSink result → sink.new ≡ sink.old }
-    ensures finished { FinishesBy result (K.finishes sink.old) (K.finishes sink.new) }
+    ensures finished { FinishesOnce result (K.finishes sink.old) (K.finishes sink.new) }
 {
     match run_capture(rt, alloc, run, source, gate) {
         Ok(done) => match write_all(sink, out, &done) {

@@ -65,7 +65,7 @@ fn plain_line(answer: &Answer) -> &'static [u8]
     match answer {
         Answer::Served(_) | Answer::Checked(_) | Answer::Made | Answer::Tested(_, _) => b"",
         Answer::Refused(_) => b"",
-        Answer::Usage => b"zygos: usage: zygos run|check|gen|self|pcap [options]\n",
+        Answer::Usage => b"zygos: usage: zygos run|check|gen|self|pcap|report [options]\n",
         Answer::ReadFault => b"zygos: reading failed\n",
         Answer::WriteFault => b"zygos: writing failed\n",
         Answer::OutOfMemory => b"zygos: out of memory\n",

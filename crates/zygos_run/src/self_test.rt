@@ -8,7 +8,7 @@ ghost use Rattle.zy_capture.specs.Verdict.Verdict.{Good};
 ghost use Rattle.zy_command_line.specs.Range.{IsMakeable, IsRunnable, AreShards};
 ghost use Rattle.zy_command_line.specs.declared.request.Request.TheVariants as Requests;
 ghost use Rattle.zygos_run.specs.Seen.{Side, side, seen};
-ghost use Rattle.zygos_run.specs.Finish.{FinishesBy};
+ghost use Rattle.zygos_run.specs.Finish.{FinishesOnce};
 ghost use Rattle.zygos_run.specs.Ends.{Ends, IsTested, LeavesSink, traffic_bytes};
 ghost use Rattle.zygos_run.specs.Headline.{IsServed};
 ghost use Rattle.zygos_run.specs.Lines.{summary_line};
@@ -49,7 +49,7 @@ pub(crate) fn test_traffic<R: Threads + Wait + Sync, K: Sink, G: Gate + Sync>(
     ensures ends { (source : Side) → Ends (Some (Requests.SelfTest traffic run))
         (seen source (side K.holds K.faults sink.old sink.new)) result }
     ensures sink_kept { LeavesSink result → sink.new ≡ sink.old }
-    ensures finished { FinishesBy result (K.finishes sink.old) (K.finishes sink.new) }
+    ensures finished { FinishesOnce result (K.finishes sink.old) (K.finishes sink.new) }
 {
     match run_test(rt, alloc, traffic, run, gate) {
         Err(NoMemory) => Answer::OutOfMemory,
@@ -70,7 +70,7 @@ fn run_test<R: Threads + Wait + Sync, G: Gate + Sync>(
 ) -> Result<(Journal, Summary), NoMemory>
     requires makeable { IsMakeable traffic }
     requires runnable { IsRunnable run }
-    ensures tested { IfOk result (λ t. IsTested traffic run.shards t.0 t.1) }
+    ensures tested { IfOk result (λ t. IsTested traffic run t.0 t.1) }
 {
     generated_traffic_is_a_good_capture();
     each_run_of_generated_traffic_has_the_summary();
@@ -78,7 +78,7 @@ fn run_test<R: Threads + Wait + Sync, G: Gate + Sync>(
     capture.share()?;
     let streams = streams_of(alloc, capture.copy()?)?;
     let done = serve_traffic(rt, alloc, traffic, run, capture, gate)?;
-    certify(alloc, traffic, run.shards, &streams, &done)?;
+    certify(alloc, traffic, run, &streams, &done)?;
     let summary = summary_of(&done)?;
     Ok((done.journal, summary))
 }
@@ -107,7 +107,7 @@ fn serve_traffic<R: Threads + Wait + Sync, G: Gate + Sync>(
     requires makeable { IsMakeable traffic }
     requires runnable { IsRunnable run }
     requires capture { capture ≡ traffic_bytes traffic }
-    ensures served { IfOk result (λ done. IsServed run.shards (traffic_bytes traffic) done.journal done.outputs) }
+    ensures served { IfOk result (λ done. IsServed run (traffic_bytes traffic) done.journal done.outputs) }
 {
     generated_traffic_is_a_good_capture();
     match run_capture(rt, alloc, run, &mut SureSource::new(capture), gate) {
@@ -122,18 +122,18 @@ fn serve_traffic<R: Threads + Wait + Sync, G: Gate + Sync>(
 fn certify(
     alloc: Global,
     traffic: Traffic,
-    shards: u32,
+    run: Run,
     streams: &Streams,
     done: &Finished,
 ) -> Result<(), NoMemory>
-    requires shards { AreShards shards }
-    requires served { IsServed shards (traffic_bytes traffic) done.now.journal done.now.outputs }
+    requires shards { AreShards run.shards }
+    requires served { IsServed run (traffic_bytes traffic) done.now.journal done.now.outputs }
     requires streams { (version count : ℕ) (records : List Record)
         → verdict (traffic_bytes traffic) ≡ Good version count records
         → streams.now ≡ with_records (no_bytes count) records }
 {
     served_runs_check();
-    match check(alloc, streams, &done.journal, &done.outputs, shards)? {
+    match check(alloc, streams, &done.journal, &done.outputs, run.shards)? {
         Verdict::Yes => Ok(()),
         Verdict::No(_) => unreachable!(),
     }

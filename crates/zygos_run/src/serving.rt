@@ -6,9 +6,9 @@ ghost use Rattle.zygos_run.specs.Lines.{line_of};
 ghost use Rattle.zygos_run.specs.Seen.{side, seen, NoneRose};
 ghost use Rattle.zygos_run.specs.Ends.{HasServed, HasChecked, HasMade, HasTested, HasPart};
 ghost use Rattle.zygos_run.specs.Ends.{IsFaultOf, ReadsInput, ReadsNothing, LeavesSink};
-ghost use Rattle.zygos_run.specs.Served.{HeadlineHolds, CheckHolds, IsToldGood, IsToldBad};
+ghost use Rattle.zygos_run.specs.Served.{HeadlineHolds, CheckHolds, ReportHolds, IsToldGood, IsToldBad};
 ghost use Rattle.zygos_run.specs.Served.{IsDoneOr, IsRefusedOr, IsUsageOr};
-ghost use Rattle.zygos_run.specs.Finish.{FinishesBy};
+ghost use Rattle.zygos_run.specs.Finish.{FinishesOnce};
 ghost use Rattle.zygos_run.specs.Said.{Said};
 
 use crate::answer::Answer;
@@ -28,7 +28,8 @@ use zy_check_input::{parts_have_no_fault, there_is_one_part_fault};
 /// replies file, and writes a line with the verdict on them. `gen` writes the capture of generated
 /// traffic. `self` makes that capture, serves it, checks what came, and writes a line with its
 /// numbers: that the check says yes is proved. `pcap` reads recorded packets to the end of the source,
-/// and writes the capture of those to one port. The sink is finished once.
+/// and writes the capture of those to one port. `report` reads a journal to the end of the source,
+/// and writes a table of what its entries count, by shard. The sink is finished once.
 ///
 /// A line on an answer that is no success goes to `says`; a fault there changes nothing. `gate` is
 /// passed once for each command, when it is begun. Want of memory is free, and comes only before the
@@ -54,6 +55,8 @@ pub fn serve<R: Threads + Wait + Sync, S: Source, K: Sink, E: Sink, G: Gate + Sy
     ensures checked { (v : _) → result ≡ Answer.Checked v → HasChecked (request_of words.now)
         (seen (side S.rest S.faults source.old source.new) (side K.holds K.faults sink.old sink.new)) v }
     ensures made { result ≡ Answer.Made → HasMade (request_of words.now)
+        (seen (side S.rest S.faults source.old source.new) (side K.holds K.faults sink.old sink.new)) }
+    ensures reported { result ≡ Answer.Made → ReportHolds (request_of words.now)
         (seen (side S.rest S.faults source.old source.new) (side K.holds K.faults sink.old sink.new)) }
     ensures tested { (j m : _) → result ≡ Answer.Tested j m → HasTested (request_of words.now)
         (seen (side S.rest S.faults source.old source.new) (side K.holds K.faults sink.old sink.new)) j m }
@@ -84,7 +87,7 @@ pub fn serve<R: Threads + Wait + Sync, S: Source, K: Sink, E: Sink, G: Gate + Sy
     ensures writes { K.faults sink.old ≤ K.faults sink.new }
 
     // Whether the sink was finished.
-    ensures finished { FinishesBy result (K.finishes sink.old) (K.finishes sink.new) }
+    ensures finished { FinishesOnce result (K.finishes sink.old) (K.finishes sink.new) }
 
     // The line on standard error.
     ensures said { Said (E.holds says.old) (E.holds says.new) (E.faults says.old) (E.faults says.new) (line_of result) }

@@ -1,5 +1,5 @@
 //! The step of the reader of captures at each byte, by what is expected.
-ghost use Rattle.std.specs.Prelude.{◌≡◌, ◌+◌, ◌<◌, ◌≤◌, [], length, Err, vec_capacity};
+ghost use Rattle.std.specs.Prelude.{◌≡◌, ◌+◌, ◌<◌, ◌≤◌, [], length, Err};
 ghost use Rattle.zy_read.specs.declared.not_taken.NotTaken.TheVariants.{Fault};
 ghost use Rattle.zy_capture.specs.declared.due.Due.TheVariants as Dues;
 ghost use Rattle.zy_capture.specs.Capture.{capture_limit};
@@ -13,7 +13,7 @@ use crate::capture_fault::{CaptureFault, FeedFault};
 use crate::due::Due;
 use crate::record::{Record, Segment};
 use std::mem;
-use zy_base::{Blob, CONNECTION_LIMIT};
+use zy_base::{Blob, CONNECTION_LIMIT, Filling};
 use zy_read::{MagicPart, MagicStep, Reads};
 
 pub(super) const CAPTURE_LIMIT: u64 = 4_294_967_295;
@@ -87,7 +87,7 @@ impl Reader {
         ensures value { self.new ≡ grown_by self.old bytes.now }
     {
         // There is room: it was taken at the end of the length.
-        let _ = self.payload.extend_from_slice(bytes);
+        self.payload.append(bytes);
         self.at += bytes.len() as u64;
     }
 
@@ -123,15 +123,15 @@ impl Reader {
     }
 
     // The byte ends a record. Gives the bytes of the segment that were read before it.
-    fn end_record(&mut self) -> Vec<u8>
+    fn end_record(&mut self) -> Filling
         requires room { self.old.at < capture_limit }
         ensures value { self.new ≡ after_record self.old }
-        ensures bytes { result.items ≡ self.old.payload }
+        ensures bytes { result.bytes ≡ self.old.payload }
     {
         self.due = Due::Tag;
         self.field.clear();
         self.at += 1;
-        mem::replace(&mut self.payload, Vec::new(self.alloc))
+        mem::replace(&mut self.payload, Filling::new(self.alloc))
     }
 
     // The byte is a fault.
@@ -262,7 +262,7 @@ impl Reader {
                 bytes: Blob::new(self.alloc),
             })));
         }
-        match Vec::with_capacity(self.alloc, length as usize) {
+        match Filling::with_room(self.alloc, length as usize) {
             Ok(bytes) => {
                 self.begin_segment(conn, length, bytes);
                 Ok(None)
@@ -272,15 +272,15 @@ impl Reader {
     }
 
     // The byte is the last one of the length of a segment that has bytes, for which there is room.
-    fn begin_segment(&mut self, conn: u32, length: u32, room: Vec<u8>)
+    fn begin_segment(&mut self, conn: u32, length: u32, room: Filling)
         requires room { self.old.at < capture_limit }
         requires some { 0 < length }
-        requires fits { vec_capacity room ≡ length }
-        requires none { room.items ≡ [] }
+        requires fits { length ≤ room.room }
+        requires none { room.bytes ≡ [] }
         ensures value { self.new ≡
             (goes (record self.old { payload = [] }) (Dues.Payload conn length)).next }
     {
-        self.payload = room;
+        drop(mem::replace(&mut self.payload, room));
         self.due = Due::Payload { conn, length };
         self.field.clear();
         self.at += 1;
@@ -298,17 +298,17 @@ impl Reader {
         ensures value { Takes (taken (Dues.Payload conn length) self.old byte)
             self.old self.new byte result }
     {
-        self.payload.push_reserved(byte);
+        self.payload.push(byte);
         self.at += 1;
         if self.payload.len() < length as usize {
             return Ok(None);
         }
         self.due = Due::Tag;
         self.field.clear();
-        let bytes = mem::replace(&mut self.payload, Vec::new(self.alloc));
+        let bytes = mem::replace(&mut self.payload, Filling::new(self.alloc));
         Ok(Some(Record::Segment(Segment {
             conn,
-            bytes: Blob::from_vec(bytes),
+            bytes: bytes.into_blob(),
         })))
     }
 }

@@ -43,12 +43,10 @@ impl Work {
             (λ end. (self.new.finished ≡ self.old.finished) × StopsBy self.old self.new end)) }
         ensures err { OnErr result (self.new.finished ≡ self.old.finished) }
     {
-        let shards = store.shards();
-        if let Some(stop) = self.begin(gate, core) {
-            return Ok(Some(stop));
-        }
-        if let Err(e) = self.read(shards) {
-            return Err(e);
+        match self.begin(store.shards(), gate, core) {
+            Ok(None) => {}
+            Ok(Some(stop)) => return Ok(Some(stop)),
+            Err(e) => return Err(e),
         }
         match self.make_calls(store) {
             Ok(None) => {}

@@ -16,54 +16,63 @@ use mc_store::StoreTable;
 use std::mem;
 use zy_base::{COMMAND_LIMIT, Gate, NoMemory, Replies};
 use zy_calls::Batch;
-use zy_frame::meaning;
 
 impl Work {
-    /// Begins the next command if none is in progress, or says why it did not. It passes the gate.
-    pub(crate) fn begin<G: Gate>(&mut self, gate: &G, core: u32) -> Option<HoldEnd>
-        ensures goes { Goes self.old self.new }
-        ensures finished { self.new.finished ≡ self.old.finished }
-        ensures begun { MatchOption result (self.new.begun ≢ idle) (StopsBy self.old self.new) }
-    {
-        match &self.begun {
-            Begun::Nothing => {}
-            _ => return None,
-        }
-        if self.frames.is_empty() {
-            return Some(HoldEnd::Drained);
-        }
-        let index = self.batch.finished();
-        if index == COMMAND_LIMIT {
-            return Some(HoldEnd::Spent);
-        }
-        gate.pass(core, self.pass.conn(), index);
-        let frame = self.frames.take_known();
-        self.begun.put(Begun::Raw(frame));
-        None
-    }
-
-    /// Reads the command of the frame that is begun; its calls are on so many shards.
-    pub(crate) fn read(&mut self, shards: u32) -> Result<(), NoMemory>
+    /// Begins the next command if none is in progress, or says why it did not. It passes the gate. The
+    /// calls of the command are on so many shards.
+    pub(crate) fn begin<G: Gate>(
+        &mut self,
+        shards: u32,
+        gate: &G,
+        core: u32,
+    ) -> Result<Option<HoldEnd>, NoMemory>
         requires shards { shards ≡ self.old.table.slots }
         requires some { 1 ≤ shards }
         requires few { shards ≤ 256 }
-        requires begun { self.old.begun ≢ idle }
         ensures goes { Goes self.old self.new }
         ensures finished { self.new.finished ≡ self.old.finished }
-        ensures going { OnOk result (IsGoing self.new.begun) }
+        ensures begun { IfOk result (λ stop. MatchOption stop (IsGoing self.new.begun) (StopsBy self.old self.new)) }
+    {
+        match &self.begun {
+            Begun::Nothing => {}
+            Begun::Raw(_) => {
+                return match self.read_again(shards) {
+                    Ok(()) => Ok(None),
+                    Err(e) => Err(e),
+                };
+            }
+            Begun::Going(_) => return Ok(None),
+        }
+        if self.frames.is_empty() {
+            return Ok(Some(HoldEnd::Drained));
+        }
+        let index = self.batch.finished();
+        if index == COMMAND_LIMIT {
+            return Ok(Some(HoldEnd::Spent));
+        }
+        gate.pass(core, self.pass.conn(), index);
+        let frame = self.frames.take_known();
+        self.replies.clear();
+        match self.begun.read(self.alloc, frame) {
+            Ok(()) => Ok(None),
+            Err(e) => Err(e),
+        }
+    }
+
+    // Reads the command of the frame that is begun, for which there was no memory before.
+    fn read_again(&mut self, shards: u32) -> Result<(), NoMemory>
+        requires shards { shards ≡ self.old.table.slots }
+        requires some { 1 ≤ shards }
+        requires few { shards ≤ 256 }
+        ensures goes { Goes self.old self.new }
+        ensures finished { self.new.finished ≡ self.old.finished }
+        ensures going { OnOk result (self.old.begun ≢ idle → IsGoing self.new.begun) }
     {
         match mem::replace(&mut self.begun, Begun::Nothing) {
-            Begun::Raw(frame) => match meaning(self.alloc, frame) {
-                Ok(command) => {
-                    self.replies.clear();
-                    self.begun.put(Begun::Going(command));
-                    Ok(())
-                }
-                Err((frame, e)) => {
-                    self.begun.put(Begun::Raw(frame));
-                    Err(e)
-                }
-            },
+            Begun::Raw(frame) => {
+                self.replies.clear();
+                self.begun.read(self.alloc, frame)
+            }
             begun => {
                 self.begun.put(begun);
                 Ok(())

@@ -1,14 +1,14 @@
 //! Receiving items.
-ghost use Rattle.std.specs.Prelude.{◌≡◌, ◌<◌, ◌^◌, ◌||◌, List, [], ◌∷◌, ◌++◌, true, false, Ok, OnOk, OnErr, is_err, Some, slice_get, length};
+ghost use Rattle.std.specs.Prelude.{◌≡◌, ◌<◌, ◌^◌, ◌||◌, ℕ, IfSome, IfNone, List, [], ◌∷◌, ◌++◌, true, false, Ok, OnOk, OnErr, is_err, Some, slice_get, length};
 ghost use Rattle.zy_rx.specs.declared.rx.Rx.{Rx};
 ghost use Rattle.zy_rx.specs.Session.{sessions_of};
 ghost use Rattle.zy_home.specs.Link.{Link, IsFor, conn_of};
 ghost use Rattle.zy_home.specs.Own.{IsOfOthers, is_end};
-ghost use Rattle.zy_home.specs.Home.{HomeStands, SameHome, StandsMore};
+ghost use Rattle.zy_home.specs.Home.{HomeStands, Keeps, SameHome, StandsMore};
 ghost use Rattle.zy_home.specs.Place.{Forwards, SameHand, ComesTo};
 
 use super::Home;
-use crate::place::{conn_in, feed_at, place_of};
+use crate::place::{conn_in, ended_by, feed_at, place_of};
 use zy_base::NoMemory;
 use zy_conn::Block;
 use zy_rx::Rx;
@@ -56,16 +56,27 @@ impl Home {
         ensures refused { self.new.refused ≡ is_err result }
         ensures err { OnErr result (SameHand self.old self.new) }
     {
-        if self.ended {
-            return Ok(());
-        }
-        let Some(conn) = conn_in(item) else {
-            self.ended = true;
-            return Ok(());
-        };
-        match place_of(&self.links, conn) {
+        match self.place_for(item) {
             Some(at) => self.receive_at(ring, at, item),
-            None => Ok(()),
+            None => {
+                self.ended = ended_by(self.ended, item);
+                Ok(())
+            }
+        }
+    }
+
+    // The place of the connection that an item is for; `None` where the item is dropped or the end.
+    pub(super) fn place_for(&self, item: &Rx) -> Option<usize>
+        ensures some { IfSome result (λ at. ComesTo self.now at item.now) }
+        ensures none { IfNone result ((at : ℕ) → ComesTo self.now at item.now → ⊥) }
+        ensures keeps { Keeps self.now }
+    {
+        if self.ended {
+            return None;
+        }
+        match conn_in(item) {
+            Some(conn) => place_of(&self.links, conn),
+            None => None,
         }
     }
 

@@ -1,6 +1,6 @@
 //! Settling blocks: those that come back, and those that the home claims itself.
 ghost use Rattle.std.specs.Prelude.{◌≡◌, ◌<◌, ◌^◌, List, true, false, OnOk, OnErr, IfOk, is_err};
-ghost use Rattle.zy_table.specs.Name.{name_of};
+ghost use Rattle.zy_conn.specs.Block.{label_of};
 ghost use Rattle.zy_home.specs.Home.{SameHome, StandsHome, all_here};
 ghost use Rattle.zy_home.specs.Place.{IsOut, Settles, PutsBack, StaysIn, Looked, CollectsTo, OwnsTo};
 
@@ -21,7 +21,7 @@ impl Home {
         requires few { self.old.pass.count < 2 ^ 63 }
         requires live { self.old.refused ≡ false }
         requires out { IsOut self.old place block }
-        ensures settled { OnOk result (Settles place self.old self.new) }
+        ensures settled { OnOk result (Settles place block self.old self.new) }
         ensures stands { OnOk result (StandsHome self.old self.new) }
         ensures same { SameHome self.old self.new × (self.new.ended ≡ self.old.ended) }
         ensures refused { self.new.refused ≡ is_err result }
@@ -64,9 +64,9 @@ impl Home {
         }
     }
 
-    /// Claims once from the home's own queue. A block that was taken is held and settled; `Empty`
-    /// and `Raced` are answered exactly where the claim answers so. After a refusal a block that
-    /// was taken stays in the home's hand.
+    /// Claims once from the home's own queue. A block that was taken is held by the home's core, and
+    /// then settled; `Empty` and `Raced` are answered exactly where the claim answers so. After a
+    /// refusal a block that was taken stays in the home's hand.
     pub fn own<G: Gate>(
         &mut self,
         ring: &Ring<Block>,
@@ -76,7 +76,7 @@ impl Home {
         requires table { self.old.pass.table ≡ ring.now.id }
         requires few { self.old.pass.count < 2 ^ 63 }
         requires live { self.old.refused ≡ false }
-        requires store { self.old.pass.label ≡ name_of store.now.id }
+        requires store { self.old.pass.label ≡ label_of store.now.id self.old.cores }
         ensures value { IfOk result (OwnsTo ring.now.places self.old self.new) }
         ensures still { all_here self.old.blocks ≡ true → Looked self.old self.new }
         ensures stands { OnOk result (StandsHome self.old self.new) }

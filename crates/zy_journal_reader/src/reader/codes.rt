@@ -10,7 +10,7 @@ use crate::call_fields::at_key;
 use crate::due::{ByteField, BytesField, Due, LongField, NumberField};
 use zy_base::{
     CallKind, CallReply, FileFault, HIT_CODE, KEY_LIMIT, LAST_CALL_CODE, LAST_REPLY_CODE,
-    NUMBER_CODE,
+    NUMBER_CODE, TALLY_CODE,
 };
 use zy_read::FileFeed;
 
@@ -103,6 +103,8 @@ impl JournalReader {
             self.go_on(Due::Number(NumberField::FoundFlags));
         } else if byte == NUMBER_CODE {
             self.go_on(Due::Long(LongField::ReplyNumber));
+        } else if byte == TALLY_CODE {
+            self.go_on(Due::Long(LongField::Gets));
         } else {
             return self.end_entry(CallReply::plain(byte));
         }

@@ -71,7 +71,7 @@ impl<T: Marked> Ring<T> {
         requires hand { is_in place pass.old.hand ≡ true }
         requires label { T.label block ≡ pass.old.label }
         requires mark { marked T.mark place pass.old.kept ≡ Some (T.mark block) }
-        ensures value { pass.new ≡ after_give_back place pass.old pass.new.trace }
+        ensures value { pass.new ≡ after_give_back place block pass.old pass.new.trace }
         ensures event { Makes (give_back_of place) pass.old.trace pass.new.trace }
     {
         self.give_back_as::<Brand>(pass, place, block)
@@ -119,7 +119,7 @@ impl<T: Marked> Ring<T> {
         requires hand { is_in place pass.old.hand ≡ true }
         requires label { T.label block ≡ pass.old.label }
         requires mark { marked T.mark place pass.old.kept ≡ Some (T.mark block) }
-        ensures value { pass.new ≡ after_give_back place pass.old pass.new.trace }
+        ensures value { pass.new ≡ after_give_back place block pass.old pass.new.trace }
         ensures event { Makes (give_back_of place) pass.old.trace pass.new.trace }
     {
         let words = &self.table.shared;

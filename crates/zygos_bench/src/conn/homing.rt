@@ -1,6 +1,6 @@
 //! A home of 200 connections, each of which gets a segment in turn.
 ghost use Rattle.std.specs.Prelude.{◌≡◌, ◌≤◌, ◌+◌, ◌*◌, ◌^◌, false, OnOk};
-ghost use Rattle.zy_table.specs.Name.{name_of};
+ghost use Rattle.zy_conn.specs.Block.{label_of};
 
 use crate::clock::nanos;
 use crate::conn::load::text_of;
@@ -29,7 +29,7 @@ pub(crate) fn serve_all<R: CpuClock>(
 ) -> Result<u64, NoMemory>
     requires rounds { rounds ≤ 2 ^ 20 }
     requires table { home.old.pass.table ≡ ring.now.id }
-    requires label { home.old.pass.label ≡ name_of store.now.id }
+    requires label { home.old.pass.label ≡ label_of store.now.id home.old.cores }
     requires live { home.old.refused ≡ false }
     requires count { home.old.pass.count ≡ 0 }
 {
@@ -52,10 +52,11 @@ fn serve_items<R: CpuClock>(
     items: &mut Queue<Rx>,
 ) -> Result<u64, NoMemory>
     requires table { home.old.pass.table ≡ ring.now.id }
-    requires label { home.old.pass.label ≡ name_of store.now.id }
+    requires label { home.old.pass.label ≡ label_of store.now.id home.old.cores }
     requires live { home.old.refused ≡ false }
     requires few { home.old.pass.count ≤ 2 ^ 30 }
     ensures kept { (home.new.pass.table ≡ home.old.pass.table) × (home.new.pass.label ≡ home.old.pass.label) }
+    ensures cores { home.new.cores ≡ home.old.cores }
     ensures live { OnOk result (home.new.refused ≡ false) }
     ensures count { home.new.pass.count ≤ home.old.pass.count + 400 }
 {
@@ -98,6 +99,7 @@ fn receive_all(ring: &Ring<Block>, home: &mut Home, items: &mut Queue<Rx>) -> Re
     requires live { home.old.refused ≡ false }
     requires few { home.old.pass.count ≤ 2 ^ 60 }
     ensures kept { (home.new.pass.table ≡ home.old.pass.table) × (home.new.pass.label ≡ home.old.pass.label) }
+    ensures cores { home.new.cores ≡ home.old.cores }
     ensures live { OnOk result (home.new.refused ≡ false) }
     ensures count { home.new.pass.count ≤ home.old.pass.count + 200 }
 {
@@ -115,10 +117,11 @@ fn receive_all(ring: &Ring<Block>, home: &mut Home, items: &mut Queue<Rx>) -> Re
 // The home claims, holds and settles each block that was published.
 fn own_all(ring: &Ring<Block>, store: &StoreTable, home: &mut Home) -> Result<(), NoMemory>
     requires table { home.old.pass.table ≡ ring.now.id }
-    requires label { home.old.pass.label ≡ name_of store.now.id }
+    requires label { home.old.pass.label ≡ label_of store.now.id home.old.cores }
     requires live { home.old.refused ≡ false }
     requires few { home.old.pass.count ≤ 2 ^ 60 }
     ensures kept { (home.new.pass.table ≡ home.old.pass.table) × (home.new.pass.label ≡ home.old.pass.label) }
+    ensures cores { home.new.cores ≡ home.old.cores }
     ensures live { OnOk result (home.new.refused ≡ false) }
     ensures count { home.new.pass.count ≤ home.old.pass.count + 200 }
 {

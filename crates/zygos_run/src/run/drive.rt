@@ -1,5 +1,5 @@
 //! Driving the cores of a run while its capture is fed.
-ghost use Rattle.std.specs.Prelude.{◌≡◌, ◌≤◌, IfOk, IfErr};
+ghost use Rattle.std.specs.Prelude.{◌≡◌, ◌≤◌, length, IfOk, IfErr};
 ghost use Rattle.zy_feed.specs.Reads.{HasBegun, StopsBy};
 ghost use Rattle.zy_feed.specs.Feeding.{HasFedAll};
 ghost use Rattle.zy_rx.specs.Feed.{rings_of, sent_by};
@@ -42,7 +42,7 @@ pub(crate) fn drive_capture<R: Threads + Wait + Sync, S: Source, G: Gate + Sync>
     gate: &G,
 ) -> Result<Ran, Stop>
     requires runnable { IsRunnable run }
-    requires prepared { IsPrepared run.shards prepared }
+    requires prepared { IsPrepared run prepared }
 
     // The capture, and why it was read no further.
     ensures fed { (first : S) → HasBegun S.rest S.faults first source.old prepared.intake prepared.header
@@ -56,6 +56,7 @@ pub(crate) fn drive_capture<R: Threads + Wait + Sync, S: Source, G: Gate + Sync>
     ensures driven { IfOk result IsDriven }
     ensures header { IfOk result (λ ran. ran.header ≡ prepared.header) }
     ensures shards { IfOk result (λ ran. ran.shared.store.shards ≡ run.shards) }
+    ensures cores { IfOk result (λ ran. length ran.cores ≡ run.cores) }
 {
     a_feeder_that_ended_has_offered_the_capture::<S>();
     a_broken_feeder_has_its_cause::<S>();

@@ -33,7 +33,7 @@ pub(crate) fn prepare(
     requires runnable { IsRunnable run }
     ensures header { IfOk result (λ prepared. prepared.header ≡ header) }
     ensures intake { IfOk result (λ prepared. prepared.intake ≡ intake) }
-    ensures prepared { IfOk result (IsPrepared run.shards) }
+    ensures prepared { IfOk result (IsPrepared run) }
 {
     // A reader reports no higher count.
     if header.count > CONNECTION_LIMIT {

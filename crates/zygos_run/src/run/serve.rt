@@ -1,11 +1,12 @@
 //! A run of a capture.
-ghost use Rattle.std.specs.Prelude.{◌≡◌, ◌⊎◌, ◌≤◌, List, IfOk};
+ghost use Rattle.std.specs.Prelude.{◌≡◌, ◌⊎◌, ◌≤◌, List, length, IfOk};
+ghost use Rattle.std.specs.List.{AllByRecursion};
 ghost use Rattle.zy_capture.specs.declared.record.Record.{Record};
 ghost use Rattle.zy_capture.specs.Capture.{IsCapture};
 ghost use Rattle.zy_rx.specs.Feed.{sent_by};
 ghost use Rattle.zy_command_line.specs.Range.{IsRunnable};
 ghost use Rattle.zy_finish.specs.Received.{AllSent};
-ghost use Rattle.zy_finish.specs.Finish.{IsFinished};
+ghost use Rattle.zy_finish.specs.Finish.{IsFinished, IsHoldBy};
 ghost use Rattle.zygos_run.specs.Seen.{side};
 ghost use Rattle.zygos_run.specs.Runs.{RunsTo};
 ghost use Rattle.zygos_run.specs.Prepared.{IsDriven};
@@ -31,7 +32,7 @@ pub(crate) fn run_capture<R: Threads + Wait + Sync, S: Source, G: Gate + Sync>(
 ) -> Result<Finished, Stop>
     requires runnable { IsRunnable run }
     ensures reads { S.faults source.old ≤ S.faults source.new }
-    ensures ends { RunsTo run.shards (side S.rest S.faults source.old source.new) result }
+    ensures ends { RunsTo run (side S.rest S.faults source.old source.new) result }
 {
     a_capture_is_good_exactly_where_it_is_a_spelling();
     let (intake, header) = Intake::begin(alloc, source)?;
@@ -48,6 +49,7 @@ fn finish_run(alloc: Global, ran: Ran) -> Result<Finished, NoMemory>
     ensures finished { IfOk result (λ finished. (records : List Record)
         → IsCapture ran.header.version ran.header.count records → AllSent (sent_by ran.inlets) records
         → IsFinished ran.shared.store.shards ran.header.version ran.header.count records finished) }
+    ensures held { IfOk result (λ finished. AllByRecursion (IsHoldBy (length ran.cores)) finished.journal.holds) }
 {
     let Ran {
         header,

@@ -1,5 +1,5 @@
-use Rattle.zy_table.specs.Name.{name_of}
+use Rattle.zy_conn.specs.Block.{label_of}
 use Rattle.home_tests.proofs.home_parts.set_up.Given as goal
 
 abbrev pub ghosts-ring_of : goal.ghosts-ring_of
-ghosts-ring_of g a = record { label = name_of a.store.now.id }
+ghosts-ring_of g a = record { label = label_of a.store.now.id 2 }

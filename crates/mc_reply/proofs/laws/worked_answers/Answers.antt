@@ -14,3 +14,7 @@ returns-clause-unique c = refl
 pub returns-clause-number : goal.returns-clause-number
 unfolding text digits
 returns-clause-number c = refl
+
+pub returns-clause-stats : goal.returns-clause-stats
+unfolding text digits
+returns-clause-stats c = refl

@@ -14,3 +14,7 @@ returns-clause-number c = refl
 pub returns-clause-zero : goal.returns-clause-zero
 unfolding text digits
 returns-clause-zero c = refl
+
+pub returns-clause-sum : goal.returns-clause-sum
+unfolding digits
+returns-clause-sum c = refl

@@ -2,7 +2,7 @@ use Rattle.std.proofs.Common.{◌≤◌, sym, ap, ◌∙◌, subst, arith}
 use Rattle.mc_store.specs.Joined.{Joined, is_joined}
 use Rattle.zy_table.specs.Member.{is_in}
 use Rattle.zy_finish.specs.Rest.{HasGathered, AreMerged}
-use Rattle.zy_finish.proofs.FinishLemmas.{is_finished, joined_all}
+use Rattle.zy_finish.proofs.FinishLemmas.{is_finished, joined_all, all_held_by}
 use Rattle.zy_finish.proofs.HomeLemmas.{is_there}
 use Rattle.zy_finish.proofs.finishing.finish.Goals as goal
 
@@ -27,4 +27,6 @@ returns-in-Ok-journal_of c =
           (subst (λ (j : Joined). AreMerged c.args.store.shards j c.in-Ok-journal_of.journal.entries) has.joined c.in-Ok-journal_of.ensures.entries)
           (c.in-Ok-journal_of.ensures.holds ∙ c.from_vec.ensures.value ∙ has.holds)
           has.sessions has.version_is c.version-version.ensures.lawful;
+      held = all_held_by c.args.store.id c.args.version c.args.count c.args.homes.items c.requires.homes c.in-Ok.ensures.keeps c.in-Ok.rests.items c.in-Ok.ensures.value has.kept
+          (record { journal = c.in-Ok-journal_of.journal; outputs = c.take_all.new.self.outputs }) (c.in-Ok-journal_of.ensures.holds ∙ c.from_vec.ensures.value ∙ has.holds);
     }

@@ -1,6 +1,6 @@
-use Rattle.zy_table.specs.Name.{name_of}
+use Rattle.zy_conn.specs.Block.{label_of}
 use Rattle.zy_setup.proofs.ringing.ring_of.Given as goal
 
--- the label is the store's name
+-- the label is that of the store and the number of cores
 abbrev pub ghosts-ring_as : goal.ghosts-ring_as
-ghosts-ring_as a = record { label = name_of a._store.now.id }
+ghosts-ring_as a = record { label = label_of a._store.now.id a._cores }

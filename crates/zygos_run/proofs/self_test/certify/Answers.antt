@@ -7,7 +7,7 @@ use Rattle.zygos_run.proofs.self_test.certify.Goals as goal
 pub unreachable-requires : goal.unreachable-requires
 unreachable-requires c =
     let yes : c.in_ok-check.field-0 ≡ Yes =
-    only_yes c.args.shards (traffic_bytes c.args.traffic) c.args.streams.now c.args.done.now.journal c.args.done.now.outputs c.in_ok-check.field-0
+    only_yes c.args.run (traffic_bytes c.args.traffic) c.args.streams.now c.args.done.now.journal c.args.done.now.outputs c.in_ok-check.field-0
     c.served_runs_check.ensures.only c.requires.streams c.requires.served c.in_ok-check.ensures.verdict in
     let no : No c.in-No.field-0 ≡ Yes = sym c.in-No.is ∙ yes in
     cc

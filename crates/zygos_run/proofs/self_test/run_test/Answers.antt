@@ -15,7 +15,7 @@ returns g c =
     let traffic = c.args.traffic in
     let records = records_of traffic.number traffic.conns traffic.commands in
     let made = c.capture_of.ensures.traffic in record {
-      tested = tested_of traffic c.args.run.shards records c.in_ok-done.done.journal c.in_ok-done.done.outputs c.in_ok-summary.summary refl
+      tested = tested_of traffic c.args.run records c.in_ok-done.done.journal c.in_ok-done.done.outputs c.in_ok-summary.summary refl
           (c.generated_traffic_is_a_good_capture.ensures.good traffic.number traffic.conns traffic.commands made)
           (λ es is. c.each_run_of_generated_traffic_has_the_summary.ensures.value traffic.number traffic.conns traffic.commands c.args.run.shards c.args.run.shards es c.requires.runnable.some_shards made is)
           c.in_ok-done.ensures.served c.in_ok-summary.ensures.value;

@@ -1,13 +1,13 @@
-use Rattle.std.proofs.Common.{◌≡◌, ◌+◌, ◌||◌, Some, true, false, sym, ap, ◌∙◌, subst, refl, arith}
+use Rattle.std.proofs.Common.{◌≡◌, ◌+◌, ◌||◌, Some, None, true, false, sym, ap, ◌∙◌, subst, refl, arith}
 use Rattle.atomic_table.specs.Seated.{TableId}
 use Rattle.zy_core.specs.declared.turn.Turn.TheVariants.{Worked}
 use Rattle.zy_core.specs.Share.{Sharing, sharing}
 use Rattle.zy_core.specs.Core.{Cored, cored, identity_of, Fits}
 use Rattle.zy_home.specs.Home.{is_settled}
-use Rattle.zy_core.specs.Turn.{TurnTo, answer}
+use Rattle.zy_core.specs.Turn.{HasSteps, TurnTo, answer}
 use Rattle.zy_core.proofs.CoreLemmas.{passes_fit}
 use Rattle.zy_core.proofs.KeepLemmas.{Moved, received, looked, moved_on, Stays, stays_same, stays_stolen, keeps_on, same_on}
-use Rattle.zy_core.proofs.TurnLemmas.{Claimed, claimed_turn, looked_turn}
+use Rattle.zy_core.proofs.TurnLemmas.{Claimed, claimed_turn, looked_turn, claimed_steps, other_steps}
 use Rattle.zy_core.proofs.logical_core.Core.turn.Goals as goal
 
 pub returns-in-None-clause-turn : goal.returns-in-None-clause-turn
@@ -15,7 +15,51 @@ returns-in-None-clause-turn g c =
     let a : Cored = cored c.self.inside.home c.self.inside.victims c.self.inside.passes c.self.inside.outlet c.self.inside.control c.self.inside.turns in
     let b : Cored = cored c.claim_own.new.home c.self.inside.victims c.self.inside.passes c.receive_all.new.outlet c.self.inside.control (c.self.inside.turns + 1) in
     subst (λ (x : Cored). TurnTo x b Worked) c.self.view_is (claimed_turn a b c.receive_all.new.home c.collect_all.new.home c.in_ok-received.received c.in_ok-collected.collected
-    (record { receives = c.in_ok-received.ensures.value; collects = c.in_ok-collected.ensures.value; places = ap (λ (z : TableId). z.slots) c.collect_all.ensures.kin.0.table; claims = rw c.in-None.is at c.in_ok-look.ensures.value }))
+    (record { receives = c.in_ok-received.ensures.value; first = ap (λ (z : TableId). z.slots) c.receive_all.ensures.kin.table; collects = c.in_ok-collected.ensures.value; places = ap (λ (z : TableId). z.slots) c.collect_all.ensures.kin.0.table; claims = rw c.in-None.is at c.in_ok-look.ensures.value }))
+
+pub returns-in-None-clause-steps : goal.returns-in-None-clause-steps
+returns-in-None-clause-steps g c =
+    let a : Cored = cored c.self.inside.home c.self.inside.victims c.self.inside.passes c.self.inside.outlet c.self.inside.control c.self.inside.turns in
+    let b : Cored = cored c.claim_own.new.home c.self.inside.victims c.self.inside.passes c.receive_all.new.outlet c.self.inside.control (c.self.inside.turns + 1) in
+    let t : Claimed a b c.receive_all.new.home c.collect_all.new.home c.in_ok-received.received c.in_ok-collected.collected None = record {
+      receives = c.in_ok-received.ensures.value;
+      first = ap (λ (z : TableId). z.slots) c.receive_all.ensures.kin.table;
+      collects = c.in_ok-collected.ensures.value;
+      places = ap (λ (z : TableId). z.slots) c.collect_all.ensures.kin.0.table;
+      claims = rw c.in-None.is at c.in_ok-look.ensures.value;
+    } in
+    subst (λ (x : Cored). HasSteps x b) c.self.view_is (claimed_steps a b c.receive_all.new.home c.collect_all.new.home c.in_ok-received.received c.in_ok-collected.collected t refl)
+
+pub returns-in-None-2-clause-steps : goal.returns-in-None-2-clause-steps
+returns-in-None-2-clause-steps g c =
+    let a : Cored = cored c.self.inside.home c.self.inside.victims c.self.inside.passes c.self.inside.outlet c.self.inside.control c.self.inside.turns in
+    let b : Cored = cored c.claim_own.new.home c.steal_once.new.victims c.steal_once.new.passes c.receive_all.new.outlet c.self.inside.control (c.self.inside.turns + 1) in
+    let t : Claimed a b c.receive_all.new.home c.collect_all.new.home c.in_ok-received.received c.in_ok-collected.collected (Some c.in-Some.look) = record {
+      receives = c.in_ok-received.ensures.value;
+      first = ap (λ (z : TableId). z.slots) c.receive_all.ensures.kin.table;
+      collects = c.in_ok-collected.ensures.value;
+      places = ap (λ (z : TableId). z.slots) c.collect_all.ensures.kin.0.table;
+      claims = rw c.in-Some.is at c.in_ok-look.ensures.value;
+    } in
+    subst (λ (x : Cored). HasSteps x b) c.self.view_is (other_steps a b c.receive_all.new.home c.collect_all.new.home c.in_ok-received.received c.in_ok-collected.collected c.in-Some.look None t (rw c.in-None-2.is at c.in_ok-looks.ensures.value))
+
+pub returns-clause-steps : goal.returns-clause-steps
+returns-clause-steps g c =
+    let a : Cored = cored c.self.inside.home c.self.inside.victims c.self.inside.passes c.self.inside.outlet c.self.inside.control c.self.inside.turns in
+    let b : Cored = cored c.claim_own.new.home c.steal_once.new.victims c.steal_once.new.passes c.receive_all.new.outlet c.self.inside.control (c.self.inside.turns + 1) in
+    let t : Claimed a b c.receive_all.new.home c.collect_all.new.home c.in_ok-received.received c.in_ok-collected.collected (Some c.in-Some.look) = record {
+      receives = c.in_ok-received.ensures.value;
+      first = ap (λ (z : TableId). z.slots) c.receive_all.ensures.kin.table;
+      collects = c.in_ok-collected.ensures.value;
+      places = ap (λ (z : TableId). z.slots) c.collect_all.ensures.kin.0.table;
+      claims = rw c.in-Some.is at c.in_ok-look.ensures.value;
+    } in
+    subst (λ (x : Cored). HasSteps x b) c.self.view_is (other_steps a b c.receive_all.new.home c.collect_all.new.home c.in_ok-received.received c.in_ok-collected.collected c.in-Some.look (Some c.in-Some-2.looks) t (rw c.in-Some-2.is at c.in_ok-looks.ensures.value))
+
+pub steal_once-requires-clause-core : goal.steal_once-requires-clause-core
+steal_once-requires-clause-core g c =
+    let one = c.self.invariant.0.one in
+    (c.self.invariant.1 ∙ sym one.passes_core, one.passes_core ∙ sym one.thief_core)
 
 pub steal_once-requires-clause-within : goal.steal_once-requires-clause-within
 steal_once-requires-clause-within g c =
@@ -29,6 +73,7 @@ returns-clause-turn g c =
     let b : Cored = cored c.claim_own.new.home c.steal_once.new.victims c.steal_once.new.passes c.receive_all.new.outlet c.self.inside.control (c.self.inside.turns + 1) in
     let t : Claimed a b c.receive_all.new.home c.collect_all.new.home c.in_ok-received.received c.in_ok-collected.collected (Some c.in-Some.look) = record {
       receives = c.in_ok-received.ensures.value;
+      first = ap (λ (z : TableId). z.slots) c.receive_all.ensures.kin.table;
       collects = c.in_ok-collected.ensures.value;
       places = ap (λ (z : TableId). z.slots) c.collect_all.ensures.kin.0.table;
       claims = rw c.in-Some.is at c.in_ok-look.ensures.value;

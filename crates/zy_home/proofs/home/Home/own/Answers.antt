@@ -1,15 +1,27 @@
-use Rattle.std.proofs.Common.{refl, sym, ap, ◌∙◌, subst}
-use Rattle.zy_table.specs.Name.{name_of}
+use Rattle.std.proofs.Common.{sym, ap, ◌∙◌, subst, arith}
+use Rattle.zy_conn.specs.Block.{label_of}
+use Rattle.zy_conn.proofs.LabelLemmas.{same_store, same_cores}
 use Rattle.zy_home.specs.Home.{all_here, Homed, HomeStands}
 use Rattle.zy_home.proofs.JoinLemmas.{not_joined, keeps_looks, keeps_joins, out_joins, put_back}
 use Rattle.zy_home.proofs.home.Home.own.Goals as goal
+
+-- a block was taken, which has the label of the ring, and so is of the store and may be held by the home's core
+pub hold-requires-clause-table : goal.hold-requires-clause-table
+hold-requires-clause-table g c = same_store _ _ _ _ (c.in-Took.ensures.value.0.labelled ∙ ap (λ (h : Homed). h.pass.label) c.self.view_is ∙ c.requires.store)
+
+pub hold-requires-clause-core : goal.hold-requires-clause-core
+hold-requires-clause-core g c =
+    let cores = same_cores _ _ _ _ (c.in-Took.ensures.value.0.labelled ∙ ap (λ (h : Homed). h.pass.label) c.self.view_is ∙ c.requires.store) in
+    let seen = ap (λ (h : Homed). h.cores) c.self.view_is in
+    let near = c.self.invariant.core in
+    omega arith
 
 -- a block was taken
 pub invariant_of-self : goal.invariant_of-self
 invariant_of-self g c = keeps_joins _ c.claim_home.new.home c.args.ring.now.places c.in-Took.place c.in-Took.block c.self.invariant c.in-Took.ensures.value.0
 
 pub settle-requires-clause-out : goal.settle-requires-clause-out
-settle-requires-clause-out g c = let o = out_joins _ c.claim_home.new.home c.args.ring.now.places c.in-Took.place c.in-Took.block c.self.invariant c.in-Took.ensures.value.0 (sym c.places-places.ensures.value ∙ c.places-places.ensures.count ∙ ap (λ z. z.slots) (sym c.requires.table) ∙ ap (λ (h : Homed). h.pass.table.slots) (sym c.self.view_is) ∙ c.self.invariant.places) (ap (λ (h : Homed). h.refused) c.self.view_is ∙ c.requires.live) c.in-Took.ensures.kept in record { link = o.link; there = o.there; hand = o.hand; mark = c.hold.ensures.mark ∙ o.mark; label = ap name_of c.hold.ensures.table ∙ o.label }
+settle-requires-clause-out g c = let o = out_joins _ c.claim_home.new.home c.args.ring.now.places c.in-Took.place c.in-Took.block c.self.invariant c.in-Took.ensures.value.0 (sym c.places-places.ensures.value ∙ c.places-places.ensures.count ∙ ap (λ z. z.slots) (sym c.requires.table) ∙ ap (λ (h : Homed). h.pass.table.slots) (sym c.self.view_is) ∙ c.self.invariant.places) (ap (λ (h : Homed). h.refused) c.self.view_is ∙ c.requires.live) c.in-Took.ensures.kept in record { link = o.link; there = o.there; hand = o.hand; mark = c.hold.ensures.mark ∙ o.mark; label = (λ i. label_of (c.hold.ensures.table i) (c.hold.ensures.cores i)) ∙ o.label }
 
 pub returns-in-Ok-settle-clause-stands : goal.returns-in-Ok-settle-clause-stands
 returns-in-Ok-settle-clause-stands g c items s = c.in-Ok-settle.ensures.stands items (let old = subst (λ (h : Homed). HomeStands h items) (sym c.self.view_is) s in record { ended = old.ended; links = old.links })
@@ -39,10 +51,25 @@ returns-in-Raced-clause-stands g c items s = (let old = subst (λ (h : Homed). H
 
 -- the answers
 pub returns-in-Ok-settle-clause-value : goal.returns-in-Ok-settle-clause-value
-returns-in-Ok-settle-clause-value g c = rw (← c.self.view_is) (c.in-Took.place, c.in-Took.block, c.claim_home.new.home, c.in-Took.ensures.value, (c.hold.new.self, c.in-Ok.ensures.end), c.in-Ok-settle.ensures.settled)
+returns-in-Ok-settle-clause-value g c = rw (← c.self.view_is) (
+  c.in-Took.place,
+  c.in-Took.block,
+  c.hold.new.self,
+  c.claim_home.new.home,
+  c.in-Took.ensures.value,
+  record {
+    ends = c.in-Ok.ensures.end;
+    recorded = c.hold.ensures.holds;
+    more = c.hold.ensures.more;
+    limit = c.hold.ensures.limit;
+    mark = c.hold.ensures.mark;
+    label = (λ i. label_of (c.hold.ensures.table i) (c.hold.ensures.cores i));
+  },
+  c.in-Ok-settle.ensures.settled,
+)
 
 pub invariant_of-self-in-Err : goal.invariant_of-self-in-Err
 invariant_of-self-in-Err g c =
     put_back _ (keeps_joins _ c.claim_home.new.home c.args.ring.now.places c.in-Took.place c.in-Took.block c.self.invariant c.in-Took.ensures.value.0) c.in-Took.place c.in-Took.block c.hold.new.self c.put.new.slot
     (out_joins _ c.claim_home.new.home c.args.ring.now.places c.in-Took.place c.in-Took.block c.self.invariant c.in-Took.ensures.value.0 (sym c.places-places.ensures.value ∙ c.places-places.ensures.count ∙ ap (λ z. z.slots) (sym c.requires.table) ∙ ap (λ (h : Homed). h.pass.table.slots) (sym c.self.view_is) ∙ c.self.invariant.places) (ap (λ (h : Homed). h.refused) c.self.view_is ∙ c.requires.live) c.in-Took.ensures.kept)
-    c.hold.ensures.table c.put.ensures.value
+    (λ i. label_of (c.hold.ensures.table i) (c.hold.ensures.cores i)) c.put.ensures.value

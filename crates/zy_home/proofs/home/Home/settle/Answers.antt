@@ -20,4 +20,4 @@ pub returns-in-Err-clause-same : goal.returns-in-Err-clause-same
 returns-in-Err-clause-same c = rw (← c.self.view_is) ((out_back _ c.self.invariant c.args.place c.args.block (subst (λ (h : Homed). IsOut h c.args.place c.args.block) (sym c.self.view_is) c.requires.out) c.index_mut-2.result.now c.settle_at.new.link c.settle_at.new.pass c.settle_at.new.slot c.index_mut-2.ensures.value c.settle_at.ensures.same.conn c.in-Err.ensures.err).same, refl)
 
 pub returns-in-Ok-clause-settled : goal.returns-in-Ok-clause-settled
-returns-in-Ok-clause-settled c = rw (← c.self.view_is) (settles _ c.args.place c.index_mut-2.result.now c.settle_at.new.link c.settle_at.new.pass c.settle_at.new.slot c.self.inside.refused (out_there _ c.self.invariant c.args.place c.args.block (subst (λ (h : Homed). IsOut h c.args.place c.args.block) (sym c.self.view_is) c.requires.out) c.index_mut-2.result.now c.settle_at.new.link c.settle_at.new.pass c.settle_at.new.slot c.index_mut-2.ensures.value c.settle_at.ensures.same.conn) c.settle_at.ensures.same.conn c.in-Ok.ensures.ok)
+returns-in-Ok-clause-settled c = rw (← c.self.view_is) (settles _ c.args.place c.index_mut-2.result.now c.settle_at.new.link c.settle_at.new.pass c.settle_at.new.slot c.self.inside.refused (out_there _ c.self.invariant c.args.place c.args.block (subst (λ (h : Homed). IsOut h c.args.place c.args.block) (sym c.self.view_is) c.requires.out) c.index_mut-2.result.now c.settle_at.new.link c.settle_at.new.pass c.settle_at.new.slot c.index_mut-2.ensures.value c.settle_at.ensures.same.conn) c.settle_at.ensures.same.conn c.args.block c.in-Ok.ensures.ok)

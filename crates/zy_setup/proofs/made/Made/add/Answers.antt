@@ -1,10 +1,9 @@
 use Rattle.std.proofs.Common.{◌≡◌, ◌++◌, ◌∷◌, [], ℕ, List, length, sym, ap, ◌∙◌, subst, drop, refl, arith, rules}
 use Rattle.std.specs.Vec.{with_items}
 use Rattle.std.proofs.lemmas.List.{take_at}
-use Rattle.zy_table.specs.Name.{name_of}
 use Rattle.zy_shuffle.specs.Pass.{Held, newly_given}
 use Rattle.zy_steal.specs.Steal.{PassList}
-use Rattle.zy_conn.specs.Block.{Blocked}
+use Rattle.zy_conn.specs.Block.{Blocked, label_of}
 use Rattle.zy_setup.specs.Ready.{IsNewHome}
 use Rattle.zy_setup.specs.Make.{Gives}
 use Rattle.zy_setup.proofs.OwnLemmas.{places_few}
@@ -34,7 +33,7 @@ returns-clause-made c =
     (subst (λ (n : ℕ). Gives n (newly_given c.in-Ok.made.1) c.args.self.now.passes.items c.give_passes.new.passes) core
     (subst (λ (l : List (PassList Blocked)). Gives c.len-core.result (newly_given c.in-Ok.made.1) l c.give_passes.new.passes) before c.in_default.ensures.gives))
     size
-    (subst (λ (n : ℕ). IsNewHome c.keep.new.self.rings (name_of c.args.store.now.id) c.args.cores n c.in-Ok-home_of.home) core
+    (subst (λ (n : ℕ). IsNewHome c.keep.new.self.rings (label_of c.args.store.now.id c.args.cores) c.args.cores n c.in-Ok-home_of.home) core
     (new_home c.args.store.now.id c.args.self.now.rings c.keep.new.self.rings c.len-core.result c.args.cores c.args.count c.args.own.places c.in-Ok.made.0 c.in-Ok.made.1 c.give_passes.new.home _ c.in-Ok-home_of.home
     rings (core ∙ sym c.requires.made.same) c.in-Ok.ensures.pass c.in_default.ensures.home is c.in-Ok-home_of.ensures.stands))
     is.count_is

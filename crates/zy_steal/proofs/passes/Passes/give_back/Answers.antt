@@ -36,4 +36,4 @@ returns-clause-value g c =
     let asks = asks_of g.T.Marked.mark g.T.Marked.label c.args.rings.now c.self.inside.core c.args.victim c.number_of-at.result c.args.place c.args.block c.self.inside.items.items c.index_mut.result.now c.ring-ring.result.now
     (subst (ArePasses c.args.rings.now) (sym c.self.view_is) c.requires.within) (subst (λ (p : PassList g.row.T.Denot). p.core ≢ c.args.victim) (sym c.self.view_is) c.requires.other.1)
     (subst (λ (p : PassList g.row.T.Denot). HoldsOf g.T.Marked.mark g.T.Marked.label p c.args.victim c.args.place c.args.block) (sym c.self.view_is) c.requires.holds) c.number_of-at.ensures.value c.index_mut.ensures.value c.ring-ring.ensures.value in
-    rw (← c.self.view_is) (gives_to c.self.inside.core c.args.victim c.number_of-at.result c.args.place c.self.inside.items.items c.index_mut.result.now c.give_back.new.pass c.give_back.new.pass.trace c.number_of-at.ensures.value asks.2 c.give_back.ensures.value)
+    rw (← c.self.view_is) (gives_to c.self.inside.core c.args.victim c.number_of-at.result c.args.place c.args.block c.self.inside.items.items c.index_mut.result.now c.give_back.new.pass c.give_back.new.pass.trace c.number_of-at.ensures.value asks.2 c.give_back.ensures.value)

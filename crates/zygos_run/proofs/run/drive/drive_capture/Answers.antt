@@ -5,7 +5,7 @@ use Rattle.zy_feed.specs.Feeding.{stop_in, HasFedAll}
 use Rattle.zy_core.specs.declared.driven.Driven.{Driven}
 use Rattle.zy_core.specs.Drive.{IsSettled}
 use Rattle.zygos_run.proofs.FeedLemmas.{fed, stopped, counted}
-use Rattle.zygos_run.proofs.PreparedLemmas.{driven_of}
+use Rattle.zygos_run.proofs.PreparedLemmas.{driven_of, driven_count}
 use Rattle.zygos_run.proofs.run.drive.drive_capture.Goals as goal
 
 pub returns-in-Settled-clause-fed : goal.returns-in-Settled-clause-fed
@@ -48,4 +48,7 @@ returns-in-NoMemory-clause-count g c = λ first begins.
 pub returns-in-Settled-clause-driven : goal.returns-in-Settled-clause-driven
 returns-in-Settled-clause-driven g c =
     let settled = c.drive_cores-driven.ensures.settled (subst (λ (d : Driven). IsSettled d) (sym c.in-Settled.is) tt) in
-    driven_of c.args.run.shards c.args.prepared _ c.requires.prepared refl refl refl (search rules) (search rules) (search rules)
+    driven_of c.args.run c.args.prepared _ c.requires.prepared refl refl refl (search rules) (search rules) (search rules)
+
+pub returns-in-Settled-clause-cores : goal.returns-in-Settled-clause-cores
+returns-in-Settled-clause-cores g c = driven_count c.args.run c.args.prepared c.in-Settled.cores c.requires.prepared (search rules)

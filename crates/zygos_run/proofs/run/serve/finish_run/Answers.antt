@@ -1,7 +1,11 @@
-use Rattle.std.proofs.Common.{◌≡◌, sym, ap, subst, ℕ}
+use Rattle.std.proofs.Common.{◌≡◌, ◌∙◌, List, length, sym, ap, subst, ℕ}
 use Rattle.mc_store.specs.Pass.{Stored}
 use Rattle.zy_core.specs.Drive.{identities}
-use Rattle.zy_finish.specs.Finish.{IsFinished}
+use Rattle.std.specs.List.{AllByRecursion}
+use Rattle.zy_home.specs.Home.{Homed}
+use Rattle.zy_core.specs.Core.{Cored}
+use Rattle.zy_setup.proofs.ListLemmas.{length_map}
+use Rattle.zy_finish.specs.Finish.{IsFinished, IsHoldBy}
 use Rattle.zy_finish.specs.Over.{AreOver}
 use Rattle.zygos_run.proofs.OverLemmas.{over_of}
 use Rattle.zygos_run.proofs.run.serve.finish_run.Goals as goal
@@ -19,4 +23,6 @@ returns c = record {
       let shards : c.in-Ok.taken.store.shards ≡ c.args.ran.shared.store.shards = ap (λ (s : Stored). s.shards) c.in-Ok.ensures.store in
       subst (λ (n : ℕ). IsFinished n c.args.ran.header.version c.args.ran.header.count records c.in_ok-finished.finished) shards
       (c.in_ok-finished.ensures.finished records lawful (c.in-Ok.ensures.received c.requires.driven.settled records sent));
+  held = subst (λ (n : ℕ). AllByRecursion (IsHoldBy n) c.in_ok-finished.finished.journal.holds)
+      (ap (λ (l : List Homed). length l) c.in-Ok.ensures.homes ∙ length_map (λ (x : Cored). x.home) c.args.ran.cores) c.in_ok-finished.ensures.held;
 }

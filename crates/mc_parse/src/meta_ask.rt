@@ -1,0 +1,124 @@
+//! What a meta line asks for.
+ghost use Rattle.std.specs.Prelude.{◌≡◌, ◌≤◌, length};
+ghost use Rattle.mc_meta.specs.Meta.{meta_line};
+ghost use Rattle.mc_meta.specs.Key.{bytes_in, IsKeyIn};
+ghost use Rattle.mc_parse.specs.Words.{line_limit};
+ghost use Rattle.mc_parse.specs.MetaAsk.{meta_ask_seen, verb_of, storing_ask};
+ghost use Rattle.mc_parse.specs.Form.{meta_form};
+ghost use Rattle.mc_parse.specs.Line.{form_seen};
+
+use crate::error_line::ErrorLine;
+use crate::line::Line;
+use crate::verb::Verb;
+use mc_meta::{Letters, MetaLine, Span, read_meta};
+
+/// What a meta line asks for. Its key is a part of the line.
+#[derive(Drop)]
+pub(crate) enum MetaAsk<'a> {
+    /// Nothing but an answer.
+    Noop,
+    /// Get the item.
+    Get {
+        key: &'a [u8],
+        flags: Letters,
+    },
+    /// Store the block.
+    Store {
+        verb: Verb,
+        key: &'a [u8],
+        flags: u32,
+        bytes: u32,
+        marks: Letters,
+    },
+    /// Store the block where the item there has this unique.
+    Cas {
+        key: &'a [u8],
+        flags: u32,
+        bytes: u32,
+        unique: u64,
+        marks: Letters,
+    },
+    /// Remove the item.
+    Delete {
+        key: &'a [u8],
+        flags: Letters,
+    },
+}
+
+/// What a line says as a meta command.
+pub(crate) fn read_meta_line(line: &[u8]) -> Line<'_>
+    requires within { length line.now ≤ line_limit }
+    ensures value { form_seen result ≡ meta_form line.now (meta_line line.now) }
+{
+    match read_meta(line) {
+        MetaLine::Other | MetaLine::WrongCount => Line::Fault(ErrorLine::Unknown),
+        MetaLine::Bad => Line::Fault(ErrorLine::BadLine),
+        MetaLine::Noop => Line::Meta(MetaAsk::Noop),
+        MetaLine::Get { key, flags } => Line::Meta(MetaAsk::Get {
+            key: part(line, key),
+            flags,
+        }),
+        MetaLine::Set {
+            key,
+            bytes,
+            flags,
+            unique,
+            mode,
+            marks,
+        } => Line::Meta(storing_ask(part(line, key), bytes, flags, unique, mode, marks)),
+        MetaLine::Delete { key, flags } => Line::Meta(MetaAsk::Delete {
+            key: part(line, key),
+            flags,
+        }),
+    }
+}
+
+// What a storage line asks for, by its unique and its mode.
+fn storing_ask(
+    key: &[u8],
+    bytes: u32,
+    flags: u32,
+    unique: Option<u64>,
+    mode: u8,
+    marks: Letters,
+) -> MetaAsk<'_>
+    ensures value { meta_ask_seen result ≡ storing_ask key.now bytes flags unique mode marks }
+{
+    match unique {
+        Some(unique) => MetaAsk::Cas {
+            key,
+            flags,
+            bytes,
+            unique,
+            marks,
+        },
+        None => MetaAsk::Store {
+            verb: verb_of(mode),
+            key,
+            flags,
+            bytes,
+            marks,
+        },
+    }
+}
+
+// The verb of a mode, which is a capital.
+fn verb_of(mode: u8) -> Verb
+    ensures value { result ≡ verb_of mode }
+{
+    match mode {
+        b'E' => Verb::Add,
+        b'A' => Verb::Append,
+        b'P' => Verb::Prepend,
+        b'R' => Verb::Replace,
+        _ => Verb::Set,
+    }
+}
+
+// The bytes of a key in its line.
+fn part(line: &[u8], key: Span) -> &[u8]
+    requires within { IsKeyIn line.now key }
+    ensures value { result.now ≡ bytes_in line.now key }
+{
+    &line[key.from..key.to]
+}

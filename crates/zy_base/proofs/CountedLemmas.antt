@@ -1,0 +1,243 @@
+-- What a shard counts in a replay is counted from the entries alone.
+use Rattle.std.specs.Prelude.{◌==◌, nat_lt, if◌then◌else◌, fold, count_by, is_some, Option, None, Some, ⊤}
+use Rattle.std.proofs.Common.{◌≡◌, ℕ, ◌+◌, ◌-◌, ◌≤◌, Bool, true, false, cond, List, [], ◌∷◌, ◌++◌, length, refl, sym, ap, ◌∙◌, subst, arith}
+use Rattle.std.proofs.lemmas.List.{append_assoc, append-nil}
+use Rattle.std.proofs.lemmas.List.Sums.{sum_by-cons, count_by-le-length}
+use Rattle.std.specs.Ordering.{nat_cmp, eq_by_cmp}
+use Rattle.std.specs.Cmp.Lexicographic.{slice_cmp, nat_list_cmp_total}
+use Rattle.std.specs.FinMap.{FinMap, empty, get, contains_key, insert, remove, len, get-empty, get-insert, get-remove, len-empty, len-insert, len-remove}
+use Rattle.zy_base.specs.declared.item.Item.{Item}
+use Rattle.zy_base.specs.declared.call.Call.{Call}
+use Rattle.zy_base.specs.declared.call.Call.TheVariants.{Get, Set, Add, Replace, Append, Prepend, Cas, Incr, Decr, Delete, Flush, Tally}
+use Rattle.zy_base.specs.declared.call_reply.CallReply.{CallReply}
+use Rattle.zy_base.specs.declared.call_reply.CallReply.TheVariants.{TooLarge, Exists}
+use Rattle.zy_base.specs.declared.entry.Entry.{Entry}
+use Rattle.zy_base.specs.declared.tallied.Tallied.{Tallied}
+use Rattle.zy_base.specs.Call.{key_of}
+use Rattle.zy_base.specs.Code.{tally}
+use Rattle.zy_base.specs.Number.{number_of}
+use Rattle.zy_base.specs.Counted.{is_get, is_set, is_hit, is_miss, one_more_if, KeySet, no_keys, keys_with, keys_after, counted}
+use Rattle.zy_base.specs.Shard.{Items, State, empty_state, tallied, Outcome, value_limit, answers, stored, counted_up, counted_down, outcome_of, outcome_on, item_at, reply_to, state_with, state_after}
+use Rattle.zy_base.specs.Order.{at_shard}
+use Rattle.zy_base.specs.History.{IsReplay, replayed, IsLegal, answer_after, AreAnswered}
+use Rattle.zy_base.proofs.LegalLemmas.{legal_parts}
+use Rattle.zy_base.proofs.ReplayLemmas.{IsLegal-push, IsLegal-front, IsLegal-shard, IsLegal-reply}
+
+-- ---- calls
+
+one_more : (test : Bool) (rest count : ℕ) → rest + one_more_if test count ≡ cond test 1 0 + rest + count
+one_more true rest count = omega arith
+one_more false rest count = omega arith
+
+gets_are : (shards number : ℕ) (state : State) (es : List Entry)
+    → (replayed shards number state es).calls.gets ≡ count_by (λ (e : Entry). is_get e.call) es + state.calls.gets
+gets_are shards number state [] = omega arith
+gets_are shards number state (e ∷ es) =
+    gets_are shards number (state_after shards number state e.call) es
+    ∙ one_more (is_get e.call) (count_by (λ (e : Entry). is_get e.call) es) state.calls.gets
+    ∙ ap (λ n. n + state.calls.gets) (sym (sum_by-cons (λ (e : Entry). cond (is_get e.call) 1 0) e es))
+
+sets_are : (shards number : ℕ) (state : State) (es : List Entry)
+    → (replayed shards number state es).calls.sets ≡ count_by (λ (e : Entry). is_set e.call) es + state.calls.sets
+sets_are shards number state [] = omega arith
+sets_are shards number state (e ∷ es) =
+    sets_are shards number (state_after shards number state e.call) es
+    ∙ one_more (is_set e.call) (count_by (λ (e : Entry). is_set e.call) es) state.calls.sets
+    ∙ ap (λ n. n + state.calls.sets) (sym (sum_by-cons (λ (e : Entry). cond (is_set e.call) 1 0) e es))
+
+hits_are : (shards number : ℕ) (state : State) (es : List Entry) → IsReplay shards number state es
+    → (replayed shards number state es).calls.hits ≡ count_by (λ (e : Entry). is_hit e.call e.reply) es + state.calls.hits
+hits_are shards number state [] replay = omega arith
+hits_are shards number state (e ∷ es) replay =
+    let rest : ℕ = count_by (λ (e : Entry). is_hit e.call e.reply) es in
+    hits_are shards number (state_after shards number state e.call) es replay.1
+    ∙ one_more (is_hit e.call (reply_to state e.call)) rest state.calls.hits
+    ∙ ap (λ reply. cond (is_hit e.call reply) 1 0 + rest + state.calls.hits) (sym replay.0)
+    ∙ ap (λ n. n + state.calls.hits) (sym (sum_by-cons (λ (e : Entry). cond (is_hit e.call e.reply) 1 0) e es))
+
+misses_are : (shards number : ℕ) (state : State) (es : List Entry) → IsReplay shards number state es
+    → (replayed shards number state es).calls.misses ≡ count_by (λ (e : Entry). is_miss e.call e.reply) es + state.calls.misses
+misses_are shards number state [] replay = omega arith
+misses_are shards number state (e ∷ es) replay =
+    let rest : ℕ = count_by (λ (e : Entry). is_miss e.call e.reply) es in
+    misses_are shards number (state_after shards number state e.call) es replay.1
+    ∙ one_more (is_miss e.call (reply_to state e.call)) rest state.calls.misses
+    ∙ ap (λ reply. cond (is_miss e.call reply) 1 0 + rest + state.calls.misses) (sym replay.0)
+    ∙ ap (λ n. n + state.calls.misses) (sym (sum_by-cons (λ (e : Entry). cond (is_miss e.call e.reply) 1 0) e es))
+
+-- ---- keys
+
+-- the keys are those of the items
+record AreKeys (keys : KeySet) (items : Items) : Type 0 where
+  each : (key : List ℕ) → contains_key keys key ≡ contains_key items key
+  size : len keys ≡ len items
+
+no_items : AreKeys no_keys empty
+no_items = record {
+  each = λ key. ap is_some (get-empty (slice_cmp nat_cmp) key) ∙ sym (ap is_some (get-empty (slice_cmp nat_cmp) key));
+  size = len-empty (slice_cmp nat_cmp) ⊤ ∙ sym (len-empty (slice_cmp nat_cmp) Item);
+}
+
+is_some-put : {X : Type 0} (test : Bool) (x : X) (found : Option X) → is_some (cond test (Some x) found) ≡ cond test true (is_some found)
+is_some-put true x found = refl
+is_some-put false x found = refl
+
+is_some-taken : {X : Type 0} (test : Bool) (found : Option X) → is_some (cond test None found) ≡ cond test false (is_some found)
+is_some-taken true found = refl
+is_some-taken false found = refl
+
+after_put : (keys : KeySet) (items : Items) (key : List ℕ) (item : Item) → AreKeys keys items → AreKeys (insert keys key tt) (insert items key item)
+after_put keys items key item are = record {
+  each = λ at.
+      ap is_some (get-insert nat_list_cmp_total keys key tt at) ∙ is_some-put (eq_by_cmp (slice_cmp nat_cmp) at key) tt (get keys at)
+      ∙ ap (cond (eq_by_cmp (slice_cmp nat_cmp) at key) true) (are.each at)
+      ∙ sym (ap is_some (get-insert nat_list_cmp_total items key item at) ∙ is_some-put (eq_by_cmp (slice_cmp nat_cmp) at key) item (get items at));
+  size =
+      len-insert nat_list_cmp_total keys key tt
+      ∙ ap (λ has. cond has (len keys) (len keys + 1)) (are.each key)
+      ∙ ap (λ size. cond (contains_key items key) size (size + 1)) are.size
+      ∙ sym (len-insert nat_list_cmp_total items key item);
+}
+
+after_taken : (keys : KeySet) (items : Items) (key : List ℕ) → AreKeys keys items → AreKeys (remove keys key) (remove items key)
+after_taken keys items key are = record {
+  each = λ at.
+      ap is_some (get-remove nat_list_cmp_total keys key at) ∙ is_some-taken (eq_by_cmp (slice_cmp nat_cmp) at key) (get keys at)
+      ∙ ap (cond (eq_by_cmp (slice_cmp nat_cmp) at key) false) (are.each at)
+      ∙ sym (ap is_some (get-remove nat_list_cmp_total items key at) ∙ is_some-taken (eq_by_cmp (slice_cmp nat_cmp) at key) (get items at));
+  size =
+      len-remove nat_list_cmp_total keys key
+      ∙ ap (λ has. cond has (len keys - 1) (len keys)) (are.each key)
+      ∙ ap (λ size. cond (contains_key items key) (size - 1) size) are.size
+      ∙ sym (len-remove nat_list_cmp_total items key);
+}
+
+module _ (shards number : ℕ) (state : State) (keys : KeySet) (are : AreKeys keys state.items) where
+  -- the keys after a call with this outcome
+  abbrev After : Call → Outcome → Type 0
+  After call outcome = AreKeys (keys_with keys call outcome.reply) (state_with shards number state outcome.effect).items
+
+  put : (key : List ℕ) (flags : ℕ) (value : List ℕ) → AreKeys (insert keys key tt) (state_with shards number state (stored key flags value).effect).items
+  put key flags value = after_put keys state.items key _ are
+
+  joined : (call : Call) (key : List ℕ) (flags : ℕ) (value : List ℕ) (test : Bool) → After call (stored key flags value) → After call (answers TooLarge)
+      → After call (cond test (answers TooLarge) (stored key flags value))
+  joined call key flags value true small large = large
+  joined call key flags value false small large = small
+
+  exchanged : (key : List ℕ) (flags unique : ℕ) (value : List ℕ) (test : Bool) → After (Cas key flags unique value) (cond test (stored key flags value) (answers Exists))
+  exchanged key flags unique value true = put key flags value
+  exchanged key flags unique value false = are
+
+  up : (key : List ℕ) (item : Item) (amount : ℕ) (number : Option ℕ) → After (Incr key amount) (counted_up key item amount number)
+  up key item amount None = are
+  up key item amount (Some n) = put key _ _
+
+  down : (key : List ℕ) (item : Item) (amount : ℕ) (number : Option ℕ) → After (Decr key amount) (counted_down key item amount number)
+  down key item amount None = are
+  down key item amount (Some n) = put key _ _
+
+  after_outcome : (counts : Tallied) (call : Call) (found : Option Item) → After call (outcome_of counts call found)
+  after_outcome counts (Get key) None = are
+  after_outcome counts (Get key) (Some item) = are
+  after_outcome counts (Set key flags value) None = put key flags value
+  after_outcome counts (Set key flags value) (Some item) = put key flags value
+  after_outcome counts (Add key flags value) None = put key flags value
+  after_outcome counts (Add key flags value) (Some item) = are
+  after_outcome counts (Replace key flags value) None = are
+  after_outcome counts (Replace key flags value) (Some item) = put key flags value
+  after_outcome counts (Append key value) None = are
+  after_outcome counts (Append key value) (Some item) =
+      joined (Append key value) key item.flags (item.value ++ value) (nat_lt value_limit (length (item.value ++ value))) (put key _ _) are
+  after_outcome counts (Prepend key value) None = are
+  after_outcome counts (Prepend key value) (Some item) =
+      joined (Prepend key value) key item.flags (value ++ item.value) (nat_lt value_limit (length (value ++ item.value))) (put key _ _) are
+  after_outcome counts (Cas key flags unique value) None = are
+  after_outcome counts (Cas key flags unique value) (Some item) = exchanged key flags unique value (item.unique == unique)
+  after_outcome counts (Incr key amount) None = are
+  after_outcome counts (Incr key amount) (Some item) = up key item amount (number_of item.value)
+  after_outcome counts (Decr key amount) None = are
+  after_outcome counts (Decr key amount) (Some item) = down key item amount (number_of item.value)
+  after_outcome counts (Delete key) None = are
+  after_outcome counts (Delete key) (Some item) = after_taken keys state.items key are
+  after_outcome counts Flush None = no_items
+  after_outcome counts Flush (Some item) = no_items
+  after_outcome counts Tally None = are
+  after_outcome counts Tally (Some item) = are
+
+keys_are : (shards number : ℕ) (state : State) (keys : KeySet) (es : List Entry) → AreKeys keys state.items → IsReplay shards number state es
+    → AreKeys (keys_after keys es) (replayed shards number state es).items
+keys_are shards number state keys [] are replay = are
+keys_are shards number state keys (e ∷ es) are replay =
+    let next = after_outcome shards number state keys are (tallied state) e.call (item_at state.items (key_of e.call)) in
+    keys_are shards number (state_after shards number state e.call) (keys_with keys e.call e.reply) es
+    (subst (λ reply. AreKeys (keys_with keys e.call reply) (state_after shards number state e.call).items) (sym replay.0) next) replay.1
+
+-- ---- a replay
+
+-- what a shard counts is counted from its entries
+pub tallied-replayed : (shards number : ℕ) (es : List Entry) → IsReplay shards number empty_state es → tallied (replayed shards number empty_state es) ≡ counted es
+tallied-replayed shards number es replay =
+    let gets = gets_are shards number empty_state es in
+    let sets = sets_are shards number empty_state es in
+    let hits = hits_are shards number empty_state es replay in
+    let misses = misses_are shards number empty_state es replay in
+    let gets' : (replayed shards number empty_state es).calls.gets ≡ (counted es).gets = omega (arith, gets) in
+    let sets' : (replayed shards number empty_state es).calls.sets ≡ (counted es).sets = omega (arith, sets) in
+    let hits' : (replayed shards number empty_state es).calls.hits ≡ (counted es).hits = omega (arith, hits) in
+    let misses' : (replayed shards number empty_state es).calls.misses ≡ (counted es).misses = omega (arith, misses) in
+    let items' = sym (keys_are shards number empty_state no_keys es no_items replay).size in
+    λ i. record { gets = gets' i; sets = sets' i; hits = hits' i; misses = misses' i; items = items' i }
+
+-- the items that are counted are those of the shard
+pub items-counted : (shards number : ℕ) (es : List Entry) → IsReplay shards number empty_state es → (counted es).items ≡ len (replayed shards number empty_state es).items
+items-counted shards number es replay = (keys_are shards number empty_state no_keys es no_items replay).size
+
+-- there are as many gets, and as many calls that store a value, as entries at most
+pub gets_within : (shards number : ℕ) (es : List Entry) → (replayed shards number empty_state es).calls.gets ≤ length es
+gets_within shards number es =
+    let is = gets_are shards number empty_state es in
+    let most = count_by-le-length (λ (e : Entry). is_get e.call) es in
+    omega (arith, is, most)
+
+pub sets_within : (shards number : ℕ) (es : List Entry) → (replayed shards number empty_state es).calls.sets ≤ length es
+sets_within shards number es =
+    let is = sets_are shards number empty_state es in
+    let most = count_by-le-length (λ (e : Entry). is_set e.call) es in
+    omega (arith, is, most)
+
+-- ---- all shards
+
+-- a shard answers each call as after these entries
+answer_is : (shards number : ℕ) (before : List Entry) (call : Call) → IsReplay shards number empty_state before
+    → reply_to (replayed shards number empty_state before) call ≡ answer_after shards number before call
+answer_is shards number before Tally replay = ap tally (tallied-replayed shards number before replay)
+answer_is shards number before call replay = refl
+
+-- the entries of a legal list are answered so
+answered_from : (shards : ℕ) (before es : List Entry) → IsLegal shards (before ++ es) → AreAnswered shards before es
+answered_from shards before [] legal = tt
+answered_from shards before (e ∷ es) legal =
+    let whole : IsLegal shards ((before ++ e ∷ []) ++ es) = subst (IsLegal shards) (sym (append_assoc before (e ∷ []) es)) legal in
+    let front = IsLegal-front shards (before ++ e ∷ []) es whole in (
+      IsLegal-shard shards before e front,
+      IsLegal-reply shards before e front
+          ∙ answer_is shards e.shard (at_shard e.shard before) e.call (legal_parts shards (λ number. empty_state) before (IsLegal-front shards before (e ∷ []) front) e.shard),
+      answered_from shards (before ++ e ∷ []) es whole,
+    )
+
+pub legal_answered : (shards : ℕ) (es : List Entry) → IsLegal shards es → AreAnswered shards [] es
+legal_answered shards es legal = answered_from shards [] es legal
+
+-- and a list that is answered so is legal
+legal_from : (shards : ℕ) (before es : List Entry) → IsLegal shards before → AreAnswered shards before es → IsLegal shards (before ++ es)
+legal_from shards before [] legal answered = subst (IsLegal shards) (sym (append-nil before)) legal
+legal_from shards before (e ∷ es) legal answered =
+    subst (IsLegal shards) (append_assoc before (e ∷ []) es)
+    (legal_from shards (before ++ e ∷ []) es
+    (IsLegal-push shards before e legal answered.0
+    (answered.1 ∙ sym (answer_is shards e.shard (at_shard e.shard before) e.call (legal_parts shards (λ number. empty_state) before legal e.shard))))
+    answered.2)
+
+pub answered_legal : (shards : ℕ) (es : List Entry) → AreAnswered shards [] es → IsLegal shards es
+answered_legal shards es answered = legal_from shards [] es tt answered

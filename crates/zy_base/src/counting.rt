@@ -1,0 +1,46 @@
+//! What a call and its reply are counted as.
+ghost use Rattle.std.specs.Prelude.{◌≡◌};
+ghost use Rattle.zy_base.specs.Counted.{is_get, is_set, is_hit, is_miss};
+
+use crate::call::Call;
+use crate::call_reply::CallReply;
+
+impl Call {
+    /// Whether the call gets the item of a key.
+    pub fn is_get(&self) -> bool
+        ensures value { result ≡ is_get self.now }
+    {
+        matches!(self, Call::Get { .. })
+    }
+
+    /// Whether the call stores a value, where its shard lets it.
+    pub fn is_set(&self) -> bool
+        ensures value { result ≡ is_set self.now }
+    {
+        match self {
+            Call::Set { .. } | Call::Add { .. } | Call::Replace { .. } => true,
+            Call::Append { .. } | Call::Prepend { .. } | Call::Cas { .. } => true,
+            _ => false,
+        }
+    }
+
+    /// Whether the call is a get that found an item by this reply.
+    pub fn is_hit(&self, reply: &CallReply) -> bool
+        ensures value { result ≡ is_hit self.now reply.now }
+    {
+        match self {
+            Call::Get { .. } => matches!(reply, CallReply::Hit { .. }),
+            _ => false,
+        }
+    }
+
+    /// Whether the call is a get that found none by this reply.
+    pub fn is_miss(&self, reply: &CallReply) -> bool
+        ensures value { result ≡ is_miss self.now reply.now }
+    {
+        match self {
+            Call::Get { .. } => matches!(reply, CallReply::Miss),
+            _ => false,
+        }
+    }
+}

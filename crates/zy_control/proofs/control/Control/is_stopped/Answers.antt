@@ -1,8 +1,0 @@
-use Rattle.std.proofs.Common.{arith, rules}
-use Rattle.zy_control.proofs.SeatLemmas.{sees_stop_as}
-use Rattle.zy_control.proofs.control.Control.is_stopped.Goals as goal
-
-pub load-stop-requires : goal.load-stop-requires
-load-stop-requires c =
-    let wide = c.self.invariant.0 in
-    (search rules, omega arith, sees_stop_as _ _ _ c.pass.inside.seat.me c.pass.invariant.0)

@@ -1,0 +1,56 @@
+-- A nap of a core: it announces itself, takes a turn, and rests until it is rung unless there is something to do.
+use Rattle.std.specs.Prelude.{◌≡◌, ℕ, Bool, true, false, not, ◌||◌, ◌==◌, if◌then◌else◌}
+use Rattle.zy_park.specs.Pass as bells
+use Rattle.zy_control.specs.View.{has_counted}
+use Rattle.zy_control.specs.Pass.{seeing_done, seeing_stop, resting}
+use Rattle.zy_core.specs.declared.turn.Turn.{Turn}
+use Rattle.zy_core.specs.declared.turn.Turn.TheVariants.{Worked, Idle, Settled}
+use Rattle.zy_core.specs.declared.nap.Nap.{Nap}
+use Rattle.zy_core.specs.declared.nap.Nap.TheVariants.{Awake, Ending, Rested}
+use Rattle.zy_core.specs.Core.{Cored, stepped}
+use Rattle.zy_core.specs.Turn.{TurnTo}
+
+-- the core stays awake after this turn, whatever the control words are: the turn worked, or it found the core settled,
+-- which has not counted itself on done
+abbrev pub stays_awake : Bool → Turn → Bool
+stays_awake counted Worked = true
+stays_awake counted (Idle own looks) = false
+stays_awake counted (Settled looks) = not counted
+
+-- the run ends: done is the number of cores, or stop is not 0
+abbrev pub is_ending : ℕ → ℕ → ℕ → Bool
+is_ending cores done stop = (done == cores) || not (stop == 0)
+
+-- the answer of a nap of a core, one of so many, with this turn, and with these values of done and stop
+abbrev pub nap_of : ℕ → Bool → Turn → ℕ → ℕ → Nap
+nap_of cores counted turn done stop =
+    if stays_awake counted turn then Awake turn else (if is_ending cores done stop then Ending done stop else Rested)
+
+-- what the turn and the rest of a core that has announced itself came to, among so many cores
+pub record RestTo (cores : ℕ) (before after : Cored) (nap : Nap) : Type 0 where
+  -- the turn that it took, and the core right after it
+  pub turn : Turn
+  pub turned : Cored
+  pub took : TurnTo before turned turn
+  pub control : turned.control ≡ before.control
+  -- then it loaded done and stop, which had these values
+  pub done : ℕ
+  pub stop : ℕ
+  pub loaded : after ≡ stepped (seeing_stop stop (seeing_done done before.control)) turned
+  pub is : nap ≡ nap_of cores (has_counted before.control.role) turn done stop
+
+-- what a nap came to, among so many cores: the core announced itself, took its turn and rested or not, and withdrew
+pub record NapTo (cores : ℕ) (before after : Cored) (nap : Nap) : Type 0 where
+  pub set : ℕ
+  pub cleared : ℕ
+  pub announced : Cored
+  pub rested : Cored
+  pub announces : announced ≡ stepped (resting true set before.control) before
+  pub rests : RestTo cores announced rested nap
+  pub withdraws : after ≡ stepped (resting false cleared rested.control) rested
+
+-- the core's pass at the bells after a nap: its token was taken if it rested, and else it made no step
+abbrev pub rested : Nap → bells.Passed → bells.Passed
+rested (Awake turn) p = p
+rested (Ending done stop) p = p
+rested Rested p = bells.resting p

@@ -1,0 +1,62 @@
+//! The answer of a nap.
+ghost use Rattle.std.specs.Prelude.{◌≡◌};
+ghost use Rattle.zy_core.specs.Nap.{stays_awake, nap_of, rested};
+
+use crate::turn::Turn;
+use std::sync::Wait;
+use zy_park::{BellPass, Bells};
+
+/// How a nap of a core ended.
+#[derive(Drop)]
+pub enum Nap {
+    /// The core did not rest: this turn found something to do, or found the core settled, which has
+    /// not counted itself yet.
+    Awake(Turn),
+    /// The core did not rest, since the run ends: all cores are done, or are to stop. These are the
+    /// values of done and stop that it loaded.
+    Ending { done: u64, stop: u64 },
+    /// The core rested, and has taken its token.
+    Rested,
+}
+
+impl Nap {
+    // The end of a nap with this turn and these values of the control words, by whether the core has
+    // counted itself and the number of cores.
+    pub(crate) fn of(turn: Turn, is_counted: bool, cores: u64, done: u64, stop: u64) -> Nap
+        ensures value { result ≡ nap_of cores is_counted turn done stop }
+    {
+        if turn.keeps_awake(is_counted) {
+            return Nap::Awake(turn);
+        }
+        drop(turn);
+        if done == cores || stop != 0 {
+            Nap::Ending { done, stop }
+        } else {
+            Nap::Rested
+        }
+    }
+
+    // Rests if the nap ends so.
+    pub(crate) fn rest<R: Wait>(&self, rt: &R, bells: &Bells, pass: &mut BellPass)
+        requires bells { pass.old.bells ≡ bells.now }
+        ensures value { pass.new ≡ rested self.now pass.old }
+    {
+        match self {
+            Nap::Rested => bells.rest(rt, pass),
+            _ => {}
+        }
+    }
+}
+
+impl Turn {
+    // Whether a core that took this turn, and that has counted itself or not, stays awake.
+    pub(crate) fn keeps_awake(&self, is_counted: bool) -> bool
+        ensures value { result ≡ stays_awake is_counted self.now }
+    {
+        match self {
+            Turn::Worked => true,
+            Turn::Idle { .. } => false,
+            Turn::Settled { .. } => !is_counted,
+        }
+    }
+}

@@ -1,0 +1,40 @@
+use Rattle.std.proofs.Common.{◌+◌, drop, sym, ap, ◌∙◌, subst, arith, refl}
+use Rattle.std.specs.List.{slice_index_or}
+use Rattle.zy_table.proofs.MemberLemmas.{in_front}
+use Rattle.zy_home.specs.Home.{Homed}
+use Rattle.zy_home.specs.Between.{SettlesIn}
+use Rattle.zy_home.proofs.ItemLemmas.{between_first, rest_home, touched_back, touched_due, touched_settles, touched_step}
+use Rattle.zy_home.proofs.home.Home.settle_touched.Goals as goal
+
+pub index_mut-requires : goal.index_mut-requires
+index_mut-requires c = let near = (between_first _ c.args.self.now c.self.view_is c.args.touched.now c.items.result.now c.args.at c.requires.at c.items.ensures.value c.requires.between).near (slice_index_or c.items.result.now c.args.at 0) (in_front (slice_index_or c.items.result.now c.args.at 0) (drop (c.args.at + 1) c.args.touched.now)) in omega arith
+
+pub index_mut-requires-2 : goal.index_mut-requires-2
+index_mut-requires-2 c = let near = (between_first _ c.args.self.now c.self.view_is c.args.touched.now c.items.result.now c.args.at c.requires.at c.items.ensures.value c.requires.between).near (slice_index_or c.items.result.now c.args.at 0) (in_front (slice_index_or c.items.result.now c.args.at 0) (drop (c.args.at + 1) c.args.touched.now)) in let long = c.self.invariant.long in omega arith
+
+pub overflow_cast-place : goal.overflow_cast-place
+overflow_cast-place c = let near = (between_first _ c.args.self.now c.self.view_is c.args.touched.now c.items.result.now c.args.at c.requires.at c.items.ensures.value c.requires.between).near (slice_index_or c.items.result.now c.args.at 0) (in_front (slice_index_or c.items.result.now c.args.at 0) (drop (c.args.at + 1) c.args.touched.now)) in let long = c.self.invariant.long in let places = sym c.places-places.ensures.value ∙ c.places-places.ensures.count ∙ ap (λ z. z.slots) (sym c.requires.table) ∙ ap (λ (h : Homed). h.pass.table.slots) (sym c.self.view_is) ∙ c.self.invariant.places in let value = c.places-places.ensures.value in let limit = c.places-places.ensures.limit in omega arith
+
+pub returns-in_default-clause-value : goal.returns-in_default-clause-value
+returns-in_default-clause-value c = rw (← c.self.view_is) (rest_home _ c.self.invariant (ap (λ (h : Homed). h.refused) c.self.view_is ∙ c.requires.amid) (slice_index_or c.items.result.now c.args.at 0) (drop (c.args.at + 1) c.args.touched.now) (between_first _ c.args.self.now c.self.view_is c.args.touched.now c.items.result.now c.args.at c.requires.at c.items.ensures.value c.requires.between) c.index_mut-2.result.now c.index_mut-2.result.now c.index_mut.result.now c.index_mut.ensures.value c.index_mut-2.ensures.value c.replace.new.dest (c.replace.ensures.after ∙ sym (sym c.replace.ensures.value ∙ c.in_default.is)) (sym c.replace.ensures.value ∙ c.in_default.is))
+
+pub settle_at-requires-clause-due : goal.settle_at-requires-clause-due
+settle_at-requires-clause-due c = touched_due _ c.self.invariant (ap (λ (h : Homed). h.refused) c.self.view_is ∙ c.requires.amid) (slice_index_or c.items.result.now c.args.at 0) (drop (c.args.at + 1) c.args.touched.now) (between_first _ c.args.self.now c.self.view_is c.args.touched.now c.items.result.now c.args.at c.requires.at c.items.ensures.value c.requires.between) c.index_mut-2.result.now c.index_mut-2.result.now c.index_mut.result.now c.index_mut.ensures.value c.index_mut-2.ensures.value c.in-Some.block (sym c.replace.ensures.value ∙ c.in-Some.is)
+
+pub invariant_of-self-in-Err : goal.invariant_of-self-in-Err
+invariant_of-self-in-Err c = (touched_back _ c.self.invariant (ap (λ (h : Homed). h.refused) c.self.view_is ∙ c.requires.amid) (slice_index_or c.items.result.now c.args.at 0) (drop (c.args.at + 1) c.args.touched.now) (between_first _ c.args.self.now c.self.view_is c.args.touched.now c.items.result.now c.args.at c.requires.at c.items.ensures.value c.requires.between) c.index_mut-2.result.now c.settle_at.new.link c.index_mut.result.now c.index_mut.ensures.value c.index_mut-2.ensures.value c.settle_at.new.pass c.settle_at.new.slot c.settle_at.ensures.same.conn c.in-Some.block (sym c.replace.ensures.value ∙ c.in-Some.is) c.in-Err.ensures.err).0.keeps
+
+pub returns-in-Err-clause-err : goal.returns-in-Err-clause-err
+returns-in-Err-clause-err c = rw (← c.self.view_is) ((touched_back _ c.self.invariant (ap (λ (h : Homed). h.refused) c.self.view_is ∙ c.requires.amid) (slice_index_or c.items.result.now c.args.at 0) (drop (c.args.at + 1) c.args.touched.now) (between_first _ c.args.self.now c.self.view_is c.args.touched.now c.items.result.now c.args.at c.requires.at c.items.ensures.value c.requires.between) c.index_mut-2.result.now c.settle_at.new.link c.index_mut.result.now c.index_mut.ensures.value c.index_mut-2.ensures.value c.settle_at.new.pass c.settle_at.new.slot c.settle_at.ensures.same.conn c.in-Some.block (sym c.replace.ensures.value ∙ c.in-Some.is) c.in-Err.ensures.err).1)
+
+pub returns-in-Err-clause-same : goal.returns-in-Err-clause-same
+returns-in-Err-clause-same c = rw (← c.self.view_is) ((touched_back _ c.self.invariant (ap (λ (h : Homed). h.refused) c.self.view_is ∙ c.requires.amid) (slice_index_or c.items.result.now c.args.at 0) (drop (c.args.at + 1) c.args.touched.now) (between_first _ c.args.self.now c.self.view_is c.args.touched.now c.items.result.now c.args.at c.requires.at c.items.ensures.value c.requires.between) c.index_mut-2.result.now c.settle_at.new.link c.index_mut.result.now c.index_mut.ensures.value c.index_mut-2.ensures.value c.settle_at.new.pass c.settle_at.new.slot c.settle_at.ensures.same.conn c.in-Some.block (sym c.replace.ensures.value ∙ c.in-Some.is) c.in-Err.ensures.err).0.same, ap (λ (h : Homed). h.refused) c.self.view_is ∙ c.requires.amid)
+
+pub invariant_of-self-2 : goal.invariant_of-self-2
+invariant_of-self-2 c = (touched_step _ c.self.invariant (ap (λ (h : Homed). h.refused) c.self.view_is ∙ c.requires.amid) (slice_index_or c.items.result.now c.args.at 0) (drop (c.args.at + 1) c.args.touched.now) (between_first _ c.args.self.now c.self.view_is c.args.touched.now c.items.result.now c.args.at c.requires.at c.items.ensures.value c.requires.between) c.index_mut-2.result.now c.settle_at.new.link c.index_mut.result.now c.index_mut.ensures.value c.index_mut-2.ensures.value c.settle_at.new.pass c.settle_at.new.slot c.settle_at.ensures.same.conn c.in-Some.block (sym c.replace.ensures.value ∙ c.in-Some.is) c.in_default-settle_at.ensures.ok).keeps
+
+pub returns-clause-value : goal.returns-clause-value
+returns-clause-value c = rw (← c.self.view_is) (touched_settles _ c.self.invariant (ap (λ (h : Homed). h.refused) c.self.view_is ∙ c.requires.amid) (slice_index_or c.items.result.now c.args.at 0) (drop (c.args.at + 1) c.args.touched.now) (between_first _ c.args.self.now c.self.view_is c.args.touched.now c.items.result.now c.args.at c.requires.at c.items.ensures.value c.requires.between) c.index_mut-2.result.now c.settle_at.new.link c.index_mut.result.now c.index_mut.ensures.value c.index_mut-2.ensures.value c.settle_at.new.pass c.settle_at.new.slot c.settle_at.ensures.same.conn c.in-Some.block (sym c.replace.ensures.value ∙ c.in-Some.is) c.in_default-settle_at.ensures.ok c.in_default-settle_at.ensures.stands)
+
+pub returns-clause-same : goal.returns-clause-same
+returns-clause-same c = rw (← c.self.view_is) ((touched_step _ c.self.invariant (ap (λ (h : Homed). h.refused) c.self.view_is ∙ c.requires.amid) (slice_index_or c.items.result.now c.args.at 0) (drop (c.args.at + 1) c.args.touched.now) (between_first _ c.args.self.now c.self.view_is c.args.touched.now c.items.result.now c.args.at c.requires.at c.items.ensures.value c.requires.between) c.index_mut-2.result.now c.settle_at.new.link c.index_mut.result.now c.index_mut.ensures.value c.index_mut-2.ensures.value c.settle_at.new.pass c.settle_at.new.slot c.settle_at.ensures.same.conn c.in-Some.block (sym c.replace.ensures.value ∙ c.in-Some.is) c.in_default-settle_at.ensures.ok).same, ap (λ (h : Homed). h.refused) c.self.view_is ∙ c.requires.amid)

@@ -1,0 +1,73 @@
+-- A home while it receives items in one call. No public clause cites this module.
+use Rattle.std.specs.Prelude.{◌≡◌, ℕ, ◌+◌, ◌<◌, ◌≤◌, List, [], ◌∷◌, ◌++◌, length, true, false, Option, Some, None, slice_get}
+use Rattle.zy_table.specs.Member.{is_in}
+use Rattle.zy_rx.specs.declared.rx.Rx.{Rx}
+use Rattle.zy_rx.specs.Ring.{Taking}
+use Rattle.zy_shuffle.specs.Pass.{Held}
+use Rattle.zy_conn.specs.Work.{Worked}
+use Rattle.zy_conn.specs.Block.{Blocked}
+use Rattle.zy_home.specs.Link.{Link}
+use Rattle.zy_home.specs.Idle.{IsIdle, due_mark, mark_in}
+use Rattle.zy_home.specs.Home.{Homed, IsAt, StandsHome, StandsMore}
+use Rattle.zy_home.specs.Items.{CutsOne, CutsEach, SameFor, SameParts, SettlesEach, StandsAll}
+
+-- ---- places
+
+-- the rule of a place: as between two calls, but a block in the hand need not be idle if its place was touched
+abbrev pub IsBetween : List ℕ → Held Blocked → ℕ → Link → Option Blocked → Type 0
+IsBetween touched pass place link (Some block) =
+    (mark_in block ≡ due_mark link) × (is_in place touched ≡ false → IsIdle block.work link)
+IsBetween touched pass place link None = IsAt pass place link None
+
+-- the rule of each place, where these were touched
+pub record Between (h : Homed) (touched : List ℕ) : Type 0 where
+  pub each : (p : ℕ) (x : Option Blocked) (l : Link) → slice_get h.blocks p ≡ Some x
+      → slice_get h.links p ≡ Some l → IsBetween touched h.pass p l x
+  pub near : (p : ℕ) → is_in p touched ≡ true → p < length h.blocks
+
+-- an idle block that is in the slot is idle still
+abbrev pub StaysIdle : Option Blocked → Link → Link → Type 0
+StaysIdle slot l l' = (block : Blocked) → slot ≡ Some block → IsIdle block.work l → IsIdle block.work l'
+
+-- ---- steps
+
+-- an item was cut, and its place was touched if its block got a frame
+pub record CutsIn (h : Homed) (touched : List ℕ) (item : Rx) (h' : Homed) (touched' : List ℕ) : Type 0 where
+  pub cuts : CutsOne h item h'
+  pub stands : StandsMore h item h'
+  pub between : Between h' touched'
+  pub room : length touched' ≤ length touched + 1
+  pub still : h.ended ≡ true → (h' ≡ h) × (touched' ≡ touched)
+
+-- this item, and those that were taken after it, were cut
+pub record CutsAll (first : Rx) (h : Homed) (taken : List Rx) (h' : Homed) (taken' : List Rx) (touched' : List ℕ)
+    (count : ℕ) : Type 0 where
+  pub more : List Rx
+  pub size : length more + 1 ≡ count
+  pub taken_is : taken' ≡ taken ++ more
+  pub cuts : CutsEach h (first ∷ more) h'
+  pub stands : StandsAll h (first ∷ more) h'
+  pub same : SameFor 0 h h'
+  pub between : Between h' touched'
+  pub room : length touched' ≤ count
+  pub still : h.ended ≡ true → SameParts h h' × (touched' ≡ [])
+
+-- the same, up to 64, until no further item was known
+pub record CutsFrom (first : Rx) (h : Homed) (o : Taking) (h' : Homed) (o' : Taking) (touched' : List ℕ)
+    (count : ℕ) : Type 0 where
+  pub whole : CutsAll first h o.taken h' o'.taken touched' count
+  pub few : count ≤ 64
+  pub known : count < 64 → o'.known ≡ []
+
+-- the block of one touched place was settled
+pub record SettlesIn (h h' : Homed) (rest : List ℕ) : Type 0 where
+  pub between : Between h' rest
+  pub stands : StandsHome h h'
+  pub ended : h'.ended ≡ h.ended
+  pub chain : (places : List ℕ) (last : Homed) → SettlesEach h' places last
+      → (all : List ℕ) × SettlesEach h all last
+
+-- blocks were settled, and what is done later follows that
+pub record SettlesOn (h h' : Homed) (rest : List ℕ) (most : ℕ) : Type 0 where
+  pub on : SettlesIn h h' rest
+  pub same : SameFor most h h'

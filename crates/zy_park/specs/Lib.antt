@@ -1,0 +1,3 @@
+pub mod Token
+pub mod Bell
+pub mod Pass

@@ -1,0 +1,125 @@
+//! The bells of all cores.
+ghost use Rattle.std.specs.Prelude.{◌≡◌, ◌≢◌, ◌<◌, ◌≤◌, ℕ, length, true, slice_set, IfOk, OnOk, OnErr};
+ghost use Rattle.zy_park.specs.Pass.{new_root, rooted, IsFree, GaveNone, new_pass, ringing, ringing_from, ringing_each, ringing_each_from, resting};
+
+mod making;
+mod ringing;
+
+use crate::bell::Bell;
+use crate::bells::making::{add_all, enter_each, take_sleeper};
+use crate::bells::ringing::{rest_at, ring_at, ring_each_at};
+use crate::pass::{BellPass, BellRoot};
+use std::alloc::Global;
+use std::marker::Model;
+use std::sync::Wait;
+use zy_base::NoMemory;
+
+/// The bells of all cores, one for each. Contracts see for each core the table that its token is in.
+#[derive(Drop)]
+pub struct Bells {
+    items: Vec<Bell>,
+}
+
+impl Model for Bells {
+    ghost use Rattle.std.specs.Prelude.{List};
+    ghost use Rattle.atomic_table.specs.Seated.{TableId};
+
+    ghost Value = { List TableId };
+
+    ghost view = { λ b. b.items.items };
+}
+
+impl Bells {
+    /// The bells of `cores` cores, none of whose tokens is there, and their root.
+    pub fn new(alloc: Global, cores: u32) -> Result<(Bells, BellRoot), NoMemory>
+        requires cores { (1 ≤ cores) × (cores ≤ 64) }
+        ensures cores { IfOk result (λ made. length made.0 ≡ cores) }
+        ensures root { IfOk result (λ made. made.1 ≡ new_root made.0) }
+        ensures free { IfOk result (λ made. GaveNone made.1) }
+    {
+        let mut items = Vec::new(alloc);
+        let mut root = BellRoot {
+            sleepers: Vec::new(alloc),
+            seats: Vec::new(alloc),
+        };
+        match add_all(alloc, cores, &mut items, &mut root) {
+            Ok(()) => Ok((Bells { items }, root)),
+            Err(NoMemory) => {
+                drop(items);
+                drop(root);
+                Err(NoMemory)
+            }
+        }
+    }
+
+    /// The pass of a core, with the core's own parker. After a refusal the root is as it was.
+    pub fn seat(&self, root: &mut BellRoot, core: u32) -> Result<BellPass, NoMemory>
+        requires bells { root.old.bells ≡ self.now }
+        requires free { IsFree root.old core }
+        ensures value { IfOk result (λ pass. pass ≡ new_pass self.now core) }
+        ensures ok { OnOk result (root.new ≡ rooted self.now (slice_set root.old.given core true) root.old.views) }
+        ensures others { OnOk result ((other : ℕ) → other ≢ core → IsFree root.old other → IsFree root.new other) }
+        ensures err { OnErr result (root.new ≡ root.old) }
+    {
+        let seats = enter_each(&self.items)?;
+        let sleeper = take_sleeper(&mut root.sleepers, core);
+        Ok(BellPass {
+            core,
+            sleeper,
+            seats,
+        })
+    }
+
+    /// Puts the token of a core, in one step, and wakes that core if it rests. It waits for nobody,
+    /// and takes no memory.
+    pub fn ring(&self, pass: &mut BellPass, core: u32)
+        requires bells { pass.old.bells ≡ self.now }
+        requires core { core < length self.now }
+        ensures value { pass.new ≡ ringing core pass.old }
+    {
+        ring_at(&self.items, &mut pass.seats, core);
+    }
+
+    /// As `ring`, with the root in place of a pass.
+    pub fn ring_from(&self, root: &mut BellRoot, core: u32)
+        requires bells { root.old.bells ≡ self.now }
+        requires core { core < length self.now }
+        ensures value { root.new ≡ ringing_from core root.old }
+    {
+        ring_at(&self.items, &mut root.seats, core);
+    }
+
+    /// As `ring`, for each core whose bit is 1 in the word, by rising core.
+    pub fn ring_each(&self, pass: &mut BellPass, word: u64)
+        requires bells { pass.old.bells ≡ self.now }
+        requires few { length self.now ≤ 64 }
+        ensures value { pass.new ≡ ringing_each word pass.old }
+    {
+        ring_each_at(&self.items, &mut pass.seats, word);
+    }
+
+    /// As `ring_each`, with the root in place of a pass.
+    pub fn ring_each_from(&self, root: &mut BellRoot, word: u64)
+        requires bells { root.old.bells ≡ self.now }
+        requires few { length self.now ≤ 64 }
+        ensures value { root.new ≡ ringing_each_from word root.old }
+    {
+        ring_each_at(&self.items, &mut root.seats, word);
+    }
+
+    /// Waits until the token of the pass's core is there, and takes it. It returns only with the
+    /// token taken.
+    pub fn rest<R: Wait>(&self, rt: &R, pass: &mut BellPass)
+        requires bells { pass.old.bells ≡ self.now }
+        ensures value { pass.new ≡ resting pass.old }
+    {
+        rest_at(rt, &pass.sleeper, &mut pass.seats, pass.core);
+    }
+
+    /// The number of cores.
+    pub fn count(&self) -> usize
+        ensures value { result ≡ length self.now }
+    {
+        self.items.len()
+    }
+}

@@ -1,0 +1,12 @@
+//! Bells at which cores rest: a core sleeps until its token is put, by another core or by the thread
+//! that feeds the cores.
+#![tactic(auto)]
+
+mod bell;
+mod bells;
+pub mod laws;
+mod pass;
+mod view;
+
+pub use bells::Bells;
+pub use pass::{BellPass, BellRoot};

@@ -1,0 +1,3 @@
+pub mod TallyLemmas
+pub mod AllLemmas
+pub mod TableLemmas

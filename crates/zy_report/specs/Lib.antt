@@ -1,0 +1,4 @@
+pub mod Counting
+pub mod Report
+pub mod Tally
+pub mod Worked

@@ -1,0 +1,103 @@
+//! What is counted of the entries of each shard.
+ghost use Rattle.std.specs.Prelude.{◌≡◌, ◌≤◌, ◌<◌, ◌-◌, ◌^◌, ◌+◌, ◌++◌, ◌∷◌, [], List, ℕ, length, max, IfOk, OnOk};
+ghost use Rattle.zy_base.specs.declared.entry.Entry.{Entry};
+ghost use Rattle.zy_report.specs.Report.{counts_by_shard};
+ghost use Rattle.zy_report.specs.Tally.{CanCount, CountsAll, kept_at};
+
+use crate::tally::Tally;
+use std::alloc::Global;
+use zy_base::{Entry, NoMemory, Tallied};
+use zy_journal::{Journal, Walk};
+
+/// What is counted of each shard, from shard 0 up to the last one that an entry names.
+pub(crate) fn counts_by_shard(alloc: Global, journal: &Journal) -> Result<Vec<Tallied>, NoMemory>
+    ensures value { IfOk result (λ counts. counts.items ≡ counts_by_shard journal.now.entries) }
+{
+    match tallies_of(alloc, journal) {
+        Ok(tallies) => {
+            let counts = counts_of(alloc, tallies.as_slice());
+            drop(tallies);
+            counts
+        }
+        Err(refused) => Err(refused),
+    }
+}
+
+// The tallies of all shards.
+fn tallies_of<'j>(alloc: Global, journal: &'j Journal) -> Result<Vec<Tally<'j>>, NoMemory>
+    ensures value { IfOk result (λ tallies. CountsAll tallies.items journal.now.entries) }
+{
+    if journal.count().is_none() {
+        // No journal has more entries than 64 bits count.
+        return Err(NoMemory);
+    }
+    let mut tallies = Vec::new(alloc);
+    match add_all(alloc, &mut tallies, journal.entries()) {
+        Ok(()) => Ok(tallies),
+        Err(refused) => {
+            drop(tallies);
+            Err(refused)
+        }
+    }
+}
+
+// Counts all entries.
+fn add_all<'j>(
+    alloc: Global,
+    tallies: &mut Vec<Tally<'j>>,
+    entries: Walk<'j>,
+) -> Result<(), NoMemory>
+    requires few { length entries ≤ 2 ^ 64 - 1 }
+    requires none { tallies.old.items ≡ [] }
+    ensures ok { OnOk result (CountsAll tallies.new.items entries.entry) }
+{
+    let mut left = entries;
+    while let Some(entry) = left.next() {
+        if let Err(refused) = add(alloc, tallies, entry) {
+            return Err(refused);
+        }
+    }
+    Ok(())
+}
+
+// Counts one more entry, at its shard.
+fn add<'j>(alloc: Global, tallies: &mut Vec<Tally<'j>>, entry: &'j Entry) -> Result<(), NoMemory>
+    requires room { CanCount (kept_at tallies.old.items entry.now.shard) }
+    ensures ok { OnOk result ((es : List Entry) → CountsAll tallies.old.items es
+        → CountsAll tallies.new.items (es ++ entry.now ∷ [])) }
+{
+    let shard = entry.shard as usize;
+    if let Err(refused) = make_up_to(alloc, tallies, shard) {
+        return Err(refused);
+    }
+    tallies[shard].add(entry)
+}
+
+// Makes the tallies up to that of a shard, where they are not there.
+fn make_up_to<'j>(alloc: Global, tallies: &mut Vec<Tally<'j>>, shard: usize) -> Result<(), NoMemory>
+    requires within { shard < 2 ^ 32 }
+    ensures size { OnOk result (length tallies.new.items ≡ max (length tallies.old.items) (shard + 1)) }
+    ensures kept { (at : ℕ) → kept_at tallies.new.items at ≡ kept_at tallies.old.items at }
+{
+    while tallies.len() <= shard {
+        if let Err(e) = tallies.push(Tally::new(alloc)) {
+            drop(e);
+            return Err(NoMemory);
+        }
+    }
+    Ok(())
+}
+
+// The counts of the tallies.
+fn counts_of(alloc: Global, tallies: &[Tally<'_>]) -> Result<Vec<Tallied>, NoMemory>
+    ensures value { IfOk result (λ counts. (es : List Entry) → CountsAll tallies.now es
+        → counts.items ≡ counts_by_shard es) }
+{
+    let Ok(mut counts) = Vec::with_capacity(alloc, tallies.len()) else {
+        return Err(NoMemory);
+    };
+    for tally in tallies {
+        counts.push_reserved(tally.counted());
+    }
+    Ok(counts)
+}

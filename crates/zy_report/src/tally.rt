@@ -1,0 +1,139 @@
+//! What is counted of the entries of one shard.
+ghost use Rattle.std.specs.Prelude.{◌≡◌, ◌++◌, ◌∷◌, [], List, OnOk};
+ghost use Rattle.zy_base.specs.declared.entry.Entry.{Entry};
+ghost use Rattle.std.specs.FinMap.{insert, remove};
+ghost use Rattle.zy_base.specs.declared.call.Call.TheVariants.{Get};
+ghost use Rattle.zy_base.specs.Counted.{KeySet, calls_with, keys_with, counted};
+ghost use Rattle.zy_report.specs.Tally.{CanCount, CountsEntries, AreKeysOf, calls_kept, none_kept};
+
+use mc_stats::Counts;
+use std::alloc::Global;
+use std::collections::BTreeSet;
+use std::marker::Model;
+use zy_base::{Blob, Call, CallReply, Entry, NoMemory, Tallied};
+
+/// What is counted of some entries of one shard. Contracts see the counts of calls, and the keys
+/// that have an item after them.
+#[derive(Drop)]
+pub(crate) struct Tally<'j> {
+    calls: Counts,
+    // Taken from the entries, and not copied.
+    keys: BTreeSet<&'j Blob>,
+}
+
+impl<'j> Model for Tally<'j> {
+    ghost use Rattle.std.specs.Prelude.{map};
+    ghost use Rattle.zy_report.specs.Counting.{Counting};
+
+    ghost Value = { Counting };
+
+    ghost view = { λ t. record { calls = t.calls; keys = map (λ key. key.now) t.keys.keys } };
+}
+
+impl<'j> Tally<'j> {
+    /// No entry is counted. Takes no memory.
+    pub(crate) fn new(alloc: Global) -> Tally<'j>
+        ensures value { result ≡ none_kept }
+    {
+        Tally {
+            calls: Counts::new(),
+            keys: BTreeSet::new(alloc),
+        }
+    }
+
+    /// Counts one more entry.
+    pub(crate) fn add(&mut self, entry: &'j Entry) -> Result<(), NoMemory>
+        requires room { CanCount self.old }
+        ensures ok { OnOk result ((es : List Entry) → CountsEntries self.old es
+            → CountsEntries self.new (es ++ entry.now ∷ [])) }
+    {
+        self.count_call(&entry.call, &entry.reply);
+        self.keep_key(entry)
+    }
+
+    // Counts the call.
+    fn count_call(&mut self, call: &Call, reply: &CallReply)
+        requires room { CanCount self.old }
+        ensures calls { calls_kept self.new ≡ calls_with (calls_kept self.old) call.now reply.now }
+        ensures keys { self.new.keys ≡ self.old.keys }
+    {
+        match call {
+            Call::Get { .. } => self.count_get(reply),
+            Call::Set { .. }
+            | Call::Add { .. }
+            | Call::Replace { .. }
+            | Call::Append { .. }
+            | Call::Prepend { .. }
+            | Call::Cas { .. } => self.calls.stored(),
+            _ => {}
+        }
+    }
+
+    // Counts a get. The file of a journal may have one with another reply, which is neither a hit nor
+    // a miss.
+    fn count_get(&mut self, reply: &CallReply)
+        requires room { CanCount self.old }
+        ensures calls { (key : _) → calls_kept self.new ≡ calls_with (calls_kept self.old) (Get key) reply.now }
+        ensures keys { self.new.keys ≡ self.old.keys }
+    {
+        match reply {
+            CallReply::Hit { .. } => self.calls.got(true),
+            CallReply::Miss => self.calls.got(false),
+            _ => self.calls.gets += 1,
+        }
+    }
+
+    // Keeps the keys that have an item after the entry.
+    fn keep_key(&mut self, entry: &'j Entry) -> Result<(), NoMemory>
+        ensures calls { self.new.calls ≡ self.old.calls }
+        ensures ok { OnOk result ((keys : KeySet) → AreKeysOf keys self.old.keys
+            → AreKeysOf (keys_with keys entry.now.call entry.now.reply) self.new.keys) }
+    {
+        if let Call::Flush = &entry.call {
+            self.keys.clear();
+            return Ok(());
+        }
+        match (entry.call.key(), &entry.reply) {
+            (Some(key), CallReply::Stored | CallReply::Number { .. }) => self.add_key(key),
+            (Some(key), CallReply::Deleted) => {
+                self.remove_key(key);
+                Ok(())
+            }
+            _ => Ok(()),
+        }
+    }
+
+    // Adds a key, if it isn't there.
+    fn add_key(&mut self, key: &'j Blob) -> Result<(), NoMemory>
+        ensures calls { self.new.calls ≡ self.old.calls }
+        ensures ok { OnOk result ((keys : KeySet) → AreKeysOf keys self.old.keys
+            → AreKeysOf (insert keys key.now tt) self.new.keys) }
+    {
+        match self.keys.insert(key) {
+            Ok(_) => Ok(()),
+            Err(_) => Err(NoMemory),
+        }
+    }
+
+    // Removes a key, if it is there.
+    fn remove_key(&mut self, key: &'j Blob)
+        ensures calls { self.new.calls ≡ self.old.calls }
+        ensures value { (keys : KeySet) → AreKeysOf keys self.old.keys
+            → AreKeysOf (remove keys key.now) self.new.keys }
+    {
+        self.keys.remove(&key);
+    }
+
+    /// The counts.
+    pub(crate) fn counted(&self) -> Tallied
+        ensures value { (es : List Entry) → CountsEntries self.now es → result ≡ counted es }
+    {
+        Tallied {
+            gets: self.calls.gets,
+            sets: self.calls.sets,
+            hits: self.calls.hits,
+            misses: self.calls.misses,
+            items: self.keys.len() as u64,
+        }
+    }
+}
