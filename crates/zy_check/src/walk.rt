@@ -11,7 +11,7 @@ use crate::track::Track;
 use crate::verdict::Cause;
 use mc_shard::Replay;
 use std::alloc::Global;
-use zy_base::{Entry, NoMemory};
+use zy_base::{CallReply, Entry, NoMemory};
 
 /// The cause at the first entry that is not right, if there is one. If there is none, each
 /// connection is after its last entry.
@@ -86,7 +86,16 @@ fn answers(state: &mut Replay, entry: &Entry) -> Result<bool, NoMemory>
     ensures ok { OnOk result (state.new ≡ state_replayed state.old entry.now.call) }
 {
     let reply = state.answer(&entry.call)?;
-    Ok(entry.reply == reply)
+    let same = are_same(&entry.reply, &reply);
+    drop(reply);
+    Ok(same)
+}
+
+// Whether two replies are the same.
+fn are_same(one: &CallReply, other: &CallReply) -> bool
+    ensures same { result ≡ true ↔ one.now ≡ other.now }
+{
+    one == other
 }
 
 // `shards` shards on which no call was made.
