@@ -139,6 +139,7 @@ fn hold_beside<R: Threads + Wait + Abort + Sync>(
         { offer_until(rt, alloc, store, other, inlet, flag) },
         move || -> (Block, Sent)
             requires table { block.work.table ≡ store.now.id }
+            requires cores { block.cores ≡ 2 }
             ensures ring { result.0.work.ring ≡ block.work.ring }
         { hold_until(rt, alloc, store, block, flag) },
     )
