@@ -14,7 +14,7 @@ use Rattle.zy_pcap.specs.Packet.{Packet}
 use Rattle.zy_pcap.specs.Packets.{Found, packets}
 use Rattle.zy_pcap.specs.Packets.Found.{Packets, Bad}
 use Rattle.zy_pcap.specs.Made.{capture_of, pcap_capture, pcap_verdict}
-use Rattle.zy_pcap.specs.Standing.{Reading, StandsFor, Feeds, Lasts, TellsLasting, FinishesAs, FinishesOnce}
+use Rattle.zy_pcap.specs.Standing.{Reading, StandsFor, Feeds, Lasts, TellsLasting, FinishesAs, FinishesBy}
 use Rattle.zygos_run.specs.Seen.{side}
 use Rattle.zygos_run.specs.Recorded.{IsRecorded}
 use Rattle.zygos_run.specs.Packets.{ReadsPackets, HasFed, Advances, came_of, ended_by}
@@ -64,7 +64,7 @@ finished_bad (Bad met) fault finishes = ap Bad (sym finishes)
 
 -- at the end of the source
 pub finished : CapturesAreGood → {S : Type 0} (rest : S → Option (List ℕ)) (faults : S → ℕ) (port : ℕ) (first now : S) (left : List ℕ) (reader : Reading) (bytes : List ℕ) (answer : Result (List (List (List ℕ))) PcapFault)
-    → HasFed rest faults port first now left reader bytes → IsOver (rest now) left → FinishesOnce reader answer → ReadsPackets port (side rest faults first now) (ended_by answer)
+    → HasFed rest faults port first now left reader bytes → IsOver (rest now) left → FinishesBy reader answer → ReadsPackets port (side rest faults first now) (ended_by answer)
 finished good rest faults port first now left reader bytes (Ok streams) fed over finishes =
     let all : bytes ++ left ≡ bytes = ap (λ (l : List ℕ). bytes ++ l) over.0 ∙ append-nil bytes in
     let ends = subst (λ (n : ℕ). FinishesAs (packets n bytes) (Ok streams)) fed.port_is (finishes bytes fed.stands) in
