@@ -21,13 +21,13 @@ pub(crate) struct BlockParts {
 /// A store of 16 shards, and the block of connection 0.
 pub(crate) fn block_parts(rt: &impl Abort, alloc: Global) -> BlockParts
     ensures table { result.block.work.table ≡ result.store.id }
-    ensures cores { result.block.cores ≡ 2 }
+    ensures cores { result.block.cores ≡ 64 }
     ensures root { result.root ≡ rooted result.store.id (0 ∷ []) [] }
     ensures ring { result.inlet.ring ≡ result.block.work.ring }
 {
     let (store, mut root) = sure(rt, StoreTable::new(alloc, 16));
     let pass = sure(rt, store.split(&mut root, 0));
-    let (block, inlet) = sure(rt, Block::new(alloc, 0, 2, pass));
+    let (block, inlet) = sure(rt, Block::new(alloc, 0, pass));
     BlockParts {
         store,
         root,

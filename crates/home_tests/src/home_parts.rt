@@ -60,7 +60,7 @@ fn block_of(
     ensures root { (root.new.table ≡ store.now.id) × (root.new.given ≡ conn ∷ root.old.given) }
 {
     let pass = sure(rt, store.split(root, conn));
-    sure(rt, Block::new(alloc, conn, 2, pass))
+    sure(rt, Block::among(alloc, conn, 2, pass))
 }
 
 // Appends a block and its inlet.

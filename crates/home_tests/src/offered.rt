@@ -80,7 +80,7 @@ fn hold_until<R: Wait + Abort>(
     done: &AtomicBool,
 ) -> (Block, Sent)
     requires table { block.work.table ≡ store.now.id }
-    requires cores { block.cores ≡ 2 }
+    requires cores { block.cores ≡ 64 }
     ensures ring { result.0.work.ring ≡ block.work.ring }
 {
     let mut output = Output::new(alloc, block.conn());
@@ -125,7 +125,7 @@ fn hold_beside<R: Threads + Wait + Abort + Sync>(
 ) -> (EventInlet, (Block, Sent))
     requires other { other.table ≡ store.now.id }
     requires table { block.work.table ≡ store.now.id }
-    requires cores { block.cores ≡ 2 }
+    requires cores { block.cores ≡ 64 }
     ensures inlet { result.0.ring ≡ inlet.ring }
     ensures block { result.1.0.work.ring ≡ block.work.ring }
 {
@@ -139,7 +139,7 @@ fn hold_beside<R: Threads + Wait + Abort + Sync>(
         { offer_until(rt, alloc, store, other, inlet, flag) },
         move || -> (Block, Sent)
             requires table { block.work.table ≡ store.now.id }
-            requires cores { block.cores ≡ 2 }
+            requires cores { block.cores ≡ 64 }
             ensures ring { result.0.work.ring ≡ block.work.ring }
         { hold_until(rt, alloc, store, block, flag) },
     )

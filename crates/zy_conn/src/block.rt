@@ -52,9 +52,24 @@ impl Marked for Block {
 }
 
 impl Block {
-    /// The block of a connection that is held by cores below `cores`, with the other end of its event
-    /// ring. After a refusal the pass is handed back.
+    /// The block of a connection that any of 64 cores may hold, with the other end of its event ring.
+    /// After a refusal the pass is handed back.
     pub fn new(
+        alloc: Global,
+        conn: u32,
+        pass: Pass,
+    ) -> Result<(Block, EventInlet), (Pass, NoMemory)>
+        requires conn { pass.conn ≡ conn }
+        requires empty { pass.calls ≡ [] }
+        ensures block { IfOk result (λ made. made.0 ≡ blocked (worked pass made.1.ring [] [] idle 0 0 []) 64 []) }
+        ensures inlet { IfOk result (λ made. made.1 ≡ offering made.1.ring [] 64) }
+        ensures returned { IfErr result (λ e. e.0 ≡ pass) }
+    {
+        Block::among(alloc, conn, 64, pass)
+    }
+
+    /// As `new`, for a connection that only cores below `cores` may hold.
+    pub fn among(
         alloc: Global,
         conn: u32,
         cores: u32,
@@ -150,8 +165,8 @@ impl Block {
         self.work.send_to(output)
     }
 
-    /// Carries out commands in order, at most 64. A hold that finished commands is recorded; the
-    /// room for the record is reserved first. After a refusal the calls that were made stay made,
+    /// Carries out commands in order, at most 64, as one of the cores that may hold the block. A hold
+    /// that finished commands is recorded; the room for the record is reserved first. After a refusal the calls that were made stay made,
     /// and a further hold goes on from there.
     pub fn hold<G: Gate>(
         &mut self,

@@ -28,7 +28,7 @@ fn connection(
     ensures root { OnOk result (root.new ≡ rooted root.old.table (conn ∷ root.old.given) root.old.joined) }
 {
     let pass = store.split(root, conn)?;
-    match Block::new(alloc, conn, cores, pass) {
+    match Block::among(alloc, conn, cores, pass) {
         Ok(made) => Ok(made),
         Err((pass, e)) => {
             drop(pass);

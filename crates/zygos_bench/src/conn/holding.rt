@@ -37,7 +37,7 @@ fn held_on<R: CpuClock>(
     requires fresh { root.old.given ≡ [] }
 {
     let pass = store.split(root, 0)?;
-    match Block::new(alloc, 0, 1, pass) {
+    match Block::new(alloc, 0, pass) {
         Ok((mut block, mut inlet)) => {
             let spent = hold_all(rt, alloc, store, &mut block, &mut inlet, rounds, size);
             drop(block);
@@ -62,7 +62,7 @@ fn hold_all<R: CpuClock>(
     size: u64,
 ) -> Result<u64, NoMemory>
     requires table { block.old.work.table ≡ store.now.id }
-    requires cores { block.old.cores ≡ 1 }
+    requires cores { block.old.cores ≡ 64 }
 {
     let mut spent = 0u64;
     for round in 0..rounds {
@@ -100,7 +100,7 @@ fn offer_all(inlet: &mut EventInlet, frames: &mut Frames) -> Result<(), NoMemory
 // The nanoseconds of one hold. What it sent is let go.
 fn hold_once<R: CpuClock>(rt: &R, store: &StoreTable, block: &mut Block) -> Result<u64, NoMemory>
     requires table { block.old.work.table ≡ store.now.id }
-    requires cores { block.old.cores ≡ 1 }
+    requires cores { block.old.cores ≡ 64 }
     ensures table { block.new.work.table ≡ block.old.work.table }
     ensures cores { block.new.cores ≡ block.old.cores }
 {
