@@ -10,8 +10,12 @@ use Rattle.zy_base.proofs.WritingLemmas.{grew_nothing, grew_on, writes_on, write
 pub text_3 : (x : ℕ) (a b c p q r : List ℕ) → a ≡ p → b ≡ q → c ≡ r → (x ∷ []) ++ (a ++ (b ++ (c ++ []))) ≡ x ∷ (p ++ (q ++ r))
 text_3 x a b c p q r one two three = rw (one, two, three, append-nil r) refl
 
-pub text_5 : (x : ℕ) (a b c d e p q r s t : List ℕ) → a ≡ p → b ≡ q → c ≡ r → d ≡ s → e ≡ t → (x ∷ []) ++ (a ++ (b ++ (c ++ (d ++ (e ++ []))))) ≡ x ∷ (p ++ (q ++ (r ++ (s ++ t))))
-text_5 x a b c d e p q r s t one two three four five = rw (one, two, three, four, five, append-nil t) refl
+-- fields that were appended one after the other
+pub gathered_5 : (x : ℕ) (none one two three four five six a b c d e p q r s t : List ℕ) → none ≡ [] → one ≡ none ++ x ∷ [] → two ≡ one ++ a → three ≡ two ++ b → four ≡ three ++ c → five ≡ four ++ d → six ≡ five ++ e
+    → a ≡ p → b ≡ q → c ≡ r → d ≡ s → e ≡ t → six ≡ x ∷ (p ++ (q ++ (r ++ (s ++ t))))
+gathered_5 x none one two three four five six a b c d e p q r s t n h i j k l m f1 f2 f3 f4 f5 =
+    (rw (m, l, k, j, i, h, n, f1, f2, f3, f4, f5) refl)
+    ∙ ap (λ (text : List ℕ). x ∷ text) (append_assoc ((p ++ q) ++ r) s t ∙ append_assoc (p ++ q) r (s ++ t) ∙ append_assoc p q (r ++ (s ++ t)))
 
 pub numbers_5 : (a b c d e p q r s t : List ℕ) → a ≡ p → b ≡ q → c ≡ r → d ≡ s → e ≡ t → a ++ (b ++ (c ++ (d ++ (e ++ [])))) ≡ p ++ (q ++ (r ++ (s ++ t)))
 numbers_5 a b c d e p q r s t one two three four five = rw (one, two, three, four, five, append-nil t) refl

@@ -1,6 +1,7 @@
 //! The journal: the shards' histories as one list, and the writer of its file.
 #![tactic(auto)]
 
+mod gathered;
 mod heads;
 mod journal;
 mod laws;

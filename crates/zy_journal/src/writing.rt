@@ -8,8 +8,10 @@ ghost use Rattle.zy_journal.specs.Journal.{IsJournal, IsEntry, journal_bytes};
 ghost use Rattle.zy_journal.specs.Journal.{entry_head, entry_text, call_text, reply_text, hold_text};
 ghost use Rattle.zy_journal.specs.Journal.{key_text, value_text, counts_text, field_text, fields_text};
 
+use crate::gathered::put;
 use crate::journal::Journal;
 use crate::walk::Walk;
+use arrayvec::ArrayVec;
 use zy_base::{
     Blob, Call, CallReply, Entry, Failed, Hold, Sink, Tallied, write_pieces, write_whole,
 };
@@ -84,12 +86,14 @@ fn write_entry<K: Sink>(sink: &mut K, entry: &Entry) -> Result<(), Failed>
 fn write_head<K: Sink>(sink: &mut K, entry: &Entry) -> Result<(), Failed>
     ensures writes { Writes K.holds K.faults K.finishes sink.old sink.new result (entry_head entry.now) }
 {
-    let stamp = entry.stamp.to_be_bytes();
-    let shard = entry.shard.to_be_bytes();
-    let conn = entry.tag.conn.to_be_bytes();
-    let index = entry.tag.index.to_be_bytes();
-    let part = entry.tag.part.to_be_bytes();
-    write_pieces(sink, &[b"J", &stamp, &shard, &conn, &index, &part])
+    let mut head: ArrayVec<u8, 29> = ArrayVec::new();
+    put(&mut head, b"J");
+    put(&mut head, &entry.stamp.to_be_bytes());
+    put(&mut head, &entry.shard.to_be_bytes());
+    put(&mut head, &entry.tag.conn.to_be_bytes());
+    put(&mut head, &entry.tag.index.to_be_bytes());
+    put(&mut head, &entry.tag.part.to_be_bytes());
+    write_whole(sink, head.as_slice())
 }
 
 fn write_call<K: Sink>(sink: &mut K, call: &Call) -> Result<(), Failed>

@@ -1,16 +1,21 @@
-use Rattle.std.proofs.Common.{ℕ, List, subst}
+use Rattle.std.proofs.Common.{ℕ, List, subst, ◌∙◌}
 use Rattle.std.specs.Int.{to_be_bytes, w32, w64}
 use Rattle.zy_base.specs.Outside.{Writes}
 use Rattle.zy_journal.specs.Journal.{entry_head}
-use Rattle.zy_journal.proofs.WriteLemmas.{text_5}
+use Rattle.zy_journal.proofs.WriteLemmas.{gathered_5}
 use Rattle.zy_journal.proofs.writing.write_head.Goals as goal
 
 pub returns : goal.returns
 unfolding entry_head
 returns g c =
     let e = c.args.entry.now in
+    let text = gathered_5 74 c.new-head.result.items c.put.new.text.items c.put-2.new.text.items c.put-3.new.text.items c.put-4.new.text.items c.put-5.new.text.items c.put-6.new.text.items
+    c.to_be_bytes.result c.to_be_bytes-2.result c.to_be_bytes-3.result c.to_be_bytes-4.result c.to_be_bytes-5.result
+    (to_be_bytes w64 e.stamp) (to_be_bytes w32 e.shard) (to_be_bytes w32 e.tag.conn) (to_be_bytes w64 e.tag.index) (to_be_bytes w32 e.tag.part)
+    c.new-head.ensures c.put.ensures.value c.put-2.ensures.value c.put-3.ensures.value c.put-4.ensures.value c.put-5.ensures.value c.put-6.ensures.value
+    c.to_be_bytes.ensures c.to_be_bytes-2.ensures c.to_be_bytes-3.ensures c.to_be_bytes-4.ensures c.to_be_bytes-5.ensures in
     record {
-      writes = subst (λ (l : List ℕ). Writes g.K.Sink.holds g.K.Sink.faults g.K.Sink.finishes c.args.sink.now c.write_pieces.new.sink c.write_pieces.result l)
-          (text_5 74 c.to_be_bytes-stamp.result c.to_be_bytes-shard.result c.to_be_bytes-conn.result c.to_be_bytes-index.result c.to_be_bytes-part.result (to_be_bytes w64 e.stamp) (to_be_bytes w32 e.shard) (to_be_bytes w32 e.tag.conn) (to_be_bytes w64 e.tag.index) (to_be_bytes w32 e.tag.part) c.to_be_bytes-stamp.ensures c.to_be_bytes-shard.ensures c.to_be_bytes-conn.ensures c.to_be_bytes-index.ensures c.to_be_bytes-part.ensures)
-          c.write_pieces.ensures.writes;
+      writes = subst (λ (l : List ℕ). Writes g.K.Sink.holds g.K.Sink.faults g.K.Sink.finishes c.args.sink.now c.write_whole.new.sink c.write_whole.result l)
+          (c.as_slice.ensures.value ∙ text)
+          c.write_whole.ensures.writes;
     }
