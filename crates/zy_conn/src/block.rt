@@ -166,8 +166,8 @@ impl Block {
     }
 
     /// Carries out commands in order, at most 64, as one of the cores that may hold the block. A hold
-    /// that finished commands is recorded; the room for the record is reserved first. After a refusal the calls that were made stay made,
-    /// and a further hold goes on from there.
+    /// that finished commands is recorded; the room for the record is reserved first. After a refusal
+    /// the calls that were made stay made, and a further hold goes on from there.
     pub fn hold<G: Gate>(
         &mut self,
         store: &StoreTable,
