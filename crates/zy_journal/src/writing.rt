@@ -1,5 +1,5 @@
 //! The writer of journals.
-ghost use Rattle.std.specs.Prelude.{◌∷◌, flat_map, IfSome, option_copied};
+ghost use Rattle.std.specs.Prelude.{◌∷◌, ◌++◌, flat_map, IfSome, option_copied};
 ghost use Rattle.std.specs.List.{AllByRecursion};
 ghost use Rattle.std.specs.Int.{to_be_bytes, w32, w64};
 ghost use Rattle.zy_base.specs.Bounds.{IsKey, IsValue, IsCall, IsReply};
@@ -8,7 +8,7 @@ ghost use Rattle.zy_journal.specs.Journal.{IsJournal, IsEntry, journal_bytes};
 ghost use Rattle.zy_journal.specs.Journal.{entry_head, entry_text, call_text, reply_text, hold_text};
 ghost use Rattle.zy_journal.specs.Journal.{key_text, value_text, counts_text, field_text, fields_text};
 
-use crate::gathered::put;
+use crate::gathered::{put, put_flags, put_number};
 use crate::journal::Journal;
 use crate::walk::Walk;
 use arrayvec::ArrayVec;
@@ -163,33 +163,25 @@ fn write_fields<K: Sink>(
     ensures writes { Writes K.holds K.faults K.finishes sink.old sink.new result
         (fields_text flags number (option_copied value.entry)) }
 {
-    if let Err(failed) = write_flags(sink, flags) {
-        return Err(failed);
-    }
-    if let Err(failed) = write_number(sink, number) {
+    if let Err(failed) = write_numbers(sink, flags, number) {
         return Err(failed);
     }
     write_value(sink, value)
 }
 
-fn write_flags<K: Sink>(sink: &mut K, flags: Option<u32>) -> Result<(), Failed>
+// The flags and a number, each where it is there.
+fn write_numbers<K: Sink>(
+    sink: &mut K,
+    flags: Option<u32>,
+    number: Option<u64>,
+) -> Result<(), Failed>
     ensures writes { Writes K.holds K.faults K.finishes sink.old sink.new result
-        (field_text (to_be_bytes w32) flags) }
+        (field_text (to_be_bytes w32) flags ++ field_text (to_be_bytes w64) number) }
 {
-    match flags {
-        Some(flags) => write_whole(sink, &flags.to_be_bytes()),
-        None => write_whole(sink, &[]),
-    }
-}
-
-fn write_number<K: Sink>(sink: &mut K, number: Option<u64>) -> Result<(), Failed>
-    ensures writes { Writes K.holds K.faults K.finishes sink.old sink.new result
-        (field_text (to_be_bytes w64) number) }
-{
-    match number {
-        Some(number) => write_whole(sink, &number.to_be_bytes()),
-        None => write_whole(sink, &[]),
-    }
+    let mut numbers: ArrayVec<u8, 12> = ArrayVec::new();
+    put_flags(&mut numbers, flags);
+    put_number(&mut numbers, number);
+    write_whole(sink, numbers.as_slice())
 }
 
 fn write_value<K: Sink>(sink: &mut K, value: Option<&Blob>) -> Result<(), Failed>
