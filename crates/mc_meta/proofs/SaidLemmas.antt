@@ -8,12 +8,13 @@ use Rattle.mc_meta.specs.declared.flags.Flags.{Flags}
 use Rattle.mc_meta.specs.declared.meta_line.Span.{Span}
 use Rattle.mc_meta.specs.declared.meta_line.MetaLine.{MetaLine}
 use Rattle.mc_meta.specs.declared.meta_line.MetaLine.TheVariants.{Other, Bad, Get, Set, Delete}
-use Rattle.mc_meta.specs.Words.{Placed, words, text_of, IsWordIn}
+use Rattle.mc_meta.specs.Words.{Placed, words, words_at, text_of, IsWordIn}
 use Rattle.mc_meta.specs.Number.{number_of, small_number_of}
 use Rattle.mc_meta.specs.Flags.{no_flags, get_letters, set_letters, delete_letters, with_letter, with_flags, with_unique, with_flag, flags_after, flags_of}
 use Rattle.mc_meta.specs.Key.{bytes_in}
-use Rattle.mc_meta.specs.Meta.{span_of, is_key, get_with, delete_with, set_with, noop_line, get_line, set_line, delete_line, is_meta_name, line_of, meta_line}
+use Rattle.mc_meta.specs.Meta.{span_of, is_key, get_with, delete_with, set_with, noop_line, get_line, set_line, delete_line, is_meta_name, line_of, meta_of, meta_line}
 use Rattle.mc_meta.proofs.LineLemmas.{reads_as, bytes_in-word}
+use Rattle.mc_meta.proofs.PlaceLemmas.{words_at-texts}
 
 -- ---- other lines
 
@@ -32,6 +33,14 @@ other_of name rest is = go (bytes_eq name (codes "mn")) (bytes_eq name (codes "m
 -- a line that begins with another name is no meta command
 pub other_line : (line name : List ℕ) (texts : List (List ℕ)) → words line ≡ name ∷ texts → is_meta_name name ≡ false → meta_line line ≡ Other
 other_line line name texts split is = let read = reads_as line name texts split in read.said ∙ other_of name read.rest is
+
+wordless_of : (line : List ℕ) (all : List Placed) → map text_of all ≡ [] → meta_line line ≡ meta_of all → meta_line line ≡ Other
+wordless_of line [] none is = is
+wordless_of line (first ∷ rest) none is = absurd (cc)
+
+-- neither is a line without a word
+pub wordless_line : (line : List ℕ) → words line ≡ [] → meta_line line ≡ Other
+wordless_line line none = wordless_of line (words_at 0 line) (words_at-texts 0 line ∙ none) refl
 
 -- ---- lines without a block
 

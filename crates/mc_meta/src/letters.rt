@@ -8,7 +8,7 @@ use std::marker::Model;
 #[derive(Drop)]
 pub struct Letters {
     bytes: [u8; 6],
-    count: usize,
+    count: u8,
 }
 
 impl Model for Letters {
@@ -38,7 +38,7 @@ impl Letters {
         ensures none { (result ≡ None) ↔ (length self.now ≤ i) }
         ensures limit { length self.now ≤ 6 }
     {
-        if i < self.count {
+        if i < self.count as usize {
             Some(self.bytes[i])
         } else {
             None
@@ -49,7 +49,7 @@ impl Letters {
     pub fn bytes(&self) -> &[u8]
         ensures value { result.now ≡ self.now }
     {
-        &self.bytes[..self.count]
+        &self.bytes[..self.count as usize]
     }
 
     /// Whether a letter is one of them.
@@ -64,7 +64,7 @@ impl Letters {
         requires room { length self.old < 6 }
         ensures value { self.new ≡ self.old ++ letter ∷ [] }
     {
-        self.bytes[self.count] = letter;
+        self.bytes[self.count as usize] = letter;
         self.count += 1;
     }
 }

@@ -6,7 +6,7 @@ use Rattle.std.proofs.lemmas.Slice.Eq.{bytes_eq-Decides}
 use Rattle.mc_meta.specs.declared.meta_line.MetaLine.{MetaLine}
 use Rattle.mc_meta.specs.declared.meta_line.MetaLine.TheVariants.{Other, WrongCount, Bad, Noop, Get, Set, Delete}
 use Rattle.mc_meta.specs.Meta.{is_meta_name, meta_line}
-use Rattle.mc_meta.proofs.SaidLemmas.{block_of, other_line, alone_line}
+use Rattle.mc_meta.proofs.SaidLemmas.{block_of, other_line, wordless_line, alone_line}
 use Rattle.mc_parse.specs.declared.error_line.ErrorLine.TheVariants.{Unknown}
 use Rattle.mc_parse.specs.declared.name.Name.{Name}
 use Rattle.mc_parse.specs.declared.need.Need.TheVariants.{Nothing}
@@ -73,6 +73,10 @@ unnamed_form line word ws split none = go (is_meta_name word) refl
     go false meta =
         plain_form line word ws split meta ∙ ap (λ (found : Option Name). find found Unknown (λ name. form_after name ws)) none
         ∙ sym (ap (meta_form line) (other_line line word ws split meta))
+
+-- and so does a line without a word
+pub wordless_form : (line : List ℕ) → words line ≡ [] → line_form line ≡ meta_form line (meta_line line)
+wordless_form line none = ap (form_in line) none ∙ sym (ap (meta_form line) (wordless_line line none))
 
 -- ---- what must come with a line
 

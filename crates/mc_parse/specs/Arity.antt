@@ -1,5 +1,6 @@
 -- How many words may follow a name, and the word noreply among them (docs/PROFILE.md, "Commands").
-use Rattle.std.specs.Prelude.{ℕ, Bool, true, false, not, ◌&&◌, ◌==◌, nat_le, nat_lt, if◌then◌else◌, List, [], ◌∷◌, length, Option, None, Some}
+use Rattle.std.specs.Prelude.{ℕ, Bool, true, false, not, ◌&&◌, ◌==◌, nat_le, nat_lt, if◌then◌else◌}
+use Rattle.std.specs.Prelude.{List, [], ◌∷◌, length, Option, None, Some}
 use Rattle.mc_parse.specs.declared.arity.Arity.{Arity}
 use Rattle.mc_parse.specs.Words.{is_noreply}
 

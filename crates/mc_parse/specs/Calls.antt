@@ -1,8 +1,12 @@
 -- The calls of a command, and the expected calls of a connection (docs/PROFILE.md, "Calls").
-use Rattle.std.specs.Prelude.{◌≡◌, ℕ, ◌+◌, ◌<◌, length, Bool, true, false, List, [], ◌∷◌, ◌++◌, map, Option, None, Some, IfSome}
+use Rattle.std.specs.Prelude.{◌≡◌, ℕ, ◌+◌, ◌<◌, length, Bool, true, false, List}
+use Rattle.std.specs.Prelude.{[], ◌∷◌, ◌++◌, map, Option, None, Some, IfSome}
 use Rattle.std.specs.List.{range_with_len}
 use Rattle.zy_base.specs.declared.call.Call.{Call}
-use Rattle.zy_base.specs.declared.call.Call.TheVariants.{Get as GetCall, Set as SetCall, Add as AddCall, Replace as ReplaceCall, Append as AppendCall, Prepend as PrependCall, Cas as CasCall, Incr, Decr, Delete as DeleteCall, Flush as FlushCall, Tally}
+use Rattle.zy_base.specs.declared.call.Call.TheVariants.{Get as GetCall, Set as SetCall, Add as AddCall}
+use Rattle.zy_base.specs.declared.call.Call.TheVariants.{Replace as ReplaceCall, Append as AppendCall}
+use Rattle.zy_base.specs.declared.call.Call.TheVariants.{Prepend as PrependCall, Cas as CasCall, Incr, Decr}
+use Rattle.zy_base.specs.declared.call.Call.TheVariants.{Delete as DeleteCall, Flush as FlushCall, Tally}
 use Rattle.zy_base.specs.declared.entry.Tag.{Tag}
 use Rattle.zy_base.specs.declared.entry.Entry.{Entry}
 use Rattle.zy_base.specs.Call.{key_of}
@@ -59,7 +63,7 @@ call_alone shards call (Some key) = at_key shards key call ∷ []
 abbrev pub meta_calls : ℕ → MetaCommand → List ShardCall
 meta_calls shards Metas.Noop = []
 meta_calls shards (Metas.Get key flags) = get_at shards key ∷ []
-meta_calls shards (Metas.Set key call marks) = call_alone shards call (key_of call)
+meta_calls shards (Metas.Set call marks) = call_alone shards call (key_of call)
 meta_calls shards (Metas.Delete key flags) = at_key shards key (DeleteCall key) ∷ []
 
 -- the calls of a command on `shards` shards, in their order

@@ -8,7 +8,8 @@ use Rattle.mc_parse.specs.declared.error_line.ErrorLine.{ErrorLine}
 use Rattle.mc_parse.specs.declared.error_line.ErrorLine.TheVariants.{Unknown, BadLine, BadDelta}
 use Rattle.mc_parse.specs.declared.verb.Verb.{Verb}
 use Rattle.mc_parse.specs.declared.name.Name.{Name}
-use Rattle.mc_parse.specs.declared.name.Name.TheVariants.{Store, Cas, Get, Delete, Count, Version, Verbosity, Flush, Quit, Stats}
+use Rattle.mc_parse.specs.declared.name.Name.TheVariants.{Store, Cas, Get, Delete, Count, Version}
+use Rattle.mc_parse.specs.declared.name.Name.TheVariants.{Verbosity, Flush, Quit, Stats}
 use Rattle.mc_parse.specs.declared.sizes.Sizes.{Sizes}
 use Rattle.mc_meta.specs.declared.meta_line.MetaLine.{MetaLine}
 use Rattle.mc_meta.specs.declared.meta_line.MetaLine.TheVariants as Metas

@@ -1,11 +1,13 @@
 -- What the parts of a parsed line say. No public clause cites this module.
-use Rattle.std.specs.Prelude.{ℕ, Bool, false, ◌==◌, List, map, filter, length, take, ⊤}
+use Rattle.std.specs.Prelude.{ℕ, Bool, false, ◌==◌, List, map, filter, length, take, ⊤, Result, Ok, Err}
 use Rattle.std.specs.Borrow.{Bor}
 use Rattle.mc_parse.specs.declared.args.Args.{Args}
+use Rattle.mc_parse.specs.declared.error_line.ErrorLine.{ErrorLine}
 use Rattle.mc_parse.specs.declared.line.Line.{Line}
 use Rattle.mc_parse.specs.declared.name.Name.{Name}
 use Rattle.mc_parse.specs.declared.name.Name.TheVariants as Names
-use Rattle.mc_parse.specs.declared.line.Line.TheVariants.{Fault, Asks, Meta}
+use Rattle.mc_parse.specs.declared.line.Line.TheVariants.{Fault, Asks}
+use Rattle.mc_parse.specs.declared.meta_ask.MetaAsk.{MetaAsk as SeenMetaAsk}
 use Rattle.mc_parse.specs.Name.{names}
 use Rattle.mc_parse.specs.MetaAsk.{meta_ask_seen}
 use Rattle.mc_parse.specs.Form.{Form, ask_seen, faulty, asks, metas}
@@ -37,8 +39,12 @@ names_of_length count = filter (has_length count) names
 
 -- ---- lines
 
--- what a parsed line says
+-- what a parsed line of a classic command says
 abbrev pub form_seen : Line → Form
 form_seen (Fault line) = faulty line
 form_seen (Asks ask quiet) = asks (ask_seen ask) quiet
-form_seen (Meta ask) = asks (metas (meta_ask_seen ask)) false
+
+-- what a line says that is read as a meta command
+abbrev pub meta_seen : Result SeenMetaAsk ErrorLine → Form
+meta_seen (Ok ask) = asks (metas (meta_ask_seen ask)) false
+meta_seen (Err line) = faulty line

@@ -1,8 +1,10 @@
 -- The command of a line, and of a line with its block (docs/PROFILE.md, "Commands").
-use Rattle.std.specs.Prelude.{◌≡◌, ℕ, ◌+◌, ◌-◌, ◌<◌, ◌≤◌, Bool, true, false, if◌then◌else◌, List, [], ◌∷◌, length, take, drop}
+use Rattle.std.specs.Prelude.{◌≡◌, ℕ, ◌+◌, ◌-◌, ◌<◌, ◌≤◌, Bool, true, false, if◌then◌else◌}
+use Rattle.std.specs.Prelude.{List, [], ◌∷◌, length, take, drop}
 use Rattle.std.specs.Str.{bytes_eq}
 use Rattle.mc_parse.specs.declared.command.Command.{Command}
-use Rattle.mc_parse.specs.declared.command.Command.TheVariants.{Store, Cas, Get, Delete, Count, Version, Verbosity, Flush, Fault, Meta, Stats}
+use Rattle.mc_parse.specs.declared.command.Command.TheVariants.{Store, Cas, Get, Delete, Count, Version}
+use Rattle.mc_parse.specs.declared.command.Command.TheVariants.{Verbosity, Flush, Fault, Meta, Stats}
 use Rattle.mc_parse.specs.declared.meta.Meta.TheVariants as Metas
 use Rattle.mc_parse.specs.declared.error_line.ErrorLine.{ErrorLine}
 use Rattle.mc_parse.specs.declared.error_line.ErrorLine.TheVariants.{Unknown, LongLine, BadChunk, TooLarge}
@@ -12,7 +14,8 @@ use Rattle.mc_parse.specs.declared.need.Need.{Need}
 use Rattle.mc_parse.specs.declared.need.Need.TheVariants.{Nothing, Block, Quit}
 use Rattle.mc_parse.specs.Calls.{stored_by}
 use Rattle.mc_parse.specs.MetaAsk.{MetaAsk, noops, meta_gets, meta_stores, meta_exchanges, meta_deletes}
-use Rattle.mc_parse.specs.Form.{Ask, stores, exchanges, gets, deletes, counts, tells_version, tells_counts, sets_verbosity, flushes, quits, metas, Form, line_form, faulty, asks}
+use Rattle.mc_parse.specs.Form.{Ask, stores, exchanges, gets, deletes, counts, tells_version, tells_counts}
+use Rattle.mc_parse.specs.Form.{sets_verbosity, flushes, quits, metas, Form, line_form, faulty, asks}
 
 -- ---- blocks
 
@@ -57,9 +60,9 @@ alone_meta (meta_deletes key flags) = Meta (Metas.Delete key flags)
 -- what a meta line asks for with a value; one that takes no value counts as unknown
 abbrev pub value_meta : MetaAsk → List ℕ → Command
 value_meta (meta_stores verb key flags bytes marks) value =
-    Meta (Metas.Set key (stored_by verb key flags value) marks)
+    Meta (Metas.Set (stored_by verb key flags value) marks)
 value_meta (meta_exchanges key flags bytes unique marks) value =
-    Meta (Metas.Set key (CasCall key flags unique value) marks)
+    Meta (Metas.Set (CasCall key flags unique value) marks)
 value_meta ask value = fault Unknown
 
 -- what a line that needs nothing asks for; a request that needs a block, or ends the connection,

@@ -4,7 +4,8 @@ use Rattle.mc_parse.specs.declared.need.Need.TheVariants.{Nothing}
 use Rattle.mc_parse.specs.Words.{words}
 use Rattle.mc_parse.specs.Need.{need}
 use Rattle.mc_parse.specs.Meaning.{line_command, block_command, large_command, silenced, IsBlockFor, IsTooLarge}
-use Rattle.mc_parse.specs.Form.{Ask, gets, tells_version, tells_counts, quits, metas, Form, form_of, line_form, faulty, asks}
+use Rattle.mc_parse.specs.Form.{Ask, gets, tells_version, tells_counts, quits}
+use Rattle.mc_parse.specs.Form.{metas, Form, form_of, line_form, faulty, asks}
 
 -- ---- lines
 

@@ -12,7 +12,8 @@ use Rattle.mc_parse.specs.declared.meta.Meta.{Meta as MetaCommand}
 use Rattle.mc_parse.specs.declared.meta.Meta.TheVariants as Metas
 use Rattle.mc_parse.specs.declared.shard_call.ShardCall.{ShardCall}
 use Rattle.mc_parse.specs.MetaAsk.{MetaAsk, noops, meta_gets, meta_stores, meta_exchanges, meta_deletes}
-use Rattle.mc_parse.specs.Form.{Ask, stores, exchanges, gets, deletes, counts, flushes, tells_counts, metas, Form, faulty, asks}
+use Rattle.mc_parse.specs.Form.{Ask, stores, exchanges, gets, deletes, counts, flushes}
+use Rattle.mc_parse.specs.Form.{tells_counts, metas, Form, faulty, asks}
 use Rattle.mc_parse.specs.Calls.{Due, on_shard}
 
 -- ---- commands
@@ -26,7 +27,7 @@ key_list (Some key) = key ∷ []
 abbrev pub meta_keys : MetaCommand → List (List ℕ)
 meta_keys Metas.Noop = []
 meta_keys (Metas.Get key flags) = key ∷ []
-meta_keys (Metas.Set key call marks) = key_list (key_of call)
+meta_keys (Metas.Set call marks) = key_list (key_of call)
 meta_keys (Metas.Delete key flags) = key ∷ []
 
 -- the keys that a command calls
@@ -50,7 +51,7 @@ unique_letter = 99
 -- the meta command is no `mg` with `c`, and no `ms` with `C`
 abbrev pub IsPlainMeta : MetaCommand → Type 0
 IsPlainMeta (Metas.Get key flags) = is_among flags unique_letter ≡ false
-IsPlainMeta (Metas.Set key call marks) = IsSteady call
+IsPlainMeta (Metas.Set call marks) = IsSteady call
 IsPlainMeta meta = Unit {0}
 
 -- the command is no `gets`, no `cas`, no `flush_all`, no `stats`, no `mg` with `c` and no `ms` with `C`

@@ -1,6 +1,7 @@
 //! What a line asks for, and what a name asks for with the words after it.
 ghost use Rattle.std.specs.Prelude.{◌≡◌, option_map};
-ghost use Rattle.mc_parse.specs.Form.{number_fault, sizes_of, store_words, cas_ask, cas_words, with_zero, delete_words, count_words, verbosity_words, ask_of, ask_seen};
+ghost use Rattle.mc_parse.specs.Form.{number_fault, sizes_of, store_words, cas_ask, cas_words, with_zero};
+ghost use Rattle.mc_parse.specs.Form.{delete_words, count_words, verbosity_words, ask_of, ask_seen};
 ghost use Rattle.mc_parse.specs.Line.{texts, HasFew};
 
 use crate::error_line::ErrorLine;

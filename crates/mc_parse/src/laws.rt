@@ -18,16 +18,24 @@ ghost use Rattle.mc_parse.specs.Number.{is_exptime};
 ghost use Rattle.mc_parse.specs.SameCalls.{spaced, AreWords, AskTheSame};
 ghost use Rattle.mc_parse.specs.Words.{words, is_word, space};
 ghost use Rattle.mc_parse.specs.Name.{name_of};
-ghost use Rattle.mc_parse.specs.Form.{Ask, stores, exchanges, gets, deletes, counts, tells_version, sets_verbosity, flushes, quits, metas, asks, faulty, number_fault, form_after, form_of, meta_form, line_form};
+ghost use Rattle.mc_parse.specs.Form.{Ask, stores, exchanges, gets, deletes, counts, tells_version, sets_verbosity};
+ghost use Rattle.mc_parse.specs.Form.{flushes, quits, metas, asks, faulty, number_fault, form_after, form_of};
+ghost use Rattle.mc_parse.specs.Form.{meta_form, line_form};
 ghost use Rattle.mc_parse.specs.MetaAsk.{noops, meta_gets, meta_stores, meta_exchanges, meta_deletes};
 ghost use Rattle.mc_parse.specs.Checks.{HasBadCount, LacksNoreply, HasLongKey, HasBadNumber, Asks, is_silenced};
 ghost use Rattle.mc_parse.specs.Need.{need};
-ghost use Rattle.mc_parse.specs.Meaning.{line_end, is_ended, value_of, value_command, line_command, block_command, large_command, fault, IsBlockFor, IsTooLarge};
-ghost use Rattle.mc_parse.specs.Calls.{calls_of, on_shard, asked_by, due, due_of, dues_of, IsAtKey, IsOnShard, IsDueOn, FollowsAll, FollowAll};
+ghost use Rattle.mc_parse.specs.Meaning.{line_end, is_ended, value_of, value_command, line_command};
+ghost use Rattle.mc_parse.specs.Meaning.{block_command, large_command, fault, IsBlockFor, IsTooLarge};
+ghost use Rattle.mc_parse.specs.Calls.{calls_of, on_shard, asked_by, due, due_of, dues_of};
+ghost use Rattle.mc_parse.specs.Calls.{IsAtKey, IsOnShard, IsDueOn, FollowsAll, FollowAll};
 ghost use Rattle.mc_parse.specs.Plain.{keys_of};
 ghost use Rattle.mc_parse.specs.Bounds.{IsCommand, IsShardCall};
 ghost use Rattle.mc_parse.specs.Noreply.{takes_noreply, is_quiet, OnlyFallsSilent, EndsInNoreply};
-ghost use Rattle.mc_parse.specs.Worked.{AllSay, Means, sets, long_key, lines_with_key, forms_with_key, nameless_lines, other_commands, short_lines, wordy_lines, lines_without_noreply, bad_deletions, bad_amounts, bad_levels, bad_flags, bad_exptimes, bad_lengths, bad_uniques, deletions_of_a, sets_of_a, unended_blocks, store_of, get_of_two, shards_of};
+ghost use Rattle.mc_parse.specs.Worked.{AllSay, Means, sets, long_key, lines_with_key, forms_with_key};
+ghost use Rattle.mc_parse.specs.Worked.{nameless_lines, other_commands, short_lines, wordy_lines};
+ghost use Rattle.mc_parse.specs.Worked.{lines_without_noreply, bad_deletions, bad_amounts, bad_levels, bad_flags};
+ghost use Rattle.mc_parse.specs.Worked.{bad_exptimes, bad_lengths, bad_uniques, deletions_of_a, sets_of_a};
+ghost use Rattle.mc_parse.specs.Worked.{unended_blocks, store_of, get_of_two, shards_of};
 
 /// Words are the maximal runs of bytes other than a space: a space separates what comes before it
 /// from what comes after it, and a text without a space is one word, unless it is empty.
@@ -323,11 +331,11 @@ pub fn worked_meta_commands()
     ensures fault { Means (codes "mg a v v") (Command.Fault Errors.BadLine false) }
     ensures need { need (codes "ms a 1048577 q") ≡ Need.Block 1048577 }
     ensures set { block_command (codes "ms a 1 F5 q") (codes "x\r\n")
-        ≡ Command.Meta (Metas.Set (codes "a") (Calls.Set (codes "a") 5 (codes "x")) (codes "q")) }
+        ≡ Command.Meta (Metas.Set (Calls.Set (codes "a") 5 (codes "x")) (codes "q")) }
     ensures append { block_command (codes "ms a 1 MA") (codes "x\r\n")
-        ≡ Command.Meta (Metas.Set (codes "a") (Calls.Append (codes "a") (codes "x")) []) }
+        ≡ Command.Meta (Metas.Set (Calls.Append (codes "a") (codes "x")) []) }
     ensures cas { block_command (codes "ms a 0 C7 k") (codes "\r\n")
-        ≡ Command.Meta (Metas.Set (codes "a") (Calls.Cas (codes "a") 0 7 []) (codes "k")) }
+        ≡ Command.Meta (Metas.Set (Calls.Cas (codes "a") 0 7 []) (codes "k")) }
     ensures chunk { block_command (codes "ms a 1 q") (codes "xyz")
         ≡ Command.Fault Errors.BadChunk false }
     ensures large { large_command (codes "ms a 1048577 q") ≡ Command.Fault Errors.TooLarge false }

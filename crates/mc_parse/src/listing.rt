@@ -2,7 +2,8 @@
 ghost use Rattle.std.specs.Prelude.{◌≡◌, ◌≤◌, [], ◌∷◌, ◌++◌, Err, IfOk, IfErr, OnOk};
 ghost use Rattle.zy_base.specs.declared.call.Call.{Call};
 ghost use Rattle.mc_parse.specs.OnAll.{made_by};
-ghost use Rattle.mc_parse.specs.Calls.{calls_of, on_shard, at_key, get_calls, meta_calls, calls_on_all, stored_by, counted_by};
+ghost use Rattle.mc_parse.specs.Calls.{calls_of, on_shard, at_key, get_calls, meta_calls};
+ghost use Rattle.mc_parse.specs.Calls.{calls_on_all, stored_by, counted_by};
 
 use crate::command::Command;
 use crate::meta::Meta;

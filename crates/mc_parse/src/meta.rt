@@ -12,9 +12,8 @@ pub enum Meta {
         key: Blob,
         flags: Letters,
     },
-    /// `ms`: stores under the key, by this call.
+    /// `ms`: stores, by this call.
     Set {
-        key: Blob,
         call: Call,
         /// The letters without a token, in the line's order.
         marks: Letters,

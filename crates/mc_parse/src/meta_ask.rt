@@ -5,10 +5,9 @@ ghost use Rattle.mc_meta.specs.Key.{bytes_in, IsKeyIn};
 ghost use Rattle.mc_parse.specs.Words.{line_limit};
 ghost use Rattle.mc_parse.specs.MetaAsk.{meta_ask_seen, verb_of, storing_ask};
 ghost use Rattle.mc_parse.specs.Form.{meta_form};
-ghost use Rattle.mc_parse.specs.Line.{form_seen};
+ghost use Rattle.mc_parse.specs.Line.{meta_seen};
 
 use crate::error_line::ErrorLine;
-use crate::line::Line;
 use crate::verb::Verb;
 use mc_meta::{Letters, MetaLine, Span, read_meta};
 
@@ -45,16 +44,17 @@ pub(crate) enum MetaAsk<'a> {
     },
 }
 
-/// What a line says as a meta command.
-pub(crate) fn read_meta_line(line: &[u8]) -> Line<'_>
+/// What a line asks for as a meta command, or its fault.
+#[inline(never)]
+pub(crate) fn read_meta_ask(line: &[u8]) -> Result<MetaAsk<'_>, ErrorLine>
     requires within { length line.now ≤ line_limit }
-    ensures value { form_seen result ≡ meta_form line.now (meta_line line.now) }
+    ensures value { meta_seen result ≡ meta_form line.now (meta_line line.now) }
 {
     match read_meta(line) {
-        MetaLine::Other | MetaLine::WrongCount => Line::Fault(ErrorLine::Unknown),
-        MetaLine::Bad => Line::Fault(ErrorLine::BadLine),
-        MetaLine::Noop => Line::Meta(MetaAsk::Noop),
-        MetaLine::Get { key, flags } => Line::Meta(MetaAsk::Get {
+        MetaLine::Other | MetaLine::WrongCount => Err(ErrorLine::Unknown),
+        MetaLine::Bad => Err(ErrorLine::BadLine),
+        MetaLine::Noop => Ok(MetaAsk::Noop),
+        MetaLine::Get { key, flags } => Ok(MetaAsk::Get {
             key: part(line, key),
             flags,
         }),
@@ -65,8 +65,8 @@ pub(crate) fn read_meta_line(line: &[u8]) -> Line<'_>
             unique,
             mode,
             marks,
-        } => Line::Meta(storing_ask(part(line, key), bytes, flags, unique, mode, marks)),
-        MetaLine::Delete { key, flags } => Line::Meta(MetaAsk::Delete {
+        } => Ok(storing_ask(part(line, key), bytes, flags, unique, mode, marks)),
+        MetaLine::Delete { key, flags } => Ok(MetaAsk::Delete {
             key: part(line, key),
             flags,
         }),

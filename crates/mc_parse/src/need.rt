@@ -10,7 +10,7 @@ ghost use Rattle.mc_parse.specs.Line.{form_seen};
 
 use crate::asking::Ask;
 use crate::line::Line;
-use crate::meta_ask::{MetaAsk, read_meta_line};
+use crate::meta_ask::{MetaAsk, read_meta_ask};
 use crate::name::{Name, name_of};
 use crate::reading::read_after;
 use crate::word::next_word;
@@ -60,10 +60,12 @@ fn unnamed_need(line: &[u8], word: &[u8]) -> Need
     ensures value { result ≡ (if bytes_eq word.now (codes "ms")
         then need_for (meta_form line.now (meta_line line.now)) else Need.Nothing) }
 {
-    if word == b"ms".as_slice() {
-        need_for(read_meta_line(line))
-    } else {
-        Need::Nothing
+    if word != b"ms".as_slice() {
+        return Need::Nothing;
+    }
+    match read_meta_ask(line) {
+        Ok(ask) => meta_need(ask),
+        Err(_) => Need::Nothing,
     }
 }
 
@@ -81,7 +83,6 @@ fn need_for(line: Line<'_>) -> Need
     match line {
         Line::Fault(_) => Need::Nothing,
         Line::Asks { ask, .. } => ask_need(ask),
-        Line::Meta(ask) => meta_need(ask),
     }
 }
 

@@ -1,21 +1,21 @@
 //! The command of a line, and of a line with its block.
-ghost use Rattle.std.specs.Prelude.{◌≡◌, ◌≤◌, false, [], ◌∷◌, ◌++◌, length, IfOk, IfErr, OnOk};
+ghost use Rattle.std.specs.Prelude.{◌≡◌, ◌≤◌, [], ◌∷◌, ◌++◌, length, IfOk, IfErr, OnOk};
 ghost use Rattle.mc_parse.specs.declared.need.Need.{Need};
 ghost use Rattle.mc_parse.specs.declared.command.Command.{Command};
 ghost use Rattle.mc_parse.specs.Words.{words, line_limit};
 ghost use Rattle.mc_parse.specs.Need.{need};
-ghost use Rattle.mc_parse.specs.MetaAsk.{meta_ask_seen};
-ghost use Rattle.mc_parse.specs.Form.{ask_seen, asks, metas};
+ghost use Rattle.mc_parse.specs.Form.{ask_seen};
 ghost use Rattle.mc_parse.specs.Line.{form_seen};
-ghost use Rattle.mc_parse.specs.Meaning.{line_command, block_command, large_command, alone_command, value_command, command_for, block_command_for, large_command_for, fault, is_ended, value_of, IsBlockFor, IsTooLarge};
+ghost use Rattle.mc_parse.specs.Meaning.{line_command, block_command, large_command, IsBlockFor, IsTooLarge};
+ghost use Rattle.mc_parse.specs.Meaning.{alone_command, value_command, command_for, block_command_for};
+ghost use Rattle.mc_parse.specs.Meaning.{large_command_for, fault, is_ended, value_of};
 
 use crate::asking::Ask;
 use crate::command::{Command, Keys};
 use crate::error_line::ErrorLine;
 use crate::line::Line;
-use crate::meta_ask::MetaAsk;
-use crate::meta_command::{alone_meta, value_meta};
-use crate::reading::read_line;
+use crate::meta_command::{meta_block_command, meta_command, meta_large_command};
+use crate::reading::{name_in, read_after};
 use crate::word::next_word;
 use std::alloc::Global;
 use zy_base::{Blob, NoMemory};
@@ -34,7 +34,10 @@ pub fn parse_line(alloc: Global, line: &[u8]) -> Result<Command, NoMemory>
     requires alone { need line.now ≡ Need.Nothing }
     ensures value { IfOk result (λ command. command ≡ line_command line.now) }
 {
-    command_for(alloc, read_line(line))
+    match name_in(line) {
+        Some(found) => command_for(alloc, read_after(found.name, found.rest)),
+        None => meta_command(alloc, line),
+    }
 }
 
 /// The command of a line that needs a block, with its block: the value, and the two bytes that must
@@ -46,7 +49,10 @@ pub fn parse_block(alloc: Global, line: &[u8], block: Blob) -> Result<Command, (
     ensures value { IfOk result (λ command. command ≡ block_command line.now block) }
     ensures returned { IfErr result (λ e. e.0 ≡ block) }
 {
-    block_command_for(alloc, read_line(line), block)
+    match name_in(line) {
+        Some(found) => block_command_for(alloc, read_after(found.name, found.rest), block),
+        None => meta_block_command(alloc, line, block),
+    }
 }
 
 /// The command of a line that needs a block whose value is over the limit, whatever the block
@@ -57,7 +63,10 @@ pub fn parse_large(line: &[u8]) -> Command
     requires large { IsTooLarge (need line.now) }
     ensures value { result ≡ large_command line.now }
 {
-    large_command_for(read_line(line))
+    match name_in(line) {
+        Some(found) => large_command_for(read_after(found.name, found.rest)),
+        None => meta_large_command(line),
+    }
 }
 
 // The command of a parsed line.
@@ -67,7 +76,6 @@ fn command_for(alloc: Global, line: Line<'_>) -> Result<Command, NoMemory>
     match line {
         Line::Fault(line) => Ok(fault(line)),
         Line::Asks { ask, quiet } => alone_command(alloc, ask, quiet),
-        Line::Meta(ask) => alone_meta(alloc, ask),
     }
 }
 
@@ -147,24 +155,7 @@ fn block_command_for(
             }
             value_command(alloc, ask, quiet, block)
         }
-        Line::Meta(ask) => meta_block(alloc, ask, block),
     }
-}
-
-// The meta command that asks for this, with its block. Its faults are never quiet.
-fn meta_block(alloc: Global, ask: MetaAsk<'_>, mut block: Blob) -> Result<Command, (Blob, NoMemory)>
-    ensures value { IfOk result (λ command. command
-        ≡ block_command_for block (asks (metas (meta_ask_seen ask.entry)) false)) }
-    ensures returned { IfErr result (λ e. e.0 ≡ block) }
-{
-    if !is_ended(&block) {
-        drop(block);
-        return Ok(fault(ErrorLine::BadChunk));
-    }
-    if let Err(e) = block.share() {
-        return Err((block, e));
-    }
-    value_meta(alloc, ask, block)
 }
 
 // The command that asks for this with the value of a block.
@@ -223,7 +214,6 @@ fn large_command_for(line: Line<'_>) -> Command
     match line {
         Line::Fault(line) => fault(line),
         Line::Asks { quiet, .. } => block_fault(ErrorLine::TooLarge, quiet),
-        Line::Meta(_) => fault(ErrorLine::TooLarge),
     }
 }
 
@@ -242,7 +232,7 @@ fn block_fault(line: ErrorLine, quiet: bool) -> Command
 }
 
 // Whether a block ends in the two bytes that must end it.
-fn is_ended(block: &Blob) -> bool
+pub(crate) fn is_ended(block: &Blob) -> bool
     ensures value { result ≡ is_ended block.now }
 {
     let bytes = block.bytes();

@@ -1,31 +1,42 @@
 //! What a line says, read from its words in one pass.
-ghost use Rattle.std.specs.Prelude.{◌≡◌, ◌≤◌, length, not};
+ghost use Rattle.std.specs.Prelude.{◌≡◌, not, IfSome, IfNone};
 ghost use Rattle.std.specs.List.{list_all};
 ghost use Rattle.mc_parse.specs.declared.name.Name.TheVariants as Names;
-ghost use Rattle.mc_parse.specs.Words.{words, line_limit};
-ghost use Rattle.mc_parse.specs.Form.{is_key, keys_among, form_with, form_after, line_form};
+ghost use Rattle.mc_meta.specs.Meta.{meta_line};
+ghost use Rattle.mc_parse.specs.Words.{words};
+ghost use Rattle.mc_parse.specs.Form.{is_key, keys_among, form_with, form_after, meta_form, line_form};
 ghost use Rattle.mc_parse.specs.Line.{texts, form_seen, HasFew};
 
 use crate::args::Args;
 use crate::asking::{Ask, number_fault, read_ask};
 use crate::error_line::ErrorLine;
 use crate::line::Line;
-use crate::meta_ask::read_meta_line;
 use crate::name::{Name, arity_of, name_of};
 use crate::word::{is_key, next_word};
 
-/// What a line says, or its first fault.
-#[tactic(auto, using(crate::proofs::MetaLemmas::named_form))]
-pub(crate) fn read_line(line: &[u8]) -> Line<'_>
-    requires within { length line.now ≤ line_limit }
-    ensures value { form_seen result ≡ line_form line.now }
+/// The name that a line begins with, and the text after it.
+#[derive(Clone, Copy)]
+pub(crate) struct Named<'a> {
+    pub(crate) name: Name,
+    pub(crate) rest: &'a [u8],
+}
+
+/// The name that a line begins with; `None` where it begins with none, and is read as a meta command.
+#[tactic(auto, using(crate::proofs::MetaLemmas::named_form, crate::proofs::MetaLemmas::wordless_form))]
+pub(crate) fn name_in(line: &[u8]) -> Option<Named<'_>>
+    ensures some { IfSome result (λ found. line_form line.now
+        ≡ form_after found.name (words found.rest.now)) }
+    ensures none { IfNone result (line_form line.now ≡ meta_form line.now (meta_line line.now)) }
 {
     let Some(first) = next_word(line) else {
-        return Line::Fault(ErrorLine::Unknown);
+        return None;
     };
     match name_of(first.word) {
-        Some(name) => read_after(name, first.rest),
-        None => read_meta_line(line),
+        Some(name) => Some(Named {
+            name,
+            rest: first.rest,
+        }),
+        None => None,
     }
 }
 

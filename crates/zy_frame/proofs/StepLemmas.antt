@@ -1,6 +1,6 @@
 -- What each step of a framer gives, over the values that it leads from and to.
-use Rattle.std.proofs.Common.{◌≡◌, ℕ, ◌+◌, ◌-◌, ◌<◌, ◌≤◌, true, false, List, [], ◌∷◌, ◌++◌, length, take, drop, refl, sym, ap, ◌∙◌, arith, append_assoc, length-append, append-nil}
-use Rattle.std.specs.Prelude.{Option, None, Some, Ok, nat_lt, if◌then◌else◌, Bool, option_to_list}
+use Rattle.std.proofs.Common.{◌≡◌, ℕ, ◌+◌, ◌-◌, ◌<◌, ◌≤◌, true, false, List, [], ◌∷◌, ◌++◌, length, take, drop, refl, sym, ap, ◌∙◌, arith, append_assoc, length-append}
+use Rattle.std.specs.Prelude.{Option, None, Some, nat_lt, if◌then◌else◌, Bool, option_to_list}
 use Rattle.std.proofs.lemmas.Bool.{ltb-true, ltb-false}
 use Rattle.std.proofs.lemmas.List.{length-take}
 use Rattle.std.proofs.Math.Seq.{drop-length}
@@ -17,7 +17,7 @@ use Rattle.mc_parse.specs.Words.{line_limit}
 use Rattle.zy_frame.specs.Line.{IsShort, first_line, chomped, line_feed}
 use Rattle.zy_frame.specs.Frame.{frame_at}
 use Rattle.zy_frame.specs.Progress.{IsAwaited, IsKeptBlock, IsLargeBlock, outcome_of, with_frames, ends_long, ends_frame, goes_on}
-use Rattle.zy_frame.specs.Steps.{awaited, progress_of, Goes, Closes, Advances, stays_in, waiting}
+use Rattle.zy_frame.specs.Steps.{awaited, progress_of, Goes, Closes, waiting}
 use Rattle.zy_frame.proofs.LineLemmas.{ended, spelled, first_line-append, first_line-append_none, first_line-ended}
 use Rattle.zy_frame.proofs.GoingOn.{in_long, long_ends, ends_long-begun_with, ends_frame-part, ends_frame-all, line_ends, quit_ends, block_begins, kept_block, large_block, ends_frame-same}
 
@@ -190,12 +190,6 @@ block_grows line block bytes size left keeps some few = record {
       (λ after. ap (Kinds.Block (chomped line)) (sym (append_assoc block bytes after)))
       ∙ ap (ends_frame (left - length bytes) (λ rest. Kinds.Block (chomped line) ((block ++ bytes) ++ rest))) (all_taken bytes more);
 }
-
--- a step that ended no frame, as one of feeding
-pub stretched : (old new : State) (bytes : List ℕ) (frames : List FrameKind) → 0 < length bytes → Goes old bytes (stays_in new (length bytes))
-    → Advances (progress_of old) (progress_of new) frames frames bytes (Ok (length bytes))
-stretched old new bytes frames some goes =
-    (record { keeps = goes.keeps; given = []; appended = sym (append-nil frames); on = goes.on }, some, goes.within)
 
 pub block_over : (line block bytes : List ℕ) (size left : ℕ) → IsKeptBlock (awaited (wanted line size left)) block → left ≤ length bytes
     → Goes (Block (wanted line size left) block) bytes (step (Line []) left (Some (Kinds.Block (chomped line) (block ++ take left bytes))))

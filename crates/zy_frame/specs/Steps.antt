@@ -1,6 +1,7 @@
 -- How a framer's state is seen, and what a step from one to another does. No public clause cites
 -- this module.
-use Rattle.std.specs.Prelude.{◌≡◌, ℕ, ◌+◌, ◌<◌, ◌≤◌, nat_lt, if◌then◌else◌, List, [], ◌∷◌, ◌++◌, length, drop, option_to_list, None, Result, Ok, Err}
+use Rattle.std.specs.Prelude.{◌≡◌, ℕ, ◌+◌, ◌<◌, ◌≤◌, nat_lt, if◌then◌else◌, List, []}
+use Rattle.std.specs.Prelude.{◌∷◌, ◌++◌, length, drop, option_to_list, Result, Ok, Err}
 use Rattle.zy_base.specs.Shard.{value_limit}
 use Rattle.zy_base.specs.declared.outside.NoMemory.{NoMemory}
 use Rattle.zy_frame.specs.declared.frame_kind.FrameKind.{FrameKind}
@@ -9,7 +10,8 @@ use Rattle.zy_frame.specs.declared.state.State.{State}
 use Rattle.zy_frame.specs.declared.state.State.TheVariants.{Line, Long, Block, Large, Quit, Refused}
 use Rattle.zy_frame.specs.declared.step.Step.{Step}
 use Rattle.zy_frame.specs.Line.{line_feed}
-use Rattle.zy_frame.specs.Progress.{Awaited, Progress, in_line, in_long_line, in_block, in_large_block, behind_quit, without_memory, Keeps, outcome_of, with_frames, goes_on, IsRefused}
+use Rattle.zy_frame.specs.Progress.{Awaited, Progress, in_line, in_long_line, in_block, in_large_block, behind_quit}
+use Rattle.zy_frame.specs.Progress.{without_memory, Keeps, outcome_of, with_frames, goes_on, IsRefused}
 
 -- ---- states
 
@@ -42,10 +44,6 @@ pub record Goes (state : State) (bytes : List ℕ) (step : Step) : Type 0 where
   pub on : (more : List ℕ) → goes_on (progress_of state) (bytes ++ more)
       ≡ with_frames (option_to_list step.frame)
       (goes_on (progress_of step.state) (drop step.taken bytes ++ more))
-
--- a step that took so many bytes, and ended no frame
-abbrev pub stays_in : State → ℕ → Step
-stays_in state taken = record { state = state; taken = taken; frame = None }
 
 -- the line feed of a line has come
 pub record Closes (line : List ℕ) (step : Step) : Type 0 where

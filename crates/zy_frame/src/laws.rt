@@ -1,5 +1,6 @@
 //! Laws of cutting.
-ghost use Rattle.std.specs.Prelude.{◌≡◌, ◌<◌, ◌≤◌, ◌+◌, ◌↔◌, ◌⊎◌, ℕ, true, false, List, [], ◌∷◌, ◌++◌, length, map, None, codes};
+ghost use Rattle.std.specs.Prelude.{◌≡◌, ◌<◌, ◌≤◌, ◌+◌, ◌↔◌, ◌⊎◌, ℕ, true, false};
+ghost use Rattle.std.specs.Prelude.{List, [], ◌∷◌, ◌++◌, length, map, None, codes};
 ghost use Rattle.std.specs.List.{AllByRecursion};
 ghost use Rattle.zy_base.specs.Shard.{value_limit};
 ghost use Rattle.mc_parse.specs.declared.command.Command.{Command};
@@ -8,7 +9,8 @@ ghost use Rattle.mc_parse.specs.declared.error_line.ErrorLine.TheVariants as Err
 ghost use Rattle.zy_frame.specs.declared.frame_kind.FrameKind.{FrameKind};
 ghost use Rattle.zy_frame.specs.declared.frame_kind.FrameKind.TheVariants as Kinds;
 ghost use Rattle.zy_frame.specs.Line.{chomped, line_feed};
-ghost use Rattle.zy_frame.specs.Frame.{IsFrameText, IsQuitLine, IsLongText, IsLineText, IsBlockText, frame_of, command_of};
+ghost use Rattle.zy_frame.specs.Frame.{IsFrameText, IsQuitLine, IsLongText, IsLineText};
+ghost use Rattle.zy_frame.specs.Frame.{IsBlockText, frame_of, command_of};
 ghost use Rattle.zy_frame.specs.Cut.{Splits, BeginsWithQuit, cut_of, frames_of, commands_of, meets_quit, joined};
 ghost use Rattle.zy_frame.specs.Feed.{Fed, GivesEach, fed_bytes, fed_frames};
 

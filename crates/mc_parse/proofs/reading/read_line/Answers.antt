@@ -1,8 +1,0 @@
-use Rattle.std.proofs.Common.{sym, ◌∙◌}
-use Rattle.mc_parse.specs.Words.{words}
-use Rattle.mc_parse.proofs.MetaLemmas.{unnamed_form}
-use Rattle.mc_parse.proofs.reading.read_line.Goals as goal
-
-pub returns-in-None : goal.returns-in-None
-returns-in-None c =
-    record { value = c.read_meta_line.ensures.value ∙ sym (unnamed_form c.args.line.now c.in-Some.first.word.now (words c.in-Some.first.rest.now) c.in-Some.ensures.found (sym c.in-None.ensures.value)) }
