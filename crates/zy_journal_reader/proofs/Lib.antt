@@ -10,3 +10,6 @@ pub mod EndLemmas
 pub mod NumberLemmas
 pub mod ContentLemmas
 pub mod WholeLemmas
+pub mod FaultLemmas
+pub mod FaultReadLemmas
+pub mod BegunLemmas
