@@ -1,5 +1,6 @@
 //! Laws over the definitions of this crate.
-ghost use Rattle.std.specs.Prelude.{◌≡◌, ◌≢◌, ◌⊎◌, ◌≤◌, ◌↔◌, ◌+◌, ◌<◌, ℕ, List, [], ◌∷◌, ◌++◌, length, codes, None, Some};
+ghost use Rattle.std.specs.Prelude.{◌≡◌, ◌≢◌, ◌⊎◌, ◌≤◌, ◌↔◌, ◌+◌, ◌<◌, ℕ, List, [], ◌∷◌, ◌++◌, length, codes, None};
+ghost use Rattle.std.specs.Prelude.{Some};
 ghost use Rattle.std.specs.List.{concat, slice_index_or, sum_by};
 ghost use Rattle.zy_base.specs.declared.file_fault.FileFault.{FileFault};
 ghost use Rattle.zy_base.specs.declared.file_fault.FileFault.TheVariants as FileFaults;
@@ -11,7 +12,8 @@ ghost use Rattle.zy_capture.specs.declared.capture_fault.CaptureFault.TheVariant
 ghost use Rattle.zy_capture.specs.declared.session_bytes.SessionBytes.{SessionBytes};
 ghost use Rattle.zy_capture.specs.Capture.{AreBytes, Spells};
 ghost use Rattle.zy_capture.specs.Faults.{HasFault};
-ghost use Rattle.zy_capture.specs.SoFar.{BeginsWithMagic, BeginsWithCount, BeginsWithRepliesMagic, IsCaptureSoFar, IsRepliesSoFar};
+ghost use Rattle.zy_capture.specs.SoFar.{BeginsWithMagic, BeginsWithCount, BeginsWithRepliesMagic, IsCaptureSoFar};
+ghost use Rattle.zy_capture.specs.SoFar.{IsRepliesSoFar};
 ghost use Rattle.zy_capture.specs.Steps.{Progress};
 ghost use Rattle.zy_capture.specs.Verdict.{captures, verdict, fault_of, version_of, count_of, records_of};
 ghost use Rattle.zy_capture.specs.Verdict.Verdict.{Good, Bad};
