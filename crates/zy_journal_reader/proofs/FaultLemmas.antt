@@ -1,6 +1,6 @@
 -- A text whose verdict as a journal is a fault has that fault.
-use Rattle.std.proofs.Common.{◌≡◌, inl, inr, ℕ, zero, suc, ◌+◌, ◌-◌, ◌<◌, ◌≤◌, ◌^◌, Bool, true, false, List, [], ◌∷◌, ◌++◌, length, take, drop, refl, sym, ◌∙◌, ap, subst, arith, append_assoc, length-append}
-use Rattle.std.specs.Prelude.{◌==◌, ◌&&◌, ◌||◌, nat_lt, nat_le, Option, None, Some, IfSome, IsSome, is_some, option_to_list, flat_map, ⊤}
+use Rattle.std.proofs.Common.{◌≡◌, inl, inr, ℕ, zero, suc, ◌+◌, ◌-◌, ◌<◌, ◌≤◌, ◌^◌, true, false, List, [], ◌∷◌, ◌++◌, length, take, drop, refl, sym, ◌∙◌, ap, subst, arith, append_assoc, length-append}
+use Rattle.std.specs.Prelude.{◌==◌, ◌&&◌, ◌||◌, nat_lt, nat_le, Option, None, Some, option_to_list, flat_map, ⊤}
 use Rattle.std.specs.List.{slice_index}
 use Rattle.std.specs.Int.{to_be_bytes, from_be_bytes, w32, w64}
 use Rattle.std.proofs.lemmas.List.{append-nil}
@@ -9,25 +9,21 @@ use Rattle.std.proofs.lemmas.Bool.Decides.{nat_tests}
 use Rattle.zy_base.specs.declared.call.Call.{Call}
 use Rattle.zy_base.specs.declared.call.Call.TheVariants as Calls
 use Rattle.zy_base.specs.declared.call_kind.CallKind.{CallKind}
-use Rattle.zy_base.specs.declared.call_kind.CallFields.{CallFields}
-use Rattle.zy_base.specs.declared.call_reply.CallReply.{CallReply}
 use Rattle.zy_base.specs.declared.call_reply.CallReply.TheVariants as Replies
 use Rattle.zy_base.specs.declared.entry.Entry.{Entry}
 use Rattle.zy_base.specs.declared.hold.Hold.{Hold}
 use Rattle.zy_base.specs.declared.file_fault.FileFault.{FileFault}
 use Rattle.zy_base.specs.declared.file_fault.FileFault.TheVariants.{Form, Truncated, TooLong}
 use Rattle.zy_base.specs.Call.{key_of}
-use Rattle.zy_base.specs.Code.{code_of, kind_of, fields_of, call_of, call_code, call_flags, call_number, call_value, hit_code, number_code, tally_code, last_call_code, last_reply_code}
-use Rattle.zy_base.specs.Bounds.{IsCall, IsReply, IsKey, IsValue, FitsCall, FitsReply}
+use Rattle.zy_base.specs.Code.{code_of, call_of, call_code, call_flags, call_number, call_value, hit_code, last_call_code, last_reply_code}
+use Rattle.zy_base.specs.Bounds.{IsKey, IsValue}
 use Rattle.zy_base.specs.Shard.{value_limit}
-use Rattle.zy_base.specs.Order.{IsBehind}
-use Rattle.zy_base.proofs.CodeLemmas.{there, call_has}
+use Rattle.zy_base.proofs.CodeLemmas.{call_has}
 use Rattle.zy_read.specs.Format.{Reading, read_on, reading_of, verdict_on, fault_met}
 use Rattle.zy_read.specs.Standing.{StandsAs}
 use Rattle.zy_read.proofs.Feeding.{fed_step, read_broken, verdict_here, starts}
 use Rattle.zy_journal.specs.Journal.{magic, key_text, field_text, fields_text, call_text, entry_head, entry_text, hold_text, journal_bytes}
 use Rattle.zy_journal_reader.specs.declared.draft.Draft.{Draft}
-use Rattle.zy_journal_reader.specs.declared.past.Past.{Past}
 use Rattle.zy_journal_reader.specs.declared.due.Due.{Due}
 use Rattle.zy_journal_reader.specs.declared.due.Due.TheVariants.{Byte, Number, Long, Bytes, Nothing, Broken}
 use Rattle.zy_journal_reader.specs.declared.due.ByteField.{ByteField}
@@ -37,23 +33,24 @@ use Rattle.zy_journal_reader.specs.declared.due.NumberField.TheVariants as N
 use Rattle.zy_journal_reader.specs.declared.due.LongField.{LongField}
 use Rattle.zy_journal_reader.specs.declared.due.LongField.TheVariants as L
 use Rattle.zy_journal_reader.specs.declared.due.BytesField.{BytesField}
-use Rattle.zy_journal_reader.specs.declared.due.BytesField.TheVariants as S
-use Rattle.zy_journal_reader.specs.Fields.{fault_in, at_key, at_flags, at_number, at_value}
+use Rattle.zy_journal_reader.specs.Fields.{fault_in}
 use Rattle.zy_journal_reader.specs.Lasting.{lasting, is_broken}
 use Rattle.zy_journal_reader.specs.Standing.{StandsForJournal}
 use Rattle.zy_journal_reader.specs.Steps.{Progress, Step, start, refuses, lawful_byte, lawful_number, lawful_long, after_byte, after_four, after_eight, after_bytes, four, eight, bytes, taken, is_open, is_full, step, journal_limit}
 use Rattle.zy_journal_reader.specs.Verdict.{Verdict, read_from, ended, verdict, fault_of, is_good, journals, journal_in, IsReadable, AreBytes}
 use Rattle.zy_journal_reader.specs.Verdict.Verdict.{Bad}
-use Rattle.zy_journal_reader.specs.Faults.{last_of, spelled, range, EntryField, shape_of, before, IsNotBelow, IsLawful, IsNextEntry, IsLawfulUpTo, HoldField, before_in_hold, IsNotFalling, IsLawfulInHold, IsHoldUpTo, IsBadMagic, IsBadEntry, IsBadHold, IsWrong}
+use Rattle.zy_journal_reader.specs.Faults.{last_one, number_text, range, EntryField, shape_of, before, IsLawful, IsLawfulUpTo, HoldField, before_in_hold, IsLawfulInHold, IsHoldUpTo, IsBadMagic, IsBadEntry, IsBadHold, IsWrong}
 use Rattle.zy_journal_reader.specs.Faults.{EntryField as E}
 use Rattle.zy_journal_reader.specs.Faults.{HoldField as H}
-use Rattle.zy_journal_reader.proofs.CallLemmas.{either, fields_in, call_in, key_bytes, flags_bytes, number_bytes, call_is}
+use Rattle.zy_journal_reader.proofs.CallLemmas.{fields_in, call_in, key_bytes, flags_bytes, number_bytes, call_is}
 use Rattle.zy_journal_reader.proofs.SoFar as SoFar
-use Rattle.zy_journal_reader.proofs.SoFar.{front, head, stamp_of, shard_of, conn_of, Kept, ComesAfter, HeadKnown, IsField, Parts, IsReadTo}
+use Rattle.zy_journal_reader.proofs.SoFar.{front, head, Kept, Parts, IsReadTo}
 use Rattle.zy_journal_reader.proofs.TestLemmas.{chosen, bytes_on, four_is, eight_is, four_small, eight_small}
 use Rattle.zy_journal_reader.proofs.GoesLemmas.{between, below_is, most_is, stamp_is, shard_is, conn_is}
 use Rattle.zy_journal_reader.proofs.SpelledLemmas.{entry_with}
 use Rattle.zy_journal_reader.proofs.WholeLemmas.{nothing_kept, has_room, from_step, read_whole}
+use Rattle.zy_journal_reader.proofs.OpenLemmas.{byte_opens, four_opens, eight_opens, bytes_open, not_there}
+use Rattle.zy_journal_reader.proofs.LawfulLemmas.{behind_comes, not_below, above_is, not_falling, rises, next_entry, plain_entry, field_is, some_there}
 
 -- ---- faults by what was read
 
@@ -105,7 +102,7 @@ field_place f b done at here text is count same = omega (arith, ap (λ (l : List
 
 -- a field of an entry, of which these bytes were read before its last one
 in_entry : (field : EntryField) (e : Entry) (p : Progress) (text done rest : List ℕ) (byte at number : ℕ) → Kept p.entries p.holds p.past → p.holds ≡ [] → text ≡ front p.entries p.holds ++ (before field e ++ done) → p.at ≡ length text
-    → at + length done ≡ p.at → p.at < journal_limit → spelled (shape_of field) number ≡ done ++ byte ∷ [] → number < range (shape_of field) → IsLawfulUpTo field (last_of p.entries) e → (IsLawful field (last_of p.entries) e number → ⊥)
+    → at + length done ≡ p.at → p.at < journal_limit → number_text (shape_of field) number ≡ done ++ byte ∷ [] → number < range (shape_of field) → IsLawfulUpTo field (last_one p.entries) e → (IsLawful field (last_one p.entries) e number → ⊥)
     → IsBadEntry (text ++ byte ∷ rest) at
 in_entry field e p text done rest byte at number kept none is count same room whole fits lawful wrong = record {
   journal = journal_in p;
@@ -117,7 +114,7 @@ in_entry field e p text done rest byte at number kept none is count same room wh
   rest = rest;
   front = record {
     readable = readable p kept;
-    whole = ap (λ (l : List ℕ). l ++ byte ∷ rest) is ∙ field_text_is (front p.entries p.holds) (before field e) done (spelled (shape_of field) number) rest byte whole;
+    whole = ap (λ (l : List ℕ). l ++ byte ∷ rest) is ∙ field_text_is (front p.entries p.holds) (before field e) done (number_text (shape_of field) number) rest byte whole;
     place = refl;
   };
   lawful = lawful;
@@ -129,7 +126,7 @@ in_entry field e p text done rest byte at number kept none is count same room wh
 
 -- a field of a hold
 in_hold : (field : HoldField) (h : Hold) (p : Progress) (text done rest : List ℕ) (byte at number : ℕ) → Kept p.entries p.holds p.past → text ≡ front p.entries p.holds ++ (before_in_hold field h ++ done) → p.at ≡ length text
-    → at + length done ≡ p.at → p.at < journal_limit → to_be_bytes w32 number ≡ done ++ byte ∷ [] → number < 2 ^ 32 → IsHoldUpTo field (last_of p.holds) h → (IsLawfulInHold field (last_of p.holds) number → ⊥)
+    → at + length done ≡ p.at → p.at < journal_limit → to_be_bytes w32 number ≡ done ++ byte ∷ [] → number < 2 ^ 32 → IsHoldUpTo field (last_one p.holds) h → (IsLawfulInHold field (last_one p.holds) number → ⊥)
     → IsBadHold (text ++ byte ∷ rest) at
 in_hold field h p text done rest byte at number kept is count same room whole fits lawful wrong = record {
   journal = journal_in p;
@@ -149,64 +146,6 @@ in_hold field h p text done rest byte at number kept is count same room whole fi
   place = field_place (front p.entries p.holds) (before_in_hold field h) done at p.at text is count same;
   within = omega (arith, ap (λ (l : List ℕ). length l) whole, length-append done (byte ∷ []), same, room);
 }
-
--- ---- what is lawful, by what the reader keeps
-
--- after the last entry
-pub comes_behind : (last : Option Entry) (past : Past) (e : Entry) → past.stamp ≡ stamp_of last → past.shard ≡ shard_of last → ComesAfter past e → IsBehind last e
-comes_behind None past e stamp shard comes = tt
-comes_behind (Some x) past e stamp shard (inl later) = inl (omega (arith, stamp, later))
-comes_behind (Some x) past e stamp shard (inr same) = inr (sym stamp ∙ same.0, omega (arith, shard, same.1))
-
-pub behind_comes : (last : Option Entry) (past : Past) (e : Entry) → past.stamp ≡ stamp_of last → past.shard ≡ shard_of last → 0 < e.stamp → IsBehind last e → ComesAfter past e
-behind_comes None past e stamp shard some comes = inl (omega (arith, stamp, some))
-behind_comes (Some x) past e stamp shard some (inl later) = inl (omega (arith, stamp, later))
-behind_comes (Some x) past e stamp shard some (inr same) = inr (stamp ∙ same.0, omega (arith, shard, same.1))
-
-pub not_below : (last : Option Entry) (past n : ℕ) → past ≡ stamp_of last → IsNotBelow last n → past ≤ n
-not_below None past n stamp is = omega (arith, stamp)
-not_below (Some x) past n stamp is = omega (arith, stamp, is)
-
-pub above_is : (last : Option Entry) (past n : ℕ) → past ≡ stamp_of last → past ≤ n → IsNotBelow last n
-above_is None past n stamp is = tt
-above_is (Some x) past n stamp is = omega (arith, stamp, is)
-
-pub not_falling : (last : Option Hold) (past n : ℕ) → past ≡ conn_of last → IsNotFalling last n → past ≤ n
-not_falling None past n conn is = omega (arith, conn)
-not_falling (Some x) past n conn is = omega (arith, conn, is)
-
-pub rises : (last : Option Hold) (past n : ℕ) → past ≡ conn_of last → past ≤ n → IsNotFalling last n
-rises None past n conn is = tt
-rises (Some x) past n conn is = omega (arith, conn, is)
-
--- an entry with what was read before its call, and this call
-next_entry : (p : Progress) (d : Draft) (call : Call) (reply : CallReply) → Kept p.entries p.holds p.past → HeadKnown p.past d p.holds → IsCall call → FitsCall call → IsReply reply → FitsReply reply → IsNextEntry (last_of p.entries) (entry_with d call reply)
-next_entry p d call reply kept h is fits within small = record {
-  valid = record {
-    some_stamp = h.0.0.0.0.1;
-    few_stamps = h.0.0.0.0.2;
-    few_shards = h.0.0.0.1;
-    few_connections = h.0.0.1;
-    few_commands = h.0.1;
-    call = is;
-    reply = within;
-  };
-  fits = record { part = h.1; call = fits; reply = small };
-  comes = comes_behind (last_of p.entries) p.past (entry_with d call reply) kept.stamp_is kept.shard_is h.0.0.0.2;
-}
-
--- the same with a call and a reply that are short
-plain_entry : (p : Progress) (d : Draft) → Kept p.entries p.holds p.past → HeadKnown p.past d p.holds → IsNextEntry (last_of p.entries) (entry_with d Calls.Flush Replies.Miss)
-plain_entry p d kept h = next_entry p d Calls.Flush Replies.Miss kept h tt (tt, tt) tt ((tt, tt), tt)
-
--- a field that is there, or is not, is within its bound where it is one
-field_is : {X : Type 0} (P : X → Type 0) (b : Bool) (x : X) → P x → IfSome (there b x) P
-field_is P true x is = is
-field_is P false x is = tt
-
--- a field is there
-some_there : {X : Type 0} (o : Option X) (b : Bool) (x : X) → o ≡ there b x → b ≡ true → IsSome o
-some_there {X} o b x is has = ap (λ (q : Option X). is_some q) is ∙ ap (λ (t : Bool). is_some (there t x)) has
 
 -- ---- the magic
 
@@ -234,68 +173,6 @@ from_magic p text rest byte parts wrong = record {
   place = parts.count ∙ ap (λ (l : List ℕ). length l) parts.bytes;
   differs = λ same. grind (arith, nat_tests, same, wrong);
 }
-
--- ---- steps that are no faults
-
--- a step that ends a field leads to no fault
-abbrev IsOpenStep : Step → Type 0
-IsOpenStep s = fault_in s.next.due ≡ None
-
--- what is expected there is no fault
-abbrev IsOpenDue : Due → Type 0
-IsOpenDue due = fault_in due ≡ None
-
-open_value : (f : CallFields) → IsOpenDue (at_value f)
-open_value f = either IsOpenDue f.value _ _ refl refl
-
-open_number : (f : CallFields) → IsOpenDue (at_number f)
-open_number f = either IsOpenDue f.number _ _ refl (open_value f)
-
-open_flags : (f : CallFields) → IsOpenDue (at_flags f)
-open_flags f = either IsOpenDue f.flags _ _ refl (open_number f)
-
-open_key : (f : CallFields) → IsOpenDue (at_key f)
-open_key f = either IsOpenDue f.key _ _ refl (open_flags f)
-
-byte_opens : (field : ByteField) (p : Progress) (byte : ℕ) → IsOpenStep (after_byte field p byte)
-byte_opens B.Magic p byte = either IsOpenStep (p.at == 7) _ _ refl refl
-byte_opens B.Tag p byte = either IsOpenStep (byte == 69) _ _ refl (either IsOpenStep (byte == 72) _ _ refl refl)
-byte_opens B.CallCode p byte = open_key (fields_of (kind_of byte))
-byte_opens B.KeyLength p byte = refl
-byte_opens B.ReplyCode p byte = either IsOpenStep (byte == hit_code) _ _ refl (either IsOpenStep (byte == number_code) _ _ refl (either IsOpenStep (byte == tally_code) _ _ refl refl))
-
-four_opens : (field : NumberField) (p : Progress) (n : ℕ) → IsOpenStep (after_four field p n)
-four_opens N.Shard p n = refl
-four_opens N.Connection p n = refl
-four_opens N.Part p n = refl
-four_opens N.Flags p n = open_number (fields_of p.draft.kind)
-four_opens N.ValueLength p n = either IsOpenStep (n == 0) _ _ refl refl
-four_opens N.FoundFlags p n = refl
-four_opens N.FoundLength p n = either IsOpenStep (n == 0) _ _ refl refl
-four_opens N.HoldConnection p n = refl
-four_opens N.HoldCore p n = refl
-four_opens N.HoldCount p n = refl
-
-eight_opens : (field : LongField) (p : Progress) (n : ℕ) → IsOpenStep (after_eight field p n)
-eight_opens L.CallNumber p n = open_value (fields_of p.draft.kind)
-eight_opens L.Stamp p n = refl
-eight_opens L.Index p n = refl
-eight_opens L.FoundUnique p n = refl
-eight_opens L.ReplyNumber p n = refl
-eight_opens L.Gets p n = refl
-eight_opens L.Sets p n = refl
-eight_opens L.Hits p n = refl
-eight_opens L.Misses p n = refl
-eight_opens L.Items p n = refl
-
-bytes_open : (field : BytesField) (p : Progress) (content : List ℕ) → IsOpenStep (after_bytes field p content)
-bytes_open S.Key p content = open_flags (fields_of p.draft.kind)
-bytes_open S.Value p content = refl
-bytes_open S.FoundValue p content = refl
-
--- so it is not the fault
-not_there : (s : Step) (fault : FileFault) → IsOpenStep s → s.next.due ≡ Broken fault → ⊥
-not_there s fault opens is = let met : fault_in s.next.due ≡ Some fault = ap (λ (d : Due). fault_in d) is in cc
 
 -- ---- fields of one byte
 
@@ -378,8 +255,8 @@ unfolding entry_head
 from_four N.Shard p text rest byte at n is known u wrong =
     let d : Draft = p.draft in
     inr (inr (inl (in_entry E.Shard (entry_with d Calls.Flush Replies.Miss) p text p.field rest byte at n u.kept known.0 is u.count u.same u.room u.whole u.fits
-    (known.1, known.2, above_is (last_of p.entries) p.past.stamp d.stamp u.kept.stamp_is known.3)
-    (λ lawful. let yes = shard_is n p.past.shard d.stamp p.past.stamp lawful.0 (behind_comes (last_of p.entries) p.past (record (entry_with d Calls.Flush Replies.Miss) { shard = n }) u.kept.stamp_is u.kept.shard_is known.1 lawful.1) in cc))))
+    (known.1, known.2, above_is (last_one p.entries) p.past.stamp d.stamp u.kept.stamp_is known.3)
+    (λ lawful. let yes = shard_is n p.past.shard d.stamp p.past.stamp lawful.0 (behind_comes (last_one p.entries) p.past (record (entry_with d Calls.Flush Replies.Miss) { shard = n }) u.kept.stamp_is u.kept.shard_is known.1 lawful.1) in cc))))
 from_four N.Connection p text rest byte at n is known u wrong =
     let d : Draft = record p.draft { conn = 0; index = 0; part = 0 } in
     inr (inr (inl (in_entry E.Connection (entry_with d Calls.Flush Replies.Miss) p text p.field rest byte at n u.kept known.0.0 is u.count u.same u.room u.whole u.fits
@@ -407,14 +284,14 @@ from_four N.FoundLength p text rest byte at n is known u wrong =
     (λ lawful. let yes = most_is n value_limit lawful in cc))))
 from_four N.HoldConnection p text rest byte at n is known u wrong =
     inr (inr (inr (inl (in_hold H.OfConnection (record { core = 0; conn = 0; count = 0 }) p text p.field rest byte at n u.kept is u.count u.same u.room u.whole u.fits tt
-    (λ lawful. let yes = conn_is n p.past.conn (not_falling (last_of p.holds) p.past.conn n u.kept.conn_is lawful.1) lawful.0 in cc)))))
+    (λ lawful. let yes = conn_is n p.past.conn (not_falling (last_one p.holds) p.past.conn n u.kept.conn_is lawful.1) lawful.0 in cc)))))
 from_four N.HoldCore p text rest byte at n is known u wrong =
     inr (inr (inr (inl (in_hold H.OfCore (record { core = 0; conn = p.draft.conn; count = 0 }) p text p.field rest byte at n u.kept is u.count u.same u.room u.whole u.fits
-    (known.1, rises (last_of p.holds) p.past.conn p.draft.conn u.kept.conn_is known.0)
+    (known.1, rises (last_one p.holds) p.past.conn p.draft.conn u.kept.conn_is known.0)
     (λ lawful. let yes = below_is n 64 lawful in cc)))))
 from_four N.HoldCount p text rest byte at n is known u wrong =
     inr (inr (inr (inl (in_hold H.OfCount (record { core = p.draft.core; conn = p.draft.conn; count = 0 }) p text p.field rest byte at n u.kept is u.count u.same u.room u.whole u.fits
-    ((known.1, rises (last_of p.holds) p.past.conn p.draft.conn u.kept.conn_is known.0), known.2)
+    ((known.1, rises (last_one p.holds) p.past.conn p.draft.conn u.kept.conn_is known.0), known.2)
     (λ lawful. let yes = between n 1 64 lawful.0 lawful.1 in cc)))))
 
 -- ---- numbers of eight bytes
@@ -423,7 +300,7 @@ from_eight : (field : LongField) (p : Progress) (text rest : List ℕ) (byte at 
     → IsWrong (text ++ byte ∷ rest) at
 from_eight L.Stamp p text rest byte at n is known u wrong =
     inr (inr (inl (in_entry E.Stamp (entry_with p.draft Calls.Flush Replies.Miss) p text p.field rest byte at n u.kept known is u.count u.same u.room u.whole u.fits tt
-    (λ lawful. let yes = stamp_is n p.past.stamp lawful.0 lawful.1 (not_below (last_of p.entries) p.past.stamp n u.kept.stamp_is lawful.2) in cc))))
+    (λ lawful. let yes = stamp_is n p.past.stamp lawful.0 lawful.1 (not_below (last_one p.entries) p.past.stamp n u.kept.stamp_is lawful.2) in cc))))
 from_eight L.Index p text rest byte at n is known u wrong =
     let d : Draft = record p.draft { index = 0; part = 0 } in
     inr (inr (inl (in_entry E.Command (entry_with d Calls.Flush Replies.Miss) p text p.field rest byte at n u.kept known.0.0.0 is u.count u.same u.room u.whole u.fits

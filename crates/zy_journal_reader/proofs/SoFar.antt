@@ -20,7 +20,7 @@ use Rattle.zy_journal_reader.specs.declared.due.LongField.TheVariants.{Stamp, In
 use Rattle.zy_journal_reader.specs.declared.due.BytesField.TheVariants.{Key, Value, FoundValue}
 use Rattle.zy_journal_reader.specs.Steps.{Progress, journal_limit}
 use Rattle.zy_journal_reader.specs.Verdict.{AreBytes}
-use Rattle.zy_journal_reader.specs.Faults.{last_of}
+use Rattle.zy_journal_reader.specs.Faults.{last_one}
 use Rattle.zy_journal_reader.proofs.CallLemmas.{fields_in, call_in, to_flags, to_number, to_value, KeyKnown, FlagsKnown, NumberKnown}
 
 -- the bytes before the record that is read
@@ -97,9 +97,9 @@ pub record Kept (es : List Entry) (hs : List Hold) (past : Past) : Type 0 where
   pub fits : AllByRecursion FitsEntry es
   pub rising : AreByConnection 0 hs
   pub holds : AllByRecursion IsHold hs
-  pub stamp_is : past.stamp ≡ stamp_of (last_of es)
-  pub shard_is : past.shard ≡ shard_of (last_of es)
-  pub conn_is : past.conn ≡ conn_of (last_of hs)
+  pub stamp_is : past.stamp ≡ stamp_of (last_one es)
+  pub shard_is : past.shard ≡ shard_of (last_one es)
+  pub conn_is : past.conn ≡ conn_of (last_one hs)
   pub next : (e : Entry) → ComesAfter past e → IsOrdered None (es ++ e ∷ [])
   pub next_hold : (h : Hold) → past.conn ≤ h.conn → AreByConnection 0 (hs ++ h ∷ [])
 

@@ -1,19 +1,23 @@
 -- The faults of a journal, docs/FORMATS.md, "Journal": what a text is that has one of them. Each comes after bytes that
--- spell the beginning of a journal, where the first field follows that is not lawful there. That the verdict on a text is
--- bad with a fault exactly where the text has it is a law in src/laws.rt.
-use Rattle.std.specs.Prelude.{◌≡◌, ◌⊎◌, ℕ, ◌+◌, ◌^◌, ◌<◌, ◌≤◌, List, [], ◌∷◌, ◌++◌, length, flat_map, Option, None, Some, IsSome, ⊤}
+-- spell the beginning of a journal, where the first field follows that is not lawful there. That the verdict on a text
+-- is bad with a fault exactly where the text has it is a law in src/laws.rt.
+use Rattle.std.specs.Prelude.{◌≡◌, ◌⊎◌, ℕ, ◌+◌, ◌^◌, ◌<◌, ◌≤◌, List, [], ◌∷◌, ◌++◌, length, flat_map, Option, None}
+use Rattle.std.specs.Prelude.{Some, IsSome, ⊤}
 use Rattle.std.specs.Int.{to_be_bytes, w32, w64}
 use Rattle.zy_base.specs.declared.entry.Entry.{Entry}
 use Rattle.zy_base.specs.declared.hold.Hold.{Hold}
 use Rattle.zy_base.specs.declared.file_fault.FileFault.{FileFault}
 use Rattle.zy_base.specs.declared.file_fault.FileFault.TheVariants.{Form, Truncated, TooLong}
 use Rattle.zy_base.specs.Call.{key_of}
-use Rattle.zy_base.specs.Code.{call_code, call_flags, call_number, call_value, last_call_code, reply_code, reply_flags, reply_number, reply_value, last_reply_code}
+use Rattle.zy_base.specs.Code.{call_code, call_flags, call_number, call_value, last_call_code, reply_code}
+use Rattle.zy_base.specs.Code.{reply_flags, reply_number, reply_value, last_reply_code}
 use Rattle.zy_base.specs.Bounds.{FitsEntry}
-use Rattle.zy_base.specs.Limits.{key_limit, value_limit, connection_limit, shard_limit, core_limit, hold_limit, command_limit, stamp_limit}
+use Rattle.zy_base.specs.Limits.{key_limit, value_limit, connection_limit, shard_limit, core_limit, hold_limit}
+use Rattle.zy_base.specs.Limits.{command_limit, stamp_limit}
 use Rattle.zy_base.specs.Order.{IsBehind}
 use Rattle.zy_journal.specs.declared.journal.Journal.{Journal}
-use Rattle.zy_journal.specs.Journal.{magic, key_text, field_text, fields_text, call_text, entry_head, entry_text, hold_text, journal_bytes, IsEntry}
+use Rattle.zy_journal.specs.Journal.{magic, key_text, field_text, fields_text, call_text, entry_head, entry_text}
+use Rattle.zy_journal.specs.Journal.{hold_text, journal_bytes, IsEntry}
 use Rattle.zy_journal_reader.specs.Steps.{journal_limit}
 use Rattle.zy_journal_reader.specs.Verdict.{IsReadable, SpellsJournal}
 
@@ -36,8 +40,8 @@ last_after before [] = before
 last_after before (x ∷ xs) = last_after (Some x) xs
 
 -- the last one of a list, if there is one
-abbrev pub last_of : {X : Type 0} → List X → Option X
-last_of xs = last_after None xs
+abbrev pub last_one : {X : Type 0} → List X → Option X
+last_one xs = last_after None xs
 
 -- ---- fields
 
@@ -48,10 +52,10 @@ pub data Shape : Type 0 where
   Eight : Shape
 
 -- the bytes of a field
-abbrev pub spelled : Shape → ℕ → List ℕ
-spelled One n = n ∷ []
-spelled Four n = to_be_bytes w32 n
-spelled Eight n = to_be_bytes w64 n
+abbrev pub number_text : Shape → ℕ → List ℕ
+number_text One n = n ∷ []
+number_text Four n = to_be_bytes w32 n
+number_text Eight n = to_be_bytes w64 n
 
 -- the numbers that a field can have are below this
 abbrev pub range : Shape → ℕ
@@ -202,12 +206,12 @@ pub record IsBadEntry (text : List ℕ) (at : ℕ) : Type 0 where
   pub number : ℕ
   pub tag_at : ℕ
   pub rest : List ℕ
-  pub front : GoesOn text journal tag_at (before field entry ++ (spelled (shape_of field) number ++ rest))
-  pub lawful : IsLawfulUpTo field (last_of journal.entries) entry
-  pub wrong : IsLawful field (last_of journal.entries) entry number → ⊥
+  pub front : GoesOn text journal tag_at (before field entry ++ (number_text (shape_of field) number ++ rest))
+  pub lawful : IsLawfulUpTo field (last_one journal.entries) entry
+  pub wrong : IsLawful field (last_one journal.entries) entry number → ⊥
   pub fits : number < range (shape_of field)
   pub place : at ≡ tag_at + length (before field entry)
-  pub within : at + length (spelled (shape_of field) number) ≤ journal_limit
+  pub within : at + length (number_text (shape_of field) number) ≤ journal_limit
 
 -- the number in a field of a hold is not lawful; what comes before it is
 pub record IsBadHold (text : List ℕ) (at : ℕ) : Type 0 where
@@ -218,8 +222,8 @@ pub record IsBadHold (text : List ℕ) (at : ℕ) : Type 0 where
   pub tag_at : ℕ
   pub rest : List ℕ
   pub front : GoesOn text journal tag_at (before_in_hold field hold ++ (to_be_bytes w32 number ++ rest))
-  pub lawful : IsHoldUpTo field (last_of journal.holds) hold
-  pub wrong : IsLawfulInHold field (last_of journal.holds) number → ⊥
+  pub lawful : IsHoldUpTo field (last_one journal.holds) hold
+  pub wrong : IsLawfulInHold field (last_one journal.holds) number → ⊥
   pub fits : number < 2 ^ 32
   pub place : at ≡ tag_at + length (before_in_hold field hold)
   pub within : at + 4 ≤ journal_limit
