@@ -12,7 +12,7 @@ use Rattle.zy_capture.specs.Replies.{replies_limit}
 use Rattle.zy_capture.specs.RepliesSteps.{Progress, start, is_open}
 use Rattle.zy_capture.specs.RepliesVerdict.{Verdict, read_from, verdict}
 use Rattle.zy_capture.specs.RepliesVerdict.Verdict.{Good, Bad}
-use Rattle.zy_capture.specs.RepliesFaults.{IsWrong, IsBegun, HasFault}
+use Rattle.zy_capture.specs.RepliesFaults.{IsBegun, HasFault}
 use Rattle.zy_capture.proofs.RepliesWholeLemmas.{IsReadTo, read_whole, good_spells}
 use Rattle.zy_capture.proofs.RepliesSpelledLemmas.{spells_good}
 use Rattle.zy_capture.proofs.RepliesFaultLemmas.{IsCut, IsOverlong, begun, bad_has}

@@ -23,11 +23,11 @@ use Rattle.zy_read.specs.Standing.{StandsAs}
 use Rattle.zy_capture.specs.RepliesVerdict.{Verdict, read_from, ended, verdict, fault_in, fault_of, is_good, replies}
 use Rattle.zy_capture.specs.RepliesVerdict.Verdict.{Bad}
 use Rattle.zy_capture.specs.RepliesStanding.{StandsForReplies}
-use Rattle.zy_capture.specs.RepliesFaults.{BeginsMagic, connections_after, sessions_after, IsLawfulConnection, IsLawfulSession, IsWrong}
+use Rattle.zy_capture.specs.RepliesFaults.{BeginsMagic, connections_after, sessions_after, IsWrong}
 use Rattle.zy_capture.proofs.ByteLemmas.{chosen, bytes_on, byte_at}
 use Rattle.zy_read.proofs.Feeding.{fed_step, read_broken, verdict_here, starts}
 use Rattle.zy_capture.specs.RepliesLasting.{lasting, is_broken}
-use Rattle.zy_capture.proofs.RepliesWholeLemmas.{front, IsField, IsFirst, Keeps, Parts, IsReadTo, four_is, from_step, read_whole, has_room}
+use Rattle.zy_capture.proofs.RepliesWholeLemmas.{front, IsField, Keeps, Parts, IsReadTo, four_is, from_step, read_whole, has_room}
 
 -- ---- faults by what was read
 

@@ -21,7 +21,7 @@ use Rattle.zy_read.specs.Standing.{StandsAs}
 use Rattle.zy_capture.specs.RepliesVerdict.{read_from, ended, verdict, fault_in, is_good, replies}
 use Rattle.zy_capture.specs.RepliesVerdict.Verdict.{Good, Bad}
 use Rattle.zy_capture.specs.RepliesStanding.{StandsForReplies}
-use Rattle.zy_capture.specs.RepliesFaults.{BeginsMagic, front_text, connections_after, sessions_after, IsLawfulConnection, IsBadMagic, IsBadTag, IsBadConnection, IsBadSession, IsTrailing, IsWrong}
+use Rattle.zy_capture.specs.RepliesFaults.{BeginsMagic, front_text, connections_after, sessions_after, IsBadMagic, IsBadTag, IsBadConnection, IsBadSession, IsTrailing, IsWrong}
 use Rattle.zy_capture.specs.RepliesLasting.{lasting}
 use Rattle.zy_read.proofs.Feeding.{fed_step, read_broken, lasts_by}
 use Rattle.zy_capture.proofs.RepliesWholeLemmas.{Parts, IsReadTo, read_whole}

@@ -18,7 +18,7 @@ use Rattle.zy_base.specs.declared.file_fault.FileFault.TheVariants.{Form}
 use Rattle.zy_capture.specs.declared.session_bytes.SessionBytes.{SessionBytes}
 use Rattle.zy_capture.specs.declared.replies_due.RepliesDue.{RepliesDue}
 use Rattle.zy_capture.specs.declared.replies_due.RepliesDue.TheVariants.{Magic, Tag, Connection, Session, Length, Output, Nothing, Broken}
-use Rattle.zy_capture.specs.Replies.{letters, magic, replies_limit}
+use Rattle.zy_capture.specs.Replies.{letters}
 use Rattle.zy_capture.specs.RepliesSteps.{Progress, Step, start, goes, refuses, after_magic, may_come, due_session, taken, is_full, step}
 use Rattle.zy_capture.specs.RepliesVerdict.{replies, read_from, version_in, version_of}
 use Rattle.zy_capture.specs.RepliesLasting.{lasting}

@@ -10,7 +10,6 @@ use Rattle.zy_read.specs.declared.magic.MagicPart.{MagicPart}
 use Rattle.zy_read.specs.declared.magic.MagicPart.TheVariants.{Letters, Digit, LineFeed}
 use Rattle.zy_read.specs.declared.magic.MagicStep.{MagicStep}
 use Rattle.zy_read.specs.declared.magic.MagicStep.TheVariants.{Next, Whole, Wrong}
-use Rattle.zy_read.specs.Magic.{letter, digit, line_feed}
 use Rattle.zy_read.proofs.MagicLemmas.{letters_on}
 use Rattle.zy_read.specs.Lasting.{none_met}
 use Rattle.zy_read.specs.Format.{Reading, read_on, reading_of}
