@@ -39,9 +39,10 @@ use Rattle.zy_journal_reader.specs.Standing.{StandsForJournal}
 use Rattle.zy_journal_reader.specs.Steps.{Progress, Step, start, refuses, lawful_byte, lawful_number, lawful_long, after_byte, after_four, after_eight, after_bytes, four, eight, bytes, taken, is_open, is_full, step, journal_limit}
 use Rattle.zy_journal_reader.specs.Verdict.{Verdict, read_from, ended, verdict, fault_of, is_good, journals, journal_in, IsReadable, AreBytes}
 use Rattle.zy_journal_reader.specs.Verdict.Verdict.{Bad}
-use Rattle.zy_journal_reader.specs.Faults.{last_one, number_text, range, EntryField, shape_of, before, IsLawful, IsLawfulUpTo, HoldField, before_in_hold, IsLawfulInHold, IsHoldUpTo, IsBadMagic, IsBadEntry, IsBadHold, IsWrong}
-use Rattle.zy_journal_reader.specs.Faults.{EntryField as E}
-use Rattle.zy_journal_reader.specs.Faults.{HoldField as H}
+use Rattle.zy_journal_reader.specs.LawfulFields.{last_one, number_text, range, EntryField, shape_of, before, IsLawful, IsLawfulUpTo, HoldField, before_in_hold, IsLawfulInHold, IsHoldUpTo}
+use Rattle.zy_journal_reader.specs.Faults.{IsBadMagic, IsBadEntry, IsBadHold, IsWrong}
+use Rattle.zy_journal_reader.specs.LawfulFields.{EntryField as E}
+use Rattle.zy_journal_reader.specs.LawfulFields.{HoldField as H}
 use Rattle.zy_journal_reader.proofs.CallLemmas.{fields_in, call_in, key_bytes, flags_bytes, number_bytes, call_is}
 use Rattle.zy_journal_reader.proofs.SoFar as SoFar
 use Rattle.zy_journal_reader.proofs.SoFar.{front, head, Kept, Parts, IsReadTo}

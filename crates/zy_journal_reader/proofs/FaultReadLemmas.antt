@@ -33,9 +33,10 @@ use Rattle.zy_journal_reader.specs.Standing.{StandsForJournal}
 use Rattle.zy_journal_reader.specs.Steps.{Progress, Step, start, refuses, lawful_byte, lawful_number, lawful_long, after_byte, after_four, after_eight, is_open, step, journal_limit}
 use Rattle.zy_journal_reader.specs.Verdict.{read_from, ended, verdict, is_good, journals, IsReadable, SpellsJournal, AreBytes}
 use Rattle.zy_journal_reader.specs.Verdict.Verdict.{Good, Bad}
-use Rattle.zy_journal_reader.specs.Faults.{front_text, last_after, last_one, number_text, range, EntryField, shape_of, before, IsLawful, IsLawfulUpTo, HoldField, before_in_hold, IsLawfulInHold, IsHoldUpTo, IsBadMagic, IsBadTag, IsBadEntry, IsBadHold, IsTrailing, IsWrong}
-use Rattle.zy_journal_reader.specs.Faults.{EntryField as E}
-use Rattle.zy_journal_reader.specs.Faults.{HoldField as H}
+use Rattle.zy_journal_reader.specs.LawfulFields.{last_after, last_one, number_text, range, EntryField, shape_of, before, IsLawful, IsLawfulUpTo, HoldField, before_in_hold, IsLawfulInHold, IsHoldUpTo}
+use Rattle.zy_journal_reader.specs.Faults.{front_text, IsBadMagic, IsBadTag, IsBadEntry, IsBadHold, IsTrailing, IsWrong}
+use Rattle.zy_journal_reader.specs.LawfulFields.{EntryField as E}
+use Rattle.zy_journal_reader.specs.LawfulFields.{HoldField as H}
 use Rattle.zy_journal_reader.proofs.SoFar.{stamp_of, shard_of, conn_of, ComesAfter, Parts, IsReadTo}
 use Rattle.zy_journal_reader.proofs.PlaceLemmas.{place, halfway, Goes, both, goes_on, read_byte, one_byte, four_bytes}
 use Rattle.zy_journal_reader.proofs.GoesLemmas.{below_is, conn_is}

@@ -13,7 +13,7 @@ use Rattle.zy_base.proofs.CodeLemmas.{there}
 use Rattle.zy_journal_reader.specs.declared.draft.Draft.{Draft}
 use Rattle.zy_journal_reader.specs.declared.past.Past.{Past}
 use Rattle.zy_journal_reader.specs.Steps.{Progress}
-use Rattle.zy_journal_reader.specs.Faults.{last_one, IsNotBelow, IsNextEntry, IsNotFalling}
+use Rattle.zy_journal_reader.specs.LawfulFields.{last_one, IsNotBelow, IsNextEntry, IsNotFalling}
 use Rattle.zy_journal_reader.proofs.SoFar.{stamp_of, shard_of, conn_of, Kept, ComesAfter, HeadKnown}
 use Rattle.zy_journal_reader.proofs.SpelledLemmas.{entry_with}
 

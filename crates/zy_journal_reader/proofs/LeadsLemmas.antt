@@ -21,8 +21,8 @@ use Rattle.zy_journal_reader.specs.declared.due.NumberField.TheVariants as N
 use Rattle.zy_journal_reader.specs.declared.due.LongField.TheVariants as L
 use Rattle.zy_journal_reader.specs.Fields.{fresh, at_key, at_flags, at_number, at_value}
 use Rattle.zy_journal_reader.specs.Steps.{Progress}
-use Rattle.zy_journal_reader.specs.Faults.{before}
-use Rattle.zy_journal_reader.specs.Faults.{EntryField as E}
+use Rattle.zy_journal_reader.specs.LawfulFields.{before}
+use Rattle.zy_journal_reader.specs.LawfulFields.{EntryField as E}
 use Rattle.zy_journal_reader.proofs.SoFar.{ComesAfter}
 use Rattle.zy_journal_reader.proofs.PlaceLemmas.{Goes, both, one_byte, four_bytes, eight_bytes}
 use Rattle.zy_journal_reader.proofs.GoesLemmas.{below_is, stamp_is, shard_is, plain, known, call_goes, code_goes, key_there, flags_there, number_there}

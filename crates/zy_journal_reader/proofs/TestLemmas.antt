@@ -15,7 +15,7 @@ use Rattle.zy_journal_reader.specs.declared.past.Past.{Past}
 use Rattle.zy_journal_reader.specs.Steps.{four, eight, bytes}
 use Rattle.zy_base.specs.Bounds.{FitsEntry}
 use Rattle.zy_journal_reader.specs.Verdict.{AreBytes}
-use Rattle.zy_journal_reader.specs.Faults.{last_after}
+use Rattle.zy_journal_reader.specs.LawfulFields.{last_after}
 use Rattle.zy_journal_reader.proofs.SoFar.{front, ComesAfter, stamp_of, shard_of, conn_of, Kept, IsField}
 
 -- ---- tests
