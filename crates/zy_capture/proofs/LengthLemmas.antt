@@ -1,7 +1,7 @@
 -- How many bytes a replies file has, and how many bytes and sessions the streams of a capture have.
-use Rattle.std.proofs.Common.{◌≡◌, ℕ, ◌+◌, ◌*◌, ◌<◌, ◌≤◌, Bool, true, false, List, [], ◌∷◌, ◌++◌, length, length-append, refl, ap, ◌∙◌, sym, subst, arith}
-use Rattle.std.specs.Prelude.{flat_map, ◌==◌, if◌then◌else◌, replicate}
-use Rattle.std.specs.List.{AllByRecursion, sum_by, slice_set}
+use Rattle.std.proofs.Common.{◌≡◌, ℕ, ◌+◌, ◌*◌, ◌<◌, ◌≤◌, Bool, true, false, List, [], ◌∷◌, ◌++◌, length, length-append, ap, ◌∙◌, sym, arith}
+use Rattle.std.specs.Prelude.{flat_map, ◌==◌, if◌then◌else◌}
+use Rattle.std.specs.List.{AllByRecursion, sum_by}
 use Rattle.std.specs.Int.{to_be_bytes, w32, w64}
 use Rattle.std.proofs.lemmas.List.{length-set, length-replicate}
 use Rattle.std.proofs.lemmas.List.Sums.{sum_by-cons, sum_by_push, sum_by-set}
@@ -11,7 +11,7 @@ use Rattle.zy_capture.specs.declared.record.Record.TheVariants as Kinds
 use Rattle.zy_capture.specs.Outputs.{AllOutputs}
 use Rattle.zy_capture.specs.Replies.{magic, session_text, output_text, numbered_from, connection_text, replies_bytes}
 use Rattle.zy_capture.specs.Capture as Captures
-use Rattle.zy_capture.specs.Streams.{sessions_of, no_bytes, last_grown, grown, closed, with_record, with_records}
+use Rattle.zy_capture.specs.Streams.{sessions_of, no_bytes, last_grown, with_record, with_records}
 
 -- ---- replies files
 

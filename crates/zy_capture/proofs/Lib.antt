@@ -16,8 +16,12 @@ pub mod FaultWords
 pub mod FaultLemmas
 pub mod FaultReadLemmas
 pub mod BegunLemmas
+pub mod RepliesFaultLemmas
+pub mod RepliesFaultReadLemmas
+pub mod RepliesBegunLemmas
 pub mod SoFarLemmas
 pub mod RepliesSoFarLemmas
 pub mod AddLemmas
 pub mod TellLemmas
+pub mod RepliesTellLemmas
 pub mod LengthLemmas

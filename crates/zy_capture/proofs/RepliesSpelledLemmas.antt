@@ -11,6 +11,7 @@ use Rattle.zy_capture.specs.declared.replies_due.RepliesDue.{RepliesDue}
 use Rattle.zy_capture.specs.declared.replies_due.RepliesDue.TheVariants.{Tag, Connection, Session, Length, Output, Nothing}
 use Rattle.zy_capture.specs.Capture.{connection_limit}
 use Rattle.zy_capture.specs.Replies.{magic, session_text, spelled, spelling, IsNext, AreNumbers, AreInOrder, SpellsReplies, replies_limit}
+use Rattle.zy_capture.specs.RepliesFaults.{connections_after, sessions_after}
 use Rattle.zy_capture.specs.RepliesSteps.{Progress, Step, start, goes, gives, grows, connection, session, size_read, four, eight, output, taken, is_open, step}
 use Rattle.zy_read.specs.Format.{Reading, read_on, reading_of, verdict_on, with_front}
 use Rattle.zy_capture.specs.RepliesVerdict.{read_from, ended, verdict}
@@ -26,23 +27,23 @@ byte_of n worth = (n / worth) % 256
 -- ---- one byte
 
 -- a place where no number and no output is half read
-abbrev at_place : RepliesDue → ℕ → ℕ → ℕ → ℕ → Progress
+abbrev pub at_place : RepliesDue → ℕ → ℕ → ℕ → ℕ → Progress
 at_place due version connections sessions at =
     record { due = due; field = []; payload = []; version = version; connections = connections; sessions = sessions; at = at }
 
 -- a place where some bytes of a number are read
-abbrev halfway : RepliesDue → ℕ → ℕ → ℕ → ℕ → List ℕ → Progress
+abbrev pub halfway : RepliesDue → ℕ → ℕ → ℕ → ℕ → List ℕ → Progress
 halfway due version connections sessions at field =
     record { due = due; field = field; payload = []; version = version; connections = connections; sessions = sessions; at = at }
 
 -- what is read after a step
-abbrev goes_on : Step → List ℕ → Reading Progress SessionBytes
+abbrev pub goes_on : Step → List ℕ → Reading Progress SessionBytes
 goes_on s more = with_front s.gave (read_from s.next more)
 
 not_full : (is : Bool) (at : ℕ) → at < replies_limit → (is && nat_le replies_limit at) ≡ false
 not_full is at room = grind (arith, nat_tests)
 
-read_byte : (p : Progress) (byte : ℕ) (more : List ℕ) → p.at < replies_limit → read_from p (byte ∷ more) ≡ goes_on (taken p.due p byte) more
+pub read_byte : (p : Progress) (byte : ℕ) (more : List ℕ) → p.at < replies_limit → read_from p (byte ∷ more) ≡ goes_on (taken p.due p byte) more
 unfolding read_on
 read_byte p byte more room =
     let open_step : step p byte ≡ taken p.due p byte = rw (not_full (is_open p.due) p.at room) refl in
@@ -51,7 +52,7 @@ read_byte p byte more room =
 -- ---- numbers
 
 -- a number of four bytes is expected, and judged in this way
-abbrev IsFour : RepliesDue → (Progress → ℕ → Step) → Type 0
+abbrev pub IsFour : RepliesDue → (Progress → ℕ → Step) → Type 0
 IsFour due judged = (p : Progress) (byte : ℕ) → taken due p byte ≡ four due judged p byte
 
 -- a number of eight bytes is expected, and judged in this way
@@ -59,11 +60,11 @@ abbrev IsEight : RepliesDue → (Progress → ℕ → Step) → Type 0
 IsEight due judged = (p : Progress) (byte : ℕ) → taken due p byte ≡ eight due judged p byte
 
 -- a number that is read is the one that was written
-record IsRead (judged : Progress → ℕ → Step) (due : RepliesDue) (version connections sessions at last n : ℕ) (text more : List ℕ) : Type 0 where
-  field : List ℕ
-  reads : read_from (at_place due version connections sessions at) (text ++ more) ≡ goes_on (judged (halfway due version connections sessions last field) n) more
+pub record IsRead (judged : Progress → ℕ → Step) (due : RepliesDue) (version connections sessions at last n : ℕ) (text more : List ℕ) : Type 0 where
+  pub field : List ℕ
+  pub reads : read_from (at_place due version connections sessions at) (text ++ more) ≡ goes_on (judged (halfway due version connections sessions last field) n) more
 
-read_four : (judged : Progress → ℕ → Step) (due : RepliesDue) (version connections sessions at n : ℕ) (more : List ℕ) → IsFour due judged → at + 3 < replies_limit → n < 2 ^ 32
+pub read_four : (judged : Progress → ℕ → Step) (due : RepliesDue) (version connections sessions at n : ℕ) (more : List ℕ) → IsFour due judged → at + 3 < replies_limit → n < 2 ^ 32
     → IsRead judged due version connections sessions at (at + 3) n (to_be_bytes w32 n) more
 read_four judged due version connections sessions at n more is room small =
     let a : ℕ = byte_of n 16777216 in let b : ℕ = byte_of n 65536 in let c : ℕ = byte_of n 256 in let d : ℕ = n % 256 in
@@ -152,23 +153,23 @@ read_rest conn number version connections sessions at (byte ∷ bytes) more room
 
 -- ---- records
 
-may : (version connections sessions conn number : ℕ) → conn < connection_limit → IsNext version connections sessions conn number
+pub may : (version connections sessions conn number : ℕ) → conn < connection_limit → IsNext version connections sessions conn number
     → (nat_lt conn connection_limit && (conn == connections || (version == 2 && conn + 1 == connections))) ≡ true
 may version connections sessions conn number below next = grind (arith, nat_tests)
 
 -- after the connection of a record, in version 2
-connection_two : (p : Progress) (conn number : ℕ) → conn < connection_limit → p.version ≡ 2 → IsNext p.version p.connections p.sessions conn number → connection p conn ≡ goes p (Session conn)
+pub connection_two : (p : Progress) (conn number : ℕ) → conn < connection_limit → p.version ≡ 2 → IsNext p.version p.connections p.sessions conn number → connection p conn ≡ goes p (Session conn)
 connection_two p conn number below two next = rw (may p.version p.connections p.sessions conn number below next, two) refl
 
 -- and in version 1
 connection_one : (p : Progress) (conn number : ℕ) → conn < connection_limit → p.version ≡ 1 → IsNext p.version p.connections p.sessions conn number → connection p conn ≡ goes p (Length conn 0)
 connection_one p conn number below one next = rw (may p.version p.connections p.sessions conn number below next, one) refl
 
-due : (version connections sessions conn number : ℕ) → number < 2 ^ 31 → IsNext version connections sessions conn number
+pub due : (version connections sessions conn number : ℕ) → number < 2 ^ 31 → IsNext version connections sessions conn number
     → (number == (if conn == connections then 0 else sessions) && nat_lt number (2 ^ 31)) ≡ true
 due version connections sessions conn number below next = grind (arith, nat_tests)
 
-session_two : (p : Progress) (conn number : ℕ) → number < 2 ^ 31 → IsNext p.version p.connections p.sessions conn number → session conn p number ≡ goes p (Length conn number)
+pub session_two : (p : Progress) (conn number : ℕ) → number < 2 ^ 31 → IsNext p.version p.connections p.sessions conn number → session conn p number ≡ goes p (Length conn number)
 session_two p conn number below next = rw (due p.version p.connections p.sessions conn number below next) refl
 
 no_session : (version connections sessions conn number : ℕ) → version ≡ 1 → IsNext version connections sessions conn number → number ≡ 0
@@ -215,20 +216,24 @@ read_record item version connections sessions at stop more (inr two) next number
     ∙ ap (λ (k : ℕ). with_front (Some item) (read_from (at_place Tag version (item.conn + 1) (item.session + 1) k) more)) (omega arith)
 
 -- outputs in front of a reading
-abbrev with_outputs : List SessionBytes → Reading Progress SessionBytes → Reading Progress SessionBytes
+abbrev pub with_outputs : List SessionBytes → Reading Progress SessionBytes → Reading Progress SessionBytes
 with_outputs items r = record { given = items ++ r.given; last = r.last }
 
 -- what is read up to the end byte, after some connections and sessions
-record ReadsAll (version connections sessions at stop : ℕ) (items : List SessionBytes) : Type 0 where
-  connections_then : ℕ
-  sessions_then : ℕ
-  reads : (more : List ℕ) → read_from (at_place Tag version connections sessions at) (flat_map (spelled version) items ++ more) ≡ with_outputs items (read_from (at_place Tag version connections_then sessions_then stop) more)
+pub record ReadsAll (version connections sessions at stop : ℕ) (items : List SessionBytes) : Type 0 where
+  pub connections_then : ℕ
+  pub sessions_then : ℕ
+  pub connections_are : connections_then ≡ connections_after connections items
+  pub sessions_are : sessions_then ≡ sessions_after sessions items
+  pub reads : (more : List ℕ) → read_from (at_place Tag version connections sessions at) (flat_map (spelled version) items ++ more) ≡ with_outputs items (read_from (at_place Tag version connections_then sessions_then stop) more)
 
-read_records : (items : List SessionBytes) (version connections sessions at stop : ℕ) → (version ≡ 1) ⊎ (version ≡ 2) → AreInOrder version connections sessions items
+pub read_records : (items : List SessionBytes) (version connections sessions at stop : ℕ) → (version ≡ 1) ⊎ (version ≡ 2) → AreInOrder version connections sessions items
     → stop ≡ at + length (flat_map (spelled version) items) → stop ≤ replies_limit → ReadsAll version connections sessions at stop items
 read_records [] version connections sessions at stop known ordered stops room = record {
   connections_then = connections;
   sessions_then = sessions;
+  connections_are = refl;
+  sessions_are = refl;
   reads = λ more. ap (λ (k : ℕ). read_from (at_place Tag version connections sessions k) more) (omega arith);
 }
 read_records (item ∷ items) version connections sessions at stop known ordered stops room =
@@ -239,6 +244,8 @@ read_records (item ∷ items) version connections sessions at stop known ordered
     record {
       connections_then = rest.connections_then;
       sessions_then = rest.sessions_then;
+      connections_are = rest.connections_are;
+      sessions_are = rest.sessions_are;
       reads = λ more.
           ap (λ (l : List ℕ). read_from (at_place Tag version connections sessions at) l) (append_assoc (spelled version item) (flat_map (spelled version) items) more)
           ∙ read_record item version connections sessions at middle (flat_map (spelled version) items ++ more) known ordered.0 ordered.1 refl (omega (arith, further, room))
@@ -251,7 +258,7 @@ read_end : (version connections sessions at : ℕ) → goes_on (goes (at_place T
 unfolding read_on
 read_end version connections sessions at = refl
 
-read_magic : (version : ℕ) (more : List ℕ) → (version ≡ 1) ⊎ (version ≡ 2) → read_from start (magic version ++ more) ≡ read_from (at_place Tag version 0 0 8) more
+pub read_magic : (version : ℕ) (more : List ℕ) → (version ≡ 1) ⊎ (version ≡ 2) → read_from start (magic version ++ more) ≡ read_from (at_place Tag version 0 0 8) more
 unfolding read_on
 read_magic version more (inl one) = rw one refl
 read_magic version more (inr two) = rw two refl

@@ -12,6 +12,7 @@ use Rattle.zy_capture.specs.declared.replies_due.RepliesDue.{RepliesDue}
 use Rattle.zy_capture.specs.declared.replies_due.RepliesDue.TheVariants.{Magic, Tag, Connection, Session, Length, Output, Nothing, Broken}
 use Rattle.zy_capture.specs.Capture.{AreBytes, connection_limit}
 use Rattle.zy_capture.specs.Replies.{letters, magic, session_text, spelled, spelling, IsNext, AreNumbers, AreInOrder, SpellsReplies, replies_limit}
+use Rattle.zy_capture.specs.RepliesFaults.{connections_after, sessions_after}
 use Rattle.zy_capture.specs.RepliesSteps.{Progress, Step, start, goes, gives, keeps, grows, after_magic, tag, may_come, due_session, connection, session, size_read, four, eight, output, taken, is_open, is_full, step}
 use Rattle.zy_read.specs.declared.magic.MagicPart.{MagicPart}
 use Rattle.zy_read.specs.declared.magic.MagicStep.{MagicStep}
@@ -24,16 +25,6 @@ use Rattle.zy_capture.specs.RepliesVerdict.Verdict.{Good}
 use Rattle.zy_capture.proofs.ByteLemmas.{bytes_on, byte_at, positive, chosen, counted, on_part, assoc_twice}
 
 -- ---- what was read
-
--- how many connections there are after these outputs, where there were some before
-abbrev pub connections_after : ℕ → List SessionBytes → ℕ
-connections_after connections [] = connections
-connections_after connections (item ∷ items) = connections_after (item.conn + 1) items
-
--- how many sessions the last connection has after these outputs, where the last one before had some
-abbrev pub sessions_after : ℕ → List SessionBytes → ℕ
-sessions_after sessions [] = sessions
-sessions_after sessions (item ∷ items) = sessions_after (item.session + 1) items
 
 -- the bytes that lead to the records of a file
 abbrev pub front : Progress → List SessionBytes → List ℕ
@@ -193,7 +184,7 @@ field_on : (most : ℕ) (field : List ℕ) (byte : ℕ) → IsField most field �
 field_on most field byte is small short = (omega (arith, length-append field (byte ∷ [])), bytes_on field byte is.1 small)
 
 -- the last byte of a number
-four_is : (field : List ℕ) (byte : ℕ) → IsField 3 field → byte < 256 → 3 ≤ length field → to_be_bytes w32 (from_be_bytes w32 (field ++ byte ∷ [])) ≡ field ++ byte ∷ []
+pub four_is : (field : List ℕ) (byte : ℕ) → IsField 3 field → byte < 256 → 3 ≤ length field → to_be_bytes w32 (from_be_bytes w32 (field ++ byte ∷ [])) ≡ field ++ byte ∷ []
 four_is field byte is small long =
     be_bytes_4 (field ++ byte ∷ []) (from_be_bytes w32 (field ++ byte ∷ [])) (omega (arith, length-append field (byte ∷ []), is.0)) (byte_at (field ++ byte ∷ []) (bytes_on field byte is.1 small)) refl
 
@@ -349,10 +340,10 @@ from_taken Nothing p given text byte is small room read = tt
 from_taken (Broken fault) p given text byte is small room read =
     subst (λ (d : RepliesDue). IsReadTo d p (given ++ []) (text ++ byte ∷ [])) (sym is) tt
 
-has_room : (due : RepliesDue) (at : ℕ) → (is_open due && nat_le replies_limit at) ≡ false → is_open due ≡ true → at < replies_limit
+pub has_room : (due : RepliesDue) (at : ℕ) → (is_open due && nat_le replies_limit at) ≡ false → is_open due ≡ true → at < replies_limit
 has_room due at full open_still = grind (arith, nat_tests)
 
-from_step : (p : Progress) (given : List SessionBytes) (text : List ℕ) (byte : ℕ) → byte < 256 → IsReadTo p.due p given text → Leads given text byte (step p byte)
+pub from_step : (p : Progress) (given : List SessionBytes) (text : List ℕ) (byte : ℕ) → byte < 256 → IsReadTo p.due p given text → Leads given text byte (step p byte)
 from_step p given text byte small read =
     chosen (Leads given text byte) (is_full p) _ _
     (λ full. tt)

@@ -59,7 +59,7 @@ read_digit p byte more is room = read_byte p byte more room ∙ ap (λ (s : Step
 abbrev pub halfway : Due → ℕ → ℕ → ℕ → List ℕ → Progress
 halfway due version count at field = record { due = due; field = field; payload = []; version = version; count = count; at = at }
 
-read_four : (due : Due) (version count at a b c d : ℕ) (more : List ℕ) → IsNumber due → at + 3 < capture_limit
+pub read_four : (due : Due) (version count at a b c d : ℕ) (more : List ℕ) → IsNumber due → at + 3 < capture_limit
     → read_from (at_place due version count at) (a ∷ b ∷ c ∷ d ∷ more) ≡ goes_on (judged due (halfway due version count (at + 3) (a ∷ b ∷ c ∷ [])) (from_be_bytes w32 (a ∷ b ∷ c ∷ d ∷ []))) more
 read_four due version count at a b c d more is room =
     let third : at + 1 + 1 + 1 ≡ at + 3 = omega arith in

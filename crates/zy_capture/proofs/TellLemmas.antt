@@ -1,15 +1,17 @@
 -- The version and the count that are read of a text are those with which it begins.
-use Rattle.std.proofs.Common.{◌≡◌, ◌≢◌, ◌⊎◌, inl, inr, ℕ, ◌+◌, ◌<◌, true, false, List, [], ◌∷◌, ◌++◌, length, take, refl, sym, ◌∙◌, ap, subst, arith, append_assoc}
+use Rattle.std.proofs.Common.{◌≡◌, ◌≢◌, ◌⊎◌, inl, inr, ℕ, ◌+◌, ◌<◌, ◌≤◌, true, false, List, [], ◌∷◌, ◌++◌, length, take, refl, sym, ◌∙◌, ap, subst, arith, append_assoc}
 use Rattle.std.specs.Prelude.{◌==◌, ◌&&◌, nat_lt, None, Some, ⊤}
 use Rattle.std.specs.List.{slice_index}
 use Rattle.std.specs.Int.{to_be_bytes, from_be_bytes, w32}
-use Rattle.std.proofs.lemmas.Bool.{eqb-true}
+use Rattle.std.proofs.lemmas.Bool.{eqb-true, ltb-false}
 use Rattle.std.proofs.lemmas.Bool.Decides.{nat_tests}
+use Rattle.std.proofs.lemmas.Nat.{be_bytes_4}
+use Rattle.zy_read.specs.declared.magic.MagicPart.{MagicPart}
 use Rattle.zy_read.specs.declared.magic.MagicPart.TheVariants.{Letters, Digit, LineFeed}
 use Rattle.zy_read.specs.declared.magic.MagicStep.{MagicStep}
 use Rattle.zy_read.specs.declared.magic.MagicStep.TheVariants.{Next, Whole, Wrong}
-use Rattle.zy_read.specs.Magic.{letter, digit, line_feed}
 use Rattle.zy_read.proofs.MagicLemmas.{letters_on}
+use Rattle.zy_read.specs.Lasting.{none_met}
 use Rattle.zy_read.specs.Format.{Reading, read_on, reading_of}
 use Rattle.zy_read.proofs.Feeding.{read_broken}
 use Rattle.zy_capture.specs.declared.record.Record.{Record}
@@ -17,13 +19,13 @@ use Rattle.zy_capture.specs.declared.capture_fault.CaptureFault.{CaptureFault}
 use Rattle.zy_capture.specs.declared.capture_fault.CaptureFault.TheVariants.{BadMagic, ConnCount}
 use Rattle.zy_capture.specs.declared.due.Due.{Due}
 use Rattle.zy_capture.specs.declared.due.Due.TheVariants.{Magic, Count, Tag, Connection, Length, Payload, Closed, Nothing, Broken}
-use Rattle.zy_capture.specs.Capture.{letters, connection_limit, segment_limit}
-use Rattle.zy_capture.specs.Steps.{Progress, Step, start, goes, refuses, after_magic, taken, is_full, step}
+use Rattle.zy_capture.specs.Capture.{AreBytes, letters, magic, connection_limit, segment_limit, capture_limit}
+use Rattle.zy_capture.specs.Steps.{Progress, Step, start, goes, refuses, after_magic, judged, taken, is_full, step}
 use Rattle.zy_capture.specs.Verdict.{captures, read_from, version_in, version_of, count_in, count_of}
 use Rattle.zy_capture.specs.SoFar.{BeginsWithMagic, BeginsWithCount}
-use Rattle.zy_capture.proofs.ByteLemmas.{chosen}
+use Rattle.zy_capture.proofs.ByteLemmas.{chosen, byte_at}
 use Rattle.zy_capture.specs.Lasting.{lasting}
-use Rattle.zy_capture.proofs.SpelledLemmas.{at_place, goes_on, halfway, read_byte, read_number, read_magic, count_read}
+use Rattle.zy_capture.proofs.SpelledLemmas.{at_place, goes_on, halfway, read_byte, read_four, read_number, read_magic, count_read}
 
 -- ---- what stays
 
@@ -131,62 +133,69 @@ count_told text count begins =
 
 -- ---- what is read is what a text begins with
 
--- the place after some letters
-abbrev letters_at : ℕ → Progress
-letters_at at = at_place (Magic Letters) 0 0 at
+-- what is so where a text ends is not so within its magic, nor where that is refused
+record IsPastMagic (Q : Progress → Type 0) : Type 0 where
+  no_part : (part : MagicPart) (at : ℕ) → Q (at_place (Magic part) 0 0 at) → ⊥
+  no_fault : (place at : ℕ) → Q (at_place (Broken (BadMagic place)) 0 0 at) → ⊥
+
+-- the text begins with a magic, and this is so where the rest ends
+record IsAfterMagic (Q : Progress → Type 0) (text : List ℕ) : Type 0 where
+  version : ℕ
+  rest : List ℕ
+  known : (version ≡ 1) ⊎ (version ≡ 2)
+  whole : text ≡ magic version ++ rest
+  holds : Q (read_from (at_place Count version 0 8) rest).last
 
 -- nothing is read after a refusal in the magic
-refused_none : (p : Progress) (fault : CaptureFault) (more : List ℕ) (version : ℕ) → p.version ≡ 0 → (goes_on (refuses p fault) more).last.version ≡ version → version ≡ 0
-refused_none p fault more version none is =
-    sym is ∙ ap (λ (r : Reading Progress Record). r.last.version) (read_broken captures lasting (refuses p fault).next fault more refl) ∙ none
+refused_last : (p : Progress) (fault : CaptureFault) (more : List ℕ) → (goes_on (refuses p fault) more).last ≡ (refuses p fault).next
+refused_last p fault more = ap (λ (r : Reading Progress Record). r.last) (read_broken captures lasting (refuses p fault).next fault more refl)
 
-from_line : (found : ℕ) (text : List ℕ) (version : ℕ) → (found ≡ 1) ⊎ (found ≡ 2) → version ≢ 0 → (read_from (at_place (Magic (LineFeed found)) 0 0 7) text).last.version ≡ version → BeginsWithMagic ((letters ++ (48 + found) ∷ []) ++ text) version
+-- a byte is read
+step_on : (Q : Progress → Type 0) (p : Progress) (byte : ℕ) (text : List ℕ) → p.at < capture_limit → Q (read_from p (byte ∷ text)).last → Q (goes_on (taken p.due p byte) text).last
+step_on Q p byte text room is = subst (λ (r : Reading Progress Record). Q r.last) (read_byte p byte text room) is
+
+from_line : (Q : Progress → Type 0) (found : ℕ) (text : List ℕ) → IsPastMagic Q → (found ≡ 1) ⊎ (found ≡ 2) → Q (read_from (at_place (Magic (LineFeed found)) 0 0 7) text).last → IsAfterMagic Q ((letters ++ (48 + found) ∷ []) ++ text)
 unfolding read_on
-from_line found [] version known some is = absurd (some (sym is))
-from_line found (byte ∷ text) version known some is =
+from_line Q found [] past known is = absurd (past.no_part (LineFeed found) 7 is)
+from_line Q found (byte ∷ text) past known is =
     let p : Progress = at_place (Magic (LineFeed found)) 0 0 7 in
-    let on : (goes_on (after_magic p (line_feed found byte)) text).last.version ≡ version = ap (λ (r : Reading Progress Record). r.last.version) (sym (read_byte p byte text (omega arith))) ∙ is in
-    chosen (λ (s : MagicStep). (goes_on (after_magic p s) text).last.version ≡ version → BeginsWithMagic ((letters ++ (48 + found) ∷ []) ++ byte ∷ text) version) (byte == 10) (Whole found) Wrong
-    (λ same here.
-    let found_is : found ≡ version = sym (version_kept text (goes (record p { version = found }) Count).next tt) ∙ here in
-    record {
-      rest = text;
-      known = subst (λ (v : ℕ). (v ≡ 1) ⊎ (v ≡ 2)) found_is known;
-      whole = ap (λ (b : ℕ). (letters ++ (48 + found) ∷ []) ++ b ∷ text) (eqb-true byte 10 same) ∙ ap (λ (v : ℕ). (letters ++ (48 + v) ∷ []) ++ 10 ∷ text) found_is;
-    })
-    (λ differs here. absurd (some (refused_none p (BadMagic 7) text version refl here)))
-    on
+    let A : MagicStep → Type 0 = λ s. Q (goes_on (after_magic p s) text).last → IsAfterMagic Q ((letters ++ (48 + found) ∷ []) ++ byte ∷ text) in
+    chosen A (byte == 10) (Whole found) Wrong
+    (λ same here. record { version = found; rest = text; known = known; whole = ap (λ (b : ℕ). (letters ++ (48 + found) ∷ []) ++ b ∷ text) (eqb-true byte 10 same); holds = here })
+    (λ differs here. absurd (past.no_fault 7 7 (subst Q (refused_last p (BadMagic 7) text) here)))
+    (step_on Q p byte text (omega arith) is)
 
-from_digit_on : (text : List ℕ) (version : ℕ) → version ≢ 0 → (read_from (at_place (Magic Digit) 0 0 6) text).last.version ≡ version → BeginsWithMagic (letters ++ text) version
+from_digit_on : (Q : Progress → Type 0) (text : List ℕ) → IsPastMagic Q → Q (read_from (at_place (Magic Digit) 0 0 6) text).last → IsAfterMagic Q (letters ++ text)
 unfolding read_on
-from_digit_on [] version some is = absurd (some (sym is))
-from_digit_on (byte ∷ text) version some is =
+from_digit_on Q [] past is = absurd (past.no_part Digit 6 is)
+from_digit_on Q (byte ∷ text) past is =
     let p : Progress = at_place (Magic Digit) 0 0 6 in
-    let on : (goes_on (after_magic p (digit byte)) text).last.version ≡ version = ap (λ (r : Reading Progress Record). r.last.version) (sym (read_byte p byte text (omega arith))) ∙ is in
-    chosen (λ (s : MagicStep). (goes_on (after_magic p s) text).last.version ≡ version → BeginsWithMagic (letters ++ byte ∷ text) version) (byte == 49) (Next (LineFeed 1)) _
-    (λ one here. subst (λ (b : ℕ). BeginsWithMagic (letters ++ b ∷ text) version) (sym (eqb-true byte 49 one)) (from_line 1 text version (inl refl) some here))
-    (λ not_one. chosen (λ (s : MagicStep). (goes_on (after_magic p s) text).last.version ≡ version → BeginsWithMagic (letters ++ byte ∷ text) version) (byte == 50) (Next (LineFeed 2)) Wrong
-    (λ two here. subst (λ (b : ℕ). BeginsWithMagic (letters ++ b ∷ text) version) (sym (eqb-true byte 50 two)) (from_line 2 text version (inr refl) some here))
-    (λ neither here. absurd (some (refused_none p (BadMagic 6) text version refl here))))
-    on
+    let A : MagicStep → Type 0 = λ s. Q (goes_on (after_magic p s) text).last → IsAfterMagic Q (letters ++ byte ∷ text) in
+    chosen A (byte == 49) (Next (LineFeed 1)) _
+    (λ one here. subst (λ (b : ℕ). IsAfterMagic Q (letters ++ b ∷ text)) (sym (eqb-true byte 49 one)) (from_line Q 1 text past (inl refl) here))
+    (λ not_one. chosen A (byte == 50) (Next (LineFeed 2)) Wrong
+    (λ two here. subst (λ (b : ℕ). IsAfterMagic Q (letters ++ b ∷ text)) (sym (eqb-true byte 50 two)) (from_line Q 2 text past (inr refl) here))
+    (λ neither here. absurd (past.no_fault 6 6 (subst Q (refused_last p (BadMagic 6) text) here))))
+    (step_on Q p byte text (omega arith) is)
 
-from_letters_on : (text : List ℕ) (at version : ℕ) → at < 6 → version ≢ 0 → (read_from (letters_at at) text).last.version ≡ version → BeginsWithMagic (take at letters ++ text) version
+from_letters_on : (Q : Progress → Type 0) (text : List ℕ) (at : ℕ) → at < 6 → IsPastMagic Q → Q (read_from (at_place (Magic Letters) 0 0 at) text).last → IsAfterMagic Q (take at letters ++ text)
 unfolding read_on
-from_letters_on [] at version within some is = absurd (some (sym is))
-from_letters_on (byte ∷ text) at version within some is =
-    let p : Progress = letters_at at in
-    let on : (goes_on (after_magic p (letter letters at byte)) text).last.version ≡ version = ap (λ (r : Reading Progress Record). r.last.version) (sym (read_byte p byte text (omega (arith, within)))) ∙ is in
-    let B : List ℕ → Type 0 = λ l. BeginsWithMagic l version in
-    chosen (λ (s : MagicStep). (goes_on (after_magic p s) text).last.version ≡ version → B (take at letters ++ byte ∷ text)) (byte == slice_index letters at) _ Wrong
+from_letters_on Q [] at within past is = absurd (past.no_part Letters at is)
+from_letters_on Q (byte ∷ text) at within past is =
+    let p : Progress = at_place (Magic Letters) 0 0 at in
+    let A : MagicStep → Type 0 = λ s. Q (goes_on (after_magic p s) text).last → IsAfterMagic Q (take at letters ++ byte ∷ text) in
+    chosen A (byte == slice_index letters at) _ Wrong
     (λ same.
     let grown : take at letters ++ byte ∷ text ≡ take (at + 1) letters ++ text = sym (append_assoc (take at letters) (byte ∷ []) text) ∙ ap (λ (l : List ℕ). l ++ text) (letters_on letters at byte within (eqb-true byte (slice_index letters at) same)) in
-    chosen (λ (s : MagicStep). (goes_on (after_magic p s) text).last.version ≡ version → B (take at letters ++ byte ∷ text)) (at == 5) (Next Digit) (Next Letters)
+    chosen A (at == 5) (Next Digit) (Next Letters)
     (λ last here.
     let five : at ≡ 5 = eqb-true at 5 last in
-    subst B (sym (grown ∙ ap (λ (n : ℕ). take (n + 1) letters ++ text) five)) (from_digit_on text version some (ap (λ (n : ℕ). (read_from (at_place (Magic Digit) 0 0 (n + 1)) text).last.version) (sym five) ∙ here)))
-    (λ more here. subst B (sym grown) (from_letters_on text (at + 1) version (grind (arith, nat_tests, within)) some here)))
-    (λ differs here. absurd (some (refused_none p (BadMagic at) text version refl here)))
-    on
+    subst (IsAfterMagic Q) (sym (grown ∙ ap (λ (n : ℕ). take (n + 1) letters ++ text) five)) (from_digit_on Q text past (subst (λ (n : ℕ). Q (read_from (at_place (Magic Digit) 0 0 (n + 1)) text).last) five here)))
+    (λ more here. subst (IsAfterMagic Q) (sym grown) (from_letters_on Q text (at + 1) (grind (arith, nat_tests, within)) past here)))
+    (λ differs here. absurd (past.no_fault at at (subst Q (refused_last p (BadMagic at) text) here)))
+    (step_on Q p byte text (omega (arith, within)) is)
+
+-- ---- the version
 
 version_some : (found version : ℕ) → version_in found ≡ Some version → (found ≡ version) × (version ≢ 0)
 version_some found version is = elim (found == 0) as (λ t. (found == 0) ≡ t → (found ≡ version) × (version ≢ 0)) [
@@ -200,4 +209,55 @@ pub told_magic : (text : List ℕ) (version : ℕ) → version_of text ≡ Some 
 unfolding version_of reading_of
 told_magic text version is =
     let told = version_some (read_from start text).last.version version is in
-    from_letters_on text 0 version (omega arith) told.1 told.0
+    let some : version ≢ 0 = told.1 in
+    let after = from_letters_on (λ p. p.version ≡ version) text 0 (omega arith) (record { no_part = λ part at none. some (sym none); no_fault = λ place at none. some (sym none) }) told.0 in
+    let same : after.version ≡ version = sym (version_kept after.rest (at_place Count after.version 0 8) tt) ∙ after.holds in
+    record { rest = after.rest; known = subst (λ (v : ℕ). (v ≡ 1) ⊎ (v ≡ 2)) same after.known; whole = after.whole ∙ ap (λ (v : ℕ). magic v ++ after.rest) same }
+
+-- ---- the count
+
+-- a text begins with this count
+record IsCountRead (rest : List ℕ) (count : ℕ) : Type 0 where
+  more : List ℕ
+  few : count ≤ connection_limit
+  whole : rest ≡ to_be_bytes w32 count ++ more
+
+all_back : (x y : List ℕ) → AreBytes (x ++ y) → AreBytes y
+all_back [] y all = all
+all_back (byte ∷ x) y all = all_back x y all.1
+
+-- this is the count where a text ends
+abbrev Counts : ℕ → Progress → Type 0
+Counts count p = count_in p.due p.count ≡ Some count
+
+from_four : (version count a b c d : ℕ) (more : List ℕ) → AreBytes (a ∷ b ∷ c ∷ d ∷ []) → Counts count (read_from (at_place Count version 0 8) (a ∷ b ∷ c ∷ d ∷ more)).last → IsCountRead (a ∷ b ∷ c ∷ d ∷ more) count
+from_four version count a b c d more all is =
+    let bytes : List ℕ = a ∷ b ∷ c ∷ d ∷ [] in
+    let n : ℕ = from_be_bytes w32 bytes in
+    let p : Progress = halfway Count version 0 11 (a ∷ b ∷ c ∷ []) in
+    let q : Progress = (goes (record p { count = n }) Tag).next in
+    let spelled : to_be_bytes w32 n ≡ bytes = be_bytes_4 bytes n refl (byte_at bytes all) refl in
+    let on : Counts count (goes_on (judged Count p n) more).last = subst (λ (r : Reading Progress Record). Counts count r.last) (read_four Count version 0 8 a b c d more (λ o byte. refl) (omega arith)) is in
+    chosen (λ (s : Step). Counts count (goes_on s more).last → IsCountRead (a ∷ b ∷ c ∷ d ∷ more) count) (nat_lt connection_limit n) _ _
+    (λ over here. let none : None ≡ Some count = subst (Counts count) (refused_last p (ConnCount n) more) here in absurd (none_met count none))
+    (λ few here.
+    let kept = count_kept more q tt in
+    let told : Some n ≡ Some count = sym (past_count (read_from q more).last.due (read_from q more).last.count kept.1 ∙ ap (λ (k : ℕ). Some k) kept.0) ∙ here in
+    let same : n ≡ count = cc in
+    record { more = more; few = subst (λ (k : ℕ). k ≤ connection_limit) same (ltb-false connection_limit n few); whole = ap (λ (l : List ℕ). l ++ more) (sym spelled ∙ ap (λ (k : ℕ). to_be_bytes w32 k) same) })
+    on
+
+from_count_on : (version count : ℕ) (rest : List ℕ) → AreBytes rest → Counts count (read_from (at_place Count version 0 8) rest).last → IsCountRead rest count
+unfolding read_on
+from_count_on version count [] all is = absurd (none_met count is)
+from_count_on version count (a ∷ []) all is = absurd (none_met count is)
+from_count_on version count (a ∷ b ∷ []) all is = absurd (none_met count is)
+from_count_on version count (a ∷ b ∷ c ∷ []) all is = absurd (none_met count is)
+from_count_on version count (a ∷ b ∷ c ∷ d ∷ more) all is = from_four version count a b c d more (all.0, (all.1.0, (all.1.1.0, (all.1.1.1.0, tt)))) is
+
+pub told_count : (text : List ℕ) (count : ℕ) → AreBytes text → count_of text ≡ Some count → BeginsWithCount text count
+unfolding count_of reading_of
+told_count text count all is =
+    let after = from_letters_on (Counts count) text 0 (omega arith) (record { no_part = λ part at none. none_met count none; no_fault = λ place at none. none_met count none }) is in
+    let read = from_count_on after.version count after.rest (all_back (magic after.version) after.rest (subst AreBytes after.whole all)) after.holds in
+    record { version = after.version; rest = read.more; known = after.known; few = read.few; whole = after.whole ∙ ap (λ (l : List ℕ). magic after.version ++ l) read.whole }

@@ -5,8 +5,11 @@ use Rattle.std.specs.Prelude.{◌≡◌, ◌⊎◌, ℕ, ◌+◌, ◌^◌, ◌<�
 use Rattle.std.specs.Int.{to_be_bytes, w32}
 use Rattle.zy_capture.specs.declared.record.Record.{Record}
 use Rattle.zy_capture.specs.declared.capture_fault.CaptureFault.{CaptureFault}
-use Rattle.zy_capture.specs.declared.capture_fault.CaptureFault.TheVariants.{BadMagic, ConnCount, BadTag, ConnRange, SegmentLength, Truncated, Trailing, TooLong}
-use Rattle.zy_capture.specs.Capture.{magic, spelled, spelling, IsCapture, Spells, capture_limit, connection_limit, segment_limit}
+use Rattle.zy_capture.specs.declared.capture_fault.CaptureFault.TheVariants.{BadMagic, ConnCount, BadTag, ConnRange}
+use Rattle.zy_capture.specs.declared.capture_fault.CaptureFault.TheVariants.{SegmentLength, Truncated, Trailing}
+use Rattle.zy_capture.specs.declared.capture_fault.CaptureFault.TheVariants.{TooLong}
+use Rattle.zy_capture.specs.Capture.{magic, spelled, spelling, IsCapture, Spells, capture_limit, connection_limit}
+use Rattle.zy_capture.specs.Capture.{segment_limit}
 
 -- ---- beginnings
 

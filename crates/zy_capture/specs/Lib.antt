@@ -10,6 +10,7 @@ pub mod RepliesSteps
 pub mod RepliesVerdict
 pub mod RepliesStanding
 pub mod Faults
+pub mod RepliesFaults
 pub mod Worked
 pub mod Lasting
 pub mod RepliesLasting

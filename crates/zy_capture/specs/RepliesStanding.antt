@@ -38,8 +38,8 @@ IsOfOutput p byte = ((conn session size : ℕ) × (p.due ≡ Output conn session
 abbrev pub Takes : Step → Progress → Progress → ℕ → Result (Option SessionBytes) (NotTaken FileFault) → Type 0
 Takes step old new byte result = Follows replies IsOfOutput step old new byte result
 
--- what is due is within its bounds: the place of a part of the magic, the bytes of a number, the numbers, and the bytes of an
--- output
+-- what is due is within its bounds: the place of a part of the magic, the bytes of a number, the
+-- numbers, and the bytes of an output
 abbrev pub IsWithin : RepliesDue → ℕ → ℕ → List ℕ → Type 0
 IsWithin (Magic part) at seen payload = IsInMagic part at
 IsWithin Connection at seen payload = seen < 4

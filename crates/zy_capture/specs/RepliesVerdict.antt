@@ -1,6 +1,6 @@
 -- The verdict on a whole text as a replies file: the outputs that it spells, or its first fault. A
--- text is read from its first byte to its last. That it is good exactly where it is a spelling is a
--- law in src/laws.rt.
+-- text is read from its first byte to its last. That it is good exactly where it is a spelling, and
+-- bad exactly where it has a fault of specs/RepliesFaults.antt, are laws in src/laws.rt.
 use Rattle.std.specs.Prelude.{ℕ, ◌==◌, if◌then◌else◌, Bool, true, false, List, Option, None, Some}
 use Rattle.zy_base.specs.declared.file_fault.FileFault.{FileFault}
 use Rattle.zy_base.specs.declared.file_fault.FileFault.TheVariants.{Truncated}

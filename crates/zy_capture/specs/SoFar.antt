@@ -5,6 +5,7 @@ use Rattle.zy_capture.specs.Capture.{magic, connection_limit, IsCapture}
 use Rattle.zy_capture.specs.Streams.{closes}
 use Rattle.zy_capture.specs.Verdict.{version_of, count_of, records_of}
 use Rattle.zy_capture.specs.Replies.{IsRepliesFile}
+use Rattle.zy_capture.specs.Replies as RepliesText
 use Rattle.zy_capture.specs.RepliesVerdict as Replies
 
 -- the version and the count were read, the records are those of a capture, and few of them are closes
@@ -31,6 +32,12 @@ pub record BeginsWithCount (text : List ℕ) (count : ℕ) : Type 0 where
   pub known : (version ≡ 1) ⊎ (version ≡ 2)
   pub few : count ≤ connection_limit
   pub whole : text ≡ magic version ++ (to_be_bytes w32 count ++ rest)
+
+-- the text begins with the magic of a replies file of a version
+pub record BeginsWithRepliesMagic (text : List ℕ) (version : ℕ) : Type 0 where
+  pub rest : List ℕ
+  pub known : (version ≡ 1) ⊎ (version ≡ 2)
+  pub whole : text ≡ RepliesText.magic version ++ rest
 
 -- the version was read, and the outputs are those of a replies file
 pub record IsRepliesSoFar (text : List ℕ) : Type 0 where

@@ -7,7 +7,8 @@ use Rattle.zy_capture.specs.declared.record.Record.{Record}
 use Rattle.zy_capture.specs.declared.capture_fault.CaptureFault.{CaptureFault}
 use Rattle.zy_capture.specs.declared.capture_fault.CaptureFault.TheVariants.{BadMagic, ConnCount, Truncated}
 use Rattle.zy_capture.specs.declared.due.Due.{Due}
-use Rattle.zy_capture.specs.declared.due.Due.TheVariants.{Magic, Count, Connection, Length, Payload, Closed, Nothing, Broken}
+use Rattle.zy_capture.specs.declared.due.Due.TheVariants.{Magic, Count, Connection, Length, Payload, Closed, Nothing}
+use Rattle.zy_capture.specs.declared.due.Due.TheVariants.{Broken}
 use Rattle.zy_capture.specs.Steps.{Progress, start, step}
 
 -- ---- a whole text

@@ -1,5 +1,5 @@
 -- Worked captures, replies files and outputs, and texts that are near their most bytes.
-use Rattle.std.specs.Prelude.{ℕ, List, [], ◌∷◌, codes, Option}
+use Rattle.std.specs.Prelude.{ℕ, List, [], ◌∷◌, ◌++◌, codes, Option}
 use Rattle.zy_base.specs.declared.file_fault.FileFault.{FileFault}
 use Rattle.zy_capture.specs.declared.record.Record.{Record}
 use Rattle.zy_capture.specs.declared.record.Record.TheVariants as Kinds
@@ -68,7 +68,8 @@ session_outputs = record { version = 2; sessions = (codes "ok" ∷ [] ∷ []) �
 -- their replies file
 abbrev pub session_outputs_text : List ℕ
 session_outputs_text =
-    codes "ZYGREP2\nR\0\0\0\0\0\0\0\0\0\0\0\0\0\0\0\u{2}okR\0\0\0\0\0\0\0\u{1}\0\0\0\0\0\0\0\0R\0\0\0\u{1}\0\0\0\0\0\0\0\0\0\0\0\u{1}xE"
+    codes "ZYGREP2\nR\0\0\0\0\0\0\0\0\0\0\0\0\0\0\0\u{2}ok"
+    ++ codes "R\0\0\0\0\0\0\0\u{1}\0\0\0\0\0\0\0\0R\0\0\0\u{1}\0\0\0\0\0\0\0\0\0\0\0\u{1}xE"
 
 -- the fault that a text meets after the first `at` bytes of a replies file of version 1, where a
 -- record is expected

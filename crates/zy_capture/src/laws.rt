@@ -1,5 +1,6 @@
 //! Laws over the definitions of this crate.
-ghost use Rattle.std.specs.Prelude.{◌≡◌, ◌≢◌, ◌⊎◌, ◌≤◌, ◌↔◌, ◌+◌, ◌<◌, ℕ, List, [], ◌∷◌, ◌++◌, length, codes, None, Some};
+ghost use Rattle.std.specs.Prelude.{◌≡◌, ◌≢◌, ◌⊎◌, ◌≤◌, ◌↔◌, ◌+◌, ◌<◌, ℕ, List, [], ◌∷◌, ◌++◌, length, codes, None};
+ghost use Rattle.std.specs.Prelude.{Some};
 ghost use Rattle.std.specs.List.{concat, slice_index_or, sum_by};
 ghost use Rattle.zy_base.specs.declared.file_fault.FileFault.{FileFault};
 ghost use Rattle.zy_base.specs.declared.file_fault.FileFault.TheVariants as FileFaults;
@@ -11,7 +12,8 @@ ghost use Rattle.zy_capture.specs.declared.capture_fault.CaptureFault.TheVariant
 ghost use Rattle.zy_capture.specs.declared.session_bytes.SessionBytes.{SessionBytes};
 ghost use Rattle.zy_capture.specs.Capture.{AreBytes, Spells};
 ghost use Rattle.zy_capture.specs.Faults.{HasFault};
-ghost use Rattle.zy_capture.specs.SoFar.{BeginsWithMagic, BeginsWithCount, IsCaptureSoFar, IsRepliesSoFar};
+ghost use Rattle.zy_capture.specs.SoFar.{BeginsWithMagic, BeginsWithCount, BeginsWithRepliesMagic, IsCaptureSoFar};
+ghost use Rattle.zy_capture.specs.SoFar.{IsRepliesSoFar};
 ghost use Rattle.zy_capture.specs.Steps.{Progress};
 ghost use Rattle.zy_capture.specs.Verdict.{captures, verdict, fault_of, version_of, count_of, records_of};
 ghost use Rattle.zy_capture.specs.Verdict.Verdict.{Good, Bad};
@@ -20,6 +22,7 @@ ghost use Rattle.zy_capture.specs.Streams.{closes, stream, sessions_of, no_bytes
 ghost use Rattle.zy_capture.specs.Outputs.{AllOutputs, AreOutputs, MayAdd, with_output};
 ghost use Rattle.zy_capture.specs.Replies.{SpellsReplies, AreInOrder, replies_bytes, replies_limit, items_of};
 ghost use Rattle.zy_capture.specs.RepliesSteps as RepliesProgress;
+ghost use Rattle.zy_capture.specs.RepliesFaults as RepliesFaults;
 ghost use Rattle.zy_capture.specs.RepliesVerdict as Replies;
 ghost use Rattle.zy_capture.specs.RepliesStanding.{StandsForReplies};
 ghost use Rattle.zy_capture.specs.Worked as Worked;
@@ -50,13 +53,15 @@ pub fn a_good_capture_tells_its_parts()
 {}
 
 /// The version that is read of a text is that of the magic with which it begins, and none if it
-/// begins with no magic. If it begins with a magic and a count that is not too large, that count is
-/// read.
+/// begins with no magic. The count is that which follows the magic and is not too large, and none if
+/// there is no such count.
 pub fn the_version_and_the_count_are_told()
     ensures version { (text : List ℕ) (version : ℕ)
         → version_of text ≡ Some version ↔ BeginsWithMagic text version }
     ensures count { (text : List ℕ) (count : ℕ)
         → BeginsWithCount text count → count_of text ≡ Some count }
+    ensures exactly { (text : List ℕ) (count : ℕ) → AreBytes text
+        → count_of text ≡ Some count ↔ BeginsWithCount text count }
 {}
 
 /// The records of a text without a fault so far are those of a capture whose version and count were
@@ -132,6 +137,13 @@ pub fn a_replies_file_is_good_exactly_where_it_is_a_spelling()
         ↔ SpellsReplies text version items }
 {}
 
+/// The verdict on a text as a replies file is bad with a fault exactly where the text has that
+/// fault.
+pub fn a_replies_file_is_bad_exactly_where_it_has_a_fault()
+    ensures exactly { (text : List ℕ) (fault : FileFault) → AreBytes text
+        → Replies.verdict text ≡ Replies.Verdict.Bad fault ↔ RepliesFaults.HasFault text fault }
+{}
+
 /// While a good replies file is read, its version and its outputs are those that it spells.
 pub fn a_good_replies_file_tells_its_parts()
     ensures version { (text : List ℕ) (version : ℕ) (items : List SessionBytes) → AreBytes text
@@ -140,6 +152,13 @@ pub fn a_good_replies_file_tells_its_parts()
     ensures outputs { (text : List ℕ) (version : ℕ) (items : List SessionBytes) → AreBytes text
         → Replies.verdict text ≡ Replies.Verdict.Good version items
         → Replies.outputs_of text ≡ items }
+{}
+
+/// The version that is read of a replies file is that of the magic with which it begins, and none if
+/// it begins with no magic.
+pub fn the_version_of_a_replies_file_is_told()
+    ensures version { (text : List ℕ) (version : ℕ)
+        → Replies.version_of text ≡ Some version ↔ BeginsWithRepliesMagic text version }
 {}
 
 /// The outputs of a text without a fault so far are those of a replies file whose version was read.

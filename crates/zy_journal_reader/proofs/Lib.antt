@@ -10,3 +10,9 @@ pub mod EndLemmas
 pub mod NumberLemmas
 pub mod ContentLemmas
 pub mod WholeLemmas
+pub mod OpenLemmas
+pub mod LawfulLemmas
+pub mod FaultLemmas
+pub mod LeadsLemmas
+pub mod FaultReadLemmas
+pub mod BegunLemmas

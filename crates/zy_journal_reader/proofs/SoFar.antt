@@ -1,6 +1,6 @@
 -- What was read of a journal text so far, and what is known of it.
 use Rattle.std.proofs.Common.{◌≡◌, ◌⊎◌, ℕ, ◌<◌, ◌≤◌, ◌^◌, true, List, [], ◌∷◌, ◌++◌, length, take}
-use Rattle.std.specs.Prelude.{None, flat_map, ⊤}
+use Rattle.std.specs.Prelude.{Option, None, Some, flat_map, ⊤}
 use Rattle.std.specs.List.{AllByRecursion}
 use Rattle.std.specs.Int.{to_be_bytes, w32, w64}
 use Rattle.zy_base.specs.declared.entry.Entry.{Entry}
@@ -20,6 +20,7 @@ use Rattle.zy_journal_reader.specs.declared.due.LongField.TheVariants.{Stamp, In
 use Rattle.zy_journal_reader.specs.declared.due.BytesField.TheVariants.{Key, Value, FoundValue}
 use Rattle.zy_journal_reader.specs.Steps.{Progress, journal_limit}
 use Rattle.zy_journal_reader.specs.Verdict.{AreBytes}
+use Rattle.zy_journal_reader.specs.LawfulFields.{last_one}
 use Rattle.zy_journal_reader.proofs.CallLemmas.{fields_in, call_in, to_flags, to_number, to_value, KeyKnown, FlagsKnown, NumberKnown}
 
 -- the bytes before the record that is read
@@ -76,6 +77,19 @@ bytes_of due p = front p.entries p.holds ++ (before due p.draft ++ pending due p
 abbrev pub ComesAfter : Past → Entry → Type 0
 ComesAfter past e = (past.stamp < e.stamp) ⊎ ((past.stamp ≡ e.stamp) × (past.shard < e.shard))
 
+-- the stamp and the shard of an entry, and the connection of a hold, if there is one, and else 0
+abbrev pub stamp_of : Option Entry → ℕ
+stamp_of None = 0
+stamp_of (Some e) = e.stamp
+
+abbrev pub shard_of : Option Entry → ℕ
+shard_of None = 0
+shard_of (Some e) = e.shard
+
+abbrev pub conn_of : Option Hold → ℕ
+conn_of None = 0
+conn_of (Some h) = h.conn
+
 -- the entries and the holds so far are those of a journal
 pub record Kept (es : List Entry) (hs : List Hold) (past : Past) : Type 0 where
   pub ordered : IsOrdered None es
@@ -83,6 +97,9 @@ pub record Kept (es : List Entry) (hs : List Hold) (past : Past) : Type 0 where
   pub fits : AllByRecursion FitsEntry es
   pub rising : AreByConnection 0 hs
   pub holds : AllByRecursion IsHold hs
+  pub stamp_is : past.stamp ≡ stamp_of (last_one es)
+  pub shard_is : past.shard ≡ shard_of (last_one es)
+  pub conn_is : past.conn ≡ conn_of (last_one hs)
   pub next : (e : Entry) → ComesAfter past e → IsOrdered None (es ++ e ∷ [])
   pub next_hold : (h : Hold) → past.conn ≤ h.conn → AreByConnection 0 (hs ++ h ∷ [])
 

@@ -15,7 +15,8 @@ use Rattle.zy_journal_reader.specs.declared.past.Past.{Past}
 use Rattle.zy_journal_reader.specs.Steps.{four, eight, bytes}
 use Rattle.zy_base.specs.Bounds.{FitsEntry}
 use Rattle.zy_journal_reader.specs.Verdict.{AreBytes}
-use Rattle.zy_journal_reader.proofs.SoFar.{front, ComesAfter, Kept, IsField}
+use Rattle.zy_journal_reader.specs.LawfulFields.{last_after}
+use Rattle.zy_journal_reader.proofs.SoFar.{front, ComesAfter, stamp_of, shard_of, conn_of, Kept, IsField}
 
 -- ---- tests
 
@@ -69,6 +70,11 @@ pub rising_on : (last : ℕ) (hs : List Hold) (x h : Hold) → AreByConnection l
 rising_on last [] x h rising comes = (rising.0, (comes, tt))
 rising_on last (y ∷ hs) x h rising comes = (rising.0, rising_on y.conn hs x h rising.1 comes)
 
+-- what is added is the last one
+pub last_on : {X : Type 0} (before : Option X) (xs : List X) (x : X) → last_after before (xs ++ x ∷ []) ≡ Some x
+last_on before [] x = refl
+last_on before (y ∷ xs) x = last_on (Some y) xs x
+
 pub kept_entry : (es : List Entry) (hs : List Hold) (past : Past) (e : Entry) → Kept es hs past → IsEntry e → FitsEntry e → ComesAfter past e → Kept (es ++ e ∷ []) hs (record past { stamp = e.stamp; shard = e.shard })
 kept_entry es hs past e kept is fits comes = record {
   ordered = kept.next e comes;
@@ -76,6 +82,9 @@ kept_entry es hs past e kept is fits comes = record {
   fits = all_on FitsEntry es e kept.fits fits;
   rising = kept.rising;
   holds = kept.holds;
+  stamp_is = ap (λ (o : Option Entry). stamp_of o) (sym (last_on None es e));
+  shard_is = ap (λ (o : Option Entry). shard_of o) (sym (last_on None es e));
+  conn_is = kept.conn_is;
   next = λ x after. ordered_on None es e x (kept.next e comes) after;
   next_hold = kept.next_hold;
 }
@@ -87,6 +96,9 @@ kept_hold es hs past h kept is comes = record {
   fits = kept.fits;
   rising = kept.next_hold h comes;
   holds = all_on IsHold hs h kept.holds is;
+  stamp_is = kept.stamp_is;
+  shard_is = kept.shard_is;
+  conn_is = ap (λ (o : Option Hold). conn_of o) (sym (last_on None hs h));
   next = kept.next;
   next_hold = λ x after. rising_on 0 hs h x (kept.next_hold h comes) after;
 }

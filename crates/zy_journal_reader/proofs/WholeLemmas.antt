@@ -153,7 +153,7 @@ spells Nothing p text journal read is =
 spells due p text journal read is = absurd (cc)
 
 pub nothing_kept : Kept [] [] (record { stamp = 0; shard = 0; conn = 0 })
-nothing_kept = record { ordered = tt; entries = tt; fits = tt; rising = tt; holds = tt; next = λ e after. (tt, tt); next_hold = λ h after. (after, tt) }
+nothing_kept = record { ordered = tt; entries = tt; fits = tt; rising = tt; holds = tt; stamp_is = refl; shard_is = refl; conn_is = refl; next = λ e after. (tt, tt); next_hold = λ h after. (after, tt) }
 
 -- a good text is a spelling
 pub good_spells : (text : List ℕ) (journal : Journal) → AreBytes text → verdict text ≡ Good journal → SpellsJournal text journal

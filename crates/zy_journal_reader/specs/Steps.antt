@@ -1,6 +1,7 @@
 -- The step at each byte of a journal, by what is expected there: the tables of docs/FORMATS.md,
 -- "Journal". A field is judged at its last byte.
-use Rattle.std.specs.Prelude.{ℕ, ◌+◌, ◌-◌, ◌^◌, ◌==◌, ◌&&◌, ◌||◌, nat_lt, nat_le, if◌then◌else◌, Bool, true, false, List, [], ◌∷◌, ◌++◌, length, None, Some, ⊤}
+use Rattle.std.specs.Prelude.{ℕ, ◌+◌, ◌-◌, ◌^◌, ◌==◌, ◌&&◌, ◌||◌, nat_lt, nat_le, if◌then◌else◌, Bool, true, false}
+use Rattle.std.specs.Prelude.{List, [], ◌∷◌, ◌++◌, length, None, Some, ⊤}
 use Rattle.std.specs.List.{slice_index}
 use Rattle.std.specs.Int.{from_be_bytes, w32, w64}
 use Rattle.zy_base.specs.declared.file_fault.FileFault.{FileFault}
@@ -9,8 +10,10 @@ use Rattle.zy_base.specs.declared.call_reply.CallReply.{CallReply}
 use Rattle.zy_base.specs.declared.call_reply.CallReply.TheVariants as Replies
 use Rattle.zy_base.specs.declared.entry.Entry.{Entry}
 use Rattle.zy_base.specs.declared.hold.Hold.{Hold}
-use Rattle.zy_base.specs.Code.{kind_of, fields_of, last_call_code, last_reply_code, hit_code, number_code, tally_code, tally, plain_reply}
-use Rattle.zy_base.specs.Limits.{key_limit, value_limit, connection_limit, shard_limit, core_limit, hold_limit, command_limit, stamp_limit}
+use Rattle.zy_base.specs.Code.{kind_of, fields_of, last_call_code, last_reply_code, hit_code, number_code, tally_code}
+use Rattle.zy_base.specs.Code.{tally, plain_reply}
+use Rattle.zy_base.specs.Limits.{key_limit, value_limit, connection_limit, shard_limit, core_limit, hold_limit}
+use Rattle.zy_base.specs.Limits.{command_limit, stamp_limit}
 use Rattle.zy_read.specs.Format as Reads
 use Rattle.zy_journal.specs.Journal.{magic}
 use Rattle.zy_journal_reader.specs.declared.draft.Draft.{Draft}
@@ -20,9 +23,12 @@ use Rattle.zy_journal_reader.specs.declared.due.Due.TheVariants.{Byte, Number, L
 use Rattle.zy_journal_reader.specs.declared.due.ByteField.{ByteField}
 use Rattle.zy_journal_reader.specs.declared.due.ByteField.TheVariants.{Magic, Tag, CallCode, KeyLength, ReplyCode}
 use Rattle.zy_journal_reader.specs.declared.due.NumberField.{NumberField}
-use Rattle.zy_journal_reader.specs.declared.due.NumberField.TheVariants.{Shard, Connection, Part, Flags, ValueLength, FoundFlags, FoundLength, HoldConnection, HoldCore, HoldCount}
+use Rattle.zy_journal_reader.specs.declared.due.NumberField.TheVariants.{Shard, Connection, Part, Flags, ValueLength}
+use Rattle.zy_journal_reader.specs.declared.due.NumberField.TheVariants.{FoundFlags, FoundLength, HoldConnection}
+use Rattle.zy_journal_reader.specs.declared.due.NumberField.TheVariants.{HoldCore, HoldCount}
 use Rattle.zy_journal_reader.specs.declared.due.LongField.{LongField}
-use Rattle.zy_journal_reader.specs.declared.due.LongField.TheVariants.{Stamp, Index, CallNumber, FoundUnique, ReplyNumber, Gets, Sets, Hits, Misses, Items}
+use Rattle.zy_journal_reader.specs.declared.due.LongField.TheVariants.{Stamp, Index, CallNumber, FoundUnique}
+use Rattle.zy_journal_reader.specs.declared.due.LongField.TheVariants.{ReplyNumber, Gets, Sets, Hits, Misses, Items}
 use Rattle.zy_journal_reader.specs.declared.due.BytesField.{BytesField}
 use Rattle.zy_journal_reader.specs.declared.due.BytesField.TheVariants.{Key, Value, FoundValue}
 use Rattle.zy_journal_reader.specs.Fields.{at_key, at_flags, at_number, at_value, fresh, entry_of, hold_of}

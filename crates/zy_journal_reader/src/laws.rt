@@ -10,6 +10,7 @@ ghost use Rattle.zy_journal.specs.Worked.{worked, worked_bytes};
 ghost use Rattle.zy_journal_reader.specs.Steps.{Progress, journal_limit};
 ghost use Rattle.zy_journal_reader.specs.Verdict.{journals, verdict, fault_of, IsReadable, SpellsJournal, AreBytes};
 ghost use Rattle.zy_journal_reader.specs.Verdict.Verdict.{Good, Bad};
+ghost use Rattle.zy_journal_reader.specs.Faults.{HasFault};
 ghost use Rattle.zy_journal_reader.specs.Standing.{StandsForJournal};
 ghost use Rattle.zy_journal_reader.specs.Worked.{with_magic, with_call, behind_entry, behind_hold, met_behind};
 
@@ -18,6 +19,12 @@ ghost use Rattle.zy_journal_reader.specs.Worked.{with_magic, with_call, behind_e
 pub fn a_journal_is_good_exactly_where_it_is_a_spelling()
     ensures exactly { (text : List ℕ) (journal : Journal) → AreBytes text
         → verdict text ≡ Good journal ↔ SpellsJournal text journal }
+{}
+
+/// The verdict on a text as a journal is bad with a fault exactly where the text has that fault.
+pub fn a_journal_is_bad_exactly_where_it_has_a_fault()
+    ensures exactly { (text : List ℕ) (fault : FileFault) → AreBytes text
+        → verdict text ≡ Bad fault ↔ HasFault text fault }
 {}
 
 /// The text written for a journal is good, and gives the journal again, unless it is too long.

@@ -1,5 +1,6 @@
 //! The reader of journals.
-ghost use Rattle.std.specs.Prelude.{◌≡◌, ◌+◌, ◌<◌, ◌≤◌, [], ◌∷◌, length, take, drop, get_or, Err, Ok, None, Some, true, false};
+ghost use Rattle.std.specs.Prelude.{◌≡◌, ◌+◌, ◌<◌, ◌≤◌, [], ◌∷◌, length, take, drop, get_or, Err, Ok, None, Some};
+ghost use Rattle.std.specs.Prelude.{true, false};
 ghost use Rattle.zy_read.specs.Standing.{given_in, Feeds, FeedsAs, TellsFault, TellsLasting, AnswersBy};
 ghost use Rattle.zy_read.specs.declared.not_taken.NotTaken.TheVariants.{NoMemory};
 ghost use Rattle.zy_journal_reader.specs.declared.due.Due.TheVariants as Dues;
