@@ -262,12 +262,12 @@ alone_meta_bound (meta_deletes key flags) is = is
 value_meta_bound : (ask : MetaAsk) (value : List ℕ) → IsMetaAsk ask → IsValue value → IsCommand (value_meta ask value)
 value_meta_bound noops value is small = tt
 value_meta_bound (meta_gets key flags) value is small = tt
-value_meta_bound (meta_stores Verbs.Set key flags bytes marks) value is small = (is, small)
-value_meta_bound (meta_stores Verbs.Add key flags bytes marks) value is small = (is, small)
-value_meta_bound (meta_stores Verbs.Replace key flags bytes marks) value is small = (is, small)
-value_meta_bound (meta_stores Verbs.Append key flags bytes marks) value is small = (is, small)
-value_meta_bound (meta_stores Verbs.Prepend key flags bytes marks) value is small = (is, small)
-value_meta_bound (meta_exchanges key flags bytes unique marks) value is small = (is, small)
+value_meta_bound (meta_stores Verbs.Set key flags bytes marks) value is small = (is, (is, small))
+value_meta_bound (meta_stores Verbs.Add key flags bytes marks) value is small = (is, (is, small))
+value_meta_bound (meta_stores Verbs.Replace key flags bytes marks) value is small = (is, (is, small))
+value_meta_bound (meta_stores Verbs.Append key flags bytes marks) value is small = (is, (is, small))
+value_meta_bound (meta_stores Verbs.Prepend key flags bytes marks) value is small = (is, (is, small))
+value_meta_bound (meta_exchanges key flags bytes unique marks) value is small = (is, (is, small))
 value_meta_bound (meta_deletes key flags) value is small = tt
 
 alone_bound : (form : Form) → IsForm form → IsCommand (command_for form)
@@ -328,7 +328,7 @@ alone_within shards call (Some key) is = (is, tt)
 metas_within : (shards : ℕ) (meta : MetaCommand) → IsMeta meta → AllByRecursion IsShardCall (meta_calls shards meta)
 metas_within shards Commands.Noop is = tt
 metas_within shards (Commands.Get key flags) is = (is, tt)
-metas_within shards (Commands.Set call marks) is = alone_within shards call (key_of call) is
+metas_within shards (Commands.Set key call marks) is = alone_within shards call (key_of call) is.1
 metas_within shards (Commands.Delete key flags) is = (is, tt)
 
 -- the calls of a command within its bounds are within their bounds

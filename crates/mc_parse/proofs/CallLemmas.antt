@@ -34,7 +34,7 @@ none_later call part later = slice_get_past (call ∷ []) part (omega (arith, la
 pub no_later_meta : (shards : ℕ) (meta : MetaCommand) (part : ℕ) → 0 < part → slice_get (meta_calls shards meta) part ≡ None
 no_later_meta shards Metas.Noop part later = let none : List ShardCall = [] in slice_get_past none part (omega arith)
 no_later_meta shards (Metas.Get key flags) part later = none_later (get_at shards key) part later
-no_later_meta shards (Metas.Set call marks) part later = go (key_of call)
+no_later_meta shards (Metas.Set key call marks) part later = go (key_of call)
   where
     go : (key : Option (List ℕ)) → slice_get (call_alone shards call key) part ≡ None
     go None = let none : List ShardCall = [] in slice_get_past none part (omega arith)
@@ -76,7 +76,7 @@ all_shards P call first (suc count) each =
 all_metas : (P : ShardCall → Type 0) (shards : ℕ) → ((key : List ℕ) (call : Call) → key_of call ≡ Some key → P (at_key shards key call)) → (meta : MetaCommand) → All P (meta_calls shards meta)
 all_metas P shards keyed Metas.Noop = All-nil P
 all_metas P shards keyed (Metas.Get key flags) = one P (at_key shards key (GetCall key)) (keyed key (GetCall key) refl)
-all_metas P shards keyed (Metas.Set call marks) = go (key_of call) refl
+all_metas P shards keyed (Metas.Set key call marks) = go (key_of call) refl
   where
     go : (found : Option (List ℕ)) → key_of call ≡ found → All P (call_alone shards call found)
     go None is = All-nil P

@@ -24,7 +24,7 @@ no_keys call first (suc n) is = rw is (no_keys call (first + 1) n is)
 keys_of_meta : (shards : ℕ) (meta : MetaCommand) → filter_map key_of (asked_by (meta_calls shards meta)) ≡ meta_keys meta
 keys_of_meta shards Metas.Noop = refl
 keys_of_meta shards (Metas.Get key flags) = refl
-keys_of_meta shards (Metas.Set call marks) = go (key_of call) refl
+keys_of_meta shards (Metas.Set key call marks) = go (key_of call) refl
   where
     go : (found : Option (List ℕ)) → key_of call ≡ found → filter_map key_of (asked_by (call_alone shards call found)) ≡ key_list found
     go None is = refl

@@ -42,7 +42,7 @@ metas_keyed : (shards : ℕ) (IsOwn : List ℕ → Type 0) (meta : MetaCommand) 
     → AllByRecursion (IsKeyed shards IsOwn) (meta_calls shards meta)
 metas_keyed shards IsOwn Metas.Noop plain own = tt
 metas_keyed shards IsOwn (Metas.Get key flags) plain own = (record { key = key; named = refl; own = own key (first_in key []); place = refl; steady = tt }, tt)
-metas_keyed shards IsOwn (Metas.Set call marks) plain own = go (key_of call) refl own
+metas_keyed shards IsOwn (Metas.Set key call marks) plain own = go (key_of call) refl own
   where
     go : (found : Option (List ℕ)) → key_of call ≡ found → ((key : List ℕ) → Contains (key_list found) key → IsOwn key) → AllByRecursion (IsKeyed shards IsOwn) (call_alone shards call found)
     go None is own = tt
@@ -101,7 +101,7 @@ gets_bare shards others conn index part (key ∷ keys) =
 metas_bare : (shards others conn index : ℕ) (meta : MetaCommand) → map bare (tagged conn index 0 (meta_calls shards meta)) ≡ map bare (tagged conn index 0 (meta_calls others meta))
 metas_bare shards others conn index Metas.Noop = refl
 metas_bare shards others conn index (Metas.Get key flags) = refl
-metas_bare shards others conn index (Metas.Set call marks) = go (key_of call)
+metas_bare shards others conn index (Metas.Set key call marks) = go (key_of call)
   where
     go : (found : Option (List ℕ)) → map bare (tagged conn index 0 (call_alone shards call found)) ≡ map bare (tagged conn index 0 (call_alone others call found))
     go None = refl

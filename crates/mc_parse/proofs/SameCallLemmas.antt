@@ -163,7 +163,7 @@ stores_same : (key : List ℕ) (flags bytes : ℕ) → SayTheSame (asks (stores 
 stores_same key flags bytes = record {
   wants = refl;
   alone = λ shards conn. refl;
-  with_a_block = λ block. ended_same (is_ended block) (Store Set key flags (value_of block) false) (Meta (Commands.Set (Calls.Set key flags (value_of block)) [])) (λ shards conn. refl);
+  with_a_block = λ block. ended_same (is_ended block) (Store Set key flags (value_of block) false) (Meta (Commands.Set key (Calls.Set key flags (value_of block)) [])) (λ shards conn. refl);
   too_large = λ shards conn. refl;
 }
 
@@ -171,7 +171,7 @@ exchanges_same : (key : List ℕ) (flags bytes unique : ℕ) → SayTheSame (ask
 exchanges_same key flags bytes unique = record {
   wants = refl;
   alone = λ shards conn. refl;
-  with_a_block = λ block. ended_same (is_ended block) (Cas key flags unique (value_of block) false) (Meta (Commands.Set (Calls.Cas key flags unique (value_of block)) [])) (λ shards conn. refl);
+  with_a_block = λ block. ended_same (is_ended block) (Cas key flags unique (value_of block) false) (Meta (Commands.Set key (Calls.Cas key flags unique (value_of block)) [])) (λ shards conn. refl);
   too_large = λ shards conn. refl;
 }
 

@@ -9,11 +9,11 @@ use Rattle.mc_parse.specs.declared.meta.Meta.TheVariants as Metas
 use Rattle.mc_parse.specs.declared.shard_call.ShardCall.{ShardCall}
 use Rattle.mc_parse.specs.Calls.{Due}
 
--- the key or the call of a meta command is within its bounds
+-- the key and the call of a meta command are within their bounds
 abbrev pub IsMeta : MetaCommand → Type 0
 IsMeta Metas.Noop = Unit {0}
 IsMeta (Metas.Get key flags) = IsKey key
-IsMeta (Metas.Set call marks) = IsCall call
+IsMeta (Metas.Set key call marks) = IsKey key × IsCall call
 IsMeta (Metas.Delete key flags) = IsKey key
 
 -- the keys and the value of a command are within their bounds

@@ -63,7 +63,7 @@ call_alone shards call (Some key) = at_key shards key call ∷ []
 abbrev pub meta_calls : ℕ → MetaCommand → List ShardCall
 meta_calls shards Metas.Noop = []
 meta_calls shards (Metas.Get key flags) = get_at shards key ∷ []
-meta_calls shards (Metas.Set call marks) = call_alone shards call (key_of call)
+meta_calls shards (Metas.Set key call marks) = call_alone shards call (key_of call)
 meta_calls shards (Metas.Delete key flags) = at_key shards key (DeleteCall key) ∷ []
 
 -- the calls of a command on `shards` shards, in their order

@@ -27,7 +27,7 @@ key_list (Some key) = key ∷ []
 abbrev pub meta_keys : MetaCommand → List (List ℕ)
 meta_keys Metas.Noop = []
 meta_keys (Metas.Get key flags) = key ∷ []
-meta_keys (Metas.Set call marks) = key_list (key_of call)
+meta_keys (Metas.Set key call marks) = key_list (key_of call)
 meta_keys (Metas.Delete key flags) = key ∷ []
 
 -- the keys that a command calls
@@ -51,7 +51,7 @@ unique_letter = 99
 -- the meta command is no `mg` with `c`, and no `ms` with `C`
 abbrev pub IsPlainMeta : MetaCommand → Type 0
 IsPlainMeta (Metas.Get key flags) = is_among flags unique_letter ≡ false
-IsPlainMeta (Metas.Set call marks) = IsSteady call
+IsPlainMeta (Metas.Set key call marks) = IsSteady call
 IsPlainMeta meta = Unit {0}
 
 -- the command is no `gets`, no `cas`, no `flush_all`, no `stats`, no `mg` with `c` and no `ms` with `C`

@@ -331,11 +331,11 @@ pub fn worked_meta_commands()
     ensures fault { Means (codes "mg a v v") (Command.Fault Errors.BadLine false) }
     ensures need { need (codes "ms a 1048577 q") ≡ Need.Block 1048577 }
     ensures set { block_command (codes "ms a 1 F5 q") (codes "x\r\n")
-        ≡ Command.Meta (Metas.Set (Calls.Set (codes "a") 5 (codes "x")) (codes "q")) }
+        ≡ Command.Meta (Metas.Set (codes "a") (Calls.Set (codes "a") 5 (codes "x")) (codes "q")) }
     ensures append { block_command (codes "ms a 1 MA") (codes "x\r\n")
-        ≡ Command.Meta (Metas.Set (Calls.Append (codes "a") (codes "x")) []) }
+        ≡ Command.Meta (Metas.Set (codes "a") (Calls.Append (codes "a") (codes "x")) []) }
     ensures cas { block_command (codes "ms a 0 C7 k") (codes "\r\n")
-        ≡ Command.Meta (Metas.Set (Calls.Cas (codes "a") 0 7 []) (codes "k")) }
+        ≡ Command.Meta (Metas.Set (codes "a") (Calls.Cas (codes "a") 0 7 []) (codes "k")) }
     ensures chunk { block_command (codes "ms a 1 q") (codes "xyz")
         ≡ Command.Fault Errors.BadChunk false }
     ensures large { large_command (codes "ms a 1048577 q") ≡ Command.Fault Errors.TooLarge false }

@@ -12,8 +12,9 @@ pub enum Meta {
         key: Blob,
         flags: Letters,
     },
-    /// `ms`: stores, by this call.
+    /// `ms`: stores under the key, by this call.
     Set {
+        key: Blob,
         call: Call,
         /// The letters without a token, in the line's order.
         marks: Letters,

@@ -20,6 +20,7 @@ use std::alloc::Global;
 use zy_base::{Blob, Call, NoMemory};
 
 /// The command of a line that is read as a meta command.
+#[inline(never)]
 pub(crate) fn meta_command(alloc: Global, line: &[u8]) -> Result<Command, NoMemory>
     requires within { length line.now ≤ line_limit }
     ensures value { IfOk result (λ command. command
@@ -32,6 +33,7 @@ pub(crate) fn meta_command(alloc: Global, line: &[u8]) -> Result<Command, NoMemo
 }
 
 /// The command of a line that is read as a meta command, with its block.
+#[inline(never)]
 pub(crate) fn meta_block_command(
     alloc: Global,
     line: &[u8],
@@ -52,6 +54,7 @@ pub(crate) fn meta_block_command(
 }
 
 /// The command of a line that is read as a meta command, with a block that is too large.
+#[inline(never)]
 pub(crate) fn meta_large_command(line: &[u8]) -> Command
     requires within { length line.now ≤ line_limit }
     ensures value { result ≡ large_command_for (meta_form line.now (meta_line line.now)) }
@@ -127,10 +130,10 @@ fn value_meta(alloc: Global, ask: MetaAsk<'_>, block: Blob) -> Result<Command, (
             flags,
             marks,
             ..
-        } => match Blob::copy_of(alloc, key) {
-            Ok(key) => {
-                let call = storing(verb, key, flags, value_of(block));
-                Ok(set_command(call, marks))
+        } => match copies_of(alloc, key) {
+            Ok((key, again)) => {
+                let call = storing(verb, again, flags, value_of(block));
+                Ok(set_command(key, call, marks))
             }
             Err(e) => Err((block, e)),
         },
@@ -140,15 +143,15 @@ fn value_meta(alloc: Global, ask: MetaAsk<'_>, block: Blob) -> Result<Command, (
             unique,
             marks,
             ..
-        } => match Blob::copy_of(alloc, key) {
-            Ok(key) => {
+        } => match copies_of(alloc, key) {
+            Ok((key, again)) => {
                 let call = Call::Cas {
-                    key,
+                    key: again,
                     flags,
                     unique,
                     value: value_of(block),
                 };
-                Ok(set_command(call, marks))
+                Ok(set_command(key, call, marks))
             }
             Err(e) => Err((block, e)),
         },
@@ -160,10 +163,25 @@ fn value_meta(alloc: Global, ask: MetaAsk<'_>, block: Blob) -> Result<Command, (
 }
 
 // A storage command.
-fn set_command(call: Call, marks: Letters) -> Command
-    ensures value { result ≡ Command.Meta (Meta.Set call marks) }
+fn set_command(key: Blob, call: Call, marks: Letters) -> Command
+    ensures value { result ≡ Command.Meta (Meta.Set key call marks) }
 {
     Command::Meta {
-        meta: Meta::Set { call, marks },
+        meta: Meta::Set { key, call, marks },
+    }
+}
+
+// Two copies of a key.
+fn copies_of(alloc: Global, key: &[u8]) -> Result<(Blob, Blob), NoMemory>
+    ensures value { IfOk result (λ both. both.0 ≡ key.now) }
+    ensures again { IfOk result (λ both. both.1 ≡ key.now) }
+{
+    let copy = Blob::copy_of(alloc, key)?;
+    match Blob::copy_of(alloc, key) {
+        Ok(again) => Ok((copy, again)),
+        Err(e) => {
+            drop(copy);
+            Err(e)
+        }
     }
 }

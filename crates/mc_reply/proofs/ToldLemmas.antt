@@ -5,7 +5,6 @@ use Rattle.std.specs.List.{AllByRecursion}
 use Rattle.zy_base.specs.declared.call_reply.CallReply.{CallReply}
 use Rattle.zy_base.specs.declared.call_reply.CallReply.TheVariants.{Hit}
 use Rattle.zy_base.specs.declared.entry.Entry.{Entry}
-use Rattle.zy_base.specs.Call.{key_of}
 use Rattle.zy_base.specs.Replies.{replies_at}
 use Rattle.mc_parse.specs.declared.command.Command.{Command}
 use Rattle.mc_parse.specs.declared.command.Command.TheVariants.{Store, Cas, Get, Delete, Count, Flush, Meta, Stats}
@@ -13,7 +12,7 @@ use Rattle.mc_parse.specs.declared.meta.Meta.{Meta as MetaCommand}
 use Rattle.mc_parse.specs.declared.meta.Meta.TheVariants as Metas
 use Rattle.mc_reply.specs.Text.{text, line, reply_line, only_line, item_text, items_text, unless}
 use Rattle.mc_reply.specs.Texts.{texts_from}
-use Rattle.mc_reply.specs.MetaText.{found_of, mark_text, marks_text, marked, hit_text, get_text, set_text, delete_text, called_key, meta_text}
+use Rattle.mc_reply.specs.MetaText.{found_of, mark_text, marks_text, marked, hit_text, get_text, set_text, delete_text, meta_text}
 use Rattle.mc_meta.specs.Flags.{is_among}
 use Rattle.mc_parse.specs.Plain.{IsPlain, IsPlainMeta}
 use Rattle.zy_base.specs.Told.{told, told_of, all_told}
@@ -85,9 +84,9 @@ meta-told Metas.Noop replies plain = refl
 meta-told (Metas.Get key flags) [] plain = refl
 meta-told (Metas.Get key flags) (reply ∷ []) plain = get-told key flags reply plain
 meta-told (Metas.Get key flags) (reply ∷ next ∷ replies) plain = refl
-meta-told (Metas.Set call marks) [] plain = refl
-meta-told (Metas.Set call marks) (reply ∷ []) plain = set-told (called_key (key_of call)) marks reply
-meta-told (Metas.Set call marks) (reply ∷ next ∷ replies) plain = refl
+meta-told (Metas.Set key call marks) [] plain = refl
+meta-told (Metas.Set key call marks) (reply ∷ []) plain = set-told key marks reply
+meta-told (Metas.Set key call marks) (reply ∷ next ∷ replies) plain = refl
 meta-told (Metas.Delete key flags) [] plain = refl
 meta-told (Metas.Delete key flags) (reply ∷ []) plain = delete-told key flags reply
 meta-told (Metas.Delete key flags) (reply ∷ next ∷ replies) plain = refl

@@ -3,7 +3,6 @@
 use Rattle.std.specs.Prelude.{ℕ, Bool, ◌==◌, if◌then◌else◌, List, [], ◌∷◌, ◌++◌, length, codes, decimal, Option, None, Some}
 use Rattle.zy_base.specs.declared.call_reply.CallReply.{CallReply}
 use Rattle.zy_base.specs.declared.call_reply.CallReply.TheVariants.{Miss, Hit, Stored, NotStored, Exists, NotFound, Deleted, TooLarge}
-use Rattle.zy_base.specs.Call.{key_of}
 use Rattle.mc_meta.specs.Flags.{is_among}
 use Rattle.mc_parse.specs.declared.meta.Meta.{Meta}
 use Rattle.mc_parse.specs.declared.meta.Meta.TheVariants.{Noop, Get, Set, Delete}
@@ -86,15 +85,10 @@ delete_text key flags Deleted = unless (has_quiet_letter flags) (marked (codes "
 delete_text key flags NotFound = unless (has_quiet_letter flags) (marked (codes "NF") key None flags)
 delete_text key flags reply = []
 
--- the key of a call that has one
-abbrev pub called_key : Option (List ℕ) → List ℕ
-called_key None = []
-called_key (Some key) = key
-
 -- the text of a meta command with its reply
 abbrev pub meta_text : Meta → List CallReply → List ℕ
 meta_text Noop replies = line (codes "MN")
 meta_text (Get key flags) (reply ∷ []) = get_text key flags reply
-meta_text (Set call marks) (reply ∷ []) = set_text (called_key (key_of call)) marks reply
+meta_text (Set key call marks) (reply ∷ []) = set_text key marks reply
 meta_text (Delete key flags) (reply ∷ []) = delete_text key flags reply
 meta_text meta replies = []

@@ -90,10 +90,10 @@ pub fn worked_meta_answers()
         ≡ codes "EN\r\n" }
     ensures quiet_miss { text (Command.Meta (Metas.Get (codes "a") (codes "kq"))) (Replies.Miss ∷ [])
         ≡ [] }
-    ensures stored { map (λ marks. text (Command.Meta (Metas.Set (Calls.Delete (codes "a")) marks))
+    ensures stored { map (λ marks. text (Command.Meta (Metas.Set (codes "a") Calls.Flush marks))
         (Replies.Stored ∷ [])) ([] ∷ codes "k" ∷ codes "kq" ∷ [])
         ≡ codes "HD\r\n" ∷ codes "HD ka\r\n" ∷ [] ∷ [] }
-    ensures others { map (λ reply. text (Command.Meta (Metas.Set (Calls.Delete (codes "a")) (codes "qk")))
+    ensures others { map (λ reply. text (Command.Meta (Metas.Set (codes "a") Calls.Flush (codes "qk")))
         (reply ∷ [])) (Replies.NotStored ∷ Replies.Exists ∷ Replies.NotFound ∷ Replies.TooLarge ∷ [])
         ≡ codes "NS ka\r\n" ∷ codes "EX ka\r\n" ∷ codes "NF ka\r\n"
         ∷ codes "SERVER_ERROR object too large for cache\r\n" ∷ [] }

@@ -1,16 +1,14 @@
 //! Appends the text that answers a meta command.
 ghost use Rattle.std.specs.Prelude.{◌≡◌, ◌++◌, [], length, codes, decimal, None, Some, OnOk, OnErr};
 ghost use Rattle.mc_reply.specs.Line.{line, unless};
-ghost use Rattle.zy_base.specs.Call.{key_of};
-ghost use Rattle.mc_reply.specs.MetaText.{marked, hit_text, get_text, set_text, delete_text, meta_text};
-ghost use Rattle.mc_reply.specs.MetaText.{has_quiet_letter, called_key};
+ghost use Rattle.mc_reply.specs.MetaText.{marked, hit_text, get_text, set_text, delete_text, meta_text, has_quiet_letter};
 
 use crate::lines::{LINE_END, MISS, NOOP, TOO_LARGE};
 use crate::marks::{Found, marks_length, put_marks};
 use mc_meta::Letters;
 use mc_parse::Meta;
 use std::mem;
-use zy_base::{Blob, Call, CallReply, NoMemory, digits_of};
+use zy_base::{Blob, CallReply, NoMemory, digits_of};
 
 /// Appends the text that answers a meta command with its reply. May answer `NoMemory`.
 pub(crate) fn append_meta(
@@ -24,7 +22,7 @@ pub(crate) fn append_meta(
     match (meta, replies) {
         (Meta::Noop, _) => out.append(NOOP),
         (Meta::Get { key, flags }, [reply]) => append_get(out, key.bytes(), flags, reply),
-        (Meta::Set { call, marks }, [reply]) => append_set(out, called_key(call), marks, reply),
+        (Meta::Set { key, marks, .. }, [reply]) => append_set(out, key.bytes(), marks, reply),
         (Meta::Delete { key, flags }, [reply]) => append_delete(out, key.bytes(), flags, reply),
         _ => Ok(()),
     }
@@ -79,16 +77,6 @@ fn append_hit(
         append_value(out, key, flags.bytes(), found, value)
     } else {
         append_marked(out, b"HD", key, Some(found), flags.bytes())
-    }
-}
-
-// The key of a call that has one.
-fn called_key(call: &Call) -> &[u8]
-    ensures value { result.now ≡ called_key (key_of call.now) }
-{
-    match call.key() {
-        Some(key) => key.bytes(),
-        None => &[],
     }
 }
 
