@@ -10,6 +10,7 @@ mod caller;
 mod dealing;
 mod group;
 mod lent;
+mod patience;
 mod resting;
 mod room;
 mod scoped;

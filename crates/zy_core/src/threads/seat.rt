@@ -8,11 +8,11 @@ use crate::logical_core::Core;
 use crate::round::Round;
 use crate::shared::Shared;
 use crate::threads::group::Group;
+use crate::threads::patience::Patience;
 use crate::threads::resting::{Rester, call_up, go_on};
 use std::snapshot::Snapshot;
 use std::sync::Wait;
 use std::sync::atomic::{AtomicU64, Ordering};
-use std::thread;
 use std::thread::{Promise, PromisedHandle, Scope, Threads};
 use zy_base::{Gate, NoMemory};
 use zy_park::Bells;
@@ -90,6 +90,7 @@ fn drive_group<R: Wait, G: Gate>(
 {
     let mut group = group;
     let mut rester = rester;
+    let mut patience = Patience::new();
     let (mut watch, mut is_stopped) = shared.control.watch();
     for _ in rt.forever() {
         if is_stopped || leave.load(Ordering::SeqCst) & bit != 0 {
@@ -102,9 +103,7 @@ fn drive_group<R: Wait, G: Gate>(
                     drop(rester);
                     return group;
                 }
-                if round == Round::Idle {
-                    thread::yield_now();
-                }
+                patience.wait_if(round == Round::Idle);
             }
             Err(NoMemory) => {
                 shared.control.stop(&mut watch);

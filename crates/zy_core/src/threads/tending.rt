@@ -6,10 +6,10 @@ ghost use Rattle.zy_rx.specs.Feed.{rings_of};
 use crate::feeding::feed_once;
 use crate::shared::Shared;
 use crate::threads::caller::Caller;
+use crate::threads::patience::Patience;
 use crate::threads::seat::Seat;
 use crate::threads::seats::{are_done_here, are_some_here, go_on_here};
 use std::sync::Wait;
-use std::thread;
 use zy_base::{Gate, NoMemory};
 use zy_park::Bells;
 use zy_rx::Feeder;
@@ -57,6 +57,7 @@ pub(crate) fn tend<R: Wait, F: Feeder, G: Gate>(
     let has_here = are_some_here(seats);
     let mut items = 0;
     let mut is_ended = false;
+    let mut patience = Patience::new();
     for _ in rt.forever() {
         let step = match feed_once(feeder, is_ended) {
             Some(step) => step,
@@ -76,9 +77,7 @@ pub(crate) fn tend<R: Wait, F: Feeder, G: Gate>(
         if is_ended && are_done_here(seats) {
             return How::Ended;
         }
-        if !step.has_offered && !calls {
-            thread::yield_now();
-        }
+        patience.wait_if(!step.has_offered && !calls);
     }
     unreachable!()
 }
