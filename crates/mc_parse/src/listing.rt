@@ -68,6 +68,7 @@ fn meta_calls(alloc: Global, meta: &Meta, shards: u32) -> Result<Calls, NoMemory
 }
 
 // The call that stores as a verb says.
+#[inline(always)]
 pub(crate) fn stored_by(verb: Verb, key: &Blob, flags: u32, value: &Blob) -> Result<Call, NoMemory>
     ensures value { IfOk result (λ call. call ≡ stored_by verb key.now flags value.now) }
 {
@@ -95,6 +96,7 @@ pub(crate) fn storing(verb: Verb, key: Blob, flags: u32, value: Blob) -> Call
 }
 
 // The call that stores where the item there has this unique.
+#[inline(always)]
 pub(crate) fn exchanged(key: &Blob, flags: u32, unique: u64, value: &Blob) -> Result<Call, NoMemory>
     ensures value { IfOk result (λ call. call ≡ Call.Cas key.now flags unique value.now) }
 {
