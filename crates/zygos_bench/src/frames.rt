@@ -30,8 +30,8 @@ pub(crate) fn measured<R: CpuClock>(
     }
 }
 
-// Commands of a few kinds, again and again.
-fn traffic(alloc: Global) -> Result<Blob, NoMemory> {
+/// Commands of a few kinds, again and again.
+pub(crate) fn traffic(alloc: Global) -> Result<Blob, NoMemory> {
     let mut text = Blob::new(alloc);
     match append_all(&mut text) {
         Ok(()) => Ok(text),

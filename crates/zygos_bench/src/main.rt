@@ -9,6 +9,7 @@ mod counting;
 mod done;
 mod frames;
 mod journal;
+mod parse;
 mod pcap;
 mod shard;
 mod shuffle;
@@ -62,6 +63,7 @@ fn measured<R: Threads + Wait + Clock + CpuClock + Sync, I: Read>(
     match what {
         Some(What::Shard) => shard::measured(rt, alloc, one, two),
         Some(What::Frames) => frames::measured(rt, alloc, one, two),
+        Some(What::Parse) => parse::measured(rt, alloc, one),
         Some(What::Capture) => capture::measured(rt, alloc, input),
         Some(What::Journal) => journal::measured(rt, alloc, input, one, two, three),
         Some(What::Pcap) => pcap::measured(rt, alloc, input),

@@ -8,6 +8,7 @@ use zy_base::read_number;
 pub(crate) enum What {
     Shard,
     Frames,
+    Parse,
     Capture,
     Journal,
     Pcap,
@@ -67,7 +68,7 @@ struct Name {
     what: What,
 }
 
-const NAMES: [Name; 9] = [
+const NAMES: [Name; 10] = [
     Name {
         word: b"shard",
         what: What::Shard,
@@ -75,6 +76,10 @@ const NAMES: [Name; 9] = [
     Name {
         word: b"frames",
         what: What::Frames,
+    },
+    Name {
+        word: b"parse",
+        what: What::Parse,
     },
     Name {
         word: b"capture",
