@@ -1,5 +1,5 @@
 -- A nap by its parts.
-use Rattle.std.proofs.Common.{◌≡◌, ℕ, true, false, Bool, sym, ap, ◌∙◌}
+use Rattle.std.proofs.Common.{◌≡◌, ℕ, true, false, Bool, ap, ◌∙◌}
 use Rattle.std.specs.Prelude.{Result, Ok, Err, IfOk}
 use Rattle.zy_base.specs.declared.outside.NoMemory.{NoMemory}
 use Rattle.zy_control.specs.View.{has_counted}

@@ -3,8 +3,7 @@ use Rattle.std.proofs.Common.{◌≡◌, List, Bool, true, false, ◌||◌, sym,
 use Rattle.std.specs.Prelude.{Option, None, Some}
 use Rattle.zy_home.specs.Home.{Homed, is_settled}
 use Rattle.zy_steal.specs.declared.looks.Look.{Look}
-use Rattle.zy_steal.specs.Steal.{PassList, AllLooked}
-use Rattle.zy_conn.specs.Block.{Blocked}
+use Rattle.zy_steal.specs.Steal.{AllLooked}
 use Rattle.zy_core.specs.declared.turn.Turn.TheVariants.{Worked}
 use Rattle.zy_core.specs.Core.{Cored}
 use Rattle.zy_core.specs.Steal.{StealsTo}

@@ -1,4 +1,4 @@
-use Rattle.std.proofs.Common.{◌≡◌, true, ap, ◌∙◌}
+use Rattle.std.proofs.Common.{true, ap, ◌∙◌}
 use Rattle.zy_control.specs.View.{has_announced, announcing}
 use Rattle.zy_control.specs.Pass.{Held}
 use Rattle.zy_core.proofs.logical_core.Core.announce.Goals as goal

@@ -1,4 +1,4 @@
-use Rattle.std.proofs.Common.{◌≡◌, ◌∙◌, length, ap}
+use Rattle.std.proofs.Common.{◌∙◌, length, ap}
 use Rattle.zy_core.specs.Nap.{nap_of}
 use Rattle.zy_core.proofs.NapLemmas.{rests}
 use Rattle.zy_core.proofs.logical_core.Core.rest_if_idle.Goals as goal
