@@ -11,7 +11,7 @@ use Rattle.zy_command_line.specs.declared.request.Request.{Request}
 use Rattle.zy_command_line.specs.declared.request.Request.TheVariants as Requests
 use Rattle.zy_command_line.specs.declared.verb.Verb.{Verb}
 use Rattle.zy_command_line.specs.declared.verb.Verb.TheVariants as Verbs
-use Rattle.zy_command_line.specs.Request.{in_range, number_in, number_or, cores_of, threads_of, order_of, shards_of, rest_of, port_of, out_of, run_on, run_of, traffic_of, traffic_within, seed_of, conns_of, commands_of, run_by, self_by, asked_by, asked_with, verb_named, names_of, request_of}
+use Rattle.zy_command_line.specs.Request.{in_range, number_in, number_or, cores_of, threads_of, order_of, shards_of, idle_turns_of, port_of, out_of, run_on, run_of, traffic_of, traffic_within, seed_of, conns_of, commands_of, run_by, self_by, asked_by, asked_with, verb_named, names_of, request_of}
 use Rattle.zy_command_line.specs.Range.{IsRunnable, AreShards, IsPort, IsMakeable}
 
 -- a number, if it is given, is in its range
@@ -66,7 +66,7 @@ threaded : (cores : ℕ) (options : Options) (number : Option ℕ) → 1 ≤ cor
     → IsFine (option_and_then (λ threads. run_on cores threads options) (option_map (min cores) number))
 threaded cores options None a b is = tt
 threaded cores options (Some n) a b is =
-    let one = is.0 in ordered cores (min cores n) (order_of (min cores n) options) (shards_of options) (rest_of options) a b (omega (arith, one)) (omega arith)
+    let one = is.0 in ordered cores (min cores n) (order_of (min cores n) options) (shards_of options) (idle_turns_of options) a b (omega (arith, one)) (omega arith)
     (given 1 256 16 (value_of (codes "shards") options) (omega arith) (omega arith)) (given 0 1000000 0 (value_of (codes "rest") options) (omega arith) (omega arith))
 
 cored : (options : Options) (number : Option ℕ) → IsFrom 1 64 number → IsFine (option_and_then (λ cores. option_and_then (λ threads. run_on cores threads options) (threads_of cores options)) number)

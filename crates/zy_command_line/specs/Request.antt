@@ -55,8 +55,8 @@ abbrev pub shards_of : Options → Option ℕ
 shards_of options = number_or 1 256 16 (value_of (codes "shards") options)
 
 -- the turns in a row without work after which an idle core rests, 0 to 1,000,000; with 0 none rests
-abbrev pub rest_of : Options → Option ℕ
-rest_of options = number_or 0 1000000 0 (value_of (codes "rest") options)
+abbrev pub idle_turns_of : Options → Option ℕ
+idle_turns_of options = number_or 0 1000000 0 (value_of (codes "rest") options)
 
 -- the port of recorded packets, 1 to 65,535
 abbrev pub port_of : Options → Option ℕ
@@ -92,7 +92,7 @@ commands_of options = number_or 1 1000000 100 (value_of (codes "commands") optio
 -- the options of a run with `threads` threads
 abbrev pub run_on : ℕ → ℕ → Options → Option Run
 run_on cores threads options = option_and_then (λ order. option_and_then (λ shards. option_map (λ rest.
-    record { cores = cores; threads = threads; order = order; shards = shards; rest = rest }) (rest_of options))
+    record { cores = cores; threads = threads; order = order; shards = shards; rest = rest }) (idle_turns_of options))
     (shards_of options)) (order_of threads options)
 
 -- the options of a run
