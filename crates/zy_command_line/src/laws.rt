@@ -46,7 +46,7 @@ pub fn worked_rests()
         ≡ Some (Requests.Run (record { cores = 4; threads = 1; order = None; shards = 16; rest = 7 }) Outs.Replies) }
     ensures of_a_test { request_of (codes "self" ∷ codes "--rest=1" ∷ [])
         ≡ Some (Requests.SelfTest (record { number = 1; conns = 200; commands = 100 })
-            (record { cores = 4; threads = 4; order = None; shards = 16; rest = 1 })) }
+        (record { cores = 4; threads = 4; order = None; shards = 16; rest = 1 })) }
     ensures other_command { request_of (codes "check" ∷ codes "--rest=1" ∷ []) ≡ None }
 {}
 
