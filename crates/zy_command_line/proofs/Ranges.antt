@@ -1,5 +1,5 @@
 -- The values of a lawful request are in their ranges.
-use Rattle.std.proofs.Common.{◌≡◌, ℕ, ◌*◌, ◌≤◌, List, [], ◌∷◌, refl, sym, Bool, true, false, arith, min}
+use Rattle.std.proofs.Common.{◌≡◌, ℕ, ◌*◌, ◌≤◌, List, [], ◌∷◌, refl, Bool, true, false, arith, min}
 use Rattle.std.specs.Prelude.{Option, Some, None, nat_le, ◌&&◌, if◌then◌else◌, option_and_then, option_map, length, codes}
 use Rattle.std.proofs.lemmas.Bool.{leb-true}
 use Rattle.zy_base.specs.Number.{number_of}
@@ -11,7 +11,7 @@ use Rattle.zy_command_line.specs.declared.request.Request.{Request}
 use Rattle.zy_command_line.specs.declared.request.Request.TheVariants as Requests
 use Rattle.zy_command_line.specs.declared.verb.Verb.{Verb}
 use Rattle.zy_command_line.specs.declared.verb.Verb.TheVariants as Verbs
-use Rattle.zy_command_line.specs.Request.{in_range, number_in, number_or, cores_of, threads_of, order_of, shards_of, idle_turns_of, port_of, out_of, run_on, run_of, traffic_of, traffic_within, seed_of, conns_of, commands_of, run_by, self_by, asked_by, asked_with, verb_named, names_of, request_of}
+use Rattle.zy_command_line.specs.Request.{in_range, number_or, cores_of, threads_of, order_of, shards_of, idle_turns_of, port_of, out_of, run_on, run_of, traffic_of, traffic_within, seed_of, conns_of, commands_of, asked_by, asked_with, verb_named, names_of, request_of}
 use Rattle.zy_command_line.specs.Range.{IsRunnable, AreShards, IsPort, IsMakeable}
 
 -- a number, if it is given, is in its range

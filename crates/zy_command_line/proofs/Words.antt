@@ -1,5 +1,5 @@
 -- A word is an option exactly where the parser takes it for one, with the same name and value.
-use Rattle.std.proofs.Common.{◌≡◌, ◌==◌, ◌+◌, ℕ, suc, arith, List, [], ◌∷◌, take, drop, refl, sym, ◌∙◌, ap, Bool, true, false}
+use Rattle.std.proofs.Common.{◌≡◌, ◌==◌, ◌+◌, ℕ, suc, arith, [], ◌∷◌, take, drop, refl, sym, ◌∙◌, ap, Bool, true, false}
 use Rattle.std.specs.Prelude.{Option, Some, None, ◌&&◌, if◌then◌else◌, option_and_then}
 use Rattle.std.specs.List.{position_or_len}
 use Rattle.clap.specs.Lexer as lexer
