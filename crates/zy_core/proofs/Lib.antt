@@ -5,5 +5,6 @@ pub mod CoreLemmas
 pub mod KeepLemmas
 pub mod TurnLemmas
 pub mod NapLemmas
+pub mod AloneLemmas
 pub mod GroupLemmas
 pub mod ItemLemmas

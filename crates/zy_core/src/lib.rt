@@ -9,6 +9,7 @@ pub mod laws;
 mod logical_core;
 mod nap;
 mod ordered;
+mod round;
 mod rounds;
 mod shared;
 mod stealing;

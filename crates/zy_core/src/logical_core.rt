@@ -130,14 +130,23 @@ impl Core {
         feeder.meet(self.number, &mut self.outlet);
     }
 
-    // The core counts itself if it is settled and has not done so yet.
-    pub(crate) fn note(&mut self, shared: &Shared)
+    // Its number.
+    pub(crate) fn number(&self) -> u32
+        ensures value { result ≡ self.now.home.core }
+    {
+        self.number
+    }
+
+    // The core counts itself if it is settled and has not done so yet. Says whether it did so.
+    pub(crate) fn note(&mut self, shared: &Shared) -> bool
         requires fits { Fits shared.now (identity_of self.old) }
         ensures same { identity_of self.new ≡ identity_of self.old }
     {
         if !self.control.is_counted() && self.home.is_settled() {
             shared.control.count(&mut self.control);
+            return true;
         }
+        false
     }
 
     // Whether all cores have counted themselves. Then this one is settled.

@@ -9,7 +9,7 @@ use crate::turn::Turn;
 use zy_base::{Gate, NoMemory};
 
 // The most turns of a core.
-const TURN_LIMIT: u64 = 1 << 48;
+pub(crate) const TURN_LIMIT: u64 = 1 << 48;
 
 // A turn of one core, where it may take one. Says whether it worked.
 pub(crate) fn turn_one<G: Gate>(
@@ -50,15 +50,18 @@ pub(crate) fn turn_each<G: Gate>(
     Ok(worked)
 }
 
-// Each core that is settled counts itself, once.
-pub(crate) fn note_each(cores: &mut Vec<Core>, shared: &Shared)
+// Each core that is settled counts itself, once. Says whether one of them did so.
+pub(crate) fn note_each(cores: &mut Vec<Core>, shared: &Shared) -> bool
     requires fits { EachFits shared.now (identities cores.old.items) }
     ensures same { identities cores.new.items ≡ identities cores.old.items }
 {
+    let mut counted = false;
     for i in 0..cores.len() {
         let core = &mut cores[i];
-        core.note(shared);
+        let now = core.note(shared);
+        counted = counted || now;
     }
+    counted
 }
 
 // Whether each core finds that all cores are done. Then each of these is settled.

@@ -1,12 +1,16 @@
 //! Cores on threads, fed by the caller.
-ghost use Rattle.std.specs.Prelude.{◌≡◌, ◌≤◌, true, vec_len, vec_capacity};
+ghost use Rattle.std.specs.Prelude.{◌≡◌, ◌≤◌, true, length, vec_len, vec_capacity};
 ghost use Rattle.zy_core.specs.Deal.{gathered, lists_of};
 ghost use Rattle.zy_core.specs.Drive.{identities, AreCores, EachSettled, cores_of, IsSettled, IsBroken};
+ghost use Rattle.zy_park.specs.Pass.{GaveNone};
 ghost use Rattle.zy_rx.specs.Feed.{rings_of};
 
+mod alone;
+mod caller;
 mod dealing;
 mod group;
 mod lent;
+mod resting;
 mod room;
 mod scoped;
 mod seat;
@@ -20,6 +24,7 @@ use crate::logical_core::Core;
 use crate::shared::Shared;
 use crate::threads::dealing::{collect, deal};
 use crate::threads::lent::Lent;
+use crate::threads::resting::Resters;
 use crate::threads::room::Room;
 use crate::threads::scoped::{Ran, in_scope};
 use crate::threads::tending::How;
@@ -27,12 +32,14 @@ use std::alloc::Global;
 use std::sync::Wait;
 use std::sync::atomic::AtomicU64;
 use std::thread::Threads;
-use zy_base::Gate;
+use zy_base::{Gate, NoMemory};
+use zy_park::{BellRoot, Bells};
 use zy_rx::Feeder;
 
 /// Drives the cores on `threads` threads while the caller feeds them: thread `t` has the cores `i`
-/// with `i` modulo `threads` equal to `t`. The caller drives the cores whose thread was refused.
-/// The call may wait.
+/// with `i` modulo `threads` equal to `t`. The caller drives the cores whose thread was refused. If
+/// each of several threads drives one core, and `rest` is not 0, a thread rests at the bells after
+/// `rest` turns that did not work, until it is rung. The call may wait.
 pub fn drive<R: Threads + Wait + Sync, F: Feeder, G: Gate + Sync>(
     rt: &R,
     alloc: Global,
@@ -41,10 +48,16 @@ pub fn drive<R: Threads + Wait + Sync, F: Feeder, G: Gate + Sync>(
     shared: &Shared,
     gate: &G,
     feeder: &mut F,
+    bells: &Bells,
+    root: &mut BellRoot,
+    rest: u32,
 ) -> Driven
     requires cores { AreCores shared.now (identities cores) }
     requires threads { (1 ≤ threads) × (threads ≤ 64) }
     requires fresh { ¬ F.ended feeder.old × ¬ F.broken feeder.old }
+    requires bells { root.old.bells ≡ bells.now }
+    requires count { length bells.now ≡ length shared.now.rings }
+    requires free { GaveNone root.old }
     ensures ended { IsSettled result → F.ended feeder.new }
     ensures settled { IsSettled result → EachSettled (cores_of result) }
     ensures broken { IsBroken result → F.broken feeder.new }
@@ -54,8 +67,21 @@ pub fn drive<R: Threads + Wait + Sync, F: Feeder, G: Gate + Sync>(
 {
     let Cores { items } = cores;
     let count = items.len();
-    let Ok(room) = Room::new(alloc, count, threads as usize) else {
-        return Driven::NoMemory(Cores { items });
+    let rest = if threads > 1 && threads as usize == count {
+        rest
+    } else {
+        0
+    };
+    let resters = match Resters::new(alloc, bells, root, rest) {
+        Ok(resters) => resters,
+        Err(NoMemory) => return Driven::NoMemory(Cores { items }),
+    };
+    let room = match Room::new(alloc, count, threads as usize) {
+        Ok(room) => room,
+        Err(NoMemory) => {
+            drop(resters);
+            return Driven::NoMemory(Cores { items });
+        }
     };
     let Room {
         mut groups,
@@ -66,7 +92,9 @@ pub fn drive<R: Threads + Wait + Sync, F: Feeder, G: Gate + Sync>(
     deal(items, &mut groups);
     let leave = AtomicU64::new(0);
     let lent = Lent { feeder };
-    let (lent, ran) = in_scope(rt, groups, seats, back, shared, gate, &leave, lent);
+    let (lent, ran) = in_scope(
+        rt, groups, resters, seats, back, shared, bells, root, gate, &leave, lent,
+    );
     let Lent { feeder } = lent;
     take_back(feeder);
     let Ran {

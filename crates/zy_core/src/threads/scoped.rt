@@ -1,10 +1,13 @@
 //! The scope in which threads drive the cores.
-ghost use Rattle.std.specs.Prelude.{◌≡◌, ◌≤◌, true, vec_len, vec_capacity};
+ghost use Rattle.std.specs.Prelude.{◌≡◌, ◌≤◌, true, length, vec_len, vec_capacity};
+ghost use Rattle.zy_core.specs.Group.{AllAt};
 ghost use Rattle.zy_core.specs.Seat.{all_of_groups, AllFit, AllSettled};
 ghost use Rattle.zy_rx.specs.Feed.{rings_of};
 
 use crate::logical_core::Core;
 use crate::shared::Shared;
+use crate::threads::caller::Caller;
+use crate::threads::resting::Resters;
 use crate::threads::seat::Seat;
 use crate::threads::seats::{join_all, start_all};
 use crate::threads::tending::{How, tend};
@@ -13,6 +16,7 @@ use std::sync::atomic::AtomicU64;
 use std::thread;
 use std::thread::{Scope, Threads};
 use zy_base::Gate;
+use zy_park::{BellRoot, Bells};
 use zy_rx::Feeder;
 
 // The groups of cores as they came back, whether all of them found that all cores are done, and how
@@ -28,9 +32,12 @@ pub(crate) struct Ran {
 pub(crate) fn in_scope<R: Threads + Wait + Sync, W: Feeder + Drop, G: Gate + Sync>(
     rt: &R,
     groups: Vec<Vec<Core>>,
+    resters: Resters,
     seats: Vec<Seat>,
     back: Vec<Vec<Core>>,
     shared: &Shared,
+    bells: &Bells,
+    root: &mut BellRoot,
     gate: &G,
     leave: &AtomicU64,
     feeder: W,
@@ -39,6 +46,8 @@ pub(crate) fn in_scope<R: Threads + Wait + Sync, W: Feeder + Drop, G: Gate + Syn
     requires seats { (vec_len seats ≡ 0) × (vec_len groups ≤ vec_capacity seats) }
     requires back { (vec_len back ≡ 0) × (vec_len groups ≤ vec_capacity back) }
     requires fits { AllFit shared.now (all_of_groups groups.items) }
+    requires rests { (AllAt bells.now resters) × (root.old.bells ≡ bells.now) }
+    requires count { (length bells.now ≡ length shared.now.rings) × (length bells.now ≤ 64) }
     requires fresh { ¬ W.ended feeder × ¬ W.broken feeder }
     ensures same { all_of_groups result.1.groups.items ≡ all_of_groups groups.items }
     ensures settled { result.1.is_done ≡ true → AllSettled result.1.groups.items }
@@ -53,7 +62,9 @@ pub(crate) fn in_scope<R: Threads + Wait + Sync, W: Feeder + Drop, G: Gate + Syn
         move |scope| -> (W, Ran)
             requires { (vec_len groups ≤ 64) × ((vec_len seats ≡ 0) × (vec_len groups ≤ vec_capacity seats))
                 × ((vec_len back ≡ 0) × (vec_len groups ≤ vec_capacity back))
-                × AllFit shared.now (all_of_groups groups.items) × (¬ W.ended feeder × ¬ W.broken feeder) }
+                × AllFit shared.now (all_of_groups groups.items)
+                × ((AllAt bells.now resters) × (root.now.bells ≡ bells.now))
+                × ((length bells.now ≡ length shared.now.rings) × (length bells.now ≤ 64)) × (¬ W.ended feeder × ¬ W.broken feeder) }
             ensures same { all_of_groups result.1.groups.items ≡ all_of_groups groups.items }
             ensures settled { result.1.is_done ≡ true → AllSettled result.1.groups.items }
             ensures ended { result.1.how ≡ How.Ended → W.ended result.0 }
@@ -66,9 +77,12 @@ pub(crate) fn in_scope<R: Threads + Wait + Sync, W: Feeder + Drop, G: Gate + Syn
                 scope,
                 rt,
                 groups,
+                resters,
                 seats,
                 back,
                 shared,
+                bells,
+                root,
                 gate,
                 leave,
                 &mut feeder,
@@ -84,9 +98,12 @@ fn run<'s, E, R: Threads + Wait + Sync, F: Feeder, G: Gate + Sync>(
     scope: &Scope<'s, E>,
     rt: &'s R,
     groups: Vec<Vec<Core>>,
+    resters: Resters,
     seats: Vec<Seat>,
     back: Vec<Vec<Core>>,
     shared: &'s Shared,
+    bells: &'s Bells,
+    root: &mut BellRoot,
     gate: &'s G,
     leave: &'s AtomicU64,
     feeder: &mut F,
@@ -95,6 +112,8 @@ fn run<'s, E, R: Threads + Wait + Sync, F: Feeder, G: Gate + Sync>(
     requires seats { (vec_len seats ≡ 0) × (vec_len groups ≤ vec_capacity seats) }
     requires back { (vec_len back ≡ 0) × (vec_len groups ≤ vec_capacity back) }
     requires fits { AllFit shared.now (all_of_groups groups.items) }
+    requires rests { (AllAt bells.now resters) × (root.old.bells ≡ bells.now) }
+    requires count { (length bells.now ≡ length shared.now.rings) × (length bells.now ≤ 64) }
     requires fresh { ¬ F.ended feeder.old × ¬ F.broken feeder.old }
     ensures same { all_of_groups result.groups.items ≡ all_of_groups groups.items }
     ensures settled { result.is_done ≡ true → AllSettled result.groups.items }
@@ -105,11 +124,13 @@ fn run<'s, E, R: Threads + Wait + Sync, F: Feeder, G: Gate + Sync>(
 {
     let mut seats = seats;
     let mut back = back;
-    let (mut watch, _) = shared.control.watch();
-    start_all(scope, rt, groups, &mut seats, shared, gate, leave);
-    let how = tend(rt, &mut seats, shared, gate, feeder, &mut watch);
+    let mut caller = Caller::new(shared, root, resters.are_some());
+    start_all(
+        scope, rt, groups, resters, &mut seats, shared, bells, gate, leave,
+    );
+    let how = tend(rt, &mut seats, shared, bells, gate, feeder, &mut caller);
     if how != How::Ended {
-        shared.control.stop(&mut watch);
+        caller.stop(shared, bells);
     }
     let is_done = join_all(rt, seats, &mut back);
     Ran {

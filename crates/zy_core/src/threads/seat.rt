@@ -1,17 +1,21 @@
 //! Where a group of cores is.
-ghost use Rattle.std.specs.Prelude.{◌≡◌, true};
+ghost use Rattle.std.specs.Prelude.{◌≡◌, true, length};
 ghost use Rattle.zy_core.specs.Drive.{identities, EachFits, EachSettled};
+ghost use Rattle.zy_core.specs.Group.{CanRest};
 ghost use Rattle.zy_core.specs.Seat.{seat_identities};
 
 use crate::logical_core::Core;
+use crate::round::Round;
 use crate::shared::Shared;
 use crate::threads::group::Group;
+use crate::threads::resting::{Rester, call_up, go_on};
 use std::snapshot::Snapshot;
 use std::sync::Wait;
 use std::sync::atomic::{AtomicU64, Ordering};
 use std::thread;
 use std::thread::{Promise, PromisedHandle, Scope, Threads};
 use zy_base::{Gate, NoMemory};
+use zy_park::Bells;
 
 // The cores come back as they went out.
 #[derive(Drop)]
@@ -39,21 +43,26 @@ pub(crate) fn start_group<'s, E, R: Wait + Sync, G: Gate + Sync>(
     scope: &Scope<'s, E>,
     rt: &'s R,
     group: Group,
+    rester: Option<Rester>,
     shared: &'s Shared,
+    bells: &'s Bells,
     gate: &'s G,
     leave: &'s AtomicU64,
     bit: u64,
 ) -> Seat
     requires fits { EachFits shared.now (identities group.cores) }
+    requires rests { CanRest bells.now (identities group.cores) rester }
+    requires count { length bells.now ≡ length shared.now.rings }
     ensures same { seat_identities result ≡ identities group.cores }
 {
     let before = Snapshot::of(&group);
     match scope.spawn_with(
         Keeps { before },
         move || -> Group
-            requires { EachFits shared.now (identities group.cores) }
+            requires { EachFits shared.now (identities group.cores)
+                × CanRest bells.now (identities group.cores) rester × (length bells.now ≡ length shared.now.rings) }
             ensures same { identities result.cores ≡ identities group.cores }
-        { drive_group(rt, group, shared, gate, leave, bit) },
+        { drive_group(rt, group, rester, shared, bells, gate, leave, bit) },
     ) {
         Ok(handle) => Seat::Away(handle),
         Err(refused) => {
@@ -67,30 +76,40 @@ pub(crate) fn start_group<'s, E, R: Wait + Sync, G: Gate + Sync>(
 fn drive_group<R: Wait, G: Gate>(
     rt: &R,
     group: Group,
+    rester: Option<Rester>,
     shared: &Shared,
+    bells: &Bells,
     gate: &G,
     leave: &AtomicU64,
     bit: u64,
 ) -> Group
     requires fits { EachFits shared.now (identities group.cores) }
+    requires rests { CanRest bells.now (identities group.cores) rester }
+    requires count { length bells.now ≡ length shared.now.rings }
     ensures same { identities result.cores ≡ identities group.cores }
 {
     let mut group = group;
+    let mut rester = rester;
     let (mut watch, mut is_stopped) = shared.control.watch();
     for _ in rt.forever() {
         if is_stopped || leave.load(Ordering::SeqCst) & bit != 0 {
+            drop(rester);
             return group;
         }
-        match group.go_on(shared, gate) {
-            Ok(worked) => {
+        match go_on(rt, &mut group, &mut rester, shared, bells, gate) {
+            Ok(round) => {
                 if group.is_done() {
+                    drop(rester);
                     return group;
                 }
-                if !worked {
+                if round == Round::Idle {
                     thread::yield_now();
                 }
             }
-            Err(NoMemory) => shared.control.stop(&mut watch),
+            Err(NoMemory) => {
+                shared.control.stop(&mut watch);
+                call_up(&mut group, &mut rester, shared, bells);
+            }
         }
         is_stopped = shared.control.is_stopped(&mut watch);
     }

@@ -2,8 +2,8 @@ use Rattle.std.proofs.Common.{arith, rules}
 use Rattle.zy_core.proofs.CoreLemmas.{fits_there, same_there}
 use Rattle.zy_core.proofs.rounds.note_each.Goals as goal
 
-pub note-requires : goal.note-requires
-note-requires c =
+pub note-now-requires : goal.note-now-requires
+note-now-requires c =
     let near = c.loop-i-test.true in let len = c.loop-i.invariant.len in let whole = c.len-i-end.ensures in
     record { fits = fits_there c.args.shared.now c.args.cores.now.items c.loop-i.cores.items c.loop-i.i c.index_mut-core.result.now (omega arith) c.index_mut-core.ensures.value c.loop-i.invariant.same c.requires.fits }
 
@@ -11,6 +11,6 @@ pub loop-i-preserved : goal.loop-i-preserved
 loop-i-preserved c =
     let near = c.loop-i-test.true in let len = c.loop-i.invariant.len in let whole = c.len-i-end.ensures in
     record {
-      same = same_there c.args.cores.now.items c.loop-i.cores.items c.loop-i.i c.index_mut-core.result.now c.note.new.self (omega arith) c.index_mut-core.ensures.value c.note.ensures.same c.loop-i.invariant.same;
+      same = same_there c.args.cores.now.items c.loop-i.cores.items c.loop-i.i c.index_mut-core.result.now c.note-now.new.self (omega arith) c.index_mut-core.ensures.value c.note-now.ensures.same c.loop-i.invariant.same;
       len = search rules;
     }

@@ -7,3 +7,4 @@ invariant-loop g l =
     (goal.iterator-loop g).can_next l.iterator' × (goal.iterator-loop g).is_finite l.iterator'
     × (identities l.group.cores ≡ identities l.fn.group.cores)
     × (l.watch.table ≡ l.fn.shared.control.id)
+    × (l.rester ≡ l.fn.rester)

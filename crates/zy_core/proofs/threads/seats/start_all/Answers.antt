@@ -16,6 +16,7 @@ loop-t-init g c = (
   omega arith,
   c.requires.fits,
   refl,
+  c.requires.bells,
 )
 
 pub loop-t-preserved : goal.loop-t-preserved
@@ -31,9 +32,13 @@ loop-t-preserved g c =
           ∙ taken_on (λ (g : Vec Core Global). identities g.items) (all_of_seats c.loop-t.seats.items) c.loop-t.groups.items c.remove.result c.remove.new.self.items (seat_identities c.start_group-seat.result) (let ok = c.loop-t.groups.ok.0 in omega (arith, inv.0)) c.remove.ensures.value c.remove.ensures.items
           (c.start_group-seat.ensures.same ∙ ap (λ (g : Grouped). identities g.cores) c.new-group.ensures.value)
           ∙ inv.6,
+      c.next-rester.ensures.left c.args.bells.now inv.7,
     )
 
 pub returns-clause-same : goal.returns-clause-same
 returns-clause-same g c =
     let end = c.loop-t-test.false in let ok = c.loop-t.groups.ok.0 in
     none_left (all_of_seats c.loop-t.seats.items) (all_of_seats c.args.seats.now.items ++ all_of_groups c.args.groups.items) c.loop-t.groups.items (omega (arith, c.loop-t.invariant.0)) c.loop-t.invariant.6
+
+pub start_group-seat-requires-clause-rests : goal.start_group-seat-requires-clause-rests
+start_group-seat-requires-clause-rests g c = λ lifetimes within. c.next-rester.ensures.rests c.args.bells.now c.loop-t.invariant.7
