@@ -18,12 +18,7 @@ fn ring_and_rest<R: Wait>(rt: &R, bells: &Bells, mut pass: BellPass, core: u32)
 }
 
 // Each of two threads rings the core of the other, and then rests.
-fn ring_one_another<R: Threads + Wait + Sync>(
-    rt: &R,
-    bells: &Bells,
-    one: BellPass,
-    two: BellPass,
-)
+fn ring_one_another<R: Threads + Wait + Sync>(rt: &R, bells: &Bells, one: BellPass, two: BellPass)
     requires one { one.bells ≡ bells.now }
     requires two { two.bells ≡ bells.now }
     requires cores { 1 < length bells.now }

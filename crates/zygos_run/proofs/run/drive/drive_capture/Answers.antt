@@ -1,4 +1,4 @@
-use Rattle.std.proofs.Common.{rules, ◌≡◌, ◌≤◌, refl, sym, ap, ◌∙◌, subst, Some}
+use Rattle.std.proofs.Common.{rules, ◌≡◌, ◌≤◌, length, refl, sym, ap, ◌∙◌, subst, Some}
 use Rattle.zy_rx.specs.Feed.{sent_by}
 use Rattle.zy_feed.specs.Reads.{StopsBy}
 use Rattle.zy_feed.specs.Feeding.{stop_in, HasFedAll}
@@ -54,4 +54,6 @@ pub returns-in-Settled-clause-cores : goal.returns-in-Settled-clause-cores
 returns-in-Settled-clause-cores g c = driven_count c.args.run c.args.prepared c.in-Settled.cores c.requires.prepared (search rules)
 
 pub drive_cores-driven-requires-clause-count : goal.drive_cores-driven-requires-clause-count
-drive_cores-driven-requires-clause-count g c = rings_count c.args.run c.args.prepared c.requires.prepared
+drive_cores-driven-requires-clause-count g c =
+    let count : length c.args.prepared.shared.rings ≡ c.args.run.cores = rings_count c.args.run c.args.prepared c.requires.prepared in
+    search rules
