@@ -9,11 +9,15 @@ kind and number of threads the medians of wall seconds and of processor seconds 
 thread, and from the journal of one further run the number of holds, the commands of a hold, how many holds had 1, 2 to 3,
 4 to 7 and so on up to 64 commands, and the share that was by another core than the connection's home.
 
+Then `even` is served by 2 and 4 cores on as many threads with `--rest 0` and with `--rest 100`: from a file, and over a pipe
+that gives it in 20 pieces, with a pause of 100 ms after each. The pauses are in the wall seconds; processor seconds are those
+of the program alone.
+
 usage: bench/run scale [--commands N] [--runs N] [--only KIND] [--picture] [PROGRAM]
 
 --commands N  the number of commands (1000000)
 --runs N      the number of timed runs of each kind (5)
---only KIND   even, skewed or large alone
+--only KIND   even, skewed or large alone, or `rest` for the runs with and without rest
 --picture     writes docs/scale.svg, for which all kinds are served
 PROGRAM       a program that is built (otherwise ./zygos, which proves and builds it first where it isn't)
 """
@@ -31,6 +35,7 @@ CONNECTIONS, MOST, NUMBERS = 200, 4, 4096
 THREADS = (1, 2, 3, 4)
 SEGMENT = 1400
 SIZES = ("1", "2-3", "4-7", "8-15", "16-31", "32-63", "64")
+RESTS, RESTING, PIECES, PAUSE = (0, 100), (2, 4), 20, 0.1
 
 
 def segments(capture):
@@ -90,6 +95,43 @@ def run(program, words, path, sink):
     if status:
         sys.exit(f"bench/run scale: the run ended with status {status >> 8}")
     return time.time() - begin, used.ru_utime + used.ru_stime
+
+
+def give(path, end):
+    """Writes a file to a pipe in pieces, with a pause after each."""
+    size = os.path.getsize(path) // PIECES + 1
+    with open(path, "rb") as source, open(end, "wb", buffering=0) as pipe:
+        while piece := source.read(size):
+            left = memoryview(piece)
+            while left:
+                left = left[pipe.write(left) :]
+            time.sleep(PAUSE)
+
+
+def run_paused(program, words, path, sink):
+    """Seconds and processor seconds of a run whose input comes over a pipe that pauses."""
+    taken, given = os.pipe()
+    begin = time.time()
+    process = subprocess.Popen([program, "run", *words], stdin=taken, stdout=sink)
+    os.close(taken)
+    give(path, given)
+    _, status, used = os.wait4(process.pid, 0)
+    if status:
+        sys.exit(f"bench/run scale: the run ended with status {status >> 8}")
+    return time.time() - begin, used.ru_utime + used.ru_stime
+
+
+def with_rests(program, path, runs):
+    """Prints what the even capture costs with and without rest, from a file and over a pipe that pauses."""
+    for serve, name in ((run, "from a file"), (run_paused, f"with {PIECES} pauses of {PAUSE * 1000:.0f} ms")):
+        for threads in RESTING:
+            for rest in RESTS:
+                words = ["--cores", str(threads), "--threads", str(threads), "--rest", str(rest)]
+                with open(os.devnull, "wb") as sink:
+                    times = [serve(program, words, path, sink) for _ in range(runs)]
+                wall, used = (statistics.median(column) for column in zip(*times))
+                print(f"even, {name}, {threads} cores on as many threads, --rest {rest}: {wall:.2f} s, "
+                      f"{used:.2f} s of processor time", flush=True)
 
 
 def holds(program, words, path, commands):
@@ -165,7 +207,7 @@ def words_given():
     words = argparse.ArgumentParser(description=__doc__.strip(), formatter_class=argparse.RawDescriptionHelpFormatter)
     words.add_argument("--commands", type=int, default=1000000)
     words.add_argument("--runs", type=int, default=5)
-    words.add_argument("--only", choices=KINDS)
+    words.add_argument("--only", choices=[*KINDS, "rest"])
     words.add_argument("--picture", action="store_true")
     words.add_argument("program", nargs="?", default=os.path.join(TOP, "zygos"))
     return words.parse_args()
@@ -173,7 +215,7 @@ def words_given():
 
 def main():
     given = words_given()
-    kinds = [given.only] if given.only and not given.picture else list(KINDS)
+    kinds = [given.only] if given.only and not given.picture else [*KINDS, "rest"]
     commands = max(1, given.commands // CONNECTIONS) * CONNECTIONS
     capture, found = generated(given.program, commands), {}
     load = ", ".join(f"{part:.1f}" for part in os.getloadavg())
@@ -181,10 +223,13 @@ def main():
     with tempfile.TemporaryDirectory() as room:
         for kind in kinds:
             path = os.path.join(room, kind)
-            written(path, KINDS[kind](segments(capture)))
-            for threads in THREADS:
-                found[kind, threads] = measured(given.program, path, threads, threads, given.runs, commands)
-                report(found, kind, threads)
+            written(path, KINDS.get(kind, KINDS["even"])(segments(capture)))
+            if kind == "rest":
+                with_rests(given.program, path, given.runs)
+            else:
+                for threads in THREADS:
+                    found[kind, threads] = measured(given.program, path, threads, threads, given.runs, commands)
+                    report(found, kind, threads)
             os.remove(path)
     if given.picture:
         with open(os.path.join(TOP, "docs", "scale.svg"), "w", encoding="utf-8") as file:

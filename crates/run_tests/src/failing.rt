@@ -145,11 +145,12 @@ fn a_write_that_fails_ends_the_report(rt: HostRuntime) {
     }
 }
 
-// Words for three cores, on one thread and on several.
-const WORDS: [[&[u8]; 3]; 3] = [
-    [b"run", b"--cores=3", b"--threads=1"],
-    [b"run", b"--cores=3", b"--threads=2"],
-    [b"run", b"--cores=3", b"--threads=3"],
+// Words for three cores: on one thread, on several, and with cores that rest.
+const WORDS: [[&[u8]; 4]; 4] = [
+    [b"run", b"--cores=3", b"--rest=0", b"--threads=1"],
+    [b"run", b"--cores=3", b"--rest=0", b"--threads=2"],
+    [b"run", b"--cores=3", b"--rest=0", b"--threads=3"],
+    [b"run", b"--cores=3", b"--rest=1", b"--threads=3"],
 ];
 
 // Whether the feeder breaks at its third step, and the run ends.

@@ -16,8 +16,8 @@ const FOUR_OF_SEVEN: &[u8] =
 // Words, and a capture.
 struct Case(&'static [&'static [u8]], &'static [u8]);
 
-// One core; two that steal, by number and by draws; two on two threads; and a test run.
-const CASES: [Case; 6] = [
+// One core; two that steal, by number and by draws; two on two threads, which rest or not; and a test run.
+const CASES: [Case; 7] = [
     Case(&[b"run", b"--cores=1"], FOUR_OF_SEVEN),
     Case(&[b"run", b"--cores=2", b"--threads=1"], TWO_OF_THREE),
     Case(&[b"run", b"--cores=2", b"--threads=1"], FOUR_OF_SEVEN),
@@ -26,6 +26,10 @@ const CASES: [Case; 6] = [
         FOUR_OF_SEVEN,
     ),
     Case(&[b"run", b"--cores=2", b"--threads=2"], FOUR_OF_SEVEN),
+    Case(
+        &[b"run", b"--cores=2", b"--threads=2", b"--rest=1"],
+        FOUR_OF_SEVEN,
+    ),
     Case(&[b"self", b"--conns=7", b"--cores=2", b"--threads=1"], b""),
 ];
 

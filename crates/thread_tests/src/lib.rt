@@ -1,4 +1,4 @@
-//! Tests of what threads share: the store, rings, thieves and control words, on real threads.
+//! Tests of what threads share: the store, rings, thieves, bells and control words, on real threads.
 #![tactic(auto)]
 
 #[cfg(test)]
@@ -13,6 +13,8 @@ mod items;
 mod judging;
 #[cfg(test)]
 mod places;
+#[cfg(test)]
+mod resting;
 #[cfg(test)]
 mod thieves;
 #[cfg(test)]

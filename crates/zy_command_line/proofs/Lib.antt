@@ -1,5 +1,6 @@
 mod Ascii
 mod Rows
+mod Words
 mod Taken
 mod Turns
 mod Spelling

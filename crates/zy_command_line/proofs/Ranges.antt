@@ -1,5 +1,5 @@
 -- The values of a lawful request are in their ranges.
-use Rattle.std.proofs.Common.{◌≡◌, ℕ, ◌*◌, ◌≤◌, List, [], ◌∷◌, refl, sym, Bool, true, false, arith, min}
+use Rattle.std.proofs.Common.{◌≡◌, ℕ, ◌*◌, ◌≤◌, List, [], ◌∷◌, refl, Bool, true, false, arith, min}
 use Rattle.std.specs.Prelude.{Option, Some, None, nat_le, ◌&&◌, if◌then◌else◌, option_and_then, option_map, length, codes}
 use Rattle.std.proofs.lemmas.Bool.{leb-true}
 use Rattle.zy_base.specs.Number.{number_of}
@@ -11,7 +11,7 @@ use Rattle.zy_command_line.specs.declared.request.Request.{Request}
 use Rattle.zy_command_line.specs.declared.request.Request.TheVariants as Requests
 use Rattle.zy_command_line.specs.declared.verb.Verb.{Verb}
 use Rattle.zy_command_line.specs.declared.verb.Verb.TheVariants as Verbs
-use Rattle.zy_command_line.specs.Request.{in_range, number_in, number_or, cores_of, threads_of, order_of, shards_of, port_of, out_of, run_on, run_of, traffic_of, traffic_within, seed_of, conns_of, commands_of, run_by, self_by, asked_by, asked_with, verb_named, names_of, request_of}
+use Rattle.zy_command_line.specs.Request.{in_range, number_or, cores_of, threads_of, order_of, shards_of, idle_turns_of, port_of, out_of, run_on, run_of, traffic_of, traffic_within, seed_of, conns_of, commands_of, asked_by, asked_with, verb_named, names_of, request_of}
 use Rattle.zy_command_line.specs.Range.{IsRunnable, AreShards, IsPort, IsMakeable}
 
 -- a number, if it is given, is in its range
@@ -46,22 +46,28 @@ abbrev IsFine : Option Run → Type 0
 IsFine None = Unit {0}
 IsFine (Some run) = IsRunnable run
 
-sharded : (cores threads : ℕ) (order : Option ℕ) (shards : Option ℕ) → 1 ≤ cores → cores ≤ 64 → 1 ≤ threads → threads ≤ cores → IsFrom 1 256 shards
-    → IsFine (option_map (λ n. record { cores = cores; threads = threads; order = order; shards = n }) shards)
-sharded cores threads order None a b c d is = tt
-sharded cores threads order (Some n) a b c d is = record { some_cores = a; few_cores = b; some_threads = c; few_threads = d; some_shards = is.0; few_shards = is.1 }
+resting : (cores threads shards : ℕ) (order : Option ℕ) (rest : Option ℕ) → 1 ≤ cores → cores ≤ 64 → 1 ≤ threads → threads ≤ cores → 1 ≤ shards → shards ≤ 256 → IsFrom 0 1000000 rest
+    → IsFine (option_map (λ n. record { cores = cores; threads = threads; order = order; shards = shards; rest = n }) rest)
+resting cores threads shards order None a b c d e f is = tt
+resting cores threads shards order (Some n) a b c d e f is =
+    record { some_cores = a; few_cores = b; some_threads = c; few_threads = d; some_shards = e; few_shards = f; few_turns = is.1 }
 
-ordered : (cores threads : ℕ) (order : Option (Option ℕ)) (shards : Option ℕ) → 1 ≤ cores → cores ≤ 64 → 1 ≤ threads → threads ≤ cores → IsFrom 1 256 shards
-    → IsFine (option_and_then (λ order. option_map (λ n. record { cores = cores; threads = threads; order = order; shards = n }) shards) order)
-ordered cores threads None shards a b c d is = tt
-ordered cores threads (Some order) shards a b c d is = sharded cores threads order shards a b c d is
+sharded : (cores threads : ℕ) (order shards rest : Option ℕ) → 1 ≤ cores → cores ≤ 64 → 1 ≤ threads → threads ≤ cores → IsFrom 1 256 shards → IsFrom 0 1000000 rest
+    → IsFine (option_and_then (λ s. option_map (λ n. record { cores = cores; threads = threads; order = order; shards = s; rest = n }) rest) shards)
+sharded cores threads order None rest a b c d is each = tt
+sharded cores threads order (Some n) rest a b c d is each = resting cores threads n order rest a b c d is.0 is.1 each
+
+ordered : (cores threads : ℕ) (order : Option (Option ℕ)) (shards rest : Option ℕ) → 1 ≤ cores → cores ≤ 64 → 1 ≤ threads → threads ≤ cores → IsFrom 1 256 shards → IsFrom 0 1000000 rest
+    → IsFine (option_and_then (λ order. option_and_then (λ s. option_map (λ n. record { cores = cores; threads = threads; order = order; shards = s; rest = n }) rest) shards) order)
+ordered cores threads None shards rest a b c d is each = tt
+ordered cores threads (Some order) shards rest a b c d is each = sharded cores threads order shards rest a b c d is each
 
 threaded : (cores : ℕ) (options : Options) (number : Option ℕ) → 1 ≤ cores → cores ≤ 64 → IsFrom 1 64 number
     → IsFine (option_and_then (λ threads. run_on cores threads options) (option_map (min cores) number))
 threaded cores options None a b is = tt
 threaded cores options (Some n) a b is =
-    let one = is.0 in ordered cores (min cores n) (order_of (min cores n) options) (shards_of options) a b (omega (arith, one)) (omega arith)
-    (given 1 256 16 (value_of (codes "shards") options) (omega arith) (omega arith))
+    let one = is.0 in ordered cores (min cores n) (order_of (min cores n) options) (shards_of options) (idle_turns_of options) a b (omega (arith, one)) (omega arith)
+    (given 1 256 16 (value_of (codes "shards") options) (omega arith) (omega arith)) (given 0 1000000 0 (value_of (codes "rest") options) (omega arith) (omega arith))
 
 cored : (options : Options) (number : Option ℕ) → IsFrom 1 64 number → IsFine (option_and_then (λ cores. option_and_then (λ threads. run_on cores threads options) (threads_of cores options)) number)
 cored options None is = tt

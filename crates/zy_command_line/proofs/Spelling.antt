@@ -6,9 +6,10 @@ use Rattle.clap.specs.Lexer.{long_of}
 use Rattle.clap.specs.Kinds.{Kinds, or_else}
 use Rattle.clap.specs.Walk.{Row, Text, Held, Walk, has_row, Waiting, idle, option}
 use Rattle.clap.specs.Faults.{walk_fault}
-use Rattle.zy_command_line.specs.Grammar.{Options, is_among, with_first, value_then, option_then, options_from}
+use Rattle.zy_command_line.specs.Grammar.{Options, option_in, is_among, with_first, value_then, option_then, options_from}
 use Rattle.zy_command_line.specs.Splitting.{row_of_option, rows_for}
 use Rattle.zy_command_line.proofs.Rows.{SameUse, same_use, rows_used}
+use Rattle.zy_command_line.proofs.Words.{option_in_is}
 use Rattle.zy_command_line.proofs.Turns.{Fails, IsWord, held, standing, turn_by, walk_by, faults, end_rows, faults_turn, rows_turn, S, stray, unknown, one_word, repeated, alone, missing, given, settled_turn, settled_again, end_waits, end_again, end_given}
 
 -- the words have a fault exactly where they spell no options; otherwise they leave the rows of the
@@ -186,10 +187,11 @@ module _ (command : Text) (names : List Text) where
     has_again = λ rows id text has again. end_again command names rows id text has again;
   }
   reads (w ∷ ws) are =
-      let next = reads ws are.1 in record {
-        start = λ rows before same. start_by (long_of w) w ws rows before are.0 refl same next;
-        waits = λ rows before id same has fresh. waits_by (long_of w) w ws rows before id are.0 refl same has fresh next;
-        has = λ rows before id text same has fresh. has_by (long_of w) w ws rows before id text are.0 refl same has fresh next;
-        waits_again = λ rows id has again. waits_again_by (long_of w) w ws rows id are.0 refl has again next;
-        has_again = λ rows id text has again. has_again_by (long_of w) w ws rows id text are.0 refl has again;
+      let next = reads ws are.1 in
+      let is : long_of w ≡ option_in w = sym (option_in_is w) in record {
+        start = λ rows before same. start_by (option_in w) w ws rows before are.0 is same next;
+        waits = λ rows before id same has fresh. waits_by (option_in w) w ws rows before id are.0 is same has fresh next;
+        has = λ rows before id text same has fresh. has_by (option_in w) w ws rows before id text are.0 is same has fresh next;
+        waits_again = λ rows id has again. waits_again_by (option_in w) w ws rows id are.0 is has again next;
+        has_again = λ rows id text has again. has_again_by (option_in w) w ws rows id text are.0 is has again;
       }

@@ -10,9 +10,10 @@ use Rattle.clap.specs.Kinds.{Kinds, or_else}
 use Rattle.clap.specs.Walk.{Row, Text, Held, Walk, walked, has_row, Waiting, idle, option, long_or_other, after_step, used, settled}
 use Rattle.clap.specs.Simple.{Shape}
 use Rattle.clap.specs.Faults.{walk_fault, turn_fault, settle_fault, flag_word_fault, step_fault}
-use Rattle.zy_command_line.specs.Grammar.{is_among, is_option, is_plain, is_ascii, has_hyphen}
+use Rattle.zy_command_line.specs.Grammar.{is_among, option_in, is_option, is_plain, is_ascii, has_hyphen}
 use Rattle.zy_command_line.specs.Splitting.{plain_rule, shape_with}
 use Rattle.zy_command_line.proofs.Rows.{by_index, by_long, by_id}
+use Rattle.zy_command_line.proofs.Words.{option_in_is}
 
 abbrev pub held : List Row → Option (Text × List Text) → Held
 held rows pending = record { rows = rows; pending = pending; skip = 0 }
@@ -63,7 +64,7 @@ not_dashes word e true is =
 pub word_is : (word : Text) → is_plain word ≡ true → IsWord word
 word_is word plain =
     let e = both (is_ascii word) (is_option word || not (has_hyphen word)) plain in
-    record { apart = not_dashes word e (bytes_eq word dashes) refl; no_flags = λ none. short_told word (hyphen_told (is_option word) (has_hyphen word) e (long_told (long_of word) none)) }
+    record { apart = not_dashes word e (bytes_eq word dashes) refl; no_flags = λ none. short_told word (hyphen_told (is_option word) (has_hyphen word) e (long_told (option_in word) (option_in_is word ∙ none))) }
 
 -- ---- one turn
 

@@ -2,7 +2,6 @@
 use Rattle.std.specs.Prelude.{ℕ, Bool, true, false, ◌&&◌, ◌||◌, ◌==◌, not, nat_lt, List, [], ◌∷◌, Option, None, Some, is_some, if◌then◌else◌, option_map, option_and_then}
 use Rattle.std.specs.Str.{bytes_eq}
 use Rattle.std.specs.List.{list_any, list_all}
-use Rattle.clap.specs.Lexer.{long_of}
 
 -- a word, as its bytes
 abbrev pub Word : Type 0
@@ -23,9 +22,20 @@ abbrev pub has_hyphen : Word → Bool
 has_hyphen [] = false
 has_hyphen (byte ∷ bytes) = byte == 45
 
--- a word that is `--name` or `--name=value`, with at least one byte after the hyphens
+-- a text as the name before its first `=`, and the value after that, if there is one
+abbrev pub name_and_value : Word → Word × Option Word
+name_and_value [] = ([], None)
+name_and_value (byte ∷ bytes) = if byte == 61 then ([], Some bytes)
+    else (byte ∷ (name_and_value bytes).0, (name_and_value bytes).1)
+
+-- the name and the value of `--name` or `--name=value`, a word with two hyphens and at least one byte after them
+abbrev pub option_in : Word → Option (Word × Option Word)
+option_in (first ∷ second ∷ byte ∷ bytes) = if first == 45 && second == 45 then Some (name_and_value (byte ∷ bytes)) else None
+option_in word = None
+
+-- a word that is `--name` or `--name=value`
 abbrev pub is_option : Word → Bool
-is_option word = is_some (long_of word)
+is_option word = is_some (option_in word)
 
 -- the word is ASCII text, and an option if it begins with a hyphen
 abbrev pub is_plain : Word → Bool
@@ -59,7 +69,7 @@ options_from names used None [] = Some []
 options_from names used (Some name) [] = None
 options_from names used None (word ∷ words) = option_and_then (λ o. if is_among names o.0 && not (is_among used o.0)
     then option_then o.0 o.1 (options_from names (o.0 ∷ used) None words) (options_from names used (Some o.0) words)
-    else None) (long_of word)
+    else None) (option_in word)
 options_from names used (Some name) (word ∷ words) =
     value_then (is_option word) name word (options_from names (name ∷ used) None words)
 

@@ -3,7 +3,7 @@ use Rattle.std.specs.Prelude.{◌≤◌, ◌*◌, ℕ}
 use Rattle.zy_command_line.specs.declared.request.Run.{Run}
 use Rattle.zy_command_line.specs.declared.request.Traffic.{Traffic}
 
--- the cores, threads and shards of a run are in their ranges
+-- the cores, threads, shards and idle turns of a run are in their ranges
 pub record IsRunnable (run : Run) : Type 0 where
   pub some_cores : 1 ≤ run.cores
   pub few_cores : run.cores ≤ 64
@@ -11,6 +11,7 @@ pub record IsRunnable (run : Run) : Type 0 where
   pub few_threads : run.threads ≤ run.cores
   pub some_shards : 1 ≤ run.shards
   pub few_shards : run.shards ≤ 256
+  pub few_turns : run.rest ≤ 1000000
 
 -- there are 1 to 256 shards
 abbrev pub AreShards : ℕ → Type 0

@@ -54,6 +54,10 @@ order_of threads options = order_from threads (value_of (codes "order") options)
 abbrev pub shards_of : Options → Option ℕ
 shards_of options = number_or 1 256 16 (value_of (codes "shards") options)
 
+-- the turns in a row without work after which an idle core rests, 0 to 1,000,000; with 0 none rests
+abbrev pub idle_turns_of : Options → Option ℕ
+idle_turns_of options = number_or 0 1000000 0 (value_of (codes "rest") options)
+
 -- the port of recorded packets, 1 to 65,535
 abbrev pub port_of : Options → Option ℕ
 port_of options = number_or 1 65535 11211 (value_of (codes "port") options)
@@ -87,9 +91,9 @@ commands_of options = number_or 1 1000000 100 (value_of (codes "commands") optio
 
 -- the options of a run with `threads` threads
 abbrev pub run_on : ℕ → ℕ → Options → Option Run
-run_on cores threads options = option_and_then (λ order. option_map (λ shards.
-    record { cores = cores; threads = threads; order = order; shards = shards }) (shards_of options))
-    (order_of threads options)
+run_on cores threads options = option_and_then (λ order. option_and_then (λ shards. option_map (λ rest.
+    record { cores = cores; threads = threads; order = order; shards = shards; rest = rest }) (idle_turns_of options))
+    (shards_of options)) (order_of threads options)
 
 -- the options of a run
 abbrev pub run_of : Options → Option Run
@@ -122,11 +126,11 @@ verb_named word = if bytes_eq word (codes "run") then Some Verbs.Run
 
 -- the options that a command takes
 abbrev pub names_of : Verb → List Word
-names_of Verbs.Run = codes "cores" ∷ codes "threads" ∷ codes "order" ∷ codes "out" ∷ codes "shards" ∷ []
+names_of Verbs.Run = codes "cores" ∷ codes "threads" ∷ codes "order" ∷ codes "out" ∷ codes "shards" ∷ codes "rest" ∷ []
 names_of Verbs.Check = codes "shards" ∷ []
 names_of Verbs.Gen = codes "number" ∷ codes "conns" ∷ codes "commands" ∷ []
 names_of Verbs.SelfTest = codes "number" ∷ codes "conns" ∷ codes "commands" ∷ codes "cores" ∷ codes "threads" ∷ codes
-    "order" ∷ codes "shards" ∷ []
+    "order" ∷ codes "shards" ∷ codes "rest" ∷ []
 names_of Verbs.Pcap = codes "port" ∷ []
 names_of Verbs.Report = []
 

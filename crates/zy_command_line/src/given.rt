@@ -2,7 +2,7 @@
 ghost use Rattle.std.specs.Prelude.{◌≡◌, ◌≤◌, option_map};
 ghost use Rattle.zy_command_line.specs.Grammar.{Options};
 ghost use Rattle.zy_command_line.specs.Splitting.{HasOptions};
-ghost use Rattle.zy_command_line.specs.Request.{cores_of, threads_of, order_of, order_from, shards_of, port_of, out_of, out_from, run_of, traffic_of, seed_of, conns_of, commands_of};
+ghost use Rattle.zy_command_line.specs.Request.{cores_of, threads_of, order_of, order_from, shards_of, idle_turns_of, port_of, out_of, out_from, run_of, traffic_of, seed_of, conns_of, commands_of};
 
 use crate::number::{number_in, number_or};
 use crate::request::{Out, Run, Traffic};
@@ -53,11 +53,13 @@ pub(crate) fn run(given: &ArgMatches<'_>) -> Option<Run>
     let threads = threads(given, cores)?;
     let order = order(given, threads)?;
     let shards = shards(given)?;
+    let rest = rest(given)?;
     Some(Run {
         cores,
         threads,
         order,
         shards,
+        rest,
     })
 }
 
@@ -93,6 +95,12 @@ fn order_from(threads: u32, word: Option<&str>) -> Option<Option<u32>>
         Some(number) if threads == 1 => Some(Some(number)),
         _ => None,
     }
+}
+
+fn rest(given: &ArgMatches<'_>) -> Option<u32>
+    ensures value { (options : Options) → HasOptions options given.now → result ≡ idle_turns_of options }
+{
+    number_or(0, 1_000_000, 0, value(given, "rest"))
 }
 
 /// The traffic to make.

@@ -28,6 +28,8 @@ pub struct Run {
     pub order: Option<u32>,
     /// The number of shards, 1 to 256.
     pub shards: u32,
+    /// The turns in a row without work after which an idle core rests, 0 to 1,000,000; with 0 none rests.
+    pub rest: u32,
 }
 
 /// Traffic made from a number.

@@ -44,11 +44,11 @@ pub(crate) fn names_of(verb: Verb) -> &'static [&'static str]
     ensures value { map (λ name. name.now) result.now ≡ names_of verb }
 {
     match verb {
-        Verb::Run => &["cores", "threads", "order", "out", "shards"],
+        Verb::Run => &["cores", "threads", "order", "out", "shards", "rest"],
         Verb::Check => &["shards"],
         Verb::Gen => &["number", "conns", "commands"],
         Verb::SelfTest => &[
-            "number", "conns", "commands", "cores", "threads", "order", "shards",
+            "number", "conns", "commands", "cores", "threads", "order", "shards", "rest",
         ],
         Verb::Pcap => &["port"],
         Verb::Report => &[],

@@ -82,3 +82,7 @@ driven_of asked p r is header shared root same rings settled = record {
 pub driven_count : (asked : Run) (p : Prepared) (cores : List Cored) → IsPrepared asked p → identities cores ≡ identities p.cores → length cores ≡ asked.cores
 driven_count asked p cores is same =
     sym (length_map identity_of cores) ∙ ap (λ (l : List Identity). length l) same ∙ length_map identity_of p.cores ∙ is.count
+
+-- there is a ring for each core that was asked for
+pub rings_count : (asked : Run) (p : Prepared) → IsPrepared asked p → length p.shared.rings ≡ asked.cores
+rings_count asked p is = sym is.cores.count ∙ length_map identity_of p.cores ∙ is.count

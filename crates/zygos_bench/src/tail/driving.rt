@@ -1,5 +1,5 @@
 //! Driving the cores of a load.
-ghost use Rattle.std.specs.Prelude.{◌≡◌, ◌≤◌, IfOk};
+ghost use Rattle.std.specs.Prelude.{◌≡◌, ◌≤◌, length, IfOk};
 ghost use Rattle.zy_core.specs.Drive.{identities, AreCores};
 
 use crate::clock::monotonic;
@@ -16,6 +16,7 @@ use std::time::Clock;
 use zy_base::NoMemory;
 use zy_core::{Cores, Driven, Shared, drive};
 use zy_feed::Inlets;
+use zy_park::Bells;
 use zy_setup::{Made, Started, make, start};
 
 // The cores of a run, with what they share, and the root of their store.
@@ -95,10 +96,32 @@ fn serve<R: Threads + Wait + Clock + Sync>(
 ) -> (Times, Driven)
     requires threads { (1 ≤ load.cores) × (load.cores ≤ 8) }
     requires cores { AreCores shared.now (identities cores) }
+    requires count { length shared.now.rings ≡ load.cores }
 {
+    let (bells, mut root) = match Bells::new(alloc, load.cores) {
+        Ok(made) => made,
+        Err(NoMemory) => {
+            drop(inlets);
+            return (times, Driven::NoMemory(cores));
+        }
+    };
     times.begin(monotonic(rt));
     let mut feeder = Arrivals::new(rt, alloc, inlets.into_vec(), times);
-    let driven = drive(rt, alloc, cores, load.cores, shared, board, &mut feeder);
+    // No core rests.
+    let driven = drive(
+        rt,
+        alloc,
+        cores,
+        load.cores,
+        shared,
+        board,
+        &mut feeder,
+        &bells,
+        &mut root,
+        0,
+    );
+    drop(root);
+    drop(bells);
     (feeder.into_times(), driven)
 }
 
@@ -106,6 +129,7 @@ fn serve<R: Threads + Wait + Clock + Sync>(
 fn make_ready(alloc: Global, load: Load) -> Result<Ready, NoMemory>
     requires cores { (1 ≤ load.cores) × (load.cores ≤ 8) }
     ensures cores { IfOk result (λ ready. AreCores ready.shared (identities ready.cores)) }
+    ensures count { IfOk result (λ ready. length ready.shared.rings ≡ load.cores) }
 {
     let Started {
         homes,

@@ -1,5 +1,5 @@
 //! Driving the cores of a run while its capture is fed.
-ghost use Rattle.std.specs.Prelude.{◌≡◌, ◌≤◌, length, IfOk, IfErr};
+ghost use Rattle.std.specs.Prelude.{◌≡◌, ◌≢◌, ◌≤◌, length, IfOk, IfErr};
 ghost use Rattle.zy_feed.specs.Reads.{HasBegun, StopsBy};
 ghost use Rattle.zy_feed.specs.Feeding.{HasFedAll};
 ghost use Rattle.zy_rx.specs.Feed.{rings_of, sent_by};
@@ -12,13 +12,14 @@ use mc_store::Root;
 use std::alloc::Global;
 use std::sync::Wait;
 use std::thread::Threads;
-use zy_base::{Gate, Source};
+use zy_base::{Gate, NoMemory, Source};
 use zy_command_line::Run;
 use zy_core::{Cores, Driven, Shared, drive, drive_ordered};
 use zy_feed::{
     CaptureFeeder, Header, Inlets, Stop, a_broken_feeder_has_its_cause,
     a_feeder_that_ended_has_offered_the_capture,
 };
+use zy_park::Bells;
 use zy_rx::Feeder;
 
 /// The cores of a run that are settled, with what they shared, the inlets of their rings, the root of
@@ -118,6 +119,7 @@ pub(crate) fn drive_cores<R: Threads + Wait + Sync, F: Feeder, G: Gate + Sync>(
 ) -> Driven
     requires runnable { IsRunnable run }
     requires cores { AreCores shared.now (identities cores) }
+    requires count { length shared.now.rings ≡ run.cores }
     requires inlets { AreInlets (rings_of (F.inlets feeder.old)) (identities cores) }
     requires fresh { ¬ F.ended feeder.old × ¬ F.broken feeder.old }
     ensures settled { IsSettled result → F.ended feeder.new × EachSettled (cores_of result) }
@@ -129,7 +131,60 @@ pub(crate) fn drive_cores<R: Threads + Wait + Sync, F: Feeder, G: Gate + Sync>(
     if run.threads == 1 {
         drive_ordered(rt, cores, run.order, shared, gate, feeder)
     } else {
-        drive(rt, alloc, cores, run.threads, shared, gate, feeder)
+        drive_threads(rt, alloc, run, cores, shared, gate, feeder)
+    }
+}
+
+// Makes the bells of the cores, and drives the cores on several threads.
+fn drive_threads<R: Threads + Wait + Sync, F: Feeder, G: Gate + Sync>(
+    rt: &R,
+    alloc: Global,
+    run: Run,
+    cores: Cores,
+    shared: &Shared,
+    gate: &G,
+    feeder: &mut F,
+) -> Driven
+    requires runnable { IsRunnable run }
+    requires cores { AreCores shared.now (identities cores) }
+    requires count { length shared.now.rings ≡ run.cores }
+    requires fresh { ¬ F.ended feeder.old × ¬ F.broken feeder.old }
+    ensures settled { IsSettled result → F.ended feeder.new × EachSettled (cores_of result) }
+    ensures broken { IsBroken result → F.broken feeder.new }
+    ensures same { identities (cores_of result) ≡ identities cores }
+    ensures leads { F.leads feeder.old feeder.new }
+    ensures rings { rings_of (F.inlets feeder.new) ≡ rings_of (F.inlets feeder.old) }
+{
+    let (bells, mut root) = match Bells::new(alloc, run.cores) {
+        Ok(made) => made,
+        Err(NoMemory) => return Driven::NoMemory(cores),
+    };
+    let driven = drive(
+        rt,
+        alloc,
+        cores,
+        run.threads,
+        shared,
+        gate,
+        feeder,
+        &bells,
+        &mut root,
+        idle_turns(run),
+    );
+    drop(root);
+    drop(bells);
+    driven
+}
+
+// After how many idle turns in a row a core rests; 0 where none does. Only a core that has a thread of
+// its own rests, and only if there are others that ring it.
+fn idle_turns(run: Run) -> u32
+    ensures value { result ≢ 0 → (result ≡ run.rest) × (run.threads ≡ run.cores) }
+{
+    if run.threads == run.cores && run.cores > 1 {
+        run.rest
+    } else {
+        0
     }
 }
 

@@ -1,11 +1,11 @@
-use Rattle.std.proofs.Common.{rules, ◌≡◌, ◌≤◌, refl, sym, ap, ◌∙◌, subst, Some}
+use Rattle.std.proofs.Common.{rules, ◌≡◌, ◌≤◌, length, refl, sym, ap, ◌∙◌, subst, Some}
 use Rattle.zy_rx.specs.Feed.{sent_by}
 use Rattle.zy_feed.specs.Reads.{StopsBy}
 use Rattle.zy_feed.specs.Feeding.{stop_in, HasFedAll}
 use Rattle.zy_core.specs.declared.driven.Driven.{Driven}
 use Rattle.zy_core.specs.Drive.{IsSettled}
 use Rattle.zygos_run.proofs.FeedLemmas.{fed, stopped, counted}
-use Rattle.zygos_run.proofs.PreparedLemmas.{driven_of, driven_count}
+use Rattle.zygos_run.proofs.PreparedLemmas.{driven_of, driven_count, rings_count}
 use Rattle.zygos_run.proofs.run.drive.drive_capture.Goals as goal
 
 pub returns-in-Settled-clause-fed : goal.returns-in-Settled-clause-fed
@@ -52,3 +52,8 @@ returns-in-Settled-clause-driven g c =
 
 pub returns-in-Settled-clause-cores : goal.returns-in-Settled-clause-cores
 returns-in-Settled-clause-cores g c = driven_count c.args.run c.args.prepared c.in-Settled.cores c.requires.prepared (search rules)
+
+pub drive_cores-driven-requires-clause-count : goal.drive_cores-driven-requires-clause-count
+drive_cores-driven-requires-clause-count g c =
+    let count : length c.args.prepared.shared.rings ≡ c.args.run.cores = rings_count c.args.run c.args.prepared c.requires.prepared in
+    search rules
