@@ -7,3 +7,4 @@ pub mod WholeLemmas
 pub mod FaultLemmas
 pub mod DivisionLemmas
 pub mod FileLemmas
+pub mod LawfulLemmas

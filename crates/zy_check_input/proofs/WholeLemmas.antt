@@ -29,12 +29,17 @@ use Rattle.zy_check_input.proofs.CaptureLemmas.{once}
 
 -- ---- where a part begins
 
+-- before the first byte there is no count
+no_count : Captures.count_of [] ≡ None
+unfolding Captures.count_of reading_of read_on
+no_count = refl
+
 -- before the first byte of the capture
 pub capture_begun : {S : Type 0} (rest : S → Option (List ℕ)) (faults : S → ℕ) (first : S) (left : List ℕ) (part : CapturePart) → left ≡ [] → StandsFor part.reader [] [] → part.streams ≡ None → IsReading capture_kind rest faults first first left [] [] part
 unfolding fault_met verdict_on reading_of read_on
 capture_begun rest faults first left part none reader streams = record {
   given = record { source = subst (λ (l : List ℕ). Consumes (rest first) (rest first) l) (sym none) (consumed_none (rest first)); count = omega arith };
-  stands = record { given = []; reader = reader; kept = subst (λ (o : Option (List (List (List ℕ)))). KeepsStreams o []) (sym streams) refl };
+  stands = record { given = []; reader = reader; kept = subst (λ (o : Option (List (List (List ℕ)))). KeepsStreams o (Captures.count_of []) []) (sym streams) (subst (λ (o : Option ℕ). KeepsStreams None o []) (sym no_count) refl) };
   goes_on = (refl, refl);
 }
 
