@@ -8,3 +8,4 @@ pub mod FaultLemmas
 pub mod DivisionLemmas
 pub mod FileLemmas
 pub mod LawfulLemmas
+pub mod OrderLemmas

@@ -121,23 +121,38 @@ journal_file_kind = record {
 
 -- ---- replies files, which end with the source
 
--- the outputs are those that were given; before the version was read there is no output
-abbrev pub KeepsOutputs : Option AllOutputs → List SessionBytes → Type 0
-KeepsOutputs None given = given ≡ []
-KeepsOutputs (Some outputs) given = items_of outputs ≡ given
+-- the outputs are those that were given, in the version that was read; before it was read there are none
+abbrev pub KeepsOutputs : Option AllOutputs → Option ℕ → List SessionBytes → Type 0
+KeepsOutputs None None given = given ≡ []
+KeepsOutputs (Some outputs) (Some version) given = (items_of outputs ≡ given) × (outputs.version ≡ version) × AreOutputs outputs
+KeepsOutputs outputs version given = ⊥
 
--- the output of this session comes next: it is the first one of the next connection, or the next
--- one of the last connection
-abbrev pub ComesNext : List (List (List ℕ)) → ℕ → ℕ → Type 0
-ComesNext sessions conn session =
-    ((conn ≡ length sessions) × (session ≡ 0))
-    ⊎ ((conn + 1 ≡ length sessions) × (session ≡ length (sessions_of sessions conn)))
+-- the same, but the outputs may not have been made yet
+abbrev pub HasOutputsSoFar : Option AllOutputs → Option ℕ → List SessionBytes → Type 0
+HasOutputsSoFar None version given = given ≡ []
+HasOutputsSoFar (Some outputs) version given = KeepsOutputs (Some outputs) version given
 
 -- these bytes of a replies file were fed, and their outputs are kept
 pub record StandsForRepliesPart (part : RepliesPart) (bytes : List ℕ) : Type 0 where
   pub given : List SessionBytes
   pub reader : StandsForReplies part.reader given bytes
-  pub kept : KeepsOutputs part.outputs given
+  pub kept : KeepsOutputs part.outputs (Replies.version_of bytes) given
+
+-- the reader was fed bytes without a fault, and their outputs are those that are kept and this one, if there is one
+pub record IsKeepingOutput (part : RepliesPart) (gave : Option SessionBytes) : Type 0 where
+  pub given : List SessionBytes
+  pub bytes : List ℕ
+  pub reader : StandsForReplies part.reader (given ++ option_to_list gave) bytes
+  pub clean : Replies.fault_of bytes ≡ None
+  pub kept : HasOutputsSoFar part.outputs (Replies.version_of bytes) given
+
+-- the same, where the outputs were made if the version is known, and there is one further output
+pub record IsAddingOutput (part : RepliesPart) (item : SessionBytes) : Type 0 where
+  pub given : List SessionBytes
+  pub bytes : List ℕ
+  pub reader : StandsForReplies part.reader (given ++ item ∷ []) bytes
+  pub clean : Replies.fault_of bytes ≡ None
+  pub kept : KeepsOutputs part.outputs (Replies.version_of bytes) given
 
 -- no text is whole before the source is at its end
 abbrev pub never : Replies.Verdict → Bool
