@@ -1,7 +1,7 @@
 -- What is kept of a capture while it is read.
 use Rattle.std.proofs.Common.{◌≡◌, ◌⊎◌, inl, inr, ℕ, ◌+◌, ◌==◌, Bool, true, false, List, [], ◌∷◌, ◌++◌, length, refl, sym, ◌∙◌, ap, subst}
 use Rattle.std.specs.Int.{from_be_bytes, w32}
-use Rattle.std.specs.Prelude.{nat_lt, if◌then◌else◌, Option, None, Some, Result, Ok, Err, OnOk, IfOk, IfErr, ⊤}
+use Rattle.std.specs.Prelude.{nat_lt, if◌then◌else◌, Option, None, Some, Result, Ok, Err, OnOk, ⊤}
 use Rattle.zy_read.specs.declared.not_taken.NotTaken.{NotTaken}
 use Rattle.zy_read.specs.declared.not_taken.NotTaken.TheVariants.{Fault}
 use Rattle.zy_read.specs.Standing.{given_in, Feeds, MeetsFault, TellsFault}
@@ -13,7 +13,7 @@ use Rattle.zy_capture.specs.declared.capture_fault.CaptureFault.{CaptureFault}
 use Rattle.zy_capture.specs.declared.capture_fault.CaptureFault.TheVariants.{ConnRange, SegmentLength, Trailing, TooLong}
 use Rattle.zy_capture.specs.declared.due.Due.{Due}
 use Rattle.zy_capture.specs.declared.due.Due.TheVariants.{Magic, Count, Tag, Connection, Length, Payload, Closed, Nothing, Broken}
-use Rattle.zy_capture.specs.Streams.{no_bytes, with_record, with_records}
+use Rattle.zy_capture.specs.Streams.{no_bytes, with_record}
 use Rattle.zy_capture.specs.Capture.{segment_limit}
 use Rattle.zy_capture.specs.Steps.{Progress, Step, goes, gives, refuses, keeps, grows, place, judged, number, taken, is_full, step}
 use Rattle.zy_capture.specs.Standing.{StandsFor, EndsAs}
@@ -21,13 +21,10 @@ use Rattle.zy_capture.specs.Verdict.{captures, ended, fault_in, is_good, verdict
 use Rattle.zy_capture.specs.Verdict.Verdict.{Good}
 use Rattle.zy_capture.specs.Lasting.{lasting}
 use Rattle.zy_capture.proofs.Feeding.{count_here, within_here}
-use Rattle.zy_capture.proofs.AddLemmas.{records_on, streams_size}
+use Rattle.zy_capture.proofs.AddLemmas.{records_on}
 use Rattle.zy_check_input.specs.declared.capture_part.CapturePart.{CapturePart}
 use Rattle.zy_check_input.specs.Parts.{HasStreams, HasCaptureFault}
-use Rattle.zy_read.specs.declared.stop.Stop.{Stop}
-use Rattle.zy_check_input.specs.declared.stop.Refusal.{Refusal}
-use Rattle.zy_read.specs.declared.stop.Stop.TheVariants.{Refused, ReadFault, NoMemory}
-use Rattle.zy_check_input.specs.Reading.{Takes, EndsWhole, GoesOn}
+use Rattle.zy_check_input.specs.Reading.{Takes, GoesOn}
 use Rattle.zy_check_input.specs.Kinds.{KeepsStreams, KeepsSoFar, StandsForCapture, capture_kind}
 use Rattle.zy_journal_reader.proofs.CallLemmas.{either}
 use Rattle.zy_check_input.proofs.FormatLemmas.{EndsOnce, StaysOpen, piece_fault}

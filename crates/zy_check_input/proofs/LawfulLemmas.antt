@@ -1,6 +1,6 @@
 -- What is so of a reader of captures wherever it is: each record that it gave is of a connection below the count, and
 -- few are closes.
-use Rattle.std.proofs.Common.{◌≡◌, ℕ, ◌+◌, ◌*◌, ◌^◌, ◌<◌, ◌≤◌, ◌==◌, ◌&&◌, Bool, true, false, List, [], ◌∷◌, ◌++◌, length, refl, sym, ◌∙◌, ap, subst, arith, append_assoc, length-append}
+use Rattle.std.proofs.Common.{◌≡◌, ℕ, ◌+◌, ◌*◌, ◌<◌, ◌≤◌, ◌==◌, ◌&&◌, Bool, true, false, List, [], ◌∷◌, ◌++◌, length, refl, sym, ◌∙◌, ap, subst, arith, append_assoc, length-append}
 use Rattle.std.specs.Prelude.{nat_lt, nat_le, if◌then◌else◌, Option, None, Some, option_to_list, ⊤}
 use Rattle.std.specs.Int.{from_be_bytes, w32}
 use Rattle.std.specs.List.{AllByRecursion}
@@ -15,17 +15,16 @@ use Rattle.zy_read.proofs.Feeding.{read_append, fault_here}
 use Rattle.zy_capture.specs.declared.record.Record.{Record}
 use Rattle.zy_capture.specs.declared.record.Record.TheVariants as Kinds
 use Rattle.zy_capture.specs.declared.capture_fault.CaptureFault.{CaptureFault}
-use Rattle.zy_capture.specs.declared.capture_fault.CaptureFault.TheVariants.{BadMagic, ConnCount, BadTag, ConnRange, SegmentLength, Trailing, TooLong, Truncated}
+use Rattle.zy_capture.specs.declared.capture_fault.CaptureFault.TheVariants.{BadMagic, ConnCount, BadTag, ConnRange, SegmentLength, Trailing, TooLong}
 use Rattle.zy_capture.specs.declared.due.Due.{Due}
 use Rattle.zy_capture.specs.declared.due.Due.TheVariants.{Magic, Count, Tag, Connection, Length, Payload, Closed, Nothing, Broken}
 use Rattle.zy_capture.specs.Capture.{letters, connection_limit, segment_limit, capture_limit}
 use Rattle.zy_capture.specs.Streams.{closes, sessions_of, no_bytes, with_records}
 use Rattle.zy_capture.proofs.AddLemmas.{streams_size}
 use Rattle.zy_capture.proofs.StreamLemmas.{count_held}
-use Rattle.zy_read.specs.Standing.{Feeds}
 use Rattle.zy_check_input.specs.declared.capture_part.CapturePart.{CapturePart}
-use Rattle.zy_check_input.specs.Kinds.{KeepsStreams, KeepsSoFar, StandsForCapture, IsKeeping, IsAdding, MayKeep}
-use Rattle.zy_capture.specs.Steps.{Progress, Step, start, goes, after_record, gives, refuses, keeps, grows, after_magic, tag, place, judged, number, segment, taken, is_open, is_full, step}
+use Rattle.zy_check_input.specs.Kinds.{KeepsStreams, KeepsSoFar, IsAdding, MayKeep}
+use Rattle.zy_capture.specs.Steps.{Progress, Step, start, goes, gives, refuses, keeps, grows, after_magic, tag, place, judged, number, segment, taken, is_open, is_full, step}
 use Rattle.zy_capture.specs.Standing.{StandsFor}
 use Rattle.zy_capture.specs.Verdict.{captures, fault_in, fault_of, count_in, count_of}
 use Rattle.zy_capture.proofs.ByteLemmas.{chosen}

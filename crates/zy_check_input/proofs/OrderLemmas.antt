@@ -1,7 +1,7 @@
 -- What is so of a reader of replies files wherever it is: its version is 1 or 2 once it was read, and the outputs that
 -- it gave are in the order of sessions.
 use Rattle.std.proofs.Common.{◌≡◌, ◌⊎◌, inl, inr, ℕ, ◌+◌, ◌-◌, ◌^◌, ◌<◌, ◌≤◌, ◌==◌, ◌&&◌, Bool, true, false, List, [], ◌∷◌, ◌++◌, length, refl, sym, ◌∙◌, ap, subst, arith, append_assoc}
-use Rattle.std.specs.Prelude.{◌||◌, nat_lt, if◌then◌else◌, Option, None, Some, option_to_list, ⊤}
+use Rattle.std.specs.Prelude.{◌||◌, nat_lt, if◌then◌else◌, Option, None, Some, option_to_list}
 use Rattle.std.specs.Int.{from_be_bytes, w32, w64}
 use Rattle.std.proofs.lemmas.List.{append-nil}
 use Rattle.std.proofs.lemmas.Bool.{ltb-true, eq-eqb, eqb-true}
@@ -140,11 +140,13 @@ module _ (p : Progress) (given : List SessionBytes) (is : IsOrderly p given) whe
 
   conn_due : (conn : ℕ) → may_come p conn ≡ true → IsDueConn p conn
   conn_due conn comes =
-      let both = parts (nat_lt conn connection_limit) (conn == p.connections || (p.version == 2 && conn + 1 == p.connections)) comes in
-      (ltb-true conn connection_limit both.0, elim (either_part (conn == p.connections) (p.version == 2 && conn + 1 == p.connections) both.1) [
-        | inl next ↦ inl (eqb-true conn p.connections next)
-        | inr more ↦ (let two = parts (p.version == 2) (conn + 1 == p.connections) more in inr (eqb-true p.version 2 two.0, eqb-true (conn + 1) p.connections two.1))
-      ])
+      let both = parts (nat_lt conn connection_limit) (conn == p.connections || (p.version == 2 && conn + 1 == p.connections)) comes in (
+        ltb-true conn connection_limit both.0,
+        elim (either_part (conn == p.connections) (p.version == 2 && conn + 1 == p.connections) both.1) [
+          | inl next ↦ inl (eqb-true conn p.connections next)
+          | inr more ↦ (let two = parts (p.version == 2) (conn + 1 == p.connections) more in inr (eqb-true p.version 2 two.0, eqb-true (conn + 1) p.connections two.1))
+        ],
+      )
 
   -- in version 1 a record is that of the next connection
   first_due : (conn : ℕ) → IsDueConn p conn → (p.version == 2) ≡ false → IsDueNext p conn 0
@@ -355,9 +357,11 @@ adds_to : (part : RepliesPart) (item : SessionBytes) (outputs : AllOutputs) (giv
     → KeepsOutputs (Some outputs) (version_of bytes) given → Adds outputs item × AreOutputs outputs
 adds_to part item outputs given bytes stands there kept =
     let all : KeepsOutputs (Some outputs) (Some part.reader.version) given = subst (λ (o : Option ℕ). KeepsOutputs (Some outputs) o given) there kept in
-    let order = (orderly_here part.reader (given ++ item ∷ []) bytes stands).ordered in
-    (next_adds outputs item all.2
-    (subst (λ (v : ℕ). AreInOrder v 0 0 (items_of outputs ++ item ∷ [])) (sym all.1) (subst (λ (l : List SessionBytes). AreInOrder part.reader.version 0 0 (l ++ item ∷ [])) (sym all.0) order)), all.2)
+    let order = (orderly_here part.reader (given ++ item ∷ []) bytes stands).ordered in (
+      next_adds outputs item all.2
+          (subst (λ (v : ℕ). AreInOrder v 0 0 (items_of outputs ++ item ∷ [])) (sym all.1) (subst (λ (l : List SessionBytes). AreInOrder part.reader.version 0 0 (l ++ item ∷ [])) (sym all.0) order)),
+      all.2,
+    )
 
 pub may_add : (part : RepliesPart) (item : SessionBytes) (outputs : AllOutputs) → IsAddingOutput part item → part.outputs ≡ Some outputs → MayAdd outputs item.conn
 may_add part item outputs is made =
@@ -372,7 +376,7 @@ output_kept part old new item given bytes is made stands kept added = go (versio
     go None told kept = absurd kept
     go (Some v) told kept =
         let there : version_of bytes ≡ Some part.reader.version = version_here part.reader (given ++ item ∷ []) bytes stands
-            ∙ version_kept part.reader.version (subst IsVersion (sym (version_found part.reader.version v (sym (version_here part.reader (given ++ item ∷ []) bytes stands) ∙ told))) (version_is_known part.reader (given ++ item ∷ []) bytes v stands (sym told))) in
+        ∙ version_kept part.reader.version (subst IsVersion (sym (version_found part.reader.version v (sym (version_here part.reader (given ++ item ∷ []) bytes stands) ∙ told))) (version_is_known part.reader (given ++ item ∷ []) bytes v stands (sym told))) in
         let adds = adds_to part item old given bytes stands there (subst (λ (o : Option ℕ). KeepsOutputs (Some old) o given) (sym told) kept) in (
           (ap (λ (o : AllOutputs). items_of o) added ∙ adds.0.items ∙ ap (λ (l : List SessionBytes). l ++ item ∷ []) kept.0),
           (ap (λ (o : AllOutputs). o.version) added ∙ kept.1),

@@ -1,26 +1,19 @@
 -- What is kept of a replies file while it is read.
-use Rattle.std.proofs.Common.{◌≡◌, ℕ, true, false, List, [], ◌∷◌, ◌++◌, refl, sym, ◌∙◌, ap, subst}
-use Rattle.std.specs.Prelude.{◌==◌, Option, None, Some, Result, Ok, Err, OnOk, IfOk, IfErr, ⊤}
+use Rattle.std.proofs.Common.{◌≡◌, ℕ, List, refl, sym, ◌∙◌, ap, subst}
+use Rattle.std.specs.Prelude.{Option, None, Some, Ok}
 use Rattle.zy_read.proofs.Feeding.{verdict_here}
-use Rattle.zy_base.specs.declared.outside.NoMemory as Outside
 use Rattle.zy_capture.specs.declared.session_bytes.SessionBytes.{SessionBytes}
 use Rattle.zy_capture.specs.declared.replies_due.RepliesDue.{RepliesDue}
 use Rattle.zy_capture.specs.declared.replies_due.RepliesDue.TheVariants.{Nothing, Broken}
-use Rattle.zy_capture.specs.Outputs.{AllOutputs, AreOutputs, with_output}
-use Rattle.zy_capture.specs.Replies.{items_of}
+use Rattle.zy_capture.specs.Outputs.{AllOutputs}
 use Rattle.zy_capture.specs.RepliesSteps.{Progress}
 use Rattle.zy_capture.specs.RepliesStanding.{StandsForReplies, EndsAs}
-use Rattle.zy_capture.specs.RepliesVerdict.{replies, ended, verdict, version_in, version_of}
+use Rattle.zy_capture.specs.RepliesVerdict.{replies, ended, verdict, version_of}
 use Rattle.zy_capture.specs.RepliesVerdict.Verdict.{Good}
-use Rattle.zy_capture.proofs.AddLemmas.{added_last}
 use Rattle.zy_capture.specs.RepliesLasting.{lasting}
 use Rattle.zy_capture.proofs.RepliesFeeding.{version_here}
 use Rattle.zy_check_input.specs.declared.replies_part.RepliesPart.{RepliesPart}
-use Rattle.zy_read.specs.declared.stop.Stop.{Stop}
-use Rattle.zy_check_input.specs.declared.stop.Refusal.{Refusal}
-use Rattle.zy_read.specs.declared.stop.Stop.TheVariants.{Refused, ReadFault, NoMemory}
-use Rattle.zy_check_input.specs.Reading.{EndsCut}
-use Rattle.zy_check_input.specs.Kinds.{StandsForRepliesPart, KeepsOutputs, HasOutputs, never, replies_kind}
+use Rattle.zy_check_input.specs.Kinds.{StandsForRepliesPart, KeepsOutputs, HasOutputs, never}
 use Rattle.zy_read.proofs.MagicLemmas.{IsVersion}
 use Rattle.zy_check_input.proofs.OrderLemmas.{IsHere, orderly_here, version_kept}
 use Rattle.zy_check_input.proofs.FormatLemmas.{EndsOnce}

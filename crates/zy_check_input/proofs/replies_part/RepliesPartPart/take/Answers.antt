@@ -1,5 +1,5 @@
 use Rattle.std.proofs.Common.{rules, ◌≡◌, ◌++◌, take, subst}
-use Rattle.std.specs.Prelude.{Ok, option_to_list}
+use Rattle.std.specs.Prelude.{Ok}
 use Rattle.zy_read.specs.Standing.{given_in, Feeds, TellsFault}
 use Rattle.zy_capture.specs.RepliesVerdict.{replies}
 use Rattle.zy_check_input.proofs.OrderLemmas.{outputs_on}
