@@ -4,7 +4,7 @@ ghost use Rattle.zy_capture.specs.declared.record.Record.{Record};
 ghost use Rattle.zy_capture.specs.Standing.{StandsFor};
 ghost use Rattle.zy_capture.specs.Streams.{with_record};
 ghost use Rattle.zy_capture.specs.Verdict.{fault_of, count_of, is_within_record};
-ghost use Rattle.zy_check_input.specs.Reading.{Takes, IsGoingOn};
+ghost use Rattle.zy_check_input.specs.Reading.{Takes, IsPartOpen};
 ghost use Rattle.zy_check_input.specs.Kinds.{KeepsStreams, KeepsSoFar, IsKeeping, IsAdding, MayKeep, capture_kind};
 
 use crate::part::{Part, Taken};
@@ -110,7 +110,7 @@ impl CapturePart {
 
     // Takes one byte. Gives whether the capture is whole.
     fn take_byte(&mut self, byte: u8) -> Result<bool, Stop>
-        requires goes { IsGoingOn capture_kind self.old }
+        requires goes { IsPartOpen capture_kind self.old }
         ensures value { (bytes : List ℕ) → capture_kind.stands self.old bytes
             → capture_kind.goes_on bytes → Takes capture_kind self.new (bytes ++ byte ∷ []) result }
     {
@@ -124,7 +124,7 @@ impl CapturePart {
     // Takes bytes of a record, up to its end at most.
     fn take_piece(&mut self, next: &[u8]) -> Taken
         requires some { 0 < length next.now }
-        requires goes { IsGoingOn capture_kind self.old }
+        requires goes { IsPartOpen capture_kind self.old }
         ensures within { result.count ≤ length next.now }
         ensures taken { (whole : _) → result.answer ≡ Ok whole → 0 < result.count }
         ensures value { (bytes : List ℕ) → capture_kind.stands self.old bytes
