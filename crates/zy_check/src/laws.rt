@@ -1,13 +1,16 @@
 //! Laws of the definitions: each is the contract of a function without a body.
-ghost use Rattle.std.specs.Prelude.{◌≡◌, ℕ, ◌<◌, ◌≤◌, List, length, None};
+ghost use Rattle.std.specs.Prelude.{◌≡◌, ℕ, ◌-◌, ◌^◌, ◌<◌, ◌≤◌, List, length, None};
 ghost use Rattle.std.specs.List.{AllByRecursion};
 ghost use Rattle.zy_base.specs.declared.hold.Hold.{Hold};
+ghost use Rattle.zy_base.specs.Bounds.{FitsEntry};
 ghost use Rattle.zy_base.specs.Order.{IsOrdered};
 ghost use Rattle.zy_capture.specs.declared.record.Record.{Record};
+ghost use Rattle.zy_capture.specs.Capture.{Spells};
 ghost use Rattle.zy_capture.specs.Outputs.{AllOutputs, AreOutputs};
+ghost use Rattle.zy_capture.specs.Replies.{replies_bytes};
 ghost use Rattle.zy_capture.specs.Streams.{sessions_of};
 ghost use Rattle.zy_journal.specs.declared.journal.Journal.{Journal};
-ghost use Rattle.zy_journal.specs.Journal.{AreByConnection, IsJournal};
+ghost use Rattle.zy_journal.specs.Journal.{AreByConnection, IsJournal, journal_bytes};
 ghost use Rattle.zy_run.specs.Commands.{commands_held};
 ghost use Rattle.zy_run.specs.Run.{IsRun};
 ghost use Rattle.zy_run.specs.Output.{outputs_of};
@@ -65,4 +68,18 @@ pub fn what_checks_is_of_a_run()
         → HasVerdict (given_of shards count records journal outputs) Yes
         → AreOfRun shards count records journal outputs }
     ensures order { (journal : Journal) → IsJournal journal → IsOrdered None journal.entries }
+{}
+
+/// The files of a run of a capture on at most 256 shards have at most 2^63 - 1 bytes each, if the
+/// journal is within the bounds of its format, and the numbers of its entries fit their bytes.
+pub fn a_run_has_short_files()
+    ensures journal { (shards version count : ℕ) (text : List ℕ) (records : List Record)
+        (journal : Journal) (outputs : AllOutputs) → shards ≤ 256
+        → Spells text version count records → AreOfRun shards count records journal outputs
+        → IsJournal journal → length (journal_bytes journal) ≤ 2 ^ 63 - 1 }
+    ensures replies { (shards version count : ℕ) (text : List ℕ) (records : List Record)
+        (journal : Journal) (outputs : AllOutputs) → shards ≤ 256
+        → Spells text version count records → AreOfRun shards count records journal outputs
+        → IsJournal journal → AllByRecursion FitsEntry journal.entries
+        → length (replies_bytes outputs) ≤ 2 ^ 63 - 1 }
 {}

@@ -1,7 +1,7 @@
 -- What is kept of a capture while it is read.
 use Rattle.std.proofs.Common.{◌≡◌, ◌⊎◌, inl, inr, ℕ, ◌+◌, ◌==◌, Bool, true, false, List, [], ◌∷◌, ◌++◌, length, refl, sym, ◌∙◌, ap, subst}
 use Rattle.std.specs.Int.{from_be_bytes, w32}
-use Rattle.std.specs.Prelude.{nat_lt, if◌then◌else◌, Option, None, Some, Result, Ok, Err, OnOk, IfOk, IfErr, ⊤}
+use Rattle.std.specs.Prelude.{nat_lt, if◌then◌else◌, Option, None, Some, Result, Ok, Err, OnOk, ⊤}
 use Rattle.zy_read.specs.declared.not_taken.NotTaken.{NotTaken}
 use Rattle.zy_read.specs.declared.not_taken.NotTaken.TheVariants.{Fault}
 use Rattle.zy_read.specs.Standing.{given_in, Feeds, MeetsFault, TellsFault}
@@ -13,7 +13,7 @@ use Rattle.zy_capture.specs.declared.capture_fault.CaptureFault.{CaptureFault}
 use Rattle.zy_capture.specs.declared.capture_fault.CaptureFault.TheVariants.{ConnRange, SegmentLength, Trailing, TooLong}
 use Rattle.zy_capture.specs.declared.due.Due.{Due}
 use Rattle.zy_capture.specs.declared.due.Due.TheVariants.{Magic, Count, Tag, Connection, Length, Payload, Closed, Nothing, Broken}
-use Rattle.zy_capture.specs.Streams.{no_bytes, with_record, with_records}
+use Rattle.zy_capture.specs.Streams.{no_bytes, with_record}
 use Rattle.zy_capture.specs.Capture.{segment_limit}
 use Rattle.zy_capture.specs.Steps.{Progress, Step, goes, gives, refuses, keeps, grows, place, judged, number, taken, is_full, step}
 use Rattle.zy_capture.specs.Standing.{StandsFor, EndsAs}
@@ -21,14 +21,11 @@ use Rattle.zy_capture.specs.Verdict.{captures, ended, fault_in, is_good, verdict
 use Rattle.zy_capture.specs.Verdict.Verdict.{Good}
 use Rattle.zy_capture.specs.Lasting.{lasting}
 use Rattle.zy_capture.proofs.Feeding.{count_here, within_here}
-use Rattle.zy_capture.proofs.AddLemmas.{records_on, streams_size}
+use Rattle.zy_capture.proofs.AddLemmas.{records_on}
 use Rattle.zy_check_input.specs.declared.capture_part.CapturePart.{CapturePart}
 use Rattle.zy_check_input.specs.Parts.{HasStreams, HasCaptureFault}
-use Rattle.zy_read.specs.declared.stop.Stop.{Stop}
-use Rattle.zy_check_input.specs.declared.stop.Refusal.{Refusal}
-use Rattle.zy_read.specs.declared.stop.Stop.TheVariants.{Refused, ReadFault, NoMemory}
-use Rattle.zy_check_input.specs.Reading.{Takes, EndsWhole, GoesOn}
-use Rattle.zy_check_input.specs.Kinds.{KeepsStreams, StandsForCapture, capture_kind}
+use Rattle.zy_check_input.specs.Reading.{Takes, GoesOn}
+use Rattle.zy_check_input.specs.Kinds.{KeepsStreams, KeepsSoFar, StandsForCapture, capture_kind}
 use Rattle.zy_journal_reader.proofs.CallLemmas.{either}
 use Rattle.zy_check_input.proofs.FormatLemmas.{EndsOnce, StaysOpen, piece_fault}
 
@@ -119,13 +116,18 @@ fault_within part q bytes piece more answer fault is stands goes_on within feeds
 -- ---- what is kept
 
 -- one further record
-pub record_kept : (old new : List (List (List ℕ))) (item : Record) (given : List Record) (answer : Result ⊤ Outside.NoMemory) → OnOk answer (new ≡ with_record old item) → KeepsStreams (Some old) given → OnOk answer (KeepsStreams (Some new) (given ++ item ∷ []))
-record_kept old new item given (Ok done) added kept =
-    (kept.0, added ∙ ap (λ (l : List (List (List ℕ))). with_record l item) kept.1 ∙ sym (records_on (no_bytes kept.0) given item))
-record_kept old new item given (Err e) added kept = tt
+pub record_kept : (old new : List (List (List ℕ))) (count : Option ℕ) (item : Record) (given : List Record) (answer : Result ⊤ Outside.NoMemory) → OnOk answer (new ≡ with_record old item) → KeepsStreams (Some old) count given → OnOk answer (KeepsStreams (Some new) count (given ++ item ∷ []))
+record_kept old new (Some count) item given (Ok done) added kept =
+    added ∙ ap (λ (l : List (List (List ℕ))). with_record l item) kept ∙ sym (records_on (no_bytes count) given item)
+record_kept old new None item given (Ok done) added kept = absurd kept
+record_kept old new count item given (Err e) added kept = tt
+
+-- streams that were made are kept
+pub made_kept : (streams : List (List (List ℕ))) (count : Option ℕ) (given : List Record) → KeepsSoFar (Some streams) count given → KeepsStreams (Some streams) count given
+made_kept streams count given kept = kept
 
 -- whether the capture goes on or is whole
-pub goes_on_or_done : (part : CapturePart) (given : List Record) (bytes : List ℕ) (done : Bool) → StandsFor part.reader given bytes → fault_of bytes ≡ None → KeepsStreams part.streams given → done ≡ is_good (verdict bytes) → Takes capture_kind part bytes (Ok done)
+pub goes_on_or_done : (part : CapturePart) (given : List Record) (bytes : List ℕ) (done : Bool) → StandsFor part.reader given bytes → fault_of bytes ≡ None → KeepsStreams part.streams (count_of bytes) given → done ≡ is_good (verdict bytes) → Takes capture_kind part bytes (Ok done)
 goes_on_or_done part given bytes false reader clean kept is = (record { given = given; reader = reader; kept = kept }, (clean, sym is))
 goes_on_or_done part given bytes true reader clean kept is = (record { given = given; reader = reader; kept = kept }, sym is)
 
@@ -137,28 +139,31 @@ due_counts Nothing p given version count is = cc
 due_counts (Broken fault) p given version count is = cc
 due_counts due p given version count is = cc
 
+-- the count of a whole capture was read
+whole_count : (part : CapturePart) (bytes : List ℕ) (stands : StandsForCapture part bytes) → ((given : List Record) (b : List ℕ) → StandsFor part.reader given b → EndsAs given (Ok tt) (verdict b))
+    → (version : ℕ) × (count : ℕ) × (verdict bytes ≡ Good version count stands.given) × (count_of bytes ≡ Some count)
+whole_count part bytes stands ends =
+    let good = ends stands.given bytes stands.reader in (
+      good.0,
+      good.1,
+      good.2,
+      count_here part.reader stands.given bytes stands.reader ∙ due_counts part.reader.due part.reader stands.given good.0 good.1 (sym (verdict_here captures part.reader stands.given bytes stands.reader) ∙ good.2),
+    )
+
 -- the streams are those of the capture
-pub streams_of : (part : CapturePart) (streams : List (List (List ℕ))) (bytes : List ℕ) → StandsForCapture part bytes → part.streams ≡ Some streams → ((given : List Record) (b : List ℕ) → StandsFor part.reader given b → EndsAs given (Ok tt) (verdict b)) → ((given : List Record) (b : List ℕ) → StandsFor part.reader given b → Some (length streams) ≡ count_of b) → HasStreams bytes streams
-streams_of part streams bytes stands is ends counts =
-    let good = ends stands.given bytes stands.reader in
-    let kept : KeepsStreams (Some streams) stands.given = subst (λ (o : Option (List (List (List ℕ)))). KeepsStreams o stands.given) is stands.kept in
-    let told : count_of bytes ≡ Some good.1 = count_here part.reader stands.given bytes stands.reader ∙ due_counts part.reader.due part.reader stands.given good.0 good.1 (sym (verdict_here captures part.reader stands.given bytes stands.reader) ∙ good.2) in
-    let size : length streams ≡ kept.0 = ap length kept.1 ∙ streams_size kept.0 stands.given in
-    let same : kept.0 ≡ good.1 = cc (counts stands.given bytes stands.reader) in
+pub streams_of : (part : CapturePart) (streams : List (List (List ℕ))) (bytes : List ℕ) → StandsForCapture part bytes → part.streams ≡ Some streams → ((given : List Record) (b : List ℕ) → StandsFor part.reader given b → EndsAs given (Ok tt) (verdict b)) → HasStreams bytes streams
+streams_of part streams bytes stands is ends =
+    let whole = whole_count part bytes stands ends in
     record {
-      version = good.0;
-      count = good.1;
+      version = whole.0;
+      count = whole.1;
       records = stands.given;
-      good = good.2;
-      joined = kept.1 ∙ ap (λ (n : ℕ). with_records (no_bytes n) stands.given) same;
+      good = whole.2;
+      joined = subst (λ (o : Option ℕ). KeepsStreams (Some streams) o stands.given) whole.3 (subst (λ (o : Option (List (List (List ℕ)))). KeepsStreams o (count_of bytes) stands.given) is stands.kept);
     }
 
--- what a capture gives whose reader was fed all of it
-pub checked_ends : (part : CapturePart) (streams : List (List (List ℕ))) (bytes : List ℕ) (count : Option ℕ) (answer : Result (List (List (List ℕ))) (Stop Refusal)) → StandsForCapture part bytes → part.streams ≡ Some streams → ((given : List Record) (b : List ℕ) → StandsFor part.reader given b → EndsAs given (Ok tt) (verdict b)) → ((given : List Record) (b : List ℕ) → StandsFor part.reader given b → count ≡ count_of b)
-    → IfOk answer (λ same. (same ≡ streams) × (count ≡ Some (length streams))) → IfErr answer (λ stop. stop ≡ NoMemory) → EndsWhole capture_kind bytes answer
-checked_ends part streams bytes count (Ok same) stands is ends counts value memory =
-    subst (λ (l : List (List (List ℕ))). HasStreams bytes l) (sym value.0)
-    (streams_of part streams bytes stands is ends (λ given b fed. sym value.1 ∙ counts given b fed))
-checked_ends part streams bytes count (Err (Refused refusal)) stands is ends counts value memory = let no : Refused refusal ≡ NoMemory = memory in cc
-checked_ends part streams bytes count (Err ReadFault) stands is ends counts value memory = let no : ReadFault ≡ NoMemory = memory in cc
-checked_ends part streams bytes count (Err NoMemory) stands is ends counts value memory = tt
+-- a whole capture has streams
+pub streams_there : (part : CapturePart) (bytes : List ℕ) → StandsForCapture part bytes → part.streams ≡ None → ((given : List Record) (b : List ℕ) → StandsFor part.reader given b → EndsAs given (Ok tt) (verdict b)) → ⊥
+streams_there part bytes stands is ends =
+    let whole = whole_count part bytes stands ends in
+    subst (λ (o : Option ℕ). KeepsStreams None o stands.given) whole.3 (subst (λ (o : Option (List (List (List ℕ)))). KeepsStreams o (count_of bytes) stands.given) is stands.kept)

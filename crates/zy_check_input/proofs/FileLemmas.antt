@@ -1,6 +1,6 @@
 -- A journal that is all that a source gives.
 use Rattle.std.proofs.Common.{◌≡◌, ◌⊎◌, inl, inr, ℕ, List, [], ◌++◌, refl, sym, ◌∙◌, ap, subst, arith, append_assoc}
-use Rattle.std.specs.Prelude.{Option, None, Some, IfSome, Result, Ok, Err, ⊤}
+use Rattle.std.specs.Prelude.{Option, Result, Ok, Err, ⊤}
 use Rattle.std.specs.Io.KnownBytes.{Consumes}
 use Rattle.std.proofs.lemmas.List.{append-nil}
 use Rattle.zy_base.specs.declared.file_fault.FileFault.{FileFault}
@@ -9,7 +9,7 @@ use Rattle.zy_read.specs.declared.not_taken.NotTaken.TheVariants.{Fault}
 use Rattle.zy_read.specs.declared.stop.Stop.{Stop}
 use Rattle.zy_read.specs.declared.stop.Stop.TheVariants.{Refused, ReadFault, NoMemory}
 use Rattle.zy_read.specs.Format.{reading_of, read_on, fault_met, verdict_on}
-use Rattle.zy_read.specs.Piece.{HasGiven, IsOver}
+use Rattle.zy_read.specs.Piece.{IsOver}
 use Rattle.zy_read.specs.Standing.{TellsLasting}
 use Rattle.zy_read.proofs.SourceLemmas.{consumed_none}
 use Rattle.zy_journal.specs.declared.journal.Journal.{Journal}
@@ -21,7 +21,7 @@ use Rattle.zy_check_input.specs.declared.stop.Refusal.{Refusal}
 use Rattle.zy_check_input.specs.declared.stop.Refusal.TheVariants.{Capture, Journal as OfJournal, Replies as OfReplies, Pcap}
 use Rattle.zy_check_input.specs.Parts.{HasReadJournal}
 use Rattle.zy_check_input.specs.Reading.{IsReading, HasFaultBehind, HasRead, Reads}
-use Rattle.zy_check_input.specs.Kinds.{StandsForJournalFile, IsFaultyJournalFile, journal_file_kind}
+use Rattle.zy_check_input.specs.Kinds.{StandsForJournalFile, journal_file_kind}
 use Rattle.zy_check_input.proofs.WholeLemmas.{if_some}
 
 -- before the first byte

@@ -7,3 +7,5 @@ pub mod WholeLemmas
 pub mod FaultLemmas
 pub mod DivisionLemmas
 pub mod FileLemmas
+pub mod LawfulLemmas
+pub mod OrderLemmas

@@ -8,6 +8,7 @@ use Rattle.zy_capture.specs.Outputs.{AllOutputs}
 use Rattle.zy_capture.specs.Standing.{StandsFor}
 use Rattle.zy_capture.specs.RepliesStanding.{StandsForReplies}
 use Rattle.zy_capture.specs.Verdict as Captures
+use Rattle.zy_capture.specs.RepliesVerdict as Texts
 use Rattle.zy_journal.specs.declared.journal.Journal.{Journal}
 use Rattle.zy_journal_reader.specs.Standing.{StandsForJournal}
 use Rattle.zy_journal_reader.specs.Verdict as Journals
@@ -29,12 +30,17 @@ use Rattle.zy_check_input.proofs.CaptureLemmas.{once}
 
 -- ---- where a part begins
 
+-- before the first byte there is no count
+no_count : Captures.count_of [] ≡ None
+unfolding Captures.count_of reading_of read_on
+no_count = refl
+
 -- before the first byte of the capture
 pub capture_begun : {S : Type 0} (rest : S → Option (List ℕ)) (faults : S → ℕ) (first : S) (left : List ℕ) (part : CapturePart) → left ≡ [] → StandsFor part.reader [] [] → part.streams ≡ None → IsReading capture_kind rest faults first first left [] [] part
 unfolding fault_met verdict_on reading_of read_on
 capture_begun rest faults first left part none reader streams = record {
   given = record { source = subst (λ (l : List ℕ). Consumes (rest first) (rest first) l) (sym none) (consumed_none (rest first)); count = omega arith };
-  stands = record { given = []; reader = reader; kept = subst (λ (o : Option (List (List (List ℕ)))). KeepsStreams o []) (sym streams) refl };
+  stands = record { given = []; reader = reader; kept = subst (λ (o : Option (List (List (List ℕ)))). KeepsStreams o (Captures.count_of []) []) (sym streams) (subst (λ (o : Option ℕ). KeepsStreams None o []) (sym no_count) refl) };
   goes_on = (refl, refl);
 }
 
@@ -51,12 +57,17 @@ journal_begun rest faults first now left bytes part given reader = record {
   goes_on = (refl, refl);
 }
 
+-- before the first byte there is no version
+no_version : Texts.version_of [] ≡ None
+unfolding Texts.version_of reading_of read_on
+no_version = refl
+
 -- before the first byte of the replies file
 pub replies_begun : {S : Type 0} (rest : S → Option (List ℕ)) (faults : S → ℕ) (first now : S) (left bytes : List ℕ) (part : RepliesPart) → HasGiven rest faults first now left bytes → StandsForReplies part.reader [] [] → part.outputs ≡ None → IsReading replies_kind rest faults first now left bytes [] part
 unfolding fault_met verdict_on reading_of read_on
 replies_begun rest faults first now left bytes part given reader outputs = record {
   given = given_before rest faults first now left bytes given;
-  stands = record { given = []; reader = reader; kept = subst (λ (o : Option AllOutputs). KeepsOutputs o []) (sym outputs) refl };
+  stands = record { given = []; reader = reader; kept = subst (λ (o : Option AllOutputs). KeepsOutputs o (Texts.version_of []) []) (sym outputs) (subst (λ (o : Option ℕ). KeepsOutputs None o []) (sym no_version) refl) };
   goes_on = (refl, refl);
 }
 

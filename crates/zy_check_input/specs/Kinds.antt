@@ -1,7 +1,8 @@
 -- The kinds of parts: which bytes brought their readers to where they are, and what a text of each kind gives. No
 -- public clause cites this module.
-use Rattle.std.specs.Prelude.{◌≡◌, ◌⊎◌, ℕ, ◌+◌, Bool, false, List, [], length, Option, None, Some, ⊤}
+use Rattle.std.specs.Prelude.{◌≡◌, ℕ, ◌^◌, ◌<◌, Bool, false, List, [], ◌∷◌, ◌++◌, length, Option, None, Some, option_to_list, ⊤}
 use Rattle.zy_capture.specs.declared.record.Record.{Record}
+use Rattle.zy_capture.specs.declared.record.Record.TheVariants as Kinds
 use Rattle.zy_capture.specs.declared.session_bytes.SessionBytes.{SessionBytes}
 use Rattle.zy_capture.specs.Streams.{sessions_of, no_bytes, with_records}
 use Rattle.zy_capture.specs.Outputs.{AllOutputs, AreOutputs}
@@ -24,16 +25,43 @@ use Rattle.zy_check_input.specs.Reading.{Kind, GoesOn}
 
 -- ---- captures
 
--- the streams are those of the records; before the count was read there is no record
-abbrev pub KeepsStreams : Option (List (List (List ℕ))) → List Record → Type 0
-KeepsStreams None given = given ≡ []
-KeepsStreams (Some streams) given = (count : ℕ) × (streams ≡ with_records (no_bytes count) given)
+-- the streams are those of the records, for the count that was read; before it was read there are none, and no record
+abbrev pub KeepsStreams : Option (List (List (List ℕ))) → Option ℕ → List Record → Type 0
+KeepsStreams None None given = given ≡ []
+KeepsStreams (Some streams) (Some count) given = streams ≡ with_records (no_bytes count) given
+KeepsStreams streams count given = ⊥
+
+-- the same, but the streams may not have been made yet
+abbrev pub KeepsSoFar : Option (List (List (List ℕ))) → Option ℕ → List Record → Type 0
+KeepsSoFar None count given = given ≡ []
+KeepsSoFar (Some streams) count given = KeepsStreams (Some streams) count given
 
 -- these bytes of a capture were fed, and their records are kept
 pub record StandsForCapture (part : CapturePart) (bytes : List ℕ) : Type 0 where
   pub given : List Record
   pub reader : StandsFor part.reader given bytes
-  pub kept : KeepsStreams part.streams given
+  pub kept : KeepsStreams part.streams (Captures.count_of bytes) given
+
+-- the reader was fed bytes without a fault, and their records are those that are kept and this one, if there is one
+pub record IsKeeping (part : CapturePart) (gave : Option Record) : Type 0 where
+  pub given : List Record
+  pub bytes : List ℕ
+  pub reader : StandsFor part.reader (given ++ option_to_list gave) bytes
+  pub clean : Captures.fault_of bytes ≡ None
+  pub kept : KeepsSoFar part.streams (Captures.count_of bytes) given
+
+-- the same, where the streams were made if the count is known, and there is one further record
+pub record IsAdding (part : CapturePart) (item : Record) : Type 0 where
+  pub given : List Record
+  pub bytes : List ℕ
+  pub reader : StandsFor part.reader (given ++ item ∷ []) bytes
+  pub clean : Captures.fault_of bytes ≡ None
+  pub kept : KeepsStreams part.streams (Captures.count_of bytes) given
+
+-- the record is of one of the connections, which has room for a further session if the record begins one
+abbrev pub MayKeep : List (List (List ℕ)) → Record → Type 0
+MayKeep streams (Kinds.Segment s) = s.conn < length streams
+MayKeep streams (Kinds.Close conn) = (conn < length streams) × (length (sessions_of streams conn) < 2 ^ 31)
 
 -- the text has this fault as a capture
 abbrev pub IsFaultyCapture : List ℕ → Refusal → Type 0
@@ -93,23 +121,38 @@ journal_file_kind = record {
 
 -- ---- replies files, which end with the source
 
--- the outputs are those that were given; before the version was read there is no output
-abbrev pub KeepsOutputs : Option AllOutputs → List SessionBytes → Type 0
-KeepsOutputs None given = given ≡ []
-KeepsOutputs (Some outputs) given = items_of outputs ≡ given
+-- the outputs are those that were given, in the version that was read; before it was read there are none
+abbrev pub KeepsOutputs : Option AllOutputs → Option ℕ → List SessionBytes → Type 0
+KeepsOutputs None None given = given ≡ []
+KeepsOutputs (Some outputs) (Some version) given = (items_of outputs ≡ given) × (outputs.version ≡ version) × AreOutputs outputs
+KeepsOutputs outputs version given = ⊥
 
--- the output of this session comes next: it is the first one of the next connection, or the next
--- one of the last connection
-abbrev pub ComesNext : List (List (List ℕ)) → ℕ → ℕ → Type 0
-ComesNext sessions conn session =
-    ((conn ≡ length sessions) × (session ≡ 0))
-    ⊎ ((conn + 1 ≡ length sessions) × (session ≡ length (sessions_of sessions conn)))
+-- the same, but the outputs may not have been made yet
+abbrev pub HasOutputsSoFar : Option AllOutputs → Option ℕ → List SessionBytes → Type 0
+HasOutputsSoFar None version given = given ≡ []
+HasOutputsSoFar (Some outputs) version given = KeepsOutputs (Some outputs) version given
 
 -- these bytes of a replies file were fed, and their outputs are kept
 pub record StandsForRepliesPart (part : RepliesPart) (bytes : List ℕ) : Type 0 where
   pub given : List SessionBytes
   pub reader : StandsForReplies part.reader given bytes
-  pub kept : KeepsOutputs part.outputs given
+  pub kept : KeepsOutputs part.outputs (Replies.version_of bytes) given
+
+-- the reader was fed bytes without a fault, and their outputs are those that are kept and this one, if there is one
+pub record IsKeepingOutput (part : RepliesPart) (gave : Option SessionBytes) : Type 0 where
+  pub given : List SessionBytes
+  pub bytes : List ℕ
+  pub reader : StandsForReplies part.reader (given ++ option_to_list gave) bytes
+  pub clean : Replies.fault_of bytes ≡ None
+  pub kept : HasOutputsSoFar part.outputs (Replies.version_of bytes) given
+
+-- the same, where the outputs were made if the version is known, and there is one further output
+pub record IsAddingOutput (part : RepliesPart) (item : SessionBytes) : Type 0 where
+  pub given : List SessionBytes
+  pub bytes : List ℕ
+  pub reader : StandsForReplies part.reader (given ++ item ∷ []) bytes
+  pub clean : Replies.fault_of bytes ≡ None
+  pub kept : KeepsOutputs part.outputs (Replies.version_of bytes) given
 
 -- no text is whole before the source is at its end
 abbrev pub never : Replies.Verdict → Bool

@@ -22,6 +22,20 @@ pub record Kind (P T : Type 0) : Type 1 where
   -- the text has this fault, and doesn't begin with a whole part
   pub faulty : List ℕ → Refusal → Type 0
 
+-- the bytes that were taken have no fault, and the part goes on
+abbrev pub IsPartOpen : {P T : Type 0} → Kind P T → P → Type 0
+IsPartOpen kind part = (bytes : List ℕ) × kind.stands part bytes × kind.goes_on bytes
+
+-- the bytes that were taken are the whole part, or the part goes on
+abbrev pub IsPartFed : {P T : Type 0} → Kind P T → P → Type 0
+IsPartFed kind part = (bytes : List ℕ) × kind.stands part bytes × (kind.whole bytes ⊎ kind.goes_on bytes)
+
+-- the part goes on, or was fed, or is read no further
+abbrev pub IsLeft : {P T : Type 0} → Kind P T → P → Result Bool (Stop Refusal) → Type 0
+IsLeft kind part (Ok false) = IsPartOpen kind part
+IsLeft kind part (Ok true) = IsPartFed kind part
+IsLeft kind part (Err stop) = ⊤
+
 -- after the bytes that were taken, the part goes on or is whole, or has a fault whatever follows;
 -- `NoMemory` needs no cause
 abbrev pub Takes : {P T : Type 0} → Kind P T → P → List ℕ → Result Bool (Stop Refusal) → Type 0

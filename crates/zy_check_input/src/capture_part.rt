@@ -1,17 +1,16 @@
 //! Reading the capture, whose records are added to streams.
-ghost use Rattle.std.specs.Prelude.{◌≡◌, ◌<◌, ◌≤◌, ◌^◌, ◌++◌, ◌∷◌, [], ℕ, List, length, take, true, None, Some, Ok, IfOk, IfErr, OnOk, option_to_list};
+ghost use Rattle.std.specs.Prelude.{◌≡◌, ◌<◌, ◌≤◌, ◌++◌, ◌∷◌, [], ℕ, List, length, take, true, Option, None, Ok, OnOk, option_to_list};
 ghost use Rattle.zy_capture.specs.declared.record.Record.{Record};
 ghost use Rattle.zy_capture.specs.Standing.{StandsFor};
-ghost use Rattle.zy_capture.specs.Streams.{sessions_of, with_record};
-ghost use Rattle.zy_read.specs.declared.stop.Stop.TheVariants as Stops;
-ghost use Rattle.zy_capture.specs.Verdict.{fault_of, is_within_record};
-ghost use Rattle.zy_check_input.specs.Reading.{Takes};
-ghost use Rattle.zy_check_input.specs.Kinds.{KeepsStreams, capture_kind};
+ghost use Rattle.zy_capture.specs.Streams.{with_record};
+ghost use Rattle.zy_capture.specs.Verdict.{fault_of, count_of, is_within_record};
+ghost use Rattle.zy_check_input.specs.Reading.{Takes, IsPartOpen};
+ghost use Rattle.zy_check_input.specs.Kinds.{KeepsStreams, KeepsSoFar, IsKeeping, IsAdding, MayKeep, capture_kind};
 
 use crate::part::{Part, Taken};
 use crate::stop::{Refusal, Stop};
 use std::alloc::Global;
-use zy_base::{CONNECTION_LIMIT, NoMemory};
+use zy_base::NoMemory;
 use zy_capture::{FeedFault, Reader, Record, Streams};
 use zy_read::Fed;
 
@@ -38,55 +37,69 @@ impl CapturePart {
 
     // Makes the streams where the count is known and they were not made.
     fn begin(&mut self) -> Result<(), NoMemory>
+        requires keeping { (gave : Option Record) × IsKeeping self.old gave }
         ensures reader { self.new.reader ≡ self.old.reader }
-        ensures value { (given : List Record) → KeepsStreams self.old.streams given
-            → OnOk result (KeepsStreams self.new.streams given) }
+        ensures value { (given all : List Record) (bytes : List ℕ)
+            → StandsFor self.old.reader all bytes
+            → KeepsSoFar self.old.streams (count_of bytes) given
+            → OnOk result (KeepsStreams self.new.streams (count_of bytes) given) }
     {
         if self.streams.is_some() {
             return Ok(());
         }
         match self.reader.count() {
-            Some(count) if count <= CONNECTION_LIMIT => match Streams::new(self.alloc, count) {
+            Some(count) => match Streams::new(self.alloc, count) {
                 Ok(streams) => {
                     self.streams = Some(streams);
                     Ok(())
                 }
                 Err(NoMemory) => Err(NoMemory),
             },
-            _ => Ok(()),
+            None => Ok(()),
         }
     }
 
-    // Adds a record to the streams.
+    // Adds a record to the streams. A reader gives none before the count.
     fn add(&mut self, item: &Record) -> Result<(), NoMemory>
+        requires adding { IsAdding self.old item.now }
         ensures reader { self.new.reader ≡ self.old.reader }
-        ensures value { (given : List Record) → KeepsStreams self.old.streams given
-            → OnOk result (KeepsStreams self.new.streams (given ++ item.now ∷ [])) }
+        ensures value { (given : List Record) (count : Option ℕ)
+            → KeepsStreams self.old.streams count given
+            → OnOk result (KeepsStreams self.new.streams count (given ++ item.now ∷ [])) }
     {
         match &mut self.streams {
             Some(streams) => add_record(streams, item),
-            // A reader gives no record before the count.
-            None => Err(NoMemory),
+            None => unreachable!(),
         }
     }
 
     // Keeps what the reader gave.
     fn keep(&mut self, gave: Option<Record>) -> Result<(), NoMemory>
+        requires keeping { IsKeeping self.old gave }
         ensures reader { self.new.reader ≡ self.old.reader }
-        ensures value { (given : List Record) → KeepsStreams self.old.streams given
-            → OnOk result (KeepsStreams self.new.streams (given ++ option_to_list gave)) }
+        ensures value { (given : List Record) (bytes : List ℕ)
+            → StandsFor self.old.reader (given ++ option_to_list gave) bytes
+            → KeepsSoFar self.old.streams (count_of bytes) given
+            → OnOk result (KeepsStreams self.new.streams (count_of bytes) (given ++ option_to_list gave)) }
     {
-        match gave {
-            Some(item) => self.add(&item),
-            None => self.begin(),
+        match self.begin() {
+            Ok(()) => match gave {
+                Some(item) => self.add(&item),
+                None => Ok(()),
+            },
+            Err(NoMemory) => {
+                drop(gave);
+                Err(NoMemory)
+            }
         }
     }
 
     // Keeps what the reader gave for some bytes. Gives whether the capture is whole.
     fn go_on(&mut self, gave: Option<Record>) -> Result<bool, Stop>
+        requires keeping { IsKeeping self.old gave }
         ensures value { (given : List Record) (bytes : List ℕ)
             → StandsFor self.old.reader (given ++ option_to_list gave) bytes
-            → fault_of bytes ≡ None → KeepsStreams self.old.streams given
+            → fault_of bytes ≡ None → KeepsSoFar self.old.streams (count_of bytes) given
             → Takes capture_kind self.new bytes result }
     {
         match self.keep(gave) {
@@ -97,6 +110,7 @@ impl CapturePart {
 
     // Takes one byte. Gives whether the capture is whole.
     fn take_byte(&mut self, byte: u8) -> Result<bool, Stop>
+        requires goes { IsPartOpen capture_kind self.old }
         ensures value { (bytes : List ℕ) → capture_kind.stands self.old bytes
             → capture_kind.goes_on bytes → Takes capture_kind self.new (bytes ++ byte ∷ []) result }
     {
@@ -110,6 +124,7 @@ impl CapturePart {
     // Takes bytes of a record, up to its end at most.
     fn take_piece(&mut self, next: &[u8]) -> Taken
         requires some { 0 < length next.now }
+        requires goes { IsPartOpen capture_kind self.old }
         ensures within { result.count ≤ length next.now }
         ensures taken { (whole : _) → result.answer ≡ Ok whole → 0 < result.count }
         ensures value { (bytes : List ℕ) → capture_kind.stands self.old bytes
@@ -160,40 +175,20 @@ impl Part for CapturePart {
             return Err(Stop::Refused(Refusal::Capture(fault)));
         }
         match streams {
-            Some(streams) => checked(streams, reader.count()),
+            Some(streams) => Ok(streams),
             // The count of a capture that is whole was read.
-            None => Err(Stop::NoMemory),
+            None => unreachable!(),
         }
     }
 }
 
-// The streams, if their number is the count, as for a whole capture it is.
-fn checked(streams: Streams, count: Option<u32>) -> Result<Streams, Stop>
-    ensures value { IfOk result (λ same. (same ≡ streams) × (count ≡ Some (length streams))) }
-    ensures memory { IfErr result (λ stop. stop ≡ Stops.NoMemory) }
-{
-    match count {
-        Some(count) if count == streams.count() => Ok(streams),
-        _ => Err(Stop::NoMemory),
-    }
-}
-
-// Adds a record to streams. A record of another connection, or a close of one that has no room for a
-// further session, is refused; a reader gives none.
+// Adds a record to streams.
 fn add_record(streams: &mut Streams, item: &Record) -> Result<(), NoMemory>
+    requires may { MayKeep streams.old item.now }
     ensures ok { OnOk result (streams.new ≡ with_record streams.old item.now) }
 {
     match item {
-        Record::Segment(segment) if segment.conn < streams.count() => streams.add(segment),
-        Record::Close { conn } if has_room(streams, *conn) => streams.close(*conn),
-        _ => Err(NoMemory),
+        Record::Segment(segment) => streams.add(segment),
+        Record::Close { conn } => streams.close(*conn),
     }
-}
-
-// There is such a connection, and it has room for a further session.
-fn has_room(streams: &Streams, conn: u32) -> bool
-    ensures value { result ≡ true → (conn < length streams.now)
-        × (length (sessions_of streams.now conn) < 2 ^ 31) }
-{
-    conn < streams.count() && streams.sessions(conn) < 2_147_483_648
 }

@@ -1,6 +1,6 @@
 //! Reading one part of an input.
-ghost use Rattle.std.specs.Prelude.{◌≡◌, ◌<◌, ◌≤◌, ℕ, List, [], ◌++◌, length, take, Ok};
-ghost use Rattle.zy_check_input.specs.Reading.{Kind, IsReading, Takes, EndsWhole, EndsCut, Advances, Feeds, Reads};
+ghost use Rattle.std.specs.Prelude.{◌≡◌, ◌<◌, ◌≤◌, ℕ, List, [], ◌++◌, length, take, Ok, OnOk};
+ghost use Rattle.zy_check_input.specs.Reading.{Kind, IsPartOpen, IsPartFed, IsLeft, IsReading, Takes, EndsWhole, EndsCut, Advances, Feeds, Reads};
 
 use crate::stop::Stop;
 use zy_base::{Failed, Source};
@@ -24,6 +24,7 @@ pub(crate) trait Part: Drop {
     // Takes the first of the next bytes, but none after the end of the part.
     fn take(&mut self, next: &[u8]) -> Taken
         requires some { 0 < length next.now }
+        requires goes { IsPartOpen kind self.old }
         ensures within { result.count ≤ length next.now }
         ensures taken { (whole : _) → result.answer ≡ Ok whole → 0 < result.count }
         ensures value { (bytes : List ℕ) → kind.stands self.old bytes → kind.goes_on bytes
@@ -31,6 +32,7 @@ pub(crate) trait Part: Drop {
 
     // What the bytes give that were taken, or what they lack.
     fn end(self) -> Result<Self::Gives, Stop>
+        requires fed { IsPartFed kind self }
         ensures whole { (bytes : List ℕ) → kind.stands self bytes → kind.whole bytes
             → EndsWhole kind bytes result }
         ensures cut { (bytes : List ℕ) → kind.stands self bytes → kind.goes_on bytes
@@ -43,6 +45,7 @@ pub(crate) fn read_part<P: Part, S: Source>(
     pieces: &mut Pieces,
     source: &mut S,
 ) -> Result<P::Gives, Stop>
+    requires goes { IsPartOpen P.kind part }
     ensures value { (first : S) (before : List ℕ)
         → IsReading P.kind S.rest S.faults first source.old pieces.old before [] part
         → Reads P.kind S.rest S.faults first source.new pieces.new before result }
@@ -61,9 +64,11 @@ fn feed_all<P: Part, S: Source>(
     pieces: &mut Pieces,
     source: &mut S,
 ) -> Result<(), Stop>
+    requires goes { IsPartOpen P.kind part.old }
     ensures value { (first : S) (before : List ℕ)
         → IsReading P.kind S.rest S.faults first source.old pieces.old before [] part.old
         → Feeds P.kind S.rest S.faults first source.new pieces.new before part.new result }
+    ensures fed { OnOk result (IsPartFed P.kind part.new) }
     ensures count { S.faults source.old ≤ S.faults source.new }
 {
     for _ in 0..u64::MAX {
@@ -83,6 +88,8 @@ fn advance<P: Part, S: Source>(
     pieces: &mut Pieces,
     source: &mut S,
 ) -> Result<bool, Stop>
+    requires goes { IsPartOpen P.kind part.old }
+    ensures left { IsLeft P.kind part.new result }
     ensures value { (first : S) (before bytes : List ℕ)
         → IsReading P.kind S.rest S.faults first source.old pieces.old before bytes part.old
         → Advances P.kind S.rest S.faults first source.new pieces.new before bytes part.new

@@ -1,17 +1,15 @@
 //! Reading the replies file.
-ghost use Rattle.std.specs.Prelude.{◌≡◌, ◌<◌, ◌++◌, ◌∷◌, [], ℕ, List, length, true, None, Some, IfOk, IfErr, OnOk, option_to_list};
+ghost use Rattle.std.specs.Prelude.{◌≡◌, ◌++◌, ◌∷◌, [], ℕ, List, Option, None, OnOk, option_to_list};
 ghost use Rattle.zy_capture.specs.declared.session_bytes.SessionBytes.{SessionBytes};
-ghost use Rattle.zy_capture.specs.Outputs.{AreOutputs, MayAdd, with_output};
 ghost use Rattle.zy_capture.specs.RepliesStanding.{StandsForReplies};
-ghost use Rattle.zy_capture.specs.RepliesVerdict.{fault_of};
-ghost use Rattle.zy_read.specs.declared.stop.Stop.TheVariants as Stops;
+ghost use Rattle.zy_capture.specs.RepliesVerdict.{fault_of, version_of};
 ghost use Rattle.zy_check_input.specs.Reading.{Takes};
-ghost use Rattle.zy_check_input.specs.Kinds.{KeepsOutputs, ComesNext, replies_kind};
+ghost use Rattle.zy_check_input.specs.Kinds.{KeepsOutputs, HasOutputsSoFar, IsKeepingOutput, IsAddingOutput, replies_kind};
 
 use crate::part::{Part, Taken};
 use crate::stop::{Refusal, Stop};
 use std::alloc::Global;
-use zy_base::{CONNECTION_LIMIT, NoMemory};
+use zy_base::NoMemory;
 use zy_capture::{Outputs, RepliesReader, SessionBytes};
 use zy_read::{Fed, FileFeed};
 
@@ -38,39 +36,50 @@ impl RepliesPart {
 
     // Makes the outputs where the version is known and they were not made.
     fn begin(&mut self)
+        requires keeping { (gave : Option SessionBytes) × IsKeepingOutput self.old gave }
         ensures reader { self.new.reader ≡ self.old.reader }
-        ensures value { (given : List SessionBytes) → KeepsOutputs self.old.outputs given
-            → KeepsOutputs self.new.outputs given }
+        ensures value { (given all : List SessionBytes) (bytes : List ℕ)
+            → StandsForReplies self.old.reader all bytes
+            → HasOutputsSoFar self.old.outputs (version_of bytes) given
+            → KeepsOutputs self.new.outputs (version_of bytes) given }
     {
         if self.outputs.is_some() {
             return;
         }
-        match self.reader.version() {
-            Some(version) if version == 1 || version == 2 => {
-                self.outputs = Some(Outputs::new(self.alloc, version));
-            }
-            _ => {}
+        if let Some(version) = self.reader.version() {
+            self.outputs = Some(Outputs::new(self.alloc, version));
         }
     }
 
-    // Adds an output that the reader gave.
+    // Adds an output that the reader gave. It gives none before the version, and each comes next.
     fn add(&mut self, item: SessionBytes) -> Result<(), NoMemory>
+        requires adding { IsAddingOutput self.old item }
         ensures reader { self.new.reader ≡ self.old.reader }
-        ensures value { (given : List SessionBytes) → KeepsOutputs self.old.outputs given
-            → OnOk result (KeepsOutputs self.new.outputs (given ++ item ∷ [])) }
+        ensures value { (given : List SessionBytes) (bytes : List ℕ)
+            → StandsForReplies self.old.reader (given ++ item ∷ []) bytes
+            → KeepsOutputs self.old.outputs (version_of bytes) given
+            → OnOk result (KeepsOutputs self.new.outputs (version_of bytes) (given ++ item ∷ [])) }
     {
         match &mut self.outputs {
-            Some(outputs) => add_output(outputs, item),
-            // A reader gives no output before the version.
-            None => Err(NoMemory),
+            Some(outputs) => match outputs.add(item.conn, item.bytes) {
+                Ok(()) => Ok(()),
+                Err(refused) => {
+                    drop(refused);
+                    Err(NoMemory)
+                }
+            },
+            None => unreachable!(),
         }
     }
 
     // Keeps what the reader gave.
     fn keep(&mut self, gave: Option<SessionBytes>) -> Result<(), NoMemory>
+        requires keeping { IsKeepingOutput self.old gave }
         ensures reader { self.new.reader ≡ self.old.reader }
-        ensures value { (given : List SessionBytes) → KeepsOutputs self.old.outputs given
-            → OnOk result (KeepsOutputs self.new.outputs (given ++ option_to_list gave)) }
+        ensures value { (given : List SessionBytes) (bytes : List ℕ)
+            → StandsForReplies self.old.reader (given ++ option_to_list gave) bytes
+            → HasOutputsSoFar self.old.outputs (version_of bytes) given
+            → OnOk result (KeepsOutputs self.new.outputs (version_of bytes) (given ++ option_to_list gave)) }
     {
         self.begin();
         match gave {
@@ -81,9 +90,10 @@ impl RepliesPart {
 
     // Keeps what the reader gave for some bytes. The file ends with the source.
     fn go_on(&mut self, gave: Option<SessionBytes>) -> Result<bool, Stop>
+        requires keeping { IsKeepingOutput self.old gave }
         ensures value { (given : List SessionBytes) (bytes : List ℕ)
             → StandsForReplies self.old.reader (given ++ option_to_list gave) bytes
-            → fault_of bytes ≡ None → KeepsOutputs self.old.outputs given
+            → fault_of bytes ≡ None → HasOutputsSoFar self.old.outputs (version_of bytes) given
             → Takes replies_kind self.new bytes result }
     {
         match self.keep(gave) {
@@ -126,64 +136,9 @@ impl Part for RepliesPart {
             return Err(Stop::Refused(Refusal::Replies(fault)));
         }
         match outputs {
-            Some(outputs) => checked(outputs, reader.version()),
+            Some(outputs) => Ok(outputs),
             // The version of a replies file that is whole was read.
-            None => Err(Stop::NoMemory),
+            None => unreachable!(),
         }
     }
-}
-
-// The outputs, if they have this version, as those of a whole replies file do.
-fn checked(outputs: Outputs, version: Option<u32>) -> Result<Outputs, Stop>
-    ensures value { IfOk result (λ same. (same ≡ outputs) × (version ≡ Some outputs.version)) }
-    ensures lawful { AreOutputs outputs }
-    ensures memory { IfErr result (λ stop. stop ≡ Stops.NoMemory) }
-{
-    if has_version(&outputs, version) {
-        Ok(outputs)
-    } else {
-        Err(Stop::NoMemory)
-    }
-}
-
-// Whether this is the version of the outputs.
-fn has_version(outputs: &Outputs, version: Option<u32>) -> bool
-    ensures value { result ≡ true → version ≡ Some outputs.now.version }
-    ensures lawful { AreOutputs outputs.now }
-{
-    let own = outputs.version();
-    match version {
-        Some(version) => version == own,
-        None => false,
-    }
-}
-
-// Adds an output to outputs. One that doesn't come next is refused; a reader gives none.
-fn add_output(outputs: &mut Outputs, item: SessionBytes) -> Result<(), NoMemory>
-    ensures ok { OnOk result (outputs.new ≡ with_output outputs.old item.conn item.bytes) }
-    ensures next { OnOk result (ComesNext outputs.old.sessions item.conn item.session) }
-{
-    if !comes_next(outputs, item.conn, item.session) {
-        return Err(NoMemory);
-    }
-    match outputs.add(item.conn, item.bytes) {
-        Ok(()) => Ok(()),
-        Err(_) => Err(NoMemory),
-    }
-}
-
-// Whether the output of this session comes next.
-fn comes_next(outputs: &Outputs, conn: u32, session: u32) -> bool
-    ensures may { result ≡ true → MayAdd outputs.now conn }
-    ensures last { result ≡ true → ComesNext outputs.now.sessions conn session }
-{
-    let count = outputs.count();
-    if conn >= count {
-        return conn == count && conn < CONNECTION_LIMIT && session == 0;
-    }
-    if outputs.version() != 2 || conn + 1 != count {
-        return false;
-    }
-    let sessions = outputs.sessions(conn);
-    sessions < 2_147_483_648 && session == sessions
 }

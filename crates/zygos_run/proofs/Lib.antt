@@ -7,3 +7,4 @@ pub mod CheckLemmas
 pub mod TestLemmas
 pub mod EndLemmas
 pub mod PacketLemmas
+pub mod CertifiedLemmas

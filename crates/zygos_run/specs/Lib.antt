@@ -12,3 +12,4 @@ pub mod Ends
 pub mod Served
 pub mod Runs
 pub mod Finish
+pub mod Certified

@@ -1,4 +1,4 @@
-use Rattle.std.proofs.Common.{length, take, get_or, ◌∙◌, refl, subst, arith}
+use Rattle.std.proofs.Common.{take, get_or, ◌∙◌, refl, subst, arith}
 use Rattle.std.proofs.lemmas.Option.{slice_get_read, slice_get-get_or}
 use Rattle.zy_check.specs.Walk.{IsDueIn}
 use Rattle.zy_check.proofs.WalkLemmas.{next_within, next_at, is_wrong_reply, answered_at, replayed_step, right_step}

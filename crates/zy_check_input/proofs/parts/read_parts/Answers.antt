@@ -35,3 +35,24 @@ returns-clause-parts g c =
     all_parts g.S.Source.rest g.S.Source.faults c.args.source.now c.read_part-3.new.source c.read_part-3.new.pieces capture.bytes journal.bytes
     (record { streams = c.in-Ok-read_part.streams; journal = c.in-Ok-read_part-2.journal; outputs = c.in-Ok-read_part-3.outputs }) capture.gives journal.gives
     (c.in-Ok-read_part-3.ensures.value c.args.source.now (capture.bytes ++ journal.bytes) last)
+
+pub read_part-requires : goal.read_part-requires
+read_part-requires g c =
+    let begun = capture_begun g.S.Source.rest g.S.Source.faults c.args.source.now c.in-Ok.pieces c.new-2.result c.in-Ok.ensures.ok c.new-2.ensures.reader c.new-2.ensures.none in
+    record { goes = ([], begun.stands, begun.goes_on) }
+
+pub read_part-requires-2 : goal.read_part-requires-2
+read_part-requires-2 g c =
+    let begun = capture_begun g.S.Source.rest g.S.Source.faults c.args.source.now c.in-Ok.pieces c.new-2.result c.in-Ok.ensures.ok c.new-2.ensures.reader c.new-2.ensures.none in
+    let capture = c.in-Ok-read_part.ensures.value c.args.source.now [] begun in
+    let next = journal_begun g.S.Source.rest g.S.Source.faults c.args.source.now c.read_part.new.source c.read_part.new.pieces capture.bytes c.new-3.result capture.given c.new-3.ensures.value in
+    record { goes = ([], next.stands, next.goes_on) }
+
+pub read_part-requires-3 : goal.read_part-requires-3
+read_part-requires-3 g c =
+    let begun = capture_begun g.S.Source.rest g.S.Source.faults c.args.source.now c.in-Ok.pieces c.new-2.result c.in-Ok.ensures.ok c.new-2.ensures.reader c.new-2.ensures.none in
+    let capture = c.in-Ok-read_part.ensures.value c.args.source.now [] begun in
+    let next = journal_begun g.S.Source.rest g.S.Source.faults c.args.source.now c.read_part.new.source c.read_part.new.pieces capture.bytes c.new-3.result capture.given c.new-3.ensures.value in
+    let journal = c.in-Ok-read_part-2.ensures.value c.args.source.now capture.bytes next in
+    let last = replies_begun g.S.Source.rest g.S.Source.faults c.args.source.now c.read_part-2.new.source c.read_part-2.new.pieces (capture.bytes ++ journal.bytes) c.new-4.result journal.given c.new-4.ensures.reader c.new-4.ensures.none in
+    record { goes = ([], last.stands, last.goes_on) }

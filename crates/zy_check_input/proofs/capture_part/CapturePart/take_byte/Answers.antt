@@ -1,7 +1,29 @@
+use Rattle.std.proofs.Common.{◌++◌, ◌∷◌, []}
 use Rattle.zy_capture.specs.Verdict.{captures, is_good}
 use Rattle.zy_check_input.proofs.FormatLemmas.{byte_fault}
 use Rattle.zy_check_input.proofs.CaptureLemmas.{once}
+use Rattle.zy_check_input.proofs.LawfulLemmas.{kept_on}
 use Rattle.zy_check_input.proofs.capture_part.CapturePart.take_byte.Goals as goal
+
+pub go_on-requires : goal.go_on-requires
+go_on-requires c =
+    let stands = c.requires.goes.1 in
+    let bytes = c.requires.goes.0 in
+    record {
+      keeping = record {
+        given = stands.given;
+        bytes = bytes ++ c.args.byte ∷ [];
+        reader = c.in-Ok.ensures.fed stands.given bytes stands.reader;
+        clean = c.in-Ok.ensures.exact stands.given bytes stands.reader;
+        kept = kept_on c.args.self.now.streams stands.given bytes (c.args.byte ∷ []) stands.kept;
+      };
+    }
+
+pub returns-in-Ok : goal.returns-in-Ok
+returns-in-Ok c = record {
+  value = λ bytes stands goes_on. c.go_on.ensures.value stands.given (bytes ++ c.args.byte ∷ []) (c.in-Ok.ensures.fed stands.given bytes stands.reader) (c.in-Ok.ensures.exact stands.given bytes stands.reader)
+      (kept_on c.args.self.now.streams stands.given bytes (c.args.byte ∷ []) stands.kept);
+}
 
 pub returns-in-Err-Fault : goal.returns-in-Err-Fault
 returns-in-Err-Fault c =

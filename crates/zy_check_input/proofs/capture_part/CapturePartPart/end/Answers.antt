@@ -1,7 +1,10 @@
 use Rattle.zy_capture.specs.Verdict.{captures, is_good}
 use Rattle.zy_check_input.proofs.FormatLemmas.{none_yet}
-use Rattle.zy_check_input.proofs.CaptureLemmas.{once, checked_ends}
+use Rattle.zy_check_input.proofs.CaptureLemmas.{once, streams_of, streams_there}
 use Rattle.zy_check_input.proofs.capture_part.CapturePartPart.end.Goals as goal
+
+pub unreachable-requires : goal.unreachable-requires
+unreachable-requires c = absurd (streams_there c.args.self c.requires.fed.0 c.requires.fed.1 c.in-None.is c.in_default.ensures.value)
 
 pub returns-in-Err-clause-cut : goal.returns-in-Err-clause-cut
 returns-in-Err-clause-cut c bytes stands goes_on = record {
@@ -9,6 +12,5 @@ returns-in-Err-clause-cut c bytes stands goes_on = record {
   bad = c.in-Err.ensures.value stands.given bytes stands.reader;
 }
 
-pub returns-in-Some-clause-whole : goal.returns-in-Some-clause-whole
-returns-in-Some-clause-whole c bytes stands whole =
-    checked_ends c.args.self c.in-Some.streams bytes c.count.result c.checked.result stands c.in-Some.is c.in_default.ensures.value c.count.ensures.value c.checked.ensures.value c.checked.ensures.memory
+pub returns-clause-whole : goal.returns-clause-whole
+returns-clause-whole c bytes stands whole = streams_of c.args.self c.in-Some.streams bytes stands c.in-Some.is c.in_default.ensures.value

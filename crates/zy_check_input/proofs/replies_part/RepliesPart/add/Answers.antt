@@ -1,8 +1,15 @@
 use Rattle.std.proofs.Common.{subst}
+use Rattle.zy_capture.specs.RepliesVerdict.{version_of}
 use Rattle.zy_check_input.specs.Kinds.{KeepsOutputs}
-use Rattle.zy_check_input.proofs.RepliesLemmas.{output_kept}
+use Rattle.zy_check_input.proofs.OrderLemmas.{outputs_made, may_add, output_kept}
 use Rattle.zy_check_input.proofs.replies_part.RepliesPart.add.Goals as goal
 
-pub returns-in-Some-clause-value : goal.returns-in-Some-clause-value
-returns-in-Some-clause-value c given kept =
-    output_kept c.in-Some.outputs c.add_output.new.outputs c.args.item given c.add_output.result c.add_output.ensures.ok c.add_output.ensures.next (subst (λ o. KeepsOutputs o given) c.in-Some.is kept)
+pub add-requires : goal.add-requires
+add-requires c = record { next = may_add c.args.self.now c.args.item c.in-Some.outputs c.requires.adding c.in-Some.is }
+
+pub unreachable-requires : goal.unreachable-requires
+unreachable-requires c = absurd (outputs_made c.args.self.now c.args.item c.requires.adding c.in-None.is)
+
+pub returns-in-Ok-clause-value : goal.returns-in-Ok-clause-value
+returns-in-Ok-clause-value c given bytes stands kept =
+    output_kept c.args.self.now c.in-Some.outputs c.add.new.self c.args.item given bytes c.requires.adding c.in-Some.is stands (subst (λ o. KeepsOutputs o (version_of bytes) given) c.in-Some.is kept) c.in-Ok.ensures.ok

@@ -1,0 +1,402 @@
+-- How many bytes the text of a command has.
+use Rattle.std.specs.Prelude.{◌==◌, codes, decimal, if◌then◌else◌, Option, None, Some}
+use Rattle.std.specs.List.{AllByRecursion, sum_by}
+use Rattle.std.proofs.Common.{◌≡◌, ℕ, ◌+◌, ◌*◌, ◌^◌, ◌<◌, ◌≤◌, Bool, true, false, List, [], ◌∷◌, ◌++◌, length, refl, ap, arith, length-append}
+use Rattle.std.proofs.lemmas.Fmt.{length-decimal-le, length-decimal-le_wide}
+use Rattle.std.proofs.lemmas.List.Sums.{sum_by-cons}
+use Rattle.zy_base.specs.declared.call_reply.CallReply.{CallReply}
+use Rattle.zy_base.specs.declared.call_reply.CallReply.TheVariants.{Miss, Hit, Stored, NotStored, Exists, NotFound, Deleted, Number, NotNumber, TooLarge, Flushed, Tally}
+use Rattle.zy_base.specs.Bounds.{IsKey, IsReply, FitsReply}
+use Rattle.mc_parse.specs.declared.command.Command.{Command}
+use Rattle.mc_parse.specs.declared.command.Command.TheVariants.{Store, Cas, Get, Delete, Count, Version, Verbosity, Flush, Fault, Meta, Stats}
+use Rattle.mc_parse.specs.declared.error_line.ErrorLine.{ErrorLine}
+use Rattle.mc_parse.specs.declared.error_line.ErrorLine.TheVariants as Errors
+use Rattle.mc_parse.specs.declared.meta.Meta.{Meta as MetaCommand}
+use Rattle.mc_parse.specs.declared.meta.Meta.TheVariants as Metas
+use Rattle.mc_parse.specs.Bounds.{IsMeta, IsCommand}
+use Rattle.mc_meta.specs.Flags.{is_among}
+use Rattle.mc_reply.specs.Line.{line, line_end, unless}
+use Rattle.mc_reply.specs.MetaText.{found_of, item_mark, found_mark, mark_text, marks_text, marked, hit_text, get_text, set_text, delete_text, meta_text, has_quiet_letter, value_letter}
+use Rattle.mc_reply.specs.StatsText.{stats_text}
+use Rattle.mc_reply.specs.Text.{error_line, reply_line, only_line, head_text, unique_text, item_line, item_text, items_text, text}
+use Rattle.zy_check.proofs.WidthLemmas.{letters_in, width}
+
+-- a reply whose value and whose numbers are within their bounds
+pub record IsSmall (reply : CallReply) : Type 0 where
+  pub value : IsReply reply
+  pub fits : FitsReply reply
+
+-- what was found of an item
+abbrev Of : {A : Type 0} → A → Type 0
+Of {A} a = A
+
+abbrev Found : Type 0
+Found = Of (found_of 0 0 [])
+
+-- ---- lines
+
+four_parts : (a b c d : List ℕ) → length (a ++ b ++ c ++ d) ≡ length a + (length b + (length c + length d))
+four_parts a b c d =
+    omega (arith, length-append a (b ++ c ++ d), length-append b (c ++ d), length-append c d, length-append (a ++ b ++ c) d, length-append (a ++ b) c, length-append a b)
+
+six_parts : (a b c d e f : List ℕ) → length (a ++ b ++ c ++ d ++ e ++ f) ≡ length a + (length b + (length c + (length d + (length e + length f))))
+six_parts a b c d e f =
+    omega (
+      arith,
+      length-append a (b ++ c ++ d ++ e ++ f),
+      length-append b (c ++ d ++ e ++ f),
+      length-append c (d ++ e ++ f),
+      length-append d (e ++ f),
+      length-append e f,
+      length-append (a ++ b ++ c ++ d ++ e) f,
+      length-append (a ++ b ++ c ++ d) e,
+      length-append (a ++ b ++ c) d,
+      length-append (a ++ b) c,
+      length-append a b,
+    )
+
+four_bytes : (n : ℕ) → n < 2 ^ 32 → length (decimal n) ≤ 10
+four_bytes n few = length-decimal-le 10 n (omega arith) (omega (arith, few)) (omega (arith, few))
+
+eight_bytes : (n : ℕ) → n < 2 ^ 64 → length (decimal n) ≤ 20
+eight_bytes n few = length-decimal-le 20 n (omega arith) (omega (arith, few)) few
+
+value_size : (value : List ℕ) → length value ≤ 1048576 → length (decimal (length value)) ≤ 7
+value_size value few = length-decimal-le 7 (length value) (omega arith) (omega (arith, few)) (omega (arith, few))
+
+line_size : (bytes : List ℕ) → length (line bytes) ≡ length bytes + 2
+line_size bytes = let size = length-append bytes line_end in omega (arith, size)
+
+unless_few : (quiet : Bool) (n : ℕ) (bytes : List ℕ) → length bytes ≤ n → length (unless quiet bytes) ≤ n
+unless_few true n bytes few = omega arith
+unless_few false n bytes few = few
+
+reply_few : (reply : CallReply) → IsSmall reply → length (reply_line reply) ≤ 100
+reply_few Stored small = omega arith
+reply_few NotStored small = omega arith
+reply_few Exists small = omega arith
+reply_few NotFound small = omega arith
+reply_few Deleted small = omega arith
+reply_few (Number number) small = omega (arith, line_size (decimal number), eight_bytes number small.fits.0.1)
+reply_few NotNumber small = omega arith
+reply_few TooLarge small = omega arith
+reply_few Miss small = omega arith
+reply_few (Hit flags unique value) small = omega arith
+reply_few Flushed small = omega arith
+reply_few (Tally gets sets hits misses items) small = omega arith
+
+only_few : (replies : List CallReply) → AllByRecursion IsSmall replies → length (only_line replies) ≤ 100
+only_few [] small = omega arith
+only_few (reply ∷ []) small = reply_few reply small.0
+only_few (reply ∷ next ∷ replies) small = omega arith
+
+error_few : (fault : ErrorLine) → length (error_line fault) ≤ 100
+error_few Errors.Unknown = omega arith
+error_few Errors.BadLine = omega arith
+error_few Errors.BadDelta = omega arith
+error_few Errors.LongLine = omega arith
+error_few Errors.BadChunk = omega arith
+error_few Errors.TooLarge = omega arith
+
+-- ---- items
+
+head_few : (key : List ℕ) (flags : ℕ) (value : List ℕ) → length key ≤ 250 → flags < 2 ^ 32 → length value ≤ 1048576 → length (head_text key flags value) ≤ 275
+head_few key flags value short few most =
+    omega (arith, six_parts (codes "VALUE ") key (codes " ") (decimal flags) (codes " ") (decimal (length value)), short, four_bytes flags few, value_size value most)
+
+item_line_few : (asked : Bool) (key : List ℕ) (flags unique : ℕ) (value : List ℕ) → length key ≤ 250 → flags < 2 ^ 32 → unique < 2 ^ 64 → length value ≤ 1048576 → length (item_line asked key flags unique value) ≤ 298
+item_line_few true key flags unique value short few fits most =
+    omega (arith, line_size (head_text key flags value ++ unique_text unique), length-append (head_text key flags value) (unique_text unique), head_few key flags value short few most, eight_bytes unique fits)
+item_line_few false key flags unique value short few fits most =
+    omega (arith, line_size (head_text key flags value), head_few key flags value short few most)
+
+item_few : (asked : Bool) (key : List ℕ) (reply : CallReply) → IsKey key → IsSmall reply → length (item_text asked key reply) ≤ 2097152
+item_few asked key (Hit flags unique value) is small =
+    let all = length-append (item_line asked key flags unique value) (line value) in
+    let first = item_line_few asked key flags unique value is.1 small.fits.0.0 small.fits.0.1 small.value in
+    let most : length value ≤ 1048576 = small.value in
+    omega (arith, all, first, most, line_size value)
+item_few asked key Miss is small = omega arith
+item_few asked key Stored is small = omega arith
+item_few asked key NotStored is small = omega arith
+item_few asked key Exists is small = omega arith
+item_few asked key NotFound is small = omega arith
+item_few asked key Deleted is small = omega arith
+item_few asked key (Number number) is small = omega arith
+item_few asked key NotNumber is small = omega arith
+item_few asked key TooLarge is small = omega arith
+item_few asked key Flushed is small = omega arith
+item_few asked key (Tally gets sets hits misses items) is small = omega arith
+
+items_few : (asked : Bool) (keys : List (List ℕ)) (replies : List CallReply) → AllByRecursion IsKey keys → AllByRecursion IsSmall replies → length (items_text asked keys replies) ≤ 2097152 * length replies
+items_few asked [] replies are small = omega arith
+items_few asked (key ∷ keys) [] are small = omega arith
+items_few asked (key ∷ keys) (reply ∷ replies) are small =
+    omega (arith, length-append (item_text asked key reply) (items_text asked keys replies), item_few asked key reply are.0 small.0, items_few asked keys replies are.1 small.1)
+
+-- ---- statistics
+
+-- one of the numbers of a tally, and nothing of another reply
+record IsCount (count : CallReply → ℕ) : Type 0 where
+  of_miss : count (Miss) ≡ 0
+  of_hit : (flags unique : ℕ) (value : List ℕ) → count (Hit flags unique value) ≡ 0
+  of_stored : count (Stored) ≡ 0
+  of_not_stored : count (NotStored) ≡ 0
+  of_exists : count (Exists) ≡ 0
+  of_not_found : count (NotFound) ≡ 0
+  of_deleted : count (Deleted) ≡ 0
+  of_number : (n : ℕ) → count (Number n) ≡ 0
+  of_not_number : count (NotNumber) ≡ 0
+  of_too_large : count (TooLarge) ≡ 0
+  of_flushed : count (Flushed) ≡ 0
+  of_tally : (gets sets hits misses items : ℕ) → count (Tally gets sets hits misses items) ≤ gets + (sets + (hits + (misses + items)))
+
+count_few : (count : CallReply → ℕ) → IsCount count → (reply : CallReply) → IsSmall reply → count reply ≤ 92233720368547758075
+count_few count is (Miss) small = omega (arith, is.of_miss)
+count_few count is (Hit flags unique value) small = omega (arith, is.of_hit flags unique value)
+count_few count is (Stored) small = omega (arith, is.of_stored)
+count_few count is (NotStored) small = omega (arith, is.of_not_stored)
+count_few count is (Exists) small = omega (arith, is.of_exists)
+count_few count is (NotFound) small = omega (arith, is.of_not_found)
+count_few count is (Deleted) small = omega (arith, is.of_deleted)
+count_few count is (Number n) small = omega (arith, is.of_number n)
+count_few count is (NotNumber) small = omega (arith, is.of_not_number)
+count_few count is (TooLarge) small = omega (arith, is.of_too_large)
+count_few count is (Flushed) small = omega (arith, is.of_flushed)
+count_few count is (Tally gets sets hits misses items) small =
+    let one = small.fits.1.0 in
+    let two = small.fits.1.1 in
+    let three = small.fits.1.2 in
+    let four = small.fits.1.3 in
+    let five = small.fits.1.4 in
+    omega (arith, is.of_tally gets sets hits misses items, one, two, three, four, five)
+
+sum_few : (count : CallReply → ℕ) → IsCount count → (replies : List CallReply) → AllByRecursion IsSmall replies → sum_by count replies ≤ 92233720368547758075 * length replies
+sum_few count is [] small = omega arith
+sum_few count is (reply ∷ replies) small = omega (arith, sum_by-cons count reply replies, count_few count is reply small.0, sum_few count is replies small.1)
+
+-- the line of a number with this name
+abbrev named_line : List ℕ → ℕ → List ℕ
+named_line name number = line (codes "STAT " ++ name ++ codes " " ++ decimal number)
+
+named_few : (name : List ℕ) (count : CallReply → ℕ) (replies : List CallReply) → IsCount count → length name ≤ 10 → AllByRecursion IsSmall replies → length replies ≤ 1099511627776
+    → length (named_line name (sum_by count replies)) ≤ 51
+named_few name count replies is brief small few =
+    let number = sum_by count replies in
+    let sum = sum_few count is replies small in
+    let digits = length-decimal-le_wide 33 number (omega arith) (omega (arith, sum, few)) (omega (arith, sum, few)) in
+    omega (arith, digits, brief, four_parts (codes "STAT ") name (codes " ") (decimal number), line_size (codes "STAT " ++ name ++ codes " " ++ decimal number))
+
+-- the lines of five numbers, and the end
+abbrev five_lines : (CallReply → ℕ) → (CallReply → ℕ) → (CallReply → ℕ) → (CallReply → ℕ) → (CallReply → ℕ) → List CallReply → List ℕ
+five_lines a b c d e replies =
+    named_line (codes "cmd_get") (sum_by a replies) ++ (named_line (codes "cmd_set") (sum_by b replies)
+    ++ (named_line (codes "get_hits") (sum_by c replies) ++ (named_line (codes "get_misses") (sum_by d replies)
+    ++ (named_line (codes "curr_items") (sum_by e replies) ++ line (codes "END")))))
+
+five_few : (text : List ℕ) (replies : List CallReply) {a b c d e : CallReply → ℕ} → text ≡ five_lines a b c d e replies → IsCount a → IsCount b → IsCount c → IsCount d → IsCount e
+    → AllByRecursion IsSmall replies → length replies ≤ 1099511627776 → length text ≤ 300
+five_few text replies {a} {b} {c} {d} {e} is x y z v w small few =
+    let end = line (codes "END") in
+    let l1 = named_line (codes "cmd_get") (sum_by a replies) in
+    let l2 = named_line (codes "cmd_set") (sum_by b replies) in
+    let l3 = named_line (codes "get_hits") (sum_by c replies) in
+    let l4 = named_line (codes "get_misses") (sum_by d replies) in
+    let l5 = named_line (codes "curr_items") (sum_by e replies) in
+    let whole = ap (λ (l : List ℕ). length l) is in
+    omega (
+      arith,
+      whole,
+      length-append l1 (l2 ++ (l3 ++ (l4 ++ (l5 ++ end)))),
+      length-append l2 (l3 ++ (l4 ++ (l5 ++ end))),
+      length-append l3 (l4 ++ (l5 ++ end)),
+      length-append l4 (l5 ++ end),
+      length-append l5 end,
+      named_few (codes "cmd_get") a replies x (omega arith) small few,
+      named_few (codes "cmd_set") b replies y (omega arith) small few,
+      named_few (codes "get_hits") c replies z (omega arith) small few,
+      named_few (codes "get_misses") d replies v (omega arith) small few,
+      named_few (codes "curr_items") e replies w (omega arith) small few,
+    )
+
+stats_few : (replies : List CallReply) → AllByRecursion IsSmall replies → length replies ≤ 1099511627776 → length (stats_text replies) ≤ 300
+stats_few replies small few = five_few (stats_text replies) replies refl (record {
+  of_miss = refl;
+  of_hit = λ flags unique value. refl;
+  of_stored = refl;
+  of_not_stored = refl;
+  of_exists = refl;
+  of_not_found = refl;
+  of_deleted = refl;
+  of_number = λ n. refl;
+  of_not_number = refl;
+  of_too_large = refl;
+  of_flushed = refl;
+  of_tally = λ gets sets hits misses items. omega arith;
+}) (record {
+  of_miss = refl;
+  of_hit = λ flags unique value. refl;
+  of_stored = refl;
+  of_not_stored = refl;
+  of_exists = refl;
+  of_not_found = refl;
+  of_deleted = refl;
+  of_number = λ n. refl;
+  of_not_number = refl;
+  of_too_large = refl;
+  of_flushed = refl;
+  of_tally = λ gets sets hits misses items. omega arith;
+}) (record {
+  of_miss = refl;
+  of_hit = λ flags unique value. refl;
+  of_stored = refl;
+  of_not_stored = refl;
+  of_exists = refl;
+  of_not_found = refl;
+  of_deleted = refl;
+  of_number = λ n. refl;
+  of_not_number = refl;
+  of_too_large = refl;
+  of_flushed = refl;
+  of_tally = λ gets sets hits misses items. omega arith;
+}) (record {
+  of_miss = refl;
+  of_hit = λ flags unique value. refl;
+  of_stored = refl;
+  of_not_stored = refl;
+  of_exists = refl;
+  of_not_found = refl;
+  of_deleted = refl;
+  of_number = λ n. refl;
+  of_not_number = refl;
+  of_too_large = refl;
+  of_flushed = refl;
+  of_tally = λ gets sets hits misses items. omega arith;
+}) (record {
+  of_miss = refl;
+  of_hit = λ flags unique value. refl;
+  of_stored = refl;
+  of_not_stored = refl;
+  of_exists = refl;
+  of_not_found = refl;
+  of_deleted = refl;
+  of_number = λ n. refl;
+  of_not_number = refl;
+  of_too_large = refl;
+  of_flushed = refl;
+  of_tally = λ gets sets hits misses items. omega arith;
+}) small few
+
+-- ---- meta commands
+
+item_mark_few : (flags unique : ℕ) (value : List ℕ) (letter : ℕ) → flags < 2 ^ 32 → unique < 2 ^ 64 → length value ≤ 1048576 → length (item_mark (found_of flags unique value) letter) ≤ 252
+item_mark_few flags unique value letter few fits most = go (letter == 102) (letter == 99) (letter == 115)
+  where
+    go : (f c s : Bool) → length (if f then codes " f" ++ decimal flags else if c then codes " c" ++ decimal unique else if s then codes " s" ++ decimal (length value) else []) ≤ 252
+    go true c s = omega (arith, length-append (codes " f") (decimal flags), four_bytes flags few)
+    go false true s = omega (arith, length-append (codes " c") (decimal unique), eight_bytes unique fits)
+    go false false true = omega (arith, length-append (codes " s") (decimal (length value)), value_size value most)
+    go false false false = omega arith
+
+-- marks of items have few bytes
+AreFew : Option Found → Type 0
+AreFew found = (letter : ℕ) → length (found_mark found letter) ≤ 252
+
+none_few : AreFew None
+unfolding AreFew
+none_few letter = omega arith
+
+found_few : (flags unique : ℕ) (value : List ℕ) → flags < 2 ^ 32 → unique < 2 ^ 64 → length value ≤ 1048576 → AreFew (Some (found_of flags unique value))
+unfolding AreFew
+found_few flags unique value few fits most letter = item_mark_few flags unique value letter few fits most
+
+mark_few : (key : List ℕ) (found : Option Found) (letter : ℕ) → length key ≤ 250 → AreFew found → length (mark_text key found letter) ≤ 252
+unfolding AreFew
+mark_few key found letter short few = go (letter == 107)
+  where
+    go : (b : Bool) → length (if b then codes " k" ++ key else found_mark found letter) ≤ 252
+    go true = omega (arith, length-append (codes " k") key, short)
+    go false = few letter
+
+marks_few : (key : List ℕ) (found : Option Found) (letters : List ℕ) → length key ≤ 250 → AreFew found → length (marks_text key found letters) ≤ 252 * length letters
+marks_few key found [] short few = omega arith
+marks_few key found (letter ∷ letters) short few =
+    omega (arith, length-append (mark_text key found letter) (marks_text key found letters), mark_few key found letter short few, marks_few key found letters short few)
+
+marked_few : (code key : List ℕ) (found : Option Found) (letters : List ℕ) → length code ≤ 20 → length key ≤ 250 → AreFew found → length (marked code key found letters) ≤ 22 + 252 * length letters
+marked_few code key found letters brief short few =
+    omega (arith, line_size (code ++ marks_text key found letters), length-append code (marks_text key found letters), brief, marks_few key found letters short few)
+
+hit_few : (key letters : List ℕ) (flags unique : ℕ) (value : List ℕ) → length key ≤ 250 → flags < 2 ^ 32 → unique < 2 ^ 64 → length value ≤ 1048576
+    → length (hit_text key letters (found_of flags unique value) value) ≤ 1048600 + 252 * length letters
+hit_few key letters flags unique value short few fits most = go (is_among letters value_letter)
+  where
+    head : List ℕ
+    head = codes "VA " ++ decimal (length value)
+
+    found : Option Found
+    found = Some (found_of flags unique value)
+
+    go : (b : Bool) → length (if b then marked (codes "VA " ++ decimal (length value)) key (Some (found_of flags unique value)) letters ++ line value else marked (codes "HD") key (Some (found_of flags unique value)) letters) ≤ 1048600 + 252 * length letters
+    go true =
+        let code = length-append (codes "VA ") (decimal (length value)) in
+        let digits = value_size value most in
+        omega (
+          arith,
+          most,
+          line_size value,
+          length-append (marked (codes "VA " ++ decimal (length value)) key (Some (found_of flags unique value)) letters) (line value),
+          marked_few (codes "VA " ++ decimal (length value)) key (Some (found_of flags unique value)) letters (omega (arith, code, digits)) short (found_few flags unique value few fits most),
+        )
+    go false = omega (arith, marked_few (codes "HD") key (Some (found_of flags unique value)) letters (omega arith) short (found_few flags unique value few fits most))
+
+get_few : (key letters : List ℕ) (reply : CallReply) → length key ≤ 250 → IsSmall reply → length (get_text key letters reply) ≤ 1048600 + 252 * length letters
+get_few key letters (Hit flags unique value) short small = hit_few key letters flags unique value short small.fits.0.0 small.fits.0.1 small.value
+get_few key letters Miss short small = omega (arith, unless_few (has_quiet_letter letters) 4 (line (codes "EN")) (omega arith))
+get_few key letters reply short small = omega arith
+
+set_few : (key letters : List ℕ) (reply : CallReply) → length key ≤ 250 → length (set_text key letters reply) ≤ 100 + 252 * length letters
+set_few key letters Stored short =
+    omega (arith, unless_few (has_quiet_letter letters) (22 + 252 * length letters) (marked (codes "HD") key None letters) (marked_few (codes "HD") key None letters (omega arith) short none_few))
+set_few key letters NotStored short = omega (arith, marked_few (codes "NS") key None letters (omega arith) short none_few)
+set_few key letters Exists short = omega (arith, marked_few (codes "EX") key None letters (omega arith) short none_few)
+set_few key letters NotFound short = omega (arith, marked_few (codes "NF") key None letters (omega arith) short none_few)
+set_few key letters TooLarge short = omega arith
+set_few key letters reply short = omega arith
+
+delete_few : (key letters : List ℕ) (reply : CallReply) → length key ≤ 250 → length (delete_text key letters reply) ≤ 100 + 252 * length letters
+delete_few key letters Deleted short =
+    omega (arith, unless_few (has_quiet_letter letters) (22 + 252 * length letters) (marked (codes "HD") key None letters) (marked_few (codes "HD") key None letters (omega arith) short none_few))
+delete_few key letters NotFound short =
+    omega (arith, unless_few (has_quiet_letter letters) (22 + 252 * length letters) (marked (codes "NF") key None letters) (marked_few (codes "NF") key None letters (omega arith) short none_few))
+delete_few key letters reply short = omega arith
+
+meta_few : (meta : MetaCommand) (replies : List CallReply) → IsMeta meta → AllByRecursion IsSmall replies → length (meta_text meta replies) ≤ 300 + 252 * letters_in meta + 2097152 * length replies
+meta_few Metas.Noop replies is small = omega arith
+meta_few (Metas.Get key flags) [] is small = omega arith
+meta_few (Metas.Get key flags) (reply ∷ []) is small = omega (arith, get_few key flags reply is.1 small.0)
+meta_few (Metas.Get key flags) (reply ∷ next ∷ replies) is small = omega arith
+meta_few (Metas.Set key call marks) [] is small = omega arith
+meta_few (Metas.Set key call marks) (reply ∷ []) is small = omega (arith, set_few key marks reply is.0.1)
+meta_few (Metas.Set key call marks) (reply ∷ next ∷ replies) is small = omega arith
+meta_few (Metas.Delete key flags) [] is small = omega arith
+meta_few (Metas.Delete key flags) (reply ∷ []) is small = omega (arith, delete_few key flags reply is.1)
+meta_few (Metas.Delete key flags) (reply ∷ next ∷ replies) is small = omega arith
+
+-- ---- commands
+
+-- the text of a command has at most 2 MiB for each reply beside what its keys and its letters take
+pub text_few : (command : Command) (replies : List CallReply) → IsCommand command → AllByRecursion IsSmall replies → length replies ≤ 1099511627776
+    → length (text command replies) ≤ 300 + 252 * width command + 2097152 * length replies
+unfolding text
+text_few (Store verb key flags value quiet) replies is small few = omega (arith, unless_few quiet 100 (only_line replies) (only_few replies small))
+text_few (Cas key flags unique value quiet) replies is small few = omega (arith, unless_few quiet 100 (only_line replies) (only_few replies small))
+text_few (Get keys unique) replies is small few = omega (arith, length-append (items_text unique keys replies) (line (codes "END")), items_few unique keys replies is small)
+text_few (Delete key quiet) replies is small few = omega (arith, unless_few quiet 100 (only_line replies) (only_few replies small))
+text_few (Count key up amount quiet) replies is small few = omega (arith, unless_few quiet 100 (only_line replies) (only_few replies small))
+text_few Stats replies is small few = omega (arith, stats_few replies small few)
+text_few Version replies is small few = omega arith
+text_few (Verbosity quiet) replies is small few = omega (arith, unless_few quiet 100 (line (codes "OK")) (omega arith))
+text_few (Flush quiet) replies is small few = omega (arith, unless_few quiet 100 (line (codes "OK")) (omega arith))
+text_few (Fault fault quiet) replies is small few = omega (arith, unless_few quiet 100 (error_line fault) (error_few fault))
+text_few (Meta meta) replies is small few = meta_few meta replies is small
