@@ -37,7 +37,7 @@ use Rattle.zygos_run.specs.Seen.{Seen, OfReported}
 use Rattle.zygos_run.specs.Headline.{IsServed, IsWritten, written}
 use Rattle.zygos_run.specs.Ends.{IsChecked}
 use Rattle.zygos_run.specs.Served.{HeadlineHolds}
-use Rattle.zygos_run.specs.Certified.{IsOfRun, IsCertified}
+use Rattle.zygos_run.specs.Certified.{IsInputOfRun, IsCertified}
 
 -- ---- served runs
 
@@ -116,7 +116,7 @@ back_bytes : (front back : List ℕ) → AllByRecursion (λ byte. byte < 256) (f
 back_bytes [] back all = all
 back_bytes (byte ∷ front) back all = back_bytes front back all.1
 
-pub checked_run : (shards : ℕ) (bytes : List ℕ) → 1 ≤ shards → AreBytes bytes → IsChecked shards bytes Yes → IsOfRun shards bytes
+pub checked_run : (shards : ℕ) (bytes : List ℕ) → 1 ≤ shards → AreBytes bytes → IsChecked shards bytes Yes → IsInputOfRun shards bytes
 checked_run shards bytes some small is =
     let p = is.parts in
     let c = p.of_capture in

@@ -17,7 +17,7 @@ use Rattle.zygos_run.specs.Ends.{IsChecked}
 
 -- the bytes are a capture, a journal and a replies file, one after the other, and the capture's records have a run
 -- with this journal and these outputs
-pub record IsOfRun (shards : ℕ) (bytes : List ℕ) : Type 0 where
+pub record IsInputOfRun (shards : ℕ) (bytes : List ℕ) : Type 0 where
   pub capture_text : List ℕ
   pub journal_text : List ℕ
   pub replies_text : List ℕ

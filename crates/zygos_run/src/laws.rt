@@ -20,7 +20,7 @@ ghost use Rattle.zygos_run.specs.Seen.{Seen};
 ghost use Rattle.zygos_run.specs.Headline.{IsServed, written};
 ghost use Rattle.zygos_run.specs.Ends.{IsChecked};
 ghost use Rattle.zygos_run.specs.Served.{HeadlineHolds};
-ghost use Rattle.zygos_run.specs.Certified.{IsOfRun, IsCertified};
+ghost use Rattle.zygos_run.specs.Certified.{IsInputOfRun, IsCertified};
 
 /// The text of a served run's journal has at most 2^63 - 1 bytes, and so has its replies file.
 pub fn a_served_run_has_short_files()
@@ -58,5 +58,5 @@ pub fn an_input_has_one_verdict()
 /// its outputs.
 pub fn an_input_that_checks_is_of_a_run()
     ensures run { (shards : ℕ) (bytes : List ℕ) → 1 ≤ shards → AreBytes bytes
-        → IsChecked shards bytes Yes → IsOfRun shards bytes }
+        → IsChecked shards bytes Yes → IsInputOfRun shards bytes }
 {}
