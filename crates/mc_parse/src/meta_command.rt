@@ -20,7 +20,6 @@ use std::alloc::Global;
 use zy_base::{Blob, Call, NoMemory};
 
 /// The command of a line that is read as a meta command.
-#[inline(never)]
 pub(crate) fn meta_command(alloc: Global, line: &[u8]) -> Result<Command, NoMemory>
     requires within { length line.now ≤ line_limit }
     ensures value { IfOk result (λ command. command
@@ -33,7 +32,6 @@ pub(crate) fn meta_command(alloc: Global, line: &[u8]) -> Result<Command, NoMemo
 }
 
 /// The command of a line that is read as a meta command, with its block.
-#[inline(never)]
 pub(crate) fn meta_block_command(
     alloc: Global,
     line: &[u8],
@@ -54,7 +52,6 @@ pub(crate) fn meta_block_command(
 }
 
 /// The command of a line that is read as a meta command, with a block that is too large.
-#[inline(never)]
 pub(crate) fn meta_large_command(line: &[u8]) -> Command
     requires within { length line.now ≤ line_limit }
     ensures value { result ≡ large_command_for (meta_form line.now (meta_line line.now)) }

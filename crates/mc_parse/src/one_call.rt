@@ -85,6 +85,7 @@ fn later_call(command: &Command, part: usize, shards: u32) -> Result<Option<Shar
 }
 
 // The call of a meta command.
+#[inline(always)]
 fn meta_call(meta: &Meta, shards: u32) -> Result<Option<ShardCall>, NoMemory>
     requires some { 1 ≤ shards }
     ensures value { IfOk result (λ call. call ≡ slice_get (meta_calls shards meta.now) 0) }
