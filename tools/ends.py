@@ -5,6 +5,7 @@ and writing, it prints one line that says where, and ends with status 1; words t
 """
 import functools
 import os
+import re
 import signal
 import sys
 
@@ -34,7 +35,52 @@ def stop(why, status=1):
 
 
 def unknown(word):
-    stop(f"unknown word {word}, or a wrong value; --help says more", 2)
+    stop(f"no such option: {word}; --help lists them", 2)
+
+
+def number(least, most):
+    """An option that takes a number of this range: what it takes, and how a word is read."""
+    def read_number(word):
+        is_number = re.fullmatch("[0-9]{1,20}", word) and least <= int(word) <= most
+        return int(word) if is_number else None
+
+    return f"a number from {least} to {most}", read_number
+
+
+def options(words, known):
+    """The values of the options among the words, by their names, and the other words, which are the files.
+
+    `known` has the options that there are: each with what it takes, in the words of a message, and a function that
+    reads a word and gives None for a wrong one. An option that takes nothing has None there, and then the value True.
+    """
+    found, files, rest = {}, [], list(words)
+    while rest:
+        word = rest.pop(0)
+        name, joined, value = word.partition("=")
+        if word == "--":
+            return found, files + rest
+        if not word.startswith("-") or word == "-":
+            files.append(word)
+        elif name not in known:
+            unknown(name)
+        elif known[name] is not None:
+            found[name] = value_of(name, *known[name], [value] if joined else rest)
+        elif joined:
+            stop(f"{name} takes no value", 2)
+        else:
+            found[name] = True
+    return found, files
+
+
+def value_of(name, takes, read_word, rest):
+    """The value of an option, whose word is the first of these."""
+    if not rest:
+        stop(f"{name} takes {takes}", 2)
+    word = rest.pop(0)
+    value = read_word(word)
+    if value is None:
+        stop(f"{name} takes {takes}, not {word or 'nothing'}", 2)
+    return value
 
 
 def name_of(name):
