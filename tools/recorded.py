@@ -19,6 +19,7 @@ NUMBERS, BEFORE, MOST_STREAM = 1 << 32, 1 << 31, 1 << 30
 # the numbers of faults
 (MAGIC, VERSION, LINK_TYPE, RECORD_LENGTH, IS_IPV6, HAS_VLAN, FRAGMENT, SHORT, MISSING, FLOW_COUNT, FLOW_LENGTH,
  TRUNCATED, TOO_LONG) = range(9, 22)
+OF_RECORDS = range(RECORD_LENGTH, TRUNCATED)
 
 HASH_KEY = int("6d5a56da255b0ec24167253d43a38fb0d0ca2bcbae7b30b477cb2da38030f20c6a42b73bbeac01fa", 16)
 HASH_KEY_BITS = 320
@@ -134,7 +135,8 @@ def judge(frame, at, port):
 class Stream:
     """The bytes of one direction of a session by their offsets; of two packets that have a byte, the first counts.
 
-    They are kept in spans, by rising offset, that do not overlap: the stream is those up to the first gap.
+    They are kept in spans, by rising offset, that do not overlap: the stream is those up to the first gap. Counted are
+    the packets that fill a gap and those without a new byte.
     """
 
     def __init__(self, packet):
@@ -142,6 +144,7 @@ class Stream:
         self.base = (packet.sequence + packet.is_syn) % NUMBERS
         self.begins, self.texts = [0], [bytearray()]
         self.last = 0  # the span with which the stream ends
+        self.late = self.again = 0
 
     def stop(self, span):
         return self.begins[span] + len(self.texts[span])
@@ -150,8 +153,22 @@ class Stream:
         """How many bytes the stream has."""
         return self.stop(self.last)
 
+    def end(self):
+        """The offset after all bytes."""
+        return self.stop(len(self.begins) - 1)
+
     def text(self):
         return b"".join(self.texts[: self.last + 1])
+
+    def rest(self):
+        """What comes after the stream: the offset and the bytes of each run between two gaps."""
+        found = []
+        for begin, text in zip(self.begins[self.last + 1 :], self.texts[self.last + 1 :]):
+            if found and found[-1][0] + len(found[-1][1]) == begin:
+                found[-1][1].extend(text)
+            else:
+                found.append((begin, bytearray(text)))
+        return found
 
     def offset(self, packet, at):
         """The offset of a packet's payload, which is below 0 before the session."""
@@ -163,14 +180,15 @@ class Stream:
         return offset
 
     def meet(self, packet, at):
-        """Takes a packet, and says how many of its bytes were new."""
-        offset, payload = self.offset(packet, at), packet.payload
+        """Takes a packet."""
+        offset, payload, end = self.offset(packet, at), packet.payload, self.end()
         if offset < 0:
             offset, payload = 0, payload[-offset:]
         new = self.put(offset, payload)
+        self.late += new > self.end() - end
+        self.again += bool(packet.payload and not new)
         while self.last + 1 < len(self.begins) and self.begins[self.last + 1] == self.size():
             self.last += 1
-        return new
 
     def put(self, offset, payload):
         """Puts a payload at an offset, where there is no byte, and says how many bytes were new."""
@@ -206,6 +224,7 @@ class Session:
 
     def __init__(self, packet):
         self.requests, self.answers = Stream(packet), None
+        self.sent = 0  # how many bytes were sent, as the numbers of packets without bytes show
 
     def ends_with(self, packet):
         """Whether a packet begins the next session."""
@@ -215,7 +234,7 @@ class Session:
         """Takes a packet of the server; a SYN packet begins its stream."""
         if self.answers is None or packet.is_syn and self.answers.syn != packet.sequence:
             self.answers = Answers(packet)
-        return self.answers.meet(packet, at)
+        self.answers.meet(packet, at)
 
 
 # ---- flows
@@ -248,11 +267,11 @@ class Flows:
         return self.numbers[flow]
 
     def meet(self, packet, at):
-        """Takes a packet to the port, and says how many of its bytes were new."""
+        """Takes a packet to the port."""
         found = self.sessions[self.number_of(packet.flow, at)]
         if not found or found[-1].ends_with(packet):
             found.append(Session(packet))
-        return found[-1].requests.meet(packet, at)
+        found[-1].requests.meet(packet, at)
 
     def current(self, flow):
         """The current session of a flow; None before its first packet."""
