@@ -166,8 +166,8 @@ class Simulation:
 
     def carried(self, cores, service, **words):
         """The highest load that is served in time, in percent."""
-        low, high = 0.1, 0.95
-        for _ in range(6):
+        low, high = 0.0, 1.0
+        for _ in range(7):
             middle = (low + high) / 2
             low, high = (middle, high) if self.is_in_time(middle, cores, service, **words) else (low, middle)
         return 50 * (low + high)
