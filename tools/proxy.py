@@ -1,0 +1,232 @@
+"""A proxy between clients and a server: one loop over its sockets, which gives what passes to a recording.
+
+A client is a link as soon as its server is connected.
+"""
+import errno
+import functools
+import os
+import resource
+import selectors
+import socket
+import time
+
+from formats import MOST_CONNECTIONS
+from links import READ, WRITE, Link
+from places import beginning, forget, prompt
+
+# seconds: between looks at what was put off, and at all links; and at the end, without further bytes, while an answer
+# has not begun, and in all
+LOOK, IDLE, QUIET, OWED, LONGEST = 0.05, 0.25, 0.3, 3, 20
+# files that are no sockets of links
+OTHERS = 64
+
+
+class Dial:
+    """A client whose server is being connected."""
+
+    def __init__(self, client, addresses):
+        self.client, self.left, self.socket = client, list(addresses), None
+
+
+class Proxy:
+    """The loop; `most` is the number of connections after which it ends, and None where there is none."""
+
+    def __init__(self, recording, server, addresses, most, screen):
+        self.recording, self.server, self.addresses, self.most = recording, server, addresses, most
+        self.screen, self.selector = screen, selectors.DefaultSelector()
+        self.listening, self.links, self.dials, self.later = [], set(), set(), []
+        self.turned_away = self.refused = self.signals = 0  # for the server is not there; for there is no number
+        self.room = (resource.getrlimit(resource.RLIMIT_NOFILE)[0] - OTHERS) // 2
+        self.now = self.last = time.monotonic()
+        self.ending, self.is_crowded = None, False
+
+    # ---- clients
+
+    def listen(self, listening):
+        for one in listening:
+            self.listening.append(one)
+            self.selector.register(one, READ, self.accept)
+
+    def accept(self, one, _):
+        """Takes clients that wait."""
+        for _ in range(64):
+            if self.recording.open() + len(self.dials) >= self.room:
+                self.pause(one)
+                return
+            try:
+                client = prompt(one.accept()[0])
+            except BlockingIOError:
+                return
+            except OSError as error:
+                if error.errno in (errno.EMFILE, errno.ENFILE, errno.ENOBUFS, errno.ENOMEM):
+                    self.pause(one)
+                    return
+                continue
+            if self.recording.open() + len(self.dials) < MOST_CONNECTIONS:
+                self.dial(Dial(client, self.addresses))
+            else:
+                self.refuse(client)
+
+    def pause(self, one):
+        """No client is taken for a while, since no more files may be open."""
+        if not self.is_crowded:
+            self.screen.say("no more files may be open: clients wait")
+        self.is_crowded = True
+        self.selector.unregister(one)
+        self.later.append(functools.partial(self.selector.register, one, READ, self.accept))
+
+    def refuse(self, client):
+        client.close()
+        self.refused += not self.recording.fault
+        if self.refused == 1:
+            self.screen.say(f"{MOST_CONNECTIONS} connections are open, the most of a recording: others are refused")
+
+    # ---- the server
+
+    def dial(self, dial, fault=0):
+        """Connects the next address of the server."""
+        self.dials.add(dial)
+        while dial.left:
+            try:
+                dial.socket, fault = beginning(*dial.left[0])
+            except OSError as error:
+                fault = error.errno
+                break
+            if fault in (0, errno.EINPROGRESS):
+                self.selector.register(dial.socket, WRITE, functools.partial(self.dialed, dial))
+                return
+            dial.socket.close()
+            if fault == errno.EAGAIN:  # many wait at a Unix socket
+                self.later.append(functools.partial(self.dial, dial))
+                return
+            dial.left.pop(0)
+        self.turn_away(dial, fault)
+
+    def dialed(self, dial, one, _):
+        """A connection to the server is there, or has failed."""
+        self.selector.unregister(one)
+        fault = one.getsockopt(socket.SOL_SOCKET, socket.SO_ERROR)
+        if fault:
+            one.close()
+            dial.left.pop(0)
+            self.dial(dial, fault)
+            return
+        if self.turned_away:
+            self.screen.say(f"{self.server}: connected again; clients turned away: {self.turned_away}")
+            self.turned_away = 0
+        self.dials.discard(dial)
+        number = self.recording.begin()
+        if number is None:
+            one.close()
+            self.refuse(dial.client)
+            return
+        self.add(Link(dial.client, one, number, self.recording))
+
+    def turn_away(self, dial, fault):
+        self.dials.discard(dial)
+        dial.client.close()
+        if not self.turned_away:
+            self.screen.say(f"{self.server}: {os.strerror(fault)}: clients are turned away")
+        self.turned_away += 1
+
+    # ---- links
+
+    def add(self, link):
+        link.handler = functools.partial(self.handle, link)
+        self.links.add(link)
+        self.settle(link)
+
+    def handle(self, link, one, events):
+        if not link.is_closed:
+            if link.handle(one, events):
+                self.last = time.monotonic()
+            self.settle(link)
+
+    def settle(self, link):
+        """Closes a link that is over; else its sockets are waited for as it wants."""
+        if link.settle(self.now):
+            self.close(link)
+            return
+        for at, mask in enumerate(link.wanted()):
+            if mask == link.masks[at]:
+                continue
+            one = link.sockets[at]
+            if not mask:
+                self.selector.unregister(one)
+            elif link.masks[at]:
+                self.selector.modify(one, mask, link.handler)
+            else:
+                self.selector.register(one, mask, link.handler)
+            link.masks[at] = mask
+
+    def close(self, link):
+        link.is_closed = True
+        for one, mask in zip(link.sockets, link.masks):
+            if mask:
+                self.selector.unregister(one)
+            one.close()
+        self.links.discard(link)
+        self.recording.end(link.number)
+
+    # ---- the loop
+
+    def run(self):
+        """Passes bytes on until the end."""
+        look = second = self.now
+        while not self.is_done():
+            for key, events in self.selector.select(LOOK if self.ending or self.later else IDLE):
+                key.data(key.fileobj, events)
+            self.now = time.monotonic()
+            is_enough = self.most is not None and self.recording.done >= self.most
+            if self.signals or self.recording.fault or is_enough:
+                self.end()
+            if self.now >= look:
+                look = self.now + LOOK
+                self.look()
+            if self.now >= second:
+                second = self.now + 1
+                self.screen.show(self.status())
+        for link in list(self.links):
+            self.close(link)
+
+    def look(self):
+        """Does what was put off, and closes links whose time is over."""
+        later, self.later = self.later, []
+        for one in later:
+            one()
+        for link in list(self.links):
+            if link.until is not None or self.ending:
+                self.settle(link)
+
+    def status(self):
+        one = self.recording
+        return (f"{one.open()} connections open, {one.done} closed; {one.commands} commands,"
+                f" {one.sent_bytes} bytes sent, {one.answered_bytes} bytes back")
+
+    def signal(self, one, _):
+        """Signals came: the first begins the end, and a later one ends at once."""
+        self.signals += len(one.recv(64))
+
+    def end(self):
+        """Takes nothing more of clients; answers to what they sent are waited for."""
+        if self.ending:
+            return
+        self.ending = self.now
+        self.later = []
+        connecting = [dial.socket for dial in self.dials if dial.socket]
+        for one in [*self.listening, *connecting]:
+            if one.fileno() >= 0 and one in self.selector.get_map():
+                self.selector.unregister(one)
+        forget([*self.listening, *connecting, *(dial.client for dial in self.dials)])
+        self.dials.clear()
+        for link in list(self.links):
+            link.is_taking = False
+            self.settle(link)
+
+    def is_done(self):
+        """Whether all has come, or enough was waited for it."""
+        if not self.ending:
+            return False
+        quiet = OWED if self.recording.owed else QUIET
+        is_late = self.now > max(self.ending, self.last) + quiet or self.now > self.ending + LONGEST
+        return not self.links or is_late or self.signals > 1
