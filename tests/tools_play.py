@@ -90,6 +90,9 @@ def many():
     records = [segment(c, b"mn\r\n") for c in range(4096)]
     plays("4,096 connections", replies([b"MN\r\n"] * 4096), capture(4096, records),
           said="tools/play: 4096 connections, 4096 commands answered\n")
+    records = [segment(c, b"mn\r\n") for c in range(20)]
+    plays("few connections at a time", replies([b"MN\r\n"] * 20), capture(20, records), "--connections", "3",
+          said="tools/play: 20 connections, 20 commands answered\n")
 
 
 def large():
@@ -111,7 +114,8 @@ def quiet():
 def faulty_servers():
     """Answers that do not come, and a server that closes."""
     plays("a missing answer", replies([b"MN\r\nMN\r\n", b"OK\r\n"]),
-          capture(2, [segment(0, b"mn\r\n"), segment(0, b"hush\r\n"), segment(0, b"mn\r\n"), segment(1, b"wait 0.1\r\n")]),
+          capture(2, [segment(0, b"mn\r\n"), segment(0, b"hush\r\n"), segment(0, b"mn\r\n"),
+                      segment(1, b"wait 0.1\r\n")]),
           "--wait", "0.3", status=1, said="tools/play: 2 connections, 3 commands answered\n"
           "tools/play: 1 commands were not answered\n")
     plays("a quit", replies([b"MN\r\n"]), capture(1, [segment(0, b"mn\r\nquit\r\nmn\r\n"), segment(0, b"mn\r\n")]),
@@ -157,8 +161,8 @@ def closed_pipe():
     with Server() as server, open("my.cap", "wb") as file:
         file.write(capture(1, [segment(0, b"big 1000000\r\n")]))
         file.flush()
-        ran = subprocess.run(["bash", "-c", '"$0" "$@" | head -c 1 > /dev/null', os.path.join(TOP, "tools/play"), "my.cap",
-                              "--server", server.place], capture_output=True, timeout=60, check=False)
+        ran = subprocess.run(["bash", "-c", '"$0" "$@" | head -c 1 > /dev/null', os.path.join(TOP, "tools/play"),
+                              "my.cap", "--server", server.place], capture_output=True, timeout=60, check=False)
         same("a closed pipe", 2, ran.stderr.count(b"\n"))
 
 

@@ -76,7 +76,8 @@ def two_hundred():
         ones = [connected(recorder.place) for _ in range(200)]
         for number, one in enumerate(ones):
             one.sendall(SET % number + GET % number)
-        got = [take(one, len(b"STORED\r\nVALUE %d 0 5\r\nvalue\r\nEND\r\n" % number)) for number, one in enumerate(ones)]
+        told = b"STORED\r\nVALUE %d 0 5\r\nvalue\r\nEND\r\n"
+        got = [take(one, len(told % number)) for number, one in enumerate(ones)]
         for one in ones:
             one.close()
         same("200 at a time end by themselves", 0, recorder.end(None)[0])
@@ -119,7 +120,7 @@ def later_sessions():
         until("a later session is served", lambda: tries(recorder.place) == ANSWERED)
         first.close()
         status, said = recorder.end()
-        same("its lines", (0, "tools/record: 2 connections are open, as many as a recording has: others are refused\n"
+        same("its lines", (0, "tools/record: 2 connections are open, the most of a recording: others are refused\n"
                            + recorded(3, 4, 8 + len(ASKED), 8 + len(ANSWERED))), (status, said))
         same("its files", ({(0, 0): b"mn\r\n", (1, 0): b"mn\r\n", (1, 1): ASKED},
                            {(0, 0): b"MN\r\n", (1, 0): b"MN\r\n", (1, 1): ANSWERED}), files_of())
@@ -281,6 +282,17 @@ def signals():
                  files_of())
 
 
+def ends_with_a_slow_reader():
+    """An answer that its client does not take is recorded to its end."""
+    with Server() as server:
+        recorder, size = Recorder(server.place), 20000000
+        with connected(recorder.place) as slow:
+            slow.sendall(b"big %d\r\n" % size)
+            has_size("my.replies.spool", 100000)
+            same("the end with a slow reader", 0, recorder.end()[0])
+        same("what a slow reader leaves", {(0, 0): big(size)}, files_of()[1])
+
+
 def closed_errors():
     """Standard error is closed, or its reader has gone: all is recorded."""
     with Server() as server:
@@ -398,7 +410,7 @@ def before_it_begins():
     says("a folder that isn't there", "none/my.cap: No such file or directory", "none/my.cap", "my.replies")
     says("another one", "none/my.replies: No such file or directory", "my.cap", "none/my.replies")
     says("a folder", ".: Is a directory", "my.cap", ".")
-    says("one file twice", "my.cap: both files cannot be this one", "my.cap", "./my.cap".replace("./", ""))
+    says("one file twice", "my.cap: both files cannot be this one", "my.cap", "my.cap")
     with open("my.cap", "wb") as file:
         file.write(b"old")
     with Server() as server:
@@ -461,5 +473,5 @@ def real_memcached():
 
 if __name__ == "__main__":
     all_of(before_it_begins, several_clients, no_client, two_hundred, other_sockets, later_sessions, few_files,
-           standard_output, gives_up, half_closed, slow_reader, binary, server_restarts, signals, closed_errors, killed, full, terminal,
-           real_memcached)
+           standard_output, gives_up, half_closed, slow_reader, binary, server_restarts, signals,
+           ends_with_a_slow_reader, closed_errors, killed, full, terminal, real_memcached)

@@ -1,6 +1,7 @@
 """Servers and clients of the tests of recording and playing, and how these tests report."""
 import asyncio
 import contextlib
+import importlib.machinery
 import os
 import shutil
 import signal
@@ -10,6 +11,7 @@ import sys
 import tempfile
 import threading
 import time
+import types
 
 TOP = os.path.dirname(os.path.dirname(os.path.realpath(__file__)))
 sys.dont_write_bytecode = True
@@ -35,6 +37,14 @@ def brief(value):
 def same(name, wanted, got):
     if wanted != got:
         fail(name, f"wanted {brief(wanted)}, got {brief(got)}")
+
+
+def module_of(tool):
+    """A tool as a module."""
+    loader = importlib.machinery.SourceFileLoader(tool, os.path.join(TOP, "tools", tool))
+    module = types.ModuleType(tool)
+    loader.exec_module(module)
+    return module
 
 
 def all_of(*parts):
@@ -142,7 +152,8 @@ def memcached():
     """A real memcached, by its place; None where there is none. It is installed where that can be done."""
     if not shutil.which("memcached") and os.geteuid() == 0 and shutil.which("apt-get"):
         with contextlib.suppress(subprocess.TimeoutExpired):
-            subprocess.run(["bash", "-c", INSTALL], stdin=subprocess.DEVNULL, capture_output=True, timeout=60, check=False)
+            subprocess.run(["bash", "-c", INSTALL], stdin=subprocess.DEVNULL, capture_output=True, timeout=60,
+                           check=False)
     if not shutil.which("memcached"):
         print(f"{NAME}: memcached is not installed: no test with it")
         yield None
@@ -232,7 +243,8 @@ def at_once(clients):
 class Recorder:
     """tools/record, which is running; `place` is where its clients come."""
 
-    def __init__(self, server, *words, listen="127.0.0.1:0", files=("my.cap", "my.replies"), tool=("tools/record",), **more):
+    def __init__(self, server, *words, listen="127.0.0.1:0", files=("my.cap", "my.replies"), tool=("tools/record",),
+                 **more):
         given = [os.path.join(TOP, tool[0]), *tool[1:], "--listen", listen, "--server", server, *words, *files]
         self.process = subprocess.Popen(given, stderr=subprocess.PIPE, **more)
         self.first = self.process.stderr.readline().decode()
