@@ -32,10 +32,6 @@ grew_piece a b c piece at n first second =
 pub grew_same : (a b c : Option (List ℕ)) (x : List ℕ) → Grew a b x → Grew b c [] → Grew a c x
 grew_same a b c x first second = subst (Grew a c) (append-nil x) (grew_on a b c x [] first second)
 
--- all bytes of a piece were taken
-pub grew_all : (a b : Option (List ℕ)) (piece : List ℕ) (at : ℕ) → length piece ≤ at → Grew a b (take at piece) → Grew a b piece
-grew_all a b piece at all grew = subst (Grew a b) (take_all at piece all) grew
-
 -- ---- prefixes
 
 -- a prefix of the first of two texts is one of both
