@@ -87,7 +87,7 @@ pub fn serve<R: Threads + Wait + Sync, S: Source, K: Sink, E: Sink, G: Gate + Sy
     ensures writes { K.faults sink.old ≤ K.faults sink.new }
 
     // Whether the sink was finished.
-    ensures finished { FinishesOnce result (K.finishes sink.old) (K.finishes sink.new) }
+    ensures finished { FinishesOnce result (K.finishes sink.old) (K.finishes sink.new) (K.is_finished sink.new) }
 
     // The line on standard error.
     ensures said { Said (E.holds says.old) (E.holds says.new) (E.faults says.old) (E.faults says.new) (line_of result) }
