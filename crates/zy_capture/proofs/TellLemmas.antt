@@ -19,11 +19,13 @@ use Rattle.zy_capture.specs.declared.capture_fault.CaptureFault.{CaptureFault}
 use Rattle.zy_capture.specs.declared.capture_fault.CaptureFault.TheVariants.{BadMagic, ConnCount}
 use Rattle.zy_capture.specs.declared.due.Due.{Due}
 use Rattle.zy_capture.specs.declared.due.Due.TheVariants.{Magic, Count, Tag, Connection, Length, Payload, Closed, Nothing, Broken}
-use Rattle.zy_capture.specs.Capture.{AreBytes, letters, magic, connection_limit, segment_limit, capture_limit}
+use Rattle.zy_capture.specs.Capture.{letters, magic, connection_limit, segment_limit, capture_limit}
+use Rattle.zy_read.specs.Bytes.{AreBytes}
+use Rattle.zy_read.proofs.ByteLemmas.{byte_at, bytes_back}
 use Rattle.zy_capture.specs.Steps.{Progress, Step, start, goes, refuses, after_magic, judged, taken, is_full, step}
 use Rattle.zy_capture.specs.Verdict.{captures, read_from, version_in, version_of, count_in, count_of}
 use Rattle.zy_capture.specs.SoFar.{BeginsWithMagic, BeginsWithCount}
-use Rattle.zy_capture.proofs.ByteLemmas.{chosen, byte_at}
+use Rattle.zy_capture.proofs.ByteLemmas.{chosen}
 use Rattle.zy_capture.specs.Lasting.{lasting}
 use Rattle.zy_capture.proofs.SpelledLemmas.{at_place, goes_on, halfway, read_byte, read_four, read_number, read_magic, count_read}
 
@@ -222,10 +224,6 @@ record IsCountRead (rest : List ℕ) (count : ℕ) : Type 0 where
   few : count ≤ connection_limit
   whole : rest ≡ to_be_bytes w32 count ++ more
 
-all_back : (x y : List ℕ) → AreBytes (x ++ y) → AreBytes y
-all_back [] y all = all
-all_back (byte ∷ x) y all = all_back x y all.1
-
 -- this is the count where a text ends
 abbrev Counts : ℕ → Progress → Type 0
 Counts count p = count_in p.due p.count ≡ Some count
@@ -259,5 +257,5 @@ pub told_count : (text : List ℕ) (count : ℕ) → AreBytes text → count_of 
 unfolding count_of reading_of
 told_count text count all is =
     let after = from_letters_on (Counts count) text 0 (omega arith) (record { no_part = λ part at none. none_met count none; no_fault = λ place at none. none_met count none }) is in
-    let read = from_count_on after.version count after.rest (all_back (magic after.version) after.rest (subst AreBytes after.whole all)) after.holds in
+    let read = from_count_on after.version count after.rest (bytes_back (magic after.version) after.rest (subst AreBytes after.whole all)) after.holds in
     record { version = after.version; rest = read.more; known = after.known; few = read.few; whole = after.whole ∙ ap (λ (l : List ℕ). magic after.version ++ l) read.whole }

@@ -12,7 +12,8 @@ use Rattle.zy_capture.specs.declared.record.Record.{Record}
 use Rattle.zy_capture.specs.declared.record.Record.TheVariants as Kinds
 use Rattle.zy_capture.specs.declared.due.Due.{Due}
 use Rattle.zy_capture.specs.declared.due.Due.TheVariants.{Magic, Count, Tag, Connection, Length, Payload, Closed, Nothing, Broken}
-use Rattle.zy_capture.specs.Capture.{AreBytes, letters, magic, spelled, spelling, IsRecordOf, IsCapture, Spells, capture_limit, connection_limit, segment_limit}
+use Rattle.zy_capture.specs.Capture.{letters, magic, spelled, spelling, IsRecordOf, IsCapture, Spells, capture_limit, connection_limit, segment_limit}
+use Rattle.zy_read.specs.Bytes.{AreBytes}
 use Rattle.zy_capture.specs.Steps.{Progress, Step, start, goes, keeps, grows, after_magic, tag, number, segment, taken, is_open, is_full, step}
 use Rattle.zy_read.specs.declared.magic.MagicPart.{MagicPart}
 use Rattle.zy_read.specs.declared.magic.MagicStep.{MagicStep}
@@ -20,9 +21,10 @@ use Rattle.zy_read.specs.declared.magic.MagicStep.TheVariants.{Next, Whole, Wron
 use Rattle.zy_read.specs.Magic.{magic_step, IsInMagic, magic_before}
 use Rattle.zy_read.proofs.MagicLemmas.{IsVersion, IsKnown, LeadsTo, leads}
 use Rattle.zy_read.specs.Format.{Reading, read_on, reading_of, verdict_on}
+use Rattle.zy_read.proofs.ByteLemmas.{bytes_on, byte_at}
 use Rattle.zy_capture.specs.Verdict.{read_from, ended, verdict}
 use Rattle.zy_capture.specs.Verdict.Verdict.{Good}
-use Rattle.zy_capture.proofs.ByteLemmas.{bytes_on, byte_at, both_true, positive, chosen, counted, assoc_twice, on_part}
+use Rattle.zy_capture.proofs.ByteLemmas.{both_true, positive, chosen, counted, assoc_twice, on_part}
 
 -- ---- what was read
 

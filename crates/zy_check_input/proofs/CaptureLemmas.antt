@@ -122,15 +122,6 @@ record_kept old new (Some count) item given (Ok done) added kept =
 record_kept old new None item given (Ok done) added kept = absurd kept
 record_kept old new count item given (Err e) added kept = tt
 
--- streams that were made are kept
-pub made_kept : (streams : List (List (List ℕ))) (count : Option ℕ) (given : List Record) → KeepsSoFar (Some streams) count given → KeepsStreams (Some streams) count given
-made_kept streams count given kept = kept
-
--- whether the capture goes on or is whole
-pub goes_on_or_done : (part : CapturePart) (given : List Record) (bytes : List ℕ) (done : Bool) → StandsFor part.reader given bytes → fault_of bytes ≡ None → KeepsStreams part.streams (count_of bytes) given → done ≡ is_good (verdict bytes) → Takes capture_kind part bytes (Ok done)
-goes_on_or_done part given bytes false reader clean kept is = (record { given = given; reader = reader; kept = kept }, (clean, sym is))
-goes_on_or_done part given bytes true reader clean kept is = (record { given = given; reader = reader; kept = kept }, sym is)
-
 -- ---- the end
 
 -- the count of a whole capture was read

@@ -158,8 +158,3 @@ fault_in_piece part q bytes piece more answer fault is stands goes_on feeds tell
     let fed : Feeds journals part.reader q piece [] = subst (λ (a : Result (Option ⊤) (NotTaken FileFault)). Feeds journals part.reader q piece (given_in a)) is feeds in
     let met : MeetsFault journals part.reader piece (Some fault) = subst (λ (a : Result (Option ⊤) (NotTaken FileFault)). TellsFault journals part.reader piece a) is tells in
     piece_fault journals is_good once IsOpen stays part.reader q stands.given bytes piece more fault stands.reader (open_here part.reader stands.given bytes stands.reader goes_on) goes_on fed met
-
--- whether the journal goes on or is whole
-pub goes_on_or_done : (part : JournalPart) (given : List ⊤) (bytes : List ℕ) (done : Bool) → StandsForJournal part.reader given bytes → fault_of bytes ≡ None → done ≡ is_good (verdict bytes) → Takes journal_kind part bytes (Ok done)
-goes_on_or_done part given bytes false reader clean is = (record { given = given; reader = reader }, (clean, sym is))
-goes_on_or_done part given bytes true reader clean is = (record { given = given; reader = reader }, sym is)

@@ -315,20 +315,6 @@ outputs_on p all outputs given bytes more stands kept = go outputs (version_of b
     go (Some outputs) (Some v) is kept =
         subst (λ (o : Option ℕ). KeepsOutputs (Some outputs) o given) (sym (version_stays bytes more v (version_is_known p all bytes v stands (sym is)) is)) kept
 
--- outputs without any are kept where none was given
-pub outputs_begun : (outputs : AllOutputs) (version : ℕ) (told : Option ℕ) (given : List SessionBytes) → Some version ≡ told → outputs.version ≡ version → outputs.sessions ≡ [] → IsVersion version → given ≡ []
-    → KeepsOutputs (Some outputs) told given
-outputs_begun outputs version told given is same none known empty =
-    subst (λ (o : Option ℕ). KeepsOutputs (Some outputs) o given) is (
-      (ap (λ (l : List (List (List ℕ))). items_of (record { version = outputs.version; sessions = l })) none ∙ sym empty),
-      same,
-      (record {
-        known = subst IsVersion (sym same) known;
-        few = subst (λ (l : List (List (List ℕ))). length l ≤ connection_limit) (sym none) (omega arith);
-        sessions = subst (λ (l : List (List (List ℕ))). AllByRecursion (HasSessions outputs.version) l) (sym none) tt;
-      }),
-    )
-
 last_of_two : (given : List SessionBytes) (item : SessionBytes) → given ++ item ∷ [] ≡ [] → ⊥
 last_of_two [] item is = cc
 last_of_two (first ∷ given) item is = cc

@@ -51,27 +51,3 @@ took kind rest faults first now left before bytes count reader (Err (Refused ref
     )
 took kind rest faults first now left before bytes count reader (Err ReadFault) given within some takes = absurd takes
 took kind rest faults first now left before bytes count reader (Err NoMemory) given within some takes = tt
-
--- ---- the end
-
--- what a part gives that was fed whole, or up to the end of the source
-pub ended : {P T S : Type 0} (kind : Kind P T) (rest : S → Option (List ℕ)) (faults : S → ℕ) (first now : S) (left before : List ℕ) (reader : P) (answer : Result T (Stop Refusal)) → HasStopped kind rest faults first now left before reader
-    → ((bytes : List ℕ) → kind.stands reader bytes → kind.whole bytes → EndsWhole kind bytes answer) → ((bytes : List ℕ) → kind.stands reader bytes → kind.goes_on bytes → EndsCut kind bytes answer)
-    → Reads kind rest faults first now left before answer
-ended {P} {T} {S} kind rest faults first now left before reader answer stopped whole cut = go answer whole cut stopped.end
-  where
-    go : (answer : Result T (Stop Refusal)) → ((bytes : List ℕ) → kind.stands reader bytes → kind.whole bytes → EndsWhole kind bytes answer) → ((bytes : List ℕ) → kind.stands reader bytes → kind.goes_on bytes → EndsCut kind bytes answer)
-        → kind.whole stopped.bytes ⊎ (kind.goes_on stopped.bytes × IsOver (rest now) left) → Reads kind rest faults first now left before answer
-    go (Ok gave) whole cut (inl is) = record { bytes = stopped.bytes; given = stopped.given; gives = whole stopped.bytes stopped.stands is; end = inl is }
-    go (Ok gave) whole cut (inr over) = record { bytes = stopped.bytes; given = stopped.given; gives = cut stopped.bytes stopped.stands over.0; end = inr over.1 }
-    go (Err (Refused refusal)) whole cut (inl is) = absurd (whole stopped.bytes stopped.stands is)
-    go (Err (Refused refusal)) whole cut (inr over) =
-        let faulty : kind.faulty stopped.bytes refusal = cut stopped.bytes stopped.stands over.0 in (
-          (stopped.bytes, faulty),
-          told_all (rest first) (rest now) (before ++ stopped.bytes) (λ (text : List ℕ). HasFaultBehind kind before text refusal)
-              (subst (λ (l : List ℕ). Consumes (rest first) (rest now) l) (ap (λ (l : List ℕ). (before ++ stopped.bytes) ++ l) over.1.0 ∙ append-nil (before ++ stopped.bytes)) stopped.given.source) over.1.1
-              (record { rest = stopped.bytes; whole = refl; faulty = faulty }),
-        )
-    go (Err ReadFault) whole cut (inl is) = absurd (whole stopped.bytes stopped.stands is)
-    go (Err ReadFault) whole cut (inr over) = absurd (cut stopped.bytes stopped.stands over.0)
-    go (Err NoMemory) whole cut end = tt

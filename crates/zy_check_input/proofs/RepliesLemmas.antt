@@ -18,12 +18,6 @@ use Rattle.zy_read.proofs.MagicLemmas.{IsVersion}
 use Rattle.zy_check_input.proofs.OrderLemmas.{IsHere, orderly_here, version_kept}
 use Rattle.zy_check_input.proofs.FormatLemmas.{EndsOnce}
 
--- ---- the format
-
--- no replies file is whole before the end of the source
-pub once : EndsOnce replies never
-once = record { lasting = lasting; closes = λ p given byte good. cc; bad = λ fault. refl }
-
 -- ---- the end
 
 -- the version of a whole replies file was read

@@ -29,54 +29,6 @@ use Rattle.zy_feed.proofs.LawfulLemmas.{known_version, lawful_records}
 use Rattle.zy_capture.proofs.TellLemmas.{IsPastCount, past_count}
 use Rattle.zy_feed.proofs.StepLemmas.{Stays, step_gave, text_stays, text_short}
 
--- ---- one further answer
-
--- what was read after the source gave the next piece
-pub given_more : {S : Type 0} (rest : S → Option (List ℕ)) (faults : S → ℕ) (first old now : S) (p q : Intake) (records : List Record) (bytes : List ℕ) → q.reader ≡ p.reader → HasRead rest faults first old p records bytes
-    → HasGiven rest faults first now q.left bytes → HasRead rest faults first now q records bytes
-given_more rest faults first old now p q records bytes same has given = record { reader = rw same has.reader; clean = has.clean; given = given }
-
--- the bytes fed are those before and then the others
-regrouped : (bytes fed left later : List ℕ) → (bytes ++ (fed ++ left)) ++ later ≡ bytes ++ (fed ++ (left ++ later))
-regrouped bytes fed left later = append_assoc bytes (fed ++ left) later ∙ ap (λ (l : List ℕ). bytes ++ l) (append_assoc fed left later)
-
-fed_has : {S : Type 0} (rest : S → Option (List ℕ)) (faults : S → ℕ) (first now : S) (p q : Intake) (records : List Record) (bytes fed : List ℕ) (gave : List Record) → p.left ≡ fed ++ q.left → StandsFor q.reader (records ++ gave) (bytes ++ fed) → fault_of (bytes ++ fed) ≡ None
-    → HasRead rest faults first now p records bytes → HasRead rest faults first now q (records ++ gave) (bytes ++ fed)
-fed_has rest faults first now p q records bytes fed gave left reader clean has = record {
-  reader = reader;
-  clean = clean;
-  given = record {
-    source = subst (λ (l : List ℕ). Consumes (rest first) (rest now) l) (ap (λ (l : List ℕ). bytes ++ l) left ∙ sym (append_assoc bytes fed q.left)) has.given.source;
-    count = has.given.count;
-  };
-}
-
--- the reader's answer to some bytes
-pub taken_came : {S : Type 0} (rest : S → Option (List ℕ)) (faults : S → ℕ) (most : ℕ) (first now : S) (p q : Intake) (answer : Result (Option Record) (NotTaken CaptureFault)) (records : List Record) (bytes : List ℕ) → TakesFirst most p q answer
-    → HasRead rest faults first now p records bytes → Advances rest faults most first now q records bytes (came_of answer)
-taken_came rest faults most first now p q (Ok (Some record')) records bytes takes has =
-    (takes.fed, (takes.few, fed_has rest faults first now p q records bytes takes.fed (record' ∷ []) takes.left (takes.feeds records bytes has.reader) (takes.exact records bytes has.reader) has))
-taken_came rest faults most first now p q (Ok None) records bytes takes has = (
-  takes.fed,
-  (
-    takes.some None refl,
-    subst (λ (l : List Record). HasRead rest faults first now q l (bytes ++ takes.fed)) (append-nil records)
-        (fed_has rest faults first now p q records bytes takes.fed [] takes.left (takes.feeds records bytes has.reader) (takes.exact records bytes has.reader) has),
-  ),
-)
-taken_came rest faults most first now p q (Err (Fault fault)) records bytes takes has =
-    told_first (rest first) (rest now) (bytes ++ p.left) (λ (text : List ℕ). verdict text ≡ Bad fault) has.given.source
-    (λ more. ap (λ (l : List ℕ). verdict ((bytes ++ l) ++ more)) takes.left ∙ ap (λ (l : List ℕ). verdict l) (regrouped bytes takes.fed q.left more) ∙ takes.lasts records bytes (q.left ++ more) has.reader)
-taken_came rest faults most first now p q (Err Reads.NoMemory) records bytes takes has = tt
-
--- its answer at the end of the source
-pub ended_came : {S : Type 0} (rest : S → Option (List ℕ)) (faults : S → ℕ) (most : ℕ) (first now : S) (p : Intake) (answer : Result ⊤ CaptureFault) (records : List Record) (bytes : List ℕ) → EndsBy p.reader answer → p.left ≡ [] → IsAtEnd (rest now)
-    → HasRead rest faults first now p records bytes → Advances rest faults most first now p records bytes (ended_by answer)
-ended_came rest faults most first now p (Ok done) records bytes ends none end has = record { reads = has; good = ends records bytes has.reader; none = none; end = end }
-ended_came rest faults most first now p (Err fault) records bytes ends none end has =
-    told_all (rest first) (rest now) bytes (λ (text : List ℕ). verdict text ≡ Bad fault)
-    (subst (λ (l : List ℕ). Consumes (rest first) (rest now) l) (ap (λ (l : List ℕ). bytes ++ l) none ∙ append-nil bytes) has.given.source) end (ends records bytes has.reader)
-
 -- ---- no capture has more bytes than the limit
 
 pub has_few : {S : Type 0} (rest : S → Option (List ℕ)) (faults : S → ℕ) (first now : S) (p : Intake) (records : List Record) (bytes : List ℕ) → HasRead rest faults first now p records bytes → length bytes ≤ capture_limit

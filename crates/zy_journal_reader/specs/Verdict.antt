@@ -67,10 +67,6 @@ pub record SpellsJournal (text : List ℕ) (journal : Journal) : Type 0 where
   pub spelled : text ≡ journal_bytes journal
   pub short : length text ≤ journal_limit
 
--- each is a byte
-abbrev pub AreBytes : List ℕ → Type 0
-AreBytes text = AllByRecursion (λ byte. byte < 256) text
-
 -- ---- for proofs
 
 -- what is read of the rest of a text

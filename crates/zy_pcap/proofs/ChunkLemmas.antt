@@ -35,14 +35,6 @@ put_clear chunk place byte at within size clear =
       | inr other ↦ rw (bit_at_set_other w64 chunk.have place within at other, get_or-set_other chunk.bytes place at byte 0 other) (grind (arith, nat_tests, first_none (byte_in chunk at)))
     ]
 
--- there was a byte
-pub put_there : (chunk : Chunk) (place byte at : ℕ) → (bit_at chunk.have place ≡ 0 → ⊥) → byte_in chunk at ≡ first_of (byte_in chunk at) (alone place byte at)
-put_there chunk place byte at there =
-    elim (cases_eq at place) [
-      | inl same ↦ (let one : bit_at chunk.have place ≡ 1 = omega (arith, there, bit_at-lt chunk.have place) in rw (same, one) refl)
-      | inr other ↦ grind (arith, nat_tests, first_none (byte_in chunk at))
-    ]
-
 -- ---- several bytes
 
 -- one further byte was put

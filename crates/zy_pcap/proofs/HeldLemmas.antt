@@ -197,9 +197,6 @@ done_within chunks chunk number end some is found part none at above here =
     let found_here : get nat_cmp chunks (at / 64) ≡ Some chunk = rw here found in
     part_none chunks chunk at found_here (none (at % 64) (omega (arith, some, is, part, above, here)))
 
-pub done_at_end : (chunks : BTreeMap ℕ Chunk) (number end : ℕ) → 0 < end → number ≡ (end - 1) / 64 → end % 64 ≡ 0 → (at : ℕ) → end ≤ at → at / 64 ≡ number → held chunks at ≡ None
-done_at_end chunks number end some is whole at above here = absurd (omega (arith, some, is, whole, above, here))
-
 at_other : (number q : ℕ) → (q ≡ number → ⊥) → is_at (nat_cmp number) q ≡ false
 at_other number q other = grind (arith, nat_tests)
 

@@ -19,9 +19,6 @@ use Rattle.zy_pcap.proofs.RunLemmas.{few_from, longer, nothing_there, Segment, s
 
 -- ---- segments
 
-fewer : (size most : ℕ) → size ≤ suc most → 0 < size → size - segment_limit ≤ most
-fewer size most within some = omega (arith, within, some)
-
 -- how many segments there may be at most doesn't matter
 enough : (conn m n : ℕ) (bytes : List ℕ) → length bytes ≤ m → length bytes ≤ n → segments_of conn m bytes ≡ segments_of conn n bytes
 enough conn zero zero bytes few other = refl

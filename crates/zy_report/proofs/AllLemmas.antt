@@ -75,16 +75,6 @@ pub record HasRead (kept : List Counting) (all left : List Entry) : Type 0 where
 pub none_read : (kept : List Counting) (all : List Entry) → kept ≡ [] → HasRead kept all all
 none_read kept all none = record { read = []; split = refl; counts = none_counted kept none }
 
-pub one_read : (old new : List Counting) (all left rest : List Entry) (e : Entry) → HasRead old all left → left ≡ e ∷ rest → ((es : List Entry) → CountsAll old es → CountsAll new (es ++ e ∷ [])) → HasRead new all rest
-one_read old new all left rest e has is adds = record {
-  read = has.read ++ e ∷ [];
-  split = has.split ∙ ap (λ l. has.read ++ l) is ∙ sym (append_assoc has.read (e ∷ []) rest);
-  counts = adds has.read has.counts;
-}
-
-pub all_read : (kept : List Counting) (all left : List Entry) → HasRead kept all left → left ≡ [] → CountsAll kept all
-all_read kept all left has none = subst (CountsAll kept) (sym (has.split ∙ ap (λ l. has.read ++ l) none ∙ append-nil has.read)) has.counts
-
 -- so few entries can be counted, at each shard
 pub room_at : (kept : List Counting) (all left rest : List Entry) (e : Entry) → HasRead kept all left → left ≡ e ∷ rest → length all ≤ 2 ^ 64 - 1 → CanCount (kept_at kept e.shard)
 room_at kept all left rest e has is few =

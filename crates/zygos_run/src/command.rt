@@ -33,7 +33,7 @@ pub(crate) fn carry_out<R: Threads + Wait + Sync, S: Source, K: Sink, G: Gate + 
     ensures ends { Ends (request_of words.now)
         (seen (side S.rest S.faults source.old source.new) (side K.holds K.faults sink.old sink.new)) result }
     ensures sink_kept { LeavesSink result → sink.new ≡ sink.old }
-    ensures finished { FinishesOnce result (K.finishes sink.old) (K.finishes sink.new) }
+    ensures finished { FinishesOnce result (K.finishes sink.old) (K.finishes sink.new) (K.is_finished sink.new) }
     ensures source_kept { ReadsNothing (request_of words.now) → source.new ≡ source.old }
 {
     requests_are_in_their_ranges();

@@ -21,7 +21,7 @@ pub(crate) fn make_traffic<K: Sink>(alloc: Global, traffic: Traffic, sink: &mut 
     ensures ends { (source : Side) → Ends (Some (Requests.Gen traffic))
         (seen source (side K.holds K.faults sink.old sink.new)) result }
     ensures sink_kept { LeavesSink result → sink.new ≡ sink.old }
-    ensures finished { FinishesOnce result (K.finishes sink.old) (K.finishes sink.new) }
+    ensures finished { FinishesOnce result (K.finishes sink.old) (K.finishes sink.new) (K.is_finished sink.new) }
 {
     match capture_of(alloc, traffic) {
         Err(NoMemory) => Answer::OutOfMemory,
@@ -43,7 +43,8 @@ pub(crate) fn capture_of(alloc: Global, traffic: Traffic) -> Result<Blob, NoMemo
 
 /// Writes the whole piece, and finishes.
 pub(crate) fn write_last<K: Sink>(sink: &mut K, piece: &[u8]) -> Result<(), Failed>
-    ensures writes { WritesLast K.holds K.faults K.finishes sink.old sink.new result piece.now }
+    ensures writes { WritesLast K.holds K.faults K.finishes K.is_finished sink.old sink.new result
+        piece.now }
 {
     write_whole(sink, piece)?;
     sink.finish()

@@ -25,7 +25,7 @@ pub(crate) fn report_journal<S: Source, K: Sink>(
     ensures ends { Ends (Some Requests.Report)
         (seen (side S.rest S.faults source.old source.new) (side K.holds K.faults sink.old sink.new)) result }
     ensures sink_kept { LeavesSink result → sink.new ≡ sink.old }
-    ensures finished { FinishesOnce result (K.finishes sink.old) (K.finishes sink.new) }
+    ensures finished { FinishesOnce result (K.finishes sink.old) (K.finishes sink.new) (K.is_finished sink.new) }
 {
     match make_report(alloc, source) {
         Ok(table) => {

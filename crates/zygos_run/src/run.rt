@@ -44,7 +44,7 @@ pub(crate) fn serve_capture<R: Threads + Wait + Sync, S: Source, K: Sink, G: Gat
     ensures ends { Ends (Some (Requests.Run run out))
         (seen (side S.rest S.faults source.old source.new) (side K.holds K.faults sink.old sink.new)) result }
     ensures sink_kept { LeavesSink result → sink.new ≡ sink.old }
-    ensures finished { FinishesOnce result (K.finishes sink.old) (K.finishes sink.new) }
+    ensures finished { FinishesOnce result (K.finishes sink.old) (K.finishes sink.new) (K.is_finished sink.new) }
 {
     match run_capture(rt, alloc, run, source, gate) {
         Ok(done) => match write_all(sink, out, &done) {
@@ -61,7 +61,7 @@ pub(crate) fn serve_capture<R: Threads + Wait + Sync, S: Source, K: Sink, G: Gat
 fn write_all<K: Sink>(sink: &mut K, out: Out, done: &Finished) -> Result<(), Failed>
     requires outputs { AreOutputs done.now.outputs }
     requires journal { IsJournal done.now.journal }
-    ensures writes { WritesLast K.holds K.faults K.finishes sink.old sink.new result
+    ensures writes { WritesLast K.holds K.faults K.finishes K.is_finished sink.old sink.new result
         (written out done.now.journal done.now.outputs) }
 {
     match write_front(sink, out, &done.journal) {
@@ -73,7 +73,8 @@ fn write_all<K: Sink>(sink: &mut K, out: Out, done: &Finished) -> Result<(), Fai
 // Writes the replies, and finishes.
 fn write_back<K: Sink>(sink: &mut K, outputs: &Outputs) -> Result<(), Failed>
     requires outputs { AreOutputs outputs.now }
-    ensures writes { WritesLast K.holds K.faults K.finishes sink.old sink.new result (replies_bytes outputs.now) }
+    ensures writes { WritesLast K.holds K.faults K.finishes K.is_finished sink.old sink.new result
+        (replies_bytes outputs.now) }
 {
     write_replies(sink, outputs)?;
     sink.finish()

@@ -49,7 +49,7 @@ pub(crate) fn test_traffic<R: Threads + Wait + Sync, K: Sink, G: Gate + Sync>(
     ensures ends { (source : Side) → Ends (Some (Requests.SelfTest traffic run))
         (seen source (side K.holds K.faults sink.old sink.new)) result }
     ensures sink_kept { LeavesSink result → sink.new ≡ sink.old }
-    ensures finished { FinishesOnce result (K.finishes sink.old) (K.finishes sink.new) }
+    ensures finished { FinishesOnce result (K.finishes sink.old) (K.finishes sink.new) (K.is_finished sink.new) }
 {
     match run_test(rt, alloc, traffic, run, gate) {
         Err(NoMemory) => Answer::OutOfMemory,
@@ -141,7 +141,8 @@ fn certify(
 
 // Writes the line of the numbers, and finishes.
 fn write_line<K: Sink>(sink: &mut K, summary: &Summary) -> Result<(), Failed>
-    ensures writes { WritesLast K.holds K.faults K.finishes sink.old sink.new result (summary_line summary.now) }
+    ensures writes { WritesLast K.holds K.faults K.finishes K.is_finished sink.old sink.new result
+        (summary_line summary.now) }
 {
     write_summary(sink, summary)?;
     sink.finish()

@@ -1,8 +1,7 @@
 use Rattle.std.proofs.Common.{ℕ, List, ◌++◌, option_copied, subst, append_assoc}
-use Rattle.std.specs.Prelude.{Err}
 use Rattle.std.specs.Int.{to_be_bytes, w32, w64}
 use Rattle.zy_base.specs.Outside.{Writes}
-use Rattle.zy_base.proofs.WritingLemmas.{writes_on, writes_no_more}
+use Rattle.zy_base.proofs.WritingLemmas.{writes_on}
 use Rattle.zy_journal.specs.Journal.{value_text, field_text}
 use Rattle.zy_journal.proofs.writing.write_fields.Goals as goal
 
