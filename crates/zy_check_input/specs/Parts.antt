@@ -2,9 +2,9 @@
 -- end of each part is known from its own bytes, and the first fault of the input counts. And a
 -- journal alone, the input of the command report.
 use Rattle.std.specs.Prelude.{◌≡◌, ℕ, true, List, ◌++◌, Option, Result, Ok, Err, IfSome, ⊤}
-use Rattle.std.specs.Io.KnownBytes.{Consumes, IsAtEnd}
+use Rattle.std.specs.Io.KnownBytes.{Consumes}
 use Rattle.zy_base.specs.declared.file_fault.FileFault.{FileFault}
-use Rattle.zy_base.specs.Outside.{Rose}
+use Rattle.zy_base.specs.Outside.{Rose, ReadsAll}
 use Rattle.zy_capture.specs.declared.record.Record.{Record}
 use Rattle.zy_capture.specs.declared.capture_fault.CaptureFault.{CaptureFault}
 use Rattle.zy_capture.specs.Streams.{no_bytes, with_records}
@@ -95,10 +95,6 @@ abbrev pub IsPartFault : Refusal → Type 0
 IsPartFault refusal = (text : List ℕ) × HasPartFault text refusal
 
 -- ---- reading
-
--- the source held these bytes, if that is known, and is at its end
-abbrev pub ReadsAll : Option (List ℕ) → Option (List ℕ) → List ℕ → Type 0
-ReadsAll before after bytes = Consumes before after bytes × IsAtEnd after
 
 -- the parts are those of all that the source gave; or some input has this fault, and the source's text
 -- has it, if that is known; or the count of faults rose, or is at its largest value; `NoMemory` needs no cause

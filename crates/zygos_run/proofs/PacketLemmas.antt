@@ -15,7 +15,7 @@ use Rattle.zy_pcap.specs.Packets.{Found, packets}
 use Rattle.zy_pcap.specs.Packets.Found.{Packets, Bad}
 use Rattle.zy_pcap.specs.Made.{capture_of, pcap_capture, pcap_verdict}
 use Rattle.zy_pcap.specs.Standing.{Reading, StandsFor, Feeds, Lasts, TellsLasting, FinishesAs, FinishesBy}
-use Rattle.zygos_run.specs.Seen.{side}
+use Rattle.zy_serving.specs.Seen.{side}
 use Rattle.zygos_run.specs.Recorded.{IsRecorded}
 use Rattle.zygos_run.specs.Packets.{ReadsPackets, HasFed, Advances, came_of, ended_by}
 

@@ -3,10 +3,10 @@ ghost use Rattle.std.specs.Prelude.{◌≡◌, ◌≤◌, Some};
 ghost use Rattle.zy_base.specs.Outside.{WritesLast};
 ghost use Rattle.zy_command_line.specs.Range.{AreShards};
 ghost use Rattle.zy_command_line.specs.declared.request.Request.TheVariants as Requests;
-ghost use Rattle.zygos_run.specs.Seen.{side, seen};
+ghost use Rattle.zy_serving.specs.Seen.{side, seen};
 ghost use Rattle.zygos_run.specs.Finish.{FinishesOnce};
 ghost use Rattle.zygos_run.specs.Ends.{Ends, LeavesSink};
-ghost use Rattle.zygos_run.specs.Runs.{ChecksTo};
+ghost use Rattle.zygos_run.specs.Checks.{ChecksTo};
 ghost use Rattle.zygos_run.specs.Lines.{verdict_line};
 
 use crate::answer::Answer;

@@ -1,18 +1,17 @@
 //! Making traffic.
-ghost use Rattle.std.specs.Prelude.{◌≡◌, ◌≤◌, Some, IfOk};
+ghost use Rattle.std.specs.Prelude.{◌≤◌, Some};
 ghost use Rattle.zy_base.specs.Outside.{WritesLast};
-ghost use Rattle.zy_gen.specs.Traffic.{IsTraffic};
 ghost use Rattle.zy_command_line.specs.Range.{IsMakeable};
 ghost use Rattle.zy_command_line.specs.declared.request.Request.TheVariants as Requests;
-ghost use Rattle.zygos_run.specs.Seen.{Side, side, seen};
+ghost use Rattle.zy_serving.specs.Seen.{Side, side, seen};
 ghost use Rattle.zygos_run.specs.Finish.{FinishesOnce};
-ghost use Rattle.zygos_run.specs.Ends.{Ends, LeavesSink, traffic_bytes};
+ghost use Rattle.zygos_run.specs.Ends.{Ends, LeavesSink};
 
 use crate::answer::Answer;
 use std::alloc::Global;
-use zy_base::{Blob, Failed, NoMemory, Sink, write_whole};
+use zy_base::{Failed, NoMemory, Sink, write_whole};
 use zy_command_line::Traffic;
-use zy_gen::generate;
+use zy_self::capture_of;
 
 /// Makes the capture of some traffic, and writes it.
 pub(crate) fn make_traffic<K: Sink>(alloc: Global, traffic: Traffic, sink: &mut K) -> Answer
@@ -30,15 +29,6 @@ pub(crate) fn make_traffic<K: Sink>(alloc: Global, traffic: Traffic, sink: &mut 
             Err(Failed) => Answer::WriteFault,
         },
     }
-}
-
-/// The capture of some traffic, which is within the bounds of traffic that can be made.
-pub(crate) fn capture_of(alloc: Global, traffic: Traffic) -> Result<Blob, NoMemory>
-    requires makeable { IsMakeable traffic }
-    ensures value { IfOk result (λ capture. capture ≡ traffic_bytes traffic) }
-    ensures traffic { IsTraffic traffic.number traffic.conns traffic.commands }
-{
-    generate(alloc, traffic.number, traffic.conns, traffic.commands)
 }
 
 /// Writes the whole piece, and finishes.

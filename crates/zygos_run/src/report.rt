@@ -1,10 +1,10 @@
 //! Reporting on a journal.
 ghost use Rattle.std.specs.Prelude.{◌≡◌, ◌≤◌, Some};
 ghost use Rattle.zy_command_line.specs.declared.request.Request.TheVariants as Requests;
-ghost use Rattle.zygos_run.specs.Seen.{side, seen};
+ghost use Rattle.zy_serving.specs.Seen.{side, seen};
 ghost use Rattle.zygos_run.specs.Finish.{FinishesOnce};
 ghost use Rattle.zygos_run.specs.Ends.{Ends, LeavesSink};
-ghost use Rattle.zygos_run.specs.Runs.{ReportsTo};
+ghost use Rattle.zygos_run.specs.Checks.{ReportsTo};
 
 use crate::answer::Answer;
 use crate::generate::write_last;

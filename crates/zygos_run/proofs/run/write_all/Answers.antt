@@ -1,6 +1,6 @@
 use Rattle.zy_base.proofs.WritingLemmas.{writes_last_on, writes_last_failed, writes_no_more}
 use Rattle.zy_capture.specs.Replies.{replies_bytes}
-use Rattle.zygos_run.specs.Headline.{front}
+use Rattle.zy_serving.specs.Headline.{front}
 use Rattle.zygos_run.proofs.run.write_all.Goals as goal
 
 pub returns-in-Ok : goal.returns-in-Ok
