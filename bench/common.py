@@ -1,0 +1,141 @@
+"""What the scripts of bench share: the programs, their runs and what these cost, made traffic, and words.
+
+A script ends with a line on standard error where a run fails, with status 1, and with status 2 at words that it does not know.
+"""
+import argparse
+import collections
+import os
+import statistics
+import subprocess
+import sys
+import time
+
+sys.dont_write_bytecode = True
+TOP = os.path.dirname(os.path.dirname(os.path.realpath(__file__)))
+HERE = os.path.join(TOP, "bench")
+DOCS = os.path.join(TOP, "docs")
+sys.path.insert(0, os.path.join(TOP, "tools"))
+
+# Seconds from begin to end, processor seconds, and the most resident bytes.
+Cost = collections.namedtuple("Cost", "wall used resident")
+# A rate of 200 connections is what all whole runs have.
+CONNECTIONS = 200
+
+
+def name():
+    """The script, as it is called."""
+    return "bench/run " + os.path.basename(sys.argv[0]).removesuffix(".py")
+
+
+def stop(why, status=1):
+    """Ends the script with a line."""
+    sys.stdout.flush()
+    print(f"{name()}: {why}", file=sys.stderr)
+    sys.exit(status)
+
+
+# ---- words
+
+
+class Words(argparse.ArgumentParser):
+    """The words of a script, whose page is its own text."""
+
+    def __init__(self, page):
+        super().__init__(prog=name(), usage=argparse.SUPPRESS, add_help=False)
+        self.page = page.strip()
+        self.add_argument("-h", "--help", action="store_true")
+
+    def error(self, message):
+        stop(f"{message}; --help says more", 2)
+
+    def given(self):
+        found = self.parse_args()
+        if found.help:
+            sys.exit(print(self.page))
+        return found
+
+    def program(self):
+        """Lets a program be given that is built."""
+        self.add_argument("program", nargs="?")
+
+
+def count(text):
+    """A number above 0."""
+    if not text.isdigit() or not int(text):
+        raise argparse.ArgumentTypeError(f"{text} is no number above 0")
+    return int(text)
+
+
+# ---- the programs
+
+
+def built(program, given=None):
+    """The path of a program of the repository, which is proved and built first where it isn't; or the one that is given."""
+    if given:
+        if not os.access(given, os.X_OK):
+            stop(f"{given}: no program")
+        return os.path.abspath(given)
+    if subprocess.call([os.path.join(TOP, "tools", "build"), program], stdin=subprocess.DEVNULL):
+        sys.exit(70)
+    return os.path.join(TOP, "crates", program, "out", program)
+
+
+def machine():
+    """The machine, in a few words: processors, their kind, and the load of the last minute."""
+    kind = ""
+    try:
+        with open("/proc/cpuinfo", encoding="utf-8") as file:
+            kind = next((line.partition(":")[2].strip() for line in file if line.startswith("model name")), "")
+    except OSError:
+        pass
+    return f"{os.cpu_count()} processors{f' ({kind})' if kind else ''}, load before: {os.getloadavg()[0]:.1f}"
+
+
+# ---- runs
+
+
+def finished(process, begin):
+    """What a process costs, which is waited for."""
+    _, status, used = os.wait4(process.pid, 0)
+    process.returncode = os.waitstatus_to_exitcode(status)
+    if process.returncode:
+        stop(f"{' '.join(process.args)}: ended with status {process.returncode}")
+    return Cost(time.time() - begin, used.ru_utime + used.ru_stime, used.ru_maxrss * 1024)
+
+
+def run(command, source=os.devnull, sink=os.devnull, append=False, **more):
+    """What a command costs that reads and writes these files."""
+    with open(source, "rb") as given, open(sink, "ab" if append else "wb") as taken:
+        begin = time.time()
+        return finished(subprocess.Popen([str(word) for word in command], stdin=given, stdout=taken, **more), begin)
+
+
+def least(runs, *words, **more):
+    """The run of the least processor time."""
+    return min((run(*words, **more) for _ in range(runs)), key=lambda cost: cost.used)
+
+
+def medians(costs):
+    """The medians of the seconds, of the processor seconds and of the memory of runs."""
+    return Cost(*map(statistics.median, zip(*costs)))
+
+
+def cores(number, threads=None):
+    """The words for cores on as many threads, or on another number."""
+    return ["--cores", str(number), "--threads", str(number if threads is None else threads)]
+
+
+# ---- traffic
+
+
+def generated(program, path, commands, connections=CONNECTIONS):
+    """Writes the capture of generated traffic with so many commands, and gives its path."""
+    each = max(1, commands // connections)
+    run([program, "gen", "--number", 1, "--conns", connections, "--commands", each], sink=path)
+    return path
+
+
+def entries(program, connections, commands):
+    """How many entries the journal of generated traffic has, by the line of the program's own test run."""
+    words = [program, "self", "--conns", str(connections), "--commands", str(commands)]
+    return int(subprocess.run(words, stdin=subprocess.DEVNULL, capture_output=True, check=True).stdout.split()[3])
