@@ -1,30 +1,12 @@
 """The profile, plainly: the commands of a stream, the calls of a command, the replies of a shard, and the texts.
 
-It is written from the tables of docs/PROFILE.md, and takes its time.
+It is written from the tables of docs/PROFILE.md, and takes its time. The commands are in tools/meaning.py.
 """
-import functools
 import re
 from collections import namedtuple
 
-from formats import MOST_KEY, MOST_VALUE, Call, Reply
-
-MOST_LINE = 65536
-STORAGE = ["set", "add", "replace", "append", "prepend"]
-
-# the words after a command's name; those in brackets may be left out, and of `get` and `gets` the key is repeated
-FORMS = {
-    **{verb: "key flags exptime bytes [noreply]" for verb in STORAGE},
-    "cas": "key flags exptime bytes unique [noreply]",
-    "get": "key", "gets": "key", "delete": "key [zero] [noreply]",
-    "incr": "key amount [noreply]", "decr": "key amount [noreply]",
-    "version": "", "stats": "", "verbosity": "level [noreply]", "flush_all": "[zero] [noreply]", "quit": "",
-}
-# what the number of a word is below
-BOUNDS = {"flags": 1 << 32, "bytes": 1 << 32, "level": 1 << 32, "unique": 1 << 64, "amount": 1 << 64, "zero": 1}
-
-ERROR, BAD_LINE = b"ERROR", b"CLIENT_ERROR bad command line format"
-BAD_DELTA, LONG_LINE = b"CLIENT_ERROR invalid numeric delta argument", b"CLIENT_ERROR line too long"
-BAD_CHUNK, TOO_LARGE = b"CLIENT_ERROR bad data chunk", b"SERVER_ERROR object too large for cache"
+from formats import MOST_VALUE, Call, Reply
+from meaning import LETTERS, MOST_LINE, STORAGE, TOO_LARGE, Command, command_of, commands_of, framed, line_of
 
 # the texts of replies
 TEXTS = {
@@ -36,142 +18,11 @@ TEXTS = {
 # the lines of `stats`: the name of each number, and its field in a tally
 STATS = [(b"cmd_get", "gets"), (b"cmd_set", "sets"), (b"get_hits", "hits"), (b"get_misses", "misses"), (b"curr_items", "items")]
 
-# how many words must follow a meta command's name, the letters that it may have, and what the tokens of some say
-LEAST = {"mn": 0, "mg": 1, "ms": 2, "md": 1}
-LETTERS = {"mg": "vkfcsq", "ms": "FCMTkq", "md": "kq"}
-TOKENS = {"F": "flags", "C": "unique", "T": "exptime", "M": "mode"}
-MODES = {b"E": "add", b"A": "append", b"P": "prepend", b"R": "replace", b"S": "set"}
 # the codes of replies, and which replies the flag `q` hides
 CODES = {"stored": b"HD", "deleted": b"HD", "hit": b"HD", "not stored": b"NS", "exists": b"EX", "not found": b"NF"}
 HIDDEN = {"mg": ["miss"], "ms": ["stored"], "md": ["deleted", "not found"]}
 
-# a command; `error` is the text of a faulty one, `numbers` has those of its words that are numbers, and a meta command
-# has its letters without a token, and the name of its call
-Command = namedtuple("Command", "verb keys numbers value quiet error letters call",
-                     defaults=[(), {}, None, False, None, "", None])
 Item = namedtuple("Item", "flags value unique")
-
-
-# ---- commands
-
-
-def faulty(error, quiet=False):
-    return Command("fault", error=error, quiet=quiet)
-
-
-def number_of(name, word):
-    """The number that a word spells; None where it is a bad one."""
-    if name == "exptime":
-        return int(word) if re.fullmatch(b"-?[0-9]{1,19}", word) else None
-    return int(word) if re.fullmatch(b"[0-9]{1,20}", word) and int(word) < BOUNDS[name] else None
-
-
-def names_of(verb, count):
-    """The names of `count` words after a command's name, and of those that may follow."""
-    return ["key"] * max(1, count) if verb in ("get", "gets") else FORMS[verb].split()
-
-
-def has_noreply(names, words):
-    """Whether the last word is the noreply word: the last one that there can be, or in place of the zero."""
-    can_be = names[-1:] == ["[noreply]"] and words[-1:] == [b"noreply"]
-    return can_be and (len(words) == len(names) or "[zero]" in names and len(words) == len(names) - 1)
-
-
-def said_by(letter, token):
-    """What a letter's token says; None where it is a bad one."""
-    if letter in "FCT":
-        return number_of(TOKENS[letter], token)
-    if letter == "M":
-        return token.upper() if token.upper() in MODES else None
-    return None if token else 0
-
-
-def meta_of(verb, words):
-    """The meta command of the words after its name; one that stores has no value yet."""
-    if len(words) < LEAST[verb] or verb == "mn" and words:
-        return faulty(ERROR)
-    if verb == "mn":
-        return Command(verb)
-    key, *flags = words
-    numbers = {"flags": 0, "bytes": number_of("bytes", flags.pop(0))} if verb == "ms" else {}
-    letters = "".join(flag[:1].decode("latin-1") for flag in flags)
-    said = {letter: said_by(letter, flag[1:]) for letter, flag in zip(letters, flags)}
-    is_listed = set(letters) <= set(LETTERS[verb]) and len(said) == len(letters)
-    mode = said.pop("M", b"S")
-    is_read = None not in [mode, *said.values(), *numbers.values()] and ("C" not in said or mode == b"S")
-    if len(key) > MOST_KEY or not is_listed or not is_read:
-        return faulty(BAD_LINE)
-    numbers.update({TOKENS[letter]: number for letter, number in said.items() if letter in TOKENS})
-    call = {"mg": "get", "md": "delete", "ms": "cas" if "C" in said else MODES[mode]}[verb]
-    marks = "".join(letter for letter in letters if letter not in TOKENS)
-    return Command(verb, [key], numbers, letters=marks, call=call)
-
-
-def command_of(line):
-    """The command of a line; that of a storage line has no value yet."""
-    words = [word for word in line.split(b" ") if word]
-    verb = words.pop(0).decode("latin-1") if words else ""
-    if verb in LEAST:
-        return meta_of(verb, words)
-    if verb not in FORMS:
-        return faulty(ERROR)
-    names = names_of(verb, len(words))
-    if not sum("[" not in name for name in names) <= len(words) <= len(names):
-        return faulty(ERROR)
-    quiet = has_noreply(names, words)
-    if "[noreply]" in names and len(words) == len(names) and not quiet:
-        return faulty(ERROR)
-    named = [(name.strip("[]"), word) for name, word in zip(names, words[:-1] if quiet else words)]
-    keys = [word for name, word in named if name == "key"]
-    if any(len(key) > MOST_KEY for key in keys):
-        return faulty(BAD_LINE)
-    numbers = {name: number_of(name, word) for name, word in named if name != "key"}
-    if None in numbers.values():
-        return faulty(BAD_DELTA if numbers.get("amount", 0) is None else BAD_LINE)
-    return Command(verb, keys, numbers, quiet=quiet)
-
-
-def line_of(frame):
-    """The first line of a frame, without its end."""
-    return frame[: frame.index(b"\n")].removesuffix(b"\r")
-
-
-def meaning(frame):
-    """The command of a frame: of a line, or of a storage line with its block."""
-    end = frame.index(b"\n")
-    if end > MOST_LINE:
-        return faulty(LONG_LINE)
-    command, block = command_of(line_of(frame)), frame[end + 1 :]
-    if "bytes" not in command.numbers:
-        return command
-    if command.numbers["bytes"] > MOST_VALUE:
-        return faulty(TOO_LARGE, command.quiet)
-    if block[-2:] != b"\r\n":
-        return faulty(BAD_CHUNK, command.quiet)
-    return command._replace(value=block[:-2])
-
-
-def first_frame(stream):
-    """The first frame of a stream; None where it is cut off, or where there is a quit line."""
-    end = stream.find(b"\n")
-    if end < 0:
-        return None
-    if end > MOST_LINE:
-        return stream[: end + 1]
-    command = command_of(line_of(stream))
-    block = command.numbers["bytes"] + 2 if "bytes" in command.numbers else 0
-    is_cut = len(stream) < end + 1 + block
-    return None if is_cut or command.verb == "quit" else stream[: end + 1 + block]
-
-
-@functools.lru_cache(1000)
-def commands_of(stream):
-    """The commands of the frames of a stream."""
-    found = []
-    while (frame := first_frame(stream)) is not None:
-        found.append(meaning(frame))
-        stream = stream[len(frame) :]
-    return found
 
 
 # ---- calls

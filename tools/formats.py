@@ -1,13 +1,18 @@
 """The files of zygos, captures, journals and replies files, read and written as docs/FORMATS.md says.
 
-`read_capture`, `capture_records` and the like give the values that bytes spell, or raise their first fault;
-`capture`, `segment` and the like give the bytes of values.
+`capture_records`, `journal_records`, `replies_records` and the like give what bytes spell, a record after the other, or
+raise the first fault; they keep nothing of what they gave. `read_capture` and its like gather all records. `capture`,
+`segment` and the like give the bytes of values, and `capture_start` and its like those before the first record, to
+which records and END are appended.
 """
+import struct
 from collections import namedtuple
+from operator import itemgetter
 
 MOST_CAPTURE, MOST_FILE = (1 << 32) - 1, (1 << 63) - 1
 MOST_CONNECTIONS, MOST_SESSIONS, MOST_SHARDS, MOST_CORES, MOST_HOLD = 4096, 1 << 31, 256, 64, 64
 MOST_SEGMENT, MOST_KEY, MOST_VALUE = 65535, 250, 1048576
+MOST_STAMP, MOST_INDEX = (1 << 60) - 1, (1 << 40) - 1
 
 Segment = namedtuple("Segment", "connection text")
 Close = namedtuple("Close", "connection")
@@ -18,6 +23,7 @@ Entry = namedtuple("Entry", "stamp shard connection index part call reply")
 Hold = namedtuple("Hold", "connection core count")
 Journal = namedtuple("Journal", "entries holds")
 Output = namedtuple("Output", "connection session text")
+OutputHead = namedtuple("OutputHead", "connection session length")
 Replies = namedtuple("Replies", "version outputs")
 
 # the calls and the replies by their codes, from 1 on, each with its fields in order
@@ -28,9 +34,14 @@ REPLIES = [("miss", ""), ("hit", "flags unique value"), ("stored", ""), ("not st
            ("not found", ""), ("deleted", ""), ("number", "number"), ("no number", ""), ("too large", ""),
            ("flushed", ""), ("tally", "gets sets hits misses items")]
 
-
-# how the files of each format begin
+# how the files of each format begin, and how they all end
 FORMATS = {b"ZYGCAP": "capture", b"ZYGJRN": "journal", b"ZYGREP": "replies"}
+END = b"E"
+
+# how many bytes are read at once
+PIECE = 1 << 20
+# more bytes than an entry or a segment has
+MOST_ENTRY, MOST_RECORD = 2 * MOST_VALUE + 1024, MOST_SEGMENT + 9
 
 
 class Fault(Exception):
@@ -38,44 +49,102 @@ class Fault(Exception):
 
 
 class Part:
-    """The bytes of one part of an input, from its start on; places count from there."""
+    """The bytes of one part of an input, from its start on; places count from there.
 
-    def __init__(self, name, text):
-        self.name, self.text, self.at = name, text, 0
+    Without `more` they are `text`. With it, `text` is followed by what `more(count)` gives, at most `count` bytes each
+    time, and none at the end of the input; then only a window of the part is kept. `text` is the window, which begins
+    at the place `begin` of the part, and `at` the index in it of the next byte. If `passed` is set, it is called with
+    all bytes of the part that were read, in order and in pieces, the last of them by `pass_rest`. The words of a fault
+    are between `before` and `after`.
+    """
+
+    def __init__(self, name, text=b"", more=None, before="", after=""):
+        self.name, self.text, self.at, self.begin, self.more = name, text, 0, 0, more
+        self.before, self.after, self.passed = before, after, None
         self.most = MOST_CAPTURE if name == "capture" else MOST_FILE
 
+    @property
+    def place(self):
+        """The place of the next byte."""
+        return self.begin + self.at
+
     def fault(self, words):
-        return Fault(f"{self.name}: {words}")
+        return Fault(f"{self.before}{self.name}: {words}{self.after}")
+
+    def want(self, count):
+        """Reads on where fewer than `count` bytes follow in the window. Gives whether anything was read."""
+        found = left = len(self.text) - self.at
+        if left >= count or not self.more:
+            return False
+        self.pass_rest()
+        pieces = [self.text[self.at :]]
+        while found < count and self.more:
+            pieces.append(self.more(PIECE))
+            found += len(pieces[-1])
+            if not pieces[-1]:
+                self.more = None
+        self.text, self.begin, self.at = b"".join(pieces), self.begin + self.at, 0
+        return found > left
+
+    def pass_rest(self):
+        """Lets go of what was read."""
+        if self.passed:
+            self.passed(self.text[: self.at])
+            self.text, self.begin, self.at = self.text[self.at :], self.begin + self.at, 0
+
+    def ran_out(self):
+        """The fault of an input that ends too early, or has more bytes than a part may have."""
+        end = self.begin + len(self.text)
+        return self.fault("too-long" if end > self.most else f"truncated at {end}")
 
     def take(self, count):
         """The next `count` bytes."""
+        if self.at + count > len(self.text):
+            self.want(count)
         end = self.at + count
-        if end > self.most and len(self.text) > self.most:
-            raise self.fault("too-long")
-        if end > len(self.text):
-            raise self.fault(f"truncated at {len(self.text)}")
+        if end > len(self.text) or self.begin + end > self.most:
+            raise self.ran_out()
         begin, self.at = self.at, end
         return self.text[begin:end]
+
+    def pieces(self, count):
+        """The next `count` bytes in pieces, as they are in the window."""
+        while count:
+            self.want(1)
+            piece = self.text[self.at : min(self.at + count, self.limit())]
+            if not piece:
+                raise self.ran_out()
+            self.at += len(piece)
+            count -= len(piece)
+            yield piece
 
     def number(self, size):
         return int.from_bytes(self.take(size), "big")
 
     def within(self, size, least, most, fault="form at {at}"):
         """A number of `size` bytes, from least to most; any other is this fault."""
-        at, number = self.at, self.number(size)
+        at, number = self.place, self.number(size)
         if not least <= number <= most:
             raise self.fault(fault.format(at=at, number=number))
         return number
 
     def magic(self, magics, fault="form"):
         """Which of these magics the part begins with, counted from 1; a byte that is in none of them is wrong."""
+        found = b""
         for at in range(len(magics[0])):
-            if self.take(1) not in [magic[at : at + 1] for magic in magics]:
+            found += self.take(1)
+            if found[at:] not in [magic[at : at + 1] for magic in magics]:
                 raise self.fault(f"{fault} at {at}")
-        return 1 + magics.index(self.text[: self.at])
+        return 1 + magics.index(found)
+
+    def limit(self):
+        """The end of the bytes in the window that may be of the part."""
+        return min(len(self.text), self.most - self.begin)
 
 
 # ---- captures
+
+SEGMENT = struct.Struct(">BII")
 
 
 def capture_head(part):
@@ -86,15 +155,39 @@ def capture_head(part):
 
 def capture_records(part, version, count):
     """The records of a capture after its head."""
-    while (tag := part.take(1)) != b"E":
-        if tag != b"S" and (tag != b"C" or version == 1):
-            raise part.fault(f"bad-tag at {part.at - 1} byte {tag[0]}")
-        connection = part.within(4, 0, count - 1, "conn-range at {at} number {number}")
-        if tag == b"S":
-            length = part.within(4, 0, MOST_SEGMENT, "segment-length at {at} number {number}")
-            yield Segment(connection, part.take(length))
-        else:
-            yield Close(connection)
+    while True:
+        yield from whole_segments(part, count)
+        if not part.want(MOST_RECORD):
+            record = read_record(part, version, count)
+            if record is None:
+                return
+            yield record
+
+
+def whole_segments(part, count):
+    """The segments up to a record that is not a good segment, or is not whole in the window."""
+    text, at, limit = part.text, part.at, part.limit()
+    while at + 9 <= limit:
+        tag, connection, length = SEGMENT.unpack_from(text, at)
+        end = at + 9 + length
+        if tag != 83 or connection >= count or length > MOST_SEGMENT or end > limit:
+            return
+        part.at = end
+        yield Segment(connection, text[at + 9 : end])
+        at = end
+
+
+def read_record(part, version, count):
+    """A record of a capture; None at its end."""
+    tag = part.take(1)
+    if tag == END:
+        return None
+    if tag != b"S" and (tag != b"C" or version == 1):
+        raise part.fault(f"bad-tag at {part.place - 1} byte {tag[0]}")
+    connection = part.within(4, 0, count - 1, "conn-range at {at} number {number}")
+    if tag == b"C":
+        return Close(connection)
+    return Segment(connection, part.take(part.within(4, 0, MOST_SEGMENT, "segment-length at {at} number {number}")))
 
 
 def read_capture(part):
@@ -103,10 +196,10 @@ def read_capture(part):
 
 
 def segment(connection, text):
-    return b"S" + big(4, connection) + big(4, len(text)) + text
+    return SEGMENT.pack(83, connection, len(text)) + text
 
 
-def pieces(connection, text, size):
+def pieces(connection, text, size=MOST_SEGMENT):
     """Segments of `size` bytes; the last may have fewer."""
     return [segment(connection, text[at : at + size]) for at in range(0, len(text), size)]
 
@@ -115,34 +208,126 @@ def close(connection):
     return b"C" + big(4, connection)
 
 
+def capture_start(count, version=1):
+    return b"ZYGCAP%d\n" % version + big(4, count)
+
+
 def capture(count, records, version=1):
     """A capture of records that are given as bytes."""
-    return b"ZYGCAP%d\n" % version + big(4, count) + b"".join(records) + b"E"
+    return capture_start(count, version) + b"".join(records) + END
 
 
 # ---- journals
 
+JOURNAL_START = b"ZYGJRN1\n"
+ENTRY, HOLD = struct.Struct(">BQIIQI"), struct.Struct(">BIII")
+SIZES = {"flags": "I", "value": "I"}
+
+# how a call or a reply is read at once: whether it has a key, the numbers and lengths after it, whether the last of
+# these is the length of a value, and how (name, key, None, value, *numbers) are put in the order of the fields
+Form = namedtuple("Form", "name has_key numbers has_value order")
+
+
+def forms(kind, table):
+    """The forms of calls or replies, by their codes."""
+    found = {}
+    for code_of, (name, line) in enumerate(table, 1):
+        fields = line.split()
+        numbers = [field for field in fields if field != "key"]
+        places = {"name": 0, "key": 1, "value": 3, **{field: 4 + at for at, field in enumerate(numbers) if field != "value"}}
+        order = itemgetter(*(places[field] if field in ["name", *fields] else 2 for field in kind._fields))
+        layout = ">" + "".join(SIZES.get(field, "Q") for field in numbers)
+        found[code_of] = Form(name, "key" in fields, struct.Struct(layout), "value" in fields, order)
+    return found
+
+
+CALL_FORMS, REPLY_FORMS = forms(Call, CALLS), forms(Reply, REPLIES)
+
 
 def journal_records(part):
     """The entries of a journal, and then its holds."""
-    part.magic([b"ZYGJRN1\n"])
+    part.magic([JOURNAL_START])
     entry_before = hold_before = None
-    while (tag := part.take(1)) != b"E":
+    while True:
+        if not hold_before:
+            for entry_before in whole_entries(part, entry_before):
+                yield entry_before
+        for hold_before in whole_holds(part, hold_before):
+            yield hold_before
+        if part.want(MOST_ENTRY):
+            continue
+        tag = part.take(1)
         if tag == b"J" and hold_before is None:
             entry_before = read_entry(part, entry_before)
             yield entry_before
         elif tag == b"H":
             hold_before = read_hold(part, hold_before)
             yield hold_before
+        elif tag == END:
+            return
         else:
-            raise part.fault(f"form at {part.at - 1}")
+            raise part.fault(f"form at {part.place - 1}")
+
+
+def whole_entries(part, before):
+    """The entries after another one up to a record that is not a good entry, or is not whole in the window."""
+    text, at, limit, new = part.text, part.at, part.limit(), tuple.__new__
+    last, last_shard = (before.stamp, before.shard) if before else (1, -1)
+    try:
+        while True:
+            tag, stamp, shard, connection, index, piece = ENTRY.unpack_from(text, at)
+            is_next = stamp > last or stamp == last and shard > last_shard
+            if tag != 74 or not is_next or stamp > MOST_STAMP or shard >= MOST_SHARDS or connection >= MOST_CONNECTIONS \
+                    or index > MOST_INDEX:
+                return
+            call, at = coded_at(text, at + 29, Call, CALL_FORMS)
+            reply, at = coded_at(text, at, Reply, REPLY_FORMS)
+            if at > limit:
+                return
+            part.at, last, last_shard = at, stamp, shard
+            yield new(Entry, (stamp, shard, connection, index, piece, call, reply))
+    except (struct.error, LookupError):
+        return
+
+
+def coded_at(text, at, kind, forms_of):
+    """A call or a reply at an index, and the index after it; a LookupError or struct.error where it is none."""
+    name, has_key, numbers, has_value, order = forms_of[text[at]]
+    key = value = None
+    at += 1
+    if has_key:
+        end = at + 1 + text[at]
+        key = text[at + 1 : end]
+        if not 0 < end - at - 1 <= MOST_KEY:
+            raise LookupError
+        at = end
+    found = numbers.unpack_from(text, at)
+    at += numbers.size
+    if has_value:
+        if found[-1] > MOST_VALUE:
+            raise LookupError
+        value = text[at : at + found[-1]]
+        at += found[-1]
+    return tuple.__new__(kind, order((name, key, None, value, *found))), at
+
+
+def whole_holds(part, before):
+    """The holds after another one up to a record that is not a good hold, or is not whole in the window."""
+    text, at, limit, last = part.text, part.at, part.limit(), before.connection if before else 0
+    while at + 13 <= limit:
+        tag, connection, core, count = HOLD.unpack_from(text, at)
+        if tag != 72 or not last <= connection < MOST_CONNECTIONS or core >= MOST_CORES or not 0 < count <= MOST_HOLD:
+            return
+        at += 13
+        part.at, last = at, connection
+        yield Hold(connection, core, count)
 
 
 def read_entry(part, before):
     """An entry after another one, or the first."""
-    stamp = part.within(8, before.stamp if before else 1, (1 << 60) - 1)
+    stamp = part.within(8, before.stamp if before else 1, MOST_STAMP)
     shard = part.within(4, before.shard + 1 if before and before.stamp == stamp else 0, MOST_SHARDS - 1)
-    connection, index = part.within(4, 0, MOST_CONNECTIONS - 1), part.within(8, 0, (1 << 40) - 1)
+    connection, index = part.within(4, 0, MOST_CONNECTIONS - 1), part.within(8, 0, MOST_INDEX)
     piece = part.number(4)
     return Entry(stamp, shard, connection, index, piece, coded(part, Call, CALLS), coded(part, Reply, REPLIES))
 
@@ -174,12 +359,11 @@ def read_journal(part):
 
 
 def entry(stamp, shard, connection, index, part, call, reply):
-    numbers = big(8, stamp) + big(4, shard) + big(4, connection) + big(8, index) + big(4, part)
-    return b"J" + numbers + code(call, CALLS) + code(reply, REPLIES)
+    return ENTRY.pack(74, stamp, shard, connection, index, part) + code(call, CALLS) + code(reply, REPLIES)
 
 
 def hold(connection, core, count):
-    return b"H" + big(4, connection) + big(4, core) + big(4, count)
+    return HOLD.pack(72, connection, core, count)
 
 
 def code(value, table):
@@ -195,21 +379,34 @@ def field_bytes(field, value):
 
 
 def journal(entries, holds):
-    return b"ZYGJRN1\n" + b"".join([entry(*one) for one in entries] + [hold(*one) for one in holds]) + b"E"
+    return JOURNAL_START + b"".join([entry(*one) for one in entries] + [hold(*one) for one in holds]) + END
 
 
 # ---- replies files
 
 
-def replies_records(part, version):
-    """The outputs of a replies file after its magic."""
+def replies_version(part):
+    return part.magic([b"ZYGREP1\n", b"ZYGREP2\n"])
+
+
+def replies_heads(part, version):
+    """The connection, session and length of each output, after the magic. Its bytes may then be taken from the part, by
+    `take` or `pieces`; those that are not are passed over."""
     before = None
-    while (tag := part.take(1)) != b"E":
+    while (tag := part.take(1)) != END:
         if tag != b"R":
-            raise part.fault(f"form at {part.at - 1}")
-        connection, session = next_session(part, version, before)
-        before = Output(connection, session, part.take(part.number(8)))
+            raise part.fault(f"form at {part.place - 1}")
+        before = OutputHead(*next_session(part, version, before), part.number(8))
+        end = part.place + before.length
         yield before
+        for _ in part.pieces(end - part.place):
+            pass
+
+
+def replies_records(part, version):
+    """The outputs of a replies file after its magic, each as a whole."""
+    for connection, session, length in replies_heads(part, version):
+        yield Output(connection, session, part.take(length))
 
 
 def next_session(part, version, before):
@@ -223,10 +420,6 @@ def next_session(part, version, before):
     return connection, part.within(4, due, min(due, MOST_SESSIONS - 1))
 
 
-def replies_version(part):
-    return part.magic([b"ZYGREP1\n", b"ZYGREP2\n"])
-
-
 def read_replies(part):
     version = replies_version(part)
     return Replies(version, list(replies_records(part, version)))
@@ -234,16 +427,26 @@ def read_replies(part):
 
 def read_end(part):
     """Nothing follows."""
+    part.want(1)
     if part.at < len(part.text):
-        raise part.fault(f"form at {part.at}")
+        raise part.fault(f"form at {part.place}")
+
+
+def replies_start(version):
+    return b"ZYGREP%d\n" % version
+
+
+def output_start(version, connection, session, length):
+    """What is before the bytes of an output."""
+    return b"R" + big(4, connection) + (big(4, session) if version == 2 else b"") + big(8, length)
 
 
 def output(version, connection, session, text):
-    return b"R" + big(4, connection) + (big(4, session) if version == 2 else b"") + big(8, len(text)) + text
+    return output_start(version, connection, session, len(text)) + text
 
 
 def replies_file(version, outputs):
-    return b"ZYGREP%d\n" % version + b"".join(output(version, *one) for one in outputs) + b"E"
+    return replies_start(version) + b"".join(output(version, *one) for one in outputs) + END
 
 
 def replies(texts):
@@ -260,14 +463,42 @@ def sessions(texts):
 # ---- what all share
 
 
+def skim(part):
+    """Reads a part to its end, for its faults alone."""
+    if part.name == "capture":
+        records = capture_records(part, *capture_head(part))
+    elif part.name == "journal":
+        records = journal_records(part)
+    else:
+        records = replies_heads(part, replies_version(part))
+    for _ in records:
+        pass
+
+
 def big(size, number):
     """A number in `size` bytes, the most significant first."""
     return number.to_bytes(size, "big")
 
 
+PRINTED = bytes(byte for byte in range(32, 127) if byte != 92)
+ESCAPED = [(bytes([byte]), b"\\x%02x" % byte) for byte in (*range(32), 127)]
+
+
+def shown_bytes(text):
+    """Bytes as printed ones: those that cannot be printed as \\xNN."""
+    odd = text.translate(None, PRINTED)
+    if not odd:
+        return text
+    text = text.replace(b"\\", b"\\\\")
+    for byte, escape in ESCAPED:
+        if byte in odd:
+            text = text.replace(byte, escape)
+    return text if text.isascii() else text.decode("latin-1").encode("ascii", "backslashreplace")
+
+
 def shown(text):
     """Bytes as text; those that cannot be printed as \\xNN."""
-    return "".join(chr(b) if 32 <= b < 127 and b != 92 else "\\\\" if b == 92 else f"\\x{b:02x}" for b in text)
+    return shown_bytes(text).decode("ascii")
 
 
 def told(value):
