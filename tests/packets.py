@@ -1,5 +1,5 @@
 #!/usr/bin/env python3
-"""Drawn files of recorded packets, and a plain model of the capture that is made of them.
+"""Drawn files of recorded packets, and the capture that is made of them.
 
 usage: tests/packets.py [--files N] [--from NUMBER] [PROGRAM | COMMAND ..]
 
@@ -7,7 +7,8 @@ Draws N files (2,000 if not said), numbered from NUMBER (0) on, after cases of b
 `pcap` of PROGRAM, or to COMMAND, with its port in the option `--port`; what comes back is compared byte for byte with the
 model. Without either the model runs alone. At the end a recording is made by tcpdump, where it is installed and may record.
 
-The model looks at whole files by their places, and shares no code with the program.
+The model is that of the tools, `tools/recorded.py`; it looks at whole files by their places, and shares no code with the
+program.
 """
 
 import os
@@ -21,150 +22,9 @@ import sys
 import tempfile
 import time
 
-KEY = bytes.fromhex(
-    "6d5a56da255b0ec24167253d43a38fb0d0ca2bcbae7b30b477cb2da38030f20c6a42b73bbeac01fa")
-KEY_NUMBER = int.from_bytes(KEY, "big")
-
-# ---- the model
-
-
-class Fault(Exception):
-    """A fault, by its number."""
-
-    def __init__(self, number, at=None):
-        super().__init__(number, at)
-        self.number = number
-        self.at = at
-
-
-def toeplitz(flow):
-    """The exclusive or of the key's 32 bits from each place at which the input has a 1."""
-    number = 0
-    for place in range(8 * len(flow)):
-        if flow[place // 8] >> (7 - place % 8) & 1:
-            number ^= KEY_NUMBER >> (8 * len(KEY) - 32 - place) & 0xFFFFFFFF
-    return number
-
-
-def judge(frame, at, port):
-    """The packet of a frame to the port (flow, sequence number, SYN, payload), or None."""
-    if len(frame) < 14:
-        raise Fault(16, at)
-    kind = int.from_bytes(frame[12:14], "big")
-    if kind == 0x86DD:
-        if len(frame) >= 58 and frame[20] == 6 and int.from_bytes(frame[56:58], "big") == port:
-            raise Fault(13, at)
-        return None
-    if kind == 0x8100:
-        raise Fault(14, at)
-    if kind != 0x0800:
-        return None
-    ip = frame[14:]
-    if len(ip) < 20 or ip[0] >> 4 != 4 or ip[0] % 16 < 5:
-        raise Fault(16, at)
-    if ip[9] != 6:
-        return None
-    if int.from_bytes(ip[6:8], "big") & 0x3FFF:
-        raise Fault(15, at)
-    size = ip[0] % 16 * 4
-    total = int.from_bytes(ip[2:4], "big")
-    if total < size + 20 or len(ip) < size + 20:
-        raise Fault(16, at)
-    tcp = ip[size:]
-    if int.from_bytes(tcp[2:4], "big") != port:
-        return None
-    own = (tcp[12] >> 4) * 4
-    if own < 20 or size + own > total:
-        raise Fault(16, at)
-    syn = bool(tcp[13] & 2)
-    count = total - size - own
-    if count == 0 and not syn:
-        return None
-    if count and len(ip) < total:
-        raise Fault(17, at)
-    payload = ip[size + own:total] if count else b""
-    flow = ip[12:20] + tcp[0:4]
-    return flow, int.from_bytes(tcp[4:8], "big"), syn, payload
-
-
-class Flows:
-    """The sessions of each connection number."""
-
-    def __init__(self):
-        self.number = {}
-        self.sessions = {}
-
-    def number_of(self, flow, at):
-        if flow not in self.number:
-            group = toeplitz(flow) % 128
-            free = [n for n in range(group, group + 128 * 32, 128) if n not in self.sessions]
-            if not free:
-                raise Fault(18, at)
-            self.number[flow] = free[0]
-            self.sessions[free[0]] = []
-        return self.number[flow]
-
-    def meet(self, flow, sequence, syn, payload, at):
-        sessions = self.sessions[self.number_of(flow, at)]
-        if not sessions or (syn and sessions[-1]["syn"] != sequence):
-            base = (sequence + syn) % 2**32
-            sessions.append({"syn": sequence if syn else None, "base": base, "bytes": {}})
-        session = sessions[-1]
-        begin = sequence + syn - session["base"]
-        offsets = [(begin + i) % 2**32 for i in range(len(payload))]
-        if any(2**30 <= offset < 2**31 for offset in offsets):
-            raise Fault(19, at)
-        for offset, byte in zip(offsets, payload):
-            if offset < 2**31:
-                session["bytes"].setdefault(offset, byte)
-
-    def capture(self):
-        count = max(self.sessions, default=-1) + 1
-        out = [b"ZYGCAP2\n", struct.pack(">I", count)]
-        for number in sorted(self.sessions):
-            for i, session in enumerate(self.sessions[number]):
-                if i:
-                    out.append(b"C" + struct.pack(">I", number))
-                stream = bytearray()
-                while len(stream) in session["bytes"]:
-                    stream.append(session["bytes"][len(stream)])
-                for at in range(0, len(stream), 65535):
-                    piece = bytes(stream[at:at + 65535])
-                    out.append(b"S" + struct.pack(">II", number, len(piece)) + piece)
-        return b"".join(out) + b"E"
-
-
-def made(text, port):
-    """The capture of a file, or its first fault."""
-    if len(text) < 4:
-        raise Fault(20, len(text))
-    order = {0xA1B2C3D4: ">", 0xD4C3B2A1: "<"}.get(int.from_bytes(text[:4], "big"))
-    if order is None:
-        raise Fault(9, 0)
-    if len(text) < 8:
-        raise Fault(20, len(text))
-    if struct.unpack(order + "HH", text[4:8]) != (2, 4):
-        raise Fault(10)
-    if len(text) < 24:
-        raise Fault(20, len(text))
-    if struct.unpack(order + "I", text[20:24])[0] != 1:
-        raise Fault(11)
-    flows = Flows()
-    at = 24
-    while at < len(text):
-        if len(text) < at + 12:
-            raise Fault(20, len(text))
-        size = struct.unpack(order + "I", text[at + 8:at + 12])[0]
-        if size > 262144:
-            raise Fault(12, at)
-        if len(text) < at + 16 + size:
-            raise Fault(20, len(text))
-        packet = judge(text[at + 16:at + 16 + size], at, port)
-        if packet:
-            flows.meet(*packet, at)
-        at += 16 + size
-    return flows.capture()
-
+sys.dont_write_bytecode = True
+sys.path.insert(0, os.path.join(os.path.dirname(os.path.dirname(os.path.realpath(__file__))), "tools"))
+from recorded import PacketFault, made, toeplitz
 
 # ---- drawn files
 
@@ -402,7 +262,7 @@ def expected(text, port):
     """The status, and what the program is to write to its two outputs."""
     try:
         return 0, made(text, port), b""
-    except Fault as fault:
+    except PacketFault as fault:
         return 3, b"", b"zygos: pcap: fault %d\n" % fault.number
 
 
