@@ -1,0 +1,120 @@
+"""Captures that are written as their records come.
+
+While a capture grows, its head has version 2 and 4,096 connections; at its end these become the right ones. One that
+was left while it grew is whole up to its last record, and can be completed.
+"""
+import os
+
+from formats import (END, MOST_CONNECTIONS, MOST_FILE, SEGMENT, Fault, Part, Segment, capture_head, capture_records,
+                     capture_start, close)
+
+GROWING = 2, MOST_CONNECTIONS
+
+
+def write_at(file, text, place):
+    while text:
+        count = os.pwrite(file, text, place)
+        text, place = text[count:], place + count
+
+
+class Growing:
+    """A capture that grows, in a file that is open for reading and writing; `size` is what was written so far."""
+
+    def __init__(self, file):
+        self.file, self.size = file, 0
+        os.ftruncate(file, 0)
+        os.lseek(file, 0, os.SEEK_SET)
+        version, count = GROWING
+        self.add(capture_start(count, version))
+
+    def add(self, *pieces):
+        """Writes a record; where that fails, nothing of it is left."""
+        length = sum(map(len, pieces))
+        try:
+            count = os.writev(self.file, pieces)
+            if count < length:
+                left = b"".join(pieces)[count:]
+                while left:
+                    left = left[os.write(self.file, left) :]
+        except OSError:
+            os.ftruncate(self.file, self.size)
+            os.lseek(self.file, self.size, os.SEEK_SET)
+            raise
+        self.size += length
+
+    def segment(self, connection, text):
+        self.add(SEGMENT.pack(ord("S"), connection, len(text)), text)
+
+    def close(self, connection):
+        self.add(close(connection))
+
+    def finish(self, version, count):
+        """Makes it a whole capture."""
+        write_at(self.file, capture_start(count, version), 0)
+        self.add(END)
+
+
+def reading(file, name=""):
+    """A part that is read from the begin of a file, however long that is."""
+    at = 0
+
+    def more(count):
+        nonlocal at
+        piece = os.pread(file, count, at)
+        at += len(piece)
+        return piece
+
+    part = Part("capture", more=more, before=name and f"{name}: ")
+    part.most = MOST_FILE
+    return part
+
+
+class Found:
+    """What there is in a capture that may have been left while it grew; it is refused for any other fault."""
+
+    def __init__(self, file, name=""):
+        self.file, self.closes, self.sizes, self.count_seen = file, [0] * MOST_CONNECTIONS, [0] * MOST_CONNECTIONS, 0
+        self.length = os.fstat(file).st_size
+        part = reading(file, name)
+        self.version, self.count = capture_head(part)
+        self.whole, self.is_ended = part.place, False  # where the last whole record ends, and whether END is there
+        try:
+            for record in capture_records(part, self.version, self.count):
+                self.whole = part.place
+                self.note(record)
+            self.is_ended = True
+        except Fault as fault:
+            if not str(fault).endswith(f"truncated at {self.length}"):
+                raise
+        if self.is_ended and part.place < self.length:
+            raise part.fault(f"trailing at {part.place}")
+
+    def note(self, record):
+        self.count_seen = max(self.count_seen, record.connection + 1)
+        if isinstance(record, Segment):
+            self.sizes[record.connection] += len(record.text)
+        else:
+            self.closes[record.connection] += 1
+
+    def is_growing(self):
+        return (self.version, self.count) == GROWING
+
+    def cut(self):
+        """Cuts the file after its last whole record, or after the bytes that there are of a last segment.
+
+        Gives how many bytes that segment has, and how many it should have; None where there is none."""
+        found = None
+        kept = self.length - self.whole - SEGMENT.size
+        if not self.is_ended and kept > 0:
+            tag, connection, length = SEGMENT.unpack(os.pread(self.file, SEGMENT.size, self.whole))
+            write_at(self.file, SEGMENT.pack(tag, connection, kept), self.whole)
+            self.count_seen = max(self.count_seen, connection + 1)
+            self.sizes[connection] += kept
+            self.whole, found = self.length, (kept, length)
+        os.ftruncate(self.file, self.whole)
+        return found
+
+    def add(self, text):
+        """Writes on after what there is."""
+        write_at(self.file, text, self.whole)
+        self.whole += len(text)

@@ -1,0 +1,123 @@
+"""Places where servers listen, as words name them: HOST:PORT, [HOST]:PORT, or a Unix socket by its path."""
+import contextlib
+import errno
+import os
+import re
+import socket
+import stat
+
+import ends
+
+# how many connections may wait to be accepted, and how long the path of a Unix socket may be
+BACKLOG, MOST_PATH = 4096, 107
+
+
+class Place:
+    """A place: what is printed of it, and its addresses, each with its family; these are looked up when asked for."""
+
+    def __init__(self, name, host=None, port=None, path=None):
+        self.name, self.host, self.port, self.path = name, host, port, path
+
+    def addresses(self):
+        if self.path is not None:
+            return [(socket.AF_UNIX, self.path)]
+        try:
+            found = socket.getaddrinfo(self.host, self.port, type=socket.SOCK_STREAM)
+        except (socket.gaierror, UnicodeError):
+            raise OSError(errno.EADDRNOTAVAIL, "no address has this name", self.name) from None
+        return list(dict.fromkeys((family, address) for family, _, _, _, address in found))
+
+
+def place(option, word):
+    """The place that an option names."""
+    path = word[5:] if word.startswith("unix:") else word if "/" in word else None
+    if path and len(os.fsencode(path)) > MOST_PATH:
+        ends.stop(f"{option}: the path of a socket has at most {MOST_PATH} bytes", 2)
+    if path:
+        return Place(word, path=path)
+    match = re.fullmatch(r"\[([^\[\]]+)\]:([0-9]{1,5})", word) or re.fullmatch(r"([^\[\]]+):([0-9]{1,5})", word)
+    if path == "" or not match or int(match[2]) > 65535:
+        ends.stop(f"{option} takes HOST:PORT, [HOST]:PORT or a path with a slash, not {word or 'nothing'};"
+                  " --help says more", 2)
+    return Place(word, match[1], int(match[2]))
+
+
+def named(family, address):
+    """An address, as a word names it."""
+    if family == socket.AF_UNIX:
+        return address
+    host, port = address[:2]
+    return f"[{host}]:{port}" if ":" in host else f"{host}:{port}"
+
+
+def prompt(one):
+    """A socket that never waits, neither in its calls nor to gather bytes."""
+    one.setblocking(False)
+    if one.family != socket.AF_UNIX:
+        one.setsockopt(socket.IPPROTO_TCP, socket.TCP_NODELAY, 1)
+    return one
+
+
+def beginning(family, address):
+    """A socket that is being connected, and the number of the fault that it has at once: 0, or EINPROGRESS, is none."""
+    one = prompt(socket.socket(family, socket.SOCK_STREAM))
+    return one, one.connect_ex(address)
+
+
+def is_left(path):
+    """Whether a path is a socket that nobody listens at any more."""
+    try:
+        if not stat.S_ISSOCK(os.stat(path).st_mode):
+            return False
+        with socket.socket(socket.AF_UNIX, socket.SOCK_STREAM) as one:
+            one.settimeout(1)
+            return one.connect_ex(path) == errno.ECONNREFUSED
+    except OSError:
+        return False
+
+
+def listening(one):
+    """Sockets that listen at a place, at each of its addresses that there is."""
+    found, fault = [], None
+    for family, address in one.addresses():
+        try:
+            found.append(bound(family, address))
+            found[-1].listen(BACKLOG)
+        except OSError as error:
+            fault = OSError(error.errno, os.strerror(error.errno), one.name)
+            if error.errno not in (errno.EADDRNOTAVAIL, errno.EAFNOSUPPORT):
+                break
+    else:
+        fault = None if found else fault
+    if fault:
+        forget(found)
+        raise fault
+    return found
+
+
+def forget(found):
+    """Closes sockets, and removes the paths of those that listen."""
+    for one in found:
+        with contextlib.suppress(OSError):
+            if one.family == socket.AF_UNIX and one.getsockopt(socket.SOL_SOCKET, socket.SO_ACCEPTCONN):
+                os.unlink(one.getsockname())
+        one.close()
+
+
+def bound(family, address):
+    """A socket that is bound to an address."""
+    one = socket.socket(family, socket.SOCK_STREAM)
+    try:
+        if family == socket.AF_UNIX:
+            if is_left(address):
+                os.unlink(address)
+        else:
+            one.setsockopt(socket.SOL_SOCKET, socket.SO_REUSEADDR, 1)
+        if family == socket.AF_INET6:
+            one.setsockopt(socket.IPPROTO_IPV6, socket.IPV6_V6ONLY, 1)
+        one.bind(address)
+        one.setblocking(False)
+    except BaseException:
+        one.close()
+        raise
+    return one

@@ -1,0 +1,308 @@
+"""A proxy between clients and a server: one loop over its sockets, which gives what passes to a recording.
+
+A client is a link as soon as its server is connected. Bytes are recorded, and then passed on; a side that does not take
+them is waited for, and until then the other one is not read.
+"""
+import errno
+import functools
+import os
+import selectors
+import socket
+import time
+
+from formats import MOST_CONNECTIONS, MOST_SEGMENT
+from places import beginning, forget, prompt
+
+READ, WRITE = selectors.EVENT_READ, selectors.EVENT_WRITE
+# seconds: between looks at all links; in which a server's answers to a client that has gone are recorded; in which a
+# client may read what it got from a server that has gone; and at the end, without an answer, and in all
+LOOK, GONE, LINGER, QUIET, LONGEST = 0.25, 10, 1, 0.25, 5
+
+
+class Way:
+    """One direction of a link: bytes of a source are kept, and passed on to a sink as it takes them."""
+
+    def __init__(self, source, sink, keep):
+        self.source, self.sink, self.keep = source, sink, keep
+        self.waiting = b""
+        self.is_ended = self.is_broken = False  # no more bytes come; and that is by a fault
+        self.is_lost = self.is_shut = False  # the sink has gone; it was given the end
+
+    def read(self):
+        try:
+            text = self.source.recv(MOST_SEGMENT)
+        except BlockingIOError:
+            return
+        except OSError:
+            text, self.is_broken = b"", True
+        if not text:
+            self.is_ended = True
+        elif self.keep(text) and not self.is_lost:
+            self.waiting = memoryview(text)
+            self.write()
+
+    def write(self):
+        try:
+            while self.waiting:
+                self.waiting = self.waiting[self.sink.send(self.waiting) :]
+        except BlockingIOError:
+            return
+        except OSError:
+            self.lose()
+
+    def lose(self):
+        self.is_lost, self.waiting = True, b""
+
+    def settle(self):
+        """Passes the end on, after all bytes."""
+        if self.is_ended and not self.waiting and not self.is_shut:
+            self.is_shut = True
+            try:
+                self.sink.shutdown(socket.SHUT_WR)
+            except OSError:
+                self.lose()
+
+
+class Link:
+    """A client and its server."""
+
+    def __init__(self, client, server, number, recording):
+        self.sockets, self.number, self.masks = (client, server), number, [0, 0]
+        self.up = Way(client, server, functools.partial(recording.sent, number))
+        self.down = Way(server, client, functools.partial(recording.answered, number))
+        self.until, self.is_taking, self.is_closed, self.handler = None, True, False, None
+
+    def handle(self, one, events):
+        """Does what a socket is ready for. Gives whether anything was read of the server."""
+        there, back = (self.up, self.down) if one is self.sockets[0] else (self.down, self.up)
+        if events & WRITE:
+            back.write()
+        if events & READ:
+            there.read()
+            if there.is_broken:
+                back.lose()
+        return there is self.down and bool(events & READ)
+
+    def settle(self, now):
+        """Passes ends on. Gives whether the link is over."""
+        self.up.settle()
+        self.down.settle()
+        if self.down.is_shut:  # the server has gone: what the client still sends is not recorded
+            self.up.keep, self.up.waiting = lambda text: False, b""
+            self.until = self.until or now + LINGER
+        elif self.down.is_lost:
+            self.until = self.until or now + GONE
+        is_over = self.down.is_ended and not self.down.waiting and (self.up.is_ended or self.down.is_lost)
+        return is_over or self.until is not None and now > self.until
+
+    def wanted(self):
+        """What is waited for, of the client and of the server."""
+        up, down = self.up, self.down
+        is_open = self.is_taking and not up.is_lost and not down.is_ended
+        is_read = not up.is_ended and not up.waiting and (is_open or down.is_shut)
+        client = (READ if is_read else 0) | (WRITE if down.waiting else 0)
+        return client, (0 if down.is_ended or down.waiting else READ) | (WRITE if up.waiting else 0)
+
+
+class Dial:
+    """A client whose server is being connected."""
+
+    def __init__(self, client, addresses):
+        self.client, self.left, self.socket = client, list(addresses), None
+
+
+class Proxy:
+    """The loop; `most` is the number of connections after which it ends, and None where there is none."""
+
+    def __init__(self, recording, server, addresses, most, screen):
+        self.recording, self.server, self.addresses, self.most = recording, server, addresses, most
+        self.screen, self.selector = screen, selectors.DefaultSelector()
+        self.listening, self.links, self.dials, self.later = [], set(), set(), []
+        self.turned_away = self.refused = self.signals = 0  # for the server is not there; for there is no number
+        self.now = self.last = time.monotonic()
+        self.ending = None
+
+    # ---- clients
+
+    def listen(self, listening):
+        for one in listening:
+            self.listening.append(one)
+            self.selector.register(one, READ, self.accept)
+
+    def accept(self, one, _):
+        """Takes clients that wait."""
+        for _ in range(64):
+            try:
+                client = prompt(one.accept()[0])
+            except BlockingIOError:
+                return
+            except OSError as error:
+                if error.errno in (errno.EMFILE, errno.ENFILE, errno.ENOBUFS, errno.ENOMEM):
+                    self.pause(one, error)
+                    return
+                continue
+            if self.recording.open() + len(self.dials) < MOST_CONNECTIONS:
+                self.dial(Dial(client, self.addresses))
+            else:
+                self.refuse(client)
+
+    def pause(self, one, error):
+        """No client is taken for a while, since there is no room for sockets."""
+        self.screen.say(f"{os.strerror(error.errno)}: clients wait")
+        self.selector.unregister(one)
+        self.later.append(functools.partial(self.selector.register, one, READ, self.accept))
+
+    def refuse(self, client):
+        client.close()
+        self.refused += 1
+        if self.refused == 1:
+            self.screen.say(f"{MOST_CONNECTIONS} connections are open, as many as a recording has: others are refused")
+
+    # ---- the server
+
+    def dial(self, dial, fault=0):
+        """Connects the next address of the server."""
+        self.dials.add(dial)
+        while dial.left:
+            try:
+                dial.socket, fault = beginning(*dial.left[0])
+            except OSError as error:
+                fault = error.errno
+                break
+            if fault in (0, errno.EINPROGRESS):
+                self.selector.register(dial.socket, WRITE, functools.partial(self.dialed, dial))
+                return
+            dial.socket.close()
+            if fault == errno.EAGAIN:  # many wait at a Unix socket
+                self.later.append(functools.partial(self.dial, dial))
+                return
+            dial.left.pop(0)
+        self.turn_away(dial, fault)
+
+    def dialed(self, dial, one, _):
+        """A connection to the server is there, or has failed."""
+        self.selector.unregister(one)
+        fault = one.getsockopt(socket.SOL_SOCKET, socket.SO_ERROR)
+        if fault:
+            one.close()
+            dial.left.pop(0)
+            self.dial(dial, fault)
+            return
+        if self.turned_away:
+            self.screen.say(f"{self.server}: connected again; clients turned away: {self.turned_away}")
+            self.turned_away = 0
+        self.dials.discard(dial)
+        number = self.recording.begin()
+        if number is None:
+            one.close()
+            self.refuse(dial.client)
+            return
+        self.add(Link(dial.client, one, number, self.recording))
+
+    def turn_away(self, dial, fault):
+        self.dials.discard(dial)
+        dial.client.close()
+        if not self.turned_away:
+            self.screen.say(f"{self.server}: {os.strerror(fault)}: clients are turned away")
+        self.turned_away += 1
+
+    # ---- links
+
+    def add(self, link):
+        link.handler = functools.partial(self.handle, link)
+        self.links.add(link)
+        self.settle(link)
+
+    def handle(self, link, one, events):
+        if not link.is_closed:
+            if link.handle(one, events):
+                self.last = self.now
+            self.settle(link)
+
+    def settle(self, link):
+        """Closes a link that is over; else its sockets are waited for as it wants."""
+        if link.settle(self.now):
+            self.close(link)
+            return
+        for at, mask in enumerate(link.wanted()):
+            if mask == link.masks[at]:
+                continue
+            one = link.sockets[at]
+            if not mask:
+                self.selector.unregister(one)
+            elif link.masks[at]:
+                self.selector.modify(one, mask, link.handler)
+            else:
+                self.selector.register(one, mask, link.handler)
+            link.masks[at] = mask
+
+    def close(self, link):
+        link.is_closed = True
+        for one, mask in zip(link.sockets, link.masks):
+            if mask:
+                self.selector.unregister(one)
+            one.close()
+        self.links.discard(link)
+        self.recording.end(link.number)
+
+    # ---- the loop
+
+    def run(self):
+        """Passes bytes on until the end."""
+        look = second = self.now
+        while not self.is_done():
+            for key, events in self.selector.select(LOOK / 5 if self.ending or self.later else LOOK):
+                key.data(key.fileobj, events)
+            self.now = time.monotonic()
+            if self.recording.fault or self.recording.done == self.most:
+                self.end()
+            if self.now >= look:
+                look = self.now + LOOK / 5
+                self.look()
+            if self.now >= second:
+                second = self.now + 1
+                self.screen.show(self.status())
+        for link in list(self.links):
+            self.close(link)
+
+    def look(self):
+        """Does what was put off, and closes links whose time is over."""
+        later, self.later = self.later, []
+        for one in later:
+            one()
+        for link in list(self.links):
+            if link.until is not None or self.ending:
+                self.settle(link)
+
+    def status(self):
+        one = self.recording
+        return (f"{one.open()} connections open, {one.done} closed; {one.commands} commands, {one.sent_bytes} bytes sent,"
+                f" {one.answered_bytes} bytes back")
+
+    def signal(self, one, _):
+        """Signals came: the first begins the end, and a later one ends at once."""
+        self.signals += len(one.recv(64))
+        self.end()
+
+    def end(self):
+        """Takes nothing more of clients; answers to what they sent are waited for."""
+        if self.ending:
+            return
+        self.ending = self.now
+        self.later = []
+        connecting = [dial.socket for dial in self.dials if dial.socket]
+        for one in [*self.listening, *connecting]:
+            if one.fileno() >= 0 and one in self.selector.get_map():
+                self.selector.unregister(one)
+        forget([*self.listening, *connecting, *(dial.client for dial in self.dials)])
+        self.dials.clear()
+        for link in list(self.links):
+            link.is_taking = False
+            self.settle(link)
+
+    def is_done(self):
+        """Whether all has come, or enough was waited for it."""
+        if not self.ending:
+            return False
+        is_late = self.now > max(self.ending, self.last) + QUIET or self.now > self.ending + LONGEST
+        return not self.links or is_late or self.signals > 1

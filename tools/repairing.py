@@ -1,0 +1,87 @@
+"""Completes the files of a recording that was killed: its capture, and the replies file from the spool."""
+import os
+
+import ends
+from formats import END, capture_start, close
+from growing import Found, write_at
+from screen import write
+from spool import replies_of
+from targets import SPOOL, locked, naming
+
+
+def say(text):
+    write(f"{ends.NAME}: {text}\n")
+
+
+def opened(name):
+    """A capture that was left, and what there is in it."""
+    file = os.open(name, os.O_RDWR)
+    with naming(name):
+        return Found(file, name)
+
+
+def complete(found, closes, version, count):
+    """Makes it a whole capture in which connections have these numbers of close records."""
+    for connection, number in enumerate(closes):
+        found.add(close(connection) * (number - found.closes[connection]))
+    found.add(END)
+    write_at(found.file, capture_start(count, version), 0)
+
+
+def cut(found):
+    """Cuts a capture after its last whole record; says what it keeps of the next one."""
+    kept = found.cut()
+    return f", {kept[0]} of the {kept[1]} bytes of the last segment" if kept else ""
+
+
+def repair(names):
+    capture, replies = names
+    spool = replies + SPOOL
+    if not os.path.lexists(spool):
+        repair_capture(capture)
+        check_replies(replies)
+        return
+    back = Found(locked(spool), spool)
+    sent = opened(capture)
+    endings = [cut(sent), cut(back)]
+    closes = [max(pair) for pair in zip(sent.closes, back.closes)]
+    version, count = version_of(sent, closes, back.count_seen)
+    with naming(capture):
+        complete(sent, closes, version, count)
+    with naming(spool):
+        complete(back, closes, version, count)
+    with naming(replies):
+        replies_of(back.file, os.open(replies, os.O_RDWR | os.O_CREAT, 0o666), version, count)
+    os.unlink(spool)
+    say(f"{capture}: completed: {count} connections, {count + sum(closes)} sessions, {sum(sent.sizes)} bytes sent"
+        f"{endings[0]}")
+    say(f"{replies}: completed: {sum(back.sizes)} bytes back{endings[1]}")
+
+
+def version_of(sent, closes, seen):
+    """The version and the number of connections of a capture; what its head says, where that is set."""
+    if sent.is_growing():
+        return 2 if any(closes) else 1, max(sent.count_seen, seen)
+    return sent.version, sent.count
+
+
+def repair_capture(name):
+    """Completes a capture alone."""
+    sent = opened(name)
+    told = f"{sent.count} connections, {sum(sent.sizes)} bytes sent"
+    if sent.is_ended:
+        say(f"{name}: whole: {told}")
+        return
+    ending = cut(sent)
+    version, count = version_of(sent, sent.closes, 0)
+    with naming(name):
+        complete(sent, sent.closes, version, count)
+    say(f"{name}: completed: {count} connections, {sum(sent.sizes)} bytes sent{ending}")
+
+
+def check_replies(name):
+    """Whether a replies file is whole."""
+    names = [part.name for part in ends.parts(name)]
+    if names != ["replies"]:
+        ends.stop(f"{name}: no replies file, and there is no {name}{SPOOL} of which one could be made")
+    say(f"{name}: whole")

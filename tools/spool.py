@@ -1,0 +1,67 @@
+"""What comes back on connections, kept as it comes, and the replies file that is made of it.
+
+A spool is a capture (growing.py): its segments are what came, and its close records are those of the capture of what
+was sent. A replies file has each output whole, so the spool is gone over twice: for the lengths, and to put each piece
+at its place. What is in memory does not grow with it.
+"""
+import os
+
+from formats import END, Segment, capture_head, capture_records, output_start, replies_start
+from growing import Found, reading, write_at
+
+# how many bytes of outputs are gathered before they are written
+MOST_GATHERED = 1 << 23
+
+
+class Outputs:
+    """The outputs of one connection, which are put into a file at their places: `begin` is that of the current one."""
+
+    def __init__(self, file, version, connection, begin):
+        self.file, self.version, self.connection, self.session = file, version, connection, 0
+        self.head = len(output_start(version, 0, 0, 0))
+        self.begin, self.at, self.text = begin, begin + self.head, bytearray()
+
+    def write(self):
+        """Writes what was gathered."""
+        write_at(self.file, bytes(self.text), self.at)
+        self.at += len(self.text)
+        self.text.clear()
+
+    def end(self):
+        """Ends the output of a session."""
+        self.write()
+        length = self.at - self.begin - self.head
+        write_at(self.file, output_start(self.version, self.connection, self.session, length), self.begin)
+        self.session, self.begin, self.at = self.session + 1, self.at, self.at + self.head
+
+
+def all_outputs(found, file, version, count):
+    """The outputs of all connections, and the place after them."""
+    outputs, place = [], len(replies_start(version))
+    for connection in range(count):
+        outputs.append(Outputs(file, version, connection, place))
+        place += outputs[-1].head * (found.closes[connection] + 1) + found.sizes[connection]
+    return outputs, place
+
+
+def replies_of(spool, file, version, count):
+    """Writes the replies file of a spool; both are open files. Gives how many bytes came back."""
+    found = Found(spool)
+    outputs, place = all_outputs(found, file, version, count)
+    part, gathered = reading(spool), 0
+    for record in capture_records(part, *capture_head(part)):
+        if not isinstance(record, Segment):
+            outputs[record.connection].end()
+            continue
+        outputs[record.connection].text += record.text
+        gathered += len(record.text)
+        if gathered > MOST_GATHERED:
+            gathered = 0
+            for one in outputs:
+                one.write()
+    for one in outputs:
+        one.end()
+    write_at(file, END, place)
+    os.ftruncate(file, place + len(END))
+    write_at(file, replies_start(version), 0)
+    return sum(found.sizes)

@@ -1,0 +1,101 @@
+"""The files that a recording writes: all are opened before it begins, and none is changed until it has begun."""
+import contextlib
+import errno
+import fcntl
+import os
+import shutil
+import stat
+import sys
+import tempfile
+
+import ends
+
+SPOOL = ".spool"
+
+
+@contextlib.contextmanager
+def naming(name):
+    """Faults that name no file get this name."""
+    try:
+        yield
+    except OSError as error:
+        name = "standard output" if name == "-" else name
+        raise OSError(error.errno, error.strerror, error.filename or name) from None
+
+
+class Target:
+    """A file that is written. `file` can be read and written at any place: it is the file itself or, for standard
+    output, pipes and devices, a temporary one whose bytes are passed on at the end."""
+
+    def __init__(self, name):
+        self.name, self.out, self.is_made = name, None, name != "-" and not os.path.lexists(name)
+        if name == "-":
+            self.out = sys.stdout.fileno()
+        elif self.is_made or stat.S_ISREG(os.stat(name).st_mode):
+            self.file = os.open(name, os.O_RDWR | os.O_CREAT, 0o666)
+        else:
+            self.out = os.open(name, os.O_WRONLY)
+        self.is_plain = self.out is None
+        if not self.is_plain:
+            self.kept = tempfile.TemporaryFile()
+            self.file = self.kept.fileno()
+
+    def pass_on(self):
+        """Passes on what is in a temporary file."""
+        if self.is_plain:
+            return
+        self.kept.seek(0)
+        with open(self.out, "wb", closefd=False) as out:
+            shutil.copyfileobj(self.kept, out, 1 << 20)
+
+
+def locked(name, flags=0):
+    """A spool that is opened, and that no other recording may use now."""
+    file = os.open(name, os.O_RDWR | flags, 0o666)
+    try:
+        fcntl.flock(file, fcntl.LOCK_EX | fcntl.LOCK_NB)
+    except BlockingIOError:
+        ends.stop(f"{name}: another recording writes this file")
+    return file
+
+
+class Files:
+    """The files of a recording: what is sent, what comes back, and its spool."""
+
+    def __init__(self, names):
+        self.targets, self.spool_name = [], None
+        try:
+            for name in names:
+                self.targets.append(Target(name))
+            self.capture, self.replies = self.targets
+            if os.path.samestat(os.fstat(self.capture.file), os.fstat(self.replies.file)):
+                raise OSError(errno.EEXIST, "both files cannot be this one", names[1])
+            self.open_spool()
+        except BaseException:
+            self.take_back()
+            raise
+
+    def open_spool(self):
+        if not self.replies.is_plain:
+            self.kept = tempfile.TemporaryFile()
+            self.spool = self.kept.fileno()
+            return
+        name = self.replies.name + SPOOL
+        try:
+            self.spool = locked(name, os.O_CREAT | os.O_EXCL)
+        except FileExistsError:
+            locked(name)
+            raise OSError(errno.EEXIST, "left by a recording that did not end; complete that with --repair", name) \
+                from None
+        self.spool_name = name
+
+    def take_back(self):
+        """Removes what was made for a recording that does not begin."""
+        for target in self.targets:
+            if target.is_made:
+                os.unlink(target.name)
+        self.remove_spool()
+
+    def remove_spool(self):
+        if self.spool_name is not None:
+            os.unlink(self.spool_name)
