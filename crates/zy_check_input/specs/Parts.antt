@@ -17,6 +17,7 @@ use Rattle.zy_journal_reader.specs.Verdict as Journals
 use Rattle.zy_check_input.specs.declared.parts.Parts.{Parts}
 use Rattle.zy_check_input.specs.declared.stop.Refusal.{Refusal}
 use Rattle.zy_check_input.specs.declared.stop.Refusal.TheVariants.{Capture, Journal as OfJournal, Replies as OfReplies, Pcap}
+use Rattle.zy_read.specs.Bytes.{AreBytes}
 use Rattle.zy_read.specs.declared.stop.Stop.{Stop}
 use Rattle.zy_read.specs.declared.stop.Stop.TheVariants.{Refused, ReadFault, NoMemory}
 
@@ -96,9 +97,9 @@ IsPartFault refusal = (text : List ℕ) × HasPartFault text refusal
 
 -- ---- reading
 
--- the source held these bytes, if that is known, and is at its end
+-- the source held these bytes, if that is known, and is at its end; and each number is that of a byte
 abbrev pub ReadsAll : Option (List ℕ) → Option (List ℕ) → List ℕ → Type 0
-ReadsAll before after bytes = Consumes before after bytes × IsAtEnd after
+ReadsAll before after bytes = Consumes before after bytes × IsAtEnd after × AreBytes bytes
 
 -- the parts are those of all that the source gave; or some input has this fault, and the source's text
 -- has it, if that is known; or the count of faults rose, or is at its largest value; `NoMemory` needs no cause
