@@ -1,7 +1,6 @@
 -- What a source gives, what a sink takes, and when they fail.
 use Rattle.std.specs.Prelude.{◌≡◌, ◌⊎◌, ⊤, ℕ, ◌+◌, ◌-◌, ◌^◌, ◌<◌, ◌≤◌, min, Bool, true}
 use Rattle.std.specs.Prelude.{List, [], ◌++◌, length, take, Option, None, Some, Result, MatchResult, OnOk, OnErr}
-use Rattle.std.specs.Io.KnownBytes.{Consumes, IsAtEnd}
 
 -- the count of faults rose, or is at its largest value
 abbrev pub Rose : ℕ → ℕ → Type 0
@@ -10,10 +9,6 @@ Rose before after = (before < after) ⊎ (2 ^ 64 - 1 ≤ after)
 -- a count plus one, which stays at its largest value
 abbrev pub one_more : ℕ → ℕ
 one_more count = min (count + 1) (2 ^ 64 - 1)
-
--- the source held these bytes, if that is known, and is at its end
-abbrev pub ReadsAll : Option (List ℕ) → Option (List ℕ) → List ℕ → Type 0
-ReadsAll before after bytes = Consumes before after bytes × IsAtEnd after
 
 -- if the bytes held are known afterwards, they were known before, and these were appended
 abbrev pub Grew : Option (List ℕ) → Option (List ℕ) → List ℕ → Type 0

@@ -1,14 +1,15 @@
 -- What is read of a part, piece after piece, for all kinds of parts.
-use Rattle.std.proofs.Common.{◌≡◌, ◌⊎◌, inl, inr, ℕ, ◌<◌, ◌≤◌, Bool, true, false, List, [], ◌++◌, length, take, drop, refl, sym, ◌∙◌, ap, subst, arith, append_assoc}
+use Rattle.std.proofs.Common.{◌≡◌, inl, ℕ, ◌<◌, ◌≤◌, Bool, true, false, List, [], ◌++◌, length, take, drop, refl, sym, ◌∙◌, ap, subst, arith, append_assoc}
 use Rattle.std.specs.Prelude.{Option, Result, Ok, Err}
 use Rattle.std.specs.Io.KnownBytes.{Consumes}
-use Rattle.std.proofs.lemmas.List.{append-nil, take-append-drop, length-take-le}
+use Rattle.std.proofs.lemmas.List.{take-append-drop, length-take-le}
 use Rattle.zy_read.specs.declared.stop.Stop.{Stop}
 use Rattle.zy_check_input.specs.declared.stop.Refusal.{Refusal}
 use Rattle.zy_read.specs.declared.stop.Stop.TheVariants.{Refused, ReadFault, NoMemory}
-use Rattle.zy_read.specs.Piece.{HasGiven, IsOver}
-use Rattle.zy_read.proofs.SourceLemmas.{told_first, told_all}
-use Rattle.zy_check_input.specs.Reading.{Kind, HasStopped, HasFaultBehind, Takes, EndsWhole, EndsCut, Advances, Reads}
+use Rattle.zy_read.specs.Bytes.{AreBytes}
+use Rattle.zy_read.specs.Piece.{HasGiven}
+use Rattle.zy_read.proofs.SourceLemmas.{told_first}
+use Rattle.zy_check_input.specs.Reading.{Kind, HasFaultBehind, Takes, Advances}
 
 -- ---- further bytes
 
@@ -28,6 +29,7 @@ given_on : {S : Type 0} (rest : S → Option (List ℕ)) (faults : S → ℕ) (f
     → HasGiven rest faults first now (drop count left) (before ++ (bytes ++ take count left))
 given_on rest faults first now left before bytes count given = record {
   source = subst (λ (l : List ℕ). Consumes (rest first) (rest now) l) (taken_from before bytes left count) given.source;
+  bytes = subst AreBytes (taken_from before bytes left count) given.bytes;
   count = given.count;
 }
 

@@ -1,7 +1,7 @@
 -- The verdict on a whole text as a journal: the journal that it spells, or its first fault. A text
 -- is read from its first byte to its last. That it is good exactly where it is a spelling, and bad
 -- exactly where it has a fault of specs/Faults.antt, are laws in src/laws.rt.
-use Rattle.std.specs.Prelude.{◌≡◌, ℕ, ◌<◌, ◌≤◌, Bool, true, false, List, length, Option, ⊤}
+use Rattle.std.specs.Prelude.{◌≡◌, ℕ, ◌≤◌, Bool, true, false, List, length, Option, ⊤}
 use Rattle.std.specs.List.{AllByRecursion}
 use Rattle.zy_base.specs.declared.file_fault.FileFault.{FileFault}
 use Rattle.zy_base.specs.declared.file_fault.FileFault.TheVariants.{Truncated}

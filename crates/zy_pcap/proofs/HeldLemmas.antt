@@ -8,7 +8,7 @@ use Rattle.std.proofs.lemmas.Bool.Decides.{nat_tests}
 use Rattle.std.proofs.lemmas.List.{get_or-drop, get_or_append_left, get_or-append_right, length-append, length-drop}
 use Rattle.zy_pcap.specs.declared.chunk.Chunk.{Chunk}
 use Rattle.zy_pcap.specs.Session.{first_of}
-use Rattle.zy_pcap.specs.Chunk.{byte_in, byte_within, held, held_in, covered, HoldsSame, HoldsBoth, AreThere, HoldsFrom, Held, byte_held}
+use Rattle.zy_pcap.specs.Chunk.{byte_in, held, held_in, covered, HoldsSame, HoldsBoth, AreThere, HoldsFrom, Held, byte_held}
 use Rattle.zy_pcap.proofs.ChunkLemmas.{first_none, first_assoc}
 use Rattle.zy_pcap.proofs.CoverLemmas.{covered_in, covered_above}
 

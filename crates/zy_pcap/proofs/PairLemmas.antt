@@ -1,5 +1,5 @@
 -- Lists whose elements belong together one by one.
-use Rattle.std.proofs.Common.{◌≡◌, ℕ, zero, suc, ◌+◌, List, [], ◌∷◌, ◌++◌, length, set, replicate, refl, ap, ◌∙◌, add-one}
+use Rattle.std.proofs.Common.{◌≡◌, ℕ, zero, suc, List, [], ◌∷◌, ◌++◌, length, set, refl, ap}
 use Rattle.std.specs.Prelude.{slice_get, slice_set}
 use Rattle.zy_pcap.specs.Pairs.{BothOrNone, AllPairs}
 

@@ -1,6 +1,7 @@
 -- What a call saw of its source and of its sink.
 use Rattle.std.specs.Prelude.{◌≡◌, ℕ, List, [], Option, None, Some, ⊤}
-use Rattle.zy_base.specs.Outside.{Rose, Grew, GrewByPrefix, ReadsAll}
+use Rattle.zy_base.specs.Outside.{Rose, Grew, GrewByPrefix}
+use Rattle.zy_read.specs.Bytes.{ReadsAll}
 
 -- a source or a sink, before a call and after it: the bytes that the source has left, or the sink holds, where it
 -- reports them, and the count of its faults

@@ -1,6 +1,6 @@
-use Rattle.std.proofs.Common.{◌≡◌, ℕ, List, [], ◌∷◌, ◌++◌, length, ap, ◌∙◌, sym, subst}
-use Rattle.std.specs.Prelude.{Err, Result, ⊤, Option}
-use Rattle.zy_base.specs.Outside.{Grew, Writes}
+use Rattle.std.proofs.Common.{◌≡◌, ℕ, List, [], ◌∷◌, ◌++◌, subst}
+use Rattle.std.specs.Prelude.{Err}
+use Rattle.zy_base.specs.Outside.{Writes}
 use Rattle.zy_base.proofs.WritingLemmas.{writes_on, writes_no_more}
 use Rattle.zy_capture.specs.Replies.{numbered_from}
 use Rattle.zy_pcap.specs.Made.{capture_of}

@@ -1,4 +1,4 @@
-use Rattle.std.proofs.Common.{◌≡◌, ℕ, List, ◌++◌, length, ap, ◌∙◌, sym, subst}
+use Rattle.std.proofs.Common.{◌≡◌, ℕ, List, ◌++◌, ap, ◌∙◌, sym, subst}
 use Rattle.std.specs.Prelude.{Err}
 use Rattle.zy_base.specs.Outside.{Writes}
 use Rattle.zy_base.proofs.WritingLemmas.{writes_on, writes_no_more}

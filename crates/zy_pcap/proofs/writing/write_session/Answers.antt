@@ -1,10 +1,10 @@
-use Rattle.std.proofs.Common.{◌≡◌, ℕ, suc, List, ◌++◌, ◌∙◌, sym, subst, arith}
+use Rattle.std.proofs.Common.{ℕ, List, sym, subst, arith}
 use Rattle.std.specs.Prelude.{Err}
 use Rattle.zy_base.specs.Outside.{Writes}
 use Rattle.zy_base.proofs.WritingLemmas.{writes_on, writes_no_more}
 use Rattle.zy_pcap.specs.Session.{longest}
 use Rattle.zy_pcap.specs.Chunk.{byte_held}
-use Rattle.zy_pcap.specs.Texts.{close_text, stream_text, session_text}
+use Rattle.zy_pcap.specs.Texts.{close_text, stream_text}
 use Rattle.zy_pcap.proofs.TextLemmas.{first_session, later_session}
 use Rattle.zy_pcap.proofs.writing.write_session.Goals as goal
 

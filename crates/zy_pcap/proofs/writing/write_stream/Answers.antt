@@ -1,5 +1,5 @@
-use Rattle.std.proofs.Common.{◌≡◌, ◌<◌, ◌≤◌, ◌+◌, ◌-◌, ◌^◌, ◌++◌, ℕ, List, [], length, ap, ◌∙◌, sym, subst, refl, arith, append_assoc}
-use Rattle.std.specs.Prelude.{Ok, Err}
+use Rattle.std.proofs.Common.{◌≡◌, ◌+◌, ◌-◌, ◌^◌, ◌++◌, ℕ, List, [], length, ap, ◌∙◌, sym, subst, refl, arith, append_assoc}
+use Rattle.std.specs.Prelude.{Err}
 use Rattle.std.proofs.lemmas.List.{append-nil}
 use Rattle.zy_base.specs.Outside.{Grew, Writes}
 use Rattle.zy_base.proofs.WritingLemmas.{grew_nothing, grew_on, writes_on, writes_no_more}
