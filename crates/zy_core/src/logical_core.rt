@@ -117,8 +117,8 @@ impl Core {
         Ok(Turn::of(received, collected, own, looks, &self.home))
     }
 
-    // Shows the outlet and the feeder's inlet what the other end did.
-    pub(crate) fn meet<F: Feeder>(&mut self, feeder: &mut F)
+    /// Shows the outlet and the feeder's inlet what the other end did.
+    pub fn meet<F: Feeder>(&mut self, feeder: &mut F)
         requires ring { slice_get (rings_of (F.inlets feeder.old)) self.old.home.core ≡ Some self.old.outlet.ring }
         ensures core { self.new ≡ record self.old {
           outlet = record self.old.outlet { known = self.new.outlet.known };
@@ -130,15 +130,15 @@ impl Core {
         feeder.meet(self.number, &mut self.outlet);
     }
 
-    // Its number.
-    pub(crate) fn number(&self) -> u32
+    /// Its number.
+    pub fn number(&self) -> u32
         ensures value { result ≡ self.now.home.core }
     {
         self.number
     }
 
-    // The core counts itself if it is settled and has not done so yet. Says whether it did so.
-    pub(crate) fn note(&mut self, shared: &Shared) -> bool
+    /// The core counts itself if it is settled and has not done so yet. Says whether it did so.
+    pub fn note(&mut self, shared: &Shared) -> bool
         requires fits { Fits shared.now (identity_of self.old) }
         ensures same { identity_of self.new ≡ identity_of self.old }
     {
@@ -149,8 +149,8 @@ impl Core {
         false
     }
 
-    // Whether all cores have counted themselves. Then this one is settled.
-    pub(crate) fn is_done(&mut self, shared: &Shared) -> bool
+    /// Whether all cores have counted themselves. Then this one is settled.
+    pub fn is_done(&mut self, shared: &Shared) -> bool
         requires fits { Fits shared.now (identity_of self.old) }
         ensures settled { result ≡ true → is_settled self.new.home ≡ true }
         ensures same { identity_of self.new ≡ identity_of self.old }
@@ -289,8 +289,8 @@ impl Core {
         self.home.is_settled()
     }
 
-    // Whether its home was refused memory.
-    pub(crate) fn is_refused(&self) -> bool
+    /// Whether its home was refused memory.
+    pub fn is_refused(&self) -> bool
         ensures value { result ≡ self.now.home.refused }
     {
         self.home.is_refused()

@@ -11,7 +11,7 @@ use Rattle.zy_feed.specs.declared.intake.Header.{Header}
 use Rattle.zy_feed.specs.Feeding.{AreUnsent}
 use Rattle.zy_core.specs.Share.{Sharing}
 use Rattle.zy_core.specs.Core.{Cored, Identity, identity_of}
-use Rattle.zy_core.specs.Drive.{AreCores, AreInlets, EachSettled, identities}
+use Rattle.zy_core.specs.Cores.{AreCores, AreInlets, EachSettled, identities}
 use Rattle.zy_setup.specs.declared.starting.Started.{Started}
 use Rattle.zy_setup.specs.Start.{IsStart}
 use Rattle.zy_setup.specs.Station.{Station, station_of, station_in, stations_of, stations_in, rings_in}

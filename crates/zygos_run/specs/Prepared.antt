@@ -6,7 +6,7 @@ use Rattle.zy_capture.specs.Capture.{connection_limit}
 use Rattle.zy_rx.specs.Feed.{rings_of, sent_by}
 use Rattle.zy_feed.specs.Feeding.{AreUnsent}
 use Rattle.zy_command_line.specs.declared.request.Run.{Run}
-use Rattle.zy_core.specs.Drive.{AreCores, AreInlets, EachSettled, identities}
+use Rattle.zy_core.specs.Cores.{AreCores, AreInlets, EachSettled, identities}
 use Rattle.mc_store.specs.Root.{IsRootOf}
 use Rattle.zy_setup.specs.Station.{Station, stations_in, rings_in}
 use Rattle.zygos_run.specs.declared.run.prepare.Prepared.{Prepared}

@@ -4,7 +4,8 @@ ghost use Rattle.zy_feed.specs.Reads.{HasBegun, StopsBy};
 ghost use Rattle.zy_feed.specs.Feeding.{HasFedAll};
 ghost use Rattle.zy_rx.specs.Feed.{rings_of, sent_by};
 ghost use Rattle.zy_command_line.specs.Range.{IsRunnable};
-ghost use Rattle.zy_core.specs.Drive.{AreCores, AreInlets, EachSettled, IsSettled, IsBroken, identities, cores_of};
+ghost use Rattle.zy_core.specs.Cores.{AreCores, AreInlets, EachSettled, identities};
+ghost use Rattle.zy_drive.specs.Drive.{IsSettled, IsBroken, cores_of};
 ghost use Rattle.zygos_run.specs.Prepared.{IsPrepared, IsDriven};
 
 use crate::run::prepare::Prepared;
@@ -14,7 +15,8 @@ use std::sync::Wait;
 use std::thread::Threads;
 use zy_base::{Gate, NoMemory, Source};
 use zy_command_line::Run;
-use zy_core::{Cores, Driven, Shared, drive, drive_ordered};
+use zy_core::{Cores, Shared};
+use zy_drive::{Driven, drive, drive_ordered};
 use zy_feed::{
     CaptureFeeder, Header, Inlets, Stop, a_broken_feeder_has_its_cause,
     a_feeder_that_ended_has_offered_the_capture,

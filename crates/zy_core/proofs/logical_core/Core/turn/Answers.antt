@@ -5,7 +5,7 @@ use Rattle.zy_core.specs.Share.{Sharing, sharing}
 use Rattle.zy_core.specs.Core.{Cored, cored, identity_of, Fits}
 use Rattle.zy_home.specs.Home.{is_settled}
 use Rattle.zy_core.specs.Turn.{HasSteps, TurnTo, answer}
-use Rattle.zy_core.proofs.CoreLemmas.{passes_fit}
+use Rattle.zy_core.proofs.PassLemmas.{passes_fit}
 use Rattle.zy_core.proofs.KeepLemmas.{Moved, received, looked, moved_on, Stays, stays_same, stays_stolen, keeps_on, same_on}
 use Rattle.zy_core.proofs.TurnLemmas.{Claimed, claimed_turn, looked_turn, claimed_steps, other_steps}
 use Rattle.zy_core.proofs.logical_core.Core.turn.Goals as goal

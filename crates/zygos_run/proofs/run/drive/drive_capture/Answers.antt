@@ -2,8 +2,8 @@ use Rattle.std.proofs.Common.{rules, ◌≡◌, ◌≤◌, length, refl, sym, ap
 use Rattle.zy_rx.specs.Feed.{sent_by}
 use Rattle.zy_feed.specs.Reads.{StopsBy}
 use Rattle.zy_feed.specs.Feeding.{stop_in, HasFedAll}
-use Rattle.zy_core.specs.declared.driven.Driven.{Driven}
-use Rattle.zy_core.specs.Drive.{IsSettled}
+use Rattle.zy_drive.specs.declared.driven.Driven.{Driven}
+use Rattle.zy_drive.specs.Drive.{IsSettled}
 use Rattle.zygos_run.proofs.FeedLemmas.{fed, stopped, counted}
 use Rattle.zygos_run.proofs.PreparedLemmas.{driven_of, driven_count, rings_count}
 use Rattle.zygos_run.proofs.run.drive.drive_capture.Goals as goal

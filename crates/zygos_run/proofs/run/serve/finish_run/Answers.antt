@@ -1,6 +1,6 @@
 use Rattle.std.proofs.Common.{◌≡◌, ◌∙◌, List, length, sym, ap, subst, ℕ}
 use Rattle.mc_store.specs.Pass.{Stored}
-use Rattle.zy_core.specs.Drive.{identities}
+use Rattle.zy_core.specs.Cores.{identities}
 use Rattle.std.specs.List.{AllByRecursion}
 use Rattle.zy_home.specs.Home.{Homed}
 use Rattle.zy_core.specs.Core.{Cored}

@@ -1,0 +1,128 @@
+//! The groups of all threads.
+ghost use Rattle.std.specs.Prelude.{◌≡◌, ◌+◌, ◌≤◌, ◌++◌, true, length, vec_len, vec_capacity};
+ghost use Rattle.zy_core.specs.Cores.{EachFits};
+ghost use Rattle.zy_drive.specs.Group.{AllAt};
+ghost use Rattle.zy_drive.specs.Seat.{seat_identities, all_of_seats, all_of_groups, AllFit, AllSettled};
+
+use crate::round::Round;
+use crate::threads::group::Group;
+use crate::threads::resting::Resters;
+use crate::threads::seat::{Seat, join_seat, start_group};
+use std::sync::Wait;
+use std::sync::atomic::AtomicU64;
+use std::thread::{Scope, Threads};
+use zy_base::{Gate, NoMemory};
+use zy_core::{Core, Shared};
+use zy_park::Bells;
+
+// Starts a thread for each group, in turn, which rests where it drives one core and has its pass.
+pub(crate) fn start_all<'s, E, R: Wait + Sync, G: Gate + Sync>(
+    scope: &Scope<'s, E>,
+    rt: &'s R,
+    groups: Vec<Vec<Core>>,
+    resters: Resters,
+    seats: &mut Vec<Seat>,
+    shared: &'s Shared,
+    bells: &'s Bells,
+    gate: &'s G,
+    leave: &'s AtomicU64,
+)
+    requires few { vec_len groups ≤ 64 }
+    requires room { vec_len seats.old + vec_len groups ≤ vec_capacity seats.old }
+    requires fits { AllFit shared.now (all_of_groups groups.items) }
+    requires bells { AllAt bells.now resters }
+    requires count { length bells.now ≡ length shared.now.rings }
+    ensures same { all_of_seats seats.new.items ≡ all_of_seats seats.old.items ++ all_of_groups groups.items }
+    ensures len { vec_len seats.new ≡ vec_len seats.old + vec_len groups }
+{
+    let mut groups = groups;
+    let mut resters = resters;
+    let count = groups.len();
+    for t in 0..count {
+        let group = Group::new(groups.remove(0));
+        let rester = resters.next(&group);
+        let seat = start_group(scope, rt, group, rester, shared, bells, gate, leave, 1 << t);
+        seats.push_reserved(seat);
+    }
+    drop(resters);
+}
+
+// A turn of each core that is with the caller. Says whether others may have something to do since.
+pub(crate) fn go_on_here<G: Gate>(
+    seats: &mut Vec<Seat>,
+    shared: &Shared,
+    gate: &G,
+) -> Result<bool, NoMemory>
+    requires fits { AllFit shared.now (all_of_seats seats.old.items) }
+    ensures same { all_of_seats seats.new.items ≡ all_of_seats seats.old.items }
+    ensures len { vec_len seats.new ≡ vec_len seats.old }
+{
+    let mut calls = false;
+    for i in 0..seats.len() {
+        let seat = &mut seats[i];
+        let round = go_on_seat(seat, shared, gate)?;
+        calls = calls || round.calls_up();
+    }
+    Ok(calls)
+}
+
+// A turn of each core of a group that is with the caller and not done.
+fn go_on_seat<G: Gate>(seat: &mut Seat, shared: &Shared, gate: &G) -> Result<Round, NoMemory>
+    requires fits { EachFits shared.now (seat_identities seat.old) }
+    ensures same { seat_identities seat.new ≡ seat_identities seat.old }
+{
+    match seat {
+        Seat::Away(_) => Ok(Round::Idle),
+        Seat::Here(group) => {
+            if group.is_done() {
+                return Ok(Round::Idle);
+            }
+            group.go_on(shared, gate)
+        }
+    }
+}
+
+// Whether a group is with the caller.
+pub(crate) fn are_some_here(seats: &[Seat]) -> bool {
+    for seat in seats {
+        if let Seat::Here(_) = seat {
+            return true;
+        }
+    }
+    false
+}
+
+// Whether each group that is with the caller is done.
+pub(crate) fn are_done_here(seats: &[Seat]) -> bool {
+    for seat in seats {
+        if let Seat::Here(group) = seat {
+            if !group.is_done() {
+                return false;
+            }
+        }
+    }
+    true
+}
+
+// The cores of all groups, once their threads have ended, and whether all found that all are done.
+pub(crate) fn join_all<R: Threads>(rt: &R, seats: Vec<Seat>, back: &mut Vec<Vec<Core>>) -> bool
+    requires room { vec_len back.old + vec_len seats ≤ vec_capacity back.old }
+    ensures same { all_of_groups back.new.items ≡ all_of_groups back.old.items ++ all_of_seats seats.items }
+    ensures settled { result ≡ true → AllSettled back.old.items → AllSettled back.new.items }
+{
+    let mut seats = seats;
+    let mut all = true;
+    for _ in 0..seats.len() {
+        let (cores, is_done) = join_seat(rt, seats.remove(0));
+        back.push_reserved(cores);
+        all = both(all, is_done);
+    }
+    all
+}
+
+// Whether both are so.
+fn both(one: bool, other: bool) -> bool
+    ensures value { result ≡ true → (one ≡ true) × (other ≡ true) }
+{
+    one && other
+}
