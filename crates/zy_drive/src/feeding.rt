@@ -37,9 +37,13 @@ pub(crate) struct Step {
     pub(crate) is_ended: bool,
 }
 
-// Makes one step of a feeder that has not ended. Returns what it came to, and `None` if the feeder is
-// broken.
-pub(crate) fn feed_once<F: Feeder>(feeder: &mut F, is_ended: bool) -> Option<Step>
+// Makes one step of a feeder that has not ended; where there is other work, only one that need not
+// wait. Returns what it came to, and `None` if the feeder is broken.
+pub(crate) fn feed_once<F: Feeder>(
+    feeder: &mut F,
+    is_ended: bool,
+    has_work: bool,
+) -> Option<Step>
     requires ended { is_ended ≡ true → F.ended feeder.old }
     requires fresh { is_ended ≡ false → ¬ F.ended feeder.old × ¬ F.broken feeder.old }
     ensures ended { IfSome result (λ s. s.is_ended ≡ true → F.ended feeder.new) }
@@ -48,7 +52,7 @@ pub(crate) fn feed_once<F: Feeder>(feeder: &mut F, is_ended: bool) -> Option<Ste
     ensures leads { F.leads feeder.old feeder.new }
     ensures rings { rings_of (F.inlets feeder.new) ≡ rings_of (F.inlets feeder.old) }
 {
-    if is_ended {
+    if is_ended || (has_work && feeder.may_wait()) {
         return Some(Step {
             has_offered: false,
             is_ended,

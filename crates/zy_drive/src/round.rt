@@ -1,12 +1,13 @@
 //! What a round of a group of cores came to.
+ghost use Rattle.std.specs.Prelude.{◌≢◌};
 
 // What a round of turns of a group of cores came to.
 #[derive(Clone, Copy, Drop, PartialEq, Eq)]
 pub(crate) enum Round {
-    // A turn worked.
+    // A turn worked, or a core counted itself.
     Worked,
-    // None worked, and a core counted itself.
-    Counted,
+    // A turn worked, and its hold ended at a busy shard.
+    Busy,
     // The one core of the group rested.
     Rested,
     // There was nothing to do.
@@ -14,15 +15,25 @@ pub(crate) enum Round {
 }
 
 impl Round {
-    // A round in which a turn worked or none did.
-    pub(crate) fn of(worked: bool) -> Round {
-        if worked { Round::Worked } else { Round::Idle }
+    // This round with a further one, neither of which is a rest.
+    pub(crate) fn with(self, other: Round) -> Round
+        ensures awake { result ≢ Round.Rested }
+    {
+        match (self, other) {
+            (Round::Busy, _) | (_, Round::Busy) => Round::Busy,
+            (Round::Worked, _) | (_, Round::Worked) => Round::Worked,
+            _ => Round::Idle,
+        }
     }
 
-    // This round, after which a core counted itself or none did.
-    pub(crate) fn then(self, counted: bool) -> Round {
+    // This round, after which a core counted itself or none did. A core becomes settled in a turn that
+    // works, and counts itself after it, so a round that counts has worked already. It is said here all
+    // the same, so that the last count calls up whatever the turns came to.
+    pub(crate) fn then(self, counted: bool) -> Round
+        ensures awake { self ≢ Round.Rested → result ≢ Round.Rested }
+    {
         match self {
-            Round::Idle if counted => Round::Counted,
+            Round::Idle if counted => Round::Worked,
             round => round,
         }
     }
@@ -30,7 +41,7 @@ impl Round {
     // Whether cores that rest may have something to do since.
     pub(crate) fn calls_up(self) -> bool {
         match self {
-            Round::Worked | Round::Counted => true,
+            Round::Worked | Round::Busy => true,
             Round::Rested | Round::Idle => false,
         }
     }

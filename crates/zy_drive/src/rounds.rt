@@ -1,51 +1,54 @@
 //! Turns of several cores.
-ghost use Rattle.std.specs.Prelude.{◌≡◌, true};
+ghost use Rattle.std.specs.Prelude.{◌≡◌, ◌≢◌, true, IfOk};
 ghost use Rattle.zy_core.specs.Core.{Fits, identity_of};
 ghost use Rattle.zy_core.specs.Cores.{identities, EachFits, EachSettled};
 
+use crate::round::Round;
 use zy_base::{Gate, NoMemory};
 use zy_core::{Core, Shared, Turn};
 
 // The most turns of a core.
 pub(crate) const TURN_LIMIT: u64 = 1 << 48;
 
-// A turn of one core, where it may take one. Says whether it worked.
+// A turn of one core, where it may take one.
 pub(crate) fn turn_one<G: Gate>(
     core: &mut Core,
     shared: &Shared,
     gate: &G,
-) -> Result<bool, NoMemory>
+) -> Result<Round, NoMemory>
     requires fits { Fits shared.now (identity_of core.old) }
     ensures same { identity_of core.new ≡ identity_of core.old }
+    ensures awake { IfOk result (λ round. round ≢ Round.Rested) }
 {
     if core.is_refused() {
         return Err(NoMemory);
     }
     if core.turns() >= TURN_LIMIT {
-        return Ok(false);
+        return Ok(Round::Idle);
     }
     match core.turn(shared, gate)? {
-        Turn::Worked => Ok(true),
-        _ => Ok(false),
+        Turn::Worked => Ok(Round::Worked),
+        _ => Ok(Round::Idle),
     }
 }
 
-// A turn of each core. Says whether one of them worked.
+// A turn of each core.
 pub(crate) fn turn_each<G: Gate>(
     cores: &mut Vec<Core>,
     shared: &Shared,
     gate: &G,
-) -> Result<bool, NoMemory>
+) -> Result<Round, NoMemory>
     requires fits { EachFits shared.now (identities cores.old.items) }
     ensures same { identities cores.new.items ≡ identities cores.old.items }
+    ensures awake { IfOk result (λ round. round ≢ Round.Rested) }
 {
-    let mut worked = false;
+    let mut round = Round::Idle;
     for i in 0..cores.len() {
         let core = &mut cores[i];
-        let some = turn_one(core, shared, gate)?;
-        worked = worked || some;
+        let turn = turn_one(core, shared, gate)?;
+        round = round.with(turn);
     }
-    Ok(worked)
+    Ok(round)
 }
 
 // Each core that is settled counts itself, once. Says whether one of them did so.

@@ -1,6 +1,6 @@
 //! Cores on threads, fed by the caller.
-ghost use Rattle.std.specs.Prelude.{◌≡◌, ◌≤◌, true, length, vec_len, vec_capacity};
-ghost use Rattle.zy_drive.specs.Deal.{gathered, lists_of};
+ghost use Rattle.std.specs.Prelude.{◌≡◌, ◌≤◌, true, length, vec_len, vec_capacity, IfOk};
+ghost use Rattle.zy_drive.specs.Deal.{gathered, lists_of, AreEmpty, HaveRoom};
 ghost use Rattle.zy_core.specs.Cores.{identities, AreCores, EachSettled};
 ghost use Rattle.zy_drive.specs.Drive.{cores_of, IsSettled, IsBroken};
 ghost use Rattle.zy_park.specs.Pass.{GaveNone};
@@ -9,9 +9,11 @@ ghost use Rattle.zy_rx.specs.Feed.{rings_of};
 mod alone;
 mod caller;
 mod dealing;
+mod driving;
 mod group;
 mod lent;
 mod patience;
+mod resters;
 mod resting;
 mod room;
 mod scoped;
@@ -22,19 +24,22 @@ mod tending;
 use crate::driven::Driven;
 use crate::handed_back::take_back;
 use crate::threads::dealing::{collect, deal};
+use crate::threads::driving::Driving;
 use crate::threads::lent::Lent;
-use crate::threads::resting::Resters;
+use crate::threads::resters::{Resters, rest_of};
 use crate::threads::room::Room;
 use crate::threads::scoped::{Ran, in_scope};
+use crate::threads::seat::Seat;
 use crate::threads::tending::How;
 use std::alloc::Global;
 use std::sync::Wait;
-use std::sync::atomic::AtomicU64;
 use std::thread::Threads;
 use zy_base::{Gate, NoMemory};
 use zy_core::{Core, Cores, Shared};
 use zy_park::{BellRoot, Bells};
 use zy_rx::Feeder;
+
+pub use crate::threads::driving::FirstGroup;
 
 /// Drives the cores on `threads` threads while the caller feeds them: thread `t` has the cores `i`
 /// with `i` modulo `threads` equal to `t`. The caller drives the cores whose thread was refused. If
@@ -65,36 +70,67 @@ pub fn drive<R: Threads + Wait + Sync, F: Feeder, G: Gate + Sync>(
     ensures leads { F.leads feeder.old feeder.new }
     ensures rings { rings_of (F.inlets feeder.new) ≡ rings_of (F.inlets feeder.old) }
 {
+    drive_groups(
+        rt,
+        alloc,
+        cores,
+        threads,
+        shared,
+        gate,
+        feeder,
+        bells,
+        root,
+        rest,
+        FirstGroup::Thread,
+    )
+}
+
+/// Drives the cores as `drive` does, but the first group, that of thread 0, is driven as `first` says.
+/// Cores that the caller drives never rest; they take a turn after 64 items that were offered in a row,
+/// and turns until none works before the feeder may have to wait. The call may wait.
+pub fn drive_groups<R: Threads + Wait + Sync, F: Feeder, G: Gate + Sync>(
+    rt: &R,
+    alloc: Global,
+    cores: Cores,
+    threads: u32,
+    shared: &Shared,
+    gate: &G,
+    feeder: &mut F,
+    bells: &Bells,
+    root: &mut BellRoot,
+    rest: u32,
+    first: FirstGroup,
+) -> Driven
+    requires cores { AreCores shared.now (identities cores) }
+    requires threads { (1 ≤ threads) × (threads ≤ 64) }
+    requires fresh { ¬ F.ended feeder.old × ¬ F.broken feeder.old }
+    requires bells { root.old.bells ≡ bells.now }
+    requires count { length bells.now ≡ length shared.now.rings }
+    requires free { GaveNone root.old }
+    ensures ended { IsSettled result → F.ended feeder.new }
+    ensures settled { IsSettled result → EachSettled (cores_of result) }
+    ensures broken { IsBroken result → F.broken feeder.new }
+    ensures same { identities (cores_of result) ≡ identities cores }
+    ensures leads { F.leads feeder.old feeder.new }
+    ensures rings { rings_of (F.inlets feeder.new) ≡ rings_of (F.inlets feeder.old) }
+{
     let items = cores.into_items();
     let count = items.len();
-    let rest = if threads > 1 && threads as usize == count {
-        rest
-    } else {
-        0
-    };
-    let resters = match Resters::new(alloc, bells, root, rest) {
+    let resters = match Resters::new(alloc, bells, root, rest_of(threads, count, rest)) {
         Ok(resters) => resters,
         Err(NoMemory) => return Driven::NoMemory(Cores::from_items(items)),
     };
-    let room = match Room::new(alloc, count, threads as usize) {
-        Ok(room) => room,
+    let (mut room, whole) = match make_room(alloc, count, threads as usize) {
+        Ok(made) => made,
         Err(NoMemory) => {
             drop(resters);
             return Driven::NoMemory(Cores::from_items(items));
         }
     };
-    let Room {
-        mut groups,
-        seats,
-        back,
-        whole,
-    } = room;
-    deal(items, &mut groups);
-    let leave = AtomicU64::new(0);
+    deal(items, &mut room.groups);
+    let driving = Driving::new(rt, shared, bells, gate);
     let lent = Lent { feeder };
-    let (lent, ran) = in_scope(
-        rt, groups, resters, seats, back, shared, bells, root, gate, &leave, lent,
-    );
+    let (lent, ran) = in_scope(&driving, first, room, resters, root, lent);
     let Lent { feeder } = lent;
     take_back(feeder);
     let Ran {
@@ -103,6 +139,29 @@ pub fn drive<R: Threads + Wait + Sync, F: Feeder, G: Gate + Sync>(
         how,
     } = ran;
     answer(together(groups, count, whole), is_done, how)
+}
+
+// Room for the groups of `count` cores on `threads` threads, and for the cores when they are together
+// again.
+fn make_room(
+    alloc: Global,
+    count: usize,
+    threads: usize,
+) -> Result<(Room<Core, Seat>, Vec<Core>), NoMemory>
+    requires some { (1 ≤ count) × (1 ≤ threads) }
+    requires few { threads ≤ 64 }
+    ensures groups { IfOk result (λ made. HaveRoom count made.0.groups.items × AreEmpty (lists_of made.0.groups.items)) }
+    ensures some { IfOk result (λ made. 1 ≤ vec_len made.0.groups) }
+    ensures whole { IfOk result (λ made. (vec_len made.1 ≡ 0) × (count ≤ vec_capacity made.1)) }
+{
+    let whole = Vec::with_capacity(alloc, count)?;
+    match Room::new(alloc, count, threads) {
+        Ok(room) => Ok((room, whole)),
+        Err(NoMemory) => {
+            drop(whole);
+            Err(NoMemory)
+        }
+    }
 }
 
 // The cores of the groups, in the order in which they were dealt.

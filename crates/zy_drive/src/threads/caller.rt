@@ -1,9 +1,10 @@
 //! The caller's passes, and how it rings the cores that rest.
-ghost use Rattle.std.specs.Prelude.{◌≡◌, ◌≤◌, length};
+ghost use Rattle.std.specs.Prelude.{◌≡◌};
 
+use crate::threads::driving::Driving;
 use zy_control::ControlPass;
 use zy_core::Shared;
-use zy_park::{BellRoot, Bells};
+use zy_park::BellRoot;
 
 // The caller's pass on the control words, the root of the bells, and whether cores rest.
 #[derive(Drop)]
@@ -24,19 +25,18 @@ impl<'a> Caller<'a> {
     }
 
     // Loads sleepers, and rings each core whose bit is 1, if that is due and cores rest.
-    pub(crate) fn ring_if(&mut self, is_due: bool, shared: &Shared, bells: &Bells)
-        requires watch { self.old.watch.table ≡ shared.now.control.id }
-        requires bells { self.old.root.now.bells ≡ bells.now }
-        requires few { length bells.now ≤ 64 }
+    pub(crate) fn ring_if<R, G>(&mut self, is_due: bool, driving: &Driving<'_, R, G>)
+        requires watch { self.old.watch.table ≡ driving.now.shared.now.control.id }
+        requires bells { self.old.root.now.bells ≡ driving.now.bells.now }
         ensures watch { self.new.watch.table ≡ self.old.watch.table }
         ensures bells { self.new.root.now.bells ≡ self.old.root.now.bells }
     {
         if !is_due || !self.rings {
             return;
         }
-        let sleepers = shared.control().load_sleepers(&mut self.watch);
+        let sleepers = driving.shared.control().load_sleepers(&mut self.watch);
         if sleepers != 0 {
-            bells.ring_each_from(self.root, sleepers);
+            driving.bells.ring_each_from(self.root, sleepers);
         }
     }
 
@@ -50,12 +50,11 @@ impl<'a> Caller<'a> {
     }
 
     // Asks all cores to stop, also those that rest.
-    pub(crate) fn stop(&mut self, shared: &Shared, bells: &Bells)
-        requires watch { self.old.watch.table ≡ shared.now.control.id }
-        requires bells { self.old.root.now.bells ≡ bells.now }
-        requires few { length bells.now ≤ 64 }
+    pub(crate) fn stop<R, G>(&mut self, driving: &Driving<'_, R, G>)
+        requires watch { self.old.watch.table ≡ driving.now.shared.now.control.id }
+        requires bells { self.old.root.now.bells ≡ driving.now.bells.now }
     {
-        shared.control().stop(&mut self.watch);
-        self.ring_if(true, shared, bells);
+        driving.shared.control().stop(&mut self.watch);
+        self.ring_if(true, driving);
     }
 }

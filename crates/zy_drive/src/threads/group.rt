@@ -1,16 +1,17 @@
 //! The cores that one thread drives.
-ghost use Rattle.std.specs.Prelude.{◌≡◌, true, false, length};
+ghost use Rattle.std.specs.Prelude.{◌≡◌, ◌≢◌, true, false, IfOk};
 ghost use Rattle.zy_core.specs.Cores.{identities, EachFits, EachSettled};
 ghost use Rattle.zy_drive.specs.Group.{grouped, IsAlone};
 
 use crate::round::Round;
 use crate::rounds::{all_done, note_each, turn_each};
 use crate::threads::alone::{call_up_first, nap_first};
+use crate::threads::driving::Driving;
 use std::marker::Model;
 use std::sync::Wait;
 use zy_base::{Gate, NoMemory};
 use zy_core::{Core, Shared};
-use zy_park::{BellPass, Bells};
+use zy_park::BellPass;
 
 // The cores that one thread drives, and whether they found that all cores are done. Then they are
 // settled.
@@ -49,58 +50,61 @@ impl Group {
 
     // A turn of each core, after which each that is settled counts itself, and looks whether all are
     // done.
-    pub(crate) fn go_on<G: Gate>(&mut self, shared: &Shared, gate: &G) -> Result<Round, NoMemory>
-        requires fits { EachFits shared.now (identities self.old.cores) }
+    pub(crate) fn go_on<R, G: Gate>(
+        &mut self,
+        driving: &Driving<'_, R, G>,
+    ) -> Result<Round, NoMemory>
+        requires fits { EachFits driving.now.shared.now (identities self.old.cores) }
         ensures same { identities self.new.cores ≡ identities self.old.cores }
     {
-        let round = self.turn(shared, gate)?;
-        self.look(shared);
+        let round = self.turn(driving)?;
+        self.look(driving.shared);
         Ok(round)
     }
 
     // A turn of each core, after which each that is settled counts itself.
-    pub(crate) fn turn<G: Gate>(&mut self, shared: &Shared, gate: &G) -> Result<Round, NoMemory>
-        requires fits { EachFits shared.now (identities self.old.cores) }
+    pub(crate) fn turn<R, G: Gate>(
+        &mut self,
+        driving: &Driving<'_, R, G>,
+    ) -> Result<Round, NoMemory>
+        requires fits { EachFits driving.now.shared.now (identities self.old.cores) }
         ensures same { identities self.new.cores ≡ identities self.old.cores }
+        ensures awake { IfOk result (λ round. round ≢ Round.Rested) }
     {
         self.done = false;
-        let worked = turn_each(&mut self.cores, shared, gate)?;
-        let counted = note_each(&mut self.cores, shared);
-        Ok(Round::of(worked).then(counted))
+        let round = turn_each(&mut self.cores, driving.shared, driving.gate)?;
+        let counted = note_each(&mut self.cores, driving.shared);
+        Ok(round.then(counted))
     }
 
     // A nap of its one core, which then counts itself if it is settled.
     pub(crate) fn nap<R: Wait, G: Gate>(
         &mut self,
-        rt: &R,
-        shared: &Shared,
-        bells: &Bells,
+        driving: &Driving<'_, R, G>,
         pass: &mut BellPass,
-        gate: &G,
     ) -> Result<Round, NoMemory>
-        requires fits { EachFits shared.now (identities self.old.cores) }
+        requires fits { EachFits driving.now.shared.now (identities self.old.cores) }
         requires alone { IsAlone pass.old.core (identities self.old.cores) }
-        requires bells { pass.old.bells ≡ bells.now }
+        requires bells { pass.old.bells ≡ driving.now.bells.now }
         ensures same { identities self.new.cores ≡ identities self.old.cores }
         ensures pass { (pass.new.bells ≡ pass.old.bells) × (pass.new.core ≡ pass.old.core) }
     {
         self.done = false;
-        let round = nap_first(rt, &mut self.cores, shared, bells, pass, gate)?;
-        let counted = note_each(&mut self.cores, shared);
+        let round = nap_first(driving, &mut self.cores, pass)?;
+        let counted = note_each(&mut self.cores, driving.shared);
         Ok(round.then(counted))
     }
 
     // Its one core calls up those that rest.
-    pub(crate) fn call_up(&mut self, shared: &Shared, bells: &Bells, pass: &mut BellPass)
-        requires fits { EachFits shared.now (identities self.old.cores) }
+    pub(crate) fn call_up<R, G>(&mut self, driving: &Driving<'_, R, G>, pass: &mut BellPass)
+        requires fits { EachFits driving.now.shared.now (identities self.old.cores) }
         requires alone { IsAlone pass.old.core (identities self.old.cores) }
-        requires bells { pass.old.bells ≡ bells.now }
-        requires count { length bells.now ≡ length shared.now.rings }
+        requires bells { pass.old.bells ≡ driving.now.bells.now }
         ensures same { identities self.new.cores ≡ identities self.old.cores }
         ensures pass { (pass.new.bells ≡ pass.old.bells) × (pass.new.core ≡ pass.old.core) }
     {
         self.done = false;
-        call_up_first(&mut self.cores, shared, bells, pass);
+        call_up_first(driving, &mut self.cores, pass);
     }
 
     // Looks whether all cores are done.

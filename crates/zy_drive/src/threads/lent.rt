@@ -23,6 +23,10 @@ impl<'a, F: Feeder> Feeder for Lent<'a, F> {
         self.feeder.step()
     }
 
+    fn may_wait(&self) -> bool {
+        self.feeder.may_wait()
+    }
+
     fn meet(&mut self, core: u32, outlet: &mut Outlet) {
         self.feeder.meet(core, outlet);
     }

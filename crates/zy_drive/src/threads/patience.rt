@@ -1,5 +1,6 @@
 //! How long a thread that found nothing waits before it looks again.
 
+use crate::round::Round;
 use std::{hint, thread};
 
 // How many times it looks again at once.
@@ -27,12 +28,29 @@ impl Patience {
         }
     }
 
-    // Waits for a little if nothing was found, and longer the more often that was so in a row.
-    pub(crate) fn wait_if(&mut self, is_idle: bool) {
-        if !is_idle {
-            self.looks = 0;
-            self.spin = FIRST_SPIN;
-        } else if self.looks < LOOKS {
+    // Waits for a little after a round that found nothing, and longer the more often that was so in a
+    // row. After one that found a shard busy it yields at once, since the thread that has the shard may
+    // need this processor to go on.
+    pub(crate) fn wait_after(&mut self, round: Round) {
+        match round {
+            Round::Idle => self.wait(),
+            Round::Busy => {
+                self.begin_again();
+                thread::yield_now();
+            }
+            Round::Worked | Round::Rested => self.begin_again(),
+        }
+    }
+
+    // Something was found.
+    fn begin_again(&mut self) {
+        self.looks = 0;
+        self.spin = FIRST_SPIN;
+    }
+
+    // Nothing was found once more.
+    fn wait(&mut self) {
+        if self.looks < LOOKS {
             self.looks += 1;
         } else if self.spin <= LAST_SPIN {
             spin_for(self.spin);

@@ -1,20 +1,18 @@
 //! Where a group of cores is.
-ghost use Rattle.std.specs.Prelude.{◌≡◌, true, length};
+ghost use Rattle.std.specs.Prelude.{◌≡◌, true};
 ghost use Rattle.zy_core.specs.Cores.{identities, EachFits, EachSettled};
 ghost use Rattle.zy_drive.specs.Group.{CanRest};
 ghost use Rattle.zy_drive.specs.Seat.{seat_identities};
 
-use crate::round::Round;
+use crate::threads::driving::{Driving, FirstGroup};
 use crate::threads::group::Group;
 use crate::threads::patience::Patience;
 use crate::threads::resting::{Rester, call_up, go_on};
 use std::snapshot::Snapshot;
 use std::sync::Wait;
-use std::sync::atomic::{AtomicU64, Ordering};
 use std::thread::{Promise, PromisedHandle, Scope, Threads};
 use zy_base::{Gate, NoMemory};
-use zy_core::{Core, Shared};
-use zy_park::Bells;
+use zy_core::Core;
 
 // The cores come back as they went out.
 #[derive(Drop)]
@@ -29,43 +27,59 @@ impl Promise<Group> for Keeps {
     ghost kept_by = { λ p r. identities r.cores ≡ identities p.before.value.cores };
 }
 
-// A group of cores is on a thread of its own, or with the caller where that thread was refused.
+// A group of cores is on a thread of its own, or with the caller.
 #[derive(Drop)]
 pub(crate) enum Seat {
     Away(PromisedHandle<Group, Keeps>),
     Here(Group),
 }
 
-// Starts a thread for a group. If it is refused, the bit is set so that the group leaves at once,
-// and the group is with the caller.
-pub(crate) fn start_group<'s, E, R: Wait + Sync, G: Gate + Sync>(
+// The first group, whose bit is 1, is with the caller where the caller drives it. For each other group
+// a thread is started.
+pub(crate) fn seat_group<'s, E, R: Wait + Sync, G: Gate + Sync>(
     scope: &Scope<'s, E>,
-    rt: &'s R,
+    driving: &'s Driving<'s, R, G>,
+    first: FirstGroup,
     group: Group,
     rester: Option<Rester>,
-    shared: &'s Shared,
-    bells: &'s Bells,
-    gate: &'s G,
-    leave: &'s AtomicU64,
     bit: u64,
 ) -> Seat
-    requires fits { EachFits shared.now (identities group.cores) }
-    requires rests { CanRest bells.now (identities group.cores) rester }
-    requires count { length bells.now ≡ length shared.now.rings }
+    requires fits { EachFits driving.now.shared.now (identities group.cores) }
+    requires rests { CanRest driving.now.bells.now (identities group.cores) rester }
+    ensures same { seat_identities result ≡ identities group.cores }
+{
+    if bit == 1 && first == FirstGroup::Caller {
+        drop(rester);
+        return Seat::Here(group);
+    }
+    start_group(scope, driving, group, rester, bit)
+}
+
+// Starts a thread for a group. If it is refused, the bit is set so that the group leaves at once,
+// and the group is with the caller.
+fn start_group<'s, E, R: Wait + Sync, G: Gate + Sync>(
+    scope: &Scope<'s, E>,
+    driving: &'s Driving<'s, R, G>,
+    group: Group,
+    rester: Option<Rester>,
+    bit: u64,
+) -> Seat
+    requires fits { EachFits driving.now.shared.now (identities group.cores) }
+    requires rests { CanRest driving.now.bells.now (identities group.cores) rester }
     ensures same { seat_identities result ≡ identities group.cores }
 {
     let before = Snapshot::of(&group);
     match scope.spawn_with(
         Keeps { before },
         move || -> Group
-            requires { EachFits shared.now (identities group.cores)
-                × CanRest bells.now (identities group.cores) rester × (length bells.now ≡ length shared.now.rings) }
+            requires { EachFits driving.now.shared.now (identities group.cores)
+                × CanRest driving.now.bells.now (identities group.cores) rester }
             ensures same { identities result.cores ≡ identities group.cores }
-        { drive_group(rt, group, rester, shared, bells, gate, leave, bit) },
+        { drive_group(driving, group, rester, bit) },
     ) {
         Ok(handle) => Seat::Away(handle),
         Err(refused) => {
-            leave.fetch_or(bit, Ordering::SeqCst);
+            driving.ask_to_leave(bit);
             Seat::Here((refused.value)())
         }
     }
@@ -73,43 +87,38 @@ pub(crate) fn start_group<'s, E, R: Wait + Sync, G: Gate + Sync>(
 
 // Drives the cores of a group until all cores are done, or all are to stop, or this group is to leave.
 fn drive_group<R: Wait, G: Gate>(
-    rt: &R,
+    driving: &Driving<'_, R, G>,
     group: Group,
     rester: Option<Rester>,
-    shared: &Shared,
-    bells: &Bells,
-    gate: &G,
-    leave: &AtomicU64,
     bit: u64,
 ) -> Group
-    requires fits { EachFits shared.now (identities group.cores) }
-    requires rests { CanRest bells.now (identities group.cores) rester }
-    requires count { length bells.now ≡ length shared.now.rings }
+    requires fits { EachFits driving.now.shared.now (identities group.cores) }
+    requires rests { CanRest driving.now.bells.now (identities group.cores) rester }
     ensures same { identities result.cores ≡ identities group.cores }
 {
     let mut group = group;
     let mut rester = rester;
     let mut patience = Patience::new();
-    let (mut watch, mut is_stopped) = shared.control().watch();
-    for _ in rt.forever() {
-        if is_stopped || leave.load(Ordering::SeqCst) & bit != 0 {
+    let (mut watch, mut is_stopped) = driving.shared.control().watch();
+    for _ in driving.rt.forever() {
+        if is_stopped || driving.is_to_leave(bit) {
             drop(rester);
             return group;
         }
-        match go_on(rt, &mut group, &mut rester, shared, bells, gate) {
+        match go_on(driving, &mut group, &mut rester) {
             Ok(round) => {
                 if group.is_done() {
                     drop(rester);
                     return group;
                 }
-                patience.wait_if(round == Round::Idle);
+                patience.wait_after(round);
             }
             Err(NoMemory) => {
-                shared.control().stop(&mut watch);
-                call_up(&mut group, &mut rester, shared, bells);
+                driving.shared.control().stop(&mut watch);
+                call_up(driving, &mut group, &mut rester);
             }
         }
-        is_stopped = shared.control().is_stopped(&mut watch);
+        is_stopped = driving.shared.control().is_stopped(&mut watch);
     }
     unreachable!()
 }

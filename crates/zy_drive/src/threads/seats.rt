@@ -1,37 +1,33 @@
 //! The groups of all threads.
-ghost use Rattle.std.specs.Prelude.{◌≡◌, ◌+◌, ◌≤◌, ◌++◌, true, length, vec_len, vec_capacity};
+ghost use Rattle.std.specs.Prelude.{◌≡◌, ◌+◌, ◌≤◌, ◌++◌, true, vec_len, vec_capacity};
 ghost use Rattle.zy_core.specs.Cores.{EachFits};
 ghost use Rattle.zy_drive.specs.Group.{AllAt};
 ghost use Rattle.zy_drive.specs.Seat.{seat_identities, all_of_seats, all_of_groups, AllFit, AllSettled};
 
 use crate::round::Round;
+use crate::threads::driving::{Driving, FirstGroup};
 use crate::threads::group::Group;
-use crate::threads::resting::Resters;
-use crate::threads::seat::{Seat, join_seat, start_group};
+use crate::threads::resters::Resters;
+use crate::threads::seat::{Seat, join_seat, seat_group};
 use std::sync::Wait;
-use std::sync::atomic::AtomicU64;
 use std::thread::{Scope, Threads};
 use zy_base::{Gate, NoMemory};
-use zy_core::{Core, Shared};
-use zy_park::Bells;
+use zy_core::Core;
 
-// Starts a thread for each group, in turn, which rests where it drives one core and has its pass.
+// Gives each group its seat, in turn; it rests if it is one core on a thread of its own and has its
+// pass.
 pub(crate) fn start_all<'s, E, R: Wait + Sync, G: Gate + Sync>(
     scope: &Scope<'s, E>,
-    rt: &'s R,
+    driving: &'s Driving<'s, R, G>,
+    first: FirstGroup,
     groups: Vec<Vec<Core>>,
     resters: Resters,
     seats: &mut Vec<Seat>,
-    shared: &'s Shared,
-    bells: &'s Bells,
-    gate: &'s G,
-    leave: &'s AtomicU64,
 )
     requires few { vec_len groups ≤ 64 }
     requires room { vec_len seats.old + vec_len groups ≤ vec_capacity seats.old }
-    requires fits { AllFit shared.now (all_of_groups groups.items) }
-    requires bells { AllAt bells.now resters }
-    requires count { length bells.now ≡ length shared.now.rings }
+    requires fits { AllFit driving.now.shared.now (all_of_groups groups.items) }
+    requires bells { AllAt driving.now.bells.now resters }
     ensures same { all_of_seats seats.new.items ≡ all_of_seats seats.old.items ++ all_of_groups groups.items }
     ensures len { vec_len seats.new ≡ vec_len seats.old + vec_len groups }
 {
@@ -41,34 +37,33 @@ pub(crate) fn start_all<'s, E, R: Wait + Sync, G: Gate + Sync>(
     for t in 0..count {
         let group = Group::new(groups.remove(0));
         let rester = resters.next(&group);
-        let seat = start_group(scope, rt, group, rester, shared, bells, gate, leave, 1 << t);
+        let seat = seat_group(scope, driving, first, group, rester, 1 << t);
         seats.push_reserved(seat);
     }
     drop(resters);
 }
 
-// A turn of each core that is with the caller. Says whether others may have something to do since.
-pub(crate) fn go_on_here<G: Gate>(
+// A turn of each core that is with the caller.
+pub(crate) fn go_on_here<R, G: Gate>(
+    driving: &Driving<'_, R, G>,
     seats: &mut Vec<Seat>,
-    shared: &Shared,
-    gate: &G,
-) -> Result<bool, NoMemory>
-    requires fits { AllFit shared.now (all_of_seats seats.old.items) }
+) -> Result<Round, NoMemory>
+    requires fits { AllFit driving.now.shared.now (all_of_seats seats.old.items) }
     ensures same { all_of_seats seats.new.items ≡ all_of_seats seats.old.items }
     ensures len { vec_len seats.new ≡ vec_len seats.old }
 {
-    let mut calls = false;
+    let mut all = Round::Idle;
     for i in 0..seats.len() {
         let seat = &mut seats[i];
-        let round = go_on_seat(seat, shared, gate)?;
-        calls = calls || round.calls_up();
+        let round = go_on_seat(driving, seat)?;
+        all = all.with(round);
     }
-    Ok(calls)
+    Ok(all)
 }
 
 // A turn of each core of a group that is with the caller and not done.
-fn go_on_seat<G: Gate>(seat: &mut Seat, shared: &Shared, gate: &G) -> Result<Round, NoMemory>
-    requires fits { EachFits shared.now (seat_identities seat.old) }
+fn go_on_seat<R, G: Gate>(driving: &Driving<'_, R, G>, seat: &mut Seat) -> Result<Round, NoMemory>
+    requires fits { EachFits driving.now.shared.now (seat_identities seat.old) }
     ensures same { seat_identities seat.new ≡ seat_identities seat.old }
 {
     match seat {
@@ -77,7 +72,7 @@ fn go_on_seat<G: Gate>(seat: &mut Seat, shared: &Shared, gate: &G) -> Result<Rou
             if group.is_done() {
                 return Ok(Round::Idle);
             }
-            group.go_on(shared, gate)
+            group.go_on(driving)
         }
     }
 }

@@ -1,17 +1,17 @@
 //! What the caller does while threads drive the cores.
-ghost use Rattle.std.specs.Prelude.{◌≡◌, ◌≤◌, length, vec_len};
+ghost use Rattle.std.specs.Prelude.{◌≡◌, vec_len};
 ghost use Rattle.zy_drive.specs.Seat.{all_of_seats, AllFit};
 ghost use Rattle.zy_rx.specs.Feed.{rings_of};
 
 use crate::feeding::feed_once;
+use crate::round::Round;
 use crate::threads::caller::Caller;
+use crate::threads::driving::Driving;
 use crate::threads::patience::Patience;
 use crate::threads::seat::Seat;
 use crate::threads::seats::{are_done_here, are_some_here, go_on_here};
 use std::sync::Wait;
 use zy_base::{Gate, NoMemory};
-use zy_core::Shared;
-use zy_park::Bells;
 use zy_rx::Feeder;
 
 // How many items are offered in a row before the cores that are with the caller take a turn: as many
@@ -30,20 +30,17 @@ pub(crate) enum How {
 }
 
 // Feeds the cores, one item at a time, and lets those that are with the caller take turns. After each
-// step it looks at stop.
+// step it looks at stop. Before a step that may have to wait for the source, the cores that are with
+// the caller take turns until none works.
 pub(crate) fn tend<R: Wait, F: Feeder, G: Gate>(
-    rt: &R,
+    driving: &Driving<'_, R, G>,
     seats: &mut Vec<Seat>,
-    shared: &Shared,
-    bells: &Bells,
-    gate: &G,
     feeder: &mut F,
     caller: &mut Caller<'_>,
 ) -> How
-    requires fits { AllFit shared.now (all_of_seats seats.old.items) }
-    requires watch { caller.old.watch.table ≡ shared.now.control.id }
-    requires bells { caller.old.root.now.bells ≡ bells.now }
-    requires few { length bells.now ≤ 64 }
+    requires fits { AllFit driving.now.shared.now (all_of_seats seats.old.items) }
+    requires watch { caller.old.watch.table ≡ driving.now.shared.now.control.id }
+    requires bells { caller.old.root.now.bells ≡ driving.now.bells.now }
     requires fresh { ¬ F.ended feeder.old × ¬ F.broken feeder.old }
     ensures same { all_of_seats seats.new.items ≡ all_of_seats seats.old.items }
     ensures len { vec_len seats.new ≡ vec_len seats.old }
@@ -56,28 +53,30 @@ pub(crate) fn tend<R: Wait, F: Feeder, G: Gate>(
 {
     let has_here = are_some_here(seats);
     let mut items = 0;
+    let mut has_work = false;
     let mut is_ended = false;
     let mut patience = Patience::new();
-    for _ in rt.forever() {
-        let step = match feed_once(feeder, is_ended) {
+    for _ in driving.rt.forever() {
+        let step = match feed_once(feeder, is_ended, has_work) {
             Some(step) => step,
             None => return How::Broken,
         };
         is_ended = step.is_ended;
-        caller.ring_if(step.has_offered, shared, bells);
+        caller.ring_if(step.has_offered, driving);
         items = items_after(items, step.has_offered);
-        let calls = match go_on_if(has_here && items == 0, seats, shared, gate) {
-            Ok(calls) => calls,
+        let round = match go_on_if(has_here && items == 0, driving, seats) {
+            Ok(round) => round,
             Err(NoMemory) => return How::Stopped,
         };
-        caller.ring_if(calls, shared, bells);
-        if caller.is_stopped(shared) {
+        has_work = has_here && (items > 0 || round.calls_up());
+        caller.ring_if(round.calls_up(), driving);
+        if caller.is_stopped(driving.shared) {
             return How::Stopped;
         }
         if is_ended && are_done_here(seats) {
             return How::Ended;
         }
-        patience.wait_if(!step.has_offered && !calls);
+        patience.wait_after(found(step.has_offered, round));
     }
     unreachable!()
 }
@@ -92,21 +91,27 @@ fn items_after(items: u32, has_offered: bool) -> u32 {
     }
 }
 
-// A turn of each core that is with the caller, if that is due. Says whether others may have something
-// to do since.
-fn go_on_if<G: Gate>(
+// What the caller found to do, by whether an item was offered, and by the round of its own cores.
+fn found(has_offered: bool, round: Round) -> Round {
+    match round {
+        Round::Idle if has_offered => Round::Worked,
+        round => round,
+    }
+}
+
+// A turn of each core that is with the caller, if that is due.
+fn go_on_if<R, G: Gate>(
     is_due: bool,
+    driving: &Driving<'_, R, G>,
     seats: &mut Vec<Seat>,
-    shared: &Shared,
-    gate: &G,
-) -> Result<bool, NoMemory>
-    requires fits { AllFit shared.now (all_of_seats seats.old.items) }
+) -> Result<Round, NoMemory>
+    requires fits { AllFit driving.now.shared.now (all_of_seats seats.old.items) }
     ensures same { all_of_seats seats.new.items ≡ all_of_seats seats.old.items }
     ensures len { vec_len seats.new ≡ vec_len seats.old }
 {
     if is_due {
-        go_on_here(seats, shared, gate)
+        go_on_here(driving, seats)
     } else {
-        Ok(false)
+        Ok(Round::Idle)
     }
 }

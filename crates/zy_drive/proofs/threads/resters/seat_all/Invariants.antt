@@ -2,7 +2,7 @@ use Rattle.std.proofs.Common.{◌≡◌, ℕ, ◌<◌, ◌≤◌, length, vec_le
 use Rattle.std.specs.Prelude.{vec_capacity}
 use Rattle.zy_park.specs.Pass.{IsFree}
 use Rattle.zy_drive.specs.Group.{AllAt}
-use Rattle.zy_drive.proofs.threads.resting.seat_all.Given as goal
+use Rattle.zy_drive.proofs.threads.resters.seat_all.Given as goal
 
 abbrev pub invariant-loop-core : goal.invariant-loop-core
 invariant-loop-core l =

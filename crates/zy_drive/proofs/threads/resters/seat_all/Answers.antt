@@ -1,7 +1,7 @@
 use Rattle.std.proofs.Common.{arith, ap}
 use Rattle.zy_park.specs.Pass.{Passed, Rooted}
 use Rattle.zy_drive.proofs.AloneLemmas.{at_last}
-use Rattle.zy_drive.proofs.threads.resting.seat_all.Goals as goal
+use Rattle.zy_drive.proofs.threads.resters.seat_all.Goals as goal
 
 pub loop-core-preserved : goal.loop-core-preserved
 loop-core-preserved c =
