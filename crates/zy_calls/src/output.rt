@@ -57,7 +57,8 @@ impl Output {
     }
 
     /// Takes the texts of a batch, and sets the number of finished commands to the batch's. The batch
-    /// is left without texts, and keeps its room for further ones. After a refusal both are as they were.
+    /// is left without texts, and keeps its room for further ones, up to 64 KiB. After a refusal both are
+    /// as they were. A larger first batch is moved and not copied.
     pub fn take_texts(&mut self, batch: &mut Batch) -> Result<(), NoMemory>
         ensures ok { OnOk result (self.new ≡ with_batch self.old batch.old) }
         ensures batch { OnOk result (batch.new ≡ no_text batch.old.finished) }

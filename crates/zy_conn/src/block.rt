@@ -150,7 +150,8 @@ impl Block {
     }
 
     /// Moves the texts that wait to an output, with the number of finished commands; no text is left.
-    /// The block keeps their room for further texts. After a refusal block and output are as they were.
+    /// The block keeps their room for further texts, up to 64 KiB. After a refusal block and output are
+    /// as they were.
     pub fn send_to(&mut self, output: &mut Output) -> Result<(), NoMemory>
         ensures output { OnOk result (output.new ≡ with_batch output.old (batch_waiting self.old.work)) }
         ensures block { OnOk result (self.new ≡ record self.old {
