@@ -1,32 +1,26 @@
 -- What is read of a capture, piece after piece.
-use Rattle.std.proofs.Common.{◌≡◌, ◌⊎◌, inl, inr, ℕ, ◌^◌, ◌<◌, ◌≤◌, true, false, List, [], ◌∷◌, ◌++◌, length, refl, sym, ◌∙◌, ap, subst, arith, append_assoc, length-append}
-use Rattle.std.specs.Prelude.{◌==◌, Option, None, Some, Result, Ok, Err, ⊤, option_to_list}
-use Rattle.std.specs.Io.KnownBytes.{Consumes, IsAtEnd}
-use Rattle.std.proofs.lemmas.List.{append-nil}
-use Rattle.zy_read.specs.declared.not_taken.NotTaken.{NotTaken}
-use Rattle.zy_read.specs.declared.not_taken.NotTaken.TheVariants.{Fault}
-use Rattle.zy_read.specs.declared.not_taken.NotTaken.TheVariants as Reads
+use Rattle.std.proofs.Common.{◌≡◌, inl, inr, ℕ, ◌^◌, ◌<◌, ◌≤◌, List, [], ◌∷◌, ◌++◌, length, refl, sym, ◌∙◌, ap, subst, arith, length-append}
+use Rattle.std.specs.Prelude.{Option, None, Some, Ok, option_to_list}
+use Rattle.std.specs.Io.KnownBytes.{Consumes}
 use Rattle.zy_read.specs.Format.{Reading, reading_of, read_on, fault_met}
 use Rattle.zy_read.specs.Standing.{StandsAs}
 use Rattle.zy_read.specs.Bytes.{AreBytes}
-use Rattle.zy_read.specs.Piece.{HasGiven}
 use Rattle.zy_read.proofs.Feeding.{read_more, verdict_here}
 use Rattle.zy_read.proofs.ByteLemmas.{bytes_front}
-use Rattle.zy_read.proofs.SourceLemmas.{consumed_none, told_first, told_all}
+use Rattle.zy_read.proofs.SourceLemmas.{consumed_none}
 use Rattle.zy_capture.specs.declared.record.Record.{Record}
 use Rattle.zy_capture.specs.declared.capture_fault.CaptureFault.{CaptureFault}
 use Rattle.zy_capture.specs.declared.due.Due.{Due}
-use Rattle.zy_capture.specs.declared.due.Due.TheVariants.{Magic, Count, Nothing, Broken}
-use Rattle.zy_capture.specs.declared.capture_fault.CaptureFault.TheVariants.{BadMagic, ConnCount}
-use Rattle.zy_capture.specs.Capture.{capture_limit, IsCapture}
-use Rattle.zy_capture.specs.Steps.{Progress, start, step}
-use Rattle.zy_capture.specs.Verdict.{captures, ended, fault_in, read_from, verdict, fault_of, version_in, version_of, count_in, count_of, records_of}
-use Rattle.zy_capture.specs.Verdict.Verdict.{Good, Bad}
-use Rattle.zy_capture.specs.Standing.{StandsFor, EndsAs, EndsBy}
-use Rattle.zy_capture.proofs.Feeding.{version_here, count_here}
+use Rattle.zy_capture.specs.declared.due.Due.TheVariants.{Nothing}
+use Rattle.zy_capture.specs.Capture.{capture_limit}
+use Rattle.zy_capture.specs.Steps.{Progress, step}
+use Rattle.zy_capture.specs.Verdict.{captures, ended, verdict, fault_of, count_of, records_of}
+use Rattle.zy_capture.specs.Verdict.Verdict.{Good}
+use Rattle.zy_capture.specs.Standing.{StandsFor, EndsAs}
+use Rattle.zy_capture.proofs.Feeding.{count_here}
 use Rattle.zy_read.specs.declared.stop.Stop.{Stop}
 use Rattle.zy_feed.specs.declared.intake.Header.{Header}
-use Rattle.zy_feed.specs.Reads.{Intake, IsFresh, HasRead, HasReadAll, StopsBy, TellsHeader, TellsNoHeader, TakesFirst, Advances, came_of, ended_by}
+use Rattle.zy_feed.specs.Reads.{Intake, IsFresh, HasRead, HasReadAll, StopsBy, TellsHeader, TellsNoHeader}
 use Rattle.zy_capture.specs.Streams.{closes}
 use Rattle.zy_capture.proofs.SoFarLemmas.{good_tells, records_so_far}
 use Rattle.zy_capture.proofs.TellLemmas.{IsPastCount, past_count, version_stays, count_stays, version_read}
@@ -53,7 +47,7 @@ not_early p given b small stands past none = go none
 
     go : TellsNoHeader b → ⊥
     go (inl none) = let read = version_read b p.count small told in cc
-    go (inr none) = cc
+    go (inr none) = let read : count_of b ≡ Some p.count = told in cc
 
 -- the first record ends after the count
 record_late : (p q : Progress) (b more : List ℕ) (r : Record) → StandsFor p [] b → StandsFor q (r ∷ []) (b ++ more) → length more ≤ 1 → IsPastCount p.due
