@@ -1,5 +1,5 @@
 -- Groups of cores, and how one of them rests. No public clause cites this module.
-use Rattle.std.specs.Prelude.{◌≡◌, ℕ, ◌+◌, nat_lt, ◌==◌, ◌&&◌, if◌then◌else◌, List, [], ◌∷◌, map, Bool, Option, Some, None, ⊤}
+use Rattle.std.specs.Prelude.{◌≡◌, ℕ, ◌+◌, nat_lt, if◌then◌else◌, List, [], ◌∷◌, map, Bool, Option, Some, None, ⊤}
 use Rattle.zy_park.specs.Pass.{Bells, Passed}
 use Rattle.zy_core.specs.Core.{Cored, Identity}
 use Rattle.zy_drive.specs.declared.round.Round.{Round}
@@ -14,11 +14,6 @@ abbrev pub grouped : List Cored → Bool → Grouped
 grouped cores done = record { cores = cores; done = done }
 
 -- ---- resting
-
--- after how many idle turns in a row the cores of a run rest, 0 where none does: only where each of several threads
--- drives one core
-abbrev pub rest_of : ℕ → ℕ → ℕ → ℕ
-rest_of threads cores rest = if nat_lt 1 threads && (threads == cores) then rest else 0
 
 -- the right of a core to rest: the bells, its number, after how many idle rounds in a row it rests, and how many
 -- there were

@@ -13,4 +13,4 @@ mod threads;
 pub use driven::Driven;
 pub use handed_back::take_back;
 pub use ordered::drive_ordered;
-pub use threads::{FirstGroup, drive, drive_groups};
+pub use threads::{FirstGroup, drive, drive_groups, rest_of};

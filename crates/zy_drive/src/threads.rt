@@ -26,7 +26,7 @@ use crate::handed_back::take_back;
 use crate::threads::dealing::{collect, deal};
 use crate::threads::driving::Driving;
 use crate::threads::lent::Lent;
-use crate::threads::resters::{Resters, rest_of};
+use crate::threads::resters::Resters;
 use crate::threads::room::Room;
 use crate::threads::scoped::{Ran, in_scope};
 use crate::threads::seat::Seat;
@@ -40,6 +40,7 @@ use zy_park::{BellRoot, Bells};
 use zy_rx::Feeder;
 
 pub use crate::threads::driving::FirstGroup;
+pub use crate::threads::resters::rest_of;
 
 /// Drives the cores on `threads` threads while the caller feeds them: thread `t` has the cores `i`
 /// with `i` modulo `threads` equal to `t`. The caller drives the cores whose thread was refused. If

@@ -1,22 +1,23 @@
 //! Driving the cores of a run while its capture is fed.
-ghost use Rattle.std.specs.Prelude.{◌≡◌, ◌≢◌, ◌≤◌, length, IfOk, IfErr};
+ghost use Rattle.std.specs.Prelude.{◌≡◌, ◌≤◌, ◌<◌, length, IfOk, IfErr};
 ghost use Rattle.zy_feed.specs.Reads.{HasBegun, StopsBy};
 ghost use Rattle.zy_feed.specs.Feeding.{HasFedAll};
 ghost use Rattle.zy_rx.specs.Feed.{rings_of, sent_by};
 ghost use Rattle.zy_command_line.specs.Range.{IsRunnable};
 ghost use Rattle.zy_core.specs.Cores.{AreCores, AreInlets, EachSettled, identities};
-ghost use Rattle.zy_drive.specs.Drive.{IsSettled, IsBroken, cores_of};
+ghost use Rattle.zy_drive.specs.Drive.{rest_of, IsSettled, IsBroken, cores_of};
 ghost use Rattle.zy_serving.specs.Prepared.{IsPrepared, IsDriven};
 
 use crate::prepare::Prepared;
 use mc_store::Root;
 use std::alloc::Global;
 use std::sync::Wait;
+use std::thread;
 use std::thread::Threads;
 use zy_base::{Gate, NoMemory, Source};
 use zy_command_line::Run;
 use zy_core::{Cores, Shared};
-use zy_drive::{Driven, drive, drive_ordered};
+use zy_drive::{Driven, FirstGroup, drive_groups, drive_ordered, rest_of, take_back};
 use zy_feed::{
     CaptureFeeder, Header, Inlets, Stop, a_broken_feeder_has_its_cause,
     a_feeder_that_ended_has_offered_the_capture,
@@ -161,7 +162,7 @@ fn drive_threads<R: Threads + Wait + Sync, F: Feeder, G: Gate + Sync>(
         Ok(made) => made,
         Err(NoMemory) => return Driven::NoMemory(cores),
     };
-    let driven = drive(
+    let driven = drive_groups(
         rt,
         alloc,
         cores,
@@ -171,26 +172,25 @@ fn drive_threads<R: Threads + Wait + Sync, F: Feeder, G: Gate + Sync>(
         feeder,
         &bells,
         &mut root,
-        idle_turns(run),
+        rest_of(run.threads, run.cores as usize, run.rest),
+        first_group(rt, run),
     );
     drop(root);
     drop(bells);
     driven
 }
 
-// After how many idle turns in a row a core rests; 0 where none does. Only a core that has a thread of
-// its own rests, and only if there are others that ring it.
-fn idle_turns(run: Run) -> u32
-    ensures value { result ≢ 0 → (result ≡ run.rest) × (run.threads ≡ run.cores) }
+// Who drives the first group. The caller does if each processor has a thread of the run, so that none is
+// left for a feeder that stays apart, and no core rests.
+fn first_group<R: Threads>(rt: &R, run: Run) -> FirstGroup
+    ensures caller { result ≡ FirstGroup.Caller
+        → (1 < run.threads) × (rest_of run.threads run.cores run.rest ≡ 0) }
 {
-    if run.threads == run.cores && run.cores > 1 {
-        run.rest
-    } else {
-        0
+    if run.threads == 1 || rest_of(run.threads, run.cores as usize, run.rest) != 0 {
+        return FirstGroup::Thread;
+    }
+    match thread::available_parallelism(rt) {
+        Ok(processors) if processors.get() == run.threads as usize => FirstGroup::Caller,
+        _ => FirstGroup::Thread,
     }
 }
-
-// Does nothing. The call tells the prover that the reference handed back is the one that was lent.
-fn take_back<T>(x: &mut T)
-    ensures same { x.new ≡ x.old }
-{}
