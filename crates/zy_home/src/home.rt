@@ -12,6 +12,7 @@ mod settling;
 use crate::blocks::Blocks;
 use crate::ends::Ends;
 use crate::link::Link;
+use crate::touched::Touched;
 use std::marker::Model;
 use zy_conn::Block;
 use zy_shuffle::HomePass;
@@ -30,6 +31,8 @@ pub struct Home {
     links: Vec<Link>,
     ended: bool,
     refused: bool,
+    // For `receive_all`, which uses its room again.
+    touched: Touched,
 }
 
 impl Model for Home {
@@ -94,7 +97,9 @@ impl Home {
             links,
             ended: _,
             refused: _,
+            touched,
         } = self;
+        drop(touched);
         (pass, Blocks::from_slots(blocks), Ends::of(links))
     }
 }

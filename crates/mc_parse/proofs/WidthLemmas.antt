@@ -1,46 +1,33 @@
--- How many keys and letters a command has: fewer than its frame has bytes.
-use Rattle.std.specs.Prelude.{◌==◌, ◌&&◌, codes, nat_lt, if◌then◌else◌, filter, Option, None, Some, option_map, MatchOption, not}
+-- The width of a command, which is the number of its keys and letters: how many calls a command of some width has, and
+-- that a command is no wider than its line has bytes.
+use Rattle.std.specs.Prelude.{◌&&◌, codes, if◌then◌else◌, Option, None, Some, option_map, not}
 use Rattle.std.specs.List.{AllByRecursion, list_all}
-use Rattle.std.specs.Option.{option_and_then}
 use Rattle.std.specs.Str.{bytes_eq}
-use Rattle.std.proofs.Common.{◌≡◌, ℕ, ◌+◌, ◌<◌, ◌≤◌, List, [], ◌∷◌, length, Bool, true, false, refl, sym, ap, subst, arith, length-append}
+use Rattle.std.proofs.Common.{◌≡◌, ℕ, ◌+◌, ◌*◌, ◌<◌, ◌≤◌, List, [], ◌∷◌, length, Bool, true, false, refl, sym, ap, subst, arith}
+use Rattle.std.proofs.lemmas.List.{length-map}
+use Rattle.std.proofs.lemmas.List.FromFn.{length-map-range_with_len}
+use Rattle.zy_base.specs.declared.call.Call.TheVariants.{Flush as FlushCall, Tally}
+use Rattle.zy_base.specs.Call.{key_of}
+use Rattle.zy_base.specs.Number.{number_of}
 use Rattle.mc_meta.specs.declared.meta_line.MetaLine.{MetaLine}
 use Rattle.mc_meta.specs.declared.meta_line.MetaLine.TheVariants as Lines
-use Rattle.mc_meta.specs.Words.{Placed, pieces_of, put_before, placed, is_placed_word, has_byte, words, words_at}
-use Rattle.mc_meta.specs.Number.{number_of as token_number, small_number_of as small_token, is_exptime}
-use Rattle.mc_meta.specs.Flags.{get_letters, set_letters, delete_letters, is_among, with_letter, with_flags, with_unique, with_mode, with_lone, with_token, with_flag, mode_of, flags_after, flags_of, no_flags}
-use Rattle.mc_meta.specs.Meta.{is_meta_name, is_key, agrees, get_with, set_with, delete_with, noop_line, get_line, set_line, delete_line, line_of, meta_of, meta_line, span_of}
+use Rattle.mc_meta.specs.Words.{words}
+use Rattle.mc_meta.specs.Meta.{is_meta_name, is_key, meta_line}
+use Rattle.mc_meta.proofs.WidthLemmas.{line_width, words_few, meta_line_width}
 use Rattle.mc_parse.specs.declared.command.Command.{Command}
-use Rattle.mc_parse.specs.declared.command.Command.TheVariants.{Get, Fault, Meta}
+use Rattle.mc_parse.specs.declared.command.Command.TheVariants.{Store, Cas, Get, Delete, Count, Version, Verbosity, Flush, Fault, Meta, Stats}
 use Rattle.mc_parse.specs.declared.meta.Meta.{Meta as MetaCommand}
 use Rattle.mc_parse.specs.declared.meta.Meta.TheVariants as Metas
 use Rattle.mc_parse.specs.declared.error_line.ErrorLine.{ErrorLine}
 use Rattle.mc_parse.specs.declared.error_line.ErrorLine.TheVariants as Errors
-use Rattle.mc_parse.specs.declared.need.Need.{Need}
-use Rattle.mc_parse.specs.declared.need.Need.TheVariants as Needs
 use Rattle.mc_parse.specs.declared.verb.Verb.{Verb}
-use Rattle.zy_base.specs.Number.{number_of}
-use Rattle.zy_base.specs.Shard.{value_limit}
 use Rattle.mc_parse.specs.Number.{small_number_of, is_zero}
 use Rattle.mc_parse.specs.Name.{names, name_among, arity_of}
 use Rattle.mc_parse.specs.Arity.{Following, but_last, following, has_count, lacks_noreply, asks_silence}
 use Rattle.mc_parse.specs.MetaAsk.{MetaAsk, noops, meta_gets, meta_stores, meta_exchanges, meta_deletes}
 use Rattle.mc_parse.specs.Form.{Ask, gets, deletes, counts, sets_verbosity, flushes, metas, Form, faulty, asks, keys_among, sizes_of, store_ask, store_words, cas_ask, cas_words, delete_words, count_words, verbosity_words, with_zero, ask_of, number_fault, check, find, form_with, form_after, form_of, meta_form, form_in, line_form}
-use Rattle.mc_parse.specs.Need.{need}
-use Rattle.mc_parse.specs.Words.{line_limit}
 use Rattle.mc_parse.specs.Meaning.{is_ended, value_of, alone_meta, value_meta, value_command, command_for, block_command_for, large_command_for, line_command, block_command, large_command}
-use Rattle.zy_frame.specs.declared.frame_kind.FrameKind.TheVariants as Kinds
-use Rattle.zy_frame.specs.Line.{Ended, first_line, chomped, line_feed}
-use Rattle.zy_frame.specs.Frame.{IsFrameText, tail_length, frame_by, frame_at, frame_in, frame_of, command_of}
-use Rattle.zy_frame.proofs.LineEnds.{length-chomped}
-use Rattle.zy_frame.proofs.LineLemmas.{spelled}
-
--- the flags that were read
-abbrev Of : {A : Type 0} → A → Type 0
-Of {A} a = A
-
-abbrev Flags : Type 0
-Flags = Of no_flags
+use Rattle.mc_parse.specs.Calls.{calls_of, call_alone, meta_calls, on_shard, get_at}
 
 -- ---- widths
 
@@ -72,60 +59,6 @@ ask_width ask = 0
 abbrev form_width : Form → ℕ
 form_width (faulty line) = 0
 form_width (asks ask quiet) = ask_width ask
-
-abbrev line_width : MetaLine → ℕ
-line_width (Lines.Get key flags) = length flags
-line_width (Lines.Set key bytes flags unique mode marks) = length marks
-line_width (Lines.Delete key flags) = length flags
-line_width line = 0
-
--- ---- the words of a line
-
-put_size : (byte : ℕ) (pieces : List (List ℕ)) → length (put_before byte pieces) ≤ length pieces + 1
-put_size byte [] = omega arith
-put_size byte (piece ∷ pieces) = omega arith
-
-put_kept : (byte : ℕ) (pieces : List (List ℕ)) → 0 < length pieces → length (put_before byte pieces) ≤ length pieces
-put_kept byte [] some = absurd (omega arith)
-put_kept byte (piece ∷ pieces) some = omega arith
-
-pieces_some : (text : List ℕ) → 0 < length (pieces_of text)
-pieces_some [] = omega arith
-pieces_some (byte ∷ bytes) = go (byte == 32) (pieces_of bytes)
-  where
-    go : (b : Bool) (pieces : List (List ℕ)) → 0 < length (if b then [] ∷ pieces else put_before byte pieces)
-    go true pieces = omega arith
-    go false [] = omega arith
-    go false (piece ∷ pieces) = omega arith
-
--- a text has at most one piece more than bytes
-pieces_few : (text : List ℕ) → length (pieces_of text) ≤ length text + 1
-pieces_few [] = omega arith
-pieces_few (byte ∷ bytes) = go (byte == 32) (pieces_few bytes)
-  where
-    go : (b : Bool) → length (pieces_of bytes) ≤ length bytes + 1 → length (if b then [] ∷ pieces_of bytes else put_before byte (pieces_of bytes)) ≤ length (byte ∷ bytes) + 1
-    go true few = omega (arith, few)
-    go false few = omega (arith, few, put_kept byte (pieces_of bytes) (pieces_some bytes))
-
-pub filter_few : {X : Type 0} (p : X → Bool) (xs : List X) → length (filter p xs) ≤ length xs
-filter_few p [] = omega arith
-filter_few p (x ∷ xs) = go (p x) (filter_few p xs)
-  where
-    go : (b : Bool) → length (filter p xs) ≤ length xs → length (if b then x ∷ filter p xs else filter p xs) ≤ length (x ∷ xs)
-    go true few = omega (arith, few)
-    go false few = omega (arith, few)
-
-words_few : (line : List ℕ) → length (words line) ≤ length line + 1
-unfolding words
-words_few line = omega (arith, filter_few has_byte (pieces_of line), pieces_few line)
-
-placed_size : (at : ℕ) (pieces : List (List ℕ)) → length (placed at pieces) ≡ length pieces
-placed_size at [] = refl
-placed_size at (piece ∷ pieces) = let rest = placed_size (at + length piece + 1) pieces in omega (arith, rest)
-
-placed_few : (at : ℕ) (text : List ℕ) → length (words_at at text) ≤ length text + 1
-unfolding words_at
-placed_few at text = omega (arith, filter_few is_placed_word (placed at (pieces_of text)), placed_size at (pieces_of text), pieces_few text)
 
 -- ---- classic lines
 
@@ -272,111 +205,7 @@ classic_width word ws =
       ),
     ))
 
--- ---- meta lines
-
--- further flags have at most so many more marks
-abbrev HasFewMarks : ℕ → Option Flags → Type 0
-HasFewMarks n None = Unit {0}
-HasFewMarks n (Some said) = length said.marks ≤ n
-
-marks_mapped : {X : Type 0} (n : ℕ) (f : X → Flags) (o : Option X) → ((x : X) → length (f x).marks ≤ n) → HasFewMarks n (option_map f o)
-marks_mapped n f None each = tt
-marks_mapped n f (Some x) each = each x
-
-lone_marks : (said : Flags) (letter : ℕ) (token : List ℕ) → HasFewMarks (length said.marks + 1) (with_lone said letter token)
-lone_marks said letter [] = let size = length-append said.marks (letter ∷ []) in omega (arith, size)
-lone_marks said letter (byte ∷ token) = tt
-
-token_marks : (said : Flags) (letter : ℕ) (token : List ℕ) → HasFewMarks (length said.marks + 1) (with_token said letter token)
-token_marks said letter token = go (letter == 70) (letter == 67) (letter == 77) (letter == 84) (is_exptime token)
-  where
-    go : (f c m t e : Bool) → HasFewMarks (length said.marks + 1)
-        (if f then option_map (with_flags said) (small_token token) else if c then option_map (with_unique said) (token_number token) else if m then option_map (with_mode said) (mode_of token)
-        else if t then (if e then Some said else None) else with_lone said letter token)
-    go true c m t e = marks_mapped (length said.marks + 1) (with_flags said) (small_token token) (λ x. omega arith)
-    go false true m t e = marks_mapped (length said.marks + 1) (with_unique said) (token_number token) (λ x. omega arith)
-    go false false true t e = marks_mapped (length said.marks + 1) (with_mode said) (mode_of token) (λ x. omega arith)
-    go false false false true true = omega arith
-    go false false false true false = tt
-    go false false false false e = lone_marks said letter token
-
-flag_marks : (listed : List ℕ) (said : Flags) (word : List ℕ) → HasFewMarks (length said.marks + 1) (with_flag listed said word)
-flag_marks listed said [] = tt
-flag_marks listed said (letter ∷ token) = go (is_among listed letter && not (is_among said.seen letter))
-  where
-    go : (b : Bool) → HasFewMarks (length said.marks + 1) (if b then with_token (with_letter said letter) letter token else None)
-    go true = token_marks (with_letter said letter) letter token
-    go false = tt
-
-more_marks : (n m : ℕ) (o : Option Flags) → n ≤ m → HasFewMarks n o → HasFewMarks m o
-more_marks n m None less few = tt
-more_marks n m (Some said) less few = omega (arith, less, few)
-
-flags_marks : (listed : List ℕ) (said : Flags) (ws : List Placed) → HasFewMarks (length said.marks + length ws) (flags_after listed said ws)
-flags_marks listed said [] = omega arith
-flags_marks listed said (word ∷ ws) = go (with_flag listed said word.text) (flag_marks listed said word.text) (λ next. flags_marks listed next ws)
-  where
-    go : (o : Option Flags) → HasFewMarks (length said.marks + 1) o → ((next : Flags) → HasFewMarks (length next.marks + length ws) (flags_after listed next ws))
-        → HasFewMarks (length said.marks + length (word ∷ ws)) (option_and_then (λ next. flags_after listed next ws) o)
-    go None few rest = tt
-    go (Some next) few rest = more_marks (length next.marks + length ws) (length said.marks + length (word ∷ ws)) (flags_after listed next ws) (omega (arith, few)) (rest next)
-
-all_marks : (listed : List ℕ) (ws : List Placed) → HasFewMarks (length ws) (flags_of listed ws)
-all_marks listed ws = more_marks (length no_flags.marks + length ws) (length ws) (flags_of listed ws) (omega arith) (flags_marks listed no_flags ws)
-
-kept_width : (n : ℕ) (b : Bool) (line : MetaLine) → line_width line ≤ n → line_width (if b then line else Lines.Bad) ≤ n
-kept_width n true line few = few
-kept_width n false line few = omega arith
-
-get_width : (n : ℕ) (key : Placed) (o : Option Flags) → HasFewMarks n o → line_width (get_with key o) ≤ n
-get_width n key None few = omega arith
-get_width n key (Some said) few = few
-
-delete_width : (n : ℕ) (key : Placed) (o : Option Flags) → HasFewMarks n o → line_width (delete_with key o) ≤ n
-delete_width n key None few = omega arith
-delete_width n key (Some said) few = few
-
-set_width : (n : ℕ) (key : Placed) (bytes : Option ℕ) (o : Option Flags) → HasFewMarks n o → line_width (set_with key bytes o) ≤ n
-set_width n key None None few = omega arith
-set_width n key None (Some said) few = omega arith
-set_width n key (Some bytes) None few = omega arith
-set_width n key (Some bytes) (Some said) few = kept_width n (agrees said.unique said.mode) (Lines.Set (span_of key) bytes said.flags said.unique said.mode said.marks) few
-
-noop_width : (n : ℕ) (ws : List Placed) → line_width (noop_line ws) ≤ n
-noop_width n [] = omega arith
-noop_width n (word ∷ ws) = omega arith
-
-got_width : (ws : List Placed) → line_width (get_line ws) ≤ length ws
-got_width [] = omega arith
-got_width (key ∷ ws) = let few = kept_width (length ws) (is_key key.text) (get_with key (flags_of get_letters ws)) (get_width (length ws) key (flags_of get_letters ws) (all_marks get_letters ws)) in omega (arith, few)
-
-stored_width : (ws : List Placed) → line_width (set_line ws) ≤ length ws
-stored_width [] = omega arith
-stored_width (key ∷ []) = omega arith
-stored_width (key ∷ datalen ∷ ws) =
-    let few = kept_width (length ws) (is_key key.text) (set_with key (small_token datalen.text) (flags_of set_letters ws)) (set_width (length ws) key (small_token datalen.text) (flags_of set_letters ws) (all_marks set_letters ws)) in
-    omega (arith, few)
-
-deleted_width : (ws : List Placed) → line_width (delete_line ws) ≤ length ws
-deleted_width [] = omega arith
-deleted_width (key ∷ ws) = let few = kept_width (length ws) (is_key key.text) (delete_with key (flags_of delete_letters ws)) (delete_width (length ws) key (flags_of delete_letters ws) (all_marks delete_letters ws)) in omega (arith, few)
-
-named_width : (name : List ℕ) (ws : List Placed) → line_width (line_of name ws) ≤ length ws
-named_width name ws = go (bytes_eq name (codes "mn")) (bytes_eq name (codes "mg")) (bytes_eq name (codes "ms")) (bytes_eq name (codes "md"))
-  where
-    go : (n g s d : Bool) → line_width (if n then noop_line ws else if g then get_line ws else if s then set_line ws else if d then delete_line ws else Lines.Other) ≤ length ws
-    go true g s d = noop_width (length ws) ws
-    go false true s d = got_width ws
-    go false false true d = stored_width ws
-    go false false false true = deleted_width ws
-    go false false false false = omega arith
-
-words_width : (n : ℕ) (ws : List Placed) → length ws ≤ n + 1 → line_width (meta_of ws) ≤ n
-words_width n [] few = omega arith
-words_width n (name ∷ ws) few = omega (arith, few, named_width name.text ws)
-
-meta_line_width : (line : List ℕ) → line_width (meta_line line) ≤ length line
-meta_line_width line = words_width (length line) (words_at 0 line) (placed_few 0 line)
+-- ---- lines
 
 meta_form_width : (line : List ℕ) (said : MetaLine) → form_width (meta_form line said) ≤ line_width said
 meta_form_width line Lines.Other = omega arith
@@ -387,8 +216,6 @@ meta_form_width line (Lines.Get key flags) = omega arith
 meta_form_width line (Lines.Set key bytes flags None mode marks) = omega arith
 meta_form_width line (Lines.Set key bytes flags (Some unique) mode marks) = omega arith
 meta_form_width line (Lines.Delete key flags) = omega arith
-
--- ---- lines
 
 line_form_width : (line : List ℕ) → form_width (line_form line) ≤ length line
 line_form_width line = go (words line) (words_few line)
@@ -439,43 +266,40 @@ refused_width : (form : Form) → width (large_command_for form) ≤ 0
 refused_width (faulty line) = omega arith
 refused_width (asks ask quiet) = omega arith
 
-line_command_width : (line : List ℕ) → width (line_command line) ≤ length line
+pub line_command_width : (line : List ℕ) → width (line_command line) ≤ length line
 unfolding line_command
 line_command_width line = omega (arith, alone_width (line_form line), line_form_width line)
 
-block_command_width : (line block : List ℕ) → width (block_command line block) ≤ length line
+pub block_command_width : (line block : List ℕ) → width (block_command line block) ≤ length line
 unfolding block_command
 block_command_width line block = omega (arith, ended_width (line_form line) block, line_form_width line)
 
-large_command_width : (line : List ℕ) → width (large_command line) ≤ length line
+pub large_command_width : (line : List ℕ) → width (large_command line) ≤ length line
 unfolding large_command
 large_command_width line = omega (arith, refused_width (line_form line))
 
--- ---- frames
+-- ---- calls
 
-needed_width : (n : Need) (line after : List ℕ) → width (command_of (frame_by n line after)) ≤ length line
-needed_width Needs.Nothing line after = line_command_width line
-needed_width (Needs.Block bytes) line after = go (nat_lt value_limit bytes)
+metas_few : (shards : ℕ) (meta : MetaCommand) → length (meta_calls shards meta) ≤ 1
+metas_few shards Metas.Noop = omega arith
+metas_few shards (Metas.Get key flags) = omega arith
+metas_few shards (Metas.Set key call marks) = go (key_of call)
   where
-    go : (b : Bool) → width (command_of (if b then Kinds.Large line else Kinds.Block line after)) ≤ length line
-    go true = large_command_width line
-    go false = block_command_width line after
-needed_width Needs.Quit line after = omega arith
+    go : (key : Option (List ℕ)) → length (call_alone shards call key) ≤ 1
+    go None = omega arith
+    go (Some key) = omega arith
+metas_few shards (Metas.Delete key flags) = omega arith
 
-frame_width : (line after : List ℕ) → width (command_of (frame_at line after)) ≤ length line
-frame_width line after = go (nat_lt line_limit (length line))
-  where
-    go : (b : Bool) → width (command_of (if b then Kinds.Long else frame_by (need (chomped line)) (chomped line) after)) ≤ length line
-    go true = omega arith
-    go false = omega (arith, needed_width (need (chomped line)) (chomped line) after, length-chomped line)
-
--- a command has fewer keys and letters than its frame text has bytes
-pub text_width : (text : List ℕ) → IsFrameText text → width (command_of (frame_of text)) + 1 ≤ length text
-text_width text is = go (first_line text) refl is
-  where
-    go : (o : Option Ended) → first_line text ≡ o → MatchOption o ⊥ (λ ended. tail_length ended.line ≡ Some (length ended.after)) → width (command_of (frame_in o)) + 1 ≤ length text
-    go None found none = absurd none
-    go (Some ended) found tail =
-        let whole = ap length (spelled text ended found).text_is in
-        let size = length-append ended.line (line_feed ∷ ended.after) in
-        omega (arith, whole, size, frame_width ended.line ended.after)
+-- the number of calls of a command, on at most 256 shards
+pub calls_few : (shards : ℕ) (command : Command) → shards ≤ 256 → length (calls_of shards command) ≤ 256 * (width command + 1)
+calls_few shards (Store verb key flags value quiet) few = omega arith
+calls_few shards (Cas key flags unique value quiet) few = omega arith
+calls_few shards (Get keys unique) few = let size = length-map keys (get_at shards) in omega (arith, size)
+calls_few shards (Delete key quiet) few = omega arith
+calls_few shards (Count key up amount quiet) few = omega arith
+calls_few shards (Flush quiet) few = let size = length-map-range_with_len (on_shard FlushCall) 0 shards in omega (arith, size, few)
+calls_few shards Stats few = let size = length-map-range_with_len (on_shard Tally) 0 shards in omega (arith, size, few)
+calls_few shards (Meta meta) few = omega (arith, metas_few shards meta)
+calls_few shards Version few = omega arith
+calls_few shards (Verbosity quiet) few = omega arith
+calls_few shards (Fault fault quiet) few = omega arith

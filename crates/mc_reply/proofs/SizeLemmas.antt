@@ -14,12 +14,14 @@ use Rattle.mc_parse.specs.declared.error_line.ErrorLine.TheVariants as Errors
 use Rattle.mc_parse.specs.declared.meta.Meta.{Meta as MetaCommand}
 use Rattle.mc_parse.specs.declared.meta.Meta.TheVariants as Metas
 use Rattle.mc_parse.specs.Bounds.{IsMeta, IsCommand}
+use Rattle.mc_parse.proofs.WidthLemmas.{letters_in, width}
 use Rattle.mc_meta.specs.Flags.{is_among}
 use Rattle.mc_reply.specs.Line.{line, line_end, unless}
 use Rattle.mc_reply.specs.MetaText.{found_of, item_mark, found_mark, mark_text, marks_text, marked, hit_text, get_text, set_text, delete_text, meta_text, has_quiet_letter, value_letter}
-use Rattle.mc_reply.specs.StatsText.{stats_text}
+use Rattle.mc_reply.specs.declared.stats.Stat.{Stat}
+use Rattle.mc_reply.specs.declared.stats.Stat.TheVariants.{Gets, Sets, Hits, Misses, Items}
+use Rattle.mc_reply.specs.StatsText.{stat_name, stat_in, sum_in, sum_line, stats_text}
 use Rattle.mc_reply.specs.Text.{error_line, reply_line, only_line, head_text, unique_text, item_line, item_text, items_text, text}
-use Rattle.zy_check.proofs.WidthLemmas.{letters_in, width}
 
 -- a reply whose value and whose numbers are within their bounds
 pub record IsSmall (reply : CallReply) : Type 0 where
@@ -136,156 +138,65 @@ items_few asked (key ∷ keys) (reply ∷ replies) are small =
 
 -- ---- statistics
 
--- one of the numbers of a tally, and nothing of another reply
-record IsCount (count : CallReply → ℕ) : Type 0 where
-  of_miss : count (Miss) ≡ 0
-  of_hit : (flags unique : ℕ) (value : List ℕ) → count (Hit flags unique value) ≡ 0
-  of_stored : count (Stored) ≡ 0
-  of_not_stored : count (NotStored) ≡ 0
-  of_exists : count (Exists) ≡ 0
-  of_not_found : count (NotFound) ≡ 0
-  of_deleted : count (Deleted) ≡ 0
-  of_number : (n : ℕ) → count (Number n) ≡ 0
-  of_not_number : count (NotNumber) ≡ 0
-  of_too_large : count (TooLarge) ≡ 0
-  of_flushed : count (Flushed) ≡ 0
-  of_tally : (gets sets hits misses items : ℕ) → count (Tally gets sets hits misses items) ≤ gets + (sets + (hits + (misses + items)))
+-- a number of a tally has at most 64 bits; another reply counts nothing
+stat_few : (stat : Stat) (reply : CallReply) → IsSmall reply → stat_in stat reply ≤ 2 ^ 64
+stat_few Gets (Tally gets sets hits misses items) small = let few = small.fits.1.0 in omega (arith, few)
+stat_few Gets reply small = omega arith
+stat_few Sets (Tally gets sets hits misses items) small = let few = small.fits.1.1 in omega (arith, few)
+stat_few Sets reply small = omega arith
+stat_few Hits (Tally gets sets hits misses items) small = let few = small.fits.1.2 in omega (arith, few)
+stat_few Hits reply small = omega arith
+stat_few Misses (Tally gets sets hits misses items) small = let few = small.fits.1.3 in omega (arith, few)
+stat_few Misses reply small = omega arith
+stat_few Items (Tally gets sets hits misses items) small = let few = small.fits.1.4 in omega (arith, few)
+stat_few Items reply small = omega arith
 
-count_few : (count : CallReply → ℕ) → IsCount count → (reply : CallReply) → IsSmall reply → count reply ≤ 92233720368547758075
-count_few count is (Miss) small = omega (arith, is.of_miss)
-count_few count is (Hit flags unique value) small = omega (arith, is.of_hit flags unique value)
-count_few count is (Stored) small = omega (arith, is.of_stored)
-count_few count is (NotStored) small = omega (arith, is.of_not_stored)
-count_few count is (Exists) small = omega (arith, is.of_exists)
-count_few count is (NotFound) small = omega (arith, is.of_not_found)
-count_few count is (Deleted) small = omega (arith, is.of_deleted)
-count_few count is (Number n) small = omega (arith, is.of_number n)
-count_few count is (NotNumber) small = omega (arith, is.of_not_number)
-count_few count is (TooLarge) small = omega (arith, is.of_too_large)
-count_few count is (Flushed) small = omega (arith, is.of_flushed)
-count_few count is (Tally gets sets hits misses items) small =
-    let one = small.fits.1.0 in
-    let two = small.fits.1.1 in
-    let three = small.fits.1.2 in
-    let four = small.fits.1.3 in
-    let five = small.fits.1.4 in
-    omega (arith, is.of_tally gets sets hits misses items, one, two, three, four, five)
+sum_few : (stat : Stat) (replies : List CallReply) → AllByRecursion IsSmall replies → sum_in stat replies ≤ 2 ^ 64 * length replies
+sum_few stat [] small = omega arith
+sum_few stat (reply ∷ replies) small =
+    omega (arith, sum_by-cons (stat_in stat) reply replies, stat_few stat reply small.0, sum_few stat replies small.1)
 
-sum_few : (count : CallReply → ℕ) → IsCount count → (replies : List CallReply) → AllByRecursion IsSmall replies → sum_by count replies ≤ 92233720368547758075 * length replies
-sum_few count is [] small = omega arith
-sum_few count is (reply ∷ replies) small = omega (arith, sum_by-cons count reply replies, count_few count is reply small.0, sum_few count is replies small.1)
+name_few : (stat : Stat) → length (stat_name stat) ≤ 10
+name_few Gets = omega arith
+name_few Sets = omega arith
+name_few Hits = omega arith
+name_few Misses = omega arith
+name_few Items = omega arith
 
--- the line of a number with this name
-abbrev named_line : List ℕ → ℕ → List ℕ
-named_line name number = line (codes "STAT " ++ name ++ codes " " ++ decimal number)
-
-named_few : (name : List ℕ) (count : CallReply → ℕ) (replies : List CallReply) → IsCount count → length name ≤ 10 → AllByRecursion IsSmall replies → length replies ≤ 1099511627776
-    → length (named_line name (sum_by count replies)) ≤ 51
-named_few name count replies is brief small few =
-    let number = sum_by count replies in
-    let sum = sum_few count is replies small in
+sum_line_few : (stat : Stat) (replies : List CallReply) → AllByRecursion IsSmall replies → length replies ≤ 1099511627776 → length (sum_line stat replies) ≤ 51
+sum_line_few stat replies small few =
+    let number = sum_in stat replies in
+    let sum = sum_few stat replies small in
     let digits = length-decimal-le_wide 33 number (omega arith) (omega (arith, sum, few)) (omega (arith, sum, few)) in
-    omega (arith, digits, brief, four_parts (codes "STAT ") name (codes " ") (decimal number), line_size (codes "STAT " ++ name ++ codes " " ++ decimal number))
-
--- the lines of five numbers, and the end
-abbrev five_lines : (CallReply → ℕ) → (CallReply → ℕ) → (CallReply → ℕ) → (CallReply → ℕ) → (CallReply → ℕ) → List CallReply → List ℕ
-five_lines a b c d e replies =
-    named_line (codes "cmd_get") (sum_by a replies) ++ (named_line (codes "cmd_set") (sum_by b replies)
-    ++ (named_line (codes "get_hits") (sum_by c replies) ++ (named_line (codes "get_misses") (sum_by d replies)
-    ++ (named_line (codes "curr_items") (sum_by e replies) ++ line (codes "END")))))
-
-five_few : (text : List ℕ) (replies : List CallReply) {a b c d e : CallReply → ℕ} → text ≡ five_lines a b c d e replies → IsCount a → IsCount b → IsCount c → IsCount d → IsCount e
-    → AllByRecursion IsSmall replies → length replies ≤ 1099511627776 → length text ≤ 300
-five_few text replies {a} {b} {c} {d} {e} is x y z v w small few =
-    let end = line (codes "END") in
-    let l1 = named_line (codes "cmd_get") (sum_by a replies) in
-    let l2 = named_line (codes "cmd_set") (sum_by b replies) in
-    let l3 = named_line (codes "get_hits") (sum_by c replies) in
-    let l4 = named_line (codes "get_misses") (sum_by d replies) in
-    let l5 = named_line (codes "curr_items") (sum_by e replies) in
-    let whole = ap (λ (l : List ℕ). length l) is in
     omega (
       arith,
-      whole,
+      digits,
+      name_few stat,
+      four_parts (codes "STAT ") (stat_name stat) (codes " ") (decimal number),
+      line_size (codes "STAT " ++ stat_name stat ++ codes " " ++ decimal number),
+    )
+
+stats_few : (replies : List CallReply) → AllByRecursion IsSmall replies → length replies ≤ 1099511627776 → length (stats_text replies) ≤ 300
+stats_few replies small few =
+    let end = line (codes "END") in
+    let l1 = sum_line Gets replies in
+    let l2 = sum_line Sets replies in
+    let l3 = sum_line Hits replies in
+    let l4 = sum_line Misses replies in
+    let l5 = sum_line Items replies in
+    omega (
+      arith,
       length-append l1 (l2 ++ (l3 ++ (l4 ++ (l5 ++ end)))),
       length-append l2 (l3 ++ (l4 ++ (l5 ++ end))),
       length-append l3 (l4 ++ (l5 ++ end)),
       length-append l4 (l5 ++ end),
       length-append l5 end,
-      named_few (codes "cmd_get") a replies x (omega arith) small few,
-      named_few (codes "cmd_set") b replies y (omega arith) small few,
-      named_few (codes "get_hits") c replies z (omega arith) small few,
-      named_few (codes "get_misses") d replies v (omega arith) small few,
-      named_few (codes "curr_items") e replies w (omega arith) small few,
+      sum_line_few Gets replies small few,
+      sum_line_few Sets replies small few,
+      sum_line_few Hits replies small few,
+      sum_line_few Misses replies small few,
+      sum_line_few Items replies small few,
     )
-
-stats_few : (replies : List CallReply) → AllByRecursion IsSmall replies → length replies ≤ 1099511627776 → length (stats_text replies) ≤ 300
-stats_few replies small few = five_few (stats_text replies) replies refl (record {
-  of_miss = refl;
-  of_hit = λ flags unique value. refl;
-  of_stored = refl;
-  of_not_stored = refl;
-  of_exists = refl;
-  of_not_found = refl;
-  of_deleted = refl;
-  of_number = λ n. refl;
-  of_not_number = refl;
-  of_too_large = refl;
-  of_flushed = refl;
-  of_tally = λ gets sets hits misses items. omega arith;
-}) (record {
-  of_miss = refl;
-  of_hit = λ flags unique value. refl;
-  of_stored = refl;
-  of_not_stored = refl;
-  of_exists = refl;
-  of_not_found = refl;
-  of_deleted = refl;
-  of_number = λ n. refl;
-  of_not_number = refl;
-  of_too_large = refl;
-  of_flushed = refl;
-  of_tally = λ gets sets hits misses items. omega arith;
-}) (record {
-  of_miss = refl;
-  of_hit = λ flags unique value. refl;
-  of_stored = refl;
-  of_not_stored = refl;
-  of_exists = refl;
-  of_not_found = refl;
-  of_deleted = refl;
-  of_number = λ n. refl;
-  of_not_number = refl;
-  of_too_large = refl;
-  of_flushed = refl;
-  of_tally = λ gets sets hits misses items. omega arith;
-}) (record {
-  of_miss = refl;
-  of_hit = λ flags unique value. refl;
-  of_stored = refl;
-  of_not_stored = refl;
-  of_exists = refl;
-  of_not_found = refl;
-  of_deleted = refl;
-  of_number = λ n. refl;
-  of_not_number = refl;
-  of_too_large = refl;
-  of_flushed = refl;
-  of_tally = λ gets sets hits misses items. omega arith;
-}) (record {
-  of_miss = refl;
-  of_hit = λ flags unique value. refl;
-  of_stored = refl;
-  of_not_stored = refl;
-  of_exists = refl;
-  of_not_found = refl;
-  of_deleted = refl;
-  of_number = λ n. refl;
-  of_not_number = refl;
-  of_too_large = refl;
-  of_flushed = refl;
-  of_tally = λ gets sets hits misses items. omega arith;
-}) small few
 
 -- ---- meta commands
 
