@@ -22,15 +22,19 @@ Cost = collections.namedtuple("Cost", "wall used resident")
 CONNECTIONS = 200
 
 
-def name():
-    """The script, as it is called."""
-    return "bench/run " + os.path.basename(sys.argv[0]).removesuffix(".py")
+NAME = "bench/run " + os.path.basename(sys.argv[0]).removesuffix(".py")
+
+
+def called(name):
+    """Sets the name of the script in what it says."""
+    global NAME
+    NAME = name
 
 
 def stop(why, status=1):
     """Ends the script with a line."""
     sys.stdout.flush()
-    print(f"{name()}: {why}", file=sys.stderr)
+    print(f"{NAME}: {why}", file=sys.stderr)
     sys.exit(status)
 
 
@@ -38,31 +42,29 @@ def stop(why, status=1):
 
 
 class Words(argparse.ArgumentParser):
-    """The words of a script, whose page is its own text."""
+    """The words of a script, whose page is its own text; a program that is built may be the last of them."""
 
-    def __init__(self, page):
-        super().__init__(prog=name(), usage=argparse.SUPPRESS, add_help=False)
-        self.page = page.strip()
+    def __init__(self, page, *last):
+        super().__init__(prog=NAME, usage=argparse.SUPPRESS, add_help=False, allow_abbrev=False)
+        self.page, self.last = page.strip(), last
         self.add_argument("-h", "--help", action="store_true")
 
     def error(self, message):
         stop(f"{message}; --help says more", 2)
 
-    def given(self):
-        found = self.parse_args()
+    def given(self, words=None):
+        for name in self.last:
+            self.add_argument(name, nargs="?")
+        found = self.parse_args(words)
         if found.help:
             sys.exit(print(self.page))
         return found
 
-    def program(self):
-        """Lets a program be given that is built."""
-        self.add_argument("program", nargs="?")
-
 
 def count(text):
-    """A number above 0."""
+    """A whole number above 0."""
     if not text.isdigit() or not int(text):
-        raise argparse.ArgumentTypeError(f"{text} is no number above 0")
+        raise argparse.ArgumentTypeError(f"{text} is no whole number above 0")
     return int(text)
 
 
@@ -80,15 +82,25 @@ def built(program, given=None):
     return os.path.join(TOP, "crates", program, "out", program)
 
 
-def machine():
-    """The machine, in a few words: processors, their kind, and the load of the last minute."""
+def machine_name():
+    """The machine, in a few words."""
     kind = ""
     try:
         with open("/proc/cpuinfo", encoding="utf-8") as file:
             kind = next((line.partition(":")[2].strip() for line in file if line.startswith("model name")), "")
     except OSError:
         pass
-    return f"{os.cpu_count()} processors{f' ({kind})' if kind else ''}, load before: {os.getloadavg()[0]:.1f}"
+    return f"{os.cpu_count()} processors" + (f", {kind}" if kind else "")
+
+
+def machine():
+    """The machine, the day, and how many of its processors were busy in the last minute."""
+    return f"{machine_name()}, {time.strftime('%Y-%m-%d %H:%M')}, load before: {os.getloadavg()[0]:.1f}"
+
+
+def command_line():
+    """The command that made a picture, less the program that was given."""
+    return " ".join([NAME, *(word for word in sys.argv[1:] if not os.access(word, os.X_OK) or not os.path.isfile(word))])
 
 
 # ---- runs

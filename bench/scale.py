@@ -4,7 +4,7 @@
 The traffic is that of `zygos gen --number 1` with 200 connections and 1,000,000 commands. The capture `even` is the
 generated one, with its own short segments: the connections are at home at all cores. In `skewed` all connections are at
 home at core 0, so that the other cores have only what they steal; it is also served by one core on one thread. In
-`large` the streams of `even` come in turn in segments of 1,400 bytes. Printed are the load of the machine, and for each
+`large` the streams of `even` come in turn in segments of 1,400 bytes. Printed are the machine, and for each
 kind and number of threads the medians of wall seconds and of processor seconds of the runs, how these compare with one
 thread, and from the journal of one further run the number of holds, the commands of a hold, how many holds had 1, 2 to 3,
 4 to 7 and so on up to 64 commands, and the share that was by another core than the connection's home.
@@ -13,47 +13,34 @@ Then `even` is served by 2 and 4 cores on as many threads with `--rest 0` and wi
 that gives it in 20 pieces, with a pause of 100 ms after each. The pauses are in the wall seconds; processor seconds are those
 of the program alone.
 
-usage: bench/run scale [--commands N] [--runs N] [--only KIND] [--picture] [PROGRAM]
+usage: bench/run scale [--commands N] [--runs N] [--only KIND] [--picture FILE] [PROGRAM]
 
---commands N  the number of commands (1000000)
---runs N      the number of timed runs of each kind (5)
---only KIND   even, skewed or large alone, or `rest` for the runs with and without rest
---picture     writes docs/scale.svg, for which all kinds are served
-PROGRAM       a program that is built (otherwise ./zygos, which proves and builds it first where it isn't)
+--commands N    the number of commands (1000000)
+--runs N        the number of timed runs of each kind (5)
+--only KIND     even, skewed or large alone, or `rest` for the runs with and without rest
+--picture FILE  writes a chart, as docs/scale.svg, for which all kinds are served
+PROGRAM         a program that is built (if left out, the repository's, which is proved and built first where it isn't)
 """
-import argparse
 import os
-import statistics
-import struct
 import subprocess
 import sys
 import tempfile
 import time
 
-TOP = os.path.dirname(os.path.dirname(os.path.realpath(__file__)))
-CONNECTIONS, MOST, NUMBERS = 200, 4, 4096
+import chart
+import common
+from formats import Part, capture, read_capture, segment
+
+MOST, NUMBERS = 4, 4096
 THREADS = (1, 2, 3, 4)
 SEGMENT = 1400
 SIZES = ("1", "2-3", "4-7", "8-15", "16-31", "32-63", "64")
 RESTS, RESTING, PIECES, PAUSE = (0, 100), (2, 4), 20, 0.1
+TOLD = {"even": "even", "skewed": "skewed: all at home at core 0", "large": "segments of 1,400 bytes"}
+COLOURS = {"even": chart.BLUE, "skewed": chart.ORANGE, "large": chart.GREEN}
 
 
-def segments(capture):
-    """The connection and the bytes of each segment of a generated capture."""
-    at = 12
-    while capture[at] == 83:  # S
-        conn, length = struct.unpack_from(">II", capture, at + 1)
-        yield conn, capture[at + 9 : at + 9 + length]
-        at += 9 + length
-
-
-def written(path, records):
-    """Writes a capture of these segments."""
-    with open(path, "wb") as file:
-        file.write(b"ZYGCAP1\n" + struct.pack(">I", NUMBERS))
-        for conn, text in records:
-            file.write(b"S" + struct.pack(">II", conn, len(text)) + text)
-        file.write(b"E")
+# ---- the kinds of capture
 
 
 def at_core_0(conn):
@@ -80,21 +67,13 @@ KINDS = {
 }
 
 
-def generated(program, commands):
-    """A generated capture of this number of commands."""
-    words = ["gen", "--number", "1", "--conns", str(CONNECTIONS), "--commands", str(commands // CONNECTIONS)]
-    return subprocess.run([program, *words], stdin=subprocess.DEVNULL, check=True, capture_output=True).stdout
+def written(path, kind, records):
+    """Writes the capture of a kind."""
+    with open(path, "wb") as file:
+        file.write(capture(NUMBERS, [segment(conn, text) for conn, text in KINDS[kind](records)]))
 
 
-def run(program, words, path, sink):
-    """Seconds and processor seconds of a run."""
-    begin = time.time()
-    with open(path, "rb") as source:
-        process = subprocess.Popen([program, "run", *words], stdin=source, stdout=sink)
-        _, status, used = os.wait4(process.pid, 0)
-    if status:
-        sys.exit(f"bench/run scale: the run ended with status {status >> 8}")
-    return time.time() - begin, used.ru_utime + used.ru_stime
+# ---- runs
 
 
 def give(path, end):
@@ -108,139 +87,124 @@ def give(path, end):
             time.sleep(PAUSE)
 
 
-def run_paused(program, words, path, sink):
-    """Seconds and processor seconds of a run whose input comes over a pipe that pauses."""
+def run_paused(command, path):
+    """What a run costs whose input comes over a pipe that pauses."""
     taken, given = os.pipe()
     begin = time.time()
-    process = subprocess.Popen([program, "run", *words], stdin=taken, stdout=sink)
+    process = subprocess.Popen(command, stdin=taken, stdout=subprocess.DEVNULL)
     os.close(taken)
     give(path, given)
-    _, status, used = os.wait4(process.pid, 0)
-    if status:
-        sys.exit(f"bench/run scale: the run ended with status {status >> 8}")
-    return time.time() - begin, used.ru_utime + used.ru_stime
+    return common.finished(process, begin)
 
 
 def with_rests(program, path, runs):
     """Prints what the even capture costs with and without rest, from a file and over a pipe that pauses."""
-    for serve, name in ((run, "from a file"), (run_paused, f"with {PIECES} pauses of {PAUSE * 1000:.0f} ms")):
+    for serve, name in ((common.run, "from a file"), (run_paused, f"with {PIECES} pauses of {PAUSE * 1000:.0f} ms")):
         for threads in RESTING:
             for rest in RESTS:
-                words = ["--cores", str(threads), "--threads", str(threads), "--rest", str(rest)]
-                with open(os.devnull, "wb") as sink:
-                    times = [serve(program, words, path, sink) for _ in range(runs)]
-                wall, used = (statistics.median(column) for column in zip(*times))
-                print(f"even, {name}, {threads} cores on as many threads, --rest {rest}: {wall:.2f} s, "
-                      f"{used:.2f} s of processor time", flush=True)
+                words = [program, "run", *common.cores(threads), "--rest", str(rest)]
+                cost = common.medians([serve(words, path) for _ in range(runs)])
+                print(f"even, {name}, {threads} cores on as many threads, --rest {rest}: {cost.wall:.2f} s, "
+                      f"{cost.used:.2f} s of processor time", flush=True)
 
 
 def holds(program, words, path, commands):
     """The connection, the core and the number of commands of each hold of a run. They are the last records of the
     journal, 13 bytes each, and have all commands together."""
-    with tempfile.TemporaryFile() as file:
-        run(program, [*words, "--out", "both"], path, file)
-        file.seek(0)
+    with tempfile.NamedTemporaryFile() as file:
+        common.run([program, "run", *words, "--out", "both"], path, file.name)
         journal = file.read()
     found, at, left = [], journal.index(b"EZYGREP1\n") - 13, commands
     while left > 0:
-        tag, conn, core, count = struct.unpack_from(">BIII", journal, at)
-        if tag != 72:  # H
-            sys.exit("bench/run scale: the holds of the journal do not have all commands")
-        found.append((conn, core, count))
-        at, left = at - 13, left - count
+        record = journal[at : at + 13]
+        if record[:1] != b"H":
+            common.stop("the holds of the journal do not have all commands")
+        found.append(tuple(int.from_bytes(record[begin : begin + 4], "big") for begin in (1, 5, 9)))
+        at, left = at - 13, left - found[-1][2]
     return found
 
 
-def measured(program, path, threads, cores, runs, commands):
-    """The median seconds and processor seconds of the runs, and what is said of the holds of a further one."""
-    words = ["--cores", str(cores), "--threads", str(threads)]
-    with open(os.devnull, "wb") as sink:
-        times = [run(program, words, path, sink) for _ in range(runs)]
-    found = holds(program, words, path, commands)
+def about_holds(program, path, threads, commands):
+    """What is said of the holds of a run."""
+    found = holds(program, common.cores(threads), path, commands)
     sizes = [0] * len(SIZES)
     for _, _, count in found:
         sizes[count.bit_length() - 1] += 1
-    away = sum(core != conn % 128 % cores for conn, core, _ in found) / len(found)
-    said = f"{len(found)} holds of {commands / len(found):.1f} commands, {away:.0%} stolen; " + ", ".join(
-        f"{size}: {count}" for size, count in zip(SIZES, sizes)
-    )
-    return (*(statistics.median(column) for column in zip(*times)), said)
+    away = sum(core != conn % 128 % threads for conn, core, _ in found) / len(found)
+    return f"{len(found)} holds of {commands / len(found):.1f} commands, {away:.0%} stolen; " + ", ".join(
+        f"{size}: {count}" for size, count in zip(SIZES, sizes))
 
 
-def picture(found, commands):
-    """A chart of commands a second by threads, for all kinds."""
-    rates = {kind: [commands / found[kind, threads][0] for threads in THREADS] for kind in KINDS}
-    top = max(rates["even"][0] * max(THREADS), *(rate for row in rates.values() for rate in row))
-    x = {threads: 70 + 110 * (threads - 1) for threads in THREADS}
+# ---- what is printed and drawn
 
-    def y(rate):
-        return 240 - 200 * rate / top
 
-    lines = ['<svg xmlns="http://www.w3.org/2000/svg" width="560" height="290" font-family="sans-serif" font-size="12">',
-             '<rect width="560" height="290" fill="white"/>',
-             '<text x="14" y="20">Commands a second, by threads with as many cores</text>',
-             '<path d="M70 30V240H420" fill="none" stroke="black"/>']
+def report(costs, kind, threads, about):
+    """Prints the medians of the runs, beside those of one thread."""
+    cost, alone = common.medians(costs[kind, threads]), common.medians(costs[kind, 1])
+    least, most = (which(run.wall for run in costs[kind, threads]) for which in (min, max))
+    print(f"{kind}, {threads} cores on as many threads: {cost.wall:.2f} s ({least:.2f} to {most:.2f}), {cost.used:.2f} s of "
+          f"processor time, {alone.wall / cost.wall:.2f} times as fast as one, {cost.used / alone.used:.2f} times the "
+          f"processor time\n  {about}", flush=True)
+
+
+def curve(costs, kind, commands):
+    """Thousands of commands a second by threads, with the spread of the runs."""
+    points = []
     for threads in THREADS:
-        lines.append(f'<text x="{x[threads]}" y="258" text-anchor="middle">{threads}</text>')
-    for step in range(5):
-        rate = top * step / 4
-        lines.append(f'<text x="64" y="{y(rate) + 4:.0f}" text-anchor="end">{rate / 1000:,.0f} k</text>')
-    first = rates["even"][0]
-    ideal = " ".join(f"{x[threads]},{y(first * threads):.0f}" for threads in THREADS)
-    lines.append(f'<polyline points="{ideal}" fill="none" stroke="gray" stroke-dasharray="4 4"/>')
-    names = [(y(first * max(THREADS)), "one thread, multiplied", "gray")]
-    for kind, colour in (("even", "#1f5fa8"), ("skewed", "#c0501f"), ("large", "#3a8a3a")):
-        points = [(x[threads], y(rate)) for threads, rate in zip(THREADS, rates[kind])]
-        drawn = " ".join(f"{at:.0f},{up:.0f}" for at, up in points)
-        lines.append(f'<polyline points="{drawn}" fill="none" stroke="{colour}" stroke-width="2"/>')
-        lines += [f'<circle cx="{at:.0f}" cy="{up:.0f}" r="3" fill="{colour}"/>' for at, up in points]
-        names.append((points[-1][1], kind, colour))
-    below = 0
-    for up, name, colour in sorted(names):
-        below = max(up, below + 15)
-        lines.append(f'<text x="{x[max(THREADS)] + 10}" y="{below + 4:.0f}" fill="{colour}">{name}</text>')
-    lines.append("</svg>\n")
-    return "\n".join(lines)
+        runs = costs[kind, threads]
+        rates = sorted(commands / run.wall / 1000 for run in runs)
+        points.append((threads, commands / common.medians(runs).wall / 1000, rates[0], rates[-1]))
+    times = ", ".join(f"{point[1] / points[0][1]:.2f}" for point in points[1:])
+    return chart.Curve(TOLD[kind], COLOURS[kind], points, notes=[f"{times} times one thread"])
 
 
-def words_given():
-    words = argparse.ArgumentParser(description=__doc__.strip(), formatter_class=argparse.RawDescriptionHelpFormatter)
-    words.add_argument("--commands", type=int, default=1000000)
-    words.add_argument("--runs", type=int, default=5)
-    words.add_argument("--only", choices=[*KINDS, "rest"])
-    words.add_argument("--picture", action="store_true")
-    words.add_argument("program", nargs="?", default=os.path.join(TOP, "zygos"))
-    return words.parse_args()
+def picture(costs, commands, runs):
+    """A chart of commands a second by threads, for all kinds; the dashed lines are multiples of one thread."""
+    curves = [curve(costs, kind, commands) for kind in KINDS]
+    top = max(of.points[0][1] * MOST for of in curves)
+    drawn = chart.Chart(f"Serving {commands:,} commands of {common.CONNECTIONS} connections",
+                        [common.machine_name(), f"as many cores as threads; median of {runs} runs, with the slowest and the "
+                         "fastest"],
+                        chart.Axis("threads", 1, MOST, list(THREADS)), chart.linear("thousands of commands a second", top))
+    for of in curves:
+        drawn.curve(of)
+    for of in curves:
+        ideal = [(threads, of.points[0][1] * threads) for threads in (1, MOST)]
+        (left, begin), (right, end) = drawn.at(*ideal[0]), drawn.at(*ideal[1])
+        drawn.line(left, begin, right, end, of.colour, ' stroke-dasharray="7 4" stroke-opacity="0.6"')
+    drawn.note("solid: measured", "dashed: one thread's rate", "times the number of threads")
+    return drawn
 
 
 def main():
-    given = words_given()
+    words = common.Words(__doc__, "program")
+    words.add_argument("--commands", type=common.count, default=1_000_000)
+    words.add_argument("--runs", type=common.count, default=5)
+    words.add_argument("--only", choices=[*KINDS, "rest"])
+    words.add_argument("--picture")
+    given = words.given()
+    program = common.built("zygos", given.program)
     kinds = [given.only] if given.only and not given.picture else [*KINDS, "rest"]
-    commands = max(1, given.commands // CONNECTIONS) * CONNECTIONS
-    capture, found = generated(given.program, commands), {}
-    load = ", ".join(f"{part:.1f}" for part in os.getloadavg())
-    print(f"{commands} commands, median of {given.runs} runs, {os.cpu_count()} processors, load before: {load}", flush=True)
+    commands = max(1, given.commands // common.CONNECTIONS) * common.CONNECTIONS
+    print(f"{commands} commands, median of {given.runs} runs, {common.machine()}", flush=True)
+    costs = {}
     with tempfile.TemporaryDirectory() as room:
+        with open(common.generated(program, os.path.join(room, "generated"), commands), "rb") as file:
+            records = read_capture(Part("capture", file.read())).records
         for kind in kinds:
             path = os.path.join(room, kind)
-            written(path, KINDS.get(kind, KINDS["even"])(segments(capture)))
+            written(path, "even" if kind == "rest" else kind, records)
             if kind == "rest":
-                with_rests(given.program, path, given.runs)
+                with_rests(program, path, given.runs)
             else:
                 for threads in THREADS:
-                    found[kind, threads] = measured(given.program, path, threads, threads, given.runs, commands)
-                    report(found, kind, threads)
+                    words = [program, "run", *common.cores(threads)]
+                    costs[kind, threads] = [common.run(words, path) for _ in range(given.runs)]
+                    report(costs, kind, threads, about_holds(program, path, threads, commands))
             os.remove(path)
     if given.picture:
-        with open(os.path.join(TOP, "docs", "scale.svg"), "w", encoding="utf-8") as file:
-            file.write(picture(found, commands))
-
-
-def report(found, kind, threads):
-    wall, used, said = found[kind, threads]
-    alone = found[kind, 1]
-    print(f"{kind}, {threads} cores on as many threads: {wall:.2f} s, {used:.2f} s of processor time, "
-          f"{alone[0] / wall:.2f} times as fast as one, {used / alone[1]:.2f} times the processor time\n  {said}", flush=True)
+        with open(given.picture, "w", encoding="utf-8") as file:
+            file.write(picture(costs, commands, given.runs).svg(common.command_line()))
 
 
 main()

@@ -1,0 +1,145 @@
+"""Charts of curves as SVG: axes with units and round ticks, the spread of the runs of a point, and the command that made it."""
+import html
+import math
+from dataclasses import dataclass, field
+
+WIDTH, HEIGHT, LEFT, RIGHT, BELOW = 760, 430, 84, 232, 92
+BLUE, ORANGE, GREEN, GOLD, GRAY, PURPLE = "#1f5fa8", "#c0501f", "#3a8a3a", "#b8860b", "#6f6f6f", "#7b3fa0"
+
+
+@dataclass
+class Axis:
+    """What an axis shows, from `low` to `high`; a logarithmic one begins above 0."""
+
+    label: str
+    low: float
+    high: float
+    ticks: list
+    is_log: bool = False
+
+    def place(self, value):
+        """Where a value is, as a part of the axis."""
+        change = math.log if self.is_log else float
+        value = min(max(value, self.low), self.high)
+        return (change(value) - change(self.low)) / (change(self.high) - change(self.low))
+
+
+@dataclass
+class Curve:
+    """A named curve of points (x, y) or (x, y, least, most), measured or computed."""
+
+    name: str
+    colour: str
+    points: list
+    is_computed: bool = False
+    notes: list = field(default_factory=list)
+
+
+def linear(label, top, most=6):
+    """An axis from 0 to a round number."""
+    size = 10 ** math.floor(math.log10(top / most))
+    step = next(size * part for part in (1, 2, 2.5, 5, 10) if top / (size * part) <= most)
+    count = math.ceil(top / step - 1e-9)
+    return Axis(label, 0, count * step, [step * at for at in range(count + 1)])
+
+
+def logarithmic(label, low, high):
+    """An axis with ticks at 1, 2 and 5 of each power of ten."""
+    every = [part * 10**power for power in range(-3, 13) for part in (1, 2, 5)]
+    return Axis(label, low, high, [tick for tick in every if low <= tick <= high], True)
+
+
+def doubling(label, values):
+    """A logarithmic axis with ticks at these values."""
+    return Axis(label, values[0], values[-1], list(values), True)
+
+
+def number(value):
+    return f"{value:,.0f}" if value == round(value) else f"{value:,g}"
+
+
+class Chart:
+    """A chart: a title, lines below it, two axes, curves, bounds, and notes below."""
+
+    def __init__(self, title, lines, x, y):
+        self.x, self.y, self.lines = x, y, []
+        self.top = 34 + 16 * len(lines) + 12
+        self.text(14, 24, title, size=15)
+        for at, line in enumerate(lines):
+            self.text(14, 42 + 16 * at, line, colour="#333333")
+        self.named = self.top + 10
+        self.draw_axes()
+
+    def text(self, x, y, text, anchor="start", size=12, colour="black", more=""):
+        self.lines.append(f'<text x="{x:.1f}" y="{y:.1f}" text-anchor="{anchor}" font-size="{size}" fill="{colour}"{more}>'
+                          f"{html.escape(text)}</text>")
+
+    def line(self, x1, y1, x2, y2, colour="black", more=""):
+        self.lines.append(f'<line x1="{x1:.1f}" y1="{y1:.1f}" x2="{x2:.1f}" y2="{y2:.1f}" stroke="{colour}"{more}/>')
+
+    def at(self, x, y):
+        """The place of a point."""
+        return (LEFT + self.x.place(x) * (WIDTH - LEFT - RIGHT),
+                HEIGHT - BELOW - self.y.place(y) * (HEIGHT - BELOW - self.top))
+
+    def draw_axes(self):
+        right, bottom = self.at(self.x.high, self.y.low)
+        for tick in self.y.ticks:
+            up = self.at(self.x.low, tick)[1]
+            self.line(LEFT, up, right, up, "#e2e2e2")
+            self.text(LEFT - 7, up + 4, number(tick), "end")
+        for tick in self.x.ticks:
+            across = self.at(tick, self.y.low)[0]
+            self.line(across, bottom, across, bottom + 5)
+            self.text(across, bottom + 19, number(tick), "middle")
+        self.line(LEFT, self.top, LEFT, bottom)
+        self.line(LEFT, bottom, right, bottom)
+        self.text((LEFT + right) / 2, bottom + 38, self.x.label, "middle")
+        middle = (self.top + bottom) / 2
+        self.text(20, middle, self.y.label, "middle", more=f' transform="rotate(-90 20 {middle:.1f})"')
+
+    def bound(self, value, name):
+        """A dotted line across the chart, with its name."""
+        left, up = self.at(self.x.low, value)
+        self.line(left, up, self.at(self.x.high, value)[0], up, "black", ' stroke-dasharray="2 3"')
+        self.text(left + 6, up - 5, name, size=11)
+
+    def curve(self, curve):
+        """Draws a curve: solid with points where it was measured, dashed where it is computed. It ends at the edge."""
+        shown = [point for point in curve.points if point[0] <= self.x.high]
+        beyond = next((at for at, point in enumerate(shown) if point[1] >= self.y.high), len(shown) - 1)
+        shown = shown[: beyond + 1]
+        dashes = ' stroke-dasharray="7 4"' if curve.is_computed else ""
+        line = " ".join("{:.1f},{:.1f}".format(*self.at(*point[:2])) for point in shown)
+        self.lines.append(f'<polyline points="{line}" fill="none" stroke="{curve.colour}" stroke-width="2"{dashes}/>')
+        for point in [] if curve.is_computed else shown:
+            across, up = self.at(*point[:2])
+            if len(point) == 4:
+                low, high = self.at(point[0], point[2])[1], self.at(point[0], point[3])[1]
+                self.lines.append(f'<path d="M{across:.1f} {low:.1f}V{high:.1f}M{across - 4:.1f} {low:.1f}h8M{across - 4:.1f} '
+                                  f'{high:.1f}h8" stroke="{curve.colour}" fill="none"/>')
+            self.lines.append(f'<circle cx="{across:.1f}" cy="{up:.1f}" r="3" fill="{curve.colour}"/>')
+        self.name(curve, dashes)
+
+    def name(self, curve, dashes):
+        """The curve's line, name and notes at the right."""
+        x = WIDTH - RIGHT + 18
+        self.line(x, self.named - 4, x + 26, self.named - 4, curve.colour, f' stroke-width="2"{dashes}')
+        self.text(x + 32, self.named, curve.name, colour=curve.colour)
+        for note in curve.notes:
+            self.named += 15
+            self.text(x + 32, self.named, note, size=11, colour="#333333")
+        self.named += 23
+
+    def note(self, *texts):
+        """Lines at the right, below the names of the curves."""
+        for text in texts:
+            self.text(WIDTH - RIGHT + 18, self.named + 4, text, size=11, colour="#333333")
+            self.named += 15
+
+    def svg(self, command):
+        """The chart; the command that made it is its last line."""
+        self.text(14, HEIGHT - 14, f"made by: {command}", size=11, colour="#333333")
+        head = (f'<svg xmlns="http://www.w3.org/2000/svg" width="{WIDTH}" height="{HEIGHT}" viewBox="0 0 {WIDTH} {HEIGHT}" '
+                'font-family="sans-serif">')
+        return "\n".join([head, f'<rect width="{WIDTH}" height="{HEIGHT}" fill="white"/>', *self.lines, "</svg>\n"])

@@ -1,0 +1,207 @@
+"""Times parts of the program by `zygos_bench`: what `bench/run` calls for the names in PARTS."""
+import os
+import random
+import struct
+import subprocess
+import sys
+import tempfile
+
+import common
+from formats import Call, Entry, Reply, capture as capture_of, journal as journal_of, segment
+
+
+class Bench:
+    """The program that times parts."""
+
+    def __init__(self, program):
+        self.program = program
+
+    def measured(self, *words, source=subprocess.DEVNULL):
+        """The count and the nanoseconds that the program prints."""
+        ran = subprocess.run([self.program, *map(str, words)], stdin=source, capture_output=True, check=False)
+        if ran.returncode:
+            common.stop(f"zygos_bench {' '.join(map(str, words))}: ended with status {ran.returncode}")
+        said = ran.stdout.split()
+        return int(said[0]), int(said[2])
+
+    def least(self, runs, *words):
+        """The count and the nanoseconds of the best of these runs."""
+        return min((self.measured(*words) for _ in range(runs)), key=lambda found: found[1])
+
+    def each(self, runs, *words):
+        """The nanoseconds of one, in the best of these runs."""
+        count, nanos = self.least(runs, *words)
+        return nanos / count
+
+    def fed(self, path, *words):
+        """The nanoseconds of the best of three runs on a file."""
+
+        def once():
+            with open(path, "rb") as source:
+                return self.measured(*words, source=source)[1]
+
+        return min(once() for _ in range(3))
+
+
+def shard(bench):
+    """calls on one shard, nine reads to one write, at 1,000, 100,000 and 1,000,000 keys"""
+    for keys in (1000, 100_000, 1_000_000):
+        found = sorted(bench.each(1, "shard", keys, 300_000) for _ in range(5))[2]
+        print(f"{keys} keys: {found:.0f} ns a call, {1e9 / found:.0f} calls a second")
+    return False
+
+
+def frames(bench):
+    """cutting 80 MB of traffic into frames, in pieces of 1, 100 and 65,535 bytes"""
+    total, times = 80_000_000, {}
+    for piece in (1, 100, 65535):
+        times[piece] = bench.least(3, "frames", total, piece)[1]
+        print(f"pieces of {piece} bytes: {total / times[piece] * 1e3:.0f} MB per second")
+    print(f"pieces of 1 byte cost {times[1] / times[65535]:.1f} times pieces of 65535")
+    return times[1] > 20 * times[65535]
+
+
+def parse(bench):
+    """reading the command of a line, up to its first call"""
+    print(f"{bench.each(5, 'parse', 40):.0f} ns a line")
+    return False
+
+
+def capture(bench):
+    """reading a capture of 80 MB"""
+    draws, left, records = random.Random(42), 80_000_000, []
+    while left > 0:
+        records.append(segment(draws.randrange(200), draws.randbytes(draws.randrange(65_536))))
+        left -= len(records[-1])
+    with tempfile.TemporaryDirectory() as room:
+        path = os.path.join(room, "capture")
+        with open(path, "wb") as out:
+            out.write(capture_of(200, records))
+        size = os.path.getsize(path)
+        print(f"{size} bytes: {size / bench.fed(path, 'capture') * 1e3:.0f} MB per processor second")
+    return False
+
+
+def journal(bench):
+    """merging 16 and 256 histories, writing a journal and reading one"""
+    worst = 0
+    for shards in (16, 256):
+        few, many = (bench.each(3, "journal", 1, entries, shards) for entries in (100_000, 1_000_000))
+        worst = max(worst, many / few * 10)
+        print(f"merging {shards} histories: {1e3 / many:.1f} million entries a second; "
+              f"ten times the entries in {many / few * 10:.1f} times the time")
+    few, many = (bench.least(3, "journal", 2, entries) for entries in (100_000, 1_000_000))
+    print(f"writing: {1e3 * many[0] / many[1]:.0f} MB/s; ten times the entries in {many[1] / few[1]:.1f} times the time")
+    worst = max(worst, many[1] / few[1])
+    found, call, stored = [], Call("set", b"key:0123", 0, None, b"0123456789"), Reply("stored")
+    with tempfile.TemporaryDirectory() as room:
+        for count in (100_000, 1_000_000):
+            path = os.path.join(room, str(count))
+            with open(path, "wb") as out:
+                out.write(journal_of([Entry(i + 1, i % 16, i % 100, i // 100, 0, call, stored) for i in range(count)], []))
+            found.append((os.path.getsize(path), bench.fed(path, "journal", 3)))
+    ratio = found[1][1] / found[0][1]
+    print(f"reading: {found[1][0] / found[1][1] * 1e3:.0f} MB/s; ten times the entries in {ratio:.1f} times the time")
+    return max(worst, ratio) > 12
+
+
+def packets_of(path, size, length, swapped=False):
+    """A file of packets of 20 flows with payloads of one length, in order or each pair swapped."""
+    payload, flows = random.Random(1).randbytes(length), []
+    for i in range(20):
+        ends = struct.pack(">IIHH", 0x0A000001, 0x0A000002, 40_000 + i, 11_211)
+        flows.append((ends[:8], ends[8:]))
+    with open(path, "wb") as out:
+        out.write(struct.pack(">IHHIIII", 0xA1B2C3D4, 2, 4, 0, 0, 262_144, 1))
+        for count in range(size // (70 + length)):
+            number, (addresses, ports) = count // 20, flows[count % 20]
+            # the session begins where its first packet does
+            number = (number - 1 ^ 1) + 1 if swapped and number else number
+            out.write(struct.pack(">IIII", 0, 0, 54 + length, 54 + length) + bytes(12) + b"\x08\x00")
+            out.write(struct.pack(">BBHHHBBH", 69, 0, 40 + length, 0, 0, 64, 6, 0) + addresses + ports)
+            out.write(struct.pack(">IIBBHHH", length * number, 0, 80, 16, 65_535, 0, 0) + payload)
+
+
+def pcap(bench):
+    """making the capture of recorded packets, 16 MB and 160 MB, in order and not"""
+    worst = 0
+    with tempfile.TemporaryDirectory() as room:
+        path = os.path.join(room, "packets")
+        for length, swapped in ((1448, False), (64, False), (1448, True)):
+            times = []
+            for size in (16_000_000, 160_000_000):
+                packets_of(path, size, length, swapped)
+                times.append((os.path.getsize(path), bench.fed(path, "pcap")))
+            name = f"payloads of {length} bytes, {'each pair swapped' if swapped else 'in order'}"
+            ratio = times[1][1] / times[0][1]
+            print(f"{name}: {times[1][0] / times[1][1] * 1e3:.0f} MB per processor second; "
+                  f"ten times the bytes in {ratio:.1f} times the time")
+            if length == 1448 and not swapped:
+                worst = max(ratio / 12, times[1][1] / times[1][0] / 5)
+    return worst > 1
+
+
+def store(bench):
+    """one pass on one shard beside the shard alone; 1, 2 and 4 threads on 16 shards"""
+    calls = 1_000_000
+    alone, by_pass = (bench.each(5, "store", which, calls) for which in (0, 9))
+    print(f"the shard alone: {alone:.0f} ns a call; one pass alone: {by_pass:.0f} ns, {100 * by_pass / alone:.0f} percent")
+    for threads in (1, 2, 4):
+        nanos = bench.least(5, "store", threads, calls)[1]
+        print(f"{threads} threads on 16 shards: {threads * calls * 1e9 / nanos:.0f} calls a second")
+    return 10 * by_pass > 13 * alone
+
+
+def claims(bench, which, thieves):
+    """The nanoseconds of a claim from the shuffle queue (0) or from a queue with a lock (1), by so many thieves at once."""
+    return bench.each(3, "shuffle", which, thieves, 1_000_000 if thieves else 5_000_000)
+
+
+def shuffle(bench):
+    """the shuffle queue and one with a lock: the home alone, and claims by 1 to 3 thieves"""
+    for thieves in (0, 1, 2, 3):
+        for which, name in enumerate(("ring", "lock")):
+            found = claims(bench, which, thieves)
+            if thieves:
+                print(f"{name}, thieves {thieves}: {1e9 / found:.0f} claims a second")
+            else:
+                print(f"{name}, alone: {found:.0f} ns for publish and claim")
+    return False
+
+
+def hold(bench):
+    """the hold of a block beside the same calls on a shard alone"""
+    alone, held = (bench.each(5, "conn", which, 20, 64) for which in (0, 1))
+    print(f"a shard alone: {alone:.0f} ns a call; a hold: {held:.0f} ns a command, {100 * held / alone:.0f} percent")
+    return False
+
+
+def held_and_served(bench, size):
+    """The nanoseconds of a command in a hold of so many, and of one at its home, from segment to text, in the same holds."""
+    return tuple(bench.each(5, "conn", which, 1280 // size, size) for which in (1, 2))
+
+
+def home(bench):
+    """a home of 200 connections, from segment to text, beside the holds in it"""
+    for size in (4, 16, 64):
+        held, served = held_and_served(bench, size)
+        alone = served - held
+        print(f"{size} at once: a home {served:.0f} ns a command, the hold in it {held:.0f} ns; what the home does alone, "
+              f"cut, settle and collect: {alone:.0f} ns, {100 * alone / held:.0f} percent of the hold")
+    return 2 * served > 3 * held
+
+
+PARTS = {part.__name__: part for part in (shard, frames, parse, capture, pcap, journal, store, shuffle, hold, home)}
+PAGE = """Measures {what}: {said}.
+
+usage: bench/run {what} [PROGRAM]
+
+PROGRAM       `zygos_bench`, built (if left out, that of the repository, which is proved and built first where it isn't)
+"""
+
+
+def main(what, words):
+    """Measures a part; the status is 1 where it costs more than it may."""
+    common.called(f"bench/run {what}")
+    given = common.Words(PAGE.format(what=what, said=PARTS[what].__doc__), "program").given(words)
+    return int(PARTS[what](Bench(common.built("zygos_bench", given.program))))
