@@ -14,9 +14,9 @@ from formats import MOST_CONNECTIONS, MOST_SEGMENT
 from places import beginning, forget, prompt
 
 READ, WRITE = selectors.EVENT_READ, selectors.EVENT_WRITE
-# seconds: between looks at all links; in which a server's answers to a client that has gone are recorded; in which a
-# client may read what it got from a server that has gone; and at the end, without an answer, and in all
-LOOK, GONE, LINGER, QUIET, LONGEST = 0.25, 10, 1, 0.25, 5
+# seconds: between looks at all links; without an answer to a client that has gone; in which a client may read what it
+# got from a server that has gone; and at the end, without an answer, and in all
+LOOK, GONE, LINGER, QUIET, LONGEST = 0.25, 10, 1, 0.25, 20
 
 
 class Way:
@@ -81,7 +81,10 @@ class Link:
             there.read()
             if there.is_broken:
                 back.lose()
-        return there is self.down and bool(events & READ)
+        is_heard = there is self.down and bool(events & READ)
+        if is_heard and self.down.is_lost:
+            self.until = None
+        return is_heard
 
     def settle(self, now):
         """Passes ends on. Gives whether the link is over."""
@@ -216,7 +219,7 @@ class Proxy:
     def handle(self, link, one, events):
         if not link.is_closed:
             if link.handle(one, events):
-                self.last = self.now
+                self.last = time.monotonic()
             self.settle(link)
 
     def settle(self, link):

@@ -3,6 +3,7 @@ import contextlib
 import errno
 import fcntl
 import os
+import resource
 import shutil
 import stat
 import sys
@@ -11,6 +12,12 @@ import tempfile
 import ends
 
 SPOOL = ".spool"
+
+
+def more_files():
+    """Lets the process have as many open files as it may, for it has one or two for each connection."""
+    most = resource.getrlimit(resource.RLIMIT_NOFILE)[1]
+    resource.setrlimit(resource.RLIMIT_NOFILE, (most, most))
 
 
 @contextlib.contextmanager

@@ -1,0 +1,434 @@
+#!/usr/bin/env python3
+"""Tests tools/record by the habits of real clients and servers: nothing is lost.
+
+usage: tests/tools_record.py     (run by tests/tools)
+"""
+import contextlib
+import os
+import pty
+import resource
+import select
+import signal
+import socket
+import struct
+import subprocess
+import sys
+import time
+
+from traffic import (NAME, TOP, Recorder, Server, all_of, at_once, big, connected, fail, files_of, memcached, rest_of,
+                     same, take, talk)
+
+SET, GET = b"set %d 0 0 5\r\nvalue\r\n", b"get %d\r\n"
+ASKED = b"set a 0 0 1\r\nx\r\nget a\r\n"
+ANSWERED = b"STORED\r\nVALUE a 0 1\r\nx\r\nEND\r\n"
+
+
+def recorded(connections, commands, sent, back):
+    return (f"tools/record: {connections} connections recorded, {commands} commands, {sent} bytes sent,"
+            f" {back} bytes back\n")
+
+
+def says(name, line, *words, status=1):
+    """The tool ends with a line, and makes no file."""
+    before = sorted(os.listdir("."))
+    ran = subprocess.run([os.path.join(TOP, "tools/record"), *words], capture_output=True, timeout=60, check=False)
+    same(name, (status, f"tools/record: {line}\n", before),
+         (ran.returncode, ran.stderr.decode(), sorted(os.listdir("."))))
+
+
+def patched(change):
+    """The tool with another limit, as words to be run."""
+    paths = [os.path.join(TOP, name) for name in ("tools", "tools/record")]
+    with open("tool.py", "w", encoding="utf-8") as file:
+        file.write(f"import runpy, sys\nsys.path.insert(0, {paths[0]!r})\nsys.argv[0] = {paths[1]!r}\n"
+                   f"import proxy, recording\n{change}\nrunpy.run_path({paths[1]!r}, run_name='__main__')\n")
+    return sys.executable, "tool.py"
+
+
+# ---- what is recorded
+
+
+def several_clients():
+    with Server() as server:
+        recorder = Recorder(server.place)
+        texts = [b"".join(SET % (c * 1000 + k) + GET % (c * 1000 + k) for k in range(300)) for c in range(5)]
+        got = {}
+        at_once([lambda text=text: got.update({text: talk(recorder.place, text, 7)}) for text in texts])
+        status, said = recorder.end()
+        sent, back = files_of()
+        same("what was sent", sorted(texts), sorted(sent.values()))
+        same("what came back", got, {sent[key]: back[key] for key in sent})
+        length = sum(map(len, texts))
+        same("what is said", (0, recorded(5, 3000, length, sum(map(len, got.values())))), (status, said))
+        same("no spool is left", ["my.cap", "my.replies"], sorted(os.listdir(".")))
+
+
+def no_client():
+    with Server() as server:
+        recorder = Recorder(server.place)
+        same("a recording without a client", (0, recorded(0, 0, 0, 0)), recorder.end())
+        same("its files", ({}, {}), files_of())
+
+
+def two_hundred():
+    with Server() as server:
+        recorder = Recorder(server.place, "--connections", "200")
+        ones = [connected(recorder.place) for _ in range(200)]
+        for number, one in enumerate(ones):
+            one.sendall(SET % number + GET % number)
+        got = [take(one, len(b"STORED\r\nVALUE %d 0 5\r\nvalue\r\nEND\r\n" % number)) for number, one in enumerate(ones)]
+        for one in ones:
+            one.close()
+        same("200 at a time end by themselves", 0, recorder.end(None)[0])
+        sent, back = files_of()
+        same("200 at a time", {SET % number + GET % number: got[number] for number in range(200)},
+             {sent[key]: back[key] for key in sent})
+
+
+def other_sockets():
+    """IPv6, and Unix sockets."""
+    for server_place, listen in ((("::1", 0), "[::1]:0"), (os.path.abspath("server"), "./clients"),
+                                 (("127.0.0.1", 0), "unix:clients")):
+        with Server(server_place) as server:
+            recorder = Recorder(server.place, listen=listen)
+            place = f"./{recorder.place}" if "/" not in recorder.place and ":" not in recorder.place else recorder.place
+            same(f"through {listen}", ANSWERED, talk(place, ASKED))
+            same(f"the status of {listen}", 0, recorder.end()[0])
+            same(f"recorded through {listen}", ({(0, 0): ASKED}, {(0, 0): ANSWERED}), files_of())
+            same(f"the path of {listen} is removed", False, os.path.exists("clients"))
+
+
+def later_sessions():
+    """More connections than a capture has: a later one is a session of one that closed, or it is refused."""
+    with Server() as server:
+        recorder = Recorder(server.place, tool=patched("proxy.MOST_CONNECTIONS = recording.MOST_CONNECTIONS = 2"))
+        first, second = connected(recorder.place), connected(recorder.place)
+        for one in (first, second):
+            one.sendall(b"mn\r\n")
+            same("an open connection is served", b"MN\r\n", take(one, 4))
+        with contextlib.suppress(OSError):
+            same("a connection too many", b"", rest_of(connected(recorder.place)))
+        second.close()
+        time.sleep(0.2)
+        same("a later session", ANSWERED, talk(recorder.place, ASKED))
+        first.close()
+        status, said = recorder.end()
+        same("its lines", (0, "tools/record: 2 connections are open, as many as a recording has: others are refused\n"
+                           + recorded(3, 4, 8 + len(ASKED), 8 + len(ANSWERED))), (status, said))
+        same("its files", ({(0, 0): b"mn\r\n", (1, 0): b"mn\r\n", (1, 1): ASKED},
+                           {(0, 0): b"MN\r\n", (1, 0): b"MN\r\n", (1, 1): ANSWERED}), files_of())
+
+
+def standard_output():
+    with Server() as server:
+        for files in (("-", "my.replies"), ("my.cap", "-")):
+            with open("out", "wb") as out:
+                recorder = Recorder(server.place, "--connections", "1", files=files, stdout=out)
+                talk(recorder.place, ASKED)
+                same(f"recorded to {files}", 0, recorder.end(None)[0])
+            names = ["out" if name == "-" else name for name in files]
+            same(f"the files of {files}", ({(0, 0): ASKED}, {(0, 0): ANSWERED}), files_of(*names))
+
+
+# ---- habits of clients
+
+
+def gives_up():
+    """A client that times out on a large value, and one that closes at once: the others go on."""
+    with Server() as server:
+        recorder, size = Recorder(server.place), 20000000
+        with connected(recorder.place) as other:
+            with connected(recorder.place) as one:
+                one.sendall(b"big %d\r\n" % size)
+                take(one, 1000)
+            for linger in (None, struct.pack("ii", 1, 0)):
+                with connected(recorder.place) as one:
+                    one.sendall(ASKED)
+                    if linger:
+                        time.sleep(0.1)
+                        one.setsockopt(socket.SOL_SOCKET, socket.SO_LINGER, linger)
+            other.sendall(ASKED)
+            same("another client goes on", ANSWERED, take(other, len(ANSWERED)))
+            time.sleep(0.3)
+        status, _ = recorder.end()
+        sent, back = files_of()
+        same("clients that give up", (0, {b"big %d\r\n" % size: big(size), ASKED: ANSWERED}),
+             (status, {sent[key]: back[key] for key in sent}))
+
+
+def half_closed():
+    """A client that ends what it sends, and then waits for its answers."""
+    with Server() as server:
+        recorder = Recorder(server.place)
+        same("a half-closed connection", b"OK\r\n" + ANSWERED, talk(recorder.place, b"wait 0.5\r\n" + ASKED))
+        recorder.end()
+        same("what is recorded of it", ({(0, 0): b"wait 0.5\r\n" + ASKED}, {(0, 0): b"OK\r\n" + ANSWERED}), files_of())
+
+
+def slow_reader():
+    """A client that does not read for a while is waited for, and so is a server; others are served."""
+    with Server() as server:
+        recorder, size = Recorder(server.place), 100000000
+        before = recorder.most_memory()
+        with connected(recorder.place) as slow:
+            slow.sendall(b"big %d\r\n" % size)
+            time.sleep(0.3)
+            same("beside a slow reader", ANSWERED, talk(recorder.place, ASKED))
+            got = take_all(slow, len(big(size)))
+        with connected(recorder.place) as one:
+            text = b"echo %d\r\n" % size + b"y" * (size + 2)
+            at_once([lambda: one.sendall(text), lambda: same("what is sent and comes back", True, take_all(one, size))])
+        same("what a slow reader gets", True, got)
+        grown = recorder.most_memory() - before
+        recorder.process.send_signal(signal.SIGINT)
+        most = 0
+        while recorder.process.poll() is None:
+            with contextlib.suppress(OSError, StopIteration):
+                most = max(most, recorder.most_memory())
+            time.sleep(0.02)
+        if max(grown, most - before) > 40 << 20:
+            fail("memory does not grow", f"by {grown} bytes, and {most - before} in all")
+        same("the size of the files", (True, True), (os.path.getsize("my.replies") > 2 * size,
+                                                     size < os.path.getsize("my.cap") < size + 1000000))
+        recorder.process.communicate()
+
+
+def take_all(one, count):
+    """Whether these bytes come, in number."""
+    while count and (piece := one.recv(min(count, 1 << 20))):
+        count -= len(piece)
+    return not count
+
+
+def binary():
+    with Server() as server:
+        recorder = Recorder(server.place)
+        for text in (b"\x80\x0b\n", b"\x16\x03\x01\n", b"mn\r\n"):
+            talk(recorder.place, text)
+        lines = recorder.end()[1].splitlines()[:-1]
+        begin = "tools/record: warning: connection"
+        same("connections that are no text", [
+            f"{begin} 0 begins with byte 0x80, as the binary protocol does; its commands will be read as text",
+            f"{begin} 1 begins with byte 0x16, as TLS does; its commands will be read as text"], lines)
+
+
+# ---- habits of servers
+
+
+def server_restarts():
+    """A server that stops closes its clients; others are turned away until it is back."""
+    server = Server()
+    port = int(server.place.rsplit(":", 1)[1])
+    name = f"127.0.0.1:{port}"
+    recorder = Recorder(name)
+    one = connected(recorder.place)
+    one.sendall(ASKED)
+    take(one, len(ANSWERED))
+    server.__exit__()
+    same("a client whose server went", b"", rest_of(one))
+    with contextlib.suppress(OSError):
+        same("a client without a server", b"", talk(recorder.place, ASKED))
+    with Server(("127.0.0.1", port)):
+        same("a client after it is back", ANSWERED, talk(recorder.place, ASKED))
+        status, said = recorder.end()
+    same("the lines of a restart", (0, f"tools/record: {name}: Connection refused: clients are turned away\n"
+                                    f"tools/record: {name}: connected again; clients turned away: 1\n"
+                                    + recorded(2, 4, 2 * len(ASKED), 2 * len(ANSWERED))), (status, said))
+    same("the recording of a restart", ({(0, 0): ASKED, (1, 0): ASKED}, {(0, 0): ANSWERED, (1, 0): ANSWERED}),
+         files_of())
+    one.close()
+
+
+# ---- how it ends
+
+
+def signals():
+    """Ctrl-C, a termination and a closed terminal: answers that come later are kept."""
+    with Server() as server:
+        for number in (signal.SIGINT, signal.SIGTERM, signal.SIGHUP):
+            recorder = Recorder(server.place)
+            with connected(recorder.place) as one:
+                one.sendall(ASKED)
+                take(one, len(ANSWERED))
+                one.sendall(b"wait 0.1\r\n")
+                time.sleep(0.05)
+                status, said = recorder.end(number)
+                same(f"a client at {number!r}", b"OK\r\n", rest_of(one))
+            same(f"the end by {number!r}", (0, recorded(1, 3, len(ASKED) + 10, len(ANSWERED) + 4)), (status, said))
+            same(f"the files of {number!r}", ({(0, 0): ASKED + b"wait 0.1\r\n"}, {(0, 0): ANSWERED + b"OK\r\n"}),
+                 files_of())
+
+
+def closed_errors():
+    """Standard error is closed, or its reader has gone: all is recorded."""
+    with Server() as server:
+        path, name = os.path.abspath("clients"), os.path.join(TOP, "tools/record")
+        words = f"{name} --listen {path} --server '{server.place}' --connections 1 my.cap my.replies"
+        for ending in ("2>&-", "2> >(true)"):
+            with subprocess.Popen(["bash", "-c", f"exec {words} {ending}"]) as process:
+                talk(path, b"\x80\n")
+                same(f"the end with {ending}", 0, process.wait(timeout=30))
+            same(f"the files with {ending}", ({(0, 0): b"\x80\n"}, {(0, 0): b"ERROR\r\n"}), files_of())
+
+
+def killed():
+    """A recorder that is killed: --repair completes its files, cuts where records are not whole, and says so."""
+    with Server() as server:
+        recorder = Recorder(server.place)
+        ones = [connected(recorder.place) for _ in range(3)]
+        for one in ones[:2]:
+            one.sendall(ASKED)
+            take(one, len(ANSWERED))
+        says("files that a recorder writes", "my.replies.spool: another recording writes this file", "--listen",
+             "127.0.0.1:0", "my.cap", "my.replies")
+        says("files that a recorder writes, to repair", "my.replies.spool: another recording writes this file",
+             "--repair", "my.cap", "my.replies")
+        recorder.end(signal.SIGKILL)
+        for one in ones:
+            one.close()
+    same("what a killed recorder leaves", ["my.cap", "my.replies", "my.replies.spool"], sorted(os.listdir(".")))
+    says("a start over it", "my.replies.spool: left by a recording that did not end; complete that with --repair",
+         "my.cap", "my.replies")
+    kept = {name: open(name, "rb").read() for name in os.listdir(".")}
+    both = {(0, 0): ASKED, (1, 0): ASKED}, {(0, 0): ANSWERED, (1, 0): ANSWERED}
+    for cut, spoiled, tail in ((0, both, ""), (3, cut_of(both, 0, 3), f", {len(ASKED) - 3} of the {len(ASKED)} bytes of"
+                                                                      " the last segment")):
+        for name, text in kept.items():
+            with open(name, "wb") as file:
+                file.write(text[: len(text) - cut] if name == "my.cap" else text)
+        lines = repaired(0)
+        same(f"repaired without the last {cut} bytes", spoiled, files_of())
+        back = sum(map(len, spoiled[1].values()))
+        same("what is said of it", f"my.cap: completed: 2 connections, 2 sessions, {2 * len(ASKED) - cut} bytes sent"
+             f"{tail}\nmy.replies: completed: {back} bytes back\n", lines)
+    same("repaired once more", f"my.cap: whole: 2 connections, {2 * len(ASKED) - 3} bytes sent\nmy.replies: whole\n",
+         repaired(0))
+    faulty(kept)
+
+
+def cut_of(both, at, count):
+    """What is left when the last bytes of the last connection are gone."""
+    last = max(both[at])
+    return tuple({key: text[:-count] if number == at and key == last else text for key, text in part.items()}
+                 for number, part in enumerate(both))
+
+
+def repaired(status):
+    """What is said by --repair."""
+    ran = subprocess.run([os.path.join(TOP, "tools/record"), "--repair", "my.cap", "my.replies"], capture_output=True,
+                         timeout=60, check=False)
+    same("the status of --repair", status, ran.returncode)
+    return ran.stderr.decode().replace("tools/record: ", "")
+
+
+def faulty(kept):
+    """Files that --repair does not complete."""
+    for name, text, line in (
+        ("my.cap", kept["my.cap"] + b"X", f"my.cap: capture: bad-tag at {len(kept['my.cap'])} byte 88\n"),
+        ("my.cap", b"ZYGCAP", "my.cap: capture: truncated at 6\n"),
+        ("my.replies.spool", b"x", "my.replies.spool: capture: bad-magic at 0\n"),
+    ):
+        for file_name, bytes_of in {**kept, name: text}.items():
+            with open(file_name, "wb") as file:
+                file.write(bytes_of)
+        same("what cannot be repaired", line, repaired(1))
+    os.unlink("my.replies.spool")
+    same("without a spool", f"my.cap: completed: 2 connections, {2 * len(ASKED)} bytes sent\nmy.replies: no replies"
+         " file, and there is no my.replies.spool of which one could be made\n", repaired(1))
+
+
+def full():
+    """The most that a capture has, and no more space for files: what there is is written."""
+    with Server() as server:
+        recorder = Recorder(server.place, tool=patched("recording.MOST_CAPTURE = 12 + 2 * (9 + 23) + 1"))
+        with connected(recorder.place) as one:
+            for _ in range(2):
+                one.sendall(ASKED)
+                take(one, len(ANSWERED))
+            one.sendall(b"mn\r\n")
+            same("a client at the end", b"", rest_of(one))
+        same("a full capture", (1, "tools/record: my.cap: a capture has at most 77 bytes: the recording ends\n"
+                                + recorded(1, 4, 2 * len(ASKED), 2 * len(ANSWERED))), recorder.end(None))
+        same("its files", ({(0, 0): ASKED * 2}, {(0, 0): ANSWERED * 2}), files_of())
+
+        def small():
+            resource.setrlimit(resource.RLIMIT_FSIZE, (10000, 10000))
+
+        recorder = Recorder(server.place, preexec_fn=small)
+        with connected(recorder.place) as one, contextlib.suppress(OSError):
+            for _ in range(2000):
+                one.sendall(ASKED)
+                take(one, len(ANSWERED))
+        same("no space", (1, "my.replies: File too large: the recording ends"),
+             (recorder.end(None)[0], recorder.said.splitlines()[0].replace("tools/record: ", "")))
+        sent, back = files_of()
+        count = len(sent[0, 0]) // len(ASKED)
+        same("its files", (True, ASKED * count, True), (count > 100, sent[0, 0],
+                                                        (ANSWERED * count).startswith(back[0, 0])))
+
+
+def before_it_begins():
+    """What is wrong is said before anything is recorded, and old files stay."""
+    says("a folder that isn't there", "none/my.cap: No such file or directory", "none/my.cap", "my.replies")
+    says("another one", "none/my.replies: No such file or directory", "my.cap", "none/my.replies")
+    says("a folder", ".: Is a directory", "my.cap", ".")
+    says("one file twice", "my.cap: both files cannot be this one", "my.cap", "./my.cap".replace("./", ""))
+    with open("my.cap", "wb") as file:
+        file.write(b"old")
+    with Server() as server:
+        listen = server.place
+        says("a place that is taken", f"{listen}: Address already in use", "--listen", listen, "my.cap", "my.replies")
+        if not listen.startswith("[127"):
+            fail("the place of a server", listen)
+    says("a name without an address", "nowhere.invalid:1: no address has this name", "--server", "nowhere.invalid:1",
+         "--listen", "127.0.0.1:0", "my.cap", "my.replies")
+    same("an old file", b"old", open("my.cap", "rb").read())
+    for option, word in (("--listen", "foo"), ("--server", "foo:70000"), ("--server", "[::1]"), ("--listen", "unix:")):
+        says(f"{option} {word}", f"{option} takes HOST:PORT, [HOST]:PORT or a path with a slash, not {word};"
+             " --help says more", option, word, "my.cap", "my.replies", status=2)
+    says("no number of connections", "--connections takes a number from 1 on; --help says more", "--connections", "0",
+         "my.cap", "my.replies", status=2)
+
+
+def terminal():
+    """On a terminal a line says each second what was recorded."""
+    with Server() as server:
+        above, below = pty.openpty()
+        path = os.path.abspath("clients")
+        words = ["--listen", path, "--server", server.place, "--connections", "2", "my.cap", "my.replies"]
+        with subprocess.Popen([os.path.join(TOP, "tools/record"), *words], stderr=below) as process:
+            talk(path, ASKED)
+            with connected(path) as one:
+                time.sleep(1.3)
+                one.sendall(b"mn\r\n")
+                take(one, 4)
+            process.wait(timeout=30)
+        shown = b""
+        while select.select([above], [], [], 0.1)[0]:
+            shown += os.read(above, 1 << 16)
+        line = f"1 connections open, 1 closed; 2 commands, {len(ASKED)} bytes sent, {len(ANSWERED)} bytes back".encode()
+        same("a line a second", (True, recorded(2, 3, len(ASKED) + 4, len(ANSWERED) + 4).encode()),
+             (line in shown, shown.replace(b"\r\n", b"\n").rsplit(b"\x1b[K", 1)[-1]))
+        os.close(above)
+        os.close(below)
+
+
+def real_memcached():
+    with memcached() as place:
+        if place is None:
+            return
+        recorder = Recorder(place)
+        asked = b"set c%d:%d 0 0 1\r\nx\r\nget c%d:%d c%d:none\r\n"
+        told = b"STORED\r\nVALUE c%d:%d 0 1\r\nx\r\nEND\r\n"
+        texts = [b"".join(asked % (c, k, c, k, c) for k in range(200)) + b"quit\r\n" for c in range(2)]
+        at_once([lambda text=text: talk(recorder.place, text, 50) for text in texts])
+        recorder.end()
+        sent, back = files_of()
+        wanted = {text: b"".join(told % (c, k) for k in range(200)) for c, text in enumerate(texts)}
+        same("what a memcached answers", wanted, {sent[key]: back[key] for key in sent})
+
+
+if __name__ == "__main__":
+    all_of(before_it_begins, several_clients, no_client, two_hundred, other_sockets, later_sessions, standard_output,
+           gives_up, half_closed, slow_reader, binary, server_restarts, signals, closed_errors, killed, full, terminal,
+           real_memcached)

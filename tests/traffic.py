@@ -1,0 +1,246 @@
+"""Servers and clients of the tests of recording and playing, and how these tests report."""
+import contextlib
+import os
+import shutil
+import signal
+import socket
+import subprocess
+import sys
+import tempfile
+import threading
+import time
+
+TOP = os.path.dirname(os.path.dirname(os.path.realpath(__file__)))
+sys.dont_write_bytecode = True
+sys.path.insert(0, os.path.join(TOP, "tools"))
+from formats import Part, Segment, read_capture, read_replies
+
+NAME = "tests/" + os.path.basename(sys.argv[0])
+failures = []
+
+
+def fail(name, why):
+    failures.append(name)
+    print(f"{NAME}: {name}: {why}")
+
+
+def brief(value):
+    text = repr(value)
+    return text if len(text) < 400 else f"{text[:200]} .. {text[-100:]}"
+
+
+def same(name, wanted, got):
+    if wanted != got:
+        fail(name, f"wanted {brief(wanted)}, got {brief(got)}")
+
+
+def all_of(*parts):
+    """Carries out the tests, and ends as they did."""
+    with tempfile.TemporaryDirectory() as folder:
+        os.chdir(folder)
+        for part in parts:
+            for name in os.listdir("."):
+                os.unlink(name)
+            part()
+        os.chdir("/")
+    print(f"{NAME}: {len(failures)} failed" if failures else f"{NAME}: ok")
+    sys.exit(1 if failures else 0)
+
+
+# ---- servers
+
+
+def free_port():
+    with socket.socket() as one:
+        one.bind(("127.0.0.1", 0))
+        return one.getsockname()[1]
+
+
+class Server:
+    """A small memcached: `set`, `get`, `mg` with `q`, `mn` and `quit`; `big N` is answered by an item of N bytes,
+    `wait S` after S seconds, `hush` never, and `echo N` by the N bytes after it."""
+
+    def __init__(self, place=("127.0.0.1", 0)):
+        self.items, self.open = {}, set()
+        family = socket.AF_UNIX if isinstance(place, str) else socket.AF_INET6 if ":" in place[0] else socket.AF_INET
+        self.socket = socket.socket(family)
+        self.socket.setsockopt(socket.SOL_SOCKET, socket.SO_REUSEADDR, 1)
+        self.socket.bind(place)
+        self.socket.listen(4096)
+        self.place = place if family == socket.AF_UNIX else "[{}]:{}".format(*self.socket.getsockname()[:2])
+        threading.Thread(target=self.accept, daemon=True).start()
+
+    def __enter__(self):
+        return self
+
+    def __exit__(self, *_):
+        """Ends at once, as a server that is killed."""
+        for one in [self.socket, *self.open]:
+            with contextlib.suppress(OSError):
+                one.shutdown(socket.SHUT_RDWR)
+        self.socket.close()
+
+    def accept(self):
+        with contextlib.suppress(OSError):
+            while True:
+                threading.Thread(target=self.serve, args=(self.socket.accept()[0],), daemon=True).start()
+
+    def serve(self, one):
+        self.open.add(one)
+        if one.family != socket.AF_UNIX:
+            one.setsockopt(socket.IPPROTO_TCP, socket.TCP_NODELAY, 1)
+        with contextlib.suppress(OSError, ValueError), one, one.makefile("rb") as lines:
+            while (line := lines.readline()).endswith(b"\n") and not line.startswith(b"quit"):
+                self.answer(one, lines, line.split())
+        self.open.discard(one)
+
+    def answer(self, one, lines, words):
+        match words:
+            case [b"set", key, _, _, size, *rest]:
+                self.items[key] = lines.read(int(size) + 2)[:-2]
+                one.sendall(b"" if rest else b"STORED\r\n")
+            case [b"get", *keys]:
+                one.sendall(b"".join(b"VALUE %s 0 %d\r\n%s\r\n" % (key, len(self.items[key]), self.items[key])
+                                     for key in keys if key in self.items) + b"END\r\n")
+            case [b"mg", key, *_]:
+                found = self.items.get(key)
+                one.sendall(b"" if found is None else b"VA %d\r\n%s\r\n" % (len(found), found))
+            case [b"mn"]:
+                one.sendall(b"MN\r\n")
+            case [b"big", size]:
+                one.sendall(big(int(size)))
+            case [b"wait", seconds]:
+                time.sleep(float(seconds))
+                one.sendall(b"OK\r\n")
+            case [b"echo", size]:
+                one.sendall(b"VALUE echo 0 %s\r\n" % size)
+                left = int(size) + 2
+                while left and (text := lines.read1(min(left, 1 << 16))):
+                    one.sendall(text)
+                    left -= len(text)
+                one.sendall(b"END\r\n")
+            case [b"hush"]:
+                pass
+            case _:
+                one.sendall(b"ERROR\r\n")
+
+
+def big(size):
+    return b"VALUE big 0 %d\r\n%s\r\nEND\r\n" % (size, b"0123456789" * (size // 10))
+
+
+@contextlib.contextmanager
+def memcached():
+    """A real memcached, by its place; None where there is none. It is installed where that can be done."""
+    if not shutil.which("memcached") and os.geteuid() == 0 and shutil.which("apt-get"):
+        subprocess.run(["apt-get", "install", "-y", "-q", "memcached"], stdin=subprocess.DEVNULL, capture_output=True,
+                       check=False)
+    if not shutil.which("memcached"):
+        print(f"{NAME}: memcached is not installed: no test with it")
+        yield None
+        return
+    port = free_port()
+    user = ["-u", "nobody"] if os.geteuid() == 0 else []
+    with subprocess.Popen(["memcached", "-l", "127.0.0.1", "-p", str(port), *user], stderr=subprocess.DEVNULL) as one:
+        try:
+            connected(f"127.0.0.1:{port}").close()
+            yield f"127.0.0.1:{port}"
+        finally:
+            one.terminate()
+
+
+# ---- clients
+
+
+def connected(place):
+    """A connection to a place, as soon as something listens there."""
+    for _ in range(200):
+        with contextlib.suppress(OSError):
+            if "/" in place:
+                one = socket.socket(socket.AF_UNIX)
+                one.connect(place)
+            else:
+                host, port = place.rsplit(":", 1)
+                one = socket.create_connection((host.strip("[]"), int(port)))
+            one.settimeout(20)
+            return one
+        time.sleep(0.05)
+    raise OSError(f"nothing listens at {place}")
+
+
+def rest_of(one):
+    """What comes until the other side closes."""
+    got = bytearray()
+    while piece := one.recv(1 << 16):
+        got += piece
+    return bytes(got)
+
+
+def take(one, count):
+    """The next bytes that come."""
+    got = b""
+    while len(got) < count and (piece := one.recv(count - len(got))):
+        got += piece
+    return got
+
+
+def talk(place, text, pieces=1):
+    """Sends a text, ends it, and reads until the other side closes."""
+    with connected(place) as one:
+        size = max(1, -(-len(text) // pieces))
+        for at in range(0, len(text), size):
+            one.sendall(text[at : at + size])
+            time.sleep(0.01 if pieces > 1 else 0)
+        one.shutdown(socket.SHUT_WR)
+        return rest_of(one)
+
+
+def at_once(clients):
+    """Lets clients talk at the same time."""
+    threads = [threading.Thread(target=client) for client in clients]
+    for thread in threads:
+        thread.start()
+    for thread in threads:
+        thread.join()
+
+
+# ---- recordings
+
+
+class Recorder:
+    """tools/record, which is running; `place` is where its clients come."""
+
+    def __init__(self, server, *words, listen="127.0.0.1:0", files=("my.cap", "my.replies"), tool=("tools/record",), **more):
+        given = [os.path.join(TOP, tool[0]), *tool[1:], "--listen", listen, "--server", server, *words, *files]
+        self.process = subprocess.Popen(given, stderr=subprocess.PIPE, **more)
+        self.first = self.process.stderr.readline().decode()
+        self.place = self.first.rsplit(" ", 1)[-1].strip()
+        self.said = None
+
+    def end(self, number=signal.SIGINT):
+        """Ends it by a signal, or waits for its end; gives its status and what it said besides its first line."""
+        if number:
+            self.process.send_signal(number)
+        self.said = self.process.communicate(timeout=60)[1].decode()
+        return self.process.returncode, self.said
+
+    def most_memory(self):
+        """The most memory that it had, in bytes."""
+        with open(f"/proc/{self.process.pid}/status", encoding="ascii") as file:
+            return next(int(line.split()[1]) << 10 for line in file if line.startswith("VmHWM"))
+
+
+def files_of(capture="my.cap", replies="my.replies"):
+    """What was sent and what came back, by connection and session."""
+    with open(capture, "rb") as one, open(replies, "rb") as other:
+        read, answered = read_capture(Part("capture", one.read())), read_replies(Part("replies", other.read()))
+    sent = {(number, 0): b"" for number in range(read.count)}
+    sessions = [0] * read.count
+    for record in read.records:
+        number = record.connection
+        if isinstance(record, Segment):
+            sent[number, sessions[number]] += record.text
+        else:
+            sessions[number] += 1
+            sent[number, sessions[number]] = b""
+    return sent, {(output.connection, output.session): output.text for output in answered.outputs}
