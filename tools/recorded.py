@@ -8,7 +8,7 @@ from bisect import bisect_right
 from collections import namedtuple
 from itertools import groupby
 
-from formats import MOST_SEGMENT, capture, close, pieces, sessions
+from formats import MOST_SEGMENT, capture, close, output, pieces, replies_file
 
 MOST_FILE = (1 << 32) - 1
 MOST_FRAME, GROUPS, MOST_OF_GROUP = 262144, 128, 32
@@ -157,8 +157,15 @@ class Stream:
         """The offset after all bytes."""
         return self.stop(len(self.begins) - 1)
 
-    def text(self):
-        return b"".join(self.texts[: self.last + 1])
+    def text(self, begin=0, end=None):
+        """The bytes of the stream, or those from one offset to another."""
+        end, found = self.size() if end is None else end, []
+        span = bisect_right(self.begins, begin) - 1
+        while begin < end:
+            first = self.begins[span]
+            found.append(self.texts[span][begin - first : end - first])
+            begin, span = self.stop(span), span + 1
+        return b"".join(found)
 
     def rest(self):
         """What comes after the stream: the offset and the bytes of each run between two gaps."""
@@ -192,6 +199,9 @@ class Stream:
 
     def put(self, offset, payload):
         """Puts a payload at an offset, where there is no byte, and says how many bytes were new."""
+        if offset == self.end():
+            self.texts[-1] += payload
+            return len(payload)
         first, end, new = offset, offset + len(payload), 0
         while offset < end:
             span = bisect_right(self.begins, offset) - 1
@@ -295,24 +305,27 @@ class Flows:
         return capture(self.count(), made, 2)
 
     def in_order(self, arrivals):
-        """The capture with the same streams, cut where in time other connections come in between."""
-        texts = {number: [session.requests.text() for session in found] for number, found in self.sessions.items()}
-        made, place = [], {}
+        """The bytes of the capture with the same streams, cut where in time other connections come in between."""
+        yield capture(self.count(), [], 2)[:-1]
+        place = {}
         for (number, session), some in groupby(by_time(arrivals), lambda one: (one.connection, one.session)):
             before, begin = place.get(number, (0, 0))
             if session > before:
-                made.append(close(number))
+                yield close(number)
                 begin = 0
             end = max(one.size for one in some)
-            made += pieces(number, texts[number][session][begin:end], MOST_SEGMENT)
+            yield from pieces(number, self.sessions[number][session].requests.text(begin, end), MOST_SEGMENT)
             place[number] = session, end
-        return capture(self.count(), made, 2)
+        yield b"E"
 
     def replies(self):
-        """The replies file with what the server answered in each session."""
-        found = [self.sessions.get(number, []) for number in range(self.count())]
-        return sessions([[session.answers.text() if session.answers else b"" for session in some] or [b""]
-                         for some in found])
+        """The bytes of the replies file with what the server answered in each session."""
+        yield replies_file(2, [])[:-1]
+        for number in range(self.count()):
+            for at, session in enumerate(self.sessions.get(number, [None])):
+                answers = session.answers.text() if session and session.answers else b""
+                yield output(2, number, at, answers)
+        yield b"E"
 
 
 def by_time(arrivals):
