@@ -1,17 +1,15 @@
 -- The frames that several steps give together, and what feeding a piece means for every stream that
 -- may have brought a framer to where it is.
-use Rattle.std.proofs.Common.{◌≡◌, ℕ, ◌+◌, ◌≤◌, false, List, [], ◌++◌, length, drop, refl, sym, ap, ◌∙◌, subst, append_assoc}
-use Rattle.std.specs.Prelude.{option_to_list}
+use Rattle.std.proofs.Common.{◌≡◌, ℕ, ◌≤◌, false, List, [], ◌++◌, length, drop, refl, sym, ap, ◌∙◌, subst, append_assoc}
 use Rattle.std.proofs.lemmas.Bool.{lt-ltb}
-use Rattle.std.proofs.lemmas.List.{append-nil, drop-drop, drop_all}
+use Rattle.std.proofs.lemmas.List.{append-nil, drop_all}
 use Rattle.zy_frame.specs.declared.frame_kind.FrameKind.{FrameKind}
 use Rattle.zy_frame.specs.declared.state.State.{State}
 use Rattle.zy_frame.specs.declared.state.State.TheVariants.{Line, Long, Block, Large, Quit, Refused}
-use Rattle.zy_frame.specs.declared.step.Step.{Step}
 use Rattle.zy_frame.specs.Cut.{frames_of, meets_quit}
 use Rattle.zy_frame.specs.Progress.{Progress, in_line, in_long_line, in_block, in_large_block, behind_quit, without_memory, Keeps, Outcome, outcome_of, with_frames, goes_on, StandsFor, is_quit}
 use Rattle.zy_frame.specs.Feed.{Appends, AppendsFirst}
-use Rattle.zy_frame.specs.Steps.{progress_of, Goes, Gives}
+use Rattle.zy_frame.specs.Steps.{progress_of, Gives}
 use Rattle.zy_frame.proofs.GoingOn.{outcome_of-unended}
 
 with_frames-append : (given more : List FrameKind) (o : Outcome) → with_frames given (with_frames more o) ≡ with_frames (given ++ more) o

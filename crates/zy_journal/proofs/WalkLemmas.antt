@@ -164,7 +164,6 @@ not_higher : (b at u i : ℕ) → is_earlier b at u i ≡ true → b ≤ u
 not_higher b at u i is = grind (arith, nat_tests, is)
 
 module _ (rests : List (List Entry)) (low middle high : ℕ) (start : low ≤ middle) (within : middle ≤ high) where
-
   -- a lower stamp behind comes first
   pub first_lower : (head next : Head) → next.stamp < head.stamp → IsFirstOf rests low middle head → IsFirstOf rests middle high next → IsFirstOf rests low high next
   first_lower head next less before behind = record {

@@ -1,6 +1,6 @@
 -- Texts that are written piece by piece.
 use Rattle.std.proofs.Common.{◌≡◌, ℕ, ◌≤◌, List, [], ◌∷◌, ◌++◌, refl, sym, ◌∙◌, ap, subst, append_assoc}
-use Rattle.std.specs.Prelude.{flat_map, Option, Err}
+use Rattle.std.specs.Prelude.{flat_map, ⊤, Option, Result, Ok, Err, IsErr}
 use Rattle.std.proofs.lemmas.List.{append-nil}
 use Rattle.std.proofs.lemmas.Grind.{flat_map-append}
 use Rattle.zy_base.specs.Outside.{Grew, Writes}
@@ -46,3 +46,8 @@ module _ {K E X : Type 0} (holds : K → Option (List ℕ)) (faults finishes : K
       subst (Writes holds faults finishes old new (Err e)) (sym whole)
       (writes_on holds faults finishes old between new (Err e) (flat_map text are.taken) (text x ++ flat_map text rest) are.grew count same
       (writes_no_more holds faults finishes between new e (text x) (flat_map text rest) failed))
+
+-- a text whose writing failed, with whatever error it is answered
+pub failed_as : {K E : Type 0} (holds : K → Option (List ℕ)) (faults finishes : K → ℕ) (old new : K) (result : Result ⊤ E) (e : E) (text : List ℕ) → IsErr result → Writes holds faults finishes old new (Err e) text → Writes holds faults finishes old new result text
+failed_as holds faults finishes old new (Ok u) e text refused failed = absurd (cc)
+failed_as holds faults finishes old new (Err other) e text refused failed = record { whole = tt; part = failed.part; count = failed.count; cause = failed.cause; unfinished = failed.unfinished }

@@ -25,12 +25,8 @@ pub fn write_flows<K: Sink>(sink: &mut K, flows: &Flows) -> Result<(), Failed>
     ensures writes { Writes K.holds K.faults K.finishes sink.old sink.new result (capture_of flows.now) }
 {
     let all = flows.kept();
-    if let Err(failed) = write_start(sink, flows.count()) {
-        return Err(failed);
-    }
-    if let Err(failed) = write_connections(sink, all) {
-        return Err(failed);
-    }
+    write_start(sink, flows.count())?;
+    write_connections(sink, all)?;
     write_whole(sink, b"E")
 }
 
@@ -50,9 +46,7 @@ fn write_connections<K: Sink>(sink: &mut K, flows: &[Option<KeptFlow>]) -> Resul
         (numbered_from kept_connection 0 flows.now) }
 {
     for conn in 0..flows.len() as u32 {
-        if let Err(failed) = write_connection(sink, conn, &flows[conn as usize]) {
-            return Err(failed);
-        }
+        write_connection(sink, conn, &flows[conn as usize])?;
     }
     Ok(())
 }
@@ -74,9 +68,7 @@ fn write_sessions<K: Sink>(sink: &mut K, conn: u32, sessions: &[KeptSession]) ->
         (numbered_from (kept_text conn) 0 sessions.now) }
 {
     for session in 0..sessions.len() {
-        if let Err(failed) = write_session(sink, conn, session, &sessions[session].bytes) {
-            return Err(failed);
-        }
+        write_session(sink, conn, session, &sessions[session].bytes)?;
     }
     Ok(())
 }
@@ -94,9 +86,7 @@ fn write_session<K: Sink>(
     if session == 0 {
         return write_stream(sink, conn, stream);
     }
-    if let Err(failed) = write_close(sink, conn) {
-        return Err(failed);
-    }
+    write_close(sink, conn)?;
     write_stream(sink, conn, stream)
 }
 
@@ -120,9 +110,7 @@ fn write_stream<K: Sink>(sink: &mut K, conn: u32, stream: &KeptStream) -> Result
         if size == 0 {
             return Ok(());
         }
-        if let Err(failed) = write_segment(sink, conn, stream, at, size) {
-            return Err(failed);
-        }
+        write_segment(sink, conn, stream, at, size)?;
         at += size;
     }
     Ok(())
@@ -141,9 +129,7 @@ fn write_segment<K: Sink>(
     ensures writes { Writes K.holds K.faults K.finishes sink.old sink.new result
         (segment_text conn (longest_from (byte_held stream.now) at size)) }
 {
-    if let Err(failed) = write_head(sink, conn, size) {
-        return Err(failed);
-    }
+    write_head(sink, conn, size)?;
     write_run(sink, stream, at, size)
 }
 
@@ -168,9 +154,7 @@ fn write_run<K: Sink>(sink: &mut K, stream: &KeptStream, at: u32, size: u32) -> 
     while done < size {
         let part = stream.part(at + done);
         let run = part.len().min((size - done) as usize);
-        if let Err(failed) = write_whole(sink, &part[..run]) {
-            return Err(failed);
-        }
+        write_whole(sink, &part[..run])?;
         done += run as u32;
     }
     Ok(())

@@ -1,22 +1,21 @@
 -- What is counted of a shard, entry by entry.
-use Rattle.std.proofs.Common.{◌≡◌, ℕ, ◌+◌, ◌-◌, ◌^◌, ◌<◌, ◌≤◌, Bool, true, false, cond, not, List, [], ◌∷◌, ◌++◌, length, map, Bor, refl, sym, ap, ◌∙◌, subst, arith}
-use Rattle.std.specs.Prelude.{◌||◌, if◌then◌else◌, fold, count_by, Some, is_some, Option, None, ⊤}
-use Rattle.std.specs.List.{list_any, sum_by}
-use Rattle.std.specs.Ordering.{nat_cmp, eq_by_cmp, is_eq}
+use Rattle.std.proofs.Common.{◌≡◌, ℕ, ◌+◌, ◌-◌, ◌^◌, ◌<◌, Bool, true, false, cond, not, List, [], ◌∷◌, length, map, Bor, refl, sym, ap, ◌∙◌, subst, arith}
+use Rattle.std.specs.Prelude.{◌||◌, if◌then◌else◌, count_by, Some, is_some, Option, None, ⊤}
+use Rattle.std.specs.List.{list_any}
+use Rattle.std.specs.Ordering.{nat_cmp, eq_by_cmp}
 use Rattle.std.specs.Cmp.{eq_by_cmp_equiv}
 use Rattle.std.specs.Cmp.Lexicographic.{slice_cmp, nat_list_cmp_total}
-use Rattle.std.specs.FinMap.{empty, get, contains_key, insert, remove, len, get-empty, get-insert, get-remove, len-empty, len-insert, len-remove}
+use Rattle.std.specs.FinMap.{get, contains_key, insert, remove, get-empty, get-insert, get-remove, len-empty, len-insert, len-remove}
 use Rattle.std.specs.BTreeMap.{is_at}
 use Rattle.std.proofs.lemmas.List.{length-map}
-use Rattle.std.proofs.lemmas.List.Sums.{sum_by-append, fold-append, count_by-le-length}
+use Rattle.std.proofs.lemmas.List.Sums.{count_by-le-length}
 use Rattle.zy_base.specs.declared.entry.Entry.{Entry}
-use Rattle.zy_base.specs.declared.tallied.Tallied.{Tallied}
 use Rattle.zy_base.specs.declared.call.Call.{Call}
 use Rattle.zy_base.specs.declared.call.Call.TheVariants.{Flush}
 use Rattle.zy_base.specs.declared.call_reply.CallReply.{CallReply}
-use Rattle.zy_base.specs.Counted.{KeySet, no_keys, keys_with, keys_after, is_get, is_set, is_hit, is_miss, one_more_if, calls_with, counted, CallCounts}
+use Rattle.zy_base.specs.Counted.{KeySet, no_keys, keys_with, is_get, is_set, is_hit, is_miss, CallCounts}
 use Rattle.zy_report.specs.Counting.{Counting}
-use Rattle.zy_report.specs.Tally.{calls_kept, calls_counted, AreKeysOf, CountsEntries, CanCount, none_kept}
+use Rattle.zy_report.specs.Tally.{AreKeysOf, CountsEntries, CanCount, none_kept}
 
 -- ---- keys
 
