@@ -68,6 +68,21 @@ def count(text):
     return int(text)
 
 
+def numbers(least, most):
+    """Numbers of this range, with a comma between them."""
+
+    def found(text):
+        try:
+            given = [float(word) for word in text.split(",")]
+        except ValueError:
+            given = []
+        if not given or not all(least <= number <= most for number in given):
+            raise argparse.ArgumentTypeError(f"{text} is no list of numbers from {least} to {most}")
+        return [int(number) if number == int(number) else number for number in given]
+
+    return found
+
+
 # ---- the programs
 
 

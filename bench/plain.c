@@ -1,8 +1,9 @@
 /*
  * A plain server of the generator's traffic, for bench/serve.py to compare with. It reads a capture of version 1 from
- * standard input, carries out each command as soon as it is complete, and writes the replies file. It has one thread,
- * one hash table and no journal. It knows the commands get, set, append, incr and delete in the form that the generator
- * gives them; on every other input it ends with status 1.
+ * standard input, carries out each command as soon as it is complete, and writes the replies file. It has one thread
+ * and one hash table. With --journal it also keeps an entry of 80 bytes for each call on a key, from which the call and
+ * its reply could be written: so it keeps every item that was ever stored. It knows the commands get, set, append, incr
+ * and delete in the form that the generator gives them; on every other input it ends with status 1.
  */
 #include <stdint.h>
 #include <stdio.h>
@@ -30,13 +31,37 @@ struct item {
     char bytes[];
 };
 
-/* What has come of a command that is not complete, and what was answered. */
+/* What has come of a command that is not complete, what was answered, and how many commands were. */
 struct connection {
     struct text kept, output;
+    uint64_t commands;
 };
+
+enum call { GET, SET, APPEND, INCR, DELETE };
+enum reply { MISS, HIT, STORED, NOT_STORED, TOO_LARGE, NUMBER, NO_NUMBER, NOT_FOUND, DELETED };
+
+/* A call of the journal. The item is the one that was found or stored: it has the flags and the value of call and reply.
+   The number is what incr adds, or the length of what append adds. A key of up to 32 bytes is here. */
+struct entry {
+    uint64_t stamp, command, number;
+    struct item *item;
+    uint32_t connection, part;
+    uint16_t call, reply;
+    uint32_t key_length;
+    union {
+        char bytes[32];
+        char *longer;
+    } key;
+};
+
+_Static_assert(sizeof(struct entry) == 80, "an entry has 80 bytes");
 
 static struct item **table;
 static size_t places, items;
+static int has_journal;
+static struct text journal;
+/* What the next entry is of. */
+static struct entry next_entry;
 
 static void give_up(const char *why) {
     fprintf(stderr, "plain: %s\n", why);
@@ -92,6 +117,25 @@ static uint64_t number_of(struct word word) {
     return number;
 }
 
+/* ---- the journal */
+
+/* Keeps the entry of a call, if there is a journal. */
+static void note(enum call call, struct word key, enum reply reply, struct item *item, uint64_t number) {
+    if (!has_journal) return;
+    struct entry *entry = &next_entry;
+    entry->stamp++;
+    entry->call = call;
+    entry->reply = reply;
+    entry->item = item;
+    entry->number = number;
+    entry->key_length = key.length;
+    char *bytes = entry->key.bytes;
+    if (key.length > sizeof entry->key.bytes) bytes = entry->key.longer = checked(malloc(key.length));
+    memcpy(bytes, key.bytes, key.length);
+    put(&journal, (const char *)entry, sizeof *entry);
+    entry->part++;
+}
+
 /* ---- items */
 
 static uint32_t hash_of(struct word key) {
@@ -124,8 +168,8 @@ static void grow(void) {
     places = wide;
 }
 
-/* Stores a value of two parts in place of what the link leads to. */
-static void store(struct item **link, struct word key, uint32_t hash, uint32_t flags, struct word one,
+/* Stores a value of two parts in place of what the link leads to, and gives its item. */
+static struct item *store(struct item **link, struct word key, uint32_t hash, uint32_t flags, struct word one,
                   struct word two) {
     struct item *old = *link;
     struct item *item = checked(malloc(sizeof *item + key.length + one.length + two.length));
@@ -134,8 +178,9 @@ static void store(struct item **link, struct word key, uint32_t hash, uint32_t f
     memcpy(item->bytes + key.length, one.bytes, one.length);
     memcpy(item->bytes + key.length + one.length, two.bytes, two.length);
     *link = item;
-    free(old);
+    if (!has_journal) free(old);
     if (!old && ++items > places) grow();
+    return item;
 }
 
 static struct word value_of(struct item *item) {
@@ -146,6 +191,7 @@ static struct word value_of(struct item *item) {
 
 static void get(struct text *output, struct word key) {
     struct item *item = *find(key, hash_of(key));
+    note(GET, key, item ? HIT : MISS, item, 0);
     if (!item) return;
     PUT(output, "VALUE ");
     put(output, key.bytes, key.length);
@@ -160,7 +206,7 @@ static void get(struct text *output, struct word key) {
 
 static void set(struct text *output, struct word key, uint32_t flags, struct word value, int quiet) {
     uint32_t hash = hash_of(key);
-    store(find(key, hash), key, hash, flags, value, (struct word){"", 0});
+    note(SET, key, STORED, store(find(key, hash), key, hash, flags, value, (struct word){"", 0}), 0);
     if (!quiet) PUT(output, "STORED\r\n");
 }
 
@@ -168,11 +214,14 @@ static void append(struct text *output, struct word key, struct word value) {
     uint32_t hash = hash_of(key);
     struct item **link = find(key, hash);
     if (!*link) {
+        note(APPEND, key, NOT_STORED, NULL, value.length);
         PUT(output, "NOT_STORED\r\n");
     } else if ((*link)->length + value.length > VALUE_LIMIT) {
+        note(APPEND, key, TOO_LARGE, NULL, value.length);
         PUT(output, "SERVER_ERROR object too large for cache\r\n");
     } else {
-        store(link, key, hash, (*link)->flags, value_of(*link), value);
+        struct item *item = store(link, key, hash, (*link)->flags, value_of(*link), value);
+        note(APPEND, key, STORED, item, value.length);
         PUT(output, "STORED\r\n");
     }
 }
@@ -183,12 +232,15 @@ static void incr(struct text *output, struct word key, uint64_t amount) {
     uint64_t number;
     char digits[20];
     if (!*link) {
+        note(INCR, key, NOT_FOUND, NULL, amount);
         PUT(output, "NOT_FOUND\r\n");
     } else if (!read_number((*link)->bytes + (*link)->key_length, (*link)->length, &number)) {
+        note(INCR, key, NO_NUMBER, NULL, amount);
         PUT(output, "CLIENT_ERROR cannot increment or decrement non-numeric value\r\n");
     } else {
         size_t count = digits_of(number + amount, digits);
-        store(link, key, hash, (*link)->flags, (struct word){digits, count}, (struct word){"", 0});
+        struct item *item = store(link, key, hash, (*link)->flags, (struct word){digits, count}, (struct word){"", 0});
+        note(INCR, key, NUMBER, item, amount);
         put(output, digits, count);
         PUT(output, "\r\n");
     }
@@ -196,9 +248,10 @@ static void incr(struct text *output, struct word key, uint64_t amount) {
 
 static void delete(struct text *output, struct word key) {
     struct item **link = find(key, hash_of(key)), *item = *link;
+    note(DELETE, key, item ? DELETED : NOT_FOUND, NULL, 0);
     if (item) {
         *link = item->next;
-        free(item);
+        if (!has_journal) free(item);
         items--;
         PUT(output, "DELETED\r\n");
     } else {
@@ -252,8 +305,9 @@ static size_t serve_one(struct text *output, const char *bytes, size_t length) {
     return taken;
 }
 
-static void serve(struct connection *connection, const char *bytes, size_t length) {
+static void serve(struct connection *connection, uint32_t number, const char *bytes, size_t length) {
     struct text *kept = &connection->kept;
+    next_entry.connection = number;
     if (kept->length) {
         put(kept, bytes, length);
         bytes = kept->bytes;
@@ -261,8 +315,11 @@ static void serve(struct connection *connection, const char *bytes, size_t lengt
     }
     size_t at = 0, taken = 1;
     while (at < length && taken > 0) {
+        next_entry.command = connection->commands;
+        next_entry.part = 0;
         taken = serve_one(&connection->output, bytes + at, length - at);
         at += taken;
+        connection->commands += taken > 0;
     }
     if (bytes == kept->bytes) {
         memmove(kept->bytes, kept->bytes + at, length - at);
@@ -315,7 +372,9 @@ static void write_replies(struct connection *connections, uint32_t count) {
     if (fflush(stdout) || ferror(stdout)) give_up("writing failed");
 }
 
-int main(void) {
+int main(int count_of_words, char **words) {
+    has_journal = count_of_words == 2 && !strcmp(words[1], "--journal");
+    if (count_of_words > 1 + has_journal) give_up("usage: plain [--journal] < CAPTURE > REPLIES");
     if (memcmp(next(8), "ZYGCAP1\n", 8)) give_up("not a capture of version 1");
     uint32_t count = number_at(next(4));
     struct connection *connections = checked(calloc(count + 1, sizeof *connections));
@@ -324,7 +383,7 @@ int main(void) {
         const char *head = next(8);
         uint32_t number = number_at(head), length = number_at(head + 4);
         if (tag != 'S' || number >= count || length > 65535) give_up("a record is not a segment");
-        serve(&connections[number], next(length), length);
+        serve(&connections[number], number, next(length), length);
     }
     write_replies(connections, count);
     return 0;

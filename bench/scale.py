@@ -161,7 +161,7 @@ def curve(costs, kind, commands):
 def picture(costs, commands, runs):
     """A chart of commands a second by threads, for all kinds; the dashed lines are multiples of one thread."""
     curves = [curve(costs, kind, commands) for kind in KINDS]
-    top = max(of.points[0][1] * MOST for of in curves)
+    top = max(max(of.points[0][1] * MOST, *(point[3] for point in of.points)) for of in curves)
     drawn = chart.Chart(f"Serving {commands:,} commands of {common.CONNECTIONS} connections",
                         [common.machine_name(), f"as many cores as threads; median of {runs} runs, with the slowest and the "
                          "fastest"],

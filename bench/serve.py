@@ -1,113 +1,89 @@
 #!/usr/bin/env python3
 """Serves generated traffic of 200 connections with 100,000 and 1,000,000 commands, and prints what it costs.
 
-On one thread: microseconds of processor time a command and resident memory as a multiple of the capture, with and
-without the journal written, how both grow from the smaller capture to the larger, and beside them the same of
-`bench/plain.c`, a plain server in C without a journal. The plain server's replies must be the same, byte for byte. Then
-the larger capture on more cores, with one thread and with as many threads.
+On one thread: microseconds of processor time a command and resident memory as a multiple of the capture, and how both grow
+from the smaller capture to the larger: of zygos, which keeps a journal, with and without writing it; and of `bench/plain.c`, a
+plain server in C, with a journal of 80 bytes a call that it keeps, and without one. The plain server's replies must be the same,
+byte for byte. Then the larger capture on more cores, with one thread and with as many threads.
 
-usage: bench/run serve [--runs N] [PROGRAM]
+usage: bench/run serve [--runs N] [--commands N] [PROGRAM]
 
 --runs N      how often each is run; the run of the least processor time counts (3)
-PROGRAM       a program that is built (otherwise ./zygos, which proves and builds it first where it isn't)
+--commands N  the commands of the larger capture; the smaller one has a tenth (1000000)
+PROGRAM       a program that is built (if left out, the repository's, which is proved and built first where it isn't)
 """
-import argparse
 import filecmp
 import os
 import subprocess
-import sys
 import tempfile
-import time
 
-HERE = os.path.dirname(os.path.realpath(__file__))
-CONNECTIONS = 200
-SIZES = (100000, 1000000)
+import common
+
 ALONE = ["run", "--cores", "1", "--threads", "1"]
-
-
-def run(command, source, sink):
-    """Processor seconds, seconds and the most resident bytes of a run."""
-    begin = time.time()
-    with open(source, "rb") as given, open(sink, "wb") as taken:
-        process = subprocess.Popen(command, stdin=given, stdout=taken)
-        _, status, used = os.wait4(process.pid, 0)
-    if status:
-        sys.exit(f"bench/run serve: {command[0]} ended with status {status >> 8}")
-    return used.ru_utime + used.ru_stime, time.time() - begin, used.ru_maxrss * 1024
-
-
-def least(runs, command, source):
-    """The run of the least processor time."""
-    return min(run(command, source, os.devnull) for _ in range(runs))
-
-
-def generated(program, room, commands):
-    """The path of the capture of so many commands."""
-    path = os.path.join(room, str(commands))
-    words = ["gen", "--number", "1", "--conns", str(CONNECTIONS), "--commands", str(commands // CONNECTIONS)]
-    run([program, *words], os.devnull, path)
-    return path
+ZYGOS, WRITTEN, JOURNAL, PLAIN = "zygos", "zygos, its journal written", "plain C with a journal", "plain C"
 
 
 def same_replies(room, path, *commands):
     """Ends where the commands do not write the same."""
-    files = [os.path.join(room, name) for name in ("one", "other")]
+    files = [os.path.join(room, str(at)) for at in range(len(commands))]
     for command, file in zip(commands, files):
-        run(command, path, file)
-    if not filecmp.cmp(*files, shallow=False):
-        sys.exit("bench/run serve: the plain server's replies are not the same")
+        common.run(command, path, file)
+    if not all(filecmp.cmp(files[0], file, shallow=False) for file in files[1:]):
+        common.stop("the plain server's replies are not the same")
     for file in files:
         os.remove(file)
 
 
-def beside(kinds, paths, runs):
-    """What each kind costs on one thread, printed as a table, with the ratios to the last kind."""
-    sizes = [os.path.getsize(path) for path in paths]
-    print(f"{'on one thread':32}" + "".join(f"{count:>11,} commands" for count in SIZES) + f"{'growth':>14}")
-    print(" " * 32 + f"{'us a command':>13}{'memory':>7}" * 2 + f"{'time':>7}{'memory':>7}")
+class Row:
+    """What a server costs with the smaller capture and with the larger."""
+
+    def __init__(self, command, paths, sizes, runs):
+        costs = [common.least(runs, command, path) for path in paths]
+        self.each = [cost.used / size * 1e6 for cost, size in zip(costs, sizes)]
+        self.memory = [cost.resident / os.path.getsize(path) for cost, path in zip(costs, paths)]
+        self.growth = costs[1].used / costs[0].used, costs[1].resident / costs[0].resident
+
+    def cells(self):
+        return "".join(f"{each:13.2f}{memory:8.1f}" for each, memory in zip(self.each, self.memory))
+
+
+def beside(kinds, paths, sizes, runs):
+    """Prints what each kind costs on one thread as a table, and how it compares."""
+    print(f"{'on one thread':28}" + "".join(f"{size:>12,} commands" for size in sizes) + f"{'growth':>16}")
+    print(" " * 28 + f"{'us a command':>13}{'memory':>8}" * 2 + f"{'time':>8}{'memory':>8}")
     rows = {}
     for kind, command in kinds.items():
-        rows[kind] = [least(runs, command, path) for path in paths]
-        costs = "".join(
-            f"{row[0] / count * 1e6:13.2f}{row[2] / size:7.1f}"
-            for row, count, size in zip(rows[kind], SIZES, sizes)
-        )
-        small, large = rows[kind]
-        print(f"{kind:32}{costs}{large[0] / small[0]:7.1f}{large[2] / small[2]:7.1f}", flush=True)
-    *others, plain = rows
-    for kind in others:
-        pairs = zip(rows[kind], rows[plain])
-        ratios = "".join(f"{row[0] / base[0]:13.2f}{row[2] / base[2]:7.1f}" for row, base in pairs)
-        print(f"{kind + ' / ' + plain:32}{ratios}")
-    alone, written = (rows[kind][1][0] for kind in others)
-    print(f"with the journal written: {written / alone:.2f} times the time")
+        rows[kind] = row = Row(command, paths, sizes, runs)
+        print(f"{kind:28}{row.cells()}{row.growth[0]:8.1f}{row.growth[1]:8.1f}", flush=True)
+    for one, other in ((ZYGOS, JOURNAL), (ZYGOS, PLAIN), (WRITTEN, ZYGOS)):
+        pairs = [(rows[one].each[at] / rows[other].each[at], rows[one].memory[at] / rows[other].memory[at]) for at in (0, 1)]
+        print(f"{one} / {other}: " + "; ".join(f"{time:.2f} times the time, {memory:.2f} times the memory, of {size:,} commands"
+                                               for (time, memory), size in zip(pairs, sizes)))
 
 
 def main():
-    words = argparse.ArgumentParser(description=__doc__.strip(), formatter_class=argparse.RawDescriptionHelpFormatter)
-    words.add_argument("--runs", type=int, default=3)
-    words.add_argument("program", nargs="?", default=os.path.join(os.path.dirname(HERE), "zygos"))
-    given = words.parse_args()
-    program = os.path.abspath(given.program)
-    subprocess.run([program], stdout=subprocess.DEVNULL, stderr=subprocess.DEVNULL, check=False)
+    words = common.Words(__doc__, "program")
+    words.add_argument("--runs", type=common.count, default=3)
+    words.add_argument("--commands", type=common.count, default=1_000_000)
+    given = words.given()
+    program = common.built("zygos", given.program)
+    largest = max(given.commands // (10 * common.CONNECTIONS), 1) * 10 * common.CONNECTIONS
+    sizes = (largest // 10, largest)
+    print(f"best of {given.runs} runs, {common.machine()}", flush=True)
     with tempfile.TemporaryDirectory() as room:
         plain = os.path.join(room, "plain")
-        subprocess.run(["cc", "-O2", "-o", plain, os.path.join(HERE, "plain.c")], check=True)
-        paths = [generated(program, room, commands) for commands in SIZES]
+        subprocess.run(["cc", "-O2", "-o", plain, os.path.join(common.HERE, "plain.c")], check=True)
+        paths = [common.generated(program, os.path.join(room, f"{size}.cap"), size) for size in sizes]
         for path in paths:
-            same_replies(room, path, [program, *ALONE], [plain])
-        kinds = {
-            "zygos": [program, *ALONE],
-            "zygos, with its journal": [program, *ALONE, "--out", "both"],
-            "plain": [plain],
-        }
-        beside(kinds, paths, given.runs)
+            same_replies(room, path, [program, *ALONE], [plain], [plain, "--journal"])
+        beside({ZYGOS: [program, *ALONE], WRITTEN: [program, *ALONE, "--out", "both"], JOURNAL: [plain, "--journal"],
+                PLAIN: [plain]}, paths, sizes, given.runs)
         for cores in (4, 16, 64):
-            used = least(given.runs, [program, "run", "--cores", str(cores), "--threads", "1"], paths[1])
-            print(f"{cores} cores on one thread: {used[0] / SIZES[1] * 1e6:.2f} us of processor time a command")
+            cost = common.least(given.runs, [program, "run", *common.cores(cores, 1)], paths[1])
+            print(f"{cores} cores on one thread: {cost.used / largest * 1e6:.2f} us of processor time a command", flush=True)
         for threads in (1, 2, 4):
-            used = least(given.runs, [program, "run", "--cores", str(threads)], paths[1])
-            print(f"{threads} cores on as many threads: {used[1]:.2f} s, {used[0]:.2f} s of processor time")
+            cost = common.least(given.runs, [program, "run", *common.cores(threads)], paths[1])
+            print(f"{threads} cores on as many threads: {cost.wall:.2f} s, {cost.used:.2f} s of processor time", flush=True)
 
 
 main()

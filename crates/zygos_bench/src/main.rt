@@ -30,7 +30,7 @@ use zy_base::NoMemory;
 fn main(rt: HostRuntime) -> ExitCode {
     let asked = read_words(&rt);
     if let Some(What::Tail) = asked.what {
-        return match tail::print_run(&rt, rt.alloc(), read_load(&rt)) {
+        return match tail::print_run(&rt, rt.alloc(), read_load(&rt), &mut rt.stdin()) {
             Ok(()) => ExitCode::from(0),
             Err(NoMemory) => ExitCode::from(6),
         };

@@ -8,21 +8,29 @@ mod feeder;
 mod load;
 mod offering;
 mod report;
+mod services;
 mod times;
 
 pub(crate) use load::{Load, Shape};
+use services::read_services;
 use std::alloc::Global;
+use std::io::Read;
 use std::sync::Wait;
 use std::thread::Threads;
 use std::time::Clock;
 use zy_base::NoMemory;
 
-/// Serves the requests of a load, and prints what came of them.
-pub(crate) fn print_run<R: Threads + Wait + Clock + Print + Sync>(
+/// Serves the requests of a load, and prints what came of them. Service times that are to be given come from the input.
+pub(crate) fn print_run<R: Threads + Wait + Clock + Print + Sync, I: Read>(
     rt: &R,
     alloc: Global,
     load: Load,
+    input: &mut I,
 ) -> Result<(), NoMemory> {
     let cores = load.cores.max(1).min(8);
-    driving::run(rt, alloc, Load { cores, ..load })
+    let services = match load.shape {
+        Shape::Given => read_services(alloc, input)?,
+        _ => Vec::new(alloc),
+    };
+    driving::run(rt, alloc, Load { cores, ..load }, services)
 }

@@ -53,7 +53,8 @@ pub(crate) fn read_load<R: Env>(rt: &R) -> Load {
         shape: match number(rt, 4) {
             0 => Shape::Fixed,
             1 => Shape::Exponential,
-            _ => Shape::Bimodal,
+            2 => Shape::Bimodal,
+            _ => Shape::Given,
         },
         service: number(rt, 5).min(1 << 30),
         gap: number(rt, 6).min(1 << 40),

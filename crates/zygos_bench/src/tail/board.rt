@@ -12,27 +12,51 @@ use zy_base::{Gate, NoMemory};
 pub(crate) struct Board<'a, R> {
     rt: &'a R,
     load: Load,
+    services: Vec<u64>,
     ends: Vec<AtomicU64>,
     cores: Vec<AtomicU64>,
     away: AtomicU64,
 }
 
 impl<'a, R: Clock> Board<'a, R> {
-    /// A gate that was not passed yet.
-    pub(crate) fn new(rt: &'a R, alloc: Global, load: Load) -> Result<Board<'a, R>, NoMemory> {
-        let ends = zeros(alloc, load.places())?;
+    /// A gate that was not passed yet, with the service times that were given.
+    pub(crate) fn new(
+        rt: &'a R,
+        alloc: Global,
+        load: Load,
+        services: Vec<u64>,
+    ) -> Result<Board<'a, R>, NoMemory> {
+        let ends = match zeros(alloc, load.places()) {
+            Ok(ends) => ends,
+            Err(e) => {
+                drop(services);
+                return Err(e);
+            }
+        };
         match zeros(alloc, load.places()) {
             Ok(cores) => Ok(Board {
                 rt,
                 load,
+                services,
                 ends,
                 cores,
                 away: AtomicU64::new(0),
             }),
             Err(e) => {
+                drop(services);
                 drop(ends);
                 Err(e)
             }
+        }
+    }
+
+    // The service time of the command at this place: one of those that were given, if there are any.
+    fn service_of(&self, place: usize) -> u64 {
+        let draw = self.load.draw_of(place);
+        let given = (self.services.len() as u64).max(1);
+        match self.services.get((draw % given) as usize) {
+            Some(time) => *time,
+            None => self.load.service_of(draw),
         }
     }
 
@@ -56,11 +80,7 @@ impl<'a, R: Clock> Gate for Board<'a, R> {
     fn pass(&self, core: u32, conn: u32, index: u64) {
         let begin = monotonic(self.rt);
         let place = self.load.place_of(conn, index);
-        let spun = spin(
-            self.rt,
-            begin,
-            begin.saturating_add(self.load.service_of(place)),
-        );
+        let spun = spin(self.rt, begin, begin.saturating_add(self.service_of(place)));
         note(&self.ends, place, spun.end);
         note(&self.cores, place, u64::from(core));
         if spun.away > 0 {

@@ -29,15 +29,17 @@ struct Ready {
     root: Root,
 }
 
-/// Serves the requests of a load on a thread for each core, and prints what came of them.
+/// Serves the requests of a load on a thread for each core, with the service times that were given, and prints what came of
+/// them.
 pub(crate) fn run<R: Threads + Wait + Clock + Print + Sync>(
     rt: &R,
     alloc: Global,
     load: Load,
+    services: Vec<u64>,
 ) -> Result<(), NoMemory>
     requires cores { (1 ≤ load.cores) × (load.cores ≤ 8) }
 {
-    let board = Board::new(rt, alloc, load)?;
+    let board = Board::new(rt, alloc, load, services)?;
     let ran = run_gated(rt, alloc, load, &board);
     drop(board);
     ran

@@ -12,6 +12,8 @@ pub(crate) enum Shape {
     Exponential,
     /// One in ten is ten times as long as the others.
     Bimodal,
+    /// They are drawn from times that an input gives.
+    Given,
 }
 
 /// What is asked of a run.
@@ -50,11 +52,15 @@ impl Load {
         exponential(draw, self.gap)
     }
 
-    /// The service time of the request with this place.
-    pub(crate) fn service_of(&self, place: usize) -> u64 {
-        let draw = mixed((place as u64) ^ mixed(self.number));
+    /// What the service time of the request with this place is drawn from.
+    pub(crate) fn draw_of(&self, place: usize) -> u64 {
+        mixed((place as u64) ^ mixed(self.number))
+    }
+
+    /// The service time that is drawn; the mean where times were to be given and none was.
+    pub(crate) fn service_of(&self, draw: u64) -> u64 {
         match self.shape {
-            Shape::Fixed => self.service,
+            Shape::Fixed | Shape::Given => self.service,
             Shape::Exponential => exponential(draw, self.service),
             Shape::Bimodal => {
                 let short = self.service.wrapping_mul(10) / 19;
