@@ -38,13 +38,13 @@ def unknown(word):
     stop(f"no such option: {word}; --help lists them", 2)
 
 
-def number(least, most):
+def number(least, most=None):
     """An option that takes a number of this range: what it takes, and how a word is read."""
     def read_number(word):
-        is_number = re.fullmatch("[0-9]{1,20}", word) and least <= int(word) <= most
+        is_number = re.fullmatch("[0-9]{1,18}", word) and least <= int(word) and (most is None or int(word) <= most)
         return int(word) if is_number else None
 
-    return f"a number from {least} to {most}", read_number
+    return f"a number of {least} or more" if most is None else f"a number from {least} to {most}", read_number
 
 
 def options(words, known):

@@ -5,6 +5,8 @@ raise the first fault; they keep nothing of what they gave. `read_capture` and i
 `segment` and the like give the bytes of values, and `capture_start` and its like those before the first record, to
 which records and END are appended.
 """
+import os
+import re
 import struct
 from collections import namedtuple
 from operator import itemgetter
@@ -166,15 +168,14 @@ def capture_records(part, version, count):
 
 def whole_segments(part, count):
     """The segments up to a record that is not a good segment, or is not whole in the window."""
-    text, at, limit = part.text, part.at, part.limit()
+    text, at, limit, new = part.text, part.at, part.limit(), tuple.__new__
     while at + 9 <= limit:
         tag, connection, length = SEGMENT.unpack_from(text, at)
-        end = at + 9 + length
-        if tag != 83 or connection >= count or length > MOST_SEGMENT or end > limit:
+        at += 9 + length
+        if tag != 83 or connection >= count or length > MOST_SEGMENT or at > limit:
             return
-        part.at = end
-        yield Segment(connection, text[at + 9 : end])
-        at = end
+        part.at = at
+        yield new(Segment, (connection, text[at - length : at]))
 
 
 def read_record(part, version, count):
@@ -480,20 +481,21 @@ def big(size, number):
     return number.to_bytes(size, "big")
 
 
+# the bytes that are printed as they are, and how others are, but for those above 127
 PRINTED = bytes(byte for byte in range(32, 127) if byte != 92)
-ESCAPED = [(bytes([byte]), b"\\x%02x" % byte) for byte in (*range(32), 127)]
+ESCAPED = [(b"\\", b"\\\\")] + [(bytes([byte]), b"\\x%02x" % byte) for byte in (*range(32), 127)]
 
 
-def shown_bytes(text):
-    """Bytes as printed ones: those that cannot be printed as \\xNN."""
-    odd = text.translate(None, PRINTED)
-    if not odd:
-        return text
-    text = text.replace(b"\\", b"\\\\")
-    for byte, escape in ESCAPED:
-        if byte in odd:
-            text = text.replace(byte, escape)
-    return text if text.isascii() else text.decode("latin-1").encode("ascii", "backslashreplace")
+def shown_bytes(text, kept=PRINTED):
+    """Bytes as printed ones: as \\xNN those that cannot be printed, and are none that is kept."""
+    odd = text.translate(None, kept)
+    if odd:
+        for byte, escape in ESCAPED:
+            if byte in odd:
+                text = text.replace(byte, escape)
+        if not text.isascii():
+            text = text.decode("latin-1").encode("ascii", "backslashreplace")
+    return text
 
 
 def shown(text):
@@ -501,12 +503,21 @@ def shown(text):
     return shown_bytes(text).decode("ascii")
 
 
+def bytes_of(words):
+    """The bytes that are shown as this text."""
+    return re.sub(rb"\\(\\|x([0-9a-fA-F]{2}))", lambda match: bytes.fromhex((match[2] or b"5c").decode()), os.fsencode(words))
+
+
+# the fields of each kind of call and reply, with their places
+SHOWN_FIELDS = {(kind, name): [(kind._fields.index(field), field) for field in fields.split()]
+                for kind, table in ((Call, CALLS), (Reply, REPLIES)) for name, fields in table}
+
+
 def told(value):
     """A call or a reply as text."""
-    words = [value.name]
-    for field in value._fields[1:]:
-        found = getattr(value, field)
-        if found is not None:
-            words += [] if field == "number" else [field]
-            words.append(f"'{shown(found)}'" if isinstance(found, bytes) else str(found))
+    words = [value[0]]
+    for at, field in SHOWN_FIELDS[value.__class__, value[0]]:
+        found = value[at]
+        label = "" if field == "number" else field + " "
+        words.append(f"{label}'{shown(found)}'" if isinstance(found, bytes) else f"{label}{found}")
     return " ".join(words)
