@@ -38,6 +38,12 @@ Command = namedtuple("Command", "verb keys numbers value quiet error letters cal
                      defaults=[(), {}, None, False, None, "", None])
 
 
+# the lines of most commands, without their ends
+KEY = rb"[^ \r\n]{1,%d}" % MOST_KEY
+USUAL = re.compile(rb"(gets?) (%s(?: %s)*)|(%s) (%s) ([0-9]{1,9}) ([0-9]{1,9}) ([0-9]{1,9})( noreply)?"
+                   % (KEY, KEY, "|".join(STORAGE).encode(), KEY))
+
+
 # ---- commands
 
 
@@ -93,8 +99,18 @@ def meta_of(verb, words):
     return Command(verb, [key], numbers, letters=marks, call=call)
 
 
+def usual(getting, keys, storing, key, flags, exptime, size, noreply):
+    """The command of a usual line, by its words."""
+    if getting:
+        return Command(getting.decode(), keys.split(b" "))
+    numbers = {"flags": int(flags), "exptime": int(exptime), "bytes": int(size)}
+    return Command(storing.decode(), [key], numbers, quiet=noreply is not None)
+
+
 def command_of(line):
     """The command of a line; that of a storage line has no value yet."""
+    if found := USUAL.fullmatch(line):
+        return usual(*found.groups())
     words = [word for word in line.split(b" ") if word]
     verb = words.pop(0).decode("latin-1") if words else ""
     if verb in LEAST:

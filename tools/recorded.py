@@ -8,7 +8,7 @@ from bisect import bisect_right
 from collections import namedtuple
 from itertools import groupby
 
-from formats import MOST_SEGMENT, capture, close, output, pieces, replies_file
+from formats import END, capture, capture_start, close, output, pieces, replies_start
 
 MOST_FILE = (1 << 32) - 1
 MOST_FRAME, GROUPS, MOST_OF_GROUP = 262144, 128, 32
@@ -301,12 +301,12 @@ class Flows:
         for number in sorted(self.sessions):
             for at, session in enumerate(self.sessions[number]):
                 made += [close(number)] if at else []
-                made += pieces(number, session.requests.text(), MOST_SEGMENT)
+                made += pieces(number, session.requests.text())
         return capture(self.count(), made, 2)
 
     def in_order(self, arrivals):
         """The bytes of the capture with the same streams, cut where in time other connections come in between."""
-        yield capture(self.count(), [], 2)[:-1]
+        yield capture_start(self.count(), 2)
         place = {}
         for (number, session), some in groupby(by_time(arrivals), lambda one: (one.connection, one.session)):
             before, begin = place.get(number, (0, 0))
@@ -314,18 +314,18 @@ class Flows:
                 yield close(number)
                 begin = 0
             end = max(one.size for one in some)
-            yield from pieces(number, self.sessions[number][session].requests.text(begin, end), MOST_SEGMENT)
+            yield from pieces(number, self.sessions[number][session].requests.text(begin, end))
             place[number] = session, end
-        yield b"E"
+        yield END
 
     def replies(self):
         """The bytes of the replies file with what the server answered in each session."""
-        yield replies_file(2, [])[:-1]
+        yield replies_start(2)
         for number in range(self.count()):
             for at, session in enumerate(self.sessions.get(number, [None])):
                 answers = session.answers.text() if session and session.answers else b""
                 yield output(2, number, at, answers)
-        yield b"E"
+        yield END
 
 
 def by_time(arrivals):
