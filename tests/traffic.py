@@ -1,4 +1,5 @@
 """Servers and clients of the tests of recording and playing, and how these tests report."""
+import asyncio
 import contextlib
 import os
 import shutil
@@ -58,71 +59,76 @@ def free_port():
 
 class Server:
     """A small memcached: `set`, `get`, `mg` with `q`, `mn` and `quit`; `big N` is answered by an item of N bytes,
-    `wait S` after S seconds, `hush` never, and `echo N` by the N bytes after it."""
+    `wait S` after S seconds, `hush` never, and `echo N` by the N bytes after it. It is in a thread of its own."""
 
     def __init__(self, place=("127.0.0.1", 0)):
-        self.items, self.open = {}, set()
-        family = socket.AF_UNIX if isinstance(place, str) else socket.AF_INET6 if ":" in place[0] else socket.AF_INET
-        self.socket = socket.socket(family)
-        self.socket.setsockopt(socket.SOL_SOCKET, socket.SO_REUSEADDR, 1)
-        self.socket.bind(place)
-        self.socket.listen(4096)
-        self.place = place if family == socket.AF_UNIX else "[{}]:{}".format(*self.socket.getsockname()[:2])
-        threading.Thread(target=self.accept, daemon=True).start()
+        self.items, self.writers, self.loop = {}, set(), asyncio.new_event_loop()
+        threading.Thread(target=self.loop.run_forever, daemon=True).start()
+        self.listening = self.do(self.listen(place))
+        address = self.listening.sockets[0].getsockname()
+        self.place = place if isinstance(place, str) else "[{}]:{}".format(*address[:2])
+
+    def do(self, task):
+        return asyncio.run_coroutine_threadsafe(task, self.loop).result(30)
+
+    async def listen(self, place):
+        if isinstance(place, str):
+            return await asyncio.start_unix_server(self.serve, place, backlog=4096)
+        return await asyncio.start_server(self.serve, *place, backlog=4096)
 
     def __enter__(self):
         return self
 
     def __exit__(self, *_):
         """Ends at once, as a server that is killed."""
-        for one in [self.socket, *self.open]:
-            with contextlib.suppress(OSError):
-                one.shutdown(socket.SHUT_RDWR)
-        self.socket.close()
+        self.do(self.stop())
+        self.loop.call_soon_threadsafe(self.loop.stop)
 
-    def accept(self):
-        with contextlib.suppress(OSError):
-            while True:
-                threading.Thread(target=self.serve, args=(self.socket.accept()[0],), daemon=True).start()
+    async def stop(self):
+        self.listening.close()
+        for writer in self.writers:
+            writer.close()
+        await asyncio.sleep(0)
 
-    def serve(self, one):
-        self.open.add(one)
-        if one.family != socket.AF_UNIX:
-            one.setsockopt(socket.IPPROTO_TCP, socket.TCP_NODELAY, 1)
-        with contextlib.suppress(OSError, ValueError), one, one.makefile("rb") as lines:
-            while (line := lines.readline()).endswith(b"\n") and not line.startswith(b"quit"):
-                self.answer(one, lines, line.split())
-        self.open.discard(one)
+    async def serve(self, lines, writer):
+        self.writers.add(writer)
+        with contextlib.suppress(OSError, ValueError):
+            while (line := await lines.readline()).endswith(b"\n") and not line.startswith(b"quit"):
+                writer.write(await self.answer(line.split(), lines, writer))
+                await writer.drain()
+        writer.close()
+        self.writers.discard(writer)
 
-    def answer(self, one, lines, words):
+    async def answer(self, words, lines, writer):
+        """What answers a command, or the rest of it."""
         match words:
             case [b"set", key, _, _, size, *rest]:
-                self.items[key] = lines.read(int(size) + 2)[:-2]
-                one.sendall(b"" if rest else b"STORED\r\n")
+                self.items[key] = (await lines.readexactly(int(size) + 2))[:-2]
+                return b"" if rest else b"STORED\r\n"
             case [b"get", *keys]:
-                one.sendall(b"".join(b"VALUE %s 0 %d\r\n%s\r\n" % (key, len(self.items[key]), self.items[key])
-                                     for key in keys if key in self.items) + b"END\r\n")
+                return b"".join(b"VALUE %s 0 %d\r\n%s\r\n" % (key, len(self.items[key]), self.items[key])
+                                for key in keys if key in self.items) + b"END\r\n"
             case [b"mg", key, *_]:
                 found = self.items.get(key)
-                one.sendall(b"" if found is None else b"VA %d\r\n%s\r\n" % (len(found), found))
+                return b"" if found is None else b"VA %d\r\n%s\r\n" % (len(found), found)
             case [b"mn"]:
-                one.sendall(b"MN\r\n")
+                return b"MN\r\n"
             case [b"big", size]:
-                one.sendall(big(int(size)))
+                return big(int(size))
             case [b"wait", seconds]:
-                time.sleep(float(seconds))
-                one.sendall(b"OK\r\n")
+                await asyncio.sleep(float(seconds))
+                return b"OK\r\n"
             case [b"echo", size]:
-                one.sendall(b"VALUE echo 0 %s\r\n" % size)
+                writer.write(b"VALUE echo 0 %s\r\n" % size)
                 left = int(size) + 2
-                while left and (text := lines.read1(min(left, 1 << 16))):
-                    one.sendall(text)
+                while left and (text := await lines.read(min(left, 1 << 16))):
+                    writer.write(text)
+                    await writer.drain()
                     left -= len(text)
-                one.sendall(b"END\r\n")
+                return b"END\r\n"
             case [b"hush"]:
-                pass
-            case _:
-                one.sendall(b"ERROR\r\n")
+                return b""
+        return b"ERROR\r\n"
 
 
 def big(size):

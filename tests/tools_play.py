@@ -1,0 +1,214 @@
+#!/usr/bin/env python3
+"""Tests tools/play on a small server and, where there are some, on a memcached and the program.
+
+usage: tests/tools_play.py [PROGRAM]     (run by tools/test; if left out, crates/zygos/out/zygos)
+"""
+import os
+import re
+import subprocess
+import sys
+
+from traffic import NAME, TOP, Recorder, Server, all_of, at_once, fail, files_of, free_port, memcached, same, talk
+from formats import Part, capture, close, pieces, read_replies, replies, segment, sessions
+
+PROGRAM = os.path.realpath(sys.argv[1] if len(sys.argv) > 1 else os.path.join(TOP, "crates/zygos/out/zygos"))
+CLOSED = "tools/play: connection 0: closed by the server\ntools/play: 1 connections, 0 commands answered"
+
+
+def run(tool, *words, given=b""):
+    return subprocess.run([os.path.join(TOP, "tools", tool), *words], input=given, capture_output=True, timeout=120,
+                          check=False)
+
+
+def played(name, server, given, *words, status=0):
+    """What is written when a capture is played, and what is said besides times."""
+    ran = run("play", "-", "--server", server.place, *words, given=given)
+    said = re.sub(r" in [0-9.]+ s\n", "\n", ran.stderr.decode())
+    said = re.sub(r"tools/play: answered within: .*\n", "", said)
+    same(f"the status of {name}", status, ran.returncode)
+    return ran.stdout, said
+
+
+def plays(name, wanted, given, *words, status=0, said=None):
+    """A new server gives these replies."""
+    with Server() as server:
+        written, told = played(name, server, given, *words, status=status)
+        same(name, wanted, written)
+        if said is not None:
+            same(f"what is said of {name}", said, told)
+
+
+def both_orders(name, wanted, given):
+    for words in ((), ("--in-order",)):
+        plays(f"{name} {' '.join(words)}", wanted, given, *words)
+
+
+def numbered(connections, commands):
+    """Commands of each connection on its own keys, and their answers."""
+    asked = [[b"set c%d:%d 0 0 2\r\nxy\r\nget c%d:%d\r\n" % (c, k, c, k) for k in range(commands)]
+             for c in range(connections)]
+    told = [b"".join(b"STORED\r\nVALUE c%d:%d 0 2\r\nxy\r\nEND\r\n" % (c, k) for k in range(commands))
+            for c in range(connections)]
+    return asked, told
+
+
+def orders():
+    """Commands in one segment, in several, and cut anywhere."""
+    asked, told = numbered(5, 20)
+    whole = [record for c in range(5) for record in pieces(c, b"".join(asked[c]))]
+    both_orders("streams at once", replies(told), capture(5, whole))
+    turns = [record for k in range(20) for c in range(5) for record in pieces(c, asked[c][k], 11)]
+    both_orders("commands in pieces", replies(told), capture(5, turns))
+    plays("what is said", replies(told), capture(5, turns),
+          said="tools/play: 5 connections, 200 commands answered\n")
+    both_orders("nothing", replies([]), capture(0, []))
+    both_orders("a connection that sends nothing", replies([b"", b"MN\r\n"]), capture(2, [segment(1, b"mn\r\n"),
+                                                                                        segment(0, b"")]))
+
+
+def in_order():
+    """Each command is sent after the answers to all before it, on whatever connection."""
+    records = [record for k in range(200) for record in (
+        segment(k % 7, b"set a 0 0 3\r\n%03d\r\n" % k), segment((k + 1) % 7, b"get a\r\n"))]
+    wanted = [b""] * 7
+    for k in range(200):
+        wanted[k % 7] += b"STORED\r\n"
+        wanted[(k + 1) % 7] += b"VALUE a 0 3\r\n%03d\r\nEND\r\n" % k
+    plays("the order of a capture", replies(wanted), capture(7, records), "--in-order")
+
+
+def later_sessions():
+    """Sessions come one after the other; some send nothing."""
+    records = [segment(0, b"mn\r\n"), close(0), segment(0, b"set a 0 0 1\r\nx\r\n"), segment(1, b"mn\r\n"), close(0),
+               close(0), segment(0, b"get a\r\nget a"), close(1)]
+    found = b"VALUE a 0 1\r\nx\r\nEND\r\n"
+    both_orders("sessions", sessions([[b"MN\r\n", b"STORED\r\n", b"", found], [b"MN\r\n", b""], [b""]]),
+                capture(3, records, 2))
+
+
+def many():
+    asked, told = numbered(4096, 1)
+    records = [segment(c, asked[c][0]) for c in range(4096)]
+    plays("4,096 connections", replies(told), capture(4096, records),
+          said="tools/play: 4096 connections, 8192 commands answered\n")
+
+
+def large():
+    """Answers and values that fill the buffers of both sides."""
+    value = b"0123456789abcdef" * 6400
+    asked = b"set a 0 0 %d\r\n%s\r\n" % (len(value), value) * 20 + b"get a\r\n" * 300
+    told = b"STORED\r\n" * 20 + b"VALUE a 0 %d\r\n%s\r\nEND\r\n" % (len(value), value) * 300
+    plays("large values", replies([told, told]), capture(2, [*pieces(0, asked), *pieces(1, asked)]))
+
+
+def quiet():
+    """Commands that are not answered, or only perhaps."""
+    text = (b"set a 0 0 1 noreply\r\nx\r\nmg a v q\r\nmg b v q\r\nmn\r\nset b 0 0 1 noreply\r\ny\r\n", b"mg b v q\r\n",
+            b"get b\r\n")
+    both_orders("quiet commands", replies([b"VA 1\r\nx\r\nMN\r\nVA 1\r\ny\r\nVALUE b 0 1\r\ny\r\nEND\r\n"]),
+                capture(1, [segment(0, one) for one in text]))
+
+
+def faulty_servers():
+    """Answers that do not come, and a server that closes."""
+    plays("a missing answer", replies([b"MN\r\nMN\r\n", b"OK\r\n"]),
+          capture(2, [segment(0, b"mn\r\n"), segment(0, b"hush\r\n"), segment(0, b"mn\r\n"), segment(1, b"wait 0.1\r\n")]),
+          "--wait", "0.3", status=1, said="tools/play: 2 connections, 3 commands answered\n"
+          "tools/play: 1 commands were not answered\n")
+    plays("a quit", replies([b"MN\r\n"]), capture(1, [segment(0, b"mn\r\nquit\r\nmn\r\n"), segment(0, b"mn\r\n")]),
+          said="tools/play: 1 connections, 1 commands answered\n")
+    plays("a server that closes", replies([b"MN\r\n", b"MN\r\n"]),
+          capture(2, [segment(0, b"mn\r\nquitting\r\nmn\r\n"), segment(1, b"mn\r\n")]), status=1,
+          said="tools/play: connection 0: closed by the server\ntools/play: 2 connections, 2 commands answered\n"
+          "tools/play: 2 commands were not answered\ntools/play: 1 sessions ended too early\n")
+
+
+def other_sockets():
+    given, wanted = capture(2, [segment(0, b"mn\r\n"), segment(1, b"mn\r\n" * 2)]), replies([b"MN\r\n", b"MN\r\n" * 2])
+    for place in (("::1", 0), os.path.abspath("server")):
+        with Server(place) as server:
+            same(f"through {place}", wanted, played(f"through {place}", server, given)[0])
+
+
+def says(name, line, *words, given=b"", status=1):
+    ran = run("play", *words, given=given)
+    same(name, (status, b"", f"tools/play: {line}\n"), (ran.returncode, ran.stdout, ran.stderr.decode()))
+
+
+def words():
+    usage = "a capture is played, and --server says where; --help says more"
+    place = f"127.0.0.1:{free_port()}"
+    ran = run("play", "--help")
+    lines = ran.stdout.decode().splitlines()
+    if ran.returncode or len(lines) > 40 or max(map(len, lines)) > 120:
+        fail("the help of play", f"{ran.returncode} {len(lines)} lines")
+    says("no server", usage, "-", status=2)
+    says("no capture", usage, "--server", place, status=2)
+    says("an unknown word", "unknown word --what, or a wrong value; --help says more", "--what", status=2)
+    says("no time", "--wait takes a number of seconds; --help says more", "--wait", "x", status=2)
+    says("no file", "none: No such file or directory", "none", "--server", place)
+    one = capture(1, [segment(0, b"mn\r\n")])
+    says("nobody listens", f"{place}: Connection refused", "-", "--server", place, given=one)
+    for given, line in ((one[:-1], "truncated at 25"), (one + b"E", "trailing at 26"), (b"ZYGREP", "bad-magic at 3")):
+        says(f"a faulty capture: {line}", f"standard input: capture: {line}", "-", "--server", place, given=given)
+
+
+def closed_pipe():
+    """The reader of the output goes away: the tool says nothing of it."""
+    with Server() as server, open("my.cap", "wb") as file:
+        file.write(capture(1, [segment(0, b"big 1000000\r\n")]))
+        file.flush()
+        ran = subprocess.run(["bash", "-c", '"$0" "$@" | head -c 1 > /dev/null', os.path.join(TOP, "tools/play"), "my.cap",
+                              "--server", server.place], capture_output=True, timeout=60, check=False)
+        same("a closed pipe", 2, ran.stderr.count(b"\n"))
+
+
+# ---- a memcached, and the program
+
+
+def zygos(*words, given):
+    return subprocess.run([PROGRAM, *words], input=given, stdout=subprocess.PIPE, timeout=120, check=False).stdout
+
+
+def alike(name, one, other):
+    """tools/compare finds no difference of two replies files."""
+    with open("one", "wb") as file:
+        file.write(one)
+    ran = run("compare", "one", "-", given=other)
+    same(name, (0, b"same"), (ran.returncode, ran.stdout[:4]))
+
+
+def against_memcached():
+    """A memcached is recorded; the program serves the capture alike, the run is certified, and it is played alike."""
+    if not os.access(PROGRAM, os.X_OK):
+        print(f"{NAME}: {PROGRAM} is not built: no test of it and a memcached")
+        return
+    asked, _ = numbered(3, 50)
+    texts = [b"".join(lines) + b"incr c%d:0 1\r\nset n 0 0 1 noreply\r\n7\r\nmg c%d:1 v\r\nmn\r\n" % (c, c)
+             for c, lines in enumerate(asked)]
+    with memcached() as place:
+        if place is None:
+            return
+        recorder = Recorder(place)
+        at_once([lambda text=text: talk(recorder.place, text, 9) for text in texts])
+        recorder.end()
+    same("what is recorded", sorted(texts), sorted(files_of()[0].values()))
+    with open("my.cap", "rb") as one, open("my.replies", "rb") as other:
+        given, recorded = one.read(), other.read()
+    served = zygos("run", "--out", "both", given=given)
+    same("the certificate", b"yes\n", zygos("check", given=given + served))
+    alike("the program serves what a memcached did", recorded, served)
+    made = zygos("gen", "--conns", "50", "--commands", "40", given=b"")
+    for name, traffic in (("recorded", given), ("generated", made)):
+        for order in ((), ("--in-order",)):
+            with memcached() as place:
+                ran = run("play", "-", "--server", place, *order, given=traffic)
+            same(f"playing {name} traffic", 0, ran.returncode)
+            alike(f"{name} traffic, played {' '.join(order)}", ran.stdout, zygos("run", given=traffic))
+    count = len(read_replies(Part("replies", ran.stdout)).outputs)
+    same("the outputs of generated traffic", 50, count)
+
+
+if __name__ == "__main__":
+    all_of(words, orders, in_order, later_sessions, many, large, quiet, faulty_servers, other_sockets, closed_pipe,
+           against_memcached)
