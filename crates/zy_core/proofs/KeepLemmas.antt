@@ -10,15 +10,9 @@ use Rattle.zy_steal.proofs.SeatLemmas.{seats-length}
 use Rattle.zy_control.specs.declared.view.Role.TheVariants.{Core}
 use Rattle.zy_control.specs.View.{has_counted, has_announced}
 use Rattle.zy_core.specs.Core.{Cored, cored, CoreKeeps, identity_of}
-use Rattle.zy_core.specs.Step.{Kin, IsStill}
+use Rattle.zy_core.specs.Step.{Kin, IsStill, Moved}
 
 -- ---- the home
-
--- a home after some steps of a turn, in which it published at most so often
-pub record Moved (h h' : Homed) (most : ℕ) : Type 0 where
-  pub kin : Kin h h'
-  pub count : h'.pass.count ≤ h.pass.count + most
-  pub still : is_settled h ≡ true → is_settled h' ≡ true
 
 both_left : (a b : Bool) → (a && b) ≡ true → a ≡ true
 both_left true b e = refl
@@ -60,6 +54,10 @@ moved_on a b c m n p q = record {
   count = omega (arith, p.count, q.count);
   still = λ s. q.still (p.still s);
 }
+
+-- what holds of few publications holds of more
+pub moved_at_most : (h h' : Homed) (m n : ℕ) → m ≤ n → Moved h h' m → Moved h h' n
+moved_at_most h h' m n le p = record { kin = p.kin; count = omega (arith, p.count); still = p.still }
 
 -- ---- the core
 
