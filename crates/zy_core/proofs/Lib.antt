@@ -1,4 +1,3 @@
-pub mod KeepLemmas
 pub mod PassLemmas
 pub mod TurnLemmas
 pub mod NapLemmas

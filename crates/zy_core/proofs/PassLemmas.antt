@@ -1,5 +1,5 @@
 -- The passes of a core fit the rings of the others.
-use Rattle.std.proofs.Common.{◌≡◌, ◌<◌, Some, slice_get, sym, ap, ◌∙◌, arith}
+use Rattle.std.proofs.Common.{◌<◌, slice_get, sym, ap, ◌∙◌, arith}
 use Rattle.zy_steal.specs.Order.{other_core}
 use Rattle.zy_steal.specs.Steal.{ArePasses, seat_of}
 use Rattle.zy_steal.proofs.SeatLemmas.{seats-get}

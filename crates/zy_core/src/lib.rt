@@ -13,4 +13,4 @@ pub use cores::Cores;
 pub use logical_core::Core;
 pub use nap::Nap;
 pub use shared::Shared;
-pub use turn::Turn;
+pub use turn::{Came, Turn};

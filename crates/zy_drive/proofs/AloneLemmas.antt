@@ -30,10 +30,10 @@ is_alone n (x ∷ (y ∷ ys)) c one is number = absurd (omega arith)
 -- ---- passes
 
 -- a nap leaves the pass at its bells, and of its core
-pub rested_same : (n : Nap) (p : Passed) → ((rested n p).bells ≡ p.bells) × ((rested n p).core ≡ p.core)
-rested_same (Awake turn) p = (refl, refl)
-rested_same (Ending done stop) p = (refl, refl)
-rested_same Rested p = (refl, refl)
+pub rested_same : (number : ℕ) (n : Nap) (p : Passed) → ((rested number n p).bells ≡ p.bells) × ((rested number n p).core ≡ p.core)
+rested_same number (Awake turn) p = (refl, refl)
+rested_same number (Ending done stop) p = (refl, refl)
+rested_same number Rested p = (refl, refl)
 
 -- one more pass
 pub at_last : (bells : Bells) (ps : List Passed) (p : Passed) → AllAt bells ps → p.bells ≡ bells → AllAt bells (ps ++ p ∷ [])

@@ -1,9 +1,10 @@
-use Rattle.std.proofs.Common.{◌<◌, sym, ap, ◌∙◌, subst}
+use Rattle.std.proofs.Common.{◌<◌, sym, ap, ◌∙◌, subst, arith}
 use Rattle.zy_steal.specs.Order.{other_core}
 use Rattle.zy_steal.specs.Steal.{Thief, TakesFrom, InTurn}
 use Rattle.zy_steal.proofs.IdleLemmas.{takes_within}
+use Rattle.zy_steal.proofs.LookLemmas.{all_looked_over}
 use Rattle.zy_steal.proofs.TurnLemmas.{takes_from, in_turn}
-use Rattle.zy_steal.proofs.victims.Victims.steal.Goals as goal
+use Rattle.zy_steal.proofs.victims.Victims.steal_into.Goals as goal
 
 pub returns-clause-taken : goal.returns-clause-taken
 returns-clause-taken g c =
@@ -22,3 +23,6 @@ pub returns-clause-within : goal.returns-clause-within
 returns-clause-within g c =
     takes_within g.T.Marked.mark g.T.Marked.label c.args.rings.now c.args.passes.now c.turn.new.self (other_core c.args.passes.now.core c.in-Some.taken.at) c.in-Some.taken.place c.in-Some.taken.block c.turn.ensures.kept
     (takes_from g.T.Marked.mark g.T.Marked.label c.args.passes.now c.turn.new.self c.first-start.result c.in-Some.taken c.in-Some.ensures.value) c.requires.within
+
+pub returns-in_default-clause-none : goal.returns-in_default-clause-none
+returns-in_default-clause-none g c = all_looked_over c.args.passes.now c.turn.new.self c.args.looks.now c.turn.new.looks (let w = c.requires.within in let n = w.count in let k = w.core in omega arith) c.in_default.ensures.value
