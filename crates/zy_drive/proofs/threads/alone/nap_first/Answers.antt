@@ -7,7 +7,7 @@ pub nap_one-requires : goal.nap_one-requires
 nap_one-requires g c =
     let some = alone_some c.args.pass.now.core c.args.cores.now.items c.requires.alone in
     record {
-      fits = fits_there c.args.shared.now c.args.cores.now.items c.args.cores.now.items 0 c.index_mut-core.result.now some c.index_mut-core.ensures.value refl c.requires.fits;
+      fits = fits_there c.args.driving.now.shared.now c.args.cores.now.items c.args.cores.now.items 0 c.index_mut-core.result.now some c.index_mut-core.ensures.value refl c.requires.fits;
       core = alone_first c.args.pass.now.core c.args.cores.now.items c.index_mut-core.result.now c.requires.alone c.index_mut-core.ensures.value;
       bells = c.requires.bells;
     }

@@ -8,7 +8,7 @@ use Rattle.zy_drive.proofs.threads.seats.go_on_here.Goals as goal
 pub go_on_seat-requires : goal.go_on_seat-requires
 go_on_seat-requires g c =
     let near = c.loop-i-test.true in let len = c.loop-i.invariant.len in let whole = c.len-i-end.ensures in
-    record { fits = fit_there seat_identities c.args.shared.now c.args.seats.now.items c.loop-i.seats.items c.loop-i.i c.index_mut-seat.result.now (omega arith) c.index_mut-seat.ensures.value c.loop-i.invariant.same c.requires.fits }
+    record { fits = fit_there seat_identities c.args.driving.now.shared.now c.args.seats.now.items c.loop-i.seats.items c.loop-i.i c.index_mut-seat.result.now (omega arith) c.index_mut-seat.ensures.value c.loop-i.invariant.same c.requires.fits }
 
 pub returns-in_err-round-clause-same : goal.returns-in_err-round-clause-same
 returns-in_err-round-clause-same g c =

@@ -27,12 +27,12 @@ loop-t-preserved g c =
       inv.2,
       omega (arith, c.push_reserved.ensures.len, c.push_reserved.ensures.capacity, c.remove.ensures.len, inv.3),
       omega (arith, c.push_reserved.ensures.len, c.remove.ensures.len, inv.4),
-      fit_rest c.args.shared.now c.loop-t.groups.items c.remove.new.self.items c.remove.ensures.items inv.5,
-      ap (λ l. l ++ all_of_groups c.remove.new.self.items) (ap all_of_seats c.push_reserved.ensures.items ∙ seats_last c.loop-t.seats.items c.start_group-seat.result)
-          ∙ taken_on (λ (g : Vec Core Global). identities g.items) (all_of_seats c.loop-t.seats.items) c.loop-t.groups.items c.remove.result c.remove.new.self.items (seat_identities c.start_group-seat.result) (let ok = c.loop-t.groups.ok.0 in omega (arith, inv.0)) c.remove.ensures.value c.remove.ensures.items
-          (c.start_group-seat.ensures.same ∙ ap (λ (g : Grouped). identities g.cores) c.new-group.ensures.value)
+      fit_rest c.args.driving.now.shared.now c.loop-t.groups.items c.remove.new.self.items c.remove.ensures.items inv.5,
+      ap (λ l. l ++ all_of_groups c.remove.new.self.items) (ap all_of_seats c.push_reserved.ensures.items ∙ seats_last c.loop-t.seats.items c.seat_group-seat.result)
+          ∙ taken_on (λ (g : Vec Core Global). identities g.items) (all_of_seats c.loop-t.seats.items) c.loop-t.groups.items c.remove.result c.remove.new.self.items (seat_identities c.seat_group-seat.result) (let ok = c.loop-t.groups.ok.0 in omega (arith, inv.0)) c.remove.ensures.value c.remove.ensures.items
+          (c.seat_group-seat.ensures.same ∙ ap (λ (g : Grouped). identities g.cores) c.new-group.ensures.value)
           ∙ inv.6,
-      c.next-rester.ensures.left c.args.bells.now inv.7,
+      c.next-rester.ensures.left c.args.driving.now.bells.now inv.7,
     )
 
 pub returns-clause-same : goal.returns-clause-same
@@ -40,5 +40,5 @@ returns-clause-same g c =
     let end = c.loop-t-test.false in let ok = c.loop-t.groups.ok.0 in
     none_left (all_of_seats c.loop-t.seats.items) (all_of_seats c.args.seats.now.items ++ all_of_groups c.args.groups.items) c.loop-t.groups.items (omega (arith, c.loop-t.invariant.0)) c.loop-t.invariant.6
 
-pub start_group-seat-requires-clause-rests : goal.start_group-seat-requires-clause-rests
-start_group-seat-requires-clause-rests g c = λ lifetimes within. c.next-rester.ensures.rests c.args.bells.now c.loop-t.invariant.7
+pub seat_group-seat-requires-clause-rests : goal.seat_group-seat-requires-clause-rests
+seat_group-seat-requires-clause-rests g c = λ lifetimes within. c.next-rester.ensures.rests c.args.driving.now.bells.now c.loop-t.invariant.7

@@ -4,7 +4,7 @@ use Rattle.zy_core.specs.Cores.{identities, EachFits}
 use Rattle.zy_drive.specs.Drive.{cores_of}
 use Rattle.zy_drive.specs.Seat.{all_of_groups, AllFit}
 use Rattle.zy_drive.proofs.GroupLemmas.{dealt_fit, gather_same, gather_settled}
-use Rattle.zy_drive.proofs.threads.drive.Goals as goal
+use Rattle.zy_drive.proofs.threads.drive_groups.Goals as goal
 
 pub in_scope-lent-requires-clause-fits : goal.in_scope-lent-requires-clause-fits
 in_scope-lent-requires-clause-fits g c =
