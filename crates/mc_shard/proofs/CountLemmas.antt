@@ -1,6 +1,6 @@
 -- What is counted of the items and of the calls of a shard, along changes and calls.
-use Rattle.std.proofs.Common.{◌≡◌, ℕ, ◌+◌, ◌-◌, ◌<◌, ◌≤◌, ◌^◌, Bool, true, false, cond, List, [], ◌∷◌, length, refl, sym, ap, subst, ◌∙◌, ⊎_elim, arith}
-use Rattle.std.specs.Prelude.{Option, Some, None, is_some}
+use Rattle.std.proofs.Common.{◌≡◌, ℕ, ◌+◌, ◌-◌, ◌<◌, ◌≤◌, ◌^◌, Bool, true, false, cond, List, refl, sym, ap, subst, ◌∙◌, ⊎_elim, arith}
+use Rattle.std.specs.Prelude.{is_some}
 use Rattle.std.proofs.Math.Nat.{eq-zero-or-pos}
 use Rattle.std.specs.Ordering.{nat_cmp}
 use Rattle.std.specs.Cmp.Lexicographic.{slice_cmp, nat_list_cmp_total}
@@ -20,7 +20,7 @@ use Rattle.zy_base.proofs.EntryLemmas.{StampsRise-length}
 use Rattle.zy_base.proofs.CountedLemmas.{gets_within, sets_within}
 use Rattle.mc_stats.specs.declared.counts.Counts.{Counts}
 use Rattle.mc_stats.specs.Counts.{no_counts, with_get, with_set, with_item, without_item, without_items}
-use Rattle.mc_shard.specs.Contents.{call_counts_in, items_in, AreCounts, IsSound}
+use Rattle.mc_shard.specs.Contents.{call_counts_in, AreCounts, IsSound}
 
 -- ---- items
 
