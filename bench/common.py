@@ -4,6 +4,7 @@ A script ends with a line on standard error where a run fails, with status 1, an
 """
 import argparse
 import collections
+import json
 import os
 import statistics
 import subprocess
@@ -81,6 +82,17 @@ def numbers(least, most):
         return [int(number) if number == int(number) else number for number in given]
 
     return found
+
+
+def read_json(path):
+    """What a file has as JSON."""
+    try:
+        with open(path, encoding="utf-8") as file:
+            return json.load(file)
+    except OSError as error:
+        stop(f"{path}: {error.strerror}")
+    except ValueError:
+        stop(f"{path}: no JSON")
 
 
 # ---- the programs

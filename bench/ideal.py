@@ -141,3 +141,18 @@ def quantile(shares, load, cores, skewed, law, part=0.99):
     if law.shape == SHAPES["exponential"]:
         return by_formula(shares, load, cores, skewed, part)
     return by_drawing(shares, load, cores, skewed, law, part)
+
+
+def carried(curve, bound):
+    """The load at which a curve of points (load, quantile, ..) meets the bound, in percent."""
+    before = None
+    for load, value, *_ in curve:
+        if value > bound:
+            if before is None:
+                return 0.0
+            if math.isinf(value):
+                return before[0]
+            step = (math.log(bound) - math.log(before[1])) / (math.log(value) - math.log(before[1]))
+            return before[0] + (load - before[0]) * step
+        before = (load, value)
+    return float(before[0]) if before else 0.0

@@ -184,21 +184,6 @@ class Bench:
 # ---- what is printed and drawn
 
 
-def carried(curve):
-    """The load at which a curve of points (load, quantile, ..) meets the bound, in percent."""
-    before = None
-    for load, value, *_ in curve:
-        if value > BOUND:
-            if before is None:
-                return 0.0
-            if math.isinf(value):
-                return before[0]
-            step = (math.log(BOUND) - math.log(before[1])) / (math.log(value) - math.log(before[1]))
-            return before[0] + (load - before[0]) * step
-        before = (load, value)
-    return float(before[0]) if before else 0.0
-
-
 def row(point):
     sizes = point["holds"]
     all_, one = sum(sizes.values()), sizes.get(1, 0)
@@ -226,7 +211,7 @@ def picture(curves, cores, skewed, law, runs):
                         chart.logarithmic("time in which 99 % are served, in mean service times", 1, TOP))
     drawn.bound(BOUND, "ten times the mean service time")
     for kind, curve in curves.items():
-        load = carried(curve)
+        load = ideal.carried(curve, BOUND)
         drawn.curve(chart.Curve(kind, COLOURS[kind], curve, kind in (OWN, ONE),
                                 [f"within ten times up to {load:.0f} % load" if load else "nowhere within ten times"]))
     drawn.note("solid: measured", "dashed: theory, without any cost", "between requests")
@@ -288,7 +273,7 @@ def main():
             points += found
             curves = curves_of(found, cores, skewed, law)
             say(f"  99 % within {BOUND} means up to this load: "
-                + ", ".join(f"{kind} {carried(curve):.0f} %" for kind, curve in curves.items()))
+                + ", ".join(f"{kind} {ideal.carried(curve, BOUND):.0f} %" for kind, curve in curves.items()))
             if given.picture:
                 several = len({(law.name, law.mean) for _, law in cases}) > 1
                 name = "tail" + ("-skew" if skewed else "") + (f"-{law.name}-{law.mean:g}us" if several else "") + ".svg"
