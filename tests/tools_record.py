@@ -15,8 +15,8 @@ import subprocess
 import sys
 import time
 
-from traffic import (NAME, TOP, Recorder, Server, all_of, at_once, big, connected, fail, files_of, memcached, rest_of,
-                     same, take, talk)
+from traffic import (TOP, Recorder, Server, all_of, at_once, big, connected, fail, files_of, has_size, memcached,
+                     rest_of, same, take, talk, until)
 
 SET, GET = b"set %d 0 0 5\r\nvalue\r\n", b"get %d\r\n"
 ASKED = b"set a 0 0 1\r\nx\r\nget a\r\n"
@@ -96,6 +96,13 @@ def other_sockets():
             same(f"the status of {listen}", 0, recorder.end()[0])
             same(f"recorded through {listen}", ({(0, 0): ASKED}, {(0, 0): ANSWERED}), files_of())
             same(f"the path of {listen} is removed", False, os.path.exists("clients"))
+    with Server() as server:
+        recorder = Recorder(server.place, listen="./clients")
+        recorder.end(signal.SIGKILL)
+        repaired(0)
+        recorder = Recorder(server.place, listen="./clients")
+        same("a path that was left", ANSWERED, talk("./clients", ASKED))
+        recorder.end()
 
 
 def later_sessions():
@@ -109,14 +116,29 @@ def later_sessions():
         with contextlib.suppress(OSError):
             same("a connection too many", b"", rest_of(connected(recorder.place)))
         second.close()
-        time.sleep(0.2)
-        same("a later session", ANSWERED, talk(recorder.place, ASKED))
+        until("a later session is served", lambda: tries(recorder.place) == ANSWERED)
         first.close()
         status, said = recorder.end()
         same("its lines", (0, "tools/record: 2 connections are open, as many as a recording has: others are refused\n"
                            + recorded(3, 4, 8 + len(ASKED), 8 + len(ANSWERED))), (status, said))
         same("its files", ({(0, 0): b"mn\r\n", (1, 0): b"mn\r\n", (1, 1): ASKED},
                            {(0, 0): b"MN\r\n", (1, 0): b"MN\r\n", (1, 1): ANSWERED}), files_of())
+
+
+def tries(place):
+    """What is answered, by a recorder that may refuse."""
+    with contextlib.suppress(OSError):
+        return talk(place, ASKED)
+
+
+def few_files():
+    """Few files may be open: clients wait until others have gone."""
+    with Server() as server:
+        recorder = Recorder(server.place, "--connections", "30",
+                            preexec_fn=lambda: resource.setrlimit(resource.RLIMIT_NOFILE, (80, 80)))
+        at_once([lambda: same("a client that waits", b"OK\r\n", talk(recorder.place, b"wait 0.05\r\n"))] * 30)
+        same("few files", (0, "tools/record: no more files may be open: clients wait\n"
+                           + recorded(30, 30, 330, 120)), recorder.end(None))
 
 
 def standard_output():
@@ -149,7 +171,7 @@ def gives_up():
                         one.setsockopt(socket.SOL_SOCKET, socket.SO_LINGER, linger)
             other.sendall(ASKED)
             same("another client goes on", ANSWERED, take(other, len(ANSWERED)))
-            time.sleep(0.3)
+            has_size("my.replies.spool", len(big(size)) + 3 * len(ANSWERED))
         status, _ = recorder.end()
         sent, back = files_of()
         same("clients that give up", (0, {b"big %d\r\n" % size: big(size), ASKED: ANSWERED}),
@@ -168,13 +190,13 @@ def half_closed():
 def slow_reader():
     """A client that does not read for a while is waited for, and so is a server; others are served."""
     with Server() as server:
-        recorder, size = Recorder(server.place), 100000000
+        recorder, few, size = Recorder(server.place), 20000000, 100000000
         before = recorder.most_memory()
         with connected(recorder.place) as slow:
-            slow.sendall(b"big %d\r\n" % size)
+            slow.sendall(b"big %d\r\n" % few)
             time.sleep(0.3)
             same("beside a slow reader", ANSWERED, talk(recorder.place, ASKED))
-            got = take_all(slow, len(big(size)))
+            got = take_all(slow, len(big(few)))
         with connected(recorder.place) as one:
             text = b"echo %d\r\n" % size + b"y" * (size + 2)
             at_once([lambda: one.sendall(text), lambda: same("what is sent and comes back", True, take_all(one, size))])
@@ -188,7 +210,7 @@ def slow_reader():
             time.sleep(0.02)
         if max(grown, most - before) > 40 << 20:
             fail("memory does not grow", f"by {grown} bytes, and {most - before} in all")
-        same("the size of the files", (True, True), (os.path.getsize("my.replies") > 2 * size,
+        same("the size of the files", (True, True), (os.path.getsize("my.replies") > few + size,
                                                      size < os.path.getsize("my.cap") < size + 1000000))
         recorder.process.communicate()
 
@@ -250,12 +272,12 @@ def signals():
             with connected(recorder.place) as one:
                 one.sendall(ASKED)
                 take(one, len(ANSWERED))
-                one.sendall(b"wait 0.1\r\n")
-                time.sleep(0.05)
+                one.sendall(b"wait 0.4\r\n")
+                has_size("my.cap", 12 + 9 + len(ASKED) + 9 + 10)
                 status, said = recorder.end(number)
                 same(f"a client at {number!r}", b"OK\r\n", rest_of(one))
             same(f"the end by {number!r}", (0, recorded(1, 3, len(ASKED) + 10, len(ANSWERED) + 4)), (status, said))
-            same(f"the files of {number!r}", ({(0, 0): ASKED + b"wait 0.1\r\n"}, {(0, 0): ANSWERED + b"OK\r\n"}),
+            same(f"the files of {number!r}", ({(0, 0): ASKED + b"wait 0.4\r\n"}, {(0, 0): ANSWERED + b"OK\r\n"}),
                  files_of())
 
 
@@ -301,6 +323,10 @@ def killed():
         back = sum(map(len, spoiled[1].values()))
         same("what is said of it", f"my.cap: completed: 2 connections, 2 sessions, {2 * len(ASKED) - cut} bytes sent"
              f"{tail}\nmy.replies: completed: {back} bytes back\n", lines)
+    with open("my.replies.spool", "wb") as file:
+        file.write(kept["my.replies.spool"])
+    repaired(0)
+    same("repaired from a spool that was left at the end", cut_of(both, 0, 3), files_of())
     same("repaired once more", f"my.cap: whole: 2 connections, {2 * len(ASKED) - 3} bytes sent\nmy.replies: whole\n",
          repaired(0))
     faulty(kept)
@@ -384,10 +410,11 @@ def before_it_begins():
          "--listen", "127.0.0.1:0", "my.cap", "my.replies")
     same("an old file", b"old", open("my.cap", "rb").read())
     for option, word in (("--listen", "foo"), ("--server", "foo:70000"), ("--server", "[::1]"), ("--listen", "unix:")):
-        says(f"{option} {word}", f"{option} takes HOST:PORT, [HOST]:PORT or a path with a slash, not {word};"
-             " --help says more", option, word, "my.cap", "my.replies", status=2)
-    says("no number of connections", "--connections takes a number from 1 on; --help says more", "--connections", "0",
+        says(f"{option} {word}", f"{option} takes HOST:PORT, [HOST]:PORT or a path with a slash, of at most 107 bytes,"
+             f" not {word}", option, word, "my.cap", "my.replies", status=2)
+    says("no number of connections", "--connections takes a number from 1 to 1000000000, not 0", "--connections", "0",
          "my.cap", "my.replies", status=2)
+    says("one file", "two files are written; --help says more", "my.cap", status=2)
 
 
 def terminal():
@@ -398,17 +425,21 @@ def terminal():
         words = ["--listen", path, "--server", server.place, "--connections", "2", "my.cap", "my.replies"]
         with subprocess.Popen([os.path.join(TOP, "tools/record"), *words], stderr=below) as process:
             talk(path, ASKED)
+            shown = bytearray()
+
+            def is_shown(line):
+                while select.select([above], [], [], 0.1)[0]:
+                    shown.extend(os.read(above, 1 << 16))
+                return line.encode() in shown
+
             with connected(path) as one:
-                time.sleep(1.3)
+                line = f"1 connections open, 1 closed; 2 commands, {len(ASKED)} bytes sent, {len(ANSWERED)} bytes back"
+                until("a line a second", lambda: is_shown(line))
                 one.sendall(b"mn\r\n")
                 take(one, 4)
             process.wait(timeout=30)
-        shown = b""
-        while select.select([above], [], [], 0.1)[0]:
-            shown += os.read(above, 1 << 16)
-        line = f"1 connections open, 1 closed; 2 commands, {len(ASKED)} bytes sent, {len(ANSWERED)} bytes back".encode()
-        same("a line a second", (True, recorded(2, 3, len(ASKED) + 4, len(ANSWERED) + 4).encode()),
-             (line in shown, shown.replace(b"\r\n", b"\n").rsplit(b"\x1b[K", 1)[-1]))
+            line = recorded(2, 3, len(ASKED) + 4, len(ANSWERED) + 4).strip()
+            until("the last line", lambda: is_shown(f"\x1b[K{line}\r\n"))
         os.close(above)
         os.close(below)
 
@@ -429,6 +460,6 @@ def real_memcached():
 
 
 if __name__ == "__main__":
-    all_of(before_it_begins, several_clients, no_client, two_hundred, other_sockets, later_sessions, standard_output,
-           gives_up, half_closed, slow_reader, binary, server_restarts, signals, closed_errors, killed, full, terminal,
+    all_of(before_it_begins, several_clients, no_client, two_hundred, other_sockets, later_sessions, few_files,
+           standard_output, gives_up, half_closed, slow_reader, binary, server_restarts, signals, closed_errors, killed, full, terminal,
            real_memcached)

@@ -16,6 +16,8 @@ sys.dont_write_bytecode = True
 sys.path.insert(0, os.path.join(TOP, "tools"))
 from formats import Part, Segment, read_capture, read_replies
 
+INSTALL = """quick='-o Acquire::Retries=0 -o Acquire::http::Timeout=5'
+apt-get $quick install -y memcached || { apt-get $quick update && apt-get $quick install -y memcached; }"""
 NAME = "tests/" + os.path.basename(sys.argv[0])
 failures = []
 
@@ -139,8 +141,8 @@ def big(size):
 def memcached():
     """A real memcached, by its place; None where there is none. It is installed where that can be done."""
     if not shutil.which("memcached") and os.geteuid() == 0 and shutil.which("apt-get"):
-        subprocess.run(["apt-get", "install", "-y", "-q", "memcached"], stdin=subprocess.DEVNULL, capture_output=True,
-                       check=False)
+        with contextlib.suppress(subprocess.TimeoutExpired):
+            subprocess.run(["bash", "-c", INSTALL], stdin=subprocess.DEVNULL, capture_output=True, timeout=60, check=False)
     if not shutil.which("memcached"):
         print(f"{NAME}: memcached is not installed: no test with it")
         yield None
@@ -168,10 +170,24 @@ def connected(place):
             else:
                 host, port = place.rsplit(":", 1)
                 one = socket.create_connection((host.strip("[]"), int(port)))
-            one.settimeout(20)
+            one.settimeout(120)
             return one
         time.sleep(0.05)
     raise OSError(f"nothing listens at {place}")
+
+
+def until(name, is_so):
+    """Waits until something is so."""
+    for _ in range(600):
+        if is_so():
+            return
+        time.sleep(0.05)
+    fail(name, "it never is")
+
+
+def has_size(name, size):
+    """Waits until a file has as many bytes."""
+    until(f"{name} has {size} bytes", lambda: os.path.getsize(name) >= size)
 
 
 def rest_of(one):

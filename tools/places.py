@@ -6,10 +6,8 @@ import re
 import socket
 import stat
 
-import ends
-
-# how many connections may wait to be accepted, and how long the path of a Unix socket may be
-BACKLOG, MOST_PATH = 4096, 107
+# how many connections may wait to be accepted, how long the path of a Unix socket may be, and the last port
+BACKLOG, MOST_PATH, MOST_PORT = 4096, 107, 65535
 
 
 class Place:
@@ -28,18 +26,17 @@ class Place:
         return list(dict.fromkeys((family, address) for family, _, _, _, address in found))
 
 
-def place(option, word):
-    """The place that an option names."""
+def place(word):
+    """The place that a word names; None where it names none."""
     path = word[5:] if word.startswith("unix:") else word if "/" in word else None
-    if path and len(os.fsencode(path)) > MOST_PATH:
-        ends.stop(f"{option}: the path of a socket has at most {MOST_PATH} bytes", 2)
-    if path:
-        return Place(word, path=path)
+    if path is not None:
+        return Place(word, path=path) if 0 < len(os.fsencode(path)) <= MOST_PATH else None
     match = re.fullmatch(r"\[([^\[\]]+)\]:([0-9]{1,5})", word) or re.fullmatch(r"([^\[\]]+):([0-9]{1,5})", word)
-    if path == "" or not match or int(match[2]) > 65535:
-        ends.stop(f"{option} takes HOST:PORT, [HOST]:PORT or a path with a slash, not {word or 'nothing'};"
-                  " --help says more", 2)
-    return Place(word, match[1], int(match[2]))
+    return Place(word, match[1], int(match[2])) if match and int(match[2]) <= MOST_PORT else None
+
+
+# an option that takes a place
+OPTION = f"HOST:PORT, [HOST]:PORT or a path with a slash, of at most {MOST_PATH} bytes", place
 
 
 def named(family, address):

@@ -169,7 +169,11 @@ class Play:
     def dial(self, player, fault=0):
         """Connects the next address of the server."""
         while player.left:
-            player.socket, fault = beginning(*player.left[0])
+            try:
+                player.socket, fault = beginning(*player.left[0])
+            except OSError as error:
+                fault = error.errno
+                break
             if fault in (0, errno.EINPROGRESS):
                 self.watch(player)
                 return

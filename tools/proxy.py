@@ -6,6 +6,7 @@ them is waited for, and until then the other one is not read.
 import errno
 import functools
 import os
+import resource
 import selectors
 import socket
 import time
@@ -14,9 +15,12 @@ from formats import MOST_CONNECTIONS, MOST_SEGMENT
 from places import beginning, forget, prompt
 
 READ, WRITE = selectors.EVENT_READ, selectors.EVENT_WRITE
-# seconds: between looks at all links; without an answer to a client that has gone; in which a client may read what it
-# got from a server that has gone; and at the end, without an answer, and in all
-LOOK, GONE, LINGER, QUIET, LONGEST = 0.25, 10, 1, 0.25, 20
+# seconds: between looks at all links, also where nothing happens; without an answer to a client that has gone; in which
+# a client may read what it got from a server that has gone; and at the end, without further bytes, while an answer has
+# not begun, and in all
+LOOK, IDLE, GONE, LINGER, QUIET, OWED, LONGEST = 0.05, 0.25, 10, 1, 0.3, 3, 20
+# files that are no sockets of links
+OTHERS = 64
 
 
 class Way:
@@ -122,8 +126,9 @@ class Proxy:
         self.screen, self.selector = screen, selectors.DefaultSelector()
         self.listening, self.links, self.dials, self.later = [], set(), set(), []
         self.turned_away = self.refused = self.signals = 0  # for the server is not there; for there is no number
+        self.room = (resource.getrlimit(resource.RLIMIT_NOFILE)[0] - OTHERS) // 2
         self.now = self.last = time.monotonic()
-        self.ending = None
+        self.ending, self.is_crowded = None, False
 
     # ---- clients
 
@@ -135,13 +140,16 @@ class Proxy:
     def accept(self, one, _):
         """Takes clients that wait."""
         for _ in range(64):
+            if self.recording.open() + len(self.dials) >= self.room:
+                self.pause(one)
+                return
             try:
                 client = prompt(one.accept()[0])
             except BlockingIOError:
                 return
             except OSError as error:
                 if error.errno in (errno.EMFILE, errno.ENFILE, errno.ENOBUFS, errno.ENOMEM):
-                    self.pause(one, error)
+                    self.pause(one)
                     return
                 continue
             if self.recording.open() + len(self.dials) < MOST_CONNECTIONS:
@@ -149,15 +157,17 @@ class Proxy:
             else:
                 self.refuse(client)
 
-    def pause(self, one, error):
-        """No client is taken for a while, since there is no room for sockets."""
-        self.screen.say(f"{os.strerror(error.errno)}: clients wait")
+    def pause(self, one):
+        """No client is taken for a while, since no more files may be open."""
+        if not self.is_crowded:
+            self.screen.say("no more files may be open: clients wait")
+        self.is_crowded = True
         self.selector.unregister(one)
         self.later.append(functools.partial(self.selector.register, one, READ, self.accept))
 
     def refuse(self, client):
         client.close()
-        self.refused += 1
+        self.refused += not self.recording.fault
         if self.refused == 1:
             self.screen.say(f"{MOST_CONNECTIONS} connections are open, as many as a recording has: others are refused")
 
@@ -254,13 +264,13 @@ class Proxy:
         """Passes bytes on until the end."""
         look = second = self.now
         while not self.is_done():
-            for key, events in self.selector.select(LOOK / 5 if self.ending or self.later else LOOK):
+            for key, events in self.selector.select(LOOK if self.ending or self.later else IDLE):
                 key.data(key.fileobj, events)
             self.now = time.monotonic()
             if self.recording.fault or self.recording.done == self.most:
                 self.end()
             if self.now >= look:
-                look = self.now + LOOK / 5
+                look = self.now + LOOK
                 self.look()
             if self.now >= second:
                 second = self.now + 1
@@ -307,5 +317,6 @@ class Proxy:
         """Whether all has come, or enough was waited for it."""
         if not self.ending:
             return False
-        is_late = self.now > max(self.ending, self.last) + QUIET or self.now > self.ending + LONGEST
+        quiet = OWED if self.recording.owed else QUIET
+        is_late = self.now > max(self.ending, self.last) + quiet or self.now > self.ending + LONGEST
         return not self.links or is_late or self.signals > 1

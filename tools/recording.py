@@ -3,7 +3,7 @@ from collections import deque
 
 from formats import END, MOST_CAPTURE, MOST_CONNECTIONS, MOST_SESSIONS, SEGMENT, close
 from growing import Growing
-from pace import Commands
+from pace import ALWAYS, Commands
 from spool import replies_of
 from targets import naming
 
@@ -22,7 +22,8 @@ class Recording:
     def __init__(self, files, say):
         self.files, self.say, self.fault = files, say, None
         self.capture, self.spool = Growing(files.capture.file), Growing(files.spool)
-        self.sessions, self.closed, self.cutters, self.silent = [], deque(), {}, set()
+        self.sessions, self.closed, self.cutters = [], deque(), {}
+        self.silent, self.owed = set(), set()  # the connections that sent nothing, and those that wait for an answer
         self.done = self.commands = self.sent_bytes = self.answered_bytes = self.odd = 0
 
     def open(self):
@@ -49,6 +50,7 @@ class Recording:
         """A connection has closed."""
         del self.cutters[number]
         self.silent.discard(number)
+        self.owed.discard(number)
         self.done += 1
         if self.sessions[number] < MOST_SESSIONS:
             self.closed.append(number)
@@ -63,7 +65,10 @@ class Recording:
             self.silent.discard(number)
             self.look_at(number, text[0])
         self.sent_bytes += len(text)
-        self.commands += sum(1 for _ in self.cutters[number].feed(text))
+        for command in self.cutters[number].feed(text):
+            self.commands += 1
+            if command.answered == ALWAYS:
+                self.owed.add(number)
         return True
 
     def look_at(self, number, byte):
@@ -80,6 +85,7 @@ class Recording:
         """Keeps what came back. Gives whether it was kept."""
         if not self.write(self.spool.segment, number, text):
             return False
+        self.owed.discard(number)
         self.answered_bytes += len(text)
         return True
 
