@@ -168,20 +168,116 @@ def crowd(count):
     return frames
 
 
+def talk(*skipped, more=()):
+    """Frames of one client: a SYN, and five requests of 7 bytes, a packet each, some of which may be left out."""
+    frames = [frame_of(b"", 999, 2), *(frame_of(b"get %d\r\n" % at, 1000 + 7 * at) for at in range(5)), *more]
+    return [frame for at, frame in enumerate(frames) if at not in skipped]
+
+
+def over_ipv6(port):
+    return bytes(12) + b"\x86\xdd" + bytes(6) + b"\x06" + bytes(35) + struct.pack(">H", port)
+
+
+def lost_and_late():
+    """Files to port 11,211 whose packets were lost, late or doubled, as `said`."""
+    cut = "  cut after byte {}, sequence number {}: {}, {} left out, about {}"
+    yield "no lost packet", file_of(*talk()), 0, "all: 1 flow, 1 session, 5 requests, 35 bytes"
+    yield "a lost packet", file_of(*talk(2)), 1, cut.format(
+        7, 1007, "7 bytes lost", "21 bytes after that", "3 requests")
+    yield "two lost packets", file_of(*talk(2, 4)), 1, cut.format(
+        7, 1007, "7 bytes lost (and more at 1 later place)", "14 bytes after that", "2 requests")
+    yield "two packets lost together", file_of(*talk(2, 3)), 1, cut.format(
+        7, 1007, "14 bytes lost", "14 bytes after that", "2 requests")
+    yield "the first packet lost", file_of(*talk(1)), 1, cut.format(
+        0, 1000, "7 bytes lost", "28 bytes after that", "4 requests")
+    yield "the last packet lost, as a later one without bytes shows", file_of(
+        *talk(5, more=[frame_of(b"", 1035)])), 1, cut.format(
+            28, 1028, "7 bytes lost", "0 bytes after that", "0 requests")
+    yield "the end of a connection after its last byte", file_of(
+        *talk(more=[frame_of(b"", 1035, 17), frame_of(b"", 1036)])), 0, "all: 1 flow, 1 session, 5 requests, 35 bytes"
+    yield "a lost SYN", file_of(*talk(0)), 0, \
+        "  it began before the recording: its first bytes may be the rest of a request"
+    yield "a lost packet of the second session", file_of(
+        *talk(), frame_of(b"", 5000, 2), frame_of(b"get b\r\n", 5008)), 1, \
+        "  session 1:" + cut.format(0, 5001, "7 bytes lost", "7 bytes after that", "1 request")[1:]
+    yield "a late packet", file_of(*talk(2), talk()[2]), 0, "  1 packet came late and 0 again, without harm"
+    yield "a doubled packet", file_of(*talk(), talk()[2]), 0, "  0 packets came late and 1 again, without harm"
+    yield "all packets twice", file_of(*talk(), *talk()), 0, "  0 packets came late and 5 again, without harm"
+    yield "the order turned round", file_of(*talk()[:1], *talk()[:0:-1]), 0, \
+        "  4 packets came late and 0 again, without harm"
+    yield "the end of a request lost", file_of(*talk(more=[frame_of(b"set a 0 0 9\r\nx", 1035)])), 0, \
+        "  it ends within a request, after 14 bytes of it"
+    yield "a gap", file_of(frame_of(b"ab", 8), frame_of(b"ef", 12)), 1, cut.format(
+        2, 10, "2 bytes lost", "2 bytes after that", "0 requests")
+    yield "a gap that is filled", file_of(frame_of(b"ab", 8), frame_of(b"ef", 12), frame_of(b"CDE", 10)), 0, \
+        "all: 1 flow, 1 session, 0 requests, 6 bytes"
+
+
+def refused():
+    """Files that are refused for their frames, their flows or their header, as `said`."""
+    good, faulty = frame_of(b"get a\r\n"), "{}: fault {} in record 2, at byte 101: {}".format
+    section = struct.pack("<IIIHHqI", 0x0A0D0D0A, 28, 0x1A2B3C4D, 1, 0, -1, 28)
+    pcapng = section + struct.pack("<IIHHII", 1, 20, 1, 0, 262144, 20)
+    begun = "tools/packets: standard input"
+    yield "pcapng", pcapng, 1, "  it is pcapng: editcap -F pcap IN some.pcap, or tcpdump -r IN -w some.pcap"
+    yield "times in nanoseconds", file_of(good, magic=0xA1B23C4D), 1, \
+        "  its times have nanoseconds: editcap -F pcap IN some.pcap, or tcpdump -r IN -w some.pcap"
+    yield "a capture", b"ZYGCAP1\n\0\0\0\0E", 1, "  it is a capture: give it to zygos run"
+    yield "another version", file_of(good, version=(2, 5)), 1, f"{begun}: fault 10: the version of the file is not 2.4"
+    yield "another link type", file_of(good, link=113), 1, \
+        f"{begun}: fault 11: the frames are not of Ethernet, but of link type 113 (any interface)"
+    yield "a captured length over 262,144", file_of(good) + struct.pack(">IIII", 0, 0, 262145, 262145), 1, \
+        faulty(begun, 12, "a frame has more than 262144 bytes, so the file is damaged here")
+    yield "IPv6", file_of(good, over_ipv6(11211), good), 1, faulty(begun, 13, "a packet goes to the port over IPv6")
+    yield "a VLAN tag", file_of(good, frame_of(b"x", kind=b"\x81\x00"), good), 1, \
+        faulty(begun, 14, "a frame has a VLAN tag")
+    yield "three VLAN tags", file_of(good, *3 * [frame_of(b"x", kind=b"\x81\x00")]), 1, \
+        faulty(begun, 14, "a frame has a VLAN tag; 3 frames are refused")
+    yield "fragments", file_of(good, frame_of(b"x", fragment=0x2000), frame_of(b"y", fragment=1)), 1, \
+        "  record with a filter, or leave such frames out by tcpdump -r IN -w some.pcap " \
+        "'tcp port 11211 and ip[6:2] & 0x3fff = 0'; if requests are fragments, record where packets are whole"
+    yield "a frame of 13 bytes", file_of(good, good[:13]), 1, \
+        faulty(begun, 16, "a frame is shorter than its headers, or its lengths contradict each other")
+    yield "a payload that was cut off", file_of(good, frame_of(b"a b c")[:-1]), 1, \
+        faulty(begun, 17, "not all of a payload was recorded")
+    yield "33 flows of one group", file_of(*crowd(33)), 1, f"{begun}: fault 18 in record 33, at byte 2296: " \
+        "a flow begins in a group that has 32 flows, as happens with over 2,000 connections"
+    yield "an offset of 2^30", file_of(frame_of(b"a" * 7, 0), frame_of(b"b", 2**30)), 1, \
+        faulty(begun, 19, "a session has bytes at 1073741824 or later")
+    yield "an empty file", b"", 1, f"{begun}: fault 20 at byte 0: the file ends within its header or a record"
+    yield "a captured length past the end", file_of(good) + struct.pack(">IIII", 0, 0, 100, 100) + bytes(99), 1, \
+        f"{begun}: fault 20 at byte 216: the file ends within its header or a record"
+
+
+def elsewhere():
+    """Files with nothing for port 11,211, or with other bytes than commands, as `said`."""
+    begun = "tools/packets: standard input: no request goes to port 11211"
+    back = frame_of(b"END\r\n", flow=bytes([10, 0, 0, 2, 10, 0, 0, 1]) + struct.pack(">HH", 11211, 40000))
+    yield "a header alone", file_of(), 1, f"{begun}, nor to any other"
+    yield "IPv6 to another port", file_of(over_ipv6(80)), 1, f"{begun}, nor to any other"
+    yield "another port", file_of(*2 * [frame_of(b"get a\r\n", port=11222)], frame_of(b"x", port=80)), 1, \
+        f"{begun}, but commands go to 11222 (2 packets)"
+    yield "no commands", file_of(frame_of(b"x", port=80)), 1, f"{begun}, but other bytes go to 80 (1 packet)"
+    yield "answers alone", file_of(back), 1, f"{begun}, and only what comes from it was recorded"
+    for byte, name in ((0x80, "the binary protocol"), (0x16, "TLS")):
+        yield name, file_of(*talk(1), frame_of(bytes([byte]) * 7, 1000)), 0, \
+            f"  warning: its first byte is {byte:#x}, as in {name}; only text commands are served"
+
+
+def said():
+    """Files to port 11,211 by what they have, each with the status and a line of `tools/packets`."""
+    yield from lost_and_late()
+    yield from refused()
+    yield from elsewhere()
+
+
 def cases():
     """Files to port 11,211 by what is shown; the model says what each is."""
+    for name, text, _, _ in said():
+        yield name, text
     good = frame_of(b"get a\r\n")
-    yield "an empty file", b""
-    yield "the magic of pcapng", bytes.fromhex("0a0d0d0a")
-    yield "the magic of nanoseconds", file_of(good, magic=0xA1B23C4D)
     yield "the lowest byte first", file_of(good, order="<")
-    yield "another version", file_of(good, version=(2, 5))
-    yield "another link type", file_of(good, link=113)
-    yield "a header alone", file_of()
-    yield "a captured length over 262,144", file_of(good) + struct.pack(">IIII", 0, 0, 262145, 262145)
-    yield "a captured length past the end", file_of(good) + struct.pack(">IIII", 0, 0, 100, 100) + bytes(99)
     yield "a record without a frame", file_of(b"")
-    yield "a frame of 13 bytes", file_of(good[:13])
     yield "no whole IP header", file_of(good[:33])
     yield "a header length of 0", file_of(frame_of(b"x", first=64))
     yield "a header length of 60, with options", file_of(frame_of(b"x", head=60))
@@ -192,25 +288,16 @@ def cases():
     yield "a TCP header past the total length", file_of(frame_of(b"", own=60, total=60))
     yield "a total length under the headers", file_of(frame_of(b"x", total=39))
     yield "padding after the payload", file_of(frame_of(b"x") + bytes(9))
-    yield "a payload that was cut off", file_of(frame_of(b"a b c")[:-1])
     yield "an empty packet that was cut off", file_of(frame_of(b"")[:-1])
-    yield "a fragment", file_of(frame_of(b"x", fragment=0x2000))
     yield "a later fragment", file_of(frame_of(b"x", fragment=1))
     yield "a fragment without TCP", file_of(frame_of(b"x", fragment=1, protocol=17))
-    yield "a VLAN tag", file_of(frame_of(b"x", kind=b"\x81\x00"))
-    yield "a packet over IPv6 to the port", file_of(bytes(12) + b"\x86\xdd" + bytes(6) + b"\x06" + bytes(35) + struct.pack(">H", 11211))
-    yield "one to another port", file_of(bytes(12) + b"\x86\xdd" + bytes(6) + b"\x06" + bytes(35) + struct.pack(">H", 80))
     yield "32 flows of one group", file_of(*crowd(32))
-    yield "33 flows of one group", file_of(*crowd(33))
     yield "a number that wraps", file_of(*(frame_of(b"abcd", sequence=2**32 - 6 + 4 * i) for i in range(4)))
     yield "a SYN with payload", file_of(frame_of(b"ab", 7, 2), frame_of(b"cd", 10))
     yield "the same SYN again", file_of(frame_of(b"", 7, 2), frame_of(b"ab", 8), frame_of(b"", 7, 2), frame_of(b"c", 10))
     yield "a SYN with another number", file_of(frame_of(b"", 7, 2), frame_of(b"ab", 8), frame_of(b"", 99, 2), frame_of(b"c", 100))
     yield "a SYN after a first packet without", file_of(frame_of(b"ab", 8), frame_of(b"", 7, 2), frame_of(b"c", 8))
     yield "RST and FIN without payload", file_of(frame_of(b"", 7, 4), frame_of(b"", 7, 17), frame_of(b"ab", 9))
-    yield "a gap", file_of(frame_of(b"ab", 8), frame_of(b"ef", 12))
-    yield "a gap that is filled", file_of(frame_of(b"ab", 8), frame_of(b"ef", 12), frame_of(b"CDE", 10))
-    yield "an offset of 2^30", file_of(frame_of(b"a", 0), frame_of(b"b", 2**30))
     yield "an offset below 2^30", file_of(frame_of(b"a", 0), frame_of(b"b", 2**30 - 1))
     yield "an offset of 2^31", file_of(frame_of(b"a", 0), frame_of(b"b", 2**31))
     yield "a packet over the first offset", file_of(frame_of(b"ab", 8), frame_of(b"xyzAB", 5), frame_of(b"c", 10))

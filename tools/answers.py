@@ -1,0 +1,139 @@
+"""The answers in the outputs of a server, and which command each of them answers."""
+import re
+from collections import namedtuple
+
+from meaning import framed, line_of
+
+# an exchange: the number of the first command and of the last, the name, the line of the first command, and what two
+# servers answered, each as the number of its first answer and its bytes; None in place of bytes where there is none
+Exchange = namedtuple("Exchange", "first last name line one other")
+
+# the answers of several lines that end in another line, by how they begin
+LISTS = (b"VALUE ", b"STAT ")
+META = re.compile(rb"(HD|VA|EN|NS|EX|NF)[ \r\n]")
+NAME = re.compile(rb"[a-z_]{2,16}")
+
+
+def line_end(text, at):
+    return text.find(b"\n", at) + 1 or len(text)
+
+
+def block_end(text, begin, at, word):
+    """The end of the block after a line, whose length is this word of the line."""
+    words = text[begin:at].split(None, word + 1)
+    size = words[word] if len(words) > word else b""
+    return min(at + int(size) + 2, len(text)) if size.isdigit() and len(size) <= 10 else at
+
+
+def answer_end(text, begin):
+    """The end of the answer that begins at a place of an output."""
+    at = line_end(text, begin)
+    if text.startswith(b"VA ", begin):
+        return block_end(text, begin, at, 1)
+    while text.startswith(LISTS, begin) and at < len(text):
+        if text.startswith(b"VALUE ", begin):
+            at = block_end(text, begin, at, 3)
+        begin, at = at, line_end(text, at)
+    return at
+
+
+def answers(text):
+    """The answers of an output: a line; the items and the END of one `get` or `gets`, the lines and the END of one
+    `stats`; a line `VA` with its block."""
+    at, end = 0, len(text)
+    while at < end:
+        begin, at = at, answer_end(text, at)
+        yield text[begin:at]
+
+
+def name_of(line):
+    """The name of the command of a line."""
+    words = line.split(None, 1)
+    return words[0].decode() if words and NAME.fullmatch(words[0]) else "other lines"
+
+
+class Answers:
+    """The answers of an output, taken one after the other."""
+
+    def __init__(self, text):
+        self.text, self.at, self.taken = text, 0, 0
+
+    def take(self):
+        """The next answer after its number, with None in its place at the end."""
+        if self.at == len(self.text):
+            return self.taken, None
+        begin, self.at, self.taken = self.at, answer_end(self.text, self.at), self.taken + 1
+        return self.taken - 1, self.text[begin : self.at]
+
+    def take_group(self, group):
+        """The answers of the commands of a group, as one after the number of the first; see `groups`."""
+        first, answer = self.take()
+        found = [answer or b""]
+        while len(found) < len(group) and answer is not None and not group.is_last(answer):
+            answer = self.take()[1]
+            found.append(answer or b"")
+        return first, b"".join(found) or None
+
+
+class Group(list):
+    """Commands, each as its number and its line, to which one or several answers belong.
+
+    A command with the flag `q` may have no answer. Then it is not known whose the next answers are, up to one that no
+    such command has: that of `mn`, or of a classic command. The commands up to there are a group; every other command
+    is one by itself, but for those with `noreply`, which are in none.
+    """
+
+    is_whole = ends_in_mn = False
+
+    def add(self, number, command, line):
+        self.append((number, line))
+        is_open = len(self) > 1 or "q" in command.letters
+        self.is_whole = not is_open or command.verb not in ("mg", "ms", "md", "fault")
+        self.ends_in_mn = command.verb == "mn"
+
+    def is_last(self, answer):
+        """Whether an answer can only be that of the last command."""
+        return self.is_whole and (answer.startswith(b"MN") if self.ends_in_mn else not META.match(answer))
+
+
+def groups(stream):
+    """The groups of the commands of a session, in order."""
+    group = Group()
+    for number, (command, frame) in enumerate(framed(stream)):
+        if not command.quiet:
+            group.add(number, command, line_of(frame))
+            if group.is_whole:
+                yield group
+                group = Group()
+    if group:
+        yield group
+
+
+def by_commands(stream, one, other):
+    """The exchanges of a session with two servers, cut by its commands."""
+    one, other = Answers(one), Answers(other)
+    for group in groups(stream):
+        number, line = group[0]
+        taken = (one.take(), other.take()) if len(group) == 1 else (one.take_group(group), other.take_group(group))
+        yield Exchange(number, group[-1][0], name_of(line), line, *taken)
+    yield from rest(one, other, lambda _, __: "no command")
+
+
+def by_answers(one, other):
+    """The exchanges of a session of which only the answers are known."""
+    return rest(Answers(one), Answers(other), named_by)
+
+
+def rest(one, other, name):
+    """The exchanges that are left, with a name by both answers."""
+    while one.at < len(one.text) or other.at < len(other.text):
+        taken = one.take(), other.take()
+        yield Exchange(None, None, name(taken[0][1], taken[1][1]), None, *taken)
+
+
+def named_by(one, other):
+    """The name of the command of two answers, where they show it; else None."""
+    for name, begin in (("version", b"VERSION "), ("stats", b"STAT ")):
+        if one and other and one.startswith(begin) and other.startswith(begin):
+            return name
+    return None
