@@ -73,6 +73,13 @@ impl Home {
         self.ended && !self.refused && are_here(&self.blocks)
     }
 
+    /// Whether each block is in the home's hand, so that no other core has one and none is queued.
+    pub fn has_all_blocks(&self) -> bool
+        ensures value { result ≡ all_here self.now.blocks }
+    {
+        are_here(&self.blocks)
+    }
+
     /// Whether a call of this home was refused memory.
     pub fn is_refused(&self) -> bool
         ensures value { result ≡ self.now.refused }

@@ -87,6 +87,18 @@ pub(crate) fn are_some_here(seats: &[Seat]) -> bool {
     false
 }
 
+// Whether each block of the cores that are with the caller is in the hand of its home.
+pub(crate) fn have_all_blocks_here(seats: &[Seat]) -> bool {
+    for seat in seats {
+        if let Seat::Here(group) = seat {
+            if !group.has_all_blocks() {
+                return false;
+            }
+        }
+    }
+    true
+}
+
 // Whether each group that is with the caller is done.
 pub(crate) fn are_done_here(seats: &[Seat]) -> bool {
     for seat in seats {

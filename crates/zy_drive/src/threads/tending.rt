@@ -9,7 +9,7 @@ use crate::threads::caller::Caller;
 use crate::threads::driving::Driving;
 use crate::threads::patience::Patience;
 use crate::threads::seat::Seat;
-use crate::threads::seats::{are_done_here, are_some_here, go_on_here};
+use crate::threads::seats::{are_done_here, are_some_here, go_on_here, have_all_blocks_here};
 use std::sync::Wait;
 use zy_base::{Gate, NoMemory};
 use zy_rx::Feeder;
@@ -68,7 +68,7 @@ pub(crate) fn tend<R: Wait, F: Feeder, G: Gate>(
             Ok(round) => round,
             Err(NoMemory) => return How::Stopped,
         };
-        has_work = has_here && (items > 0 || round.calls_up());
+        has_work = has_here && (items > 0 || round.calls_up() || !have_all_blocks_here(seats));
         caller.ring_if(round.calls_up(), driving);
         if caller.is_stopped(driving.shared) {
             return How::Stopped;
