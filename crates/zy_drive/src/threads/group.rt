@@ -50,8 +50,8 @@ impl Group {
 
     // Whether each block of its cores is in the hand of its home.
     pub(crate) fn has_all_blocks(&self) -> bool {
-        for core in &self.cores {
-            if !core.has_all_blocks() {
+        for i in 0..self.cores.len() {
+            if !self.cores[i].has_all_blocks() {
                 return false;
             }
         }
