@@ -7,7 +7,8 @@ use Rattle.zy_capture.specs.Verdict.Verdict.{Good}
 use Rattle.zy_journal.specs.declared.journal.Journal.{Journal}
 use Rattle.zy_finish.specs.declared.finishing.Finished.{Finished}
 use Rattle.std.specs.Prelude.{Option, Ok, ◌↔◌}
-use Rattle.zy_capture.specs.Capture.{IsCapture, AreBytes, Spells}
+use Rattle.zy_read.specs.Bytes.{AreBytes}
+use Rattle.zy_capture.specs.Capture.{IsCapture, Spells}
 use Rattle.zy_rx.specs.declared.rx.Rx.{Rx}
 use Rattle.zy_feed.specs.declared.intake.Header.{Header}
 use Rattle.zy_feed.specs.Feeding.{HasFedAll}
@@ -22,14 +23,14 @@ use Rattle.zy_serving.specs.Runs.{RunsTo}
 
 pub served_of : (asked : Run) (version count : ℕ) (records : List Record) (bytes : List ℕ) (done : Finished)
     → ((text : List ℕ) (version count : ℕ) (items : List Record) → AreBytes text → verdict text ≡ Good version count items ↔ Spells text version count items)
-    → verdict bytes ≡ Good version count records → IsFinished asked.shards version count records done
+    → verdict bytes ≡ Good version count records → AreBytes bytes → IsFinished asked.shards version count records done
     → AllByRecursion (IsHoldBy asked.cores) done.journal.holds → IsServed asked bytes done.journal done.outputs
-served_of asked version count records bytes done exactly good is held = record {
+served_of asked version count records bytes done exactly good small is held = record {
   version = version;
   count = count;
   records = records;
   capture = good;
-  spelled = λ small. (exactly bytes version count records small).0 good;
+  spelled = (exactly bytes version count records small).0 good;
   run = is.run;
   order = is.order;
   holds = is.spans;
@@ -47,7 +48,7 @@ pub runs_to : {S : Type 0} (rest : S → Option (List ℕ)) (faults : S → ℕ)
     → AllByRecursion (IsHoldBy asked.cores) done.journal.holds → RunsTo asked (side rest faults source source') (Ok done)
 runs_to rest faults asked source source' header sents done exactly fed finished held =
     let is = finished fed.records fed.lawful fed.sent in
-    (fed.bytes, (fed.source, fed.end), served_of asked header.version header.count fed.records fed.bytes done exactly fed.good is held)
+    (fed.bytes, (fed.source, fed.end, fed.small), served_of asked header.version header.count fed.records fed.bytes done exactly fed.good fed.small is held)
 
 -- what has begun with these has begun with equals of them
 pub begun_as : {S : Type 0} (rest : S → Option (List ℕ)) (faults : S → ℕ) (first now : S) (intake intake' : Intake) (header header' : Header) → HasBegun rest faults first now intake header

@@ -4,7 +4,7 @@ use Rattle.std.specs.List.{AllByRecursion}
 use Rattle.zy_base.specs.declared.entry.Entry.{Entry}
 use Rattle.zy_base.specs.Order.{IsOrdered}
 use Rattle.zy_capture.specs.declared.record.Record.{Record}
-use Rattle.zy_capture.specs.Capture.{AreBytes, Spells}
+use Rattle.zy_capture.specs.Capture.{Spells}
 use Rattle.zy_capture.specs.Outputs.{AllOutputs, AreOutputs}
 use Rattle.zy_capture.specs.Replies.{replies_bytes}
 use Rattle.zy_capture.specs.Verdict.{verdict}
@@ -43,8 +43,8 @@ pub record IsServed (asked : Run) (bytes : List ℕ) (journal : Journal) (output
   pub records : List Record
   -- the bytes are a capture, with these records
   pub capture : verdict bytes ≡ Good version count records
-  -- and, if each of them is a byte, they are the spelling of these
-  pub spelled : AreBytes bytes → Spells bytes version count records
+  -- and they are the spelling of these
+  pub spelled : Spells bytes version count records
   -- the entries are one legal run of its commands: each is carried out once, in the order of
   -- arrival, none after quit, and none is left
   pub run : IsRun asked.shards journal.entries count (commands_in records)

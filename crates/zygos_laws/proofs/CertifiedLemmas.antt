@@ -1,8 +1,8 @@
 -- What was served checks, and what checks is of a run.
 use Rattle.std.specs.Prelude.{Option, Some}
-use Rattle.std.specs.List.{AllByRecursion}
 use Rattle.std.proofs.Common.{◌≡◌, ℕ, ◌<◌, ◌≤◌, List, [], ◌∷◌, ◌++◌, length, refl, ap, subst}
-use Rattle.zy_capture.specs.Capture.{AreBytes}
+use Rattle.zy_read.specs.Bytes.{AreBytes}
+use Rattle.zy_read.proofs.ByteLemmas.{bytes_front, bytes_back}
 use Rattle.zy_capture.specs.Outputs.{AllOutputs, AreOutputs}
 use Rattle.zy_capture.specs.Replies.{replies_bytes, replies_limit, items_of}
 use Rattle.zy_capture.specs.Streams.{no_bytes, with_records}
@@ -41,15 +41,15 @@ use Rattle.zygos_laws.specs.Certified.{IsInputOfRun, IsCertified}
 
 -- ---- served runs
 
-module _ (asked : Run) (bytes : List ℕ) (journal : Journal) (outputs : AllOutputs) (lawful : AreShards asked.shards) (small : AreBytes bytes) (is : IsServed asked bytes journal outputs) where
+module _ (asked : Run) (bytes : List ℕ) (journal : Journal) (outputs : AllOutputs) (lawful : AreShards asked.shards) (is : IsServed asked bytes journal outputs) where
   of_run : AreOfRun asked.shards is.count is.records journal outputs
   of_run = record { run = is.run; replies = ap (λ (o : AllOutputs). o.sessions) is.replies; holds = is.holds }
 
   pub short_journal : length (journal_bytes journal) ≤ journal_limit
-  short_journal = journal_short asked.shards is.version is.count bytes is.records journal outputs lawful.1 (is.spelled small) of_run is.readable.valid
+  short_journal = journal_short asked.shards is.version is.count bytes is.records journal outputs lawful.1 is.spelled of_run is.readable.valid
 
   pub short_replies : length (replies_bytes outputs) ≤ replies_limit
-  short_replies = replies_short asked.shards is.version is.count bytes is.records journal outputs lawful.1 (is.spelled small) of_run is.readable.valid is.readable.fits
+  short_replies = replies_short asked.shards is.version is.count bytes is.records journal outputs lawful.1 is.spelled of_run is.readable.valid is.readable.fits
 
   served_parts : AreParts (bytes ++ written Both journal outputs) (with_records (no_bytes is.count) is.records) journal outputs
   served_parts = record {
@@ -81,13 +81,13 @@ written_of asked out call bytes journal request is told holds =
     (subst (λ (before : Option (List ℕ)). OfReported before call.source.after (λ b. IsWritten asked out b journal call.sink)) told run).1
 
 pub certified_of : (asked : Run) (out : Out) (call : Seen) (bytes : List ℕ) (journal : Journal) (request : Option Request) → (request ≡ Some (Requests.Run asked out) → IsRunnable asked)
-    → request ≡ Some (Requests.Run asked out) → call.source.before ≡ Some bytes → AreBytes bytes → HeadlineHolds request call journal → IsCertified asked out bytes journal call.sink
-certified_of asked out call bytes journal request runnable is told small holds =
+    → request ≡ Some (Requests.Run asked out) → call.source.before ≡ Some bytes → HeadlineHolds request call journal → IsCertified asked out bytes journal call.sink
+certified_of asked out call bytes journal request runnable is told holds =
     let written = written_of asked out call bytes journal request is told holds in
     let range = runnable is in record {
       outputs = written.outputs;
       wrote = written.wrote;
-      checks = served_checks asked bytes journal written.outputs (range.some_shards, range.few_shards) small written.served;
+      checks = served_checks asked bytes journal written.outputs (range.some_shards, range.few_shards) written.served;
     }
 
 -- ---- checks
@@ -108,21 +108,13 @@ some_checked shards bytes streams journal outputs parts lawful =
     let found = some_verdict (given shards streams journal outputs) in
     (found.0, record { streams = streams; journal = journal; outputs = outputs; parts = parts; lawful = lawful; verdict_is = found.1 })
 
-front_bytes : (front back : List ℕ) → AllByRecursion (λ byte. byte < 256) (front ++ back) → AllByRecursion (λ byte. byte < 256) front
-front_bytes [] back all = tt
-front_bytes (byte ∷ front) back all = (all.0, front_bytes front back all.1)
-
-back_bytes : (front back : List ℕ) → AllByRecursion (λ byte. byte < 256) (front ++ back) → AllByRecursion (λ byte. byte < 256) back
-back_bytes [] back all = all
-back_bytes (byte ∷ front) back all = back_bytes front back all.1
-
 pub checked_run : (shards : ℕ) (bytes : List ℕ) → 1 ≤ shards → AreBytes bytes → IsChecked shards bytes Yes → IsInputOfRun shards bytes
 checked_run shards bytes some small is =
     let p = is.parts in
     let c = p.of_capture in
     let all : AreBytes (p.capture_text ++ (p.journal_text ++ p.replies_text)) = subst AreBytes p.whole small in
-    let rest : AreBytes (p.journal_text ++ p.replies_text) = back_bytes p.capture_text (p.journal_text ++ p.replies_text) all in
-    let journal = journal_spells p.journal_text is.journal (front_bytes p.journal_text p.replies_text rest) p.of_journal in
+    let rest : AreBytes (p.journal_text ++ p.replies_text) = bytes_back p.capture_text (p.journal_text ++ p.replies_text) all in
+    let journal = journal_spells p.journal_text is.journal (bytes_front p.journal_text p.replies_text rest) p.of_journal in
     record {
       capture_text = p.capture_text;
       journal_text = p.journal_text;
@@ -133,9 +125,9 @@ checked_run shards bytes some small is =
       journal = is.journal;
       outputs = is.outputs;
       whole = p.whole;
-      of_capture = capture_spells p.capture_text c.version c.count c.records (front_bytes p.capture_text (p.journal_text ++ p.replies_text) all) c.good;
+      of_capture = capture_spells p.capture_text c.version c.count c.records (bytes_front p.capture_text (p.journal_text ++ p.replies_text) all) c.good;
       of_journal = journal;
-      of_replies = replies_spell p.replies_text is.outputs.version (items_of is.outputs) (back_bytes p.journal_text p.replies_text rest) p.of_replies;
+      of_replies = replies_spell p.replies_text is.outputs.version (items_of is.outputs) (bytes_back p.journal_text p.replies_text rest) p.of_replies;
       run = of_streams shards c.count c.records is.journal is.outputs some journal.readable.valid is.lawful
           (subst (λ (s : List (List (List ℕ))). HasVerdict (given shards s is.journal is.outputs) Yes) c.joined is.verdict_is);
     }

@@ -1,6 +1,6 @@
 //! Laws of served runs and of checks: each is the contract of a function without a body.
 ghost use Rattle.std.specs.Prelude.{◌≡◌, ◌≤◌, ◌++◌, ℕ, List, length, Some};
-ghost use Rattle.zy_capture.specs.Capture.{AreBytes};
+ghost use Rattle.zy_read.specs.Bytes.{AreBytes};
 ghost use Rattle.zy_capture.specs.Outputs.{AllOutputs, AreOutputs};
 ghost use Rattle.zy_capture.specs.Replies.{replies_bytes, replies_limit};
 ghost use Rattle.zy_journal.specs.declared.journal.Journal.{Journal};
@@ -25,10 +25,10 @@ ghost use Rattle.zygos_laws.specs.Certified.{IsInputOfRun, IsCertified};
 /// The text of a served run's journal has at most 2^63 - 1 bytes, and so has its replies file.
 pub fn a_served_run_has_short_files()
     ensures journal { (asked : Run) (bytes : List ℕ) (journal : Journal) (outputs : AllOutputs)
-        → AreShards asked.shards → AreBytes bytes → IsServed asked bytes journal outputs
+        → AreShards asked.shards → IsServed asked bytes journal outputs
         → length (journal_bytes journal) ≤ journal_limit }
     ensures replies { (asked : Run) (bytes : List ℕ) (journal : Journal) (outputs : AllOutputs)
-        → AreShards asked.shards → AreBytes bytes → IsServed asked bytes journal outputs
+        → AreShards asked.shards → IsServed asked bytes journal outputs
         → length (replies_bytes outputs) ≤ replies_limit }
 {}
 
@@ -36,11 +36,11 @@ pub fn a_served_run_has_short_files()
 /// an input of `check`, and the verdict on it is yes.
 pub fn what_is_served_checks()
     ensures checks { (asked : Run) (bytes : List ℕ) (journal : Journal) (outputs : AllOutputs)
-        → AreShards asked.shards → AreBytes bytes → IsServed asked bytes journal outputs
+        → AreShards asked.shards → IsServed asked bytes journal outputs
         → IsChecked asked.shards (bytes ++ written Both journal outputs) Yes }
     ensures told { (words : List Word) (asked : Run) (out : Out) (call : Seen) (bytes : List ℕ)
         (journal : Journal) → request_of words ≡ Some (Requests.Run asked out)
-        → call.source.before ≡ Some bytes → AreBytes bytes
+        → call.source.before ≡ Some bytes
         → HeadlineHolds (request_of words) call journal
         → IsCertified asked out bytes journal call.sink }
 {}

@@ -6,6 +6,6 @@ use Rattle.zygos_laws.proofs.laws.what_is_served_checks.Goals as goal
 pub returns : goal.returns
 returns c = record {
   checks = served_checks;
-  told = λ words asked out call bytes journal is told small holds.
-      certified_of asked out call bytes journal (request_of words) (λ same. runs_are_runnable words asked out same) is told small holds;
+  told = λ words asked out call bytes journal is told holds.
+      certified_of asked out call bytes journal (request_of words) (λ same. runs_are_runnable words asked out same) is told holds;
 }
