@@ -1,6 +1,7 @@
 -- The kinds of parts: which bytes brought their readers to where they are, and what a text of each kind gives. No
 -- public clause cites this module.
-use Rattle.std.specs.Prelude.{◌≡◌, ℕ, ◌^◌, ◌<◌, Bool, false, List, [], ◌∷◌, ◌++◌, length, Option, None, Some, option_to_list, ⊤}
+use Rattle.std.specs.Prelude.{◌≡◌, ℕ, ◌^◌, ◌<◌, Bool, false, List, [], ◌∷◌, ◌++◌, length, Option, None, Some}
+use Rattle.std.specs.Prelude.{option_to_list, ⊤}
 use Rattle.zy_read.specs.Bytes.{AreBytes}
 use Rattle.zy_capture.specs.declared.record.Record.{Record}
 use Rattle.zy_capture.specs.declared.record.Record.TheVariants as Kinds
@@ -128,7 +129,8 @@ journal_file_kind = record {
 -- the outputs are those that were given, in the version that was read; before it was read there are none
 abbrev pub KeepsOutputs : Option AllOutputs → Option ℕ → List SessionBytes → Type 0
 KeepsOutputs None None given = given ≡ []
-KeepsOutputs (Some outputs) (Some version) given = (items_of outputs ≡ given) × (outputs.version ≡ version) × AreOutputs outputs
+KeepsOutputs (Some outputs) (Some version) given =
+    (items_of outputs ≡ given) × (outputs.version ≡ version) × AreOutputs outputs
 KeepsOutputs outputs version given = ⊥
 
 -- the same, but the outputs may not have been made yet

@@ -16,7 +16,8 @@ use Rattle.zy_journal.specs.declared.journal.Journal.{Journal}
 use Rattle.zy_journal_reader.specs.Verdict as Journals
 use Rattle.zy_check_input.specs.declared.parts.Parts.{Parts}
 use Rattle.zy_check_input.specs.declared.stop.Refusal.{Refusal}
-use Rattle.zy_check_input.specs.declared.stop.Refusal.TheVariants.{Capture, Journal as OfJournal, Replies as OfReplies, Pcap}
+use Rattle.zy_check_input.specs.declared.stop.Refusal.TheVariants.{Capture, Journal as OfJournal}
+use Rattle.zy_check_input.specs.declared.stop.Refusal.TheVariants.{Replies as OfReplies, Pcap}
 use Rattle.zy_read.specs.Bytes.{ReadsAll}
 use Rattle.zy_read.specs.declared.stop.Stop.{Stop}
 use Rattle.zy_read.specs.declared.stop.Stop.TheVariants.{Refused, ReadFault, NoMemory}
@@ -130,7 +131,8 @@ HasReadStreams rest faults first now (Err NoMemory) = ⊤
 
 -- the journal is that of all that the source gave; or its text has this fault as a journal; or the
 -- source's count of faults rose, or is at its largest value; `NoMemory` needs no cause
-abbrev pub HasReadJournal : {S : Type 0} → (S → Option (List ℕ)) → (S → ℕ) → S → S → Result Journal (Stop Refusal) → Type 0
+abbrev pub HasReadJournal : {S : Type 0} → (S → Option (List ℕ)) → (S → ℕ) → S → S → Result Journal (Stop Refusal)
+    → Type 0
 HasReadJournal rest faults first now (Ok journal) =
     (text : List ℕ) × ReadsAll (rest first) (rest now) text × (Journals.verdict text ≡ Journals.Verdict.Good journal)
 HasReadJournal rest faults first now (Err (Refused (OfJournal fault))) =

@@ -1,5 +1,6 @@
 //! Reading the capture, whose records are added to streams.
-ghost use Rattle.std.specs.Prelude.{◌≡◌, ◌<◌, ◌≤◌, ◌++◌, ◌∷◌, [], ℕ, List, length, take, true, Option, None, Ok, OnOk, option_to_list};
+ghost use Rattle.std.specs.Prelude.{◌≡◌, ◌<◌, ◌≤◌, ◌++◌, ◌∷◌, [], ℕ, List, length, take, true, Option, None, Ok};
+ghost use Rattle.std.specs.Prelude.{OnOk, option_to_list};
 ghost use Rattle.zy_read.specs.Bytes.{AreBytes};
 ghost use Rattle.zy_capture.specs.declared.record.Record.{Record};
 ghost use Rattle.zy_capture.specs.Standing.{StandsFor};

@@ -5,7 +5,8 @@ ghost use Rattle.zy_capture.specs.declared.session_bytes.SessionBytes.{SessionBy
 ghost use Rattle.zy_capture.specs.RepliesStanding.{StandsForReplies};
 ghost use Rattle.zy_capture.specs.RepliesVerdict.{fault_of, version_of};
 ghost use Rattle.zy_check_input.specs.Reading.{Takes};
-ghost use Rattle.zy_check_input.specs.Kinds.{KeepsOutputs, HasOutputsSoFar, IsKeepingOutput, IsAddingOutput, replies_kind};
+ghost use Rattle.zy_check_input.specs.Kinds.{KeepsOutputs, HasOutputsSoFar, IsKeepingOutput, IsAddingOutput};
+ghost use Rattle.zy_check_input.specs.Kinds.{replies_kind};
 
 use crate::part::{Part, Taken};
 use crate::stop::{Refusal, Stop};

@@ -3,7 +3,8 @@ use Rattle.std.specs.Prelude.{◌≡◌, ℕ, ◌+◌, ◌≤◌, [], true, fals
 use Rattle.atomic_table.specs.Table.{Me}
 use Rattle.zy_control.specs.declared.view.Role.TheVariants.{Watcher}
 use Rattle.zy_control.specs.declared.view.View.{View}
-use Rattle.zy_control.specs.View.{view, untraced, done_step, stop_step, sleepers_step, counted, announcing, Covers, MustHaveCounted}
+use Rattle.zy_control.specs.View.{view, untraced, done_step, stop_step, sleepers_step, counted, announcing, Covers}
+use Rattle.zy_control.specs.View.{MustHaveCounted}
 
 -- a seat's view, and the slots that it has taken: none
 abbrev pub Seated : Type 0

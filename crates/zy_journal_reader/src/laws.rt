@@ -101,6 +101,7 @@ pub fn worked_entries()
     ensures value { verdict (with_call (codes "\u{2}\u{1}a\0\0\0\0\0\u{10}\0\u{1}")) ≡ Bad (Form 44) }
     ensures reply { verdict (with_call (codes "\u{1}\u{1}a\r")) ≡ Bad (Form 40) }
     ensures tally { verdict (with_call (codes "\u{c}\u{c}\0\0\0\0\0\0\0\u{2}")) ≡ Bad (Truncated 47) }
-    ensures found { verdict (with_call (codes "\u{1}\u{1}a\u{2}\0\0\0\0\0\0\0\0\0\0\0\0\0\u{10}\0\u{1}")) ≡ Bad (Form 53) }
+    ensures found { verdict (with_call (codes "\u{1}\u{1}a\u{2}\0\0\0\0\0\0\0\0\0\0\0\0\0\u{10}\0\u{1}"))
+        ≡ Bad (Form 53) }
     ensures cut { verdict (with_call (codes "\u{1}úa")) ≡ Bad (Truncated 40) }
 {}

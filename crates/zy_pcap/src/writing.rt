@@ -5,7 +5,8 @@ ghost use Rattle.zy_capture.specs.Replies.{numbered_from};
 ghost use Rattle.zy_pcap.specs.Session.{longest_from, longest};
 ghost use Rattle.zy_pcap.specs.Chunk.{byte_held};
 ghost use Rattle.zy_pcap.specs.Made.{capture_of};
-ghost use Rattle.zy_pcap.specs.Texts.{start_text, close_text, head_text, segment_text, stream_text, session_text, kept_text, kept_connection};
+ghost use Rattle.zy_pcap.specs.Texts.{start_text, close_text, head_text, segment_text, stream_text, session_text};
+ghost use Rattle.zy_pcap.specs.Texts.{kept_text, kept_connection};
 
 use crate::flows::Flows;
 use crate::kept_flow::KeptFlow;
