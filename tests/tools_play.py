@@ -90,6 +90,9 @@ def many():
     records = [segment(c, b"mn\r\n") for c in range(4096)]
     plays("4,096 connections", replies([b"MN\r\n"] * 4096), capture(4096, records),
           said="tools/play: 4096 connections, 4096 commands answered\n")
+    records = [segment(c, b"mn\r\n") for c in range(20)]
+    plays("few connections at a time", replies([b"MN\r\n"] * 20), capture(20, records), "--connections", "3",
+          said="tools/play: 20 connections, 20 commands answered\n")
 
 
 def large():

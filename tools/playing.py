@@ -120,10 +120,11 @@ class Player:
 class Play:
     """The loop: scripts are carried out, and what comes back is kept in a spool."""
 
-    def __init__(self, scripts, server, spool, wait, screen):
+    def __init__(self, scripts, options, spool, screen):
         self.queue, self.running, self.players, self.active = collections.deque(scripts), set(), {}, set()
-        self.server, self.addresses = server.name, server.addresses()
-        self.spool, self.wait, self.screen = spool, wait, screen
+        self.server, self.addresses = options["--server"].name, options["--server"].addresses()
+        self.most, self.wait = options["--connections"], options["--wait"]
+        self.spool, self.screen = spool, screen
         self.selector, self.later, self.begun = selectors.DefaultSelector(), [], 0
         self.times, self.connected, self.missing, self.faults = Times(), 0, 0, 0
         self.now = self.last = time.perf_counter()
@@ -275,7 +276,7 @@ class Play:
     def run(self):
         second = self.now
         while self.queue or self.running:
-            while self.queue and self.begun < MOST_BEGUN:
+            while self.queue and self.begun < MOST_BEGUN and len(self.running) < self.most:
                 script = self.queue.popleft()
                 self.running.add(script)
                 self.go(script)
