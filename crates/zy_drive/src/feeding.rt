@@ -39,11 +39,7 @@ pub(crate) struct Step {
 
 // Makes one step of a feeder that has not ended; where there is other work, only one that need not
 // wait. Returns what it came to, and `None` if the feeder is broken.
-pub(crate) fn feed_once<F: Feeder>(
-    feeder: &mut F,
-    is_ended: bool,
-    has_work: bool,
-) -> Option<Step>
+pub(crate) fn feed_once<F: Feeder>(feeder: &mut F, is_ended: bool, has_work: bool) -> Option<Step>
     requires ended { is_ended ≡ true → F.ended feeder.old }
     requires fresh { is_ended ≡ false → ¬ F.ended feeder.old × ¬ F.broken feeder.old }
     ensures ended { IfSome result (λ s. s.is_ended ≡ true → F.ended feeder.new) }

@@ -25,8 +25,10 @@ use crate::driven::Driven;
 use crate::handed_back::take_back;
 use crate::threads::dealing::{collect, deal};
 use crate::threads::driving::Driving;
+pub use crate::threads::driving::FirstGroup;
 use crate::threads::lent::Lent;
 use crate::threads::resters::Resters;
+pub use crate::threads::resters::rest_of;
 use crate::threads::room::Room;
 use crate::threads::scoped::{Ran, in_scope};
 use crate::threads::seat::Seat;
@@ -38,9 +40,6 @@ use zy_base::{Gate, NoMemory};
 use zy_core::{Core, Cores, Shared};
 use zy_park::{BellRoot, Bells};
 use zy_rx::Feeder;
-
-pub use crate::threads::driving::FirstGroup;
-pub use crate::threads::resters::rest_of;
 
 /// Drives the cores on `threads` threads while the caller feeds them: thread `t` has the cores `i`
 /// with `i` modulo `threads` equal to `t`. The caller drives the cores whose thread was refused. If

@@ -46,7 +46,13 @@ fn nap_one<R: Wait, G: Gate>(
     if core.turns() >= TURN_LIMIT {
         return Ok(Round::Idle);
     }
-    let nap = core.nap(driving.rt, driving.shared, driving.bells, pass, driving.gate)?;
+    let nap = core.nap(
+        driving.rt,
+        driving.shared,
+        driving.bells,
+        pass,
+        driving.gate,
+    )?;
     Ok(round_of(nap))
 }
 

@@ -64,13 +64,7 @@ fn idle_after(idle: u32, most: u32, round: Round) -> u32
 {
     match round {
         Round::Worked | Round::Busy | Round::Rested => 0,
-        Round::Idle => {
-            if idle < most {
-                idle + 1
-            } else {
-                most
-            }
-        }
+        Round::Idle => { if idle < most { idle + 1 } else { most } }
     }
 }
 
