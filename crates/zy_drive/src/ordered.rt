@@ -15,6 +15,7 @@ use std::sync::Wait;
 use zy_base::{Gate, NoMemory};
 use zy_core::{Core, Cores, Shared};
 use zy_rx::Feeder;
+use zy_steal::Looks;
 
 /// Drives the cores on the caller's thread: the feeder offers items until one is handed back or all
 /// are offered, then each core takes a turn, and so on until all is settled. A round begins with
@@ -41,13 +42,14 @@ pub fn drive_ordered<R: Wait, F: Feeder, G: Gate>(
     let mut items = cores.into_items();
     let mut draws = Draws::new(order);
     let mut is_ended = false;
+    let mut looks = Looks::new();
     for _ in rt.forever() {
         match feed(rt, feeder, is_ended) {
             Some(ended) => is_ended = ended,
             None => return Driven::Broken(Cores::from_items(items)),
         }
         let first = draws.next(items.len() as u32);
-        match round(&mut items, first, shared, gate, feeder) {
+        match round(&mut items, first, shared, gate, feeder, &mut looks) {
             Ok(()) => {}
             Err(NoMemory) => return Driven::NoMemory(Cores::from_items(items)),
         }
@@ -65,6 +67,7 @@ fn round<F: Feeder, G: Gate>(
     shared: &Shared,
     gate: &G,
     feeder: &mut F,
+    looks: &mut Looks,
 ) -> Result<(), NoMemory>
     requires first { first < vec_len cores.old }
     requires few { vec_len cores.old ≤ 64 }
@@ -79,7 +82,7 @@ fn round<F: Feeder, G: Gate>(
     for turn in 0..count {
         let at = turn_of(count, first, turn) as usize;
         let core = &mut cores[at];
-        meet_and_turn(core, shared, gate, feeder)?;
+        meet_and_turn(core, shared, gate, feeder, looks)?;
     }
     Ok(())
 }
@@ -90,6 +93,7 @@ fn meet_and_turn<F: Feeder, G: Gate>(
     shared: &Shared,
     gate: &G,
     feeder: &mut F,
+    looks: &mut Looks,
 ) -> Result<(), NoMemory>
     requires fits { Fits shared.now (identity_of core.old) }
     requires inlet { slice_get (rings_of (F.inlets feeder.old)) core.old.home.core ≡ Some core.old.outlet.ring }
@@ -99,6 +103,6 @@ fn meet_and_turn<F: Feeder, G: Gate>(
     ensures rings { rings_of (F.inlets feeder.new) ≡ rings_of (F.inlets feeder.old) }
 {
     core.meet(feeder);
-    turn_one(core, shared, gate)?;
+    turn_one(core, shared, gate, looks)?;
     Ok(())
 }

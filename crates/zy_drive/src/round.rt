@@ -1,6 +1,8 @@
 //! What a round of a group of cores came to.
 ghost use Rattle.std.specs.Prelude.{◌≢◌};
 
+use zy_core::Came;
+
 // What a round of turns of a group of cores came to.
 #[derive(Clone, Copy, Drop, PartialEq, Eq)]
 pub(crate) enum Round {
@@ -15,6 +17,17 @@ pub(crate) enum Round {
 }
 
 impl Round {
+    // What one turn came to.
+    pub(crate) fn of(came: Came) -> Round
+        ensures awake { result ≢ Round.Rested }
+    {
+        match came {
+            Came::Worked => Round::Worked,
+            Came::Busy => Round::Busy,
+            Came::Idle { own: _ } | Came::Settled => Round::Idle,
+        }
+    }
+
     // This round with a further one, neither of which is a rest.
     pub(crate) fn with(self, other: Round) -> Round
         ensures awake { result ≢ Round.Rested }

@@ -5,16 +5,18 @@ ghost use Rattle.zy_core.specs.Cores.{identities, EachFits, EachSettled};
 
 use crate::round::Round;
 use zy_base::{Gate, NoMemory};
-use zy_core::{Core, Shared, Turn};
+use zy_core::{Core, Shared};
+use zy_steal::Looks;
 
 // The most turns of a core.
 pub(crate) const TURN_LIMIT: u64 = 1 << 48;
 
-// A turn of one core, where it may take one.
+// A turn of one core, where it may take one. Its looks are noted over others, and nobody reads them.
 pub(crate) fn turn_one<G: Gate>(
     core: &mut Core,
     shared: &Shared,
     gate: &G,
+    looks: &mut Looks,
 ) -> Result<Round, NoMemory>
     requires fits { Fits shared.now (identity_of core.old) }
     ensures same { identity_of core.new ≡ identity_of core.old }
@@ -26,10 +28,8 @@ pub(crate) fn turn_one<G: Gate>(
     if core.turns() >= TURN_LIMIT {
         return Ok(Round::Idle);
     }
-    match core.turn(shared, gate)? {
-        Turn::Worked => Ok(Round::Worked),
-        _ => Ok(Round::Idle),
-    }
+    let came = core.turn_over(shared, gate, looks)?;
+    Ok(Round::of(came))
 }
 
 // A turn of each core.
@@ -37,6 +37,7 @@ pub(crate) fn turn_each<G: Gate>(
     cores: &mut Vec<Core>,
     shared: &Shared,
     gate: &G,
+    looks: &mut Looks,
 ) -> Result<Round, NoMemory>
     requires fits { EachFits shared.now (identities cores.old.items) }
     ensures same { identities cores.new.items ≡ identities cores.old.items }
@@ -45,7 +46,7 @@ pub(crate) fn turn_each<G: Gate>(
     let mut round = Round::Idle;
     for i in 0..cores.len() {
         let core = &mut cores[i];
-        let turn = turn_one(core, shared, gate)?;
+        let turn = turn_one(core, shared, gate, looks)?;
         round = round.with(turn);
     }
     Ok(round)

@@ -12,6 +12,7 @@ use std::sync::Wait;
 use zy_base::{Gate, NoMemory};
 use zy_core::{Core, Shared};
 use zy_park::BellPass;
+use zy_steal::Looks;
 
 // The cores that one thread drives, and whether they found that all cores are done. Then they are
 // settled.
@@ -19,6 +20,8 @@ use zy_park::BellPass;
 pub(crate) struct Group {
     cores: Vec<Core>,
     done: bool,
+    // The looks of their turns, which nobody reads.
+    looks: Looks,
 }
 
 impl Model for Group {
@@ -38,7 +41,11 @@ impl Group {
     pub(crate) fn new(cores: Vec<Core>) -> Group
         ensures value { result ≡ grouped cores.items false }
     {
-        Group { cores, done: false }
+        Group {
+            cores,
+            done: false,
+            looks: Looks::new(),
+        }
     }
 
     // Whether it is the one core with this number.
@@ -82,7 +89,12 @@ impl Group {
         ensures awake { IfOk result (λ round. round ≢ Round.Rested) }
     {
         self.done = false;
-        let round = turn_each(&mut self.cores, driving.shared, driving.gate)?;
+        let round = turn_each(
+            &mut self.cores,
+            driving.shared,
+            driving.gate,
+            &mut self.looks,
+        )?;
         let counted = note_each(&mut self.cores, driving.shared);
         Ok(round.then(counted))
     }
@@ -138,7 +150,11 @@ impl Group {
         ensures value { result.items ≡ self.cores }
         ensures settled { self.done ≡ true → EachSettled result.items }
     {
-        let Group { cores, done: _ } = self;
+        let Group {
+            cores,
+            done: _,
+            looks: _,
+        } = self;
         cores
     }
 }

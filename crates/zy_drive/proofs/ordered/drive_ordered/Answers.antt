@@ -5,7 +5,7 @@ use Rattle.zy_drive.proofs.ordered.drive_ordered.Goals as goal
 
 pub loop-init : goal.loop-init
 loop-init g c =
-    (tt, tt, ap identities c.cores.view_is, g.met.F.Feeder.leads_same c.args.feeder.now, (λ e. absurd (cc)), (λ e. c.requires.fresh), refl)
+    (tt, tt, ap identities c.into_items-items.ensures.value, g.met.F.Feeder.leads_same c.args.feeder.now, (λ e. absurd (cc)), (λ e. c.requires.fresh), refl)
 
 pub loop-preserved : goal.loop-preserved
 loop-preserved g c =

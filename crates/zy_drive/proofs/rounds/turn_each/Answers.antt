@@ -7,10 +7,10 @@ turn_one-requires g c =
     let near = c.loop-i-test.true in let len = c.loop-i.invariant.len in let whole = c.len-i-end.ensures in
     record { fits = fits_there c.args.shared.now c.args.cores.now.items c.loop-i.cores.items c.loop-i.i c.index_mut-core.result.now (omega arith) c.index_mut-core.ensures.value c.loop-i.invariant.same c.requires.fits }
 
-pub returns-in_err-some : goal.returns-in_err-some
-returns-in_err-some g c =
+pub returns-in_err-turn-clause-same : goal.returns-in_err-turn-clause-same
+returns-in_err-turn-clause-same g c =
     let near = c.loop-i-test.true in let len = c.loop-i.invariant.len in let whole = c.len-i-end.ensures in
-    record { same = same_there c.args.cores.now.items c.loop-i.cores.items c.loop-i.i c.index_mut-core.result.now c.turn_one.new.core (omega arith) c.index_mut-core.ensures.value c.turn_one.ensures.same c.loop-i.invariant.same }
+    same_there c.args.cores.now.items c.loop-i.cores.items c.loop-i.i c.index_mut-core.result.now c.turn_one.new.core (omega arith) c.index_mut-core.ensures.value c.turn_one.ensures.same c.loop-i.invariant.same
 
 pub loop-i-preserved : goal.loop-i-preserved
 loop-i-preserved g c =
@@ -18,4 +18,5 @@ loop-i-preserved g c =
     record {
       same = same_there c.args.cores.now.items c.loop-i.cores.items c.loop-i.i c.index_mut-core.result.now c.turn_one.new.core (omega arith) c.index_mut-core.ensures.value c.turn_one.ensures.same c.loop-i.invariant.same;
       len = search rules;
+      awake = c.with-round.ensures.awake;
     }
