@@ -27,10 +27,6 @@ line_width line = 0
 
 -- ---- the words of a line
 
-put_size : (byte : ℕ) (pieces : List (List ℕ)) → length (put_before byte pieces) ≤ length pieces + 1
-put_size byte [] = omega arith
-put_size byte (piece ∷ pieces) = omega arith
-
 put_kept : (byte : ℕ) (pieces : List (List ℕ)) → 0 < length pieces → length (put_before byte pieces) ≤ length pieces
 put_kept byte [] some = absurd (omega arith)
 put_kept byte (piece ∷ pieces) some = omega arith

@@ -1,9 +1,9 @@
 -- The width of a command, which is the number of its keys and letters: how many calls a command of some width has, and
 -- that a command is no wider than its line has bytes.
-use Rattle.std.specs.Prelude.{◌&&◌, codes, if◌then◌else◌, Option, None, Some, option_map, not}
+use Rattle.std.specs.Prelude.{◌&&◌, if◌then◌else◌, Option, None, Some, option_map, not}
 use Rattle.std.specs.List.{AllByRecursion, list_all}
 use Rattle.std.specs.Str.{bytes_eq}
-use Rattle.std.proofs.Common.{◌≡◌, ℕ, ◌+◌, ◌*◌, ◌<◌, ◌≤◌, List, [], ◌∷◌, length, Bool, true, false, refl, sym, ap, subst, arith}
+use Rattle.std.proofs.Common.{◌≡◌, ℕ, ◌+◌, ◌*◌, ◌≤◌, List, [], ◌∷◌, length, Bool, true, false, refl, sym, ap, subst, arith}
 use Rattle.std.proofs.lemmas.List.{length-map}
 use Rattle.std.proofs.lemmas.List.FromFn.{length-map-range_with_len}
 use Rattle.zy_base.specs.declared.call.Call.TheVariants.{Flush as FlushCall, Tally}

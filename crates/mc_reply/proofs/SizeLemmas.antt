@@ -1,7 +1,7 @@
 -- How many bytes the text of a command has.
 use Rattle.std.specs.Prelude.{◌==◌, codes, decimal, if◌then◌else◌, Option, None, Some}
-use Rattle.std.specs.List.{AllByRecursion, sum_by}
-use Rattle.std.proofs.Common.{◌≡◌, ℕ, ◌+◌, ◌*◌, ◌^◌, ◌<◌, ◌≤◌, Bool, true, false, List, [], ◌∷◌, ◌++◌, length, refl, ap, arith, length-append}
+use Rattle.std.specs.List.{AllByRecursion}
+use Rattle.std.proofs.Common.{◌≡◌, ℕ, ◌+◌, ◌*◌, ◌^◌, ◌<◌, ◌≤◌, Bool, true, false, List, [], ◌∷◌, ◌++◌, length, arith, length-append}
 use Rattle.std.proofs.lemmas.Fmt.{length-decimal-le, length-decimal-le_wide}
 use Rattle.std.proofs.lemmas.List.Sums.{sum_by-cons}
 use Rattle.zy_base.specs.declared.call_reply.CallReply.{CallReply}
@@ -102,22 +102,33 @@ error_few Errors.TooLarge = omega arith
 
 -- ---- items
 
-head_few : (key : List ℕ) (flags : ℕ) (value : List ℕ) → length key ≤ 250 → flags < 2 ^ 32 → length value ≤ 1048576 → length (head_text key flags value) ≤ 275
-head_few key flags value short few most =
-    omega (arith, six_parts (codes "VALUE ") key (codes " ") (decimal flags) (codes " ") (decimal (length value)), short, four_bytes flags few, value_size value most)
+-- the text of an item has at most 73 bytes beside its key and its value
+pub item_within : (asked : Bool) (key : List ℕ) (flags unique : ℕ) (value : List ℕ) → flags < 2 ^ 64 → unique < 2 ^ 64 → length value < 2 ^ 64
+    → length (item_text asked key (Hit flags unique value)) ≤ length key + length value + 73
+item_within asked key flags unique value small fits long = go asked
+  where
+    head : length (head_text key flags value) ≤ length key + 48
+    head = omega (arith, six_parts (codes "VALUE ") key (codes " ") (decimal flags) (codes " ") (decimal (length value)), eight_bytes flags small, eight_bytes (length value) long)
 
-item_line_few : (asked : Bool) (key : List ℕ) (flags unique : ℕ) (value : List ℕ) → length key ≤ 250 → flags < 2 ^ 32 → unique < 2 ^ 64 → length value ≤ 1048576 → length (item_line asked key flags unique value) ≤ 298
-item_line_few true key flags unique value short few fits most =
-    omega (arith, line_size (head_text key flags value ++ unique_text unique), length-append (head_text key flags value) (unique_text unique), head_few key flags value short few most, eight_bytes unique fits)
-item_line_few false key flags unique value short few fits most =
-    omega (arith, line_size (head_text key flags value), head_few key flags value short few most)
+    go : (asked : Bool) → length (item_line asked key flags unique value ++ line value) ≤ length key + length value + 73
+    go true =
+        omega (
+          arith,
+          head,
+          length-append (item_line true key flags unique value) (line value),
+          line_size (head_text key flags value ++ unique_text unique),
+          length-append (head_text key flags value) (unique_text unique),
+          eight_bytes unique fits,
+          line_size value,
+        )
+    go false = omega (arith, head, length-append (item_line false key flags unique value) (line value), line_size (head_text key flags value), line_size value)
 
 item_few : (asked : Bool) (key : List ℕ) (reply : CallReply) → IsKey key → IsSmall reply → length (item_text asked key reply) ≤ 2097152
 item_few asked key (Hit flags unique value) is small =
-    let all = length-append (item_line asked key flags unique value) (line value) in
-    let first = item_line_few asked key flags unique value is.1 small.fits.0.0 small.fits.0.1 small.value in
+    let short = is.1 in
     let most : length value ≤ 1048576 = small.value in
-    omega (arith, all, first, most, line_size value)
+    let few : flags < 2 ^ 32 = small.fits.0.0 in
+    omega (arith, item_within asked key flags unique value (omega (arith, few)) small.fits.0.1 (omega (arith, most)), short, most)
 item_few asked key Miss is small = omega arith
 item_few asked key Stored is small = omega arith
 item_few asked key NotStored is small = omega arith

@@ -81,11 +81,6 @@ entries_some [] n bucket is = cc
 entries_some (t ∷ buckets) zero bucket is = cc
 entries_some (t ∷ buckets) (suc n) bucket is = entries_some buckets n bucket is
 
-pub entries_none : (buckets : List Keyed) (n : ℕ) → slice_get buckets n ≡ None → entries_at buckets n ≡ []
-entries_none [] n is = refl
-entries_none (t ∷ buckets) zero is = cc
-entries_none (t ∷ buckets) (suc n) is = entries_none buckets n is
-
 -- ---- a change of one bucket
 
 -- a bucket of these keys alone takes the place of another

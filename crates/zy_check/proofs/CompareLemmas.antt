@@ -13,10 +13,6 @@ first_none (Some found) = (omega arith, refl)
 
 -- ---- one further text
 
--- there is no output
-pub added_lacks : (session : ℕ) (first made : List ℕ) (at : ℕ) → HasFirst None first at → AddedTo None session made at (Some (record { session = session; at = at }))
-added_lacks session first made at is = (refl, (λ behind. ((λ same. absurd (cc)), sym is.1)))
-
 module _ (found made : List ℕ) (at : ℕ) (text : List ℕ) (first : HasFirst (Some found) made at) where
   whole : (behind : List ℕ) → (made ++ text) ++ behind ≡ take at found ++ (text ++ behind)
   whole behind = append_assoc made text behind ∙ ap (λ (l : List ℕ). l ++ (text ++ behind)) (sym first.1)
@@ -54,14 +50,7 @@ module _ (found made : List ℕ) (at : ℕ) (text : List ℕ) (first : HasFirst 
 
 -- ---- the end
 
--- there is no output
-pub ended_lacks : (session : ℕ) (made : List ℕ) (at : ℕ) → HasFirst None made at → EndedWith None session made at (Some (record { session = session; at = at }))
-ended_lacks session made at first = (refl, ((λ same. absurd (cc)), sym first.1))
-
 module _ (found made : List ℕ) (at : ℕ) (first : HasFirst (Some found) made at) where
-  -- nothing further was found
-  pub ended_same : (session : ℕ) → length found ≤ at → EndedWith (Some found) session made 0 None
-  ended_same session end = (ap (λ (l : List ℕ). Some l) (sym (take_all at found end) ∙ first.1), refl)
 
   -- more was found
   pub ended_more : (session : ℕ) → at < length found → EndedWith (Some found) session made at (Some (record { session = session; at = at }))

@@ -47,21 +47,6 @@ fed_on p q before after at end stream rising within stands appends given has =
           ∙ ap (λ (l : List Command). given ++ l) (sym (map-append command_of before more.given) ∙ ap (map command_of) (sym more.appended));
     }
 
--- one further command
-pub given_more : (c : Cursor) (stream : List ℕ) (frame : FrameKind) (rest : List FrameKind) (command : Command) (given : List Command) → c.frames ≡ frame ∷ rest → command ≡ command_of frame
-    → HasGiven c stream given → HasGiven (record c { frames = rest }) stream (given ++ command ∷ [])
-given_more c stream frame rest command given first is has = record {
-  within = has.within;
-  stands = has.stands;
-  all = has.all ∙ ap (λ (l : List FrameKind). given ++ map command_of l) first ∙ ap (λ (x : Command). given ++ x ∷ map command_of rest) (sym is)
-      ∙ sym (append_assoc given (command ∷ []) (map command_of rest));
-}
-
--- no command is left
-pub given_all : (c : Cursor) (stream : List ℕ) (given : List Command) → c.frames ≡ [] → length stream ≤ c.at → HasGiven c stream given → commands_of stream ≡ given
-given_all c stream given none end has =
-    ap commands_of (sym (take_all c.at stream end)) ∙ has.all ∙ ap (λ (l : List FrameKind). given ++ map command_of l) none ∙ append-nil given
-
 -- what was given comes first
 pub given_first : (c : Cursor) (stream : List ℕ) (given : List Command) → HasGiven c stream given → (later : List Command) × (commands_of stream ≡ given ++ later)
 given_first c stream given has =

@@ -42,19 +42,6 @@ module _ (h : Homed) (w : Held Blocked) (is : w ≡ record h.pass { trace = w.tr
         each = λ live p x l eb el. at_else h.pass w p l x (ap (is_in p) hand) (ap (marked mark_in p) kept) (k.each live p x l eb el);
       }
 
-  pub same_looks : SameHome h (with_pass h w)
-  same_looks =
-      let count = ap (λ (v : Held Blocked). v.count) is in record {
-        core = refl;
-        cores = refl;
-        count = refl;
-        table = ap (λ (v : Held Blocked). v.table) is;
-        label = ap (λ (v : Held Blocked). v.label) is;
-        out = ap (λ (v : Held Blocked). v.out) is;
-        conns = refl;
-        once = omega arith;
-      }
-
 -- ---- a block comes
 
 module _ (h : Homed) (w : Held Blocked) (n p : ℕ) (b : Blocked) (k : Keeps h) (j : Joined mark_in label_in n h.pass w p b) where
@@ -82,22 +69,6 @@ module _ (h : Homed) (w : Held Blocked) (n p : ℕ) (b : Blocked) (k : Keeps h) 
         each = λ live q x l eb el. keeps_at q l x (k.each live q x l eb el);
       }
 
-  pub same_joins : (SameHome h (with_pass h w)) × (w.count ≡ h.pass.count)
-  same_joins =
-      let count = ap (λ (v : Held Blocked). v.count) j.is in (
-        record {
-          core = refl;
-          cores = refl;
-          count = refl;
-          table = ap (λ (v : Held Blocked). v.table) j.is;
-          label = ap (λ (v : Held Blocked). v.label) j.is;
-          out = ap (λ (v : Held Blocked). v.out) j.is;
-          conns = refl;
-          once = omega arith;
-        },
-        count,
-      )
-
   pub out_joins : n ≡ length h.links → h.refused ≡ false → marked mark_in p h.pass.kept ≡ Some (mark_in b) → IsOut (with_pass h w) p b
   out_joins size live mark =
       let near = j.near in
@@ -114,19 +85,6 @@ module _ (h : Homed) (w : Held Blocked) (n p : ℕ) (b : Blocked) (k : Keeps h) 
         mark = cc;
         label = j.labelled ∙ sym (ap (λ (v : Held Blocked). v.label) j.is);
       }
-
--- two parts of a call, the first of which publishes nothing
-pub same_on : (a b c : Homed) → SameHome a b → b.pass.count ≡ a.pass.count → SameHome b c → SameHome a c
-same_on a b c s e t = record {
-  core = t.core ∙ s.core;
-  cores = t.cores ∙ s.cores;
-  count = t.count ∙ s.count;
-  table = t.table ∙ s.table;
-  label = t.label ∙ s.label;
-  out = t.out ∙ s.out;
-  conns = t.conns ∙ s.conns;
-  once = (let n = t.once in omega arith);
-}
 
 -- ---- nothing comes into a hand that has all
 

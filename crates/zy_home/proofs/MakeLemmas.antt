@@ -29,11 +29,6 @@ all_at P [] p x all e = absurd (cc)
 all_at P (y ∷ ys) zero x all e = let is : y ≡ x = cc in subst P is all.0
 all_at P (y ∷ ys) (suc p) x all e = all_at P ys p x all.1 e
 
--- the slots of blocks that are all here
-pub blocks_in-some : (blocks : List Blocked) → blocks_in (map Some blocks) ≡ blocks
-blocks_in-some [] = refl
-blocks_in-some (b ∷ bs) = ap (λ l. b ∷ l) (blocks_in-some bs)
-
 slot_at : (blocks : List Blocked) (p : ℕ) (x : Option Blocked) → slice_get (map Some blocks) p ≡ Some x → (b : Blocked) × (slice_get blocks p ≡ Some b) × (x ≡ Some b)
 slot_at [] p x e = absurd (cc)
 slot_at (b ∷ bs) zero x e = (b, refl, (cc))

@@ -171,9 +171,6 @@ module _ (h : Homed) (k : Keeps h) (p : ℕ) (item : Rx) (comes : ComesTo h p it
   pub comes_own : IsFor (conn_of l) item
   comes_own = subst (λ (z : Link). IsFor (conn_of z) item) (sym (fed_link h k p comes.link l m w x0 x comes.there slot at)) comes.own
 
-  pub comes_place : h.refused ≡ false → IsPlace h.pass p l x0
-  comes_place = fed_place h k p comes.link l m w x0 x comes.there slot at
-
   pub received : (r : Bool) → (r ≡ false → h.refused ≡ false) → conn_of m ≡ conn_of l → IsFed p l m h.pass w x0 x → TakesIn item l m → Received h (turned h p x m w r) item
   received r live conn s takes =
       let t = fed_step h k p comes.link l m w x0 x comes.there slot at r live conn s in
