@@ -104,15 +104,24 @@ class Chart:
         self.line(left, up, self.at(self.x.high, value)[0], up, "black", ' stroke-dasharray="2 3"')
         self.text(left + 6, up - 5, name, size=11)
 
+    def within(self, points):
+        """The points up to the first one that is above the chart, in whose place comes the one where the curve leaves it."""
+        above = next((at for at, point in enumerate(points) if point[1] > self.y.high), len(points))
+        shown = list(points[:above])
+        if 0 < above < len(points) and math.isfinite(points[above][1]):
+            change, back = (math.log, math.exp) if self.y.is_log else (float, float)
+            (x1, y1), (x2, y2) = points[above - 1][:2], points[above][:2]
+            part = (change(self.y.high) - change(y1)) / (change(y2) - change(y1))
+            shown.append((x1 + part * (x2 - x1), back(change(self.y.high))))
+        return shown
+
     def curve(self, curve):
         """Draws a curve: solid with points where it was measured, dashed where it is computed. It ends at the edge."""
-        shown = [point for point in curve.points if point[0] <= self.x.high]
-        beyond = next((at for at, point in enumerate(shown) if point[1] >= self.y.high), len(shown) - 1)
-        shown = shown[: beyond + 1]
+        shown = self.within(curve.points)
         dashes = ' stroke-dasharray="7 4"' if curve.is_computed else ""
         line = " ".join("{:.1f},{:.1f}".format(*self.at(*point[:2])) for point in shown)
         self.lines.append(f'<polyline points="{line}" fill="none" stroke="{curve.colour}" stroke-width="2"{dashes}/>')
-        for point in [] if curve.is_computed else shown:
+        for point in [] if curve.is_computed else shown[: len(shown) - (shown != curve.points[: len(shown)])]:
             across, up = self.at(*point[:2])
             if len(point) == 4:
                 low, high = self.at(point[0], point[2])[1], self.at(point[0], point[3])[1]

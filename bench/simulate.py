@@ -12,13 +12,14 @@ Printed are the costs; the rate on 1 to 4 cores, beside the program's; the load 
 ten times the mean service time of 5, 10 and 25 us on three cores, beside that of `bench/run tail --json`, if it is given; and
 both on up to 64 cores, even and skewed, with and without stealing.
 
-usage: bench/run simulate [--measure FILE | --costs FILE] [--tail FILE] [--commands N] [--picture FOLDER]
-                          [--program PATH] [--bench PATH]
+usage: bench/run simulate [--measure FILE | --costs FILE] [--tail FILE] [--commands N] [--traffic N]
+                          [--picture FOLDER] [--program PATH] [--bench PATH]
 
 --measure FILE    measures the costs here, in about three minutes, and writes them to FILE
 --costs FILE      costs that were measured before
 --tail FILE       what `bench/run tail --json` printed
 --commands N      the commands of a simulated run (100000)
+--traffic N       the commands that the program serves where it is measured (1000000)
 --picture FOLDER  writes scale-cores.svg and tail-cores.svg
 --program PATH    `zygos`, built, and
 --bench PATH      `zygos_bench` (if left out, the repository's, which are proved and built first where they aren't)

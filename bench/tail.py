@@ -208,7 +208,7 @@ def picture(curves, cores, skewed, law, runs):
     drawn = chart.Chart(f"Latency of {cores} cores, {law.told()}",
                         [f"{common.machine_name()}; {spread}", f"median of {runs} runs, with the least and the most"],
                         chart.Axis("load, in % of what the cores can carry at most", 0, 100, list(range(0, 101, 20))),
-                        chart.logarithmic("time in which 99 % are served, in mean service times", 1, TOP))
+                        chart.logarithmic("99 % take at most, in mean service times", 1, TOP))
     drawn.bound(BOUND, "ten times the mean service time")
     for kind, curve in curves.items():
         load = ideal.carried(curve, BOUND)
