@@ -114,7 +114,8 @@ def quiet():
 def faulty_servers():
     """Answers that do not come, and a server that closes."""
     plays("a missing answer", replies([b"MN\r\nMN\r\n", b"OK\r\n"]),
-          capture(2, [segment(0, b"mn\r\n"), segment(0, b"hush\r\n"), segment(0, b"mn\r\n"), segment(1, b"wait 0.1\r\n")]),
+          capture(2, [segment(0, b"mn\r\n"), segment(0, b"hush\r\n"), segment(0, b"mn\r\n"),
+                      segment(1, b"wait 0.1\r\n")]),
           "--wait", "0.3", status=1, said="tools/play: 2 connections, 3 commands answered\n"
           "tools/play: 1 commands were not answered\n")
     plays("a quit", replies([b"MN\r\n"]), capture(1, [segment(0, b"mn\r\nquit\r\nmn\r\n"), segment(0, b"mn\r\n")]),
@@ -160,8 +161,8 @@ def closed_pipe():
     with Server() as server, open("my.cap", "wb") as file:
         file.write(capture(1, [segment(0, b"big 1000000\r\n")]))
         file.flush()
-        ran = subprocess.run(["bash", "-c", '"$0" "$@" | head -c 1 > /dev/null', os.path.join(TOP, "tools/play"), "my.cap",
-                              "--server", server.place], capture_output=True, timeout=60, check=False)
+        ran = subprocess.run(["bash", "-c", '"$0" "$@" | head -c 1 > /dev/null', os.path.join(TOP, "tools/play"),
+                              "my.cap", "--server", server.place], capture_output=True, timeout=60, check=False)
         same("a closed pipe", 2, ran.stderr.count(b"\n"))
 
 

@@ -76,7 +76,8 @@ def two_hundred():
         ones = [connected(recorder.place) for _ in range(200)]
         for number, one in enumerate(ones):
             one.sendall(SET % number + GET % number)
-        got = [take(one, len(b"STORED\r\nVALUE %d 0 5\r\nvalue\r\nEND\r\n" % number)) for number, one in enumerate(ones)]
+        told = b"STORED\r\nVALUE %d 0 5\r\nvalue\r\nEND\r\n"
+        got = [take(one, len(told % number)) for number, one in enumerate(ones)]
         for one in ones:
             one.close()
         same("200 at a time end by themselves", 0, recorder.end(None)[0])
@@ -119,7 +120,7 @@ def later_sessions():
         until("a later session is served", lambda: tries(recorder.place) == ANSWERED)
         first.close()
         status, said = recorder.end()
-        same("its lines", (0, "tools/record: 2 connections are open, as many as a recording has: others are refused\n"
+        same("its lines", (0, "tools/record: 2 connections are open, the most of a recording: others are refused\n"
                            + recorded(3, 4, 8 + len(ASKED), 8 + len(ANSWERED))), (status, said))
         same("its files", ({(0, 0): b"mn\r\n", (1, 0): b"mn\r\n", (1, 1): ASKED},
                            {(0, 0): b"MN\r\n", (1, 0): b"MN\r\n", (1, 1): ANSWERED}), files_of())
@@ -461,5 +462,5 @@ def real_memcached():
 
 if __name__ == "__main__":
     all_of(before_it_begins, several_clients, no_client, two_hundred, other_sockets, later_sessions, few_files,
-           standard_output, gives_up, half_closed, slow_reader, binary, server_restarts, signals, closed_errors, killed, full, terminal,
-           real_memcached)
+           standard_output, gives_up, half_closed, slow_reader, binary, server_restarts, signals, closed_errors, killed, full,
+           terminal, real_memcached)

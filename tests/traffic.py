@@ -142,7 +142,8 @@ def memcached():
     """A real memcached, by its place; None where there is none. It is installed where that can be done."""
     if not shutil.which("memcached") and os.geteuid() == 0 and shutil.which("apt-get"):
         with contextlib.suppress(subprocess.TimeoutExpired):
-            subprocess.run(["bash", "-c", INSTALL], stdin=subprocess.DEVNULL, capture_output=True, timeout=60, check=False)
+            subprocess.run(["bash", "-c", INSTALL], stdin=subprocess.DEVNULL, capture_output=True, timeout=60,
+                           check=False)
     if not shutil.which("memcached"):
         print(f"{NAME}: memcached is not installed: no test with it")
         yield None
@@ -232,7 +233,8 @@ def at_once(clients):
 class Recorder:
     """tools/record, which is running; `place` is where its clients come."""
 
-    def __init__(self, server, *words, listen="127.0.0.1:0", files=("my.cap", "my.replies"), tool=("tools/record",), **more):
+    def __init__(self, server, *words, listen="127.0.0.1:0", files=("my.cap", "my.replies"), tool=("tools/record",),
+                 **more):
         given = [os.path.join(TOP, tool[0]), *tool[1:], "--listen", listen, "--server", server, *words, *files]
         self.process = subprocess.Popen(given, stderr=subprocess.PIPE, **more)
         self.first = self.process.stderr.readline().decode()
