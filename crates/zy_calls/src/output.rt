@@ -40,7 +40,8 @@ impl Output {
     }
 
     /// Appends the texts of a batch, and sets the number of finished commands to the batch's. After
-    /// a refusal the batch is handed back. The first batch is moved and not copied.
+    /// a refusal the batch is handed back. The first batch is moved and not copied. The program calls
+    /// `take_texts`.
     pub fn carry_out(&mut self, batch: Batch) -> Result<(), (Batch, NoMemory)>
         ensures ok { OnOk result (self.new ≡ with_batch self.old batch) }
         ensures err { OnErr result (self.new ≡ self.old) }

@@ -1,13 +1,11 @@
 -- What each step keeps, for values that are given by equations.
-use Rattle.std.proofs.Common.{◌≡◌, ◌≢◌, inl, ℕ, ◌+◌, ◌<◌, ◌≤◌, ◌^◌, List, [], ◌∷◌, ◌++◌, length, Some, Result, Ok, Err, MatchResult, IfOk, slice_get, refl, sym, ap, ◌∙◌, subst, arith, length-append}
-use Rattle.std.specs.Prelude.{All, IsSome, OnOk, OnErr}
+use Rattle.std.proofs.Common.{◌≡◌, ◌≢◌, inl, ℕ, ◌+◌, ◌≤◌, ◌^◌, List, [], ◌∷◌, ◌++◌, length, Some, Result, Ok, Err, MatchResult, IfOk, slice_get, refl, sym, ap, ◌∙◌, subst, arith, length-append}
+use Rattle.std.specs.Prelude.{IsSome, OnOk, OnErr}
 use Rattle.std.proofs.lemmas.Option.{slice_get_within}
 use Rattle.zy_base.specs.declared.call_reply.CallReply.{CallReply}
 use Rattle.mc_parse.specs.declared.command.Command.{Command}
 use Rattle.mc_parse.specs.declared.shard_call.ShardCall.{ShardCall}
-use Rattle.mc_parse.specs.Calls.{Due, calls_of, IsOnShard}
-use Rattle.mc_parse.proofs.CallLemmas.{all_within}
-use Rattle.mc_store.specs.declared.store.view.Trace.{Trace}
+use Rattle.mc_parse.specs.Calls.{Due, calls_of}
 use Rattle.mc_store.specs.Call.{WasBusy}
 use Rattle.mc_store.specs.Pass.{Passed}
 use Rattle.zy_calls.specs.Batch.{Batch, with_text, with_finished}
@@ -22,9 +20,9 @@ use Rattle.zy_conn.specs.declared.calling.Made.{Made}
 use Rattle.zy_conn.specs.declared.calling.Made.TheVariants.{Call, Done, Stopped}
 use Rattle.zy_conn.specs.Work.{Start, idle, raw, going, start_of, Worked, worked, texts_taken, mark_of}
 use Rattle.zy_conn.specs.Kept.{Kept}
-use Rattle.zy_conn.specs.Hold.{call_due, FoundBusy, HeldTo}
+use Rattle.zy_conn.specs.Hold.{call_due}
 use Rattle.zy_conn.specs.Step.{IsWhole, text_begun, calls_left, SamePass, CallStopsBy, Makes, Goes, StopsBy, MadeFrom}
-use Rattle.zy_conn.proofs.KeptLemmas.{kept_looks, texts_begin, kept_begins, kept_reads, going_on, texts_call, kept_calls, kept_finishes}
+use Rattle.zy_conn.proofs.KeptLemmas.{kept_looks, texts_begin, kept_begins, kept_reads, texts_call, kept_calls, kept_finishes}
 
 -- ---- a frame is taken
 

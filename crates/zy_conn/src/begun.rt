@@ -5,7 +5,6 @@ ghost use Rattle.zy_conn.specs.declared.begun.Begun.TheVariants.{Raw, Going};
 
 use mc_parse::Command;
 use std::alloc::Global;
-use std::mem;
 use zy_base::NoMemory;
 use zy_frame::{Frame, meaning};
 
@@ -42,6 +41,6 @@ impl Begun {
     pub(crate) fn put(&mut self, begun: Begun)
         ensures value { self.new ≡ begun }
     {
-        drop(mem::replace(self, begun));
+        *self = begun;
     }
 }
