@@ -282,6 +282,17 @@ def signals():
                  files_of())
 
 
+def ends_with_a_slow_reader():
+    """An answer that its client does not take is recorded to its end."""
+    with Server() as server:
+        recorder, size = Recorder(server.place), 20000000
+        with connected(recorder.place) as slow:
+            slow.sendall(b"big %d\r\n" % size)
+            has_size("my.replies.spool", 100000)
+            same("the end with a slow reader", 0, recorder.end()[0])
+        same("what a slow reader leaves", {(0, 0): big(size)}, files_of()[1])
+
+
 def closed_errors():
     """Standard error is closed, or its reader has gone: all is recorded."""
     with Server() as server:
@@ -399,7 +410,7 @@ def before_it_begins():
     says("a folder that isn't there", "none/my.cap: No such file or directory", "none/my.cap", "my.replies")
     says("another one", "none/my.replies: No such file or directory", "my.cap", "none/my.replies")
     says("a folder", ".: Is a directory", "my.cap", ".")
-    says("one file twice", "my.cap: both files cannot be this one", "my.cap", "./my.cap".replace("./", ""))
+    says("one file twice", "my.cap: both files cannot be this one", "my.cap", "my.cap")
     with open("my.cap", "wb") as file:
         file.write(b"old")
     with Server() as server:
@@ -462,5 +473,5 @@ def real_memcached():
 
 if __name__ == "__main__":
     all_of(before_it_begins, several_clients, no_client, two_hundred, other_sockets, later_sessions, few_files,
-           standard_output, gives_up, half_closed, slow_reader, binary, server_restarts, signals, closed_errors, killed, full,
-           terminal, real_memcached)
+           standard_output, gives_up, half_closed, slow_reader, binary, server_restarts, signals,
+           ends_with_a_slow_reader, closed_errors, killed, full, terminal, real_memcached)

@@ -35,10 +35,10 @@ class Proxy:
         self.recording, self.server, self.addresses, self.most = recording, server, addresses, most
         self.screen, self.selector = screen, selectors.DefaultSelector()
         self.listening, self.links, self.dials, self.later = [], set(), set(), []
-        self.turned_away = self.refused = self.signals = 0  # for the server is not there; for there is no number
-        self.room = (resource.getrlimit(resource.RLIMIT_NOFILE)[0] - OTHERS) // 2
+        self.turned_away = self.refused = 0  # for the server is not there; for there is no number
+        self.room = max(1, (resource.getrlimit(resource.RLIMIT_NOFILE)[0] - OTHERS) // 2)
         self.now = self.last = time.monotonic()
-        self.ending, self.is_crowded = None, False
+        self.ending, self.is_crowded, self.is_signalled, self.is_hurried = None, False, False, False
 
     # ---- clients
 
@@ -178,7 +178,7 @@ class Proxy:
                 key.data(key.fileobj, events)
             self.now = time.monotonic()
             is_enough = self.most is not None and self.recording.done >= self.most
-            if self.signals or self.recording.fault or is_enough:
+            if self.is_signalled or self.recording.fault or is_enough:
                 self.end()
             if self.now >= look:
                 look = self.now + LOOK
@@ -204,12 +204,14 @@ class Proxy:
                 f" {one.sent_bytes} bytes sent, {one.answered_bytes} bytes back")
 
     def signal(self, one, _):
-        """Signals came: the first begins the end, and a later one ends at once."""
-        self.signals += len(one.recv(64))
+        """Signals came: they begin the end and, if they come later, end at once."""
+        one.recv(64)
+        self.is_signalled = True
+        self.is_hurried = self.ending is not None and self.now > self.ending + QUIET
 
     def end(self):
         """Takes nothing more of clients; answers to what they sent are waited for."""
-        if self.ending:
+        if self.ending is not None:
             return
         self.ending = self.now
         self.later = []
@@ -225,8 +227,15 @@ class Proxy:
 
     def is_done(self):
         """Whether all has come, or enough was waited for it."""
-        if not self.ending:
+        if self.ending is None:
             return False
-        quiet = OWED if self.recording.owed else QUIET
-        is_late = self.now > max(self.ending, self.last) + quiet or self.now > self.ending + LONGEST
-        return not self.links or is_late or self.signals > 1
+        if not self.links or self.is_hurried or self.now > self.ending + LONGEST:
+            return True
+        if self.now < max(self.ending, self.last) + (OWED if self.recording.owed else QUIET):
+            return False
+        slow = [link for link in self.links if link.down.waiting]
+        for link in slow:  # these do not take their answers, which are recorded without them
+            link.down.lose()
+            self.settle(link)
+        self.last = self.now
+        return not slow
