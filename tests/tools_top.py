@@ -14,8 +14,8 @@ sys.dont_write_bytecode = True
 sys.path.insert(0, os.path.join(TOP, "tools"))
 import drawn
 import reports
-from formats import (Call, Close, Entry, Hold, Part, Reply, capture, close, journal, read_capture, read_journal, replies,
-                     segment, shown)
+from formats import (Call, Close, Entry, Hold, Part, Reply, capture, close, journal, read_capture, read_journal,
+                     replies, segment, shown)
 from model import commands_of
 
 failures = []
@@ -73,7 +73,8 @@ home cores, of 4
          0   0.0 %     0            0  3
 """
 SENT = capture(130, [
-    segment(2, b"set a 0 0 3\r\nx"), segment(129, b"get a b\x01\r\n"), segment(2, b"yz\r\nget a\r\n\r\nget b\x01\r\nms b\x01 2\r\n12\r\n"),
+    segment(2, b"set a 0 0 3\r\nx"), segment(129, b"get a b\x01\r\n"),
+    segment(2, b"yz\r\nget a\r\n\r\nget b\x01\r\nms b\x01 2\r\n12\r\n"),
     segment(129, b"set c 0 0 0 noreply\r\n\r\nget c"), close(129), segment(129, b"quit\r\nget a\r\n")], 2)
 MADE = [Entry(1, 0, 0, 0, 0, Call("get", b"b"), Reply("miss")),
         Entry(2, 0, 1, 0, 0, Call("set", b"a", 0, value=b"v" * 20), Reply("stored")),
@@ -89,7 +90,8 @@ def same(name, wanted, got):
 
 
 def run(*words, given=b""):
-    ran = subprocess.run([os.path.join(TOP, "tools/top"), *words], input=given, capture_output=True, timeout=300, check=False)
+    ran = subprocess.run([os.path.join(TOP, "tools/top"), *words], input=given, capture_output=True, timeout=300,
+                         check=False)
     return ran.returncode, ran.stdout.decode(), ran.stderr.decode()
 
 
@@ -106,13 +108,16 @@ def prints():
 def faults():
     """What was counted before a fault is printed; other cores than there were, and unknown words."""
     cut = journal(MADE, HELD)[:-1]
-    same("a journal that is cut off", (1, JOURNAL, f"tools/top: standard input: journal: truncated at {len(cut)}\n"), run(given=cut))
-    same("fewer cores than were seen", (1, "", "tools/top: standard input: journal: core 2 has holds, so there were more "
-                                                "than 2 cores\n"), run("--cores", "2", given=journal(MADE, HELD)))
+    begun = "tools/top: standard input"
+    same("a journal that is cut off", (1, JOURNAL, f"{begun}: journal: truncated at {len(cut)}\n"), run(given=cut))
+    same("fewer cores than were seen",
+         (1, "", f"{begun}: journal: core 2 has holds, so there were more than 2 cores\n"),
+         run("--cores", "2", given=journal(MADE, HELD)))
     lines = run(given=journal([], [Hold(1, 6, 5)]))[1].split("\n")
-    same("cores that are not given", ["home cores are left out: --cores is not given, and core 6 has commands", ""], lines[-2:])
+    same("cores that are not given", "home cores are left out: --cores is not given, and core 6 has commands",
+         lines[-2])
     same("and no home", "         5  100.0 %     -  1", lines[-4])
-    same("no file to count", (1, "", "tools/top: standard input: no capture or journal in it\n"), run(given=replies([b""])))
+    same("no file to count", (1, "", f"{begun}: no capture or journal in it\n"), run(given=replies([b""])))
     for words, line in ((["--first", "0"], "--first takes a number of 1 or more, not 0"),
                         (["--cores", "65"], "--cores takes a number from 1 to 64, not 65"),
                         (["--what"], "no such option: --what; --help lists them")):
