@@ -16,7 +16,7 @@ use Rattle.zy_home.specs.Place.{ComesTo, Forwards, SameHand, Settles}
 use Rattle.zy_home.specs.Turn.{IsFed, IsPlace, IsUnfed, Turns, turned}
 use Rattle.zy_home.proofs.OwnLemmas.{own_is, own_rises, conn_at, rising_apart}
 use Rattle.zy_home.proofs.TurnLemmas.{turned_more}
-use Rattle.zy_home.proofs.SettleLemmas.{Stepped, stepped, settles, same_hand, fed_link, fed_place, fed_slot, fed_step, unfed_step}
+use Rattle.zy_home.proofs.SettleLemmas.{Stepped, stepped, settles, same_hand, fed_link, fed_slot, fed_step, unfed_step}
 
 -- ---- what an item does to the sessions of a connection
 
