@@ -35,6 +35,7 @@ use crate::threads::seat::Seat;
 use crate::threads::tending::How;
 use std::alloc::Global;
 use std::sync::Wait;
+use std::sync::atomic::AtomicU64;
 use std::thread::Threads;
 use zy_base::{Gate, NoMemory};
 use zy_core::{Core, Cores, Shared};
@@ -128,7 +129,8 @@ pub fn drive_groups<R: Threads + Wait + Sync, F: Feeder, G: Gate + Sync>(
         }
     };
     deal(items, &mut room.groups);
-    let driving = Driving::new(rt, shared, bells, gate);
+    let leave = AtomicU64::new(0);
+    let driving = Driving::new(rt, shared, bells, gate, &leave);
     let lent = Lent { feeder };
     let (lent, ran) = in_scope(&driving, first, room, resters, root, lent);
     let Lent { feeder } = lent;

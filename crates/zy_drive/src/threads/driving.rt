@@ -22,18 +22,19 @@ pub(crate) struct Driving<'s, R, G> {
     pub(crate) shared: &'s Shared,
     pub(crate) bells: &'s Bells,
     pub(crate) gate: &'s G,
-    leave: AtomicU64,
+    pub(crate) leave: &'s AtomicU64,
     ghost count: { length bells.now ≡ length shared.now.rings },
     ghost few: { length bells.now ≤ 64 },
 }
 
 impl<'s, R, G> Driving<'s, R, G> {
-    // No group is to leave.
+    // These, with the word that has a bit for each group.
     pub(crate) fn new(
         rt: &'s R,
         shared: &'s Shared,
         bells: &'s Bells,
         gate: &'s G,
+        leave: &'s AtomicU64,
     ) -> Driving<'s, R, G>
         requires count { length bells.now ≡ length shared.now.rings }
         requires few { length bells.now ≤ 64 }
@@ -45,7 +46,7 @@ impl<'s, R, G> Driving<'s, R, G> {
             shared,
             bells,
             gate,
-            leave: AtomicU64::new(0),
+            leave,
         }
     }
 

@@ -74,7 +74,7 @@ pub(crate) fn in_scope<R: Threads + Wait + Sync, W: Feeder + Drop, G: Gate + Syn
 // waits for the threads.
 fn run<'s, E, R: Threads + Wait + Sync, F: Feeder, G: Gate + Sync>(
     scope: &Scope<'s, E>,
-    driving: &'s Driving<'s, R, G>,
+    driving: &Driving<'s, R, G>,
     first: FirstGroup,
     room: Room<Core, Seat>,
     resters: Resters,

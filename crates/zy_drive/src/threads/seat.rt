@@ -1,5 +1,5 @@
 //! Where a group of cores is.
-ghost use Rattle.std.specs.Prelude.{◌≡◌, true};
+ghost use Rattle.std.specs.Prelude.{◌≡◌, ◌≤◌, true, length};
 ghost use Rattle.zy_core.specs.Cores.{identities, EachFits, EachSettled};
 ghost use Rattle.zy_drive.specs.Group.{CanRest};
 ghost use Rattle.zy_drive.specs.Seat.{seat_identities};
@@ -38,7 +38,7 @@ pub(crate) enum Seat {
 // a thread is started.
 pub(crate) fn seat_group<'s, E, R: Wait + Sync, G: Gate + Sync>(
     scope: &Scope<'s, E>,
-    driving: &'s Driving<'s, R, G>,
+    driving: &Driving<'s, R, G>,
     first: FirstGroup,
     group: Group,
     rester: Option<Rester>,
@@ -59,7 +59,7 @@ pub(crate) fn seat_group<'s, E, R: Wait + Sync, G: Gate + Sync>(
 // and the group is with the caller.
 fn start_group<'s, E, R: Wait + Sync, G: Gate + Sync>(
     scope: &Scope<'s, E>,
-    driving: &'s Driving<'s, R, G>,
+    driving: &Driving<'s, R, G>,
     group: Group,
     rester: Option<Rester>,
     bit: u64,
@@ -69,13 +69,24 @@ fn start_group<'s, E, R: Wait + Sync, G: Gate + Sync>(
     ensures same { seat_identities result ≡ identities group.cores }
 {
     let before = Snapshot::of(&group);
+    // The thread has its own struct: a clause of a closure that holds one with a lifetime is lost.
+    let &Driving {
+        rt,
+        shared,
+        bells,
+        gate,
+        leave,
+    } = driving;
     match scope.spawn_with(
         Keeps { before },
         move || -> Group
-            requires { EachFits driving.now.shared.now (identities group.cores)
-                × CanRest driving.now.bells.now (identities group.cores) rester }
+            requires { EachFits shared.now (identities group.cores) × CanRest bells.now (identities group.cores) rester
+                × (length bells.now ≡ length shared.now.rings) × (length bells.now ≤ 64) }
             ensures same { identities result.cores ≡ identities group.cores }
-        { drive_group(driving, group, rester, bit) },
+        {
+            let driving = Driving::new(rt, shared, bells, gate, leave);
+            drive_group(&driving, group, rester, bit)
+        },
     ) {
         Ok(handle) => Seat::Away(handle),
         Err(refused) => {

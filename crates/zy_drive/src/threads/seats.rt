@@ -18,7 +18,7 @@ use zy_core::Core;
 // pass.
 pub(crate) fn start_all<'s, E, R: Wait + Sync, G: Gate + Sync>(
     scope: &Scope<'s, E>,
-    driving: &'s Driving<'s, R, G>,
+    driving: &Driving<'s, R, G>,
     first: FirstGroup,
     groups: Vec<Vec<Core>>,
     resters: Resters,

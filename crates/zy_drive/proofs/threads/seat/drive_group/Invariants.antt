@@ -7,5 +7,5 @@ abbrev pub invariant-loop : goal.invariant-loop
 invariant-loop g l =
     (goal.iterator-loop g).can_next l.iterator' × (goal.iterator-loop g).is_finite l.iterator'
     × (identities l.group.cores ≡ identities l.fn.group.cores)
-    × (l.watch.table ≡ l.fn.driving.shared.control.id)
-    × CanRest l.fn.driving.bells (identities l.fn.group.cores) l.rester
+    × (l.watch.table ≡ l.fn.driving.shared.now.control.id)
+    × CanRest l.fn.driving.bells.now (identities l.fn.group.cores) l.rester
