@@ -6,19 +6,14 @@ usage: tests/tools_top.py     (run by tools/test)
 import os
 import random
 import subprocess
-import sys
 from collections import Counter
 
-TOP = os.path.dirname(os.path.dirname(os.path.realpath(__file__)))
-sys.dont_write_bytecode = True
-sys.path.insert(0, os.path.join(TOP, "tools"))
+from traffic import TOP, all_of, same
 import drawn
 import reports
 from formats import (Call, Close, Entry, Hold, Part, Reply, capture, close, journal, read_capture, read_journal,
                      replies, segment, shown)
 from model import commands_of
-
-failures = []
 
 CAPTURE = """\
 capture: 7 commands, 2 connections, 3 keys
@@ -81,12 +76,6 @@ MADE = [Entry(1, 0, 0, 0, 0, Call("get", b"b"), Reply("miss")),
         Entry(3, 0, 1, 1, 0, Call("get", b"a"), Reply("hit", 0, 1, b"x")),
         Entry(4, 0, 1, 2, 0, Call("get", b"a"), Reply("miss")), Entry(5, 0, 1, 3, 0, Call("flush"), Reply("flushed"))]
 HELD = [Hold(0, 2, 1), Hold(1, 1, 3), Hold(1, 2, 2)]
-
-
-def same(name, wanted, got):
-    if wanted != got:
-        failures.append(name)
-        print(f"tests/tools_top.py: {name}: wanted {wanted!r}, got {got!r}")
 
 
 def run(*words, given=b""):
@@ -174,12 +163,5 @@ def drawn_journals():
             same(f"journal {number}", True, line in run("--cores", "64", given=text)[1].split("\n"))
 
 
-def main():
-    for part in (prints, faults, drawn_captures, drawn_journals):
-        part()
-    print(f"tests/tools_top.py: {len(failures)} failed" if failures else "tests/tools_top.py: ok")
-    sys.exit(1 if failures else 0)
-
-
 if __name__ == "__main__":
-    main()
+    all_of(prints, faults, drawn_captures, drawn_journals)
