@@ -20,11 +20,11 @@ IsNoRetrieval Stats = ⊥
 IsNoRetrieval command = ⊤
 
 -- a space and a number, in front of a text
-abbrev pub number_after : ℕ → List ℕ → List ℕ
-number_after number text = codes " " ++ decimal number ++ text
+abbrev pub spaced_number : ℕ → List ℕ → List ℕ
+spaced_number number text = codes " " ++ decimal number ++ text
 
 -- what is after the key in the first line of an item, whose value has `count` bytes
 abbrev pub numbers_text : Bool → ℕ → ℕ → ℕ → List ℕ
 numbers_text true flags count unique =
-    number_after flags (number_after count (number_after unique line_end))
-numbers_text false flags count unique = number_after flags (number_after count line_end)
+    spaced_number flags (spaced_number count (spaced_number unique line_end))
+numbers_text false flags count unique = spaced_number flags (spaced_number count line_end)

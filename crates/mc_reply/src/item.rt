@@ -1,7 +1,7 @@
 //! The lines of an item.
 ghost use Rattle.std.specs.Prelude.{◌≡◌, ◌≤◌, ◌+◌, ◌++◌, length, drop, codes, decimal};
 ghost use Rattle.mc_reply.specs.Text.{item_text};
-ghost use Rattle.mc_reply.specs.Shape.{numbers_text, number_after};
+ghost use Rattle.mc_reply.specs.Shape.{numbers_text, spaced_number};
 
 use crate::lines::LINE_END;
 use itoa::write_digits;
@@ -53,7 +53,7 @@ fn put_numbers(out: &mut Reserved, asked: bool, flags: u32, count: usize, unique
 fn put_before(room: &mut [u8], end: usize, number: u64) -> usize
     requires fits { 21 ≤ end }
     requires within { end ≤ length room.old }
-    ensures value { drop result room.new ≡ number_after number (drop end room.old) }
+    ensures value { drop result room.new ≡ spaced_number number (drop end room.old) }
     ensures length { length room.new ≡ length room.old }
     ensures start { end ≤ result + 21 }
     ensures before { result ≤ end }

@@ -70,7 +70,7 @@ impl PartialEq for Hashed {
     ghost laws = { partial_equiv_from_equiv (eq_by_cmp_equiv hashed_total) };
 
     fn eq(&self, other: &Hashed) -> bool {
-        matches!(self.cmp(other), Ordering::Equal)
+        self.hash == other.hash && self.key == other.key
     }
 }
 

@@ -1,6 +1,6 @@
 -- The text made for an output, and the output that was found.
 use Rattle.std.proofs.Common.{◌≡◌, ℕ, ◌+◌, ◌<◌, ◌≤◌, List, [], ◌∷◌, ◌++◌, length, take, drop, Option, None, Some, refl, sym, ap, ◌∙◌, arith}
-use Rattle.std.proofs.lemmas.List.{append-nil, append_assoc, length-append, length-take-le, length-drop, take_all, take-append-drop}
+use Rattle.std.proofs.lemmas.List.{append-nil, append_assoc, length-append, length-take-le, length-drop, take-append-drop}
 use Rattle.zy_check.specs.Cause.{agreeing}
 use Rattle.zy_check.specs.Comparing.{HasFirst, IsOther, AddedTo, EndedWith}
 use Rattle.zy_check.proofs.ByteLemmas.{agreeing_few, agreeing_short, agreeing_all, agreeing_behind, agreeing_differs, agreeing_differs_first}

@@ -10,7 +10,7 @@ use Rattle.zy_run.specs.Output.{output, outputs_of}
 use Rattle.zy_run.proofs.OutputLemmas.{length-outputs_of, outputs_of-at}
 use Rattle.zy_check.specs.Given.{Given, found_output, due_output, IsOutput}
 use Rattle.zy_check.specs.Cause.{agreeing_in, ComesBefore, IsComplete, IsWrongOutput}
-use Rattle.zy_check.specs.Output.{IsDiffering, FoundDiffering}
+use Rattle.zy_check.specs.Output.{IsDiffering}
 
 -- ---- one output
 

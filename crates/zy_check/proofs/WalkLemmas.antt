@@ -19,7 +19,7 @@ use Rattle.mc_parse.proofs.CallLemmas.{due_within}
 use Rattle.mc_shard.specs.Replay.{Replayed, replaying, state_replayed}
 use Rattle.zy_run.specs.Commands.{commands_held}
 use Rattle.zy_check.specs.Given.{Given, due_in, IsNext, IsNextAt, IsAnswered, IsAnsweredAt, AreRightBelow}
-use Rattle.zy_check.specs.Cause.{IsNotNext, IsWrongReply}
+use Rattle.zy_check.specs.Cause.{IsWrongReply}
 use Rattle.zy_check.specs.Walk.{AreReplayed}
 use Rattle.zy_check.proofs.DueLemmas.{asked_at}
 

@@ -5,6 +5,7 @@ ghost use Rattle.zy_conn.specs.declared.begun.Begun.TheVariants.{Raw, Going};
 
 use mc_parse::Command;
 use std::alloc::Global;
+use std::mem;
 use zy_base::NoMemory;
 use zy_frame::{Frame, meaning};
 
@@ -41,6 +42,6 @@ impl Begun {
     pub(crate) fn put(&mut self, begun: Begun)
         ensures value { self.new ≡ begun }
     {
-        *self = begun;
+        drop(mem::replace(self, begun));
     }
 }

@@ -1,5 +1,5 @@
 -- What a home keeps while it cuts items, and while it settles the blocks that these touched.
-use Rattle.std.specs.Prelude.{◌||◌, ◌==◌, map, is_some}
+use Rattle.std.specs.Prelude.{◌||◌, ◌==◌}
 use Rattle.std.proofs.Common.{◌≡◌, ◌≢◌, ℕ, ◌+◌, ◌<◌, ◌≤◌, List, [], ◌∷◌, ◌++◌, length, drop, set, get_or, Bool, true, false, Option, Some, None, slice_get, refl, sym, ap, ◌∙◌, subst, arith, append_assoc, append-nil, length-append, length-set}
 use Rattle.std.specs.List.{slice_index_or}
 use Rattle.std.proofs.lemmas.List.{drop_more}
@@ -10,18 +10,17 @@ use Rattle.zy_table.proofs.MemberLemmas.{in_cons, in_front, in_more}
 use Rattle.zy_table.proofs.SliceLemmas.{get_at, get_below, get_set_else, get_set_same, set_there}
 use Rattle.zy_rx.specs.declared.rx.Rx.{Rx}
 use Rattle.zy_rx.specs.Ring.{Taking}
-use Rattle.zy_rx.specs.declared.rx.Rx.TheVariants.{Segment, Close, End}
 use Rattle.zy_shuffle.specs.Hand.{marked}
-use Rattle.zy_shuffle.specs.Pass.{Held, after_publish}
-use Rattle.zy_conn.specs.Work.{Mark, Worked}
+use Rattle.zy_shuffle.specs.Pass.{Held}
+use Rattle.zy_conn.specs.Work.{Mark}
 use Rattle.zy_conn.specs.Block.{Blocked}
 use Rattle.zy_home.specs.Link.{Link, IsFor, TakesIn, StandsOn, conn_of}
 use Rattle.zy_home.specs.Offer.{WaitsFull}
 use Rattle.zy_home.specs.Own.{IsOfOthers, item_conn, is_end}
 use Rattle.zy_home.specs.Idle.{IsIdle, due_mark, mark_in}
-use Rattle.zy_home.specs.Home.{Homed, Keeps, HomeStands, SameHome, StandsHome, StandsMore, IsAt, IsHere, conns_in}
+use Rattle.zy_home.specs.Home.{Homed, Keeps, HomeStands, StandsMore, IsAt}
 use Rattle.zy_home.specs.Place.{ComesTo, SameHand}
-use Rattle.zy_home.specs.Items.{CutsOne, CutsEach, ReceivesAll, RefusedAmid, SameFor, SameParts, SettlesEach, StandsAll}
+use Rattle.zy_home.specs.Items.{CutsOne, CutsEach, ReceivesAll, RefusedAmid, SameFor, SameParts, StandsAll}
 use Rattle.zy_home.specs.Turn.{IsDue, IsSettled, IsPutBack, Turns, turned}
 use Rattle.zy_home.specs.Between.{IsBetween, Between, StaysIdle, CutsIn, CutsAll, CutsFrom, SettlesIn, SettlesOn}
 use Rattle.zy_home.proofs.TurnLemmas.{at_else, turned_conns, turned_keeps, turned_stands}

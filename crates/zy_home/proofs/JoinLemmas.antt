@@ -1,9 +1,7 @@
 -- What a home keeps when a block comes into its hand, or when its pass only looked.
-use Rattle.std.specs.Prelude.{is_some, ◌&&◌}
-use Rattle.std.proofs.Common.{◌≡◌, ◌≢◌, ℕ, zero, suc, ◌+◌, ◌<◌, List, [], ◌∷◌, length, set, Bool, true, false, Option, Some, None, slice_get, refl, sym, ap, ◌∙◌, subst, arith}
+use Rattle.std.proofs.Common.{◌≡◌, ℕ, zero, suc, ◌<◌, List, [], ◌∷◌, length, set, true, false, Option, Some, None, slice_get, refl, sym, ap, ◌∙◌, subst, arith}
 use mathlib.Core.Logic.{dite}
 use native.Mathlib.Decide.{ℕ_discrete}
-use Rattle.std.proofs.lemmas.Option.{slice_get-get_or}
 use Rattle.zy_table.specs.Member.{is_in}
 use Rattle.zy_table.proofs.SliceLemmas.{set_there}
 use Rattle.zy_table.proofs.MemberLemmas.{in_cons, in_front}
@@ -13,7 +11,7 @@ use Rattle.zy_shuffle.proofs.HandLemmas.{marked_else}
 use Rattle.zy_conn.specs.Block.{Blocked, label_in}
 use Rattle.zy_home.specs.Link.{Link}
 use Rattle.zy_home.specs.Idle.{due_mark, mark_in}
-use Rattle.zy_home.specs.Home.{Homed, Keeps, SameHome, IsAt, all_here}
+use Rattle.zy_home.specs.Home.{Homed, Keeps, IsAt, all_here}
 use Rattle.zy_home.specs.Place.{IsOut, with_pass}
 use Rattle.zy_home.specs.Turn.{Turns}
 use Rattle.zy_home.proofs.TurnLemmas.{at_else, turned_keeps}

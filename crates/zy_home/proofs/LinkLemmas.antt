@@ -1,17 +1,14 @@
 -- What a connection may have received, once it took an item in.
-use Rattle.std.specs.Prelude.{◌==◌, if◌then◌else◌, flat_map}
-use Rattle.std.proofs.Common.{◌≡◌, ℕ, ◌+◌, ◌-◌, List, [], ◌∷◌, ◌++◌, length, Bool, true, false, refl, sym, ap, ◌∙◌, subst, arith, append_assoc, append-nil, length-append, eq-eqb}
+use Rattle.std.specs.Prelude.{flat_map}
+use Rattle.std.proofs.Common.{◌≡◌, ℕ, ◌+◌, List, [], ◌∷◌, ◌++◌, length, refl, sym, ap, ◌∙◌, arith, append_assoc, append-nil, length-append}
 use Rattle.std.proofs.lemmas.Grind.{flat_map-append}
 use Rattle.zy_frame.specs.declared.frame_kind.FrameKind.{FrameKind}
 use Rattle.zy_frame.specs.Cut.{frames_of}
 use Rattle.zy_frame.specs.Progress.{StandsFor}
-use Rattle.zy_frame.specs.Feed.{Appends}
 use Rattle.zy_frame.proofs.CutLaws.{frames_of_nil}
-use Rattle.zy_rx.specs.declared.rx.Rx.{Rx}
-use Rattle.zy_rx.specs.declared.rx.Rx.TheVariants.{Segment, Close}
-use Rattle.zy_rx.specs.Session.{Sessions, no_sessions, with_bytes, with_close, takes_in, streams_of}
+use Rattle.zy_rx.specs.Session.{Sessions, no_sessions, with_close, streams_of}
 use Rattle.zy_conn.specs.Ring.{EventInlet}
-use Rattle.zy_home.specs.Link.{Link, LinkStands, IsFresh, conn_of, frames_in, ends_from}
+use Rattle.zy_home.specs.Link.{Link, LinkStands, IsFresh, frames_in, ends_from}
 
 -- ---- frames of sessions
 

@@ -1,14 +1,14 @@
 -- A home that is made of its parts keeps its rule, and has received nothing.
 use Rattle.std.specs.Prelude.{map, option_map, take}
 use Rattle.std.specs.List.{AllByRecursion}
-use Rattle.std.proofs.Common.{◌≡◌, ℕ, zero, suc, ◌+◌, ◌<◌, ◌≤◌, List, [], ◌∷◌, ◌++◌, length, Bool, true, false, Option, Some, None, slice_get, refl, sym, ap, ◌∙◌, subst, arith}
+use Rattle.std.proofs.Common.{◌≡◌, ℕ, zero, suc, ◌<◌, ◌≤◌, List, [], ◌∷◌, ◌++◌, length, true, false, Option, Some, slice_get, refl, sym, ap, ◌∙◌, subst, arith}
 use Rattle.std.proofs.lemmas.List.{length-map}
 use Rattle.std.proofs.lemmas.Option.{slice_get-map}
 use Rattle.zy_table.specs.Member.{is_in}
 use Rattle.zy_table.specs.declared.name.Name.{Name}
 use Rattle.zy_table.proofs.SliceLemmas.{get_below}
 use Rattle.zy_rx.specs.Ring.{RingName}
-use Rattle.zy_shuffle.specs.Pass.{Held, HasAll}
+use Rattle.zy_shuffle.specs.Pass.{Held}
 use Rattle.zy_conn.specs.Ring.{EventInlet}
 use Rattle.zy_conn.specs.Work.{texts_all, texts_taken}
 use Rattle.zy_calls.specs.Output.{Output}
@@ -17,7 +17,6 @@ use Rattle.zy_conn.specs.Block.{Blocked, label_in}
 use Rattle.zy_home.specs.Link.{Link, IsFresh, conn_of}
 use Rattle.zy_home.proofs.LinkLemmas.{stands_fresh}
 use Rattle.zy_home.specs.Own.{own_conns}
-use Rattle.zy_home.specs.End.{blocks_in}
 use Rattle.zy_home.specs.Parts.{AreParts, AreFresh, IsNew, IsUnused, conns_of_blocks, rings_of_blocks, rings_of_inlets}
 use Rattle.zy_home.specs.declared.parts.HomeParts.{HomeParts}
 use Rattle.zy_home.specs.Home.{Homed, HomeStands, Keeps, IsAt, conns_in}

@@ -1,6 +1,6 @@
 -- What a home may have received, and what it did, once it took an item in or dropped it.
-use Rattle.std.specs.Prelude.{◌==◌, ◌||◌, if◌then◌else◌}
-use Rattle.std.proofs.Common.{◌≡◌, ◌≢◌, ℕ, List, [], ◌∷◌, ◌++◌, set, get_or, Bool, true, false, Option, Some, None, slice_get, refl, sym, ap, ◌∙◌, subst, eq-eqb, ne_eqb}
+use Rattle.std.specs.Prelude.{◌==◌, if◌then◌else◌}
+use Rattle.std.proofs.Common.{◌≡◌, ◌≢◌, ℕ, List, [], ◌∷◌, ◌++◌, set, get_or, Bool, true, false, Option, Some, None, slice_get, refl, sym, ap, ◌∙◌, subst, ne_eqb}
 use Rattle.zy_table.proofs.SliceLemmas.{set_there, get_set_same}
 use Rattle.zy_rx.specs.declared.rx.Rx.{Rx}
 use Rattle.zy_rx.specs.declared.rx.Rx.TheVariants.{Segment, Close, End}
@@ -11,9 +11,9 @@ use Rattle.zy_conn.specs.Block.{Blocked}
 use Rattle.zy_home.specs.Link.{Link, LinkStands, IsFor, TakesIn, conn_of}
 use Rattle.zy_home.specs.Offer.{WaitsFull}
 use Rattle.zy_home.specs.Own.{IsOwn, IsOfOthers, IsRising, item_conn, is_end}
-use Rattle.zy_home.specs.Home.{Homed, Keeps, HomeStands, SameHome, StandsMore, conns_in}
+use Rattle.zy_home.specs.Home.{Homed, Keeps, SameHome, StandsMore, conns_in}
 use Rattle.zy_home.specs.Place.{ComesTo, Forwards, SameHand, Settles}
-use Rattle.zy_home.specs.Turn.{IsFed, IsPlace, IsUnfed, Turns, turned}
+use Rattle.zy_home.specs.Turn.{IsFed, IsUnfed, Turns, turned}
 use Rattle.zy_home.proofs.OwnLemmas.{own_is, own_rises, conn_at, rising_apart}
 use Rattle.zy_home.proofs.TurnLemmas.{turned_more}
 use Rattle.zy_home.proofs.SettleLemmas.{Stepped, stepped, settles, same_hand, fed_link, fed_slot, fed_step, unfed_step}

@@ -1,7 +1,7 @@
 -- That a block which is settled or put back, and an item that is taken in, are steps of a home.
 use Rattle.std.specs.Prelude.{map, is_some}
-use Rattle.std.proofs.Common.{◌≡◌, ◌≢◌, ℕ, zero, suc, ◌+◌, ◌≤◌, List, [], ◌∷◌, set, get_or, length, Bool, true, false, Option, Some, None, slice_get, refl, sym, ap, ◌∙◌, subst, arith}
-use Rattle.zy_table.specs.Member.{is_in, without}
+use Rattle.std.proofs.Common.{◌≡◌, ℕ, zero, suc, List, [], ◌∷◌, set, get_or, Bool, true, false, Option, Some, None, slice_get, refl, sym, ap, ◌∙◌, subst, arith}
+use Rattle.zy_table.specs.Member.{is_in}
 use Rattle.zy_table.proofs.MemberLemmas.{in_without}
 use Rattle.zy_table.proofs.SliceLemmas.{get_at, get_below, get_set_same}
 use Rattle.zy_shuffle.specs.Hand.{marked}
@@ -13,9 +13,9 @@ use Rattle.zy_conn.specs.Block.{Blocked, label_in}
 use Rattle.zy_home.specs.Link.{Link, StandsOn, conn_of}
 use Rattle.zy_home.specs.Offer.{WaitsBehind, WaitsFull}
 use Rattle.zy_home.specs.Idle.{IsIdle, due_mark, mark_in}
-use Rattle.zy_home.specs.Home.{Homed, Keeps, SameHome, StandsHome, IsAt, IsHere}
-use Rattle.zy_home.specs.Place.{IsOut, KnowsAll, Settles, PutsBack, SameHand}
-use Rattle.zy_home.specs.Turn.{IsDue, IsSettled, IsPutBack, IsPlace, IsFed, IsUnfed, PassTurns, Turns, turned}
+use Rattle.zy_home.specs.Home.{Homed, Keeps, SameHome, StandsHome, IsAt}
+use Rattle.zy_home.specs.Place.{IsOut, KnowsAll, Settles, SameHand}
+use Rattle.zy_home.specs.Turn.{IsSettled, IsPutBack, IsFed, IsUnfed, PassTurns, Turns, turned}
 use Rattle.zy_home.proofs.TurnLemmas.{turned_keeps, turned_same, turned_stands}
 
 -- ---- passes
