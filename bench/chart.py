@@ -3,7 +3,7 @@ import html
 import math
 from dataclasses import dataclass, field
 
-WIDTH, HEIGHT, LEFT, RIGHT, BELOW = 800, 430, 84, 256, 92
+WIDTH, HEIGHT, LEFT, RIGHT, BELOW = 820, 430, 84, 276, 92
 BLUE, ORANGE, GREEN, GOLD, GRAY, PURPLE = "#1f5fa8", "#c0501f", "#3a8a3a", "#b8860b", "#6f6f6f", "#7b3fa0"
 
 
