@@ -21,12 +21,6 @@ pub alone_first : (n : ℕ) (cs : List Cored) (c : Cored) → IsAlone n (identit
 alone_first n [] c alone is = absurd (cc)
 alone_first n (x ∷ xs) c alone is = let here : x.home.core ≡ n = cc in sym here ∙ ap (λ (y : Cored). y.home.core) (sym is)
 
--- one core with this number is alone
-pub is_alone : (n : ℕ) (cs : List Cored) (c : Cored) → length cs ≡ 1 → c ≡ get_or cs 0 c → c.home.core ≡ n → IsAlone n (identities cs)
-is_alone n [] c one is number = absurd (cc)
-is_alone n (x ∷ []) c one is number = ap (λ k. k ∷ []) (ap (λ (y : Cored). y.home.core) (sym is) ∙ number)
-is_alone n (x ∷ (y ∷ ys)) c one is number = absurd (omega arith)
-
 -- ---- passes
 
 -- a nap leaves the pass at its bells, and of its core
@@ -39,12 +33,3 @@ rested_same number Rested p = (refl, refl)
 pub at_last : (bells : Bells) (ps : List Passed) (p : Passed) → AllAt bells ps → p.bells ≡ bells → AllAt bells (ps ++ p ∷ [])
 at_last bells [] p all here = (here, tt)
 at_last bells (x ∷ xs) p all here = (all.0, at_last bells xs p all.1 here)
-
--- the first pass, and those after it
-pub at_first : (bells : Bells) (ps : List Passed) (p : Passed) → 0 < length ps → p ≡ get_or ps 0 p → AllAt bells ps → p.bells ≡ bells
-at_first bells [] p some is all = absurd (omega arith)
-at_first bells (x ∷ xs) p some is all = ap (λ (y : Passed). y.bells) is ∙ all.0
-
-pub at_rest : (bells : Bells) (ps qs : List Passed) → qs ≡ remove ps 0 → AllAt bells ps → AllAt bells qs
-at_rest bells [] qs is all = subst (AllAt bells) (sym is) tt
-at_rest bells (x ∷ xs) qs is all = subst (AllAt bells) (sym is) all.1

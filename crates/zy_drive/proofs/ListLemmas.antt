@@ -23,9 +23,3 @@ module _ {C D : Type 0} (f : C → D) where
   map_set [] i c d at e = refl
   map_set (x ∷ xs) zero c d at e = let is : x ≡ c = cc in ap (λ y. y ∷ map f xs) (e ∙ ap f (sym is))
   map_set (x ∷ xs) (suc i) c d at e = ap (λ l. f x ∷ l) (map_set xs i c d at e)
-
--- a member is changed, and a property of each stays true
-pub each_set : {C : Type 0} (P : C → Type 0) (cs : List C) (i : ℕ) (d : C) → Each P cs → P d → Each P (set cs i d)
-each_set P cs i d all here j c at = dite (ℕ_discrete j i)
-    (λ same. let is = get_set_same cs i d c (ap (slice_get (set cs i d)) (sym same) ∙ at) in subst P is here)
-    (λ ne. all j c (sym (get_set_else cs i j d ne) ∙ at))
