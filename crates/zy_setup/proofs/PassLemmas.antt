@@ -39,7 +39,6 @@ push_below xs x i y below e = go (push_at xs x i y e)
 -- ---- giving passes to the cores, one after another
 
 module _ (core : ℕ) (first now : Held Blocked) (same : now ≡ record first { out = now.out }) where
-
   module _ (before passes : List (PassList Blocked)) (n : ℕ)
       (done : (k : ℕ) → k < n → slice_get passes k ≡ option_map (with_pass core (newly_given first) k) (slice_get before k))
       (rest : (k : ℕ) → n ≤ k → slice_get passes k ≡ slice_get before k) (within : n < length passes) (x : PassList Blocked) (is : x ≡ get_or passes n x)
