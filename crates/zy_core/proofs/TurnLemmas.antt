@@ -16,7 +16,7 @@ use Rattle.zy_core.specs.declared.turn.Came.{Came}
 use Rattle.zy_core.specs.Core.{Cored}
 use Rattle.zy_core.specs.Steal.{Steals, StealsTo}
 use Rattle.zy_core.specs.Step.{ServesHome, HasHomeSteps}
-use Rattle.zy_core.specs.Turn.{ReceivesTo, CollectsAll, HasSteps, TurnTo, FindsNothing, places_of, came_of, came_to, held_to, is_busy, CameTo, ShowsBusy}
+use Rattle.zy_core.specs.Turn.{ReceivesTo, CollectsAll, HasSteps, TurnTo, FindsNothing, places_of, came_without_hold, came_to, held_to, is_busy, CameTo, ShowsBusy}
 
 -- the steps of a turn at home: items received, blocks collected, and the claim with this answer
 pub record AtHomeBy (a b : Cored) (h m : Homed) (received collected : Bool) (claimed : Claimed) : Type 0 where
@@ -87,7 +87,7 @@ stolen_busy a b h m received collected own end t s is =
 
 -- a turn in which none was stolen either
 pub missed_came : (a b : Cored) (h m : Homed) (received collected settled : Bool) (own : Look) (looks looks' : List (Option Look)) → AtHomeBy a b h m received collected (Missed own) → AllLookedOver a.passes b.passes looks looks' → settled ≡ is_settled b.home
-    → CameTo a b looks looks' (came_of (received || collected) own settled)
+    → CameTo a b looks looks' (came_without_hold (received || collected) own settled)
 missed_came a b h m true collected settled own looks looks' t l is = inl t.receives.some
 missed_came a b h m false true settled own looks looks' t l is = inr (inl (m, collects_from a b h m true t.receives t.collects))
 missed_came a b h m false false settled own looks looks' t l is = go settled is
@@ -102,15 +102,15 @@ missed_came a b h m false false settled own looks looks' t l is = go settled is
       looked = l.looked;
     }
 
-    go : (s : Bool) → s ≡ is_settled b.home → CameTo a b looks looks' (came_of false own s)
+    go : (s : Bool) → s ≡ is_settled b.home → CameTo a b looks looks' (came_without_hold false own s)
     go true e = (l.made, l.notes, ((own, nothing), sym e))
     go false e = (l.made, l.notes, (nothing, sym e))
 
-pub missed_busy : (a b : Cored) (h m : Homed) (received collected settled : Bool) (own : Look) (looks looks' : List (Option Look)) → AtHomeBy a b h m received collected (Missed own) → AllLookedOver a.passes b.passes looks looks' → ShowsBusy a b (came_of (received || collected) own settled)
+pub missed_busy : (a b : Cored) (h m : Homed) (received collected settled : Bool) (own : Look) (looks looks' : List (Option Look)) → AtHomeBy a b h m received collected (Missed own) → AllLookedOver a.passes b.passes looks looks' → ShowsBusy a b (came_without_hold (received || collected) own settled)
 missed_busy a b h m received collected settled own looks looks' t l =
     record { steps = missed_steps a b h m received collected own (Some l.made) t l.looked; busy = plain (received || collected) settled }
   where
-    plain : (w s : Bool) → is_busy (came_of w own s) ≡ false
+    plain : (w s : Bool) → is_busy (came_without_hold w own s) ≡ false
     plain true s = refl
     plain false true = refl
     plain false false = refl

@@ -75,10 +75,10 @@ answer false own looks false = Idle own looks
 -- ---- the answer over a table of looks
 
 -- what a turn came to in which nothing was claimed or stolen
-abbrev pub came_of : Bool → Look → Bool → Came
-came_of true own settled = Came.Worked
-came_of false own true = Came.Settled
-came_of false own false = Came.Idle own
+abbrev pub came_without_hold : Bool → Look → Bool → Came
+came_without_hold true own settled = Came.Worked
+came_without_hold false own true = Came.Settled
+came_without_hold false own false = Came.Idle own
 
 -- what a turn came to whose block was held to this end
 abbrev pub held_to : HoldEnd → Came

@@ -1,6 +1,6 @@
 //! One logical core. (A file `core.rt` would be a module with the name of a library.)
 ghost use Rattle.std.specs.Prelude.{◌≡◌, ◌↔◌, ◌+◌, ◌<◌, ◌^◌, ℕ, true, false, [], length, Some, slice_get, OnOk, OnErr, IfOk};
-ghost use Rattle.zy_home.specs.Home.{HomeStands, is_settled};
+ghost use Rattle.zy_home.specs.Home.{HomeStands, is_settled, all_here};
 ghost use Rattle.zy_steal.specs.Steal.{AreIdle, seats_of};
 ghost use Rattle.zy_control.specs.declared.view.Role.TheVariants as roles;
 ghost use Rattle.zy_control.specs.View.{has_announced, has_counted};
@@ -328,6 +328,14 @@ impl Core {
         ensures value { result ≡ is_settled self.now.home }
     {
         self.home.is_settled()
+    }
+
+    /// Whether each block of its home is in the home's hand, so that no other core has one and none
+    /// waits in a queue.
+    pub fn has_all_blocks(&self) -> bool
+        ensures value { result ≡ all_here self.now.home.blocks }
+    {
+        self.home.has_all_blocks()
     }
 
     /// Whether its home was refused memory.

@@ -1,7 +1,7 @@
 //! The answer of a turn.
 ghost use Rattle.std.specs.Prelude.{◌≡◌, ◌||◌};
 ghost use Rattle.zy_home.specs.Home.{is_settled};
-ghost use Rattle.zy_core.specs.Turn.{came_of, came_to, held_to, is_work};
+ghost use Rattle.zy_core.specs.Turn.{came_without_hold, came_to, held_to, is_work};
 
 use zy_conn::HoldEnd;
 use zy_home::Home;
@@ -46,7 +46,7 @@ impl Came {
 
     // What a turn came to in which nothing was claimed or stolen.
     pub(crate) fn of(received: bool, collected: bool, own: Look, home: &Home) -> Came
-        ensures value { result ≡ came_of (received || collected) own (is_settled home.now) }
+        ensures value { result ≡ came_without_hold (received || collected) own (is_settled home.now) }
     {
         if received || collected {
             Came::Worked

@@ -70,6 +70,13 @@ impl Home {
         self.ended && !self.refused && are_here(&self.blocks)
     }
 
+    /// Whether each connection is in the home's hand.
+    pub fn has_all_blocks(&self) -> bool
+        ensures value { result ≡ all_here self.now.blocks }
+    {
+        are_here(&self.blocks)
+    }
+
     /// Whether a call of this home was refused memory.
     pub fn is_refused(&self) -> bool
         ensures value { result ≡ self.now.refused }

@@ -87,6 +87,18 @@ pub(crate) fn are_some_here(seats: &[Seat]) -> bool {
     false
 }
 
+// Whether a block of a core that is with the caller is away.
+pub(crate) fn are_some_away(seats: &[Seat]) -> bool {
+    for seat in seats {
+        if let Seat::Here(group) = seat {
+            if !group.has_all_blocks() {
+                return true;
+            }
+        }
+    }
+    false
+}
+
 // Whether each group that is with the caller is done.
 pub(crate) fn are_done_here(seats: &[Seat]) -> bool {
     for seat in seats {

@@ -3,7 +3,7 @@ use Rattle.zy_home.specs.Home.{is_settled}
 use Rattle.zy_core.specs.declared.steps.Claimed.TheVariants.{Held, Missed}
 use Rattle.zy_core.specs.Share.{Sharing, sharing}
 use Rattle.zy_core.specs.Core.{Cored, cored, identity_of, Fits}
-use Rattle.zy_core.specs.Turn.{HasSteps, CameTo, ShowsBusy, came_of, held_to}
+use Rattle.zy_core.specs.Turn.{HasSteps, CameTo, ShowsBusy, came_without_hold, held_to}
 use Rattle.zy_core.proofs.PassLemmas.{passes_fit}
 use Rattle.zy_core.proofs.TurnLemmas.{at_home_by, held_came, held_busy, stolen_came, stolen_busy, missed_came, missed_busy}
 use Rattle.zy_core.proofs.logical_core.Core.turn_over.Goals as goal
@@ -72,7 +72,7 @@ returns-clause-turn g c =
     let b : Cored = cored c.serve_home.new.home c.steal_once.new.victims c.steal_once.new.passes c.serve_home.new.outlet c.self.inside.control (c.self.inside.turns + 1) in
     let t = at_home_by a b c.in_ok-at_home.at_home (Missed c.in-Missed.look) c.in-Missed.is c.in_ok-at_home.ensures.value in
     let l = rw c.in_default.is at c.in_ok-stolen.ensures.value in
-    rw c.of.ensures.value (subst (λ (x : Cored). CameTo x b c.args.looks.now c.steal_once.new.looks (came_of (c.in_ok-at_home.at_home.received || c.in_ok-at_home.at_home.collected) c.in-Missed.look (is_settled c.serve_home.new.home))) c.self.view_is
+    rw c.of.ensures.value (subst (λ (x : Cored). CameTo x b c.args.looks.now c.steal_once.new.looks (came_without_hold (c.in_ok-at_home.at_home.received || c.in_ok-at_home.at_home.collected) c.in-Missed.look (is_settled c.serve_home.new.home))) c.self.view_is
     (missed_came a b _ _ c.in_ok-at_home.at_home.received c.in_ok-at_home.at_home.collected (is_settled c.serve_home.new.home) c.in-Missed.look c.args.looks.now c.steal_once.new.looks t l refl))
 
 pub returns-clause-steps : goal.returns-clause-steps
@@ -89,5 +89,5 @@ returns-clause-busy g c =
     let b : Cored = cored c.serve_home.new.home c.steal_once.new.victims c.steal_once.new.passes c.serve_home.new.outlet c.self.inside.control (c.self.inside.turns + 1) in
     let t = at_home_by a b c.in_ok-at_home.at_home (Missed c.in-Missed.look) c.in-Missed.is c.in_ok-at_home.ensures.value in
     let l = rw c.in_default.is at c.in_ok-stolen.ensures.value in
-    rw c.of.ensures.value (subst (λ (x : Cored). ShowsBusy x b (came_of (c.in_ok-at_home.at_home.received || c.in_ok-at_home.at_home.collected) c.in-Missed.look (is_settled c.serve_home.new.home))) c.self.view_is
+    rw c.of.ensures.value (subst (λ (x : Cored). ShowsBusy x b (came_without_hold (c.in_ok-at_home.at_home.received || c.in_ok-at_home.at_home.collected) c.in-Missed.look (is_settled c.serve_home.new.home))) c.self.view_is
     (missed_busy a b _ _ c.in_ok-at_home.at_home.received c.in_ok-at_home.at_home.collected (is_settled c.serve_home.new.home) c.in-Missed.look c.args.looks.now c.steal_once.new.looks t l))
