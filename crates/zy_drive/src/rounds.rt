@@ -81,6 +81,16 @@ pub(crate) fn all_done(cores: &mut Vec<Core>, shared: &Shared) -> bool
     true
 }
 
+// Whether no block of these cores is away.
+pub(crate) fn have_all_blocks(cores: &[Core]) -> bool {
+    for core in cores {
+        if !core.has_all_blocks() {
+            return false;
+        }
+    }
+    true
+}
+
 // Whether each core is settled.
 pub(crate) fn are_settled(cores: &[Core]) -> bool
     ensures settled { result ≡ true → EachSettled cores.now }

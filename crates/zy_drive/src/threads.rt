@@ -87,8 +87,9 @@ pub fn drive<R: Threads + Wait + Sync, F: Feeder, G: Gate + Sync>(
 }
 
 /// Drives the cores as `drive` does, but the first group, that of thread 0, is driven as `first` says.
-/// Cores that the caller drives never rest; they take a turn after 64 items that were offered in a row,
-/// and turns until none works before the feeder may have to wait. The call may wait.
+/// Cores that the caller drives never rest. They take a turn after 64 items that were offered in a row;
+/// and before the feeder may have to wait they take turns until none works and no block of theirs is
+/// away. The call may wait.
 pub fn drive_groups<R: Threads + Wait + Sync, F: Feeder, G: Gate + Sync>(
     rt: &R,
     alloc: Global,

@@ -4,7 +4,7 @@ ghost use Rattle.zy_core.specs.Cores.{identities, EachFits, EachSettled};
 ghost use Rattle.zy_drive.specs.Group.{grouped, IsAlone};
 
 use crate::round::Round;
-use crate::rounds::{all_done, note_each, turn_each};
+use crate::rounds::{all_done, have_all_blocks, note_each, turn_each};
 use crate::threads::alone::{call_up_first, nap_first};
 use crate::threads::driving::Driving;
 use std::marker::Model;
@@ -143,6 +143,11 @@ impl Group {
         ensures value { result ≡ self.now.done }
     {
         self.done
+    }
+
+    // Whether no block of its cores is away.
+    pub(crate) fn has_all_blocks(&self) -> bool {
+        have_all_blocks(&self.cores)
     }
 
     // The cores.

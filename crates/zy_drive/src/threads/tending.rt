@@ -9,7 +9,11 @@ use crate::threads::caller::Caller;
 use crate::threads::driving::Driving;
 use crate::threads::patience::Patience;
 use crate::threads::seat::Seat;
+<<<<<<< HEAD
 use crate::threads::seats::{are_done_here, are_some_here, go_on_here, have_all_blocks_here};
+=======
+use crate::threads::seats::{are_done_here, are_some_away, are_some_here, go_on_here};
+>>>>>>> 7607c1b047325a002a011cbdf4743fb6ce0f2e03
 use std::sync::Wait;
 use zy_base::{Gate, NoMemory};
 use zy_rx::Feeder;
@@ -31,7 +35,7 @@ pub(crate) enum How {
 
 // Feeds the cores, one item at a time, and lets those that are with the caller take turns. After each
 // step it looks at stop. Before a step that may have to wait for the source, the cores that are with
-// the caller take turns until none works.
+// the caller take turns until none works and no block of theirs is away.
 pub(crate) fn tend<R: Wait, F: Feeder, G: Gate>(
     driving: &Driving<'_, R, G>,
     seats: &mut Vec<Seat>,
@@ -68,7 +72,11 @@ pub(crate) fn tend<R: Wait, F: Feeder, G: Gate>(
             Ok(round) => round,
             Err(NoMemory) => return How::Stopped,
         };
+<<<<<<< HEAD
         has_work = has_here && (items > 0 || round.calls_up() || !have_all_blocks_here(seats));
+=======
+        has_work = has_here && (items > 0 || round.calls_up() || are_some_away(seats));
+>>>>>>> 7607c1b047325a002a011cbdf4743fb6ce0f2e03
         caller.ring_if(round.calls_up(), driving);
         if caller.is_stopped(driving.shared) {
             return How::Stopped;
