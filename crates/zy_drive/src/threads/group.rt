@@ -55,16 +55,6 @@ impl Group {
         self.cores.len() == 1 && self.cores[0].number() == number
     }
 
-    // Whether each block of its cores is in the hand of its home.
-    pub(crate) fn has_all_blocks(&self) -> bool {
-        for i in 0..self.cores.len() {
-            if !self.cores[i].has_all_blocks() {
-                return false;
-            }
-        }
-        true
-    }
-
     // A turn of each core, after which each that is settled counts itself, and looks whether all are
     // done.
     pub(crate) fn go_on<R, G: Gate>(

@@ -87,18 +87,6 @@ pub(crate) fn are_some_here(seats: &[Seat]) -> bool {
     false
 }
 
-<<<<<<< HEAD
-// Whether each block of the cores that are with the caller is in the hand of its home.
-pub(crate) fn have_all_blocks_here(seats: &[Seat]) -> bool {
-    for seat in seats {
-        if let Seat::Here(group) = seat {
-            if !group.has_all_blocks() {
-                return false;
-            }
-        }
-    }
-    true
-=======
 // Whether a block of a core that is with the caller is away.
 pub(crate) fn are_some_away(seats: &[Seat]) -> bool {
     for seat in seats {
@@ -109,7 +97,6 @@ pub(crate) fn are_some_away(seats: &[Seat]) -> bool {
         }
     }
     false
->>>>>>> 7607c1b047325a002a011cbdf4743fb6ce0f2e03
 }
 
 // Whether each group that is with the caller is done.

@@ -9,11 +9,7 @@ use crate::threads::caller::Caller;
 use crate::threads::driving::Driving;
 use crate::threads::patience::Patience;
 use crate::threads::seat::Seat;
-<<<<<<< HEAD
-use crate::threads::seats::{are_done_here, are_some_here, go_on_here, have_all_blocks_here};
-=======
 use crate::threads::seats::{are_done_here, are_some_away, are_some_here, go_on_here};
->>>>>>> 7607c1b047325a002a011cbdf4743fb6ce0f2e03
 use std::sync::Wait;
 use zy_base::{Gate, NoMemory};
 use zy_rx::Feeder;
@@ -72,11 +68,7 @@ pub(crate) fn tend<R: Wait, F: Feeder, G: Gate>(
             Ok(round) => round,
             Err(NoMemory) => return How::Stopped,
         };
-<<<<<<< HEAD
-        has_work = has_here && (items > 0 || round.calls_up() || !have_all_blocks_here(seats));
-=======
         has_work = has_here && (items > 0 || round.calls_up() || are_some_away(seats));
->>>>>>> 7607c1b047325a002a011cbdf4743fb6ce0f2e03
         caller.ring_if(round.calls_up(), driving);
         if caller.is_stopped(driving.shared) {
             return How::Stopped;
