@@ -51,7 +51,6 @@ module _ (found made : List ℕ) (at : ℕ) (text : List ℕ) (first : HasFirst 
 -- ---- the end
 
 module _ (found made : List ℕ) (at : ℕ) (first : HasFirst (Some found) made at) where
-
   -- more was found
   pub ended_more : (session : ℕ) → at < length found → EndedWith (Some found) session made at (Some (record { session = session; at = at }))
   ended_more session more =

@@ -80,7 +80,6 @@ stopped p q command calls replies replies' asked a b (Busy shard loaded found) e
 }
 
 module _ (p q : Passed) (r : RingName) (taken known : List FrameKind) (s : Start) (f sh : ℕ) (b : List (List ℕ)) (command : Command) (calls : List ShardCall) (replies replies' : List CallReply) (k : Kept (worked p r taken known s f sh b)) (e : s ≡ going command calls replies) where
-
   module _ (pass : SamePass p q) where
     same_made : q.calls ≡ p.calls → replies' ≡ replies → record (worked p r taken known s f sh b) { trace = q.trace } ≡ worked q r taken known (going command calls replies') f sh b
     same_made h g = let t = pass.table in let c = pass.conn in cc

@@ -36,7 +36,6 @@ ends_from-push before (stream ∷ streams) last =
 -- ---- what the connection may have received
 
 module _ (l m : Link) (s : Sessions) (h : LinkStands l s) where
-
   -- the session was closed
   pub stands_close : m.inlet ≡ l.inlet → m.waiting ≡ l.waiting → m.ends ≡ l.ends ++ l.cut ∷ [] → StandsFor m.framer [] → m.cut ≡ l.cut → LinkStands m (with_close s)
   stands_close inlet waiting ends framer cut =

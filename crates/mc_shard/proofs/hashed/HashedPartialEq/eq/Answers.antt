@@ -1,4 +1,4 @@
-use Rattle.std.proofs.Common.{◌≡◌, sym, ◌∙◌}
+use Rattle.std.proofs.Common.{sym, ◌∙◌}
 use Rattle.std.specs.Cmp.Lexicographic.{texts_ties}
 use Rattle.mc_shard.proofs.MapLemmas.{same_hash}
 use Rattle.mc_shard.proofs.hashed.HashedPartialEq.eq.Goals as goal
