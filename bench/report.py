@@ -41,8 +41,9 @@ def main():
             cost = common.least(3, [program, "report"], path)
             each.append(cost.used * 1e6 / entries)
             print(f"{size[0]} connections of {size[1]} commands, {entries} entries, {length / 1e6:.0f} MB: "
-                  f"{each[-1]:.2f} microseconds of processor time an entry, {cost.resident / entries:.0f} bytes an entry "
-                  f"resident, {cost.resident / length:.1f} times the journal", flush=True)
+                  f"{each[-1]:.2f} microseconds of processor time an entry, "
+                  f"{cost.resident / entries:.0f} bytes an entry resident, "
+                  f"{cost.resident / length:.1f} times the journal", flush=True)
     sys.exit(max(each) > MOST)
 
 

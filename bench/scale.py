@@ -1,17 +1,18 @@
 #!/usr/bin/env python3
-"""Serves the same traffic on 1, 2, 3 and 4 threads with as many cores, in three kinds of capture, and prints what it costs.
+"""Serves the same traffic on 1, 2, 3 and 4 threads with as many cores, in three kinds of capture, and prints what it
+costs.
 
 The traffic is that of `zygos gen --number 1` with 200 connections and 1,000,000 commands. The capture `even` is the
-generated one, with its own short segments: the connections are at home at all cores. In `skewed` all connections are at
-home at core 0, so that the other cores have only what they steal; it is also served by one core on one thread. In
-`large` the streams of `even` come in turn in segments of 1,400 bytes. Printed are the machine, and for each
-kind and number of threads the medians of wall seconds and of processor seconds of the runs, how these compare with one
-thread, and from the journal of one further run the number of holds, the commands of a hold, how many holds had 1, 2 to 3,
-4 to 7 and so on up to 64 commands, and the share that was by another core than the connection's home.
+generated one, with its own short segments: the connections are at home at all cores. In `skewed` all connections are
+at home at core 0, so that the other cores have only what they steal; it is also served by one core on one thread. In
+`large` the streams of `even` come in turn in segments of 1,400 bytes. Printed are the machine, and for each kind and
+number of threads the medians of wall seconds and of processor seconds of the runs, how these compare with one thread,
+and from the journal of one further run the number of holds, the commands of a hold, how many holds had 1, 2 to 3, 4
+to 7 and so on up to 64 commands, and the share that was by another core than the connection's home.
 
-Then `even` is served by 2 and 4 cores on as many threads with `--rest 0` and with `--rest 100`: from a file, and over a pipe
-that gives it in 20 pieces, with a pause of 100 ms after each. The pauses are in the wall seconds; processor seconds are those
-of the program alone.
+Then `even` is served by 2 and 4 cores on as many threads with `--rest 0` and with `--rest 100`: from a file, and over
+a pipe that gives it in 20 pieces, with a pause of 100 ms after each. The pauses are in the wall seconds; processor
+seconds are those of the program alone.
 
 usage: bench/run scale [--commands N] [--runs N] [--only KIND] [--picture FILE] [PROGRAM]
 
@@ -142,8 +143,9 @@ def report(costs, kind, threads, about):
     """Prints the medians of the runs, beside those of one thread."""
     cost, alone = common.medians(costs[kind, threads]), common.medians(costs[kind, 1])
     least, most = (which(run.wall for run in costs[kind, threads]) for which in (min, max))
-    print(f"{kind}, {threads} cores on as many threads: {cost.wall:.2f} s ({least:.2f} to {most:.2f}), {cost.used:.2f} s of "
-          f"processor time, {alone.wall / cost.wall:.2f} times as fast as one, {cost.used / alone.used:.2f} times the "
+    print(f"{kind}, {threads} cores on as many threads: {cost.wall:.2f} s ({least:.2f} to {most:.2f}), "
+          f"{cost.used:.2f} s of processor time, {alone.wall / cost.wall:.2f} times as fast as one, "
+          f"{cost.used / alone.used:.2f} times the "
           f"processor time\n  {about}", flush=True)
 
 
@@ -163,9 +165,10 @@ def picture(costs, commands, runs):
     curves = [curve(costs, kind, commands) for kind in KINDS]
     top = max(max(of.points[0][1] * MOST, *(point[3] for point in of.points)) for of in curves)
     drawn = chart.Chart(f"Serving {commands:,} commands of {common.CONNECTIONS} connections",
-                        [common.machine_name(), f"as many cores as threads; median of {runs} runs, with the slowest and the "
-                         "fastest"],
-                        chart.Axis("threads", 1, MOST, list(THREADS)), chart.linear("thousands of commands a second", top))
+                        [common.machine_name(),
+                         f"as many cores as threads; median of {runs} runs, with the slowest and the fastest"],
+                        chart.Axis("threads", 1, MOST, list(THREADS)),
+                        chart.linear("thousands of commands a second", top))
     for of in curves:
         drawn.curve(of)
     for of in curves:
@@ -203,8 +206,7 @@ def main():
                     report(costs, kind, threads, about_holds(program, path, threads, commands))
             os.remove(path)
     if given.picture:
-        with open(given.picture, "w", encoding="utf-8") as file:
-            file.write(picture(costs, commands, given.runs).svg(common.command_line()))
+        common.draw(picture(costs, commands, given.runs), given.picture)
 
 
 main()
