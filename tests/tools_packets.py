@@ -6,7 +6,6 @@ usage: tests/tools_packets.py [PROGRAM]     (run by tools/test; crates/zygos/out
 What needs the program, tcpdump or memcached is left out, with a line, where these are not there.
 """
 import contextlib
-import importlib.machinery
 import os
 import re
 import shutil
@@ -15,9 +14,8 @@ import struct
 import subprocess
 import sys
 import time
-import types
 
-from traffic import NAME, TOP, all_of, connected, memcached, same, take
+from traffic import NAME, TOP, all_of, connected, memcached, module_of, same, take
 import packets
 from formats import Close, Part, capture, close, read_capture, read_replies, segment, sessions
 from packets import expected, frame_of, said
@@ -63,15 +61,7 @@ def streams(text):
 # ---- what it says
 
 
-def tool():
-    """tools/packets as a module."""
-    loader = importlib.machinery.SourceFileLoader("packets_tool", os.path.join(TOP, "tools/packets"))
-    module = types.ModuleType(loader.name)
-    loader.exec_module(module)
-    return module
-
-
-TOOL = tool()
+TOOL = module_of("packets")
 
 
 def looked(text, port=11211):

@@ -3,12 +3,14 @@
 
 usage: tests/tools_top.py     (run by tools/test)
 """
+import contextlib
+import io
 import os
 import random
 import subprocess
 from collections import Counter
 
-from traffic import TOP, all_of, same
+from traffic import TOP, all_of, module_of, same
 import drawn
 import reports
 from formats import (Call, Close, Entry, Hold, Part, Reply, capture, close, journal, read_capture, read_journal,
@@ -118,12 +120,22 @@ def faults():
     same("a closed pipe", b"", ran.stderr)
 
 
-# ---- drawn files
+# ---- drawn files, in this process
 
 
-def rows(printed, title):
+TOOL = module_of("top")
+
+
+def printed(text, kind, cores=None):
+    """What is printed of a file without a fault."""
+    with contextlib.redirect_stdout(io.StringIO()) as page:
+        TOOL.show(Part(kind, text), 1000, cores)
+    return page.getvalue()
+
+
+def rows(page, title):
     """The cells of the rows of a table that was printed."""
-    lines = iter(printed.split("\n"))
+    lines = iter(page.split("\n"))
     next(line for line in lines if line.startswith(title))
     next(lines)
     return [line.split() for line in iter(lambda: next(lines), "")]
@@ -131,7 +143,7 @@ def rows(printed, title):
 
 def drawn_captures():
     """The commands and keys of drawn captures are those of the model."""
-    for number in range(20):
+    for number in range(100):
         text = drawn.drawn_capture(random.Random(number), 16)
         sessions, session = {}, Counter()
         for record in read_capture(Part("capture", text)).records:
@@ -143,24 +155,24 @@ def drawn_captures():
         made = {key: commands_of(stream) for key, stream in sessions.items()}
         connections = Counter(key[0] for key, commands in made.items() for _ in commands)
         keys = Counter(shown(key) for commands in made.values() for command in commands for key in command.keys)
-        printed = run("--first", "1000", given=text)[1]
+        page = printed(text, "capture")
         same(f"capture {number}", f"capture: {sum(connections.values())} commands, {len(connections)} connections, "
-                                  f"{len(keys)} keys", printed.split("\n")[0])
+                                  f"{len(keys)} keys", page.split("\n")[0])
         if keys:
-            same(f"the keys of capture {number}", dict(keys), {row[-1]: int(row[0]) for row in rows(printed, "keys")})
+            same(f"the keys of capture {number}", dict(keys), {row[-1]: int(row[0]) for row in rows(page, "keys")})
             same(f"the connections of capture {number}", dict(connections),
-                 {int(row[-1]): int(row[0]) for row in rows(printed, "connections")})
+                 {int(row[-1]): int(row[0]) for row in rows(page, "connections")})
 
 
 def drawn_journals():
     """The hits of drawn journals are those of the report."""
-    for number in range(20):
+    for number in range(100):
         text = reports.drawn(number)
         if reports.expected(text)[0] == 0:
             entries = read_journal(Part("journal", text)).entries
             gets, _, hits, *_ = reports.counts(entries)
             line = f"  hits {hits} of {gets} gets: " + (f"{100 * hits / gets:.1f} %" if gets else "-")
-            same(f"journal {number}", True, line in run("--cores", "64", given=text)[1].split("\n"))
+            same(f"journal {number}", True, line in printed(text, "journal", 64).split("\n"))
 
 
 if __name__ == "__main__":
