@@ -13,6 +13,7 @@ import sys
 import tempfile
 
 import common
+from formats import Part, cut
 
 # connections, and commands of each
 SIZES = ((200, 500), (200, 5000), (4000, 250))
@@ -25,9 +26,7 @@ def journal(program, connections, commands, room):
     given = common.generated(program, os.path.join(room, "capture"), connections * commands, connections)
     common.run([program, "run", "--cores", 1, "--out", "both"], given, served)
     with open(served, "rb") as both, open(path, "wb") as taken:
-        text = both.read()
-        # the replies of generated traffic have no magic in them, so the last one begins the replies file
-        taken.write(text[:text.rindex(b"ZYGREP1\n")])
+        cut(Part("journal", more=both.read), taken.write)
     return path
 
 

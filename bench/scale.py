@@ -30,7 +30,7 @@ import time
 
 import chart
 import common
-from formats import Part, capture, read_capture, segment
+from formats import Hold, Part, capture, journal_records, read_capture, segment
 
 MOST, NUMBERS = 4, 4096
 THREADS = (1, 2, 3, 4)
@@ -109,25 +109,16 @@ def with_rests(program, path, runs):
                       f"{cost.used:.2f} s of processor time", flush=True)
 
 
-def holds(program, words, path, commands):
-    """The connection, the core and the number of commands of each hold of a run. They are the last records of the
-    journal, 13 bytes each, and have all commands together."""
+def holds(program, words, path):
+    """The connection, the core and the number of commands of each hold of a run."""
     with tempfile.NamedTemporaryFile() as file:
         common.run([program, "run", *words, "--out", "both"], path, file.name)
-        journal = file.read()
-    found, at, left = [], journal.index(b"EZYGREP1\n") - 13, commands
-    while left > 0:
-        record = journal[at : at + 13]
-        if record[:1] != b"H":
-            common.stop("the holds of the journal do not have all commands")
-        found.append(tuple(int.from_bytes(record[begin : begin + 4], "big") for begin in (1, 5, 9)))
-        at, left = at - 13, left - found[-1][2]
-    return found
+        return [record for record in journal_records(Part("journal", more=file.read)) if isinstance(record, Hold)]
 
 
 def about_holds(program, path, threads, commands):
     """What is said of the holds of a run."""
-    found = holds(program, common.cores(threads), path, commands)
+    found = holds(program, common.cores(threads), path)
     sizes = [0] * len(SIZES)
     for _, _, count in found:
         sizes[count.bit_length() - 1] += 1
