@@ -228,11 +228,13 @@ def binary():
         recorder = Recorder(server.place)
         for text in (b"\x80\x0b\n", b"\x16\x03\x01\n", b"mn\r\n"):
             talk(recorder.place, text)
-        lines = recorder.end()[1].splitlines()[:-1]
+        *lines, last = recorder.end()[1].splitlines()
         begin = "tools/record: warning: connection"
         same("connections that are no text", [
             f"{begin} 0 begins with byte 0x80, as the binary protocol does; its commands will be read as text",
-            f"{begin} 1 begins with byte 0x16, as TLS does; its commands will be read as text"], lines)
+            f"{begin} 1 begins with byte 0x16, as TLS does; its commands will be read as text",
+            "tools/record: 2 connections begin as the binary protocol or TLS does"], lines)
+        same("what is counted", recorded(3, 1, 11, 18).strip(), last)
 
 
 # ---- habits of servers

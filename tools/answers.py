@@ -10,7 +10,7 @@ Exchange = namedtuple("Exchange", "first last name line one other")
 
 # the answers of several lines that end in another line, by how they begin
 LISTS = (b"VALUE ", b"STAT ")
-META = re.compile(rb"(HD|VA|EN|NS|EX|NF)[ \r\n]")
+META, FAULT = re.compile(rb"(HD|VA|EN|NS|EX|NF)[ \r\n]"), re.compile(rb"((CLIENT|SERVER)_)?ERROR\b")
 NAME = re.compile(rb"[a-z_]{2,16}")
 
 
@@ -67,11 +67,11 @@ class Answers:
 
     def take_group(self, group):
         """The answers of the commands of a group, as one after the number of the first; see `groups`."""
-        first, answer = self.take()
-        found = [answer or b""]
-        while len(found) < len(group) and answer is not None and not group.is_last(answer):
-            answer = self.take()[1]
-            found.append(answer or b"")
+        first, found = self.taken, []
+        while len(found) < len(group) and self.at < len(self.text):
+            found.append(self.take()[1])
+            if group.is_last(found):
+                break
         return first, b"".join(found) or None
 
 
@@ -84,16 +84,22 @@ class Group(list):
     """
 
     is_whole = ends_in_mn = False
+    faults = 0
 
     def add(self, number, command, line):
         self.append((number, line))
+        self.faults += command.verb == "fault"
         is_open = len(self) > 1 or "q" in command.letters
         self.is_whole = not is_open or command.verb not in ("mg", "ms", "md", "fault")
         self.ends_in_mn = command.verb == "mn"
 
-    def is_last(self, answer):
-        """Whether an answer can only be that of the last command."""
-        return self.is_whole and (answer.startswith(b"MN") if self.ends_in_mn else not META.match(answer))
+    def is_last(self, answers_of):
+        """Whether the last of these answers is that of the last command; each faulty command has one of its own."""
+        if not self.is_whole or self.ends_in_mn:
+            return self.is_whole and answers_of[-1].startswith(b"MN")
+        if FAULT.match(answers_of[-1]):
+            return sum(FAULT.match(answer) is not None for answer in answers_of) > self.faults
+        return not META.match(answers_of[-1])
 
 
 def groups(stream):
