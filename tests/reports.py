@@ -16,8 +16,8 @@ TOP = os.path.dirname(os.path.dirname(os.path.realpath(__file__)))
 sys.dont_write_bytecode = True
 sys.path.insert(0, os.path.join(TOP, "tools"))
 from formats import CALLS, REPLIES, Call, Entry, Fault, Hold, Part, Reply, journal, read_end, read_journal
+from model import tally
 
-STORING = ("set", "add", "replace", "append", "prepend", "cas")
 KEYS = (b"a", b"b", b"ab", b"k" * 250)
 
 # ---- the model
@@ -25,17 +25,8 @@ KEYS = (b"a", b"b", b"ab", b"k" * 250)
 
 def counts(entries):
     """The gets, sets, hits, misses and items that the entries of one shard count."""
-    keys = set()
-    for one in entries:
-        if one.call.name == "flush":
-            keys.clear()
-        elif one.call.key is not None and one.reply.name in ("stored", "number"):
-            keys.add(one.call.key)
-        elif one.call.key is not None and one.reply.name == "deleted":
-            keys.discard(one.call.key)
-    gets = [one for one in entries if one.call.name == "get"]
-    return (len(gets), sum(one.call.name in STORING for one in entries),
-            *(sum(one.reply.name == name for one in gets) for name in ("hit", "miss")), len(keys))
+    found = tally([(one.call, one.reply) for one in entries])
+    return found.gets, found.sets, found.hits, found.misses, found.items
 
 
 def line(name, numbers):
