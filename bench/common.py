@@ -7,6 +7,7 @@ import argparse
 import collections
 import json
 import os
+import signal
 import statistics
 import subprocess
 import sys
@@ -17,6 +18,9 @@ TOP = os.path.dirname(os.path.dirname(os.path.realpath(__file__)))
 HERE = os.path.join(TOP, "bench")
 DOCS = os.path.join(TOP, "docs")
 sys.path.insert(0, os.path.join(TOP, "tools"))
+# quiet where it is interrupted, or its reader goes away
+signal.signal(signal.SIGPIPE, signal.SIG_DFL)
+signal.signal(signal.SIGINT, signal.SIG_DFL)
 
 # Seconds from begin to end, processor seconds, and the most resident bytes.
 Cost = collections.namedtuple("Cost", "wall used resident")

@@ -9,9 +9,13 @@ BOTH = ["--out", "both"]
 failures = []
 
 
+def path():
+    """Where the program is."""
+    return sys.argv[1] if len(sys.argv) > 1 else os.path.join(TOP, "crates/zygos/out/zygos")
+
+
 def run(words, given, output=subprocess.PIPE):
-    path = sys.argv[1] if len(sys.argv) > 1 else os.path.join(TOP, "crates/zygos/out/zygos")
-    return subprocess.run([path, *words], input=given, stdout=output, stderr=subprocess.PIPE, timeout=120, check=False)
+    return subprocess.run([path(), *words], input=given, stdout=output, stderr=subprocess.PIPE, timeout=120, check=False)
 
 
 def answer(words, given):

@@ -169,6 +169,22 @@ def answers():
          b"the server's side: cut after byte 0, sequence number 501: 6 bytes lost, 3 bytes after that" in ran.stderr))
 
 
+def answers_to_lost_requests():
+    """Where requests are left out, the answers to them are too."""
+    one, number = CLIENTS[0], number_of(CLIENTS[0])
+    asked = [b"set a 0 0 1 noreply\r\nx\r\n", b"get a\r\n", b"get b\r\n", b"get c\r\n", b"get d\r\n"]
+    got = [b"", b"VALUE a 0 1\r\nx\r\nEND\r\n", b"END\r\n", b"END\r\n", b"END\r\n"]
+    frames, sent, answered = [frame_of(b"", 99, 2, one), answer_of(b"", 499, one, 18)], 100, 500
+    for request, answer in zip(asked, got):
+        frames += [frame_of(request, sent, 16, one), answer_of(answer, answered, one)]
+        sent, answered = sent + len(request), answered + len(answer)
+    for lost, count in ((None, 5), (6, 2), (10, 4), (2, 0)):
+        given = [frame for at, frame in enumerate(frames) if at != lost] + [frame_of(b"", sent, 16, one)]
+        ran = run("--replies", "-", given=packets.file_of(*given))
+        same(f"the answers without packet {lost}", (int(lost is not None), b"".join(got[:count])),
+             (ran.returncode, read_replies(Part("replies", ran.stdout)).outputs[number].text))
+
+
 def nothing_written():
     """A file that is refused, or has nothing for the port, writes nothing."""
     for given in (packets.file_of(frame_of(b"a"), frame_of(b"x", kind=b"\x81\x00")), packets.file_of()):
@@ -239,4 +255,4 @@ def real():
 
 
 if __name__ == "__main__":
-    all_of(messages, words, model, order, answers, nothing_written, real)
+    all_of(messages, words, model, order, answers, answers_to_lost_requests, nothing_written, real)

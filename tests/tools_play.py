@@ -15,7 +15,7 @@ PROGRAM = os.path.realpath(sys.argv[1] if len(sys.argv) > 1 else os.path.join(TO
 
 
 def run(tool, *words, given=b""):
-    return subprocess.run([os.path.join(TOP, "tools", tool), *words], input=given, capture_output=True, timeout=120,
+    return subprocess.run([os.path.join(TOP, "tools", tool), *words], input=given, capture_output=True, timeout=600,
                           check=False)
 
 
@@ -162,7 +162,7 @@ def closed_pipe():
         file.write(capture(1, [segment(0, b"big 1000000\r\n")]))
         file.flush()
         ran = subprocess.run(["bash", "-c", '"$0" "$@" | head -c 1 > /dev/null', os.path.join(TOP, "tools/play"),
-                              "my.cap", "--server", server.place], capture_output=True, timeout=60, check=False)
+                              "my.cap", "--server", server.place], capture_output=True, timeout=300, check=False)
         same("a closed pipe", 2, ran.stderr.count(b"\n"))
 
 
@@ -170,7 +170,7 @@ def closed_pipe():
 
 
 def zygos(*words, given):
-    return subprocess.run([PROGRAM, *words], input=given, stdout=subprocess.PIPE, timeout=120, check=False).stdout
+    return subprocess.run([PROGRAM, *words], input=given, stdout=subprocess.PIPE, timeout=600, check=False).stdout
 
 
 def alike(name, one, other):

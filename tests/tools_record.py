@@ -31,7 +31,7 @@ def recorded(connections, commands, sent, back):
 def says(name, line, *words, status=1):
     """The tool ends with a line, and makes no file."""
     before = sorted(os.listdir("."))
-    ran = subprocess.run([os.path.join(TOP, "tools/record"), *words], capture_output=True, timeout=60, check=False)
+    ran = subprocess.run([os.path.join(TOP, "tools/record"), *words], capture_output=True, timeout=300, check=False)
     same(name, (status, f"tools/record: {line}\n", before),
          (ran.returncode, ran.stderr.decode(), sorted(os.listdir("."))))
 
@@ -228,11 +228,13 @@ def binary():
         recorder = Recorder(server.place)
         for text in (b"\x80\x0b\n", b"\x16\x03\x01\n", b"mn\r\n"):
             talk(recorder.place, text)
-        lines = recorder.end()[1].splitlines()[:-1]
+        *lines, last = recorder.end()[1].splitlines()
         begin = "tools/record: warning: connection"
         same("connections that are no text", [
             f"{begin} 0 begins with byte 0x80, as the binary protocol does; its commands will be read as text",
-            f"{begin} 1 begins with byte 0x16, as TLS does; its commands will be read as text"], lines)
+            f"{begin} 1 begins with byte 0x16, as TLS does; its commands will be read as text",
+            "tools/record: 2 connections begin as the binary protocol or TLS does"], lines)
+        same("what is counted", recorded(3, 1, 11, 18).strip(), last)
 
 
 # ---- habits of servers
@@ -301,7 +303,7 @@ def closed_errors():
         for ending in ("2>&-", "2> >(true)"):
             with subprocess.Popen(["bash", "-c", f"exec {words} {ending}"]) as process:
                 talk(path, b"\x80\n")
-                same(f"the end with {ending}", 0, process.wait(timeout=30))
+                same(f"the end with {ending}", 0, process.wait(timeout=300))
             same(f"the files with {ending}", ({(0, 0): b"\x80\n"}, {(0, 0): b"ERROR\r\n"}), files_of())
 
 
@@ -354,7 +356,7 @@ def cut_of(both, at, count):
 def repaired(status):
     """What is said by --repair."""
     ran = subprocess.run([os.path.join(TOP, "tools/record"), "--repair", "my.cap", "my.replies"], capture_output=True,
-                         timeout=60, check=False)
+                         timeout=300, check=False)
     same("the status of --repair", status, ran.returncode)
     return ran.stderr.decode().replace("tools/record: ", "")
 
@@ -449,7 +451,7 @@ def terminal():
                 until("a line a second", lambda: is_shown(line))
                 one.sendall(b"mn\r\n")
                 take(one, 4)
-            process.wait(timeout=30)
+            process.wait(timeout=300)
             line = recorded(2, 3, len(ASKED) + 4, len(ANSWERED) + 4).strip()
             until("the last line", lambda: is_shown(f"\x1b[K{line}\r\n"))
         os.close(above)

@@ -18,7 +18,9 @@ sys.dont_write_bytecode = True
 sys.path.insert(0, os.path.join(TOP, "tools"))
 from formats import Part, Segment, read_capture, read_replies
 
-INSTALL = """quick='-o Acquire::Retries=0 -o Acquire::http::Timeout=5'
+# how memcached is installed, without being started
+INSTALL = """export RUNLEVEL=1 DEBIAN_FRONTEND=noninteractive
+quick='-o Acquire::Retries=0 -o Acquire::http::Timeout=5'
 apt-get $quick install -y memcached || { apt-get $quick update && apt-get $quick install -y memcached; }"""
 NAME = "tests/" + os.path.basename(sys.argv[0])
 failures = []
@@ -255,7 +257,7 @@ class Recorder:
         """Ends it by a signal, or waits for its end; gives its status and what it said besides its first line."""
         if number:
             self.process.send_signal(number)
-        self.said = self.process.communicate(timeout=60)[1].decode()
+        self.said = self.process.communicate(timeout=300)[1].decode()
         return self.process.returncode, self.said
 
     def most_memory(self):

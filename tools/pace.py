@@ -115,3 +115,24 @@ class Answers(Lines):
                 self.block, self.word = size + 2, word if word == b"VA" else None
             elif word not in LONG:
                 yield Answer(word, end)
+
+
+class Pace:
+    """What passes on a connection; `owed` is how many commands wait for their answer."""
+
+    def __init__(self):
+        self.is_new = self.is_text = True
+        self.commands, self.answers, self.owed = Commands(), Answers(), 0
+
+    def sent(self, text):
+        """How many commands end in these further bytes of the client."""
+        self.is_new, count = False, 0
+        for command in self.commands.feed(text) if self.is_text else ():
+            count += 1
+            self.owed += command.answered == ALWAYS
+        return count
+
+    def heard(self, text):
+        """Takes further bytes of the server."""
+        for _ in self.answers.feed(text) if self.is_text else ():
+            self.owed = max(0, self.owed - 1)

@@ -14,9 +14,9 @@ from formats import MOST_CONNECTIONS
 from links import READ, WRITE, Link
 from places import beginning, forget, prompt
 
-# seconds: between looks at what was put off, and at all links; and at the end, without further bytes, while an answer
-# has not begun, and in all
-LOOK, IDLE, QUIET, OWED, LONGEST = 0.05, 0.25, 0.3, 3, 20
+# seconds: between looks at what was put off, and at all links; and at the end, without further bytes, the same while
+# answers are owed, and in all
+LOOK, IDLE, QUIET, OWED, LONGEST = 0.05, 0.25, 0.3, 5, 30
 # files that are no sockets of links
 OTHERS = 64
 
@@ -231,11 +231,12 @@ class Proxy:
             return False
         if not self.links or self.is_hurried or self.now > self.ending + LONGEST:
             return True
-        if self.now < max(self.ending, self.last) + (OWED if self.recording.owed else QUIET):
+        quiet = self.now - max(self.ending, self.last)
+        if quiet < QUIET:
             return False
         slow = [link for link in self.links if link.down.waiting]
         for link in slow:  # these do not take their answers, which are recorded without them
             link.down.lose()
             self.settle(link)
-        self.last = self.now
-        return not slow
+            self.last = self.now
+        return not slow and (quiet > OWED or not self.recording.owed())

@@ -318,13 +318,12 @@ class Flows:
             place[number] = session, end
         yield END
 
-    def replies(self):
-        """The bytes of the replies file with what the server answered in each session."""
+    def replies(self, answered):
+        """The bytes of the replies file with what the server answered in each session, as `answered` says of it."""
         yield replies_start(2)
         for number in range(self.count()):
             for at, session in enumerate(self.sessions.get(number, [None])):
-                answers = session.answers.text() if session and session.answers else b""
-                yield output(2, number, at, answers)
+                yield output(2, number, at, answered(session) if session else b"")
         yield END
 
 

@@ -3,7 +3,7 @@ from collections import deque
 
 from formats import END, MOST_CAPTURE, MOST_CONNECTIONS, MOST_SESSIONS, SEGMENT, close
 from growing import Growing
-from pace import ALWAYS, Commands
+from pace import Pace
 from spool import replies_of
 from targets import naming
 
@@ -22,13 +22,16 @@ class Recording:
     def __init__(self, files, say):
         self.files, self.say, self.fault = files, say, None
         self.capture, self.spool = Growing(files.capture.file), Growing(files.spool)
-        self.sessions, self.closed, self.cutters = [], deque(), {}
-        self.silent, self.owed = set(), set()  # the connections that sent nothing, and those that wait for an answer
-        self.done = self.commands = self.sent_bytes = self.answered_bytes = self.odd = 0
+        self.sessions, self.closed, self.paces = [], deque(), {}
+        self.done = self.commands = self.missing = self.sent_bytes = self.answered_bytes = self.odd = 0
 
     def open(self):
         """How many connections are open."""
-        return len(self.cutters)
+        return len(self.paces)
+
+    def owed(self):
+        """How many commands of open connections are not answered."""
+        return sum(pace.owed for pace in self.paces.values())
 
     def begin(self):
         """The number of a new connection; None where there is none."""
@@ -42,15 +45,12 @@ class Recording:
             self.sessions[number] += 1
         else:
             return None
-        self.cutters[number] = Commands()
-        self.silent.add(number)
+        self.paces[number] = Pace()
         return number
 
     def end(self, number):
         """A connection has closed."""
-        del self.cutters[number]
-        self.silent.discard(number)
-        self.owed.discard(number)
+        self.missing += self.paces.pop(number).owed
         self.done += 1
         if self.sessions[number] < MOST_SESSIONS:
             self.closed.append(number)
@@ -61,20 +61,16 @@ class Recording:
             return False
         if not self.write(self.capture.segment, number, text):
             return False
-        if number in self.silent:
-            self.silent.discard(number)
-            self.look_at(number, text[0])
+        pace = self.paces[number]
+        if pace.is_new and text[0] in ODD:
+            pace.is_text = False
+            self.warn(number, text[0])
         self.sent_bytes += len(text)
-        for command in self.cutters[number].feed(text):
-            self.commands += 1
-            if command.answered == ALWAYS:
-                self.owed.add(number)
+        self.commands += pace.sent(text)
         return True
 
-    def look_at(self, number, byte):
+    def warn(self, number, byte):
         """Warns of a connection whose first byte is not that of text."""
-        if byte not in ODD:
-            return
         self.odd += 1
         if self.odd <= MOST_WARNINGS:
             session = f", session {self.sessions[number] - 1}" if self.sessions[number] > 1 else ""
@@ -85,7 +81,7 @@ class Recording:
         """Keeps what came back. Gives whether it was kept."""
         if not self.write(self.spool.segment, number, text):
             return False
-        self.owed.discard(number)
+        self.paces[number].heard(text)
         self.answered_bytes += len(text)
         return True
 
@@ -120,6 +116,12 @@ class Recording:
 
     def told(self):
         """What was recorded, as text."""
-        odd = f"; {self.odd} begin as the binary protocol or TLS does" if self.odd else ""
         return (f"{self.done} connections recorded, {self.commands} commands, {self.sent_bytes} bytes sent,"
-                f" {self.answered_bytes} bytes back{odd}")
+                f" {self.answered_bytes} bytes back")
+
+    def lacks(self):
+        """What the recording lacks, as lines."""
+        if self.missing:
+            yield f"{self.missing} commands are not answered whole"
+        if self.odd:
+            yield f"{self.odd} connections begin as the binary protocol or TLS does"

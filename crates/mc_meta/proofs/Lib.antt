@@ -5,3 +5,4 @@ pub mod PlaceLemmas
 pub mod KeyLemmas
 pub mod LineLemmas
 pub mod SaidLemmas
+pub mod WidthLemmas

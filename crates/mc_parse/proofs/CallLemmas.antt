@@ -182,10 +182,6 @@ due_within shards connection commands some = due_from_within shards connection 0
 
 -- ---- entries
 
--- the calls of further entries come after those of the entries before them
-pub dues_of-append : (front entries : List Entry) → dues_of (front ++ entries) ≡ dues_of front ++ dues_of entries
-dues_of-append front entries = map-append due_of front entries
-
 -- the same of one further entry
 pub dues_of-more : (entries : List Entry) (entry : Entry) → dues_of (entries ++ entry ∷ []) ≡ dues_of entries ++ due_of entry ∷ []
 dues_of-more entries entry = map-append due_of entries (entry ∷ [])

@@ -11,3 +11,4 @@ pub mod BoundLemmas
 pub mod SameLemmas
 pub mod NeedLemmas
 pub mod SameCallLemmas
+pub mod WidthLemmas

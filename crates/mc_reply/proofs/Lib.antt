@@ -1,3 +1,4 @@
 pub mod TextLemmas
 pub mod ItemLemmas
 pub mod ToldLemmas
+pub mod SizeLemmas

@@ -1,5 +1,5 @@
 -- The form of an answer before it is written. No public clause cites this module.
-use Rattle.std.specs.Prelude.{ℕ, List, [], ⊤, decimal, ◌++◌}
+use Rattle.std.specs.Prelude.{ℕ, Bool, true, false, List, [], ⊤, codes, decimal, ◌++◌}
 use Rattle.mc_parse.specs.declared.command.Command.{Command}
 use Rattle.mc_parse.specs.declared.command.Command.TheVariants.{Get, Meta, Stats}
 use Rattle.mc_reply.specs.declared.answer.Answer.{Answer}
@@ -19,6 +19,12 @@ IsNoRetrieval (Meta meta) = ⊥
 IsNoRetrieval Stats = ⊥
 IsNoRetrieval command = ⊤
 
--- the end of an item's line, and its value as a line
-abbrev pub value_text : List ℕ → List ℕ
-value_text value = line_end ++ line value
+-- a space and a number, in front of a text
+abbrev pub spaced_number : ℕ → List ℕ → List ℕ
+spaced_number number text = codes " " ++ decimal number ++ text
+
+-- what is after the key in the first line of an item, whose value has `count` bytes
+abbrev pub numbers_text : Bool → ℕ → ℕ → ℕ → List ℕ
+numbers_text true flags count unique =
+    spaced_number flags (spaced_number count (spaced_number unique line_end))
+numbers_text false flags count unique = spaced_number flags (spaced_number count line_end)

@@ -1,10 +1,14 @@
 //! The lines of an item.
-ghost use Rattle.std.specs.Prelude.{◌≡◌, ◌≤◌, ◌+◌, ◌++◌, length};
-ghost use Rattle.mc_reply.specs.Text.{head_text, unique_text, item_text};
-ghost use Rattle.mc_reply.specs.Shape.{value_text};
+ghost use Rattle.std.specs.Prelude.{◌≡◌, ◌≤◌, ◌+◌, ◌++◌, length, drop, codes, decimal};
+ghost use Rattle.mc_reply.specs.Text.{item_text};
+ghost use Rattle.mc_reply.specs.Shape.{numbers_text, spaced_number};
 
 use crate::lines::LINE_END;
+use itoa::write_digits;
 use zy_base::{Blob, CallReply, Reserved};
+
+// The room for three numbers of up to 20 digits, each after a space, and for the end of a line.
+const NUMBERS_ROOM: usize = 72;
 
 /// Appends the text of a key.
 pub(crate) fn put_item(out: &mut Reserved, asked: bool, key: &Blob, reply: &CallReply)
@@ -18,45 +22,43 @@ pub(crate) fn put_item(out: &mut Reserved, asked: bool, key: &Blob, reply: &Call
         value,
     } = reply
     {
-        put_head(out, key.bytes(), *flags, value.bytes());
-        if asked {
-            put_unique(out, *unique);
-        }
-        put_value(out, value.bytes());
+        out.append(b"VALUE ");
+        out.append(key.bytes());
+        put_numbers(out, asked, *flags, value.bytes().len(), *unique);
+        out.append(value.bytes());
+        out.append(LINE_END);
     }
 }
 
-// Appends the key, the flags and the length of the value.
-fn put_head(out: &mut Reserved, key: &[u8], flags: u32, value: &[u8])
-    requires fits { length (head_text key.now flags value.now) ≤ out.old.room }
-    ensures value { out.new.bytes ≡ out.old.bytes ++ head_text key.now flags value.now }
-    ensures room { out.old.room ≤ out.new.room + length (head_text key.now flags value.now) }
+// Appends what is after the key in its line: the flags, the length of the value, the unique if it was
+// asked for, and the end of the line. They are put together first, from the end, and appended once.
+fn put_numbers(out: &mut Reserved, asked: bool, flags: u32, count: usize, unique: u64)
+    requires fits { length (numbers_text asked flags count unique) ≤ out.old.room }
+    ensures value { out.new.bytes ≡ out.old.bytes ++ numbers_text asked flags count unique }
+    ensures room { out.old.room ≤ out.new.room + length (numbers_text asked flags count unique) }
 {
-    out.append(b"VALUE ");
-    out.append(key);
-    out.append(b" ");
-    out.append_number(flags as u64);
-    out.append(b" ");
-    out.append_number(value.len() as u64);
+    let mut room = [0u8; NUMBERS_ROOM];
+    room[NUMBERS_ROOM - 1] = b'\n';
+    room[NUMBERS_ROOM - 2] = b'\r';
+    let mut start = NUMBERS_ROOM - 2;
+    if asked {
+        start = put_before(&mut room, start, unique);
+    }
+    let start = put_before(&mut room, start, count as u64);
+    let start = put_before(&mut room, start, flags as u64);
+    out.append(&room[start..]);
 }
 
-// Appends the unique of an item.
-fn put_unique(out: &mut Reserved, unique: u64)
-    requires fits { length (unique_text unique) ≤ out.old.room }
-    ensures value { out.new.bytes ≡ out.old.bytes ++ unique_text unique }
-    ensures room { out.old.room ≤ out.new.room + length (unique_text unique) }
+// Writes a space and a number so that they end at a place, and returns where they start.
+fn put_before(room: &mut [u8], end: usize, number: u64) -> usize
+    requires fits { 21 ≤ end }
+    requires within { end ≤ length room.old }
+    ensures value { drop result room.new ≡ spaced_number number (drop end room.old) }
+    ensures length { length room.new ≡ length room.old }
+    ensures start { end ≤ result + 21 }
+    ensures before { result ≤ end }
 {
-    out.append(b" ");
-    out.append_number(unique);
-}
-
-// Appends the end of the line, and the value as a line.
-fn put_value(out: &mut Reserved, value: &[u8])
-    requires fits { length (value_text value.now) ≤ out.old.room }
-    ensures value { out.new.bytes ≡ out.old.bytes ++ value_text value.now }
-    ensures room { out.old.room ≤ out.new.room + length (value_text value.now) }
-{
-    out.append(LINE_END);
-    out.append(value);
-    out.append(LINE_END);
+    let start = write_digits(number, room, end) - 1;
+    room[start] = b' ';
+    start
 }

@@ -1,17 +1,17 @@
-//! The number of bytes in the text of a retrieval.
-ghost use Rattle.std.specs.Prelude.{◌≡◌, ◌+◌, length, IfSome};
+//! Room for the text of a retrieval.
+ghost use Rattle.std.specs.Prelude.{◌≡◌, ◌≤◌, ◌+◌, Bool, length, IfSome};
 ghost use Rattle.mc_reply.specs.Text.{item_text, items_text};
 
-use zy_base::{Blob, CallReply, digits_of};
+use zy_base::{Blob, CallReply};
 
-/// The number of bytes in the texts of the keys; `None` if it does not fit in a `usize`.
-pub(crate) fn items_length(asked: bool, keys: &[Blob], replies: &[CallReply]) -> Option<usize>
+/// A number of bytes that the texts of the keys do not exceed; `None` if it does not fit in a `usize`.
+pub(crate) fn items_room(keys: &[Blob], replies: &[CallReply]) -> Option<usize>
     requires same { length keys.now ≡ length replies.now }
-    ensures value { IfSome result (λ n. n ≡ length (items_text asked keys.now replies.now)) }
+    ensures value { IfSome result (λ n. (asked : Bool) → length (items_text asked keys.now replies.now) ≤ n) }
 {
     let mut total = 0usize;
     for at in 0..keys.len() {
-        let Some(more) = item_length(asked, &keys[at], &replies[at]) else {
+        let Some(more) = item_room(&keys[at], &replies[at]) else {
             return None;
         };
         let Some(sum) = total.checked_add(more) else {
@@ -22,9 +22,10 @@ pub(crate) fn items_length(asked: bool, keys: &[Blob], replies: &[CallReply]) ->
     Some(total)
 }
 
-// The number of bytes in the text of a key.
-fn item_length(asked: bool, key: &Blob, reply: &CallReply) -> Option<usize>
-    ensures value { IfSome result (λ n. n ≡ length (item_text asked key.now reply.now)) }
+// A number of bytes that the text of a key does not exceed: its bytes, those of its value, and 73 for
+// three numbers of up to 20 digits and what is around them.
+fn item_room(key: &Blob, reply: &CallReply) -> Option<usize>
+    ensures value { IfSome result (λ n. (asked : Bool) → length (item_text asked key.now reply.now) ≤ n) }
 {
     let CallReply::Hit {
         flags,
@@ -34,11 +35,14 @@ fn item_length(asked: bool, key: &Blob, reply: &CallReply) -> Option<usize>
     else {
         return Some(0);
     };
-    let length = value.bytes().len();
-    let tail = if asked { 1 + digits_of(*unique) } else { 0 };
-    let words = 12 + digits_of(*flags as u64) + digits_of(length as u64) + tail;
-    match key.bytes().len().checked_add(length) {
-        Some(sum) => sum.checked_add(words),
+    // Both are read, so that the prover knows that they fit their types.
+    let _flags = *flags;
+    let _unique = *unique;
+    let Some(sum) = key.bytes().len().checked_add(value.bytes().len()) else {
+        return None;
+    };
+    match sum.checked_add(73) {
+        Some(room) => Some(room),
         None => None,
     }
 }

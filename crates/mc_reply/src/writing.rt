@@ -7,7 +7,7 @@ ghost use Rattle.mc_reply.specs.Shape.{answer_text};
 use crate::answer::Answer;
 use crate::answering::answer_to;
 use crate::item::put_item;
-use crate::length::items_length;
+use crate::length::items_room;
 use crate::lines::{END, LINE_END};
 use crate::meta_answer::append_meta;
 use crate::stats::append_stats;
@@ -75,7 +75,7 @@ fn append_items(
         ≡ out.old ++ (items_text asked keys.now replies.now ++ line (codes "END"))) }
     ensures err { OnErr result (out.new ≡ out.old) }
 {
-    let Some(items) = items_length(asked, keys, replies) else {
+    let Some(items) = items_room(keys, replies) else {
         return Err(NoMemory);
     };
     let Some(more) = items.checked_add(END.len()) else {

@@ -1,26 +1,20 @@
 -- What is counted of the items and of the calls of a shard, along changes and calls.
-use Rattle.std.proofs.Common.{◌≡◌, ℕ, ◌+◌, ◌-◌, ◌<◌, ◌≤◌, ◌^◌, Bool, true, false, cond, List, [], ◌∷◌, length, refl, sym, ap, subst, ◌∙◌, ⊎_elim, arith}
-use Rattle.std.specs.Prelude.{Option, Some, None, is_some}
+use Rattle.std.proofs.Common.{◌≡◌, ℕ, ◌+◌, ◌-◌, ◌<◌, ◌≤◌, ◌^◌, Bool, true, false, cond, List, refl, sym, ap, subst, ◌∙◌, ⊎_elim, arith}
+use Rattle.std.specs.Prelude.{is_some}
 use Rattle.std.proofs.Math.Nat.{eq-zero-or-pos}
 use Rattle.std.specs.Ordering.{nat_cmp}
 use Rattle.std.specs.Cmp.Lexicographic.{slice_cmp, nat_list_cmp_total}
 use Rattle.std.specs.FinMap.{get, empty, insert, remove, contains_key, len, get-empty, empty_of_len, len-empty, len-insert, len-remove}
 use Rattle.zy_base.specs.declared.item.Item.{Item}
 use Rattle.zy_base.specs.declared.entry.Entry.{Entry}
-use Rattle.zy_base.specs.declared.call.Call.{Call}
-use Rattle.zy_base.specs.declared.call.Call.TheVariants.{Get, Set, Add, Replace, Append, Prepend, Cas, Incr, Decr, Delete, Flush, Tally}
-use Rattle.zy_base.specs.declared.call_reply.CallReply.{CallReply}
-use Rattle.zy_base.specs.declared.call_reply.CallReply.TheVariants.{Miss, Hit}
-use Rattle.zy_base.specs.Kind.{MayAnswer}
-use Rattle.zy_base.specs.Counted.{is_get, is_set, is_hit, calls_with}
 use Rattle.zy_base.specs.Shard.{Items, State, empty_state}
 use Rattle.zy_base.specs.History.{replayed}
 use Rattle.zy_base.specs.Order.{last_stamp}
 use Rattle.zy_base.proofs.EntryLemmas.{StampsRise-length}
 use Rattle.zy_base.proofs.CountedLemmas.{gets_within, sets_within}
 use Rattle.mc_stats.specs.declared.counts.Counts.{Counts}
-use Rattle.mc_stats.specs.Counts.{no_counts, with_get, with_set, with_item, without_item, without_items}
-use Rattle.mc_shard.specs.Contents.{call_counts_in, items_in, AreCounts, IsSound}
+use Rattle.mc_stats.specs.Counts.{no_counts, with_item, without_item, without_items}
+use Rattle.mc_shard.specs.Contents.{call_counts_in, AreCounts, IsSound}
 
 -- ---- items
 
@@ -80,49 +74,6 @@ some_items counts count items key is are =
     none zero =
         let gone : contains_key items key ≡ false = ap (λ (m : Items). is_some (get m key)) (empty_of_len items zero) ∙ ap is_some (get-empty (slice_cmp nat_cmp) key) in
         cc
-
--- ---- calls
-
--- a get was counted
-pub noted_get : (counts : Counts) (call : Call) (reply : CallReply) → MayAnswer call reply → is_get call ≡ true → call_counts_in (with_get (is_hit call reply) counts) ≡ calls_with (call_counts_in counts) call reply
-noted_get counts (Get key) Miss may is = refl
-noted_get counts (Get key) (Hit flags unique value) may is = refl
-noted_get counts (Get key) reply may is = absurd may
-noted_get counts call reply may is = cc
-
--- a call that stores a value was counted
-pub noted_set : (counts : Counts) (call : Call) (reply : CallReply) → is_set call ≡ true → call_counts_in (with_set counts) ≡ calls_with (call_counts_in counts) call reply
-noted_set counts (Set key flags value) reply is = refl
-noted_set counts (Add key flags value) reply is = refl
-noted_set counts (Replace key flags value) reply is = refl
-noted_set counts (Append key value) reply is = refl
-noted_set counts (Prepend key value) reply is = refl
-noted_set counts (Cas key flags unique value) reply is = refl
-noted_set counts call reply is = cc
-
--- no other call is counted
-pub noted_other : (counts : Counts) (call : Call) (reply : CallReply) → is_get call ≡ false → is_set call ≡ false → call_counts_in counts ≡ calls_with (call_counts_in counts) call reply
-noted_other counts (Incr key amount) reply no_get no_set = refl
-noted_other counts (Decr key amount) reply no_get no_set = refl
-noted_other counts (Delete key) reply no_get no_set = refl
-noted_other counts Flush reply no_get no_set = refl
-noted_other counts Tally reply no_get no_set = refl
-noted_other counts call reply no_get no_set = cc
-
--- the counts fit after a get
-pub counts_got : (counts : Counts) (count : ℕ) (items : Items) (hit : Bool) → AreCounts counts count items → AreCounts (with_get hit counts) count items
-counts_got counts count items true are = record {
-  items_are = are.items_are;
-  few_items = are.few_items;
-  few_hits = (let few = are.few_hits in omega (arith, few));
-  few_misses = (let few = are.few_misses in omega (arith, few));
-}
-counts_got counts count items false are = record {
-  items_are = are.items_are;
-  few_items = are.few_items;
-  few_hits = (let few = are.few_hits in omega (arith, few));
-  few_misses = (let few = are.few_misses in omega (arith, few));
-}
 
 -- ---- a shard with a history
 

@@ -1,5 +1,6 @@
 pub mod MapLemmas
-pub mod TreeLemmas
+pub mod BucketLemmas
+pub mod RowLemmas
 pub mod SoundLemmas
 pub mod UniqueLemmas
 pub mod KeyLemmas

@@ -3,17 +3,16 @@ use Rattle.std.proofs.Common.{◌≡◌, ℕ, List, [], ◌∷◌, refl, sym, ap
 use Rattle.std.specs.Prelude.{Option, Some, None, cond, true, false}
 use Rattle.std.specs.declared.cmp.Ordering.{Ordering}
 use Rattle.std.specs.declared.cmp.Ordering.TheVariants.{Less, Equal, Greater}
-use Rattle.std.specs.Ordering.{nat_cmp, is_eq, ordering_then}
-use Rattle.std.specs.Cmp.{eq_by_cmp_equiv}
+use Rattle.std.specs.Ordering.{nat_cmp, is_eq, ordering_then, eq_by_cmp}
+use Rattle.std.specs.Cmp.{eq_by_cmp_equiv, nat_cmp_total}
 use Rattle.std.proofs.lemmas.Cmp.{tied_itself}
 use Rattle.std.specs.Cmp.Lexicographic.{slice_cmp, nat_list_cmp_total}
 use Rattle.std.specs.FinMap.{find, get, insert, remove, get-insert, get-remove, get-from_entries, same_map, slice_cmp-IsAntisymmetric, nat_cmp-IsAntisymmetric}
-use Rattle.std.specs.Map.{lookup}
 use Rattle.std.specs.BTreeMap.{is_at}
 use Rattle.zy_base.specs.declared.item.Item.{Item}
 use Rattle.zy_base.specs.Key.{hash_of}
 use Rattle.mc_shard.specs.Contents.{hashed_cmp, hashed_total, items_in}
-use Rattle.mc_shard.specs.Trees.{item_in}
+use Rattle.mc_shard.specs.Buckets.{item_in}
 
 -- keys that differ are ordered by their hashes, or by themselves where the hashes are equal
 differ_by : (hashes keys : Ordering) → is_eq keys ≡ false → is_eq (ordering_then hashes keys) ≡ false
@@ -40,6 +39,11 @@ same_by key q Greater same is = cc
 -- a key is found only at itself
 pub same_at : (key q : List ℕ) → is_at (hashed_cmp key) q ≡ true → key ≡ q
 same_at key q is = same_by key q (slice_cmp nat_cmp key q) refl (alike key q ∙ is)
+
+-- keys with the same hash are the same exactly where their bytes are
+pub same_hash : (a b : List ℕ) → hash_of a ≡ hash_of b → eq_by_cmp hashed_cmp a b ≡ eq_by_cmp (slice_cmp nat_cmp) a b
+same_hash a b same =
+    ap (λ o. is_eq (ordering_then o (slice_cmp nat_cmp a b))) (subst (λ (h : ℕ). nat_cmp (hash_of a) h ≡ Equal) same (tied_itself nat_cmp_total (hash_of a)))
 
 find_lookup : (entries : List (List ℕ × Item)) (key : List ℕ) → find (slice_cmp nat_cmp) key entries ≡ item_in entries key
 find_lookup [] key = refl

@@ -1,7 +1,7 @@
 pub mod Shard
 pub mod Replay
 pub mod Contents
-pub mod Trees
+pub mod Buckets
 pub mod Step
 pub mod Uniques
 pub mod KeyReplies

@@ -8,10 +8,10 @@ ghost use Rattle.zy_base.specs.Shard.{outcome_of, item_at, empty_state, tallied,
 ghost use Rattle.mc_shard.specs.Contents.{with_item};
 ghost use Rattle.mc_shard.specs.Step.{effect_in};
 
+use crate::buckets::Buckets;
 use crate::change::Change;
 use crate::counting::{count_put, count_removed};
 use crate::hashed::Hashed;
-use crate::trees::Trees;
 use mc_stats::Counts;
 use std::alloc::Global;
 use std::marker::Model;
@@ -21,7 +21,7 @@ use zy_base::{Call, CallReply, Item, NoMemory, Tallied};
 /// its items, its counter and its counts of calls.
 #[derive(Drop)]
 pub struct Contents {
-    items: Trees,
+    items: Buckets,
     count: u64,
     counts: Counts,
 }
@@ -46,7 +46,7 @@ impl Contents {
         ensures value { result ≡ empty_state }
     {
         Contents {
-            items: Trees::new(alloc),
+            items: Buckets::new(alloc),
             count: 0,
             counts: Counts::new(),
         }
@@ -195,8 +195,7 @@ impl Contents {
         ensures value { self.new ≡ record self.old { items = remove self.old.items key.now } }
     {
         let found = self.items.remove(key);
-        count_removed(&mut self.counts, found.is_some());
-        drop(found);
+        count_removed(&mut self.counts, found);
     }
 
     // Removes all items.

@@ -4,7 +4,7 @@ ghost use Rattle.std.specs.Ordering.{eq_by_cmp};
 ghost use Rattle.std.specs.Cmp.{partial_equiv_from_equiv, partial_order_from_total, eq_by_cmp_equiv};
 ghost use Rattle.zy_base.specs.Call.{key_of};
 ghost use Rattle.mc_shard.specs.Contents.{hashed_cmp, hashed_total};
-ghost use Rattle.mc_shard.specs.Trees.{tree_of};
+ghost use Rattle.mc_shard.specs.Buckets.{bucket_of};
 
 use std::cmp::Ordering;
 use std::marker::Model;
@@ -42,9 +42,9 @@ impl Hashed {
         }
     }
 
-    /// The number of its tree: the first eight bits of the hash.
-    pub fn tree(&self) -> usize
-        ensures value { result ≡ tree_of self.now }
+    /// The number of its bucket: the first eight bits of the hash.
+    pub fn bucket(&self) -> usize
+        ensures value { result ≡ bucket_of self.now }
         ensures within { result < 256 }
     {
         (self.hash / 16_777_216) as usize
@@ -70,7 +70,7 @@ impl PartialEq for Hashed {
     ghost laws = { partial_equiv_from_equiv (eq_by_cmp_equiv hashed_total) };
 
     fn eq(&self, other: &Hashed) -> bool {
-        matches!(self.cmp(other), Ordering::Equal)
+        self.hash == other.hash && self.key == other.key
     }
 }
 

@@ -1,6 +1,8 @@
 //! One shard of the store, with the history of its calls.
 #![tactic(auto)]
 
+mod bucket;
+mod buckets;
 mod change;
 mod contents;
 mod counting;
@@ -10,7 +12,6 @@ mod made;
 mod replay;
 mod shard;
 mod step;
-mod trees;
 
 pub use laws::{
     a_flush_empties_and_keeps_the_counter, a_key_depends_on_its_own_calls,

@@ -76,7 +76,7 @@ impl Shard {
         Entries::from_vec(self.history)
     }
 
-    /// Makes a call as `make` does, and answers a copy of its entry.
+    /// Makes a call as `make` does, and answers a copy of its entry. The program calls `make`.
     pub fn apply(&mut self, tag: Tag, mut call: Call, seen: u64) -> Result<Entry, NoMemory>
         requires last { last_of self.old < 2 ^ 60 }
         requires seen { seen < 2 ^ 60 }

@@ -1,5 +1,5 @@
 -- The root gives a pass, and takes it in again.
-use Rattle.std.proofs.Common.{◌≡◌, ◌≢◌, ℕ, zero, suc, ◌<◌, List, [], ◌∷◌, length, set, Bool, true, false, refl, sym, ap, ◌∙◌, subst, ⊎_elim, arith, length-set}
+use Rattle.std.proofs.Common.{◌≡◌, ◌≢◌, ℕ, suc, ◌<◌, List, [], ◌∷◌, length, set, Bool, true, false, refl, sym, ap, ◌∙◌, subst, ⊎_elim, arith, length-set}
 use Rattle.std.specs.Prelude as std
 use mathlib.Core.Option.{Option, some}
 use native.Mathlib.Decide.{ℕ_discrete, dec_lt}
@@ -17,7 +17,7 @@ use Rattle.mc_store.specs.declared.store.view.Trace.{Trace}
 use Rattle.mc_store.specs.declared.store.view.View.{View}
 use Rattle.mc_store.specs.declared.store.view.View.TheVariants.{Spent, Root, Pass}
 use Rattle.mc_store.specs.Joined.{Joined, is_joined, is_out, calls_of}
-use Rattle.mc_store.specs.StoreRule.{Place, free, away, Lies, Holds, Knows, StoreRule}
+use Rattle.mc_store.specs.StoreRule.{Place, free, away, Lies, Knows, StoreRule}
 use Rattle.std.specs.Prelude.{◌||◌, ◌&&◌, not, ◌==◌, replicate, slice_get, unwrap_or, Some}
 use Rattle.std.proofs.Common.{eq-eqb, ne_eqb, cond}
 use Rattle.atomic_table.specs.Table.{Splits, Joins}
@@ -183,22 +183,6 @@ joins id other c given joined mine t s r at apart there =
           (old.0, old.1, set_else (set s.views id both) other j Spent from_pass ∙ set_else s.views id j both from_root ∙ old.2));
       sums = r.sums;
     }
-
--- where a shard is away, exactly one seat has it, and knows its history
-pub one_holder : (s : St) (r : StoreRule s) (k c : ℕ) → k < length s.homes → r.places k ≡ away c → (j : ℕ) × (mine : List Entry) × (t : Trace) × (get_elem? s.views j ≡ some (Pass c mine (std.Some (k, r.histories k)) t))
-one_holder s r k c near is = go (r.seats c) refl
-  where
-    from : (j : ℕ) (h : std.Option (ℕ × List Entry)) (t : Trace) → get_elem? s.views j ≡ some (Pass c (r.calls c) h t) → Holds r.histories r.places (length s.homes) c h
-        → (i : ℕ) × (mine : List Entry) × (u : Trace) × (get_elem? s.views i ≡ some (Pass c mine (std.Some (k, r.histories k)) u))
-    from j std.None t at held = absurd (held k is)
-    from j (std.Some x) t at held =
-        let same : k ≡ x.0 = held.3 k is in
-        let list : r.histories k ≡ x.1 = ap r.histories same ∙ held.1 in
-        (j, r.calls c, t, at ∙ ap (λ (y : ℕ × List Entry). some (Pass c (r.calls c) (std.Some y) t)) (λ i. (sym same i, sym list i)))
-
-    go : (n : ℕ) → r.seats c ≡ n → (j : ℕ) × (mine : List Entry) × (t : Trace) × (get_elem? s.views j ≡ some (Pass c mine (std.Some (k, r.histories k)) t))
-    go zero e = absurd (all_home s r c e k is)
-    go (suc j) e = let old = r.live c j e in from j old.0 old.1 old.2 (r.each_seat j (Pass c (r.calls c) old.0 old.1) old.2).3
 
 -- ---- the same, stated at the values that the code has
 

@@ -138,8 +138,8 @@ impl StoreTable {
     /// and, where it was even, one exchange. The call happens at the store that makes the word even
     /// again. Its stamp is above all that the pass and the shard have seen.
     ///
-    /// The entry that is answered is a copy. After want of memory no call was made, and the shard is free
-    /// again, as it was.
+    /// The entry that is answered is a copy. After a refusal no call was made, and the shard is free
+    /// again, as it was. The program calls `make_call`.
     pub fn try_call(
         &self,
         pass: &mut Pass,

@@ -1,15 +1,14 @@
 -- What a shard counts in a replay is counted from the entries alone.
-use Rattle.std.specs.Prelude.{◌==◌, nat_lt, if◌then◌else◌, fold, count_by, is_some, Option, None, Some, ⊤}
+use Rattle.std.specs.Prelude.{◌==◌, nat_lt, count_by, is_some, Option, None, Some, ⊤}
 use Rattle.std.proofs.Common.{◌≡◌, ℕ, ◌+◌, ◌-◌, ◌≤◌, Bool, true, false, cond, List, [], ◌∷◌, ◌++◌, length, refl, sym, ap, ◌∙◌, subst, arith}
 use Rattle.std.proofs.lemmas.List.{append_assoc, append-nil}
 use Rattle.std.proofs.lemmas.List.Sums.{sum_by-cons, count_by-le-length}
 use Rattle.std.specs.Ordering.{nat_cmp, eq_by_cmp}
 use Rattle.std.specs.Cmp.Lexicographic.{slice_cmp, nat_list_cmp_total}
-use Rattle.std.specs.FinMap.{FinMap, empty, get, contains_key, insert, remove, len, get-empty, get-insert, get-remove, len-empty, len-insert, len-remove}
+use Rattle.std.specs.FinMap.{empty, get, contains_key, insert, remove, len, get-empty, get-insert, get-remove, len-empty, len-insert, len-remove}
 use Rattle.zy_base.specs.declared.item.Item.{Item}
 use Rattle.zy_base.specs.declared.call.Call.{Call}
 use Rattle.zy_base.specs.declared.call.Call.TheVariants.{Get, Set, Add, Replace, Append, Prepend, Cas, Incr, Decr, Delete, Flush, Tally}
-use Rattle.zy_base.specs.declared.call_reply.CallReply.{CallReply}
 use Rattle.zy_base.specs.declared.call_reply.CallReply.TheVariants.{TooLarge, Exists}
 use Rattle.zy_base.specs.declared.entry.Entry.{Entry}
 use Rattle.zy_base.specs.declared.tallied.Tallied.{Tallied}
@@ -17,7 +16,7 @@ use Rattle.zy_base.specs.Call.{key_of}
 use Rattle.zy_base.specs.Code.{tally}
 use Rattle.zy_base.specs.Number.{number_of}
 use Rattle.zy_base.specs.Counted.{is_get, is_set, is_hit, is_miss, one_more_if, KeySet, no_keys, keys_with, keys_after, counted}
-use Rattle.zy_base.specs.Shard.{Items, State, empty_state, tallied, Outcome, value_limit, answers, stored, counted_up, counted_down, outcome_of, outcome_on, item_at, reply_to, state_with, state_after}
+use Rattle.zy_base.specs.Shard.{Items, State, empty_state, tallied, Outcome, value_limit, answers, stored, counted_up, counted_down, outcome_of, item_at, reply_to, state_with, state_after}
 use Rattle.zy_base.specs.Order.{at_shard}
 use Rattle.zy_base.specs.History.{IsReplay, replayed, IsLegal, answer_after, AreAnswered}
 use Rattle.zy_base.proofs.LegalLemmas.{legal_parts}

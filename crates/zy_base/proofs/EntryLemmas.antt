@@ -1,13 +1,12 @@
 -- Lists of entries that are one longer, or joined: their parts, their places, their stamps and their order.
-use Rattle.std.specs.Prelude.{◌==◌, filter, Option, None, Some}
-use Rattle.std.specs.List.{last_or}
-use Rattle.std.proofs.Common.{◌≡◌, ◌≢◌, ℕ, ◌+◌, ◌<◌, ◌≤◌, Bool, true, false, cond, List, [], ◌∷◌, ◌++◌, length, map, refl, sym, ap, ◌∙◌, eq-eqb, ne_eqb, eqb-true, arith}
+use Rattle.std.specs.Prelude.{◌==◌, filter}
+use Rattle.std.proofs.Common.{◌≡◌, ◌≢◌, ℕ, ◌+◌, ◌<◌, ◌≤◌, Bool, true, false, cond, List, [], ◌∷◌, ◌++◌, length, map, refl, ap, ◌∙◌, eq-eqb, ne_eqb, arith}
 use Rattle.std.proofs.lemmas.List.{append-nil, map-append}
 use Rattle.std.proofs.lemmas.List.Elements.{filter-append}
 use Rattle.zy_base.specs.declared.entry.Entry.{Entry}
 use Rattle.zy_base.specs.declared.call_reply.CallReply.{CallReply}
 use Rattle.zy_base.specs.Kind.{MayAnswer, AreAnswers}
-use Rattle.zy_base.specs.Order.{of_connection, at_shard, AreAt, AreBelow, last_stamp, StampsRise, AreStampsBelow, IsBehind, IsOrdered}
+use Rattle.zy_base.specs.Order.{of_connection, at_shard, AreAt, AreBelow, last_stamp, StampsRise, AreStampsBelow}
 use Rattle.zy_base.specs.Replies.{replies_at}
 
 -- ---- what passes a test
@@ -38,9 +37,6 @@ of_connection-push connection es e is = filter-push (λ x. x.tag.conn == connect
 pub of_connection-push_other : (connection : ℕ) (es : List Entry) (e : Entry) → e.tag.conn ≢ connection → of_connection connection (es ++ e ∷ []) ≡ of_connection connection es
 of_connection-push_other connection es e other = filter-push_other (λ x. x.tag.conn == connection) es e (ne_eqb e.tag.conn connection other)
 
-pub of_connection-append : (connection : ℕ) (xs ys : List Entry) → of_connection connection (xs ++ ys) ≡ of_connection connection xs ++ of_connection connection ys
-of_connection-append connection xs ys = filter-append (λ x. x.tag.conn == connection) xs ys
-
 -- ---- the entries at a shard
 
 pub at_shard-here : (shard : ℕ) (e : Entry) (es : List Entry) → e.shard ≡ shard → at_shard shard (e ∷ es) ≡ e ∷ at_shard shard es
@@ -57,17 +53,6 @@ at_shard-push_other shard es e other = filter-push_other (λ x. x.shard == shard
 
 pub at_shard-append : (shard : ℕ) (xs ys : List Entry) → at_shard shard (xs ++ ys) ≡ at_shard shard xs ++ at_shard shard ys
 at_shard-append shard xs ys = filter-append (λ x. x.shard == shard) xs ys
-
--- where all are at the shard, they are its part
-pub at_shard-all : (shard : ℕ) (es : List Entry) → AreAt shard es → at_shard shard es ≡ es
-at_shard-all shard [] place = refl
-at_shard-all shard (e ∷ es) place = at_shard-here shard e es place.0 ∙ ap (λ l. e ∷ l) (at_shard-all shard es place.1)
-
--- and no other shard has a part
-pub at_shard-none : (shard other : ℕ) (es : List Entry) → AreAt shard es → shard ≢ other → at_shard other es ≡ []
-at_shard-none shard other [] place apart = refl
-at_shard-none shard other (e ∷ es) place apart =
-    at_shard-other other e es (λ same. apart (sym place.0 ∙ same)) ∙ at_shard-none shard other es place.1 apart
 
 -- ---- the replies of a command
 
@@ -98,21 +83,9 @@ pub AreAt-push : (shard : ℕ) (es : List Entry) (e : Entry) → AreAt shard es 
 AreAt-push shard [] e place here = (here, tt)
 AreAt-push shard (x ∷ xs) e place here = (place.0, AreAt-push shard xs e place.1 here)
 
-pub AreAt-at_shard : (shard : ℕ) (es : List Entry) → AreAt shard (at_shard shard es)
-AreAt-at_shard shard [] = tt
-AreAt-at_shard shard (e ∷ es) = go (e.shard == shard) refl (AreAt-at_shard shard es)
-  where
-    go : (b : Bool) → (e.shard == shard) ≡ b → AreAt shard (at_shard shard es) → AreAt shard (cond b (e ∷ at_shard shard es) (at_shard shard es))
-    go true is rest = (eqb-true e.shard shard is, rest)
-    go false is rest = rest
-
 pub AreBelow-push : (shards : ℕ) (es : List Entry) (e : Entry) → AreBelow shards es → e.shard < shards → AreBelow shards (es ++ e ∷ [])
 AreBelow-push shards [] e below within = (within, tt)
 AreBelow-push shards (x ∷ xs) e below within = (below.0, AreBelow-push shards xs e below.1 within)
-
-pub AreBelow-append : (shards : ℕ) (xs ys : List Entry) → AreBelow shards xs → AreBelow shards ys → AreBelow shards (xs ++ ys)
-AreBelow-append shards [] ys front back = back
-AreBelow-append shards (x ∷ xs) ys front back = (front.0, AreBelow-append shards xs ys front.1 back)
 
 pub AreBelow-parts : (shards : ℕ) (xs ys : List Entry) → AreBelow shards (xs ++ ys) → AreBelow shards xs × AreBelow shards ys
 AreBelow-parts shards [] ys below = (tt, below)
@@ -128,26 +101,9 @@ pub last_stamp-push : (before : ℕ) (es : List Entry) (e : Entry) → last_stam
 last_stamp-push before [] e = refl
 last_stamp-push before (x ∷ xs) e = last_stamp-push x.stamp xs e
 
-pub last_stamp-append : (before : ℕ) (xs ys : List Entry) → last_stamp before (xs ++ ys) ≡ last_stamp (last_stamp before xs) ys
-last_stamp-append before [] ys = refl
-last_stamp-append before (x ∷ xs) ys = last_stamp-append x.stamp xs ys
-
 pub StampsRise-push : (before : ℕ) (es : List Entry) (e : Entry) → StampsRise before es → last_stamp before es < e.stamp → StampsRise before (es ++ e ∷ [])
 StampsRise-push before [] e stamps above = (above, tt)
 StampsRise-push before (x ∷ xs) e stamps above = (stamps.0, StampsRise-push x.stamp xs e stamps.1 above)
-
-pub StampsRise-append : (before : ℕ) (xs ys : List Entry) → StampsRise before xs → StampsRise (last_stamp before xs) ys → StampsRise before (xs ++ ys)
-StampsRise-append before [] ys front back = back
-StampsRise-append before (x ∷ xs) ys front back = (front.0, StampsRise-append x.stamp xs ys front.1 back)
-
-pub StampsRise-parts : (before : ℕ) (xs ys : List Entry) → StampsRise before (xs ++ ys) → StampsRise before xs × StampsRise (last_stamp before xs) ys
-StampsRise-parts before [] ys stamps = (tt, stamps)
-StampsRise-parts before (x ∷ xs) ys stamps = let rest = StampsRise-parts x.stamp xs ys stamps.1 in ((stamps.0, rest.0), rest.1)
-
--- stamps that are above a number are above a lower one
-pub StampsRise-lower : (lower before : ℕ) (es : List Entry) → lower ≤ before → StampsRise before es → StampsRise lower es
-StampsRise-lower lower before [] below stamps = tt
-StampsRise-lower lower before (e ∷ es) below stamps = ((let above = stamps.0 in omega arith), stamps.1)
 
 -- the last stamp is not below the one before all
 pub last_stamp-rises : (before : ℕ) (es : List Entry) → StampsRise before es → before ≤ last_stamp before es
@@ -167,30 +123,3 @@ pub AreStampsBelow-last : (before limit : ℕ) (es : List Entry) → StampsRise 
 AreStampsBelow-last before limit [] stamps below = tt
 AreStampsBelow-last before limit (e ∷ es) stamps below =
     ((let rest = last_stamp-rises e.stamp es stamps.1 in omega arith), AreStampsBelow-last e.stamp limit es stamps.1 below)
-
-pub AreStampsBelow-push : (limit : ℕ) (es : List Entry) (e : Entry) → AreStampsBelow limit es → e.stamp < limit → AreStampsBelow limit (es ++ e ∷ [])
-AreStampsBelow-push limit [] e below within = (within, tt)
-AreStampsBelow-push limit (x ∷ xs) e below within = (below.0, AreStampsBelow-push limit xs e below.1 within)
-
--- ---- order
-
-pub last_or-push : (before : Option Entry) (es : List Entry) (e : Entry) → last_or before (es ++ e ∷ []) ≡ Some e
-last_or-push before [] e = refl
-last_or-push before (x ∷ xs) e = last_or-push (Some x) xs e
-
-pub IsOrdered-push : (before : Option Entry) (es : List Entry) (e : Entry) → IsOrdered before es → IsBehind (last_or before es) e → IsOrdered before (es ++ e ∷ [])
-IsOrdered-push before [] e ordered behind = (behind, tt)
-IsOrdered-push before (x ∷ xs) e ordered behind = (ordered.0, IsOrdered-push (Some x) xs e ordered.1 behind)
-
-pub IsOrdered-append : (before : Option Entry) (xs ys : List Entry) → IsOrdered before xs → IsOrdered (last_or before xs) ys → IsOrdered before (xs ++ ys)
-IsOrdered-append before [] ys front back = back
-IsOrdered-append before (x ∷ xs) ys front back = (front.0, IsOrdered-append (Some x) xs ys front.1 back)
-
-pub IsOrdered-parts : (before : Option Entry) (xs ys : List Entry) → IsOrdered before (xs ++ ys) → IsOrdered before xs × IsOrdered (last_or before xs) ys
-IsOrdered-parts before [] ys ordered = (tt, ordered)
-IsOrdered-parts before (x ∷ xs) ys ordered = let rest = IsOrdered-parts (Some x) xs ys ordered.1 in ((ordered.0, rest.0), rest.1)
-
--- entries that are in order after an entry are in order
-pub IsOrdered-alone : (before : Option Entry) (es : List Entry) → IsOrdered before es → IsOrdered None es
-IsOrdered-alone before [] ordered = tt
-IsOrdered-alone before (e ∷ es) ordered = (tt, ordered.1)

@@ -29,9 +29,3 @@ module _ {A : Type 0} where
   set-same [] i a is = refl
   set-same (x ∷ xs) zero a is = let same : x ≡ a = cc in ap (λ y. y ∷ xs) (sym same)
   set-same (x ∷ xs) (suc i) a is = ap (λ l. x ∷ l) (set-same xs i a is)
-
-  -- of two changes at one place, the second remains
-  pub set-set : (xs : List A) (i : ℕ) (a b : A) → set (set xs i a) i b ≡ set xs i b
-  set-set [] i a b = refl
-  set-set (x ∷ xs) zero a b = refl
-  set-set (x ∷ xs) (suc i) a b = ap (λ l. x ∷ l) (set-set xs i a b)

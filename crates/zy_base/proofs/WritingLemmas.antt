@@ -1,6 +1,6 @@
 -- How a sink's bytes grow, write after write.
 use Rattle.std.proofs.Common.{◌≡◌, ◌⊎◌, inl, inr, ℕ, ◌+◌, ◌-◌, ◌≤◌, ◌<◌, List, [], ◌++◌, take-append-drop, length, take, drop, get_or, sym, ◌∙◌, ap, subst, arith, append_assoc, length-append}
-use Rattle.std.specs.Prelude.{flat_map, Option, Some, None, ⊤, Result, Ok, Err, OnErr}
+use Rattle.std.specs.Prelude.{flat_map, Bool, Option, Some, None, ⊤, Result, Ok, Err, is_ok, OnErr}
 use Rattle.std.proofs.Math.Seq.{take-add, take-append-add}
 use Rattle.std.proofs.lemmas.Grind.{flat_map-append}
 use Rattle.std.proofs.lemmas.List.{append-nil, drop_more, take_rest, take_all, take-append-le}
@@ -31,10 +31,6 @@ grew_piece a b c piece at n first second =
 -- a call after it that took nothing
 pub grew_same : (a b c : Option (List ℕ)) (x : List ℕ) → Grew a b x → Grew b c [] → Grew a c x
 grew_same a b c x first second = subst (Grew a c) (append-nil x) (grew_on a b c x [] first second)
-
--- all bytes of a piece were taken
-pub grew_all : (a b : Option (List ℕ)) (piece : List ℕ) (at : ℕ) → length piece ≤ at → Grew a b (take at piece) → Grew a b piece
-grew_all a b piece at all grew = subst (Grew a b) (take_all at piece all) grew
 
 -- ---- prefixes
 
@@ -88,53 +84,58 @@ writes_no_more holds faults finishes old new e x y first = record {
 }
 
 -- a last text that is written after one that was written whole
-pub writes_last_on : {K E : Type 0} (holds : K → Option (List ℕ)) (faults finishes : K → ℕ) (old between new : K) (result : Result ⊤ E) (x y : List ℕ) → Grew (holds old) (holds between) x → faults old ≤ faults between → finishes between ≡ finishes old
-    → WritesLast holds faults finishes between new result y → WritesLast holds faults finishes old new result (x ++ y)
-writes_last_on holds faults finishes old between new (Ok u) x y first le same second = record {
+pub writes_last_on : {K E : Type 0} (holds : K → Option (List ℕ)) (faults finishes : K → ℕ) (is_finished : K → Bool) (old between new : K) (result : Result ⊤ E) (x y : List ℕ) → Grew (holds old) (holds between) x → faults old ≤ faults between → finishes between ≡ finishes old
+    → WritesLast holds faults finishes is_finished between new result y → WritesLast holds faults finishes is_finished old new result (x ++ y)
+writes_last_on holds faults finishes is_finished old between new (Ok u) x y first le same second = record {
   whole = grew_on (holds old) (holds between) (holds new) x y first second.whole;
   part = tt;
   count = omega (arith, le, second.count);
   cause = tt;
   finished = second.finished ∙ ap one_more same;
+  last = second.last;
   broken = tt;
 }
-writes_last_on holds faults finishes old between new (Err e) x y first le same second = record {
+writes_last_on holds faults finishes is_finished old between new (Err e) x y first le same second = record {
   whole = tt;
   part = part_of_second (holds old) (holds between) (holds new) x y first second.part;
   count = omega (arith, le, second.count);
   cause = rose_later (faults old) (faults between) (faults new) le second.cause;
   finished = tt;
+  last = tt;
   broken = subst (λ (n : ℕ). (finishes new ≡ n) ⊎ (finishes new ≡ one_more n)) same second.broken;
 }
 
 -- a text whose writing failed, and which was not finished
-pub writes_last_failed : {K E : Type 0} (holds : K → Option (List ℕ)) (faults finishes : K → ℕ) (old new : K) (e : E) (x : List ℕ) → Writes holds faults finishes old new (Err e) x → WritesLast holds faults finishes old new (Err e) x
-writes_last_failed holds faults finishes old new e x first = record {
+pub writes_last_failed : {K E : Type 0} (holds : K → Option (List ℕ)) (faults finishes : K → ℕ) (is_finished : K → Bool) (old new : K) (e : E) (x : List ℕ) → Writes holds faults finishes old new (Err e) x → WritesLast holds faults finishes is_finished old new (Err e) x
+writes_last_failed holds faults finishes is_finished old new e x first = record {
   whole = tt;
   part = first.part;
   count = first.count;
   cause = first.cause;
   finished = tt;
+  last = tt;
   broken = inl first.unfinished;
 }
 
 -- a text that was written whole, and then finished
-pub writes_finished : {K E : Type 0} (holds : K → Option (List ℕ)) (faults finishes : K → ℕ) (old between new : K) (result : Result ⊤ E) (x : List ℕ) → Grew (holds old) (holds between) x → faults old ≤ faults between → finishes between ≡ finishes old
-    → Grew (holds between) (holds new) [] → faults between ≤ faults new → OnErr result (Rose (faults between) (faults new)) → finishes new ≡ one_more (finishes between) → WritesLast holds faults finishes old new result x
-writes_finished holds faults finishes old between new (Ok u) x first le same still more cause once = record {
+pub writes_finished : {K E : Type 0} (holds : K → Option (List ℕ)) (faults finishes : K → ℕ) (is_finished : K → Bool) (old between new : K) (result : Result ⊤ E) (x : List ℕ) → Grew (holds old) (holds between) x → faults old ≤ faults between → finishes between ≡ finishes old
+    → Grew (holds between) (holds new) [] → faults between ≤ faults new → OnErr result (Rose (faults between) (faults new)) → finishes new ≡ one_more (finishes between) → is_finished new ≡ is_ok result → WritesLast holds faults finishes is_finished old new result x
+writes_finished holds faults finishes is_finished old between new (Ok u) x first le same still more cause once done = record {
   whole = grew_same (holds old) (holds between) (holds new) x first still;
   part = tt;
   count = omega (arith, le, more);
   cause = tt;
   finished = once ∙ ap one_more same;
+  last = done;
   broken = tt;
 }
-writes_finished holds faults finishes old between new (Err e) x first le same still more cause once = record {
+writes_finished holds faults finishes is_finished old between new (Err e) x first le same still more cause once done = record {
   whole = tt;
   part = part_of_whole (holds old) (holds new) x (grew_same (holds old) (holds between) (holds new) x first still);
   count = omega (arith, le, more);
   cause = rose_later (faults old) (faults between) (faults new) le cause;
   finished = tt;
+  last = tt;
   broken = inr (once ∙ ap one_more same);
 }
 

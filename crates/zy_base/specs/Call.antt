@@ -1,7 +1,8 @@
 -- The key that a call on a shard is about.
 use Rattle.std.specs.Prelude.{ℕ, List, Option, None, Some}
 use Rattle.zy_base.specs.declared.call.Call.{Call}
-use Rattle.zy_base.specs.declared.call.Call.TheVariants.{Get, Set, Add, Replace, Append, Prepend, Cas, Incr, Decr, Delete, Flush, Tally}
+use Rattle.zy_base.specs.declared.call.Call.TheVariants.{Get, Set, Add, Replace, Append, Prepend, Cas, Incr, Decr}
+use Rattle.zy_base.specs.declared.call.Call.TheVariants.{Delete, Flush, Tally}
 
 -- the key of a call; a flush and a tally have none
 abbrev pub key_of : Call → Option (List ℕ)

@@ -1,6 +1,6 @@
 -- What is counted of the calls on one shard, from its entries alone: memcached's protocol.txt, "General-purpose
 -- statistics", has the five numbers as cmd_get, cmd_set, get_hits, get_misses and curr_items.
-use Rattle.std.specs.Prelude.{ℕ, ◌+◌, Bool, true, false, if◌then◌else◌, List, fold, count_by, Option, None, Some, ⊤}
+use Rattle.std.specs.Prelude.{ℕ, ◌+◌, Bool, true, false, if◌then◌else◌, List, fold, count_by, Option, Some, ⊤}
 use Rattle.std.specs.Ordering.{nat_cmp}
 use Rattle.std.specs.Cmp.Lexicographic.{slice_cmp}
 use Rattle.std.specs.FinMap.{FinMap, empty, insert, remove, len}

@@ -31,6 +31,8 @@ pub record Writing : Type 0 where
   pub faults : ℕ
   -- how often it was finished, or was to be and failed
   pub finishes : ℕ
+  -- whether the last call was a finish, and succeeded
+  pub is_finished : Bool
 
 -- a sink in memory that never fails
 pub record Keeping : Type 0 where
@@ -40,6 +42,8 @@ pub record Keeping : Type 0 where
   pub room : ℕ
   -- how often it was finished
   pub finishes : ℕ
+  -- whether the last call was a finish
+  pub is_finished : Bool
 
 -- the call with this number is one of those that fail
 abbrev pub is_failing : List ℕ → ℕ → Bool

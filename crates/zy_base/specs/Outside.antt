@@ -1,5 +1,6 @@
 -- What a source gives, what a sink takes, and when they fail.
-use Rattle.std.specs.Prelude.{◌≡◌, ◌⊎◌, ℕ, ◌+◌, ◌-◌, ◌^◌, ◌<◌, ◌≤◌, min, List, [], ◌++◌, length, take, ⊤, Option, None, Some, Result, MatchResult, OnOk, OnErr}
+use Rattle.std.specs.Prelude.{◌≡◌, ◌⊎◌, ⊤, ℕ, ◌+◌, ◌-◌, ◌^◌, ◌<◌, ◌≤◌, min, Bool, true}
+use Rattle.std.specs.Prelude.{List, [], ◌++◌, length, take, Option, None, Some, Result, MatchResult, OnOk, OnErr}
 
 -- the count of faults rose, or is at its largest value
 abbrev pub Rose : ℕ → ℕ → Type 0
@@ -47,9 +48,10 @@ pub record Writes {K E : Type 0} (holds : K → Option (List ℕ)) (faults finis
   -- the sink was not finished
   pub unfinished : finishes new ≡ finishes old
 
--- a call that writes a text and finishes the sink wrote the whole text and finished once, or failed after a prefix
-pub record WritesLast {K E : Type 0} (holds : K → Option (List ℕ)) (faults finishes : K → ℕ) (old new : K)
-    (result : Result ⊤ E) (text : List ℕ) : Type 0 where
+-- a call that writes a text and then finishes the sink wrote the whole text and finished once, or failed after a
+-- prefix
+pub record WritesLast {K E : Type 0} (holds : K → Option (List ℕ)) (faults finishes : K → ℕ) (is_finished : K → Bool)
+    (old new : K) (result : Result ⊤ E) (text : List ℕ) : Type 0 where
   -- at `Ok` the sink grew by the text
   pub whole : OnOk result (Grew (holds old) (holds new) text)
   -- at `Err` it grew by a prefix of the text
@@ -60,5 +62,7 @@ pub record WritesLast {K E : Type 0} (holds : K → Option (List ℕ)) (faults f
   pub cause : OnErr result (Rose (faults old) (faults new))
   -- at `Ok` the sink was finished once
   pub finished : OnOk result (finishes new ≡ one_more (finishes old))
+  -- at `Ok` that was the last call, and it succeeded
+  pub last : OnOk result (is_finished new ≡ true)
   -- at `Err` it was not finished, if a write failed, or once, if that failed
   pub broken : OnErr result ((finishes new ≡ finishes old) ⊎ (finishes new ≡ one_more (finishes old)))

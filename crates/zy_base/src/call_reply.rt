@@ -1,6 +1,7 @@
 //! What a shard answers to a call.
 ghost use Rattle.std.specs.Prelude.{◌≡◌, IfOk, option_copied};
-ghost use Rattle.zy_base.specs.Code.{reply_code, reply_flags, reply_number, reply_value, reply_counts, tally, plain_reply};
+ghost use Rattle.zy_base.specs.Code.{reply_code, reply_flags, reply_number, reply_value, reply_counts, tally};
+ghost use Rattle.zy_base.specs.Code.{plain_reply};
 
 use crate::blob::Blob;
 use crate::items::Items;

@@ -19,7 +19,8 @@ ghost use Rattle.zy_base.specs.Bounds.{IsCallWithin, IsReply};
 ghost use Rattle.zy_base.specs.Told.{told, seen_at, IsSteady};
 ghost use Rattle.zy_base.specs.Replies.{replies_at};
 ghost use Rattle.zy_base.specs.History.{IsReplay, IsLegal, AreAnswered, replayed, AreHistories};
-ghost use Rattle.zy_base.specs.Order.{of_connection, at_shard, AreBelow, AreByShard, StampsRise, AreStampsBelow, history_of, IsMergeOf, AreCallsOf};
+ghost use Rattle.zy_base.specs.Order.{of_connection, at_shard, AreBelow, AreByShard, StampsRise, AreStampsBelow};
+ghost use Rattle.zy_base.specs.Order.{history_of, IsMergeOf, AreCallsOf};
 
 // ---- worked examples
 

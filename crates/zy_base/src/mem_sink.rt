@@ -1,5 +1,6 @@
 //! Sinks in memory.
-ghost use Rattle.std.specs.Prelude.{◌≡◌, ℕ, ◌≤◌, ◌<◌, ◌+◌, [], length, take, min, is_err, option_map, if◌then◌else◌, Some, IfOk, OnOk, OnErr};
+ghost use Rattle.std.specs.Prelude.{◌≡◌, ℕ, ◌≤◌, ◌<◌, ◌+◌, true, false, [], length, take, min, is_ok, is_err};
+ghost use Rattle.std.specs.Prelude.{option_map, if◌then◌else◌, Some, IfOk, OnOk, OnErr};
 ghost use Rattle.zy_base.specs.Outside.{Rose, Grew, WriteGrew, TakesSome, one_more};
 ghost use Rattle.zy_base.specs.Memory.{is_failing, held_after};
 
@@ -17,6 +18,7 @@ pub struct MemSink {
     failing: CallNumbers,
     calls: u64,
     faults: u64,
+    is_finished: bool,
 }
 
 impl Model for MemSink {
@@ -33,6 +35,7 @@ impl Model for MemSink {
       calls = s.calls;
       faults = s.faults;
       finishes = s.kept.finishes;
+      is_finished = s.is_finished;
     } };
 
     ghost invariant = { λ s. 1 ≤ s.most };
@@ -56,6 +59,7 @@ impl MemSink {
           calls = 0;
           faults = 0;
           finishes = 0;
+          is_finished = false;
         }) }
     {
         let kept = SureSink::new(alloc, room)?;
@@ -65,6 +69,7 @@ impl MemSink {
             failing,
             calls: 0,
             faults: 0,
+            is_finished: false,
         })
     }
 
@@ -93,23 +98,29 @@ impl Sink for MemSink {
 
     ghost finishes = { λ s. s.finishes };
 
+    ghost is_finished = { λ s. s.is_finished };
+
     fn write(&mut self, from: &[u8]) -> Result<usize, Failed>
         ensures bound { TakesSome result from.now }
         ensures bytes { WriteGrew self.old.holds self.new.holds result from.now }
         ensures count { self.old.faults ≤ self.new.faults }
         ensures cause { OnErr result (Rose self.old.faults self.new.faults) }
         ensures unfinished { self.new.finishes ≡ self.old.finishes }
+        ensures open { self.new.is_finished ≡ false }
         ensures fails { is_err result ≡ is_failing self.old.failing self.old.calls }
         ensures takes { IfOk result (λ n. n ≡ min self.old.most (length from.now)) }
         ensures ok { IfOk result (λ n. self.new ≡ record self.old {
           holds = held_after self.old.holds self.old.room (take n from.now);
           calls = one_more self.old.calls;
+          is_finished = false;
         }) }
         ensures err { OnErr result (self.new ≡ record self.old {
           calls = one_more self.old.calls;
           faults = one_more self.old.faults;
+          is_finished = false;
         }) }
     {
+        self.is_finished = false;
         if self.fails() {
             self.faults = self.faults.saturating_add(1);
             return Err(Failed);
@@ -124,22 +135,27 @@ impl Sink for MemSink {
         ensures count { self.old.faults ≤ self.new.faults }
         ensures cause { OnErr result (Rose self.old.faults self.new.faults) }
         ensures finished { self.new.finishes ≡ one_more self.old.finishes }
+        ensures last { self.new.is_finished ≡ is_ok result }
         ensures fails { is_err result ≡ is_failing self.old.failing self.old.calls }
         ensures ok { OnOk result (self.new ≡ record self.old {
           calls = one_more self.old.calls;
           finishes = one_more self.old.finishes;
+          is_finished = true;
         }) }
         ensures err { OnErr result (self.new ≡ record self.old {
           calls = one_more self.old.calls;
           faults = one_more self.old.faults;
           finishes = one_more self.old.finishes;
+          is_finished = false;
         }) }
     {
         self.kept.count_finish();
+        self.is_finished = false;
         if self.fails() {
             self.faults = self.faults.saturating_add(1);
             return Err(Failed);
         }
+        self.is_finished = true;
         Ok(())
     }
 }

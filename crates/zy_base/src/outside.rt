@@ -1,5 +1,5 @@
 //! Where bytes come from and go to, and the gate that a command passes.
-ghost use Rattle.std.specs.Prelude.{◌≡◌, ℕ, ◌≤◌, ⊤, List, [], length, Option, IfOk, OnErr, OnOk};
+ghost use Rattle.std.specs.Prelude.{◌≡◌, ℕ, ◌≤◌, ⊤, Bool, false, List, [], length, Option, is_ok, IfOk, OnErr};
 ghost use Rattle.std.specs.Io.KnownBytes.{ReadConsumes};
 ghost use Rattle.zy_base.specs.Outside.{Rose, Grew, WriteGrew, TakesSome, one_more};
 
@@ -59,6 +59,9 @@ pub trait Sink {
     // How often `finish` was called.
     ghost finishes: { Self → ℕ };
 
+    // Whether the last call was a `finish`, and succeeded.
+    ghost is_finished: { Self → Bool };
+
     /// Takes the first bytes of a piece, at least one if the piece is not empty, and returns their
     /// number.
     ///
@@ -69,7 +72,8 @@ pub trait Sink {
         ensures bytes { WriteGrew (holds self.old) (holds self.new) result from.now }
         ensures count { faults self.old ≤ faults self.new }
         ensures cause { OnErr result (Rose (faults self.old) (faults self.new)) }
-        ensures unfinished { finishes self.new ≡ finishes self.old };
+        ensures unfinished { finishes self.new ≡ finishes self.old }
+        ensures open { is_finished self.new ≡ false };
 
     /// Makes sure that all that was taken has reached its destination. It takes no byte, even if it
     /// fails. The call is counted, also if it fails.
@@ -77,7 +81,8 @@ pub trait Sink {
         ensures bytes { Grew (holds self.old) (holds self.new) [] }
         ensures count { faults self.old ≤ faults self.new }
         ensures cause { OnErr result (Rose (faults self.old) (faults self.new)) }
-        ensures finished { finishes self.new ≡ one_more (finishes self.old) };
+        ensures finished { finishes self.new ≡ one_more (finishes self.old) }
+        ensures last { is_finished self.new ≡ is_ok result };
 }
 
 /// A gate is passed once for each command, when the command is begun. It has no contract.

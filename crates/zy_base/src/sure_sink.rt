@@ -1,5 +1,5 @@
 //! Sinks in memory that never fail.
-ghost use Rattle.std.specs.Prelude.{◌≡◌, ℕ, ◌≤◌, [], length, option_map, Some, IsOk, IfOk};
+ghost use Rattle.std.specs.Prelude.{◌≡◌, ℕ, ◌≤◌, true, false, [], length, option_map, Some, is_ok, IsOk, IfOk};
 ghost use Rattle.zy_base.specs.Outside.{Grew, WriteGrew, TakesSome, one_more};
 ghost use Rattle.zy_base.specs.Memory.{held_after};
 
@@ -15,6 +15,7 @@ pub struct SureSink {
     room: usize,
     is_told: bool,
     finishes: u64,
+    is_finished: bool,
 }
 
 impl Model for SureSink {
@@ -27,15 +28,24 @@ impl Model for SureSink {
       holds = if s.is_told then Some s.bytes.items else None;
       room = s.room;
       finishes = s.finishes;
+      is_finished = s.is_finished;
     } };
 
-    ghost invariant = { λ s. record { within : length s.bytes.items ≤ s.room; reserved : s.room ≤ vec_capacity s.bytes } };
+    ghost invariant = { λ s. record {
+      within : length s.bytes.items ≤ s.room;
+      reserved : s.room ≤ vec_capacity s.bytes;
+    } };
 }
 
 impl SureSink {
     /// Keeps at most `room` bytes; the room for them is reserved here.
     pub fn new(alloc: Global, room: usize) -> Result<SureSink, NoMemory>
-        ensures value { IfOk result (λ sink. sink ≡ record { holds = Some []; room = room; finishes = 0 }) }
+        ensures value { IfOk result (λ sink. sink ≡ record {
+          holds = Some [];
+          room = room;
+          finishes = 0;
+          is_finished = false;
+        }) }
     {
         match Vec::with_capacity(alloc, room) {
             Ok(bytes) => Ok(SureSink {
@@ -43,6 +53,7 @@ impl SureSink {
                 room,
                 is_told: true,
                 finishes: 0,
+                is_finished: false,
             }),
             Err(_) => Err(NoMemory),
         }
@@ -61,8 +72,12 @@ impl SureSink {
 
     // Takes the piece, and keeps it where it fits.
     pub(crate) fn take(&mut self, piece: &[u8])
-        ensures value { self.new ≡ record self.old { holds = held_after self.old.holds self.old.room piece.now } }
+        ensures value { self.new ≡ record self.old {
+          holds = held_after self.old.holds self.old.room piece.now;
+          is_finished = false;
+        } }
     {
+        self.is_finished = false;
         if self.is_told && piece.len() <= self.room - self.bytes.len() {
             self.is_told = self.bytes.extend_from_slice(piece).is_ok();
         } else {
@@ -85,12 +100,18 @@ impl Sink for SureSink {
 
     ghost finishes = { λ s. s.finishes };
 
+    ghost is_finished = { λ s. s.is_finished };
+
     fn write(&mut self, from: &[u8]) -> Result<usize, Failed>
         ensures bound { TakesSome result from.now }
         ensures bytes { WriteGrew self.old.holds self.new.holds result from.now }
         ensures unfinished { self.new.finishes ≡ self.old.finishes }
+        ensures open { self.new.is_finished ≡ false }
         ensures takes { result ≡ Ok (length from.now) }
-        ensures kept { self.new ≡ record self.old { holds = held_after self.old.holds self.old.room from.now } }
+        ensures kept { self.new ≡ record self.old {
+          holds = held_after self.old.holds self.old.room from.now;
+          is_finished = false;
+        } }
     {
         self.take(from);
         Ok(from.len())
@@ -99,10 +120,12 @@ impl Sink for SureSink {
     fn finish(&mut self) -> Result<(), Failed>
         ensures bytes { Grew self.old.holds self.new.holds [] }
         ensures finished { self.new.finishes ≡ one_more self.old.finishes }
+        ensures last { self.new.is_finished ≡ is_ok result }
         ensures succeeds { IsOk result }
-        ensures kept { self.new ≡ record self.old { finishes = one_more self.old.finishes } }
+        ensures kept { self.new ≡ record self.old { finishes = one_more self.old.finishes; is_finished = true } }
     {
         self.count_finish();
+        self.is_finished = true;
         Ok(())
     }
 }

@@ -20,7 +20,8 @@ pub fn write_whole<K: Sink>(sink: &mut K, piece: &[u8]) -> Result<(), Failed>
 
 /// Writes the pieces one after another, each whole. Takes no memory.
 pub fn write_pieces<K: Sink>(sink: &mut K, pieces: &[&[u8]]) -> Result<(), Failed>
-    ensures writes { Writes K.holds K.faults K.finishes sink.old sink.new result (flat_map (λ piece. piece.now) pieces.now) }
+    ensures writes { Writes K.holds K.faults K.finishes sink.old sink.new result
+        (flat_map (λ piece. piece.now) pieces.now) }
 {
     for piece in pieces {
         if let Err(failed) = write_whole(sink, *piece) {

@@ -40,7 +40,8 @@ impl Output {
     }
 
     /// Appends the texts of a batch, and sets the number of finished commands to the batch's. After
-    /// a refusal the batch is handed back. The first batch is moved and not copied.
+    /// a refusal the batch is handed back. The first batch is moved and not copied. The program calls
+    /// `take_texts`.
     pub fn carry_out(&mut self, batch: Batch) -> Result<(), (Batch, NoMemory)>
         ensures ok { OnOk result (self.new ≡ with_batch self.old batch) }
         ensures err { OnErr result (self.new ≡ self.old) }
@@ -57,7 +58,8 @@ impl Output {
     }
 
     /// Takes the texts of a batch, and sets the number of finished commands to the batch's. The batch
-    /// is left without texts, and keeps its room for further ones. After a refusal both are as they were.
+    /// is left without texts, and keeps its room for further ones, up to 64 KiB. After a refusal both are
+    /// as they were. A larger first batch is moved and not copied.
     pub fn take_texts(&mut self, batch: &mut Batch) -> Result<(), NoMemory>
         ensures ok { OnOk result (self.new ≡ with_batch self.old batch.old) }
         ensures batch { OnOk result (batch.new ≡ no_text batch.old.finished) }

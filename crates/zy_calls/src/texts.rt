@@ -99,12 +99,18 @@ impl Texts {
         }
     }
 
-    /// Moves the texts of another list behind its own; the other list keeps its room for further texts.
+    /// Moves the texts of another list to the end of its own. The other list keeps its room for further
+    /// texts, but not room for many bytes: these are not copied if the list has no texts of its own.
     pub(crate) fn take_all(&mut self, other: &mut Texts) -> Result<(), NoMemory>
         ensures ok { OnOk result (self.new ≡ self.old ++ other.old) }
         ensures other { OnOk result (other.new ≡ []) }
         ensures err { OnErr result ((self.new ≡ self.old) × (other.new ≡ other.old)) }
     {
+        if self.ends.is_empty() && other.is_large() {
+            let none = Texts::new(*self.ends.allocator());
+            drop(mem::replace(self, mem::replace(other, none)));
+            return Ok(());
+        }
         match self.append_copy(other) {
             Ok(()) => {
                 other.clear();
@@ -133,11 +139,16 @@ impl Texts {
         Ok(())
     }
 
+    // Whether the texts have more bytes than whose room is kept.
+    fn is_large(&self) -> bool {
+        self.bytes.bytes().len() > ROOM_LIMIT
+    }
+
     // Drops all texts. Room for many bytes is given back, so that one large text does not keep it.
     fn clear(&mut self)
         ensures value { self.new ≡ [] }
     {
-        if self.bytes.bytes().len() > ROOM_LIMIT {
+        if self.is_large() {
             let none = Texts::new(*self.ends.allocator());
             drop(mem::replace(self, none));
             return;

@@ -6,7 +6,9 @@ use Rattle.zy_capture.specs.declared.capture_fault.CaptureFault.{CaptureFault}
 use Rattle.zy_capture.specs.declared.capture_fault.CaptureFault.TheVariants.{BadMagic, ConnCount, BadTag, ConnRange, SegmentLength, Truncated, Trailing, TooLong}
 use Rattle.zy_capture.specs.declared.due.Due.{Due}
 use Rattle.zy_capture.specs.declared.due.Due.TheVariants.{Nothing, Broken}
-use Rattle.zy_capture.specs.Capture.{AreBytes, capture_limit}
+use Rattle.zy_capture.specs.Capture.{capture_limit}
+use Rattle.zy_read.specs.Bytes.{AreBytes}
+use Rattle.zy_read.proofs.ByteLemmas.{bytes_front}
 use Rattle.zy_capture.specs.Steps.{Progress, start, is_open}
 use Rattle.zy_capture.specs.Verdict.{Verdict, read_from, verdict}
 use Rattle.zy_capture.specs.Verdict.Verdict.{Good, Bad}
@@ -15,7 +17,7 @@ use Rattle.zy_capture.proofs.WholeLemmas.{IsReadTo, read_whole, good_spells}
 use Rattle.zy_capture.proofs.SpelledLemmas.{spells_good}
 use Rattle.zy_capture.proofs.FaultWords.{IsCut, IsOverlong}
 use Rattle.zy_capture.proofs.FaultLemmas.{bad_has}
-use Rattle.zy_capture.proofs.FaultReadLemmas.{has_bad, open_due, all_front, begun}
+use Rattle.zy_capture.proofs.FaultReadLemmas.{has_bad, open_due, begun}
 
 -- ---- texts that are begun
 
@@ -55,7 +57,7 @@ cut_begun text at all is = record {
 -- a text that is too long has more bytes than a capture
 over_long : (text : List ℕ) → AreBytes text → IsOverlong text → capture_limit + 1 ≤ length text
 over_long text all long =
-    let cut : IsCut long.front capture_limit = bad_has long.front (Truncated capture_limit) (all_front long.front (long.byte ∷ long.rest) (subst AreBytes long.whole all)) long.cut in
+    let cut : IsCut long.front capture_limit = bad_has long.front (Truncated capture_limit) (bytes_front long.front (long.byte ∷ long.rest) (subst AreBytes long.whole all)) long.cut in
     omega (arith, cut.place, ap (λ (l : List ℕ). length l) long.whole, length-append long.front (long.byte ∷ long.rest))
 
 begun_is : (text : List ℕ) (found : Verdict) → AreBytes text → IsBegun text → verdict text ≡ found → verdict text ≡ Bad (Truncated (length text))
@@ -75,7 +77,7 @@ pub fault_had : (text : List ℕ) (fault : CaptureFault) → AreBytes text → v
 fault_had text (Truncated at) all is = let cut : IsCut text at = bad_has text (Truncated at) all is in record { place = cut.place; begun = cut_begun text at all is }
 fault_had text TooLong all is =
     let long : IsOverlong text = bad_has text TooLong all is in
-    let small : AreBytes long.front = all_front long.front (long.byte ∷ long.rest) (subst AreBytes long.whole all) in
+    let small : AreBytes long.front = bytes_front long.front (long.byte ∷ long.rest) (subst AreBytes long.whole all) in
     let cut : IsCut long.front capture_limit = bad_has long.front (Truncated capture_limit) small long.cut in
     record { front = long.front; byte = long.byte; rest = long.rest; whole = long.whole; most = sym cut.place; begun = cut_begun long.front capture_limit small long.cut }
 fault_had text (BadMagic at) all is = bad_has text (BadMagic at) all is
@@ -88,7 +90,7 @@ fault_had text (Trailing at) all is = bad_has text (Trailing at) all is
 pub fault_told : (text : List ℕ) (fault : CaptureFault) → AreBytes text → HasFault text fault → verdict text ≡ Bad fault
 fault_told text (Truncated at) all has = begun_is text (verdict text) all has.begun refl ∙ ap (λ (n : ℕ). Bad (Truncated n)) (sym has.place)
 fault_told text TooLong all has =
-    let small : AreBytes has.front = all_front has.front (has.byte ∷ has.rest) (subst AreBytes has.whole all) in
+    let small : AreBytes has.front = bytes_front has.front (has.byte ∷ has.rest) (subst AreBytes has.whole all) in
     has_bad text TooLong all (record { front = has.front; byte = has.byte; rest = has.rest; whole = has.whole; cut = begun_is has.front (verdict has.front) small has.begun refl ∙ ap (λ (n : ℕ). Bad (Truncated n)) has.most })
 fault_told text (BadMagic at) all has = has_bad text (BadMagic at) all has
 fault_told text (ConnCount number) all has = has_bad text (ConnCount number) all has

@@ -1,19 +1,7 @@
--- Bytes, tests and places that both readers' lemmas use.
-use Rattle.std.proofs.Common.{◌≡◌, ℕ, ◌+◌, ◌<◌, Bool, true, false, suc, zero, List, [], ◌∷◌, ◌++◌, length, get_or, refl, ◌∙◌, ap, arith, append_assoc, length-append}
+-- Tests and places that both readers' lemmas use.
+use Rattle.std.proofs.Common.{◌≡◌, ℕ, ◌+◌, ◌<◌, Bool, true, false, List, [], ◌∷◌, ◌++◌, length, refl, ◌∙◌, ap, arith, append_assoc, length-append}
 use Rattle.std.specs.Prelude.{◌==◌, ◌&&◌, if◌then◌else◌}
 use Rattle.std.proofs.lemmas.Bool.Decides.{nat_tests}
-use Rattle.zy_capture.specs.Capture.{AreBytes}
-
--- ---- bytes
-
-pub bytes_on : (bytes : List ℕ) (byte : ℕ) → AreBytes bytes → byte < 256 → AreBytes (bytes ++ byte ∷ [])
-bytes_on [] byte all small = (small, tt)
-bytes_on (x ∷ bytes) byte all small = (all.0, bytes_on bytes byte all.1 small)
-
-pub byte_at : (bytes : List ℕ) → AreBytes bytes → (i : ℕ) → get_or bytes i 0 < 256
-byte_at [] all i = omega arith
-byte_at (x ∷ bytes) all zero = all.0
-byte_at (x ∷ bytes) all (suc i) = byte_at bytes all.1 i
 
 -- ---- tests
 

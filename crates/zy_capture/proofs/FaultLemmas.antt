@@ -10,7 +10,8 @@ use Rattle.zy_capture.specs.declared.capture_fault.CaptureFault.{CaptureFault}
 use Rattle.zy_capture.specs.declared.capture_fault.CaptureFault.TheVariants.{BadMagic, ConnCount, BadTag, ConnRange, SegmentLength, Truncated, Trailing, TooLong}
 use Rattle.zy_capture.specs.declared.due.Due.{Due}
 use Rattle.zy_capture.specs.declared.due.Due.TheVariants.{Magic, Count, Tag, Connection, Length, Payload, Closed, Nothing, Broken}
-use Rattle.zy_capture.specs.Capture.{AreBytes, letters, magic, spelled, spelling, IsCapture, capture_limit, connection_limit, segment_limit}
+use Rattle.zy_capture.specs.Capture.{letters, magic, spelled, spelling, IsCapture, capture_limit, connection_limit, segment_limit}
+use Rattle.zy_read.specs.Bytes.{AreBytes}
 use Rattle.zy_capture.specs.Steps.{Progress, Step, start, refuses, after_magic, tag, number, segment, taken, is_open, is_full, step}
 use Rattle.zy_read.specs.declared.magic.MagicPart.{MagicPart}
 use Rattle.zy_read.specs.declared.magic.MagicPart.TheVariants.{Letters, Digit, LineFeed}
@@ -24,8 +25,9 @@ use Rattle.zy_capture.specs.Verdict.Verdict.{Bad}
 use Rattle.zy_capture.specs.Standing.{StandsFor}
 use Rattle.zy_capture.specs.Faults.{BeginsMagic, IsConnectionOver}
 use Rattle.zy_capture.proofs.FaultWords.{IsCut, IsFault}
-use Rattle.zy_capture.proofs.ByteLemmas.{chosen, bytes_on, byte_at, assoc_twice}
+use Rattle.zy_capture.proofs.ByteLemmas.{chosen, assoc_twice}
 use Rattle.zy_read.proofs.Feeding.{fed_step, read_broken, verdict_here, starts}
+use Rattle.zy_read.proofs.ByteLemmas.{bytes_on, byte_at}
 use Rattle.zy_capture.specs.Lasting.{lasting, is_broken}
 use Rattle.zy_capture.proofs.WholeLemmas.{front, IsField, Parts, IsReadTo, number_is, from_step, read_whole}
 

@@ -11,7 +11,8 @@ use Rattle.zy_capture.specs.declared.capture_fault.CaptureFault.{CaptureFault}
 use Rattle.zy_capture.specs.declared.capture_fault.CaptureFault.TheVariants.{BadMagic, ConnCount, BadTag, ConnRange, SegmentLength, Truncated, Trailing, TooLong}
 use Rattle.zy_capture.specs.declared.due.Due.{Due}
 use Rattle.zy_capture.specs.declared.due.Due.TheVariants.{Magic, Count, Tag, Connection, Length, Closed, Nothing, Broken}
-use Rattle.zy_capture.specs.Capture.{AreBytes, letters, magic, spelled, spelling, IsCapture, Spells, capture_limit, connection_limit, segment_limit}
+use Rattle.zy_capture.specs.Capture.{letters, magic, spelled, spelling, IsCapture, Spells, capture_limit, connection_limit, segment_limit}
+use Rattle.zy_read.specs.Bytes.{AreBytes}
 use Rattle.zy_capture.specs.Steps.{Progress, Step, start, goes, refuses, after_magic, tag, judged, is_open, step}
 use Rattle.zy_read.specs.declared.magic.MagicPart.TheVariants.{Letters, Digit, LineFeed}
 use Rattle.zy_read.specs.Magic.{letter, digit, line_feed}
@@ -24,6 +25,7 @@ use Rattle.zy_capture.specs.Standing.{StandsFor}
 use Rattle.zy_capture.specs.Faults.{BeginsMagic, front_text, IsBadMagic, IsCountOver, IsBadTag, IsConnectionOver, IsLengthOver, IsTrailing}
 use Rattle.zy_capture.proofs.FaultWords.{IsCut, IsOverlong, IsFault}
 use Rattle.zy_read.proofs.Feeding.{fed_step, read_broken, lasts_by}
+use Rattle.zy_read.proofs.ByteLemmas.{bytes_front}
 use Rattle.zy_capture.specs.Lasting.{lasting}
 use Rattle.zy_capture.proofs.WholeLemmas.{Parts, IsReadTo, read_whole}
 use Rattle.zy_capture.proofs.SpelledLemmas.{at_place, goes_on, halfway, with_records, read_byte, read_number, read_records, read_magic, connection_read, count_read, spells_good}
@@ -227,10 +229,6 @@ after_end p byte is = rw is refl
 after_full : (p : Progress) (byte : ℕ) → is_open p.due ≡ true → p.at ≡ capture_limit → (step p byte).next.due ≡ Broken TooLong
 after_full p byte is at = rw (is, at) refl
 
-pub all_front : (x y : List ℕ) → AreBytes (x ++ y) → AreBytes x
-all_front [] y all = tt
-all_front (byte ∷ x) y all = (all.0, all_front x y all.1)
-
 good_nothing : (due : Due) (p : Progress) (given : List Record) (version count : ℕ) (items : List Record) → ended due p given ≡ Good version count items → due ≡ Nothing
 good_nothing Nothing p given version count items is = refl
 good_nothing due p given version count items is = cc
@@ -261,7 +259,7 @@ trailing_bad text at all has =
     let spells : Spells b has.version has.count has.items = record { valid = has.valid; spelled = refl; short = omega (arith, has.place, has.within) } in
     let r : Reading Progress Record = read_from start b in
     let due : r.last.due ≡ Nothing = good_nothing r.last.due r.last r.given has.version has.count has.items (spells_good b has.version has.count has.items spells) in
-    let read : IsReadTo r.last.due r.last r.given b = read_whole start [] [] b (all_front b (has.byte ∷ has.rest) (subst AreBytes has.whole all)) begun in
+    let read : IsReadTo r.last.due r.last r.given b = read_whole start [] [] b (bytes_front b (has.byte ∷ has.rest) (subst AreBytes has.whole all)) begun in
     let parts : Parts Nothing r.last r.given b = subst (λ (d : Due). IsReadTo d r.last r.given b) due read in
     let place : Trailing r.last.at ≡ Trailing at = ap (λ (n : ℕ). Trailing n) (parts.count ∙ sym has.place) in
     ap verdict has.whole
@@ -280,7 +278,7 @@ unfolding verdict_on reading_of fault_met StandsAs
 too_long_bad text all has =
     let b : List ℕ = has.front in
     let r : Reading Progress Record = read_from start b in
-    let cut : IsFault b (Truncated capture_limit) = bad_has b (Truncated capture_limit) (all_front b (has.byte ∷ has.rest) (subst AreBytes has.whole all)) has.cut in
+    let cut : IsFault b (Truncated capture_limit) = bad_has b (Truncated capture_limit) (bytes_front b (has.byte ∷ has.rest) (subst AreBytes has.whole all)) has.cut in
     let is : is_open r.last.due ≡ true = open_due r.last.due r.last r.given cut.no_fault cut.no_capture in
     let ends : Bad (Truncated r.last.at) ≡ Bad (Truncated capture_limit) = sym (open_ends r.last.due r.last r.given is) ∙ has.cut in
     let at_limit : r.last.at ≡ capture_limit = cc in

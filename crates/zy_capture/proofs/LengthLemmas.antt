@@ -39,10 +39,6 @@ output_few version conn session bytes =
     let four : length (session_text version session) ≤ 4 = session_few (version == 2) session in
     omega (arith, one, two, three, four)
 
-magic_few : (b : Bool) (x y : List ℕ) → length x ≤ 8 → length y ≤ 8 → length (if b then x else y) ≤ 8
-magic_few true x y one other = one
-magic_few false x y one other = other
-
 pub replies_few : (outputs : AllOutputs) → length (replies_bytes outputs) ≤ 9 + sum_by (λ sessions. sum_by record_most sessions) outputs.sessions
 unfolding replies_bytes
 replies_few outputs =

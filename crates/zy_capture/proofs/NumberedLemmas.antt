@@ -1,6 +1,6 @@
 -- Texts of numbered things, written one after another.
 use Rattle.std.proofs.Common.{◌≡◌, ℕ, zero, suc, ◌+◌, ◌<◌, ◌≤◌, List, [], ◌∷◌, ◌++◌, length, take, drop, get_or, add-one, refl, sym, ◌∙◌, ap, subst, arith, append_assoc}
-use Rattle.std.specs.Prelude.{Option, Err}
+use Rattle.std.specs.Prelude.{⊤, Option, Result, Ok, Err, IsErr}
 use Rattle.std.proofs.lemmas.List.{append-nil}
 use Rattle.zy_base.specs.Outside.{Grew, Writes}
 use Rattle.zy_base.proofs.WritingLemmas.{grew_on, writes_on, writes_no_more}
@@ -45,3 +45,8 @@ numbered_on a b c text xs i d within front here =
     let upto : numbered_from text 0 (take (i + 1) xs) ≡ numbered_from text 0 (take i xs) ++ text i (get_or xs i d) =
     ap (λ (n : ℕ). numbered_from text 0 (take n xs)) (add-one i) ∙ numbered-take text 0 xs i d within ∙ ap (λ (n : ℕ). numbered_from text 0 (take i xs) ++ text n (get_or xs i d)) (omega arith) in
     subst (Grew a c) (sym upto) (grew_on a b c (numbered_from text 0 (take i xs)) (text i (get_or xs i d)) front here)
+
+-- a text whose writing failed, with whatever error it is answered
+pub failed_as : {K E : Type 0} (holds : K → Option (List ℕ)) (faults finishes : K → ℕ) (old new : K) (result : Result ⊤ E) (e : E) (text : List ℕ) → IsErr result → Writes holds faults finishes old new (Err e) text → Writes holds faults finishes old new result text
+failed_as holds faults finishes old new (Ok u) e text refused failed = absurd (cc)
+failed_as holds faults finishes old new (Err other) e text refused failed = record { whole = tt; part = failed.part; count = failed.count; cause = failed.cause; unfinished = failed.unfinished }

@@ -7,7 +7,8 @@ use Rattle.zy_base.specs.declared.file_fault.FileFault.TheVariants.{Form, Trunca
 use Rattle.zy_capture.specs.declared.session_bytes.SessionBytes.{SessionBytes}
 use Rattle.zy_capture.specs.declared.replies_due.RepliesDue.{RepliesDue}
 use Rattle.zy_capture.specs.declared.replies_due.RepliesDue.TheVariants.{Nothing, Broken}
-use Rattle.zy_capture.specs.Capture.{AreBytes}
+use Rattle.zy_read.specs.Bytes.{AreBytes}
+use Rattle.zy_read.proofs.ByteLemmas.{bytes_front}
 use Rattle.zy_capture.specs.Replies.{replies_limit}
 use Rattle.zy_capture.specs.RepliesSteps.{Progress, start, is_open}
 use Rattle.zy_capture.specs.RepliesVerdict.{Verdict, read_from, verdict}
@@ -17,7 +18,6 @@ use Rattle.zy_capture.proofs.RepliesWholeLemmas.{IsReadTo, read_whole, good_spel
 use Rattle.zy_capture.proofs.RepliesSpelledLemmas.{spells_good}
 use Rattle.zy_capture.proofs.RepliesFaultLemmas.{IsCut, IsOverlong, begun, bad_has}
 use Rattle.zy_capture.proofs.RepliesFaultReadLemmas.{has_bad, open_due}
-use Rattle.zy_capture.proofs.FaultReadLemmas.{all_front}
 
 -- ---- texts that are begun
 
@@ -42,7 +42,7 @@ cut_begun text at all is = record {
 -- a text that is too long has more bytes than a replies file
 over_long : (text : List ℕ) → AreBytes text → IsOverlong text → replies_limit + 1 ≤ length text
 over_long text all long =
-    let cut : IsCut long.front replies_limit = bad_has long.front (Truncated replies_limit) (all_front long.front (long.byte ∷ long.rest) (subst AreBytes long.whole all)) long.cut in
+    let cut : IsCut long.front replies_limit = bad_has long.front (Truncated replies_limit) (bytes_front long.front (long.byte ∷ long.rest) (subst AreBytes long.whole all)) long.cut in
     omega (arith, cut.place, ap (λ (l : List ℕ). length l) long.whole, length-append long.front (long.byte ∷ long.rest))
 
 begun_is : (text : List ℕ) (found : Verdict) → AreBytes text → IsBegun text → verdict text ≡ found → verdict text ≡ Bad (Truncated (length text))
@@ -58,7 +58,7 @@ fault_had text (Form at) all is = bad_has text (Form at) all is
 fault_had text (Truncated at) all is = let cut : IsCut text at = bad_has text (Truncated at) all is in record { place = cut.place; begun = cut_begun text at all is }
 fault_had text TooLong all is =
     let long : IsOverlong text = bad_has text TooLong all is in
-    let small : AreBytes long.front = all_front long.front (long.byte ∷ long.rest) (subst AreBytes long.whole all) in
+    let small : AreBytes long.front = bytes_front long.front (long.byte ∷ long.rest) (subst AreBytes long.whole all) in
     let cut : IsCut long.front replies_limit = bad_has long.front (Truncated replies_limit) small long.cut in
     record { front = long.front; byte = long.byte; rest = long.rest; whole = long.whole; most = sym cut.place; begun = cut_begun long.front replies_limit small long.cut }
 
@@ -66,5 +66,5 @@ pub fault_told : (text : List ℕ) (fault : FileFault) → AreBytes text → Has
 fault_told text (Form at) all has = has_bad text (Form at) all has
 fault_told text (Truncated at) all has = begun_is text (verdict text) all has.begun refl ∙ ap (λ (n : ℕ). Bad (Truncated n)) (sym has.place)
 fault_told text TooLong all has =
-    let small : AreBytes has.front = all_front has.front (has.byte ∷ has.rest) (subst AreBytes has.whole all) in
+    let small : AreBytes has.front = bytes_front has.front (has.byte ∷ has.rest) (subst AreBytes has.whole all) in
     has_bad text TooLong all (record { front = has.front; byte = has.byte; rest = has.rest; whole = has.whole; cut = begun_is has.front (verdict has.front) small has.begun refl ∙ ap (λ (n : ℕ). Bad (Truncated n)) has.most })

@@ -10,7 +10,8 @@ use Rattle.zy_base.specs.declared.file_fault.FileFault.TheVariants.{Form, Trunca
 use Rattle.zy_capture.specs.declared.session_bytes.SessionBytes.{SessionBytes}
 use Rattle.zy_capture.specs.declared.replies_due.RepliesDue.{RepliesDue}
 use Rattle.zy_capture.specs.declared.replies_due.RepliesDue.TheVariants.{Magic, Tag, Connection, Session, Length, Output, Nothing, Broken}
-use Rattle.zy_capture.specs.Capture.{AreBytes, connection_limit}
+use Rattle.zy_capture.specs.Capture.{connection_limit}
+use Rattle.zy_read.specs.Bytes.{AreBytes}
 use Rattle.zy_capture.specs.Replies.{letters, magic, spelled, spelling, IsNext, IsRepliesFile, replies_limit}
 use Rattle.zy_capture.specs.RepliesSteps.{Progress, Step, start, refuses, after_magic, tag, may_come, due_session, connection, session, size_read, four, eight, output, taken, is_open, is_full, step}
 use Rattle.zy_read.specs.declared.magic.MagicPart.{MagicPart}
@@ -24,8 +25,9 @@ use Rattle.zy_capture.specs.RepliesVerdict.{Verdict, read_from, ended, verdict, 
 use Rattle.zy_capture.specs.RepliesVerdict.Verdict.{Bad}
 use Rattle.zy_capture.specs.RepliesStanding.{StandsForReplies}
 use Rattle.zy_capture.specs.RepliesFaults.{BeginsMagic, connections_after, sessions_after, IsWrong}
-use Rattle.zy_capture.proofs.ByteLemmas.{chosen, bytes_on, byte_at}
+use Rattle.zy_capture.proofs.ByteLemmas.{chosen}
 use Rattle.zy_read.proofs.Feeding.{fed_step, read_broken, verdict_here, starts}
+use Rattle.zy_read.proofs.ByteLemmas.{bytes_on, byte_at}
 use Rattle.zy_capture.specs.RepliesLasting.{lasting, is_broken}
 use Rattle.zy_capture.proofs.RepliesWholeLemmas.{front, IsField, Keeps, Parts, IsReadTo, four_is, from_step, read_whole, has_room}
 

@@ -10,7 +10,8 @@ use Rattle.zy_base.specs.declared.file_fault.FileFault.TheVariants.{Form, Trunca
 use Rattle.zy_capture.specs.declared.session_bytes.SessionBytes.{SessionBytes}
 use Rattle.zy_capture.specs.declared.replies_due.RepliesDue.{RepliesDue}
 use Rattle.zy_capture.specs.declared.replies_due.RepliesDue.TheVariants.{Magic, Tag, Connection, Session, Nothing, Broken}
-use Rattle.zy_capture.specs.Capture.{AreBytes, connection_limit}
+use Rattle.zy_capture.specs.Capture.{connection_limit}
+use Rattle.zy_read.specs.Bytes.{AreBytes}
 use Rattle.zy_capture.specs.Replies.{letters, magic, spelled, spelling, IsNext, IsRepliesFile, SpellsReplies, replies_limit}
 use Rattle.zy_capture.specs.RepliesSteps.{Progress, Step, start, goes, refuses, after_magic, tag, connection, session, is_open, step}
 use Rattle.zy_read.specs.declared.magic.MagicPart.TheVariants.{Letters, Digit, LineFeed}
@@ -24,10 +25,10 @@ use Rattle.zy_capture.specs.RepliesStanding.{StandsForReplies}
 use Rattle.zy_capture.specs.RepliesFaults.{BeginsMagic, front_text, connections_after, sessions_after, IsBadMagic, IsBadTag, IsBadConnection, IsBadSession, IsTrailing, IsWrong}
 use Rattle.zy_capture.specs.RepliesLasting.{lasting}
 use Rattle.zy_read.proofs.Feeding.{fed_step, read_broken, lasts_by}
+use Rattle.zy_read.proofs.ByteLemmas.{bytes_front}
 use Rattle.zy_capture.proofs.RepliesWholeLemmas.{Parts, IsReadTo, read_whole}
 use Rattle.zy_capture.proofs.RepliesSpelledLemmas.{at_place, halfway, goes_on, with_outputs, read_byte, read_four, read_records, read_magic, spells_good}
 use Rattle.zy_capture.proofs.RepliesFaultLemmas.{IsCut, IsOverlong, IsFault, begins_letters, begins_digit, begun, bad_has}
-use Rattle.zy_capture.proofs.FaultReadLemmas.{all_front}
 
 -- ---- a refusal
 
@@ -246,7 +247,7 @@ trailing_bad text at all has =
     let spells : SpellsReplies b has.version has.items = record { valid = has.valid; spelled = refl; short = omega (arith, has.place, has.within) } in
     let r : Reading Progress SessionBytes = read_from start b in
     let due : r.last.due ≡ Nothing = good_nothing r.last.due r.last r.given has.version has.items (spells_good b has.version has.items spells) in
-    let read : IsReadTo r.last.due r.last r.given b = read_whole start [] [] b (all_front b (has.byte ∷ has.rest) (subst AreBytes has.whole all)) begun in
+    let read : IsReadTo r.last.due r.last r.given b = read_whole start [] [] b (bytes_front b (has.byte ∷ has.rest) (subst AreBytes has.whole all)) begun in
     let parts : Parts Nothing r.last r.given b = subst (λ (d : RepliesDue). IsReadTo d r.last r.given b) due read in
     let place : Form r.last.at ≡ Form at = ap (λ (n : ℕ). Form n) (parts.count ∙ sym has.place) in
     ap verdict has.whole
@@ -265,7 +266,7 @@ unfolding verdict_on reading_of fault_met StandsAs
 too_long_bad text all has =
     let b : List ℕ = has.front in
     let r : Reading Progress SessionBytes = read_from start b in
-    let cut : IsCut b replies_limit = bad_has b (Truncated replies_limit) (all_front b (has.byte ∷ has.rest) (subst AreBytes has.whole all)) has.cut in
+    let cut : IsCut b replies_limit = bad_has b (Truncated replies_limit) (bytes_front b (has.byte ∷ has.rest) (subst AreBytes has.whole all)) has.cut in
     let is : is_open r.last.due ≡ true = open_due r.last.due r.last r.given cut.no_fault cut.no_file in
     let ends : Bad (Truncated r.last.at) ≡ Bad (Truncated replies_limit) = sym (open_ends r.last.due r.last r.given is) ∙ has.cut in
     let at_limit : r.last.at ≡ replies_limit = cc in

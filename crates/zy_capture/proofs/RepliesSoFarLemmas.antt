@@ -8,7 +8,7 @@ use Rattle.zy_read.proofs.Feeding.{given_here}
 use Rattle.zy_capture.specs.declared.session_bytes.SessionBytes.{SessionBytes}
 use Rattle.zy_capture.specs.declared.replies_due.RepliesDue.{RepliesDue}
 use Rattle.zy_capture.specs.declared.replies_due.RepliesDue.TheVariants.{Magic, Tag, Connection, Session, Length, Output, Nothing, Broken}
-use Rattle.zy_capture.specs.Capture.{AreBytes}
+use Rattle.zy_read.specs.Bytes.{AreBytes}
 use Rattle.zy_capture.specs.RepliesSteps.{Progress, start}
 use Rattle.zy_capture.specs.RepliesVerdict.{replies, read_from, verdict, ended, fault_in, fault_of, version_in, version_of, outputs_of}
 use Rattle.zy_capture.specs.RepliesVerdict.Verdict.{Good}

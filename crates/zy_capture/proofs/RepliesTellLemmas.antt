@@ -18,7 +18,7 @@ use Rattle.zy_base.specs.declared.file_fault.FileFault.TheVariants.{Form}
 use Rattle.zy_capture.specs.declared.session_bytes.SessionBytes.{SessionBytes}
 use Rattle.zy_capture.specs.declared.replies_due.RepliesDue.{RepliesDue}
 use Rattle.zy_capture.specs.declared.replies_due.RepliesDue.TheVariants.{Magic, Tag, Connection, Session, Length, Output, Nothing, Broken}
-use Rattle.zy_capture.specs.Replies.{letters}
+use Rattle.zy_capture.specs.Replies.{letters, magic}
 use Rattle.zy_capture.specs.RepliesSteps.{Progress, Step, start, goes, refuses, after_magic, may_come, due_session, taken, is_full, step}
 use Rattle.zy_capture.specs.RepliesVerdict.{replies, read_from, version_in, version_of}
 use Rattle.zy_capture.specs.RepliesLasting.{lasting}
@@ -155,3 +155,13 @@ unfolding version_of reading_of
 told_magic text version is =
     let told = version_some (read_from start text).last.version version is in
     from_letters text 0 version (omega arith) told.1 told.0
+
+-- the version of a text is that of every longer text
+pub version_stays : (text more : List ℕ) (version : ℕ) → version_of text ≡ Some version → version_of (text ++ more) ≡ Some version
+version_stays text more version is =
+    let begins = told_magic text version is in
+    magic_told (text ++ more) version (record {
+      rest = begins.rest ++ more;
+      known = begins.known;
+      whole = ap (λ (l : List ℕ). l ++ more) begins.whole ∙ append_assoc (magic version) begins.rest more;
+    })

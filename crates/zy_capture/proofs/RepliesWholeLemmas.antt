@@ -10,7 +10,8 @@ use Rattle.std.proofs.lemmas.Grind.{flat_map-append}
 use Rattle.zy_capture.specs.declared.session_bytes.SessionBytes.{SessionBytes}
 use Rattle.zy_capture.specs.declared.replies_due.RepliesDue.{RepliesDue}
 use Rattle.zy_capture.specs.declared.replies_due.RepliesDue.TheVariants.{Magic, Tag, Connection, Session, Length, Output, Nothing, Broken}
-use Rattle.zy_capture.specs.Capture.{AreBytes, connection_limit}
+use Rattle.zy_capture.specs.Capture.{connection_limit}
+use Rattle.zy_read.specs.Bytes.{AreBytes}
 use Rattle.zy_capture.specs.Replies.{letters, magic, session_text, spelled, spelling, IsNext, AreNumbers, AreInOrder, SpellsReplies, replies_limit}
 use Rattle.zy_capture.specs.RepliesFaults.{connections_after, sessions_after}
 use Rattle.zy_capture.specs.RepliesSteps.{Progress, Step, start, goes, gives, keeps, grows, after_magic, tag, may_come, due_session, connection, session, size_read, four, eight, output, taken, is_open, is_full, step}
@@ -20,9 +21,10 @@ use Rattle.zy_read.specs.declared.magic.MagicStep.TheVariants.{Next, Whole, Wron
 use Rattle.zy_read.specs.Magic.{magic_step, IsInMagic, magic_before}
 use Rattle.zy_read.proofs.MagicLemmas.{IsVersion, IsKnown, LeadsTo, leads}
 use Rattle.zy_read.specs.Format.{Reading, read_on, reading_of, verdict_on}
+use Rattle.zy_read.proofs.ByteLemmas.{bytes_on, byte_at}
 use Rattle.zy_capture.specs.RepliesVerdict.{read_from, ended, verdict}
 use Rattle.zy_capture.specs.RepliesVerdict.Verdict.{Good}
-use Rattle.zy_capture.proofs.ByteLemmas.{bytes_on, byte_at, positive, chosen, counted, on_part, assoc_twice}
+use Rattle.zy_capture.proofs.ByteLemmas.{positive, chosen, counted, on_part, assoc_twice}
 
 -- ---- what was read
 

@@ -19,11 +19,13 @@ use Rattle.zy_capture.specs.declared.capture_fault.CaptureFault.{CaptureFault}
 use Rattle.zy_capture.specs.declared.capture_fault.CaptureFault.TheVariants.{BadMagic, ConnCount}
 use Rattle.zy_capture.specs.declared.due.Due.{Due}
 use Rattle.zy_capture.specs.declared.due.Due.TheVariants.{Magic, Count, Tag, Connection, Length, Payload, Closed, Nothing, Broken}
-use Rattle.zy_capture.specs.Capture.{AreBytes, letters, magic, connection_limit, segment_limit, capture_limit}
+use Rattle.zy_capture.specs.Capture.{letters, magic, connection_limit, segment_limit, capture_limit}
+use Rattle.zy_read.specs.Bytes.{AreBytes}
+use Rattle.zy_read.proofs.ByteLemmas.{byte_at, bytes_back}
 use Rattle.zy_capture.specs.Steps.{Progress, Step, start, goes, refuses, after_magic, judged, taken, is_full, step}
 use Rattle.zy_capture.specs.Verdict.{captures, read_from, version_in, version_of, count_in, count_of}
 use Rattle.zy_capture.specs.SoFar.{BeginsWithMagic, BeginsWithCount}
-use Rattle.zy_capture.proofs.ByteLemmas.{chosen, byte_at}
+use Rattle.zy_capture.proofs.ByteLemmas.{chosen}
 use Rattle.zy_capture.specs.Lasting.{lasting}
 use Rattle.zy_capture.proofs.SpelledLemmas.{at_place, goes_on, halfway, read_byte, read_four, read_number, read_magic, count_read}
 
@@ -222,10 +224,6 @@ record IsCountRead (rest : List ℕ) (count : ℕ) : Type 0 where
   few : count ≤ connection_limit
   whole : rest ≡ to_be_bytes w32 count ++ more
 
-all_back : (x y : List ℕ) → AreBytes (x ++ y) → AreBytes y
-all_back [] y all = all
-all_back (byte ∷ x) y all = all_back x y all.1
-
 -- this is the count where a text ends
 abbrev Counts : ℕ → Progress → Type 0
 Counts count p = count_in p.due p.count ≡ Some count
@@ -259,5 +257,36 @@ pub told_count : (text : List ℕ) (count : ℕ) → AreBytes text → count_of 
 unfolding count_of reading_of
 told_count text count all is =
     let after = from_letters_on (Counts count) text 0 (omega arith) (record { no_part = λ part at none. none_met count none; no_fault = λ place at none. none_met count none }) is in
-    let read = from_count_on after.version count after.rest (all_back (magic after.version) after.rest (subst AreBytes after.whole all)) after.holds in
+    let read = from_count_on after.version count after.rest (bytes_back (magic after.version) after.rest (subst AreBytes after.whole all)) after.holds in
     record { version = after.version; rest = read.more; known = after.known; few = read.few; whole = after.whole ∙ ap (λ (l : List ℕ). magic after.version ++ l) read.whole }
+
+-- ---- longer texts
+
+-- the version of a text is that of every longer text
+pub version_stays : (text more : List ℕ) (version : ℕ) → version_of text ≡ Some version → version_of (text ++ more) ≡ Some version
+version_stays text more version is =
+    let begins = told_magic text version is in
+    magic_told (text ++ more) version (record {
+      rest = begins.rest ++ more;
+      known = begins.known;
+      whole = ap (λ (l : List ℕ). l ++ more) begins.whole ∙ append_assoc (magic version) begins.rest more;
+    })
+
+-- so is its count
+pub count_stays : (text more : List ℕ) (count : ℕ) → AreBytes text → count_of text ≡ Some count → count_of (text ++ more) ≡ Some count
+count_stays text more count small is =
+    let begins = told_count text count small is in
+    count_told (text ++ more) count (record {
+      version = begins.version;
+      rest = begins.rest ++ more;
+      known = begins.known;
+      few = begins.few;
+      whole = ap (λ (l : List ℕ). l ++ more) begins.whole ∙ append_assoc (magic begins.version) (to_be_bytes w32 count ++ begins.rest) more
+          ∙ ap (λ (l : List ℕ). magic begins.version ++ l) (append_assoc (to_be_bytes w32 count) begins.rest more);
+    })
+
+-- where the count was read, the version was
+pub version_read : (text : List ℕ) (count : ℕ) (small : AreBytes text) (is : count_of text ≡ Some count) → version_of text ≡ Some (told_count text count small is).version
+version_read text count small is =
+    let begins = told_count text count small is in
+    magic_told text begins.version (record { rest = to_be_bytes w32 count ++ begins.rest; known = begins.known; whole = begins.whole })

@@ -1,6 +1,6 @@
 -- A text without a fault is the bytes that spell what was read of it.
 use Rattle.std.proofs.Common.{◌≡◌, ℕ, ◌+◌, ◌<◌, ◌≤◌, true, false, List, [], ◌∷◌, ◌++◌, length, refl, sym, ◌∙◌, ap, subst, arith, append_assoc, length-append}
-use Rattle.std.specs.Prelude.{◌==◌, ◌&&◌, nat_lt, nat_le, option_to_list, flat_map, ⊤}
+use Rattle.std.specs.Prelude.{◌==◌, ◌&&◌, nat_lt, nat_le, option_to_list, flat_map, ⊤, None}
 use Rattle.std.specs.List.{AllByRecursion}
 use Rattle.std.specs.Int.{to_be_bytes, from_be_bytes, w32}
 use Rattle.std.proofs.lemmas.List.{append-nil}
@@ -12,17 +12,19 @@ use Rattle.zy_capture.specs.declared.record.Record.{Record}
 use Rattle.zy_capture.specs.declared.record.Record.TheVariants as Kinds
 use Rattle.zy_capture.specs.declared.due.Due.{Due}
 use Rattle.zy_capture.specs.declared.due.Due.TheVariants.{Magic, Count, Tag, Connection, Length, Payload, Closed, Nothing, Broken}
-use Rattle.zy_capture.specs.Capture.{AreBytes, letters, magic, spelled, spelling, IsRecordOf, IsCapture, Spells, capture_limit, connection_limit, segment_limit}
+use Rattle.zy_capture.specs.Capture.{letters, magic, spelled, spelling, IsRecordOf, IsCapture, Spells, capture_limit, connection_limit, segment_limit}
+use Rattle.zy_read.specs.Bytes.{AreBytes}
 use Rattle.zy_capture.specs.Steps.{Progress, Step, start, goes, keeps, grows, after_magic, tag, number, segment, taken, is_open, is_full, step}
 use Rattle.zy_read.specs.declared.magic.MagicPart.{MagicPart}
 use Rattle.zy_read.specs.declared.magic.MagicStep.{MagicStep}
 use Rattle.zy_read.specs.declared.magic.MagicStep.TheVariants.{Next, Whole, Wrong}
 use Rattle.zy_read.specs.Magic.{magic_step, IsInMagic, magic_before}
 use Rattle.zy_read.proofs.MagicLemmas.{IsVersion, IsKnown, LeadsTo, leads}
-use Rattle.zy_read.specs.Format.{Reading, read_on, reading_of, verdict_on}
-use Rattle.zy_capture.specs.Verdict.{read_from, ended, verdict}
+use Rattle.zy_read.specs.Format.{Reading, read_on, reading_of, verdict_on, fault_met}
+use Rattle.zy_read.proofs.ByteLemmas.{bytes_on, byte_at}
+use Rattle.zy_capture.specs.Verdict.{read_from, ended, verdict, fault_in, fault_of}
 use Rattle.zy_capture.specs.Verdict.Verdict.{Good}
-use Rattle.zy_capture.proofs.ByteLemmas.{bytes_on, byte_at, both_true, positive, chosen, counted, assoc_twice, on_part}
+use Rattle.zy_capture.proofs.ByteLemmas.{both_true, positive, chosen, counted, assoc_twice, on_part}
 
 -- ---- what was read
 
@@ -289,3 +291,14 @@ unfolding verdict_on reading_of
 good_spells text version count items all good =
     let r : Reading Progress Record = read_from start text in
     spells r.last.due r.last r.given text version count items (read_whole start [] [] text all (record { bytes = refl; count = refl; short = omega arith; valid = (omega arith, tt, refl) })) good
+
+-- a text without a fault is not too long
+pub clean_short : (text : List ℕ) → AreBytes text → fault_of text ≡ None → length text ≤ capture_limit
+unfolding fault_met reading_of
+clean_short text all clean =
+    let r : Reading Progress Record = read_from start text in
+    go r.last.due r.last r.given (read_whole start [] [] text all (record { bytes = refl; count = refl; short = omega arith; valid = (omega arith, tt, refl) })) clean
+  where
+    go : (due : Due) (p : Progress) (given : List Record) → IsReadTo due p given text → fault_in due ≡ None → length text ≤ capture_limit
+    go (Broken fault) p given read none = cc
+    go due p given read none = omega (arith, read.count, read.short)

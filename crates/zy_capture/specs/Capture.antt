@@ -35,10 +35,6 @@ spelled (Kinds.Close conn) = 67 ∷ to_be_bytes w32 conn
 unfoldable pub spelling : ℕ → ℕ → List Record → List ℕ
 spelling version count items = magic version ++ to_be_bytes w32 count ++ flat_map spelled items ++ 69 ∷ []
 
--- each is a byte
-abbrev pub AreBytes : List ℕ → Type 0
-AreBytes text = AllByRecursion (λ byte. byte < 256) text
-
 -- ---- validity
 
 -- the records that a capture of this version with this count may have

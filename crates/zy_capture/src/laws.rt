@@ -10,7 +10,8 @@ ghost use Rattle.zy_capture.specs.declared.capture_fault.CaptureFault.{CaptureFa
 ghost use Rattle.zy_capture.specs.declared.record.Record.TheVariants as Kinds;
 ghost use Rattle.zy_capture.specs.declared.capture_fault.CaptureFault.TheVariants as Faults;
 ghost use Rattle.zy_capture.specs.declared.session_bytes.SessionBytes.{SessionBytes};
-ghost use Rattle.zy_capture.specs.Capture.{AreBytes, Spells};
+ghost use Rattle.zy_capture.specs.Capture.{Spells};
+ghost use Rattle.zy_read.specs.Bytes.{AreBytes};
 ghost use Rattle.zy_capture.specs.Faults.{HasFault};
 ghost use Rattle.zy_capture.specs.SoFar.{BeginsWithMagic, BeginsWithCount, BeginsWithRepliesMagic, IsCaptureSoFar};
 ghost use Rattle.zy_capture.specs.SoFar.{IsRepliesSoFar};

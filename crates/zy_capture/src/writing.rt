@@ -14,12 +14,8 @@ use zy_base::{Failed, Sink, write_pieces, write_whole};
 pub fn write_replies<K: Sink>(sink: &mut K, outputs: &Outputs) -> Result<(), Failed>
     ensures writes { Writes K.holds K.faults K.finishes sink.old sink.new result (replies_bytes outputs.now) }
 {
-    if let Err(failed) = write_whole(sink, magic_of(outputs.version())) {
-        return Err(failed);
-    }
-    if let Err(failed) = write_connections(sink, outputs) {
-        return Err(failed);
-    }
+    write_whole(sink, magic_of(outputs.version()))?;
+    write_connections(sink, outputs)?;
     write_whole(sink, b"E")
 }
 
@@ -41,9 +37,7 @@ fn write_connections<K: Sink>(sink: &mut K, outputs: &Outputs) -> Result<(), Fai
         (numbered_from (connection_text outputs.now.version) 0 outputs.now.sessions) }
 {
     for conn in 0..outputs.count() {
-        if let Err(failed) = write_connection(sink, outputs, conn) {
-            return Err(failed);
-        }
+        write_connection(sink, outputs, conn)?;
     }
     Ok(())
 }
@@ -55,15 +49,13 @@ fn write_connection<K: Sink>(sink: &mut K, outputs: &Outputs, conn: u32) -> Resu
         (connection_text outputs.now.version conn (sessions_of outputs.now.sessions conn)) }
 {
     for session in 0..outputs.sessions(conn) {
-        if let Err(failed) = write_output(
+        write_output(
             sink,
             outputs.version(),
             conn,
             session,
             outputs.output(conn, session),
-        ) {
-            return Err(failed);
-        }
+        )?;
     }
     Ok(())
 }

@@ -1,6 +1,6 @@
 -- The text made for an output, and the output that was found.
 use Rattle.std.proofs.Common.{◌≡◌, ℕ, ◌+◌, ◌<◌, ◌≤◌, List, [], ◌∷◌, ◌++◌, length, take, drop, Option, None, Some, refl, sym, ap, ◌∙◌, arith}
-use Rattle.std.proofs.lemmas.List.{append-nil, append_assoc, length-append, length-take-le, length-drop, take_all, take-append-drop}
+use Rattle.std.proofs.lemmas.List.{append-nil, append_assoc, length-append, length-take-le, length-drop, take-append-drop}
 use Rattle.zy_check.specs.Cause.{agreeing}
 use Rattle.zy_check.specs.Comparing.{HasFirst, IsOther, AddedTo, EndedWith}
 use Rattle.zy_check.proofs.ByteLemmas.{agreeing_few, agreeing_short, agreeing_all, agreeing_behind, agreeing_differs, agreeing_differs_first}
@@ -12,10 +12,6 @@ first_none None = (refl, refl)
 first_none (Some found) = (omega arith, refl)
 
 -- ---- one further text
-
--- there is no output
-pub added_lacks : (session : ℕ) (first made : List ℕ) (at : ℕ) → HasFirst None first at → AddedTo None session made at (Some (record { session = session; at = at }))
-added_lacks session first made at is = (refl, (λ behind. ((λ same. absurd (cc)), sym is.1)))
 
 module _ (found made : List ℕ) (at : ℕ) (text : List ℕ) (first : HasFirst (Some found) made at) where
   whole : (behind : List ℕ) → (made ++ text) ++ behind ≡ take at found ++ (text ++ behind)
@@ -54,15 +50,7 @@ module _ (found made : List ℕ) (at : ℕ) (text : List ℕ) (first : HasFirst 
 
 -- ---- the end
 
--- there is no output
-pub ended_lacks : (session : ℕ) (made : List ℕ) (at : ℕ) → HasFirst None made at → EndedWith None session made at (Some (record { session = session; at = at }))
-ended_lacks session made at first = (refl, ((λ same. absurd (cc)), sym first.1))
-
 module _ (found made : List ℕ) (at : ℕ) (first : HasFirst (Some found) made at) where
-  -- nothing further was found
-  pub ended_same : (session : ℕ) → length found ≤ at → EndedWith (Some found) session made 0 None
-  ended_same session end = (ap (λ (l : List ℕ). Some l) (sym (take_all at found end) ∙ first.1), refl)
-
   -- more was found
   pub ended_more : (session : ℕ) → at < length found → EndedWith (Some found) session made at (Some (record { session = session; at = at }))
   ended_more session more =

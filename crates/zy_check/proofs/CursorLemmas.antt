@@ -2,7 +2,7 @@
 use Rattle.std.specs.Prelude.{map}
 use Rattle.std.specs.List.{slice_range}
 use Rattle.std.proofs.Common.{◌≡◌, ℕ, zero, suc, ◌+◌, ◌-◌, ◌≤◌, List, [], ◌∷◌, ◌++◌, length, take, drop, refl, sym, ap, ◌∙◌, subst, arith}
-use Rattle.std.proofs.lemmas.List.{append-nil, append_assoc, map-append, take_all, take-append-drop}
+use Rattle.std.proofs.lemmas.List.{append_assoc, map-append, take-append-drop}
 use Rattle.mc_parse.specs.declared.command.Command.{Command}
 use Rattle.zy_frame.specs.declared.frame_kind.FrameKind.{FrameKind}
 use Rattle.zy_frame.specs.Frame.{command_of}
@@ -46,21 +46,6 @@ fed_on p q before after at end stream rising within stands appends given has =
           ∙ ap (λ (l : List Command). l ++ map command_of more.given) has.all ∙ append_assoc given (map command_of before) (map command_of more.given)
           ∙ ap (λ (l : List Command). given ++ l) (sym (map-append command_of before more.given) ∙ ap (map command_of) (sym more.appended));
     }
-
--- one further command
-pub given_more : (c : Cursor) (stream : List ℕ) (frame : FrameKind) (rest : List FrameKind) (command : Command) (given : List Command) → c.frames ≡ frame ∷ rest → command ≡ command_of frame
-    → HasGiven c stream given → HasGiven (record c { frames = rest }) stream (given ++ command ∷ [])
-given_more c stream frame rest command given first is has = record {
-  within = has.within;
-  stands = has.stands;
-  all = has.all ∙ ap (λ (l : List FrameKind). given ++ map command_of l) first ∙ ap (λ (x : Command). given ++ x ∷ map command_of rest) (sym is)
-      ∙ sym (append_assoc given (command ∷ []) (map command_of rest));
-}
-
--- no command is left
-pub given_all : (c : Cursor) (stream : List ℕ) (given : List Command) → c.frames ≡ [] → length stream ≤ c.at → HasGiven c stream given → commands_of stream ≡ given
-given_all c stream given none end has =
-    ap commands_of (sym (take_all c.at stream end)) ∙ has.all ∙ ap (λ (l : List FrameKind). given ++ map command_of l) none ∙ append-nil given
 
 -- what was given comes first
 pub given_first : (c : Cursor) (stream : List ℕ) (given : List Command) → HasGiven c stream given → (later : List Command) × (commands_of stream ≡ given ++ later)

@@ -16,7 +16,5 @@ pub mod OutputLemmas
 pub mod TrackLemmas
 pub mod StepLemmas
 pub mod HoldLemmas
-pub mod WidthLemmas
-pub mod TextSizeLemmas
 pub mod TotalLemmas
 pub mod SizeLemmas

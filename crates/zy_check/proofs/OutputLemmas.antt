@@ -10,7 +10,7 @@ use Rattle.zy_run.specs.Output.{output, outputs_of}
 use Rattle.zy_run.proofs.OutputLemmas.{length-outputs_of, outputs_of-at}
 use Rattle.zy_check.specs.Given.{Given, found_output, due_output, IsOutput}
 use Rattle.zy_check.specs.Cause.{agreeing_in, ComesBefore, IsComplete, IsWrongOutput}
-use Rattle.zy_check.specs.Output.{IsDiffering, FoundDiffering}
+use Rattle.zy_check.specs.Output.{IsDiffering}
 
 -- ---- one output
 
@@ -65,12 +65,6 @@ outputs_whole g conn count first none lacks s = dite (dec_lt s count)
 
 -- ---- all connections
 
--- a connection's outputs are the expected ones
-pub connections_more : (g : Given) (conn : ℕ) → ((c s : ℕ) → c < conn → IsOutput g c s) → FoundDiffering g conn None → (c s : ℕ) → c < conn + 1 → IsOutput g c s
-connections_more g conn first here c s below = dite (ℕ_discrete conn c)
-    (λ same. subst (λ (n : ℕ). IsOutput g n s) same (here s))
-    (λ other. first c s (omega arith))
-
 -- this session's is not
 pub output_wrong : (g : Given) (conn session at : ℕ) → IsComplete g → ((c s : ℕ) → c < conn → IsOutput g c s) → IsDiffering g conn session at → IsWrongOutput g conn session at
 output_wrong g conn session at complete first differs = record {
@@ -92,9 +86,3 @@ no_sessions connections conn past = let none = ap (λ (l : List (List ℕ)). len
 pub connection_more : (g : Given) (conn : ℕ) → IsComplete g → ((c s : ℕ) → c < conn → IsOutput g c s) → length g.streams ≤ conn → 0 < length (sessions_of g.outputs conn) → IsWrongOutput g conn 0 0
 connection_more g conn complete first past more =
     output_wrong g conn 0 0 complete first (more_output g conn 0 (no_sessions g.streams conn past) more (λ s below. absurd (omega arith)))
-
--- there is no further connection
-pub connections_all : (g : Given) (conn : ℕ) → ((c s : ℕ) → c < conn → IsOutput g c s) → length g.streams ≤ conn → length g.outputs ≤ conn → (c s : ℕ) → IsOutput g c s
-connections_all g conn first past none c s = dite (dec_lt c conn)
-    (λ low. first c s low)
-    (λ high. let due = no_sessions g.streams c (omega arith) in let found = no_sessions g.outputs c (omega arith) in no_output g c s (omega arith) (omega arith))

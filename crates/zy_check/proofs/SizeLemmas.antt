@@ -1,18 +1,17 @@
 -- How many bytes the files of a run have.
-use Rattle.std.specs.Prelude.{◌==◌, filter, if◌then◌else◌, Option, None, Some}
+use Rattle.std.specs.Prelude.{◌==◌, filter, if◌then◌else◌, not}
 use Rattle.std.specs.List.{AllByRecursion, concat, range_with_len, sum_by, slice_index_or}
 use Rattle.std.proofs.Common.{◌≡◌, ℕ, zero, suc, ◌+◌, ◌-◌, ◌*◌, ◌^◌, ◌<◌, ◌≤◌, Bool, true, false, List, [], ◌∷◌, ◌++◌, length, take, map, refl, sym, ap, ◌∙◌, arith, length-append, append_assoc}
 use Rattle.std.proofs.lemmas.List.{length-map, append-nil}
+use Rattle.std.proofs.lemmas.List.Filters.{length-filter_both}
 use Rattle.std.proofs.lemmas.List.Concat.{flat_map-append}
 use Rattle.std.proofs.lemmas.List.Folds.{concat-append}
 use Rattle.std.proofs.lemmas.List.FromFn.{length-map-range_with_len}
 use Rattle.std.proofs.lemmas.List.Sums.{sum_by-cons}
 use Rattle.std.proofs.Math.Seq.{take-append_seam, get_or-append_seam}
-use Rattle.zy_base.specs.declared.call.Call.TheVariants.{Flush as FlushCall, Tally}
 use Rattle.zy_base.specs.declared.entry.Entry.{Entry}
 use Rattle.zy_base.specs.declared.hold.Hold.{Hold}
 use Rattle.zy_base.specs.Bounds.{FitsEntry}
-use Rattle.zy_base.specs.Call.{key_of}
 use Rattle.zy_base.specs.Order.{of_connection}
 use Rattle.zy_base.specs.Replies.{replies_at}
 use Rattle.zy_capture.specs.declared.record.Record.{Record}
@@ -26,27 +25,25 @@ use Rattle.zy_journal.specs.declared.journal.Journal.{Journal}
 use Rattle.zy_journal.specs.Journal.{IsEntry, IsHold, IsJournal, journal_bytes}
 use Rattle.zy_journal.proofs.LengthLemmas.{journal_few}
 use Rattle.mc_parse.specs.declared.command.Command.{Command}
-use Rattle.mc_parse.specs.declared.command.Command.TheVariants.{Store, Cas, Get, Delete, Count, Version, Verbosity, Flush, Fault, Meta, Stats}
-use Rattle.mc_parse.specs.declared.meta.Meta.{Meta as MetaCommand}
-use Rattle.mc_parse.specs.declared.meta.Meta.TheVariants as Metas
-use Rattle.mc_parse.specs.Calls.{calls_of, call_alone, meta_calls, on_shard, get_at, due_at, due_from, due_of}
+use Rattle.mc_parse.specs.Calls.{calls_of, due_at, due_from, due_of}
 use Rattle.mc_parse.specs.Bounds.{IsCommand}
 use Rattle.mc_parse.proofs.CallLemmas.{length-tagged}
 use Rattle.mc_parse.proofs.PlainLemmas.{each-append}
+use Rattle.mc_parse.proofs.WidthLemmas.{width, calls_few}
 use Rattle.mc_reply.specs.Text.{text}
 use Rattle.mc_reply.specs.Texts.{texts_from}
+use Rattle.mc_reply.proofs.SizeLemmas.{IsSmall, text_few}
 use Rattle.mc_reply.proofs.TextLemmas.{texts_from-append}
 use Rattle.zy_frame.specs.Frame.{IsFrameText, frame_of, command_of}
 use Rattle.zy_frame.specs.Cut.{joined, cut_of, frames_of, commands_of}
 use Rattle.zy_frame.proofs.CutLemmas.{splits_cut}
 use Rattle.zy_frame.proofs.BoundLemmas.{stream_within}
+use Rattle.zy_frame.proofs.WidthLemmas.{text_width}
 use Rattle.zy_run.specs.Commands.{commands_over, commands_in, streams_in}
 use Rattle.zy_run.specs.Output.{output, outputs_of}
 use Rattle.zy_run.specs.Spans.{held_of}
 use Rattle.zy_run.proofs.StreamLemmas.{streams_held}
 use Rattle.zy_check.specs.OfRun.{AreOfRun}
-use Rattle.zy_check.proofs.WidthLemmas.{width, filter_few, text_width}
-use Rattle.zy_check.proofs.TextSizeLemmas.{IsSmall, text_few}
 use Rattle.zy_check.proofs.TotalLemmas.{total, total-le, total-first, total-at, total-list, total-map, entries_counted, holds_counted, replies_counted}
 
 -- ---- commands
@@ -70,29 +67,6 @@ count_few : (commands : List Command) → length commands ≤ weigh commands
 unfolding weigh
 count_few [] = omega arith
 count_few (command ∷ commands) = let rest = count_few commands in omega (arith, rest)
-
-metas_few : (shards : ℕ) (meta : MetaCommand) → length (meta_calls shards meta) ≤ 1
-metas_few shards Metas.Noop = omega arith
-metas_few shards (Metas.Get key flags) = omega arith
-metas_few shards (Metas.Set key call marks) = go (key_of call)
-  where
-    go : (key : Option (List ℕ)) → length (call_alone shards call key) ≤ 1
-    go None = omega arith
-    go (Some key) = omega arith
-metas_few shards (Metas.Delete key flags) = omega arith
-
-calls_few : (shards : ℕ) (command : Command) → shards ≤ 256 → length (calls_of shards command) ≤ 256 * (width command + 1)
-calls_few shards (Store verb key flags value quiet) few = omega arith
-calls_few shards (Cas key flags unique value quiet) few = omega arith
-calls_few shards (Get keys unique) few = let size = length-map keys (get_at shards) in omega (arith, size)
-calls_few shards (Delete key quiet) few = omega arith
-calls_few shards (Count key up amount quiet) few = omega arith
-calls_few shards (Flush quiet) few = let size = length-map-range_with_len (on_shard FlushCall) 0 shards in omega (arith, size, few)
-calls_few shards Stats few = let size = length-map-range_with_len (on_shard Tally) 0 shards in omega (arith, size, few)
-calls_few shards (Meta meta) few = omega (arith, metas_few shards meta)
-calls_few shards Version few = omega arith
-calls_few shards (Verbosity quiet) few = omega arith
-calls_few shards (Fault fault quiet) few = omega arith
 
 -- the expected calls of commands
 due_few : (shards conn index : ℕ) (commands : List Command) → shards ≤ 256 → length (due_from shards conn index commands) ≤ 256 * weigh commands
@@ -145,7 +119,11 @@ replies_small index (e ∷ own) small = go (e.tag.index == index) (replies_small
 replies_within : (index : ℕ) (own : List Entry) → length (replies_at index own) ≤ length own
 replies_within index own =
     let passing = filter (λ (x : Entry). x.tag.index == index) own in
-    omega (arith, length-map passing (λ (x : Entry). x.reply), filter_few (λ (x : Entry). x.tag.index == index) own)
+    omega (
+      arith,
+      length-map passing (λ (x : Entry). x.reply),
+      length-filter_both (λ (x : Entry). x.tag.index == index) (λ (x : Entry). not (x.tag.index == index)) (λ x. refl) own,
+    )
 
 own_small : (conn : ℕ) (es : List Entry) → AllByRecursion (λ (e : Entry). IsSmall e.reply) es → AllByRecursion (λ (e : Entry). IsSmall e.reply) (of_connection conn es)
 own_small conn [] small = tt

@@ -38,34 +38,6 @@ use Rattle.zy_check.proofs.CursorLemmas.{given_first}
 use Rattle.zy_check.proofs.OutputLemmas.{due_is, outputs_more}
 use Rattle.zy_check.proofs.RightLemmas.{asked_all}
 
--- ---- the start
-
-pub none_made : (g : Given) (conn : ℕ) (cursor : Cursor) → ((stream : List ℕ) → HasGiven cursor stream []) → Stands g conn 0 cursor None 0 (record { at = 0; differing = None }) []
-none_made g conn cursor none = record {
-  done = [];
-  within = omega arith;
-  given = none (stream_of g conn 0);
-  count = refl;
-  shards = tt;
-  calls = refl;
-  written = λ complete. record { replies = tt; outputs = ((λ s below. absurd (omega arith)), first_none (found_output g conn 0)) };
-}
-
--- ---- a command is begun
-
-pub begins : (g : Given) (conn session : ℕ) (cursor next : Cursor) (commands : ℕ) (compared : Compared) (made : List Due) (command : Command)
-    → ((given : List Command) → HasGiven cursor (stream_of g conn session) given → HasGiven next (stream_of g conn session) (given ++ command ∷ []))
-    → Stands g conn session cursor None commands compared made → Stands g conn session next (Some (record { command = command; shards = g.shards; replies = [] })) commands compared made
-begins g conn session cursor next commands compared made command gave h = record {
-  done = h.done;
-  within = h.within;
-  given = gave h.done (subst (HasGiven cursor (stream_of g conn session)) (append-nil h.done) h.given);
-  count = h.count;
-  shards = refl;
-  calls = h.calls;
-  written = λ complete. let w = h.written complete in record { replies = refl; outputs = w.outputs };
-}
-
 -- ---- sessions
 
 -- after the last session there is no command

@@ -19,7 +19,7 @@ use Rattle.mc_parse.proofs.CallLemmas.{due_within}
 use Rattle.mc_shard.specs.Replay.{Replayed, replaying, state_replayed}
 use Rattle.zy_run.specs.Commands.{commands_held}
 use Rattle.zy_check.specs.Given.{Given, due_in, IsNext, IsNextAt, IsAnswered, IsAnsweredAt, AreRightBelow}
-use Rattle.zy_check.specs.Cause.{IsNotNext, IsWrongReply}
+use Rattle.zy_check.specs.Cause.{IsWrongReply}
 use Rattle.zy_check.specs.Walk.{AreReplayed}
 use Rattle.zy_check.proofs.DueLemmas.{asked_at}
 
@@ -168,13 +168,6 @@ state_is shards at es e states old are within found =
 module _ (g : Given) (at : ℕ) (e : Entry) (is : slice_get g.entries at ≡ Some e) where
   pub next_at : IsNext g (take at g.entries) e → IsNextAt g at
   next_at next = subst (λ (o : Option Entry). IfSome o (IsNext g (take at g.entries))) (sym is) next
-
-  at_next : IsNextAt g at → IsNext g (take at g.entries) e
-  at_next next = subst (λ (o : Option Entry). IfSome o (IsNext g (take at g.entries))) is next
-
-  -- it is not next
-  pub is_not_next : AreRightBelow g at → (IsNext g (take at g.entries) e → ⊥) → IsNotNext g at
-  is_not_next right wrong = record { within = slice_get_within g.entries at e is; first = right; wrong = λ next. wrong (at_next next) }
 
   module _ (states : List Replayed) (old : Replayed) (are : AreReplayed g.shards (take at g.entries) states) (within : e.shard < g.shards) (found : slice_get states e.shard ≡ Some old) where
     state_at : old.state ≡ replayed g.shards e.shard empty_state (at_shard e.shard (take at g.entries))

@@ -1,5 +1,5 @@
 -- What is kept of a capture while it is read.
-use Rattle.std.proofs.Common.{◌≡◌, ◌⊎◌, inl, inr, ℕ, ◌+◌, ◌==◌, Bool, true, false, List, [], ◌∷◌, ◌++◌, length, refl, sym, ◌∙◌, ap, subst}
+use Rattle.std.proofs.Common.{◌≡◌, ◌⊎◌, inl, inr, ℕ, ◌+◌, ◌==◌, true, List, [], ◌∷◌, ◌++◌, length, refl, sym, ◌∙◌, ap, subst}
 use Rattle.std.specs.Int.{from_be_bytes, w32}
 use Rattle.std.specs.Prelude.{nat_lt, if◌then◌else◌, Option, None, Some, Result, Ok, Err, OnOk, ⊤}
 use Rattle.zy_read.specs.declared.not_taken.NotTaken.{NotTaken}
@@ -17,15 +17,15 @@ use Rattle.zy_capture.specs.Streams.{no_bytes, with_record}
 use Rattle.zy_capture.specs.Capture.{segment_limit}
 use Rattle.zy_capture.specs.Steps.{Progress, Step, goes, gives, refuses, keeps, grows, place, judged, number, taken, is_full, step}
 use Rattle.zy_capture.specs.Standing.{StandsFor, EndsAs}
-use Rattle.zy_capture.specs.Verdict.{captures, ended, fault_in, is_good, verdict, fault_of, count_of, count_in, is_within, is_within_record}
+use Rattle.zy_capture.specs.Verdict.{captures, ended, fault_in, is_good, verdict, count_of, count_in, is_within, is_within_record}
 use Rattle.zy_capture.specs.Verdict.Verdict.{Good}
 use Rattle.zy_capture.specs.Lasting.{lasting}
 use Rattle.zy_capture.proofs.Feeding.{count_here, within_here}
 use Rattle.zy_capture.proofs.AddLemmas.{records_on}
 use Rattle.zy_check_input.specs.declared.capture_part.CapturePart.{CapturePart}
 use Rattle.zy_check_input.specs.Parts.{HasStreams, HasCaptureFault}
-use Rattle.zy_check_input.specs.Reading.{Takes, GoesOn}
-use Rattle.zy_check_input.specs.Kinds.{KeepsStreams, KeepsSoFar, StandsForCapture, capture_kind}
+use Rattle.zy_check_input.specs.Reading.{GoesOn}
+use Rattle.zy_check_input.specs.Kinds.{KeepsStreams, StandsForCapture}
 use Rattle.zy_journal_reader.proofs.CallLemmas.{either}
 use Rattle.zy_check_input.proofs.FormatLemmas.{EndsOnce, StaysOpen, piece_fault}
 
@@ -121,15 +121,6 @@ record_kept old new (Some count) item given (Ok done) added kept =
     added ∙ ap (λ (l : List (List (List ℕ))). with_record l item) kept ∙ sym (records_on (no_bytes count) given item)
 record_kept old new None item given (Ok done) added kept = absurd kept
 record_kept old new count item given (Err e) added kept = tt
-
--- streams that were made are kept
-pub made_kept : (streams : List (List (List ℕ))) (count : Option ℕ) (given : List Record) → KeepsSoFar (Some streams) count given → KeepsStreams (Some streams) count given
-made_kept streams count given kept = kept
-
--- whether the capture goes on or is whole
-pub goes_on_or_done : (part : CapturePart) (given : List Record) (bytes : List ℕ) (done : Bool) → StandsFor part.reader given bytes → fault_of bytes ≡ None → KeepsStreams part.streams (count_of bytes) given → done ≡ is_good (verdict bytes) → Takes capture_kind part bytes (Ok done)
-goes_on_or_done part given bytes false reader clean kept is = (record { given = given; reader = reader; kept = kept }, (clean, sym is))
-goes_on_or_done part given bytes true reader clean kept is = (record { given = given; reader = reader; kept = kept }, sym is)
 
 -- ---- the end
 

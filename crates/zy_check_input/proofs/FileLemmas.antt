@@ -9,6 +9,7 @@ use Rattle.zy_read.specs.declared.not_taken.NotTaken.TheVariants.{Fault}
 use Rattle.zy_read.specs.declared.stop.Stop.{Stop}
 use Rattle.zy_read.specs.declared.stop.Stop.TheVariants.{Refused, ReadFault, NoMemory}
 use Rattle.zy_read.specs.Format.{reading_of, read_on, fault_met, verdict_on}
+use Rattle.zy_read.specs.Bytes.{AreBytes}
 use Rattle.zy_read.specs.Piece.{IsOver}
 use Rattle.zy_read.specs.Standing.{TellsLasting}
 use Rattle.zy_read.proofs.SourceLemmas.{consumed_none}
@@ -28,7 +29,7 @@ use Rattle.zy_check_input.proofs.WholeLemmas.{if_some}
 pub journal_file_begun : {S : Type 0} (rest : S → Option (List ℕ)) (faults : S → ℕ) (first : S) (left : List ℕ) (part : JournalFile) → left ≡ [] → StandsForJournal part.reader [] [] → IsReading journal_file_kind rest faults first first left [] [] part
 unfolding fault_met verdict_on reading_of read_on
 journal_file_begun rest faults first left part none reader = record {
-  given = record { source = subst (λ (l : List ℕ). Consumes (rest first) (rest first) l) (sym none) (consumed_none (rest first)); count = omega arith };
+  given = record { source = subst (λ (l : List ℕ). Consumes (rest first) (rest first) l) (sym none) (consumed_none (rest first)); bytes = subst AreBytes (sym none) tt; count = omega arith };
   stands = record { given = []; reader = reader };
   goes_on = refl;
 }
@@ -54,8 +55,9 @@ over rest faults first now left journal has = go has.end
 pub journal_read : {S : Type 0} (rest : S → Option (List ℕ)) (faults : S → ℕ) (first now : S) (left : List ℕ) (answer : Result Journal (Stop Refusal)) → Reads journal_file_kind rest faults first now left [] answer → HasReadJournal rest faults first now answer
 journal_read rest faults first now left (Ok journal) has =
     let end = over rest faults first now left journal has in
-    let source : Consumes (rest first) (rest now) has.bytes = subst (λ (l : List ℕ). Consumes (rest first) (rest now) l) (ap (λ (l : List ℕ). has.bytes ++ l) end.0 ∙ append-nil has.bytes) has.given.source in
-    (has.bytes, (source, end.1), has.gives)
+    let all : has.bytes ++ left ≡ has.bytes = ap (λ (l : List ℕ). has.bytes ++ l) end.0 ∙ append-nil has.bytes in
+    let source : Consumes (rest first) (rest now) has.bytes = subst (λ (l : List ℕ). Consumes (rest first) (rest now) l) all has.given.source in
+    (has.bytes, (source, end.1, subst AreBytes all has.given.bytes), has.gives)
 journal_read rest faults first now left (Err (Refused (OfJournal fault))) stops = if_some (rest first) (λ text. HasFaultBehind journal_file_kind [] text (OfJournal fault)) (λ text. verdict text ≡ Bad fault) (λ text. fault_behind text fault) stops.1
 journal_read rest faults first now left (Err (Refused (Capture fault))) stops = absurd stops.0.1
 journal_read rest faults first now left (Err (Refused (OfReplies fault))) stops = absurd stops.0.1

@@ -1,6 +1,6 @@
 -- A byte after a journal is a fault, and the byte that ends a journal reports its end.
-use Rattle.std.proofs.Common.{◌≡◌, inl, ℕ, ◌+◌, ◌-◌, ◌==◌, Bool, true, false, true≢false, List, [], ◌∷◌, ◌++◌, length, refl, sym, ◌∙◌, ap, subst}
-use Rattle.std.specs.Prelude.{nat_lt, if◌then◌else◌, Option, Some, None, Result, Ok, Err, ⊤}
+use Rattle.std.proofs.Common.{◌≡◌, inl, ℕ, ◌+◌, ◌-◌, ◌==◌, true, false, true≢false, List, [], ◌∷◌, ◌++◌, length, refl, sym, ◌∙◌, ap, subst}
+use Rattle.std.specs.Prelude.{nat_lt, if◌then◌else◌, Option, Some, None, Result, Err, ⊤}
 use Rattle.std.specs.Int.{from_be_bytes, w32, w64}
 use Rattle.zy_base.specs.declared.call_kind.CallFields.{CallFields}
 use Rattle.zy_base.specs.declared.call_reply.CallReply.TheVariants as Replies
@@ -24,14 +24,14 @@ use Rattle.zy_journal_reader.specs.declared.due.BytesField.TheVariants.{Key, Val
 use Rattle.zy_journal_reader.specs.Fields.{fault_in, at_key, at_flags, at_number, at_value}
 use Rattle.zy_journal_reader.specs.Steps.{Progress, Step, goes, knows, begins, ends_entry, ends, refuses, keeps, grows, lawful_byte, after_byte, lawful_number, after_four, lawful_long, after_eight, after_bytes, taken, is_full, step}
 use Rattle.zy_journal_reader.specs.Standing.{StandsForJournal}
-use Rattle.zy_journal_reader.specs.Verdict.{journals, ended, is_good, verdict, fault_of}
+use Rattle.zy_journal_reader.specs.Verdict.{journals, ended, is_good, verdict}
 use Rattle.zy_journal_reader.specs.Verdict.Verdict.{Bad}
 use Rattle.zy_journal_reader.specs.Lasting.{lasting}
 use Rattle.zy_journal_reader.proofs.CallLemmas.{either}
 use Rattle.zy_check_input.specs.declared.journal_part.JournalPart.{JournalPart}
-use Rattle.zy_check_input.specs.Reading.{Takes, GoesOn}
+use Rattle.zy_check_input.specs.Reading.{GoesOn}
 use Rattle.zy_check_input.specs.Parts.{HasNoJournal}
-use Rattle.zy_check_input.specs.Kinds.{StandsForJournalPart, journal_kind}
+use Rattle.zy_check_input.specs.Kinds.{StandsForJournalPart}
 use Rattle.zy_check_input.proofs.FormatLemmas.{EndsOnce, StaysOpen, piece_fault}
 
 -- the end was read where a journal is whole
@@ -158,8 +158,3 @@ fault_in_piece part q bytes piece more answer fault is stands goes_on feeds tell
     let fed : Feeds journals part.reader q piece [] = subst (λ (a : Result (Option ⊤) (NotTaken FileFault)). Feeds journals part.reader q piece (given_in a)) is feeds in
     let met : MeetsFault journals part.reader piece (Some fault) = subst (λ (a : Result (Option ⊤) (NotTaken FileFault)). TellsFault journals part.reader piece a) is tells in
     piece_fault journals is_good once IsOpen stays part.reader q stands.given bytes piece more fault stands.reader (open_here part.reader stands.given bytes stands.reader goes_on) goes_on fed met
-
--- whether the journal goes on or is whole
-pub goes_on_or_done : (part : JournalPart) (given : List ⊤) (bytes : List ℕ) (done : Bool) → StandsForJournal part.reader given bytes → fault_of bytes ≡ None → done ≡ is_good (verdict bytes) → Takes journal_kind part bytes (Ok done)
-goes_on_or_done part given bytes false reader clean is = (record { given = given; reader = reader }, (clean, sym is))
-goes_on_or_done part given bytes true reader clean is = (record { given = given; reader = reader }, sym is)

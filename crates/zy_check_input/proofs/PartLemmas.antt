@@ -1,14 +1,15 @@
 -- What is read of a part, piece after piece, for all kinds of parts.
-use Rattle.std.proofs.Common.{◌≡◌, ◌⊎◌, inl, inr, ℕ, ◌<◌, ◌≤◌, Bool, true, false, List, [], ◌++◌, length, take, drop, refl, sym, ◌∙◌, ap, subst, arith, append_assoc}
+use Rattle.std.proofs.Common.{◌≡◌, inl, ℕ, ◌<◌, ◌≤◌, Bool, true, false, List, [], ◌++◌, length, take, drop, refl, sym, ◌∙◌, ap, subst, arith, append_assoc}
 use Rattle.std.specs.Prelude.{Option, Result, Ok, Err}
 use Rattle.std.specs.Io.KnownBytes.{Consumes}
-use Rattle.std.proofs.lemmas.List.{append-nil, take-append-drop, length-take-le}
+use Rattle.std.proofs.lemmas.List.{take-append-drop, length-take-le}
 use Rattle.zy_read.specs.declared.stop.Stop.{Stop}
 use Rattle.zy_check_input.specs.declared.stop.Refusal.{Refusal}
 use Rattle.zy_read.specs.declared.stop.Stop.TheVariants.{Refused, ReadFault, NoMemory}
-use Rattle.zy_read.specs.Piece.{HasGiven, IsOver}
-use Rattle.zy_read.proofs.SourceLemmas.{told_first, told_all}
-use Rattle.zy_check_input.specs.Reading.{Kind, HasStopped, HasFaultBehind, Takes, EndsWhole, EndsCut, Advances, Reads}
+use Rattle.zy_read.specs.Bytes.{AreBytes}
+use Rattle.zy_read.specs.Piece.{HasGiven}
+use Rattle.zy_read.proofs.SourceLemmas.{told_first}
+use Rattle.zy_check_input.specs.Reading.{Kind, HasFaultBehind, Takes, Advances}
 
 -- ---- further bytes
 
@@ -28,6 +29,7 @@ given_on : {S : Type 0} (rest : S → Option (List ℕ)) (faults : S → ℕ) (f
     → HasGiven rest faults first now (drop count left) (before ++ (bytes ++ take count left))
 given_on rest faults first now left before bytes count given = record {
   source = subst (λ (l : List ℕ). Consumes (rest first) (rest now) l) (taken_from before bytes left count) given.source;
+  bytes = subst AreBytes (taken_from before bytes left count) given.bytes;
   count = given.count;
 }
 
@@ -51,27 +53,3 @@ took kind rest faults first now left before bytes count reader (Err (Refused ref
     )
 took kind rest faults first now left before bytes count reader (Err ReadFault) given within some takes = absurd takes
 took kind rest faults first now left before bytes count reader (Err NoMemory) given within some takes = tt
-
--- ---- the end
-
--- what a part gives that was fed whole, or up to the end of the source
-pub ended : {P T S : Type 0} (kind : Kind P T) (rest : S → Option (List ℕ)) (faults : S → ℕ) (first now : S) (left before : List ℕ) (reader : P) (answer : Result T (Stop Refusal)) → HasStopped kind rest faults first now left before reader
-    → ((bytes : List ℕ) → kind.stands reader bytes → kind.whole bytes → EndsWhole kind bytes answer) → ((bytes : List ℕ) → kind.stands reader bytes → kind.goes_on bytes → EndsCut kind bytes answer)
-    → Reads kind rest faults first now left before answer
-ended {P} {T} {S} kind rest faults first now left before reader answer stopped whole cut = go answer whole cut stopped.end
-  where
-    go : (answer : Result T (Stop Refusal)) → ((bytes : List ℕ) → kind.stands reader bytes → kind.whole bytes → EndsWhole kind bytes answer) → ((bytes : List ℕ) → kind.stands reader bytes → kind.goes_on bytes → EndsCut kind bytes answer)
-        → kind.whole stopped.bytes ⊎ (kind.goes_on stopped.bytes × IsOver (rest now) left) → Reads kind rest faults first now left before answer
-    go (Ok gave) whole cut (inl is) = record { bytes = stopped.bytes; given = stopped.given; gives = whole stopped.bytes stopped.stands is; end = inl is }
-    go (Ok gave) whole cut (inr over) = record { bytes = stopped.bytes; given = stopped.given; gives = cut stopped.bytes stopped.stands over.0; end = inr over.1 }
-    go (Err (Refused refusal)) whole cut (inl is) = absurd (whole stopped.bytes stopped.stands is)
-    go (Err (Refused refusal)) whole cut (inr over) =
-        let faulty : kind.faulty stopped.bytes refusal = cut stopped.bytes stopped.stands over.0 in (
-          (stopped.bytes, faulty),
-          told_all (rest first) (rest now) (before ++ stopped.bytes) (λ (text : List ℕ). HasFaultBehind kind before text refusal)
-              (subst (λ (l : List ℕ). Consumes (rest first) (rest now) l) (ap (λ (l : List ℕ). (before ++ stopped.bytes) ++ l) over.1.0 ∙ append-nil (before ++ stopped.bytes)) stopped.given.source) over.1.1
-              (record { rest = stopped.bytes; whole = refl; faulty = faulty }),
-        )
-    go (Err ReadFault) whole cut (inl is) = absurd (whole stopped.bytes stopped.stands is)
-    go (Err ReadFault) whole cut (inr over) = absurd (cut stopped.bytes stopped.stands over.0)
-    go (Err NoMemory) whole cut end = tt

@@ -21,6 +21,7 @@ use Rattle.zy_check_input.specs.declared.stop.Refusal.TheVariants.{Capture, Jour
 use Rattle.zy_read.specs.declared.stop.Stop.{Stop}
 use Rattle.zy_read.specs.declared.stop.Stop.TheVariants.{Refused, ReadFault, NoMemory}
 use Rattle.zy_check_input.specs.Parts.{IsCapture, IsJournal, HasStreams, HasPartFault, HasCaptureFault, HasReadParts, HasReadStreams}
+use Rattle.zy_read.specs.Bytes.{AreBytes}
 use Rattle.zy_read.specs.Piece.{HasGiven, IsOver}
 use Rattle.zy_read.proofs.SourceLemmas.{told_first, consumed_none}
 use Rattle.zy_check_input.specs.Reading.{IsReading, HasFaultBehind, HasRead, StopsBy, Reads}
@@ -39,8 +40,8 @@ no_count = refl
 pub capture_begun : {S : Type 0} (rest : S → Option (List ℕ)) (faults : S → ℕ) (first : S) (left : List ℕ) (part : CapturePart) → left ≡ [] → StandsFor part.reader [] [] → part.streams ≡ None → IsReading capture_kind rest faults first first left [] [] part
 unfolding fault_met verdict_on reading_of read_on
 capture_begun rest faults first left part none reader streams = record {
-  given = record { source = subst (λ (l : List ℕ). Consumes (rest first) (rest first) l) (sym none) (consumed_none (rest first)); count = omega arith };
-  stands = record { given = []; reader = reader; kept = subst (λ (o : Option (List (List (List ℕ)))). KeepsStreams o (Captures.count_of []) []) (sym streams) (subst (λ (o : Option ℕ). KeepsStreams None o []) (sym no_count) refl) };
+  given = record { source = subst (λ (l : List ℕ). Consumes (rest first) (rest first) l) (sym none) (consumed_none (rest first)); bytes = subst AreBytes (sym none) tt; count = omega arith };
+  stands = record { given = []; reader = reader; small = tt; kept = subst (λ (o : Option (List (List (List ℕ)))). KeepsStreams o (Captures.count_of []) []) (sym streams) (subst (λ (o : Option ℕ). KeepsStreams None o []) (sym no_count) refl) };
   goes_on = (refl, refl);
 }
 
@@ -67,7 +68,7 @@ pub replies_begun : {S : Type 0} (rest : S → Option (List ℕ)) (faults : S �
 unfolding fault_met verdict_on reading_of read_on
 replies_begun rest faults first now left bytes part given reader outputs = record {
   given = given_before rest faults first now left bytes given;
-  stands = record { given = []; reader = reader; kept = subst (λ (o : Option AllOutputs). KeepsOutputs o (Texts.version_of []) []) (sym outputs) (subst (λ (o : Option ℕ). KeepsOutputs None o []) (sym no_version) refl) };
+  stands = record { given = []; reader = reader; small = tt; kept = subst (λ (o : Option AllOutputs). KeepsOutputs o (Texts.version_of []) []) (sym outputs) (subst (λ (o : Option ℕ). KeepsOutputs None o []) (sym no_version) refl) };
   goes_on = (refl, refl);
 }
 
@@ -158,9 +159,10 @@ pub all_parts : {S : Type 0} (rest : S → Option (List ℕ)) (faults : S → �
 all_parts rest faults first now left bytes more parts streams journal has =
     let end = over rest faults first now left (bytes ++ more) parts.outputs has in
     let text : List ℕ = (bytes ++ more) ++ has.bytes in
-    let source : Consumes (rest first) (rest now) text = subst (λ (l : List ℕ). Consumes (rest first) (rest now) l) (ap (λ (l : List ℕ). text ++ l) end.0 ∙ append-nil text) has.given.source in (
+    let all : text ++ left ≡ text = ap (λ (l : List ℕ). text ++ l) end.0 ∙ append-nil text in
+    let source : Consumes (rest first) (rest now) text = subst (λ (l : List ℕ). Consumes (rest first) (rest now) l) all has.given.source in (
       text,
-      (source, end.1),
+      (source, end.1, subst AreBytes all has.given.bytes),
       record {
         capture_text = bytes;
         journal_text = more;

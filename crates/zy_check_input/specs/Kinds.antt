@@ -1,6 +1,8 @@
 -- The kinds of parts: which bytes brought their readers to where they are, and what a text of each kind gives. No
 -- public clause cites this module.
-use Rattle.std.specs.Prelude.{◌≡◌, ℕ, ◌^◌, ◌<◌, Bool, false, List, [], ◌∷◌, ◌++◌, length, Option, None, Some, option_to_list, ⊤}
+use Rattle.std.specs.Prelude.{◌≡◌, ℕ, ◌^◌, ◌<◌, Bool, false, List, [], ◌∷◌, ◌++◌, length, Option, None, Some}
+use Rattle.std.specs.Prelude.{option_to_list, ⊤}
+use Rattle.zy_read.specs.Bytes.{AreBytes}
 use Rattle.zy_capture.specs.declared.record.Record.{Record}
 use Rattle.zy_capture.specs.declared.record.Record.TheVariants as Kinds
 use Rattle.zy_capture.specs.declared.session_bytes.SessionBytes.{SessionBytes}
@@ -40,6 +42,7 @@ KeepsSoFar (Some streams) count given = KeepsStreams (Some streams) count given
 pub record StandsForCapture (part : CapturePart) (bytes : List ℕ) : Type 0 where
   pub given : List Record
   pub reader : StandsFor part.reader given bytes
+  pub small : AreBytes bytes
   pub kept : KeepsStreams part.streams (Captures.count_of bytes) given
 
 -- the reader was fed bytes without a fault, and their records are those that are kept and this one, if there is one
@@ -47,6 +50,7 @@ pub record IsKeeping (part : CapturePart) (gave : Option Record) : Type 0 where
   pub given : List Record
   pub bytes : List ℕ
   pub reader : StandsFor part.reader (given ++ option_to_list gave) bytes
+  pub small : AreBytes bytes
   pub clean : Captures.fault_of bytes ≡ None
   pub kept : KeepsSoFar part.streams (Captures.count_of bytes) given
 
@@ -55,6 +59,7 @@ pub record IsAdding (part : CapturePart) (item : Record) : Type 0 where
   pub given : List Record
   pub bytes : List ℕ
   pub reader : StandsFor part.reader (given ++ item ∷ []) bytes
+  pub small : AreBytes bytes
   pub clean : Captures.fault_of bytes ≡ None
   pub kept : KeepsStreams part.streams (Captures.count_of bytes) given
 
@@ -124,7 +129,8 @@ journal_file_kind = record {
 -- the outputs are those that were given, in the version that was read; before it was read there are none
 abbrev pub KeepsOutputs : Option AllOutputs → Option ℕ → List SessionBytes → Type 0
 KeepsOutputs None None given = given ≡ []
-KeepsOutputs (Some outputs) (Some version) given = (items_of outputs ≡ given) × (outputs.version ≡ version) × AreOutputs outputs
+KeepsOutputs (Some outputs) (Some version) given =
+    (items_of outputs ≡ given) × (outputs.version ≡ version) × AreOutputs outputs
 KeepsOutputs outputs version given = ⊥
 
 -- the same, but the outputs may not have been made yet
@@ -136,6 +142,7 @@ HasOutputsSoFar (Some outputs) version given = KeepsOutputs (Some outputs) versi
 pub record StandsForRepliesPart (part : RepliesPart) (bytes : List ℕ) : Type 0 where
   pub given : List SessionBytes
   pub reader : StandsForReplies part.reader given bytes
+  pub small : AreBytes bytes
   pub kept : KeepsOutputs part.outputs (Replies.version_of bytes) given
 
 -- the reader was fed bytes without a fault, and their outputs are those that are kept and this one, if there is one
@@ -143,6 +150,7 @@ pub record IsKeepingOutput (part : RepliesPart) (gave : Option SessionBytes) : T
   pub given : List SessionBytes
   pub bytes : List ℕ
   pub reader : StandsForReplies part.reader (given ++ option_to_list gave) bytes
+  pub small : AreBytes bytes
   pub clean : Replies.fault_of bytes ≡ None
   pub kept : HasOutputsSoFar part.outputs (Replies.version_of bytes) given
 
@@ -151,6 +159,7 @@ pub record IsAddingOutput (part : RepliesPart) (item : SessionBytes) : Type 0 wh
   pub given : List SessionBytes
   pub bytes : List ℕ
   pub reader : StandsForReplies part.reader (given ++ item ∷ []) bytes
+  pub small : AreBytes bytes
   pub clean : Replies.fault_of bytes ≡ None
   pub kept : KeepsOutputs part.outputs (Replies.version_of bytes) given
 

@@ -2,7 +2,7 @@
 -- end of each part is known from its own bytes, and the first fault of the input counts. And a
 -- journal alone, the input of the command report.
 use Rattle.std.specs.Prelude.{◌≡◌, ℕ, true, List, ◌++◌, Option, Result, Ok, Err, IfSome, ⊤}
-use Rattle.std.specs.Io.KnownBytes.{Consumes, IsAtEnd}
+use Rattle.std.specs.Io.KnownBytes.{Consumes}
 use Rattle.zy_base.specs.declared.file_fault.FileFault.{FileFault}
 use Rattle.zy_base.specs.Outside.{Rose}
 use Rattle.zy_capture.specs.declared.record.Record.{Record}
@@ -16,7 +16,9 @@ use Rattle.zy_journal.specs.declared.journal.Journal.{Journal}
 use Rattle.zy_journal_reader.specs.Verdict as Journals
 use Rattle.zy_check_input.specs.declared.parts.Parts.{Parts}
 use Rattle.zy_check_input.specs.declared.stop.Refusal.{Refusal}
-use Rattle.zy_check_input.specs.declared.stop.Refusal.TheVariants.{Capture, Journal as OfJournal, Replies as OfReplies, Pcap}
+use Rattle.zy_check_input.specs.declared.stop.Refusal.TheVariants.{Capture, Journal as OfJournal}
+use Rattle.zy_check_input.specs.declared.stop.Refusal.TheVariants.{Replies as OfReplies, Pcap}
+use Rattle.zy_read.specs.Bytes.{ReadsAll}
 use Rattle.zy_read.specs.declared.stop.Stop.{Stop}
 use Rattle.zy_read.specs.declared.stop.Stop.TheVariants.{Refused, ReadFault, NoMemory}
 
@@ -96,10 +98,6 @@ IsPartFault refusal = (text : List ℕ) × HasPartFault text refusal
 
 -- ---- reading
 
--- the source held these bytes, if that is known, and is at its end
-abbrev pub ReadsAll : Option (List ℕ) → Option (List ℕ) → List ℕ → Type 0
-ReadsAll before after bytes = Consumes before after bytes × IsAtEnd after
-
 -- the parts are those of all that the source gave; or some input has this fault, and the source's text
 -- has it, if that is known; or the count of faults rose, or is at its largest value; `NoMemory` needs no cause
 abbrev pub HasReadParts : {S : Type 0} → (S → Option (List ℕ)) → (S → ℕ) → S → S → Result Parts (Stop Refusal) → Type 0
@@ -133,7 +131,8 @@ HasReadStreams rest faults first now (Err NoMemory) = ⊤
 
 -- the journal is that of all that the source gave; or its text has this fault as a journal; or the
 -- source's count of faults rose, or is at its largest value; `NoMemory` needs no cause
-abbrev pub HasReadJournal : {S : Type 0} → (S → Option (List ℕ)) → (S → ℕ) → S → S → Result Journal (Stop Refusal) → Type 0
+abbrev pub HasReadJournal : {S : Type 0} → (S → Option (List ℕ)) → (S → ℕ) → S → S → Result Journal (Stop Refusal)
+    → Type 0
 HasReadJournal rest faults first now (Ok journal) =
     (text : List ℕ) × ReadsAll (rest first) (rest now) text × (Journals.verdict text ≡ Journals.Verdict.Good journal)
 HasReadJournal rest faults first now (Err (Refused (OfJournal fault))) =

@@ -1,5 +1,6 @@
 -- A part, by the bytes that were read of a source. No public clause cites this module.
-use Rattle.std.specs.Prelude.{◌≡◌, ◌⊎◌, ℕ, ◌<◌, Bool, true, false, List, ◌++◌, length, Option, None, Result, Ok, Err, IfSome, ⊤}
+use Rattle.std.specs.Prelude.{◌≡◌, ◌⊎◌, ℕ, ◌<◌, Bool, true, false, List, ◌++◌, length, Option, None, Result, Ok, Err}
+use Rattle.std.specs.Prelude.{IfSome, ⊤}
 use Rattle.zy_base.specs.Outside.{Rose}
 use Rattle.zy_read.specs.declared.stop.Stop.{Stop}
 use Rattle.zy_read.specs.declared.stop.Stop.TheVariants.{Refused, ReadFault, NoMemory}
@@ -69,7 +70,8 @@ pub record HasFaultBehind {P T : Type 0} (kind : Kind P T) (before text : List �
 
 -- the cause of each stop in a part: the fault is one that a part of this kind may have, and that of
 -- the source's text, if that is known
-abbrev pub StopsBy : {P T S : Type 0} → Kind P T → (S → Option (List ℕ)) → (S → ℕ) → S → S → List ℕ → Stop Refusal → Type 0
+abbrev pub StopsBy : {P T S : Type 0} → Kind P T → (S → Option (List ℕ)) → (S → ℕ) → S → S → List ℕ → Stop Refusal
+    → Type 0
 StopsBy kind rest faults first now before (Refused refusal) =
     ((text : List ℕ) × kind.faulty text refusal) × IfSome (rest first) (λ text. HasFaultBehind kind before text refusal)
 StopsBy kind rest faults first now before ReadFault = Rose (faults first) (faults now)

@@ -1,5 +1,7 @@
 //! Reading the capture, whose records are added to streams.
-ghost use Rattle.std.specs.Prelude.{◌≡◌, ◌<◌, ◌≤◌, ◌++◌, ◌∷◌, [], ℕ, List, length, take, true, Option, None, Ok, OnOk, option_to_list};
+ghost use Rattle.std.specs.Prelude.{◌≡◌, ◌<◌, ◌≤◌, ◌++◌, ◌∷◌, [], ℕ, List, length, take, true, Option, None, Ok};
+ghost use Rattle.std.specs.Prelude.{OnOk, option_to_list};
+ghost use Rattle.zy_read.specs.Bytes.{AreBytes};
 ghost use Rattle.zy_capture.specs.declared.record.Record.{Record};
 ghost use Rattle.zy_capture.specs.Standing.{StandsFor};
 ghost use Rattle.zy_capture.specs.Streams.{with_record};
@@ -99,7 +101,8 @@ impl CapturePart {
         requires keeping { IsKeeping self.old gave }
         ensures value { (given : List Record) (bytes : List ℕ)
             → StandsFor self.old.reader (given ++ option_to_list gave) bytes
-            → fault_of bytes ≡ None → KeepsSoFar self.old.streams (count_of bytes) given
+            → AreBytes bytes → fault_of bytes ≡ None
+            → KeepsSoFar self.old.streams (count_of bytes) given
             → Takes capture_kind self.new bytes result }
     {
         match self.keep(gave) {

@@ -1,6 +1,7 @@
 //! Reading one part of an input.
 ghost use Rattle.std.specs.Prelude.{◌≡◌, ◌<◌, ◌≤◌, ℕ, List, [], ◌++◌, length, take, Ok, OnOk};
-ghost use Rattle.zy_check_input.specs.Reading.{Kind, IsPartOpen, IsPartFed, IsLeft, IsReading, Takes, EndsWhole, EndsCut, Advances, Feeds, Reads};
+ghost use Rattle.zy_check_input.specs.Reading.{Kind, IsPartOpen, IsPartFed, IsLeft, IsReading, Takes, EndsWhole};
+ghost use Rattle.zy_check_input.specs.Reading.{EndsCut, Advances, Feeds, Reads};
 
 use crate::stop::Stop;
 use zy_base::{Failed, Source};

@@ -1,10 +1,12 @@
 //! Reading the replies file.
 ghost use Rattle.std.specs.Prelude.{◌≡◌, ◌++◌, ◌∷◌, [], ℕ, List, Option, None, OnOk, option_to_list};
+ghost use Rattle.zy_read.specs.Bytes.{AreBytes};
 ghost use Rattle.zy_capture.specs.declared.session_bytes.SessionBytes.{SessionBytes};
 ghost use Rattle.zy_capture.specs.RepliesStanding.{StandsForReplies};
 ghost use Rattle.zy_capture.specs.RepliesVerdict.{fault_of, version_of};
 ghost use Rattle.zy_check_input.specs.Reading.{Takes};
-ghost use Rattle.zy_check_input.specs.Kinds.{KeepsOutputs, HasOutputsSoFar, IsKeepingOutput, IsAddingOutput, replies_kind};
+ghost use Rattle.zy_check_input.specs.Kinds.{KeepsOutputs, HasOutputsSoFar, IsKeepingOutput, IsAddingOutput};
+ghost use Rattle.zy_check_input.specs.Kinds.{replies_kind};
 
 use crate::part::{Part, Taken};
 use crate::stop::{Refusal, Stop};
@@ -55,10 +57,9 @@ impl RepliesPart {
     fn add(&mut self, item: SessionBytes) -> Result<(), NoMemory>
         requires adding { IsAddingOutput self.old item }
         ensures reader { self.new.reader ≡ self.old.reader }
-        ensures value { (given : List SessionBytes) (bytes : List ℕ)
-            → StandsForReplies self.old.reader (given ++ item ∷ []) bytes
-            → KeepsOutputs self.old.outputs (version_of bytes) given
-            → OnOk result (KeepsOutputs self.new.outputs (version_of bytes) (given ++ item ∷ [])) }
+        ensures value { (given : List SessionBytes) (version : Option ℕ)
+            → KeepsOutputs self.old.outputs version given
+            → OnOk result (KeepsOutputs self.new.outputs version (given ++ item ∷ [])) }
     {
         match &mut self.outputs {
             Some(outputs) => match outputs.add(item.conn, item.bytes) {
@@ -93,7 +94,8 @@ impl RepliesPart {
         requires keeping { IsKeepingOutput self.old gave }
         ensures value { (given : List SessionBytes) (bytes : List ℕ)
             → StandsForReplies self.old.reader (given ++ option_to_list gave) bytes
-            → fault_of bytes ≡ None → HasOutputsSoFar self.old.outputs (version_of bytes) given
+            → AreBytes bytes → fault_of bytes ≡ None
+            → HasOutputsSoFar self.old.outputs (version_of bytes) given
             → Takes replies_kind self.new bytes result }
     {
         match self.keep(gave) {

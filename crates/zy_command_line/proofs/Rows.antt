@@ -10,11 +10,11 @@ use Rattle.std.proofs.lemmas.List.{append-nil}
 use Rattle.std.proofs.lemmas.List.Folds.{list_any-append}
 use Rattle.std.proofs.lemmas.Slice.Eq.{bytes_eq-Decides}
 use Rattle.clap.specs.Walk.{Row, Rule, Text, has_row, at_row, more_values, with_values, reading_by, used, arg_by_long, arg_by_id, arg_by_index, with_default, first_of, is_early_multiple}
-use Rattle.clap.specs.Simple.{built, filled_from, is_simple}
+use Rattle.clap.specs.Simple.{filled_from, is_simple}
 use Rattle.clap.specs.Faults.{is_simple_and_free}
 use Rattle.clap.specs.declared.parser.matches.ValueSource.TheVariants.{CommandLine}
 use Rattle.zy_command_line.specs.Grammar.{Options, is_among, value_of}
-use Rattle.zy_command_line.specs.Splitting.{option_rule, plain_rule, app_with, app_named, shape_with, row_of_option, rows_for}
+use Rattle.zy_command_line.specs.Splitting.{option_rule, plain_rule, app_with, app_named, row_of_option, rows_for}
 
 -- ---- rules
 
@@ -22,9 +22,6 @@ use Rattle.zy_command_line.specs.Splitting.{option_rule, plain_rule, app_with, a
 pub filled_names : (names : List Text) → filled_from 1 (map option_rule names) ≡ map plain_rule names
 filled_names [] = refl
 filled_names (n ∷ names) = ap (λ (rules : List Rule). plain_rule n ∷ rules) (filled_names names)
-
-pub built_is : (command : Text) (names : List Text) → (built (app_named command names)).top ≡ shape_with command (map plain_rule names)
-built_is command names = ap (shape_with command) (filled_names names)
 
 pub by_index : (names : List Text) (at : ℕ) → arg_by_index (map plain_rule names) at ≡ None
 by_index [] at = refl

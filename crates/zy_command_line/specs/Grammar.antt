@@ -1,5 +1,6 @@
 -- The words after a command's name: which options they spell.
-use Rattle.std.specs.Prelude.{ℕ, Bool, true, false, ◌&&◌, ◌||◌, ◌==◌, not, nat_lt, List, [], ◌∷◌, Option, None, Some, is_some, if◌then◌else◌, option_map, option_and_then}
+use Rattle.std.specs.Prelude.{ℕ, Bool, true, false, ◌&&◌, ◌||◌, ◌==◌, not, nat_lt, List, [], ◌∷◌, Option, None, Some}
+use Rattle.std.specs.Prelude.{is_some, if◌then◌else◌, option_map, option_and_then}
 use Rattle.std.specs.Str.{bytes_eq}
 use Rattle.std.specs.List.{list_any, list_all}
 
@@ -30,7 +31,8 @@ name_and_value (byte ∷ bytes) = if byte == 61 then ([], Some bytes)
 
 -- the name and the value of `--name` or `--name=value`, a word with two hyphens and at least one byte after them
 abbrev pub option_in : Word → Option (Word × Option Word)
-option_in (first ∷ second ∷ byte ∷ bytes) = if first == 45 && second == 45 then Some (name_and_value (byte ∷ bytes)) else None
+option_in (first ∷ second ∷ byte ∷ bytes) =
+    if first == 45 && second == 45 then Some (name_and_value (byte ∷ bytes)) else None
 option_in word = None
 
 -- a word that is `--name` or `--name=value`

@@ -1,5 +1,6 @@
 -- What lawful words ask for: a command, and the values of its options, if they are in their ranges.
-use Rattle.std.specs.Prelude.{ℕ, ◌&&◌, ◌==◌, ◌*◌, nat_le, min, List, [], ◌∷◌, length, codes, Option, None, Some, if◌then◌else◌, option_and_then, option_map}
+use Rattle.std.specs.Prelude.{ℕ, ◌&&◌, ◌==◌, ◌*◌, nat_le, min, List, [], ◌∷◌, length, codes, Option, None, Some}
+use Rattle.std.specs.Prelude.{if◌then◌else◌, option_and_then, option_map}
 use Rattle.std.specs.Str.{bytes_eq}
 use Rattle.zy_base.specs.Number.{number_of}
 use Rattle.zy_command_line.specs.Grammar.{Word, Options, options_of, value_of}

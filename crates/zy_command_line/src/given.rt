@@ -2,7 +2,9 @@
 ghost use Rattle.std.specs.Prelude.{◌≡◌, ◌≤◌, option_map};
 ghost use Rattle.zy_command_line.specs.Grammar.{Options};
 ghost use Rattle.zy_command_line.specs.Splitting.{HasOptions};
-ghost use Rattle.zy_command_line.specs.Request.{cores_of, threads_of, order_of, order_from, shards_of, idle_turns_of, port_of, out_of, out_from, run_of, traffic_of, seed_of, conns_of, commands_of};
+ghost use Rattle.zy_command_line.specs.Request.{cores_of, threads_of, order_of, order_from, shards_of, idle_turns_of};
+ghost use Rattle.zy_command_line.specs.Request.{port_of, out_of, out_from, run_of, traffic_of, seed_of, conns_of};
+ghost use Rattle.zy_command_line.specs.Request.{commands_of};
 
 use crate::number::{number_in, number_or};
 use crate::request::{Out, Run, Traffic};

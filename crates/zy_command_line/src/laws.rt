@@ -39,7 +39,8 @@ pub fn worked_requests()
 #[tactic(auto, unfolding(crate::specs::Grammar::options_from))]
 pub fn worked_rests()
     ensures most { request_of (codes "run" ∷ codes "--rest" ∷ codes "1000000" ∷ [])
-        ≡ Some (Requests.Run (record { cores = 4; threads = 4; order = None; shards = 16; rest = 1000000 }) Outs.Replies) }
+        ≡ Some (Requests.Run (record { cores = 4; threads = 4; order = None; shards = 16; rest = 1000000 })
+        Outs.Replies) }
     ensures over { request_of (codes "run" ∷ codes "--rest" ∷ codes "1000001" ∷ []) ≡ None }
     ensures no_number { request_of (codes "run" ∷ codes "--rest" ∷ codes "x" ∷ []) ≡ None }
     ensures on_one_thread { request_of (codes "run" ∷ codes "--threads=1" ∷ codes "--rest=7" ∷ [])

@@ -96,23 +96,6 @@ module _ (w : Worked) (k : Kept w) where
     room = k.room;
   }
 
-  -- the texts are taken
-  pub kept_takes : Kept (record w { shown = w.finished; batch = [] })
-  kept_takes = record {
-    slots = k.slots;
-    done = k.done;
-    frames = k.frames;
-    count = k.count;
-    dues = k.dues;
-    kinds = k.kinds;
-    begun = k.begun;
-    now = k.now;
-    later = k.later;
-    texts = append-nil (take w.finished (texts_all w));
-    shown = omega arith;
-    room = k.room;
-  }
-
   -- when no command is in progress, the commands of all frames taken are finished
   pub done_idle : w.begun ≡ idle → commands_of_frames w.taken ≡ k.done
   done_idle e = k.frames ∙ ap (λ s. k.done ++ command_begun s) e ∙ append-nil k.done

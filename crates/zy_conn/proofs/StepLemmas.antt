@@ -1,13 +1,11 @@
 -- What each step keeps, for values that are given by equations.
-use Rattle.std.proofs.Common.{◌≡◌, ◌≢◌, inl, ℕ, ◌+◌, ◌<◌, ◌≤◌, ◌^◌, List, [], ◌∷◌, ◌++◌, length, Some, Result, Ok, Err, MatchResult, IfOk, slice_get, refl, sym, ap, ◌∙◌, subst, arith, length-append}
-use Rattle.std.specs.Prelude.{All, IsSome, OnOk, OnErr}
+use Rattle.std.proofs.Common.{◌≡◌, ◌≢◌, inl, ℕ, ◌+◌, ◌≤◌, ◌^◌, List, [], ◌∷◌, ◌++◌, length, Some, Result, Ok, Err, MatchResult, IfOk, slice_get, refl, sym, ap, ◌∙◌, subst, arith, length-append}
+use Rattle.std.specs.Prelude.{IsSome, OnOk, OnErr}
 use Rattle.std.proofs.lemmas.Option.{slice_get_within}
 use Rattle.zy_base.specs.declared.call_reply.CallReply.{CallReply}
 use Rattle.mc_parse.specs.declared.command.Command.{Command}
 use Rattle.mc_parse.specs.declared.shard_call.ShardCall.{ShardCall}
-use Rattle.mc_parse.specs.Calls.{Due, calls_of, IsOnShard}
-use Rattle.mc_parse.proofs.CallLemmas.{all_within}
-use Rattle.mc_store.specs.declared.store.view.Trace.{Trace}
+use Rattle.mc_parse.specs.Calls.{Due, calls_of}
 use Rattle.mc_store.specs.Call.{WasBusy}
 use Rattle.mc_store.specs.Pass.{Passed}
 use Rattle.zy_calls.specs.Batch.{Batch, with_text, with_finished}
@@ -22,9 +20,9 @@ use Rattle.zy_conn.specs.declared.calling.Made.{Made}
 use Rattle.zy_conn.specs.declared.calling.Made.TheVariants.{Call, Done, Stopped}
 use Rattle.zy_conn.specs.Work.{Start, idle, raw, going, start_of, Worked, worked, texts_taken, mark_of}
 use Rattle.zy_conn.specs.Kept.{Kept}
-use Rattle.zy_conn.specs.Hold.{call_due, FoundBusy, HeldTo}
+use Rattle.zy_conn.specs.Hold.{call_due}
 use Rattle.zy_conn.specs.Step.{IsWhole, text_begun, calls_left, SamePass, CallStopsBy, Makes, Goes, StopsBy, MadeFrom}
-use Rattle.zy_conn.proofs.KeptLemmas.{kept_looks, texts_begin, kept_begins, kept_reads, going_on, texts_call, kept_calls, kept_finishes}
+use Rattle.zy_conn.proofs.KeptLemmas.{kept_looks, texts_begin, kept_begins, kept_reads, texts_call, kept_calls, kept_finishes}
 
 -- ---- a frame is taken
 
@@ -82,12 +80,6 @@ stopped p q command calls replies replies' asked a b (Busy shard loaded found) e
 }
 
 module _ (p q : Passed) (r : RingName) (taken known : List FrameKind) (s : Start) (f sh : ℕ) (b : List (List ℕ)) (command : Command) (calls : List ShardCall) (replies replies' : List CallReply) (k : Kept (worked p r taken known s f sh b)) (e : s ≡ going command calls replies) where
-  -- each call is on one of the shards
-  pub within_as : (shards : ℕ) (listed : List ShardCall) → shards ≡ p.table.slots → listed ≡ calls → All (IsOnShard shards) listed
-  within_as shards listed is same =
-      let g = going_on (worked p r taken known s f sh b) k command calls replies e in
-      subst (All (IsOnShard shards)) (sym (same ∙ g.all)) (subst (λ n. All (IsOnShard n) (calls_of p.table.slots command)) (sym is) (all_within p.table.slots command g.some))
-
   module _ (pass : SamePass p q) where
     same_made : q.calls ≡ p.calls → replies' ≡ replies → record (worked p r taken known s f sh b) { trace = q.trace } ≡ worked q r taken known (going command calls replies') f sh b
     same_made h g = let t = pass.table in let c = pass.conn in cc
@@ -153,35 +145,3 @@ module _ (p : Passed) (r : RingName) (taken known : List FrameKind) (s s' : Star
       subst (λ y. Kept (worked p r taken known y batch'.finished sh batch'.texts)) (sym none)
       (subst (λ m. Kept (worked p r taken known idle m sh batch'.texts)) (sym finished)
       (subst (λ l. Kept (worked p r taken known idle (batch.finished + 1) sh l)) (sym texts) (kept_ends (worked p r taken known s batch.finished sh batch.texts) k s refl whole)))
-
--- ---- why a hold ends
-
--- what was loaded after later steps was loaded after earlier ones
-found_earlier : (a b : Trace) (w : Worked) (shard loaded found : ℕ) → a.steps ≤ b.steps → FoundBusy b w shard loaded found → FoundBusy a w shard loaded found
-found_earlier a b w shard loaded found le h = record {
-  asked = h.asked;
-  asked_is = h.asked_is;
-  busy = record {
-    shard_is = h.busy.shard_is;
-    loaded_is = (let x = h.busy.loaded_is in let y = x.later in record { word = x.word; value = x.value; later = omega arith; made = x.made });
-    cause = h.busy.cause;
-  };
-}
-
--- if fewer than 64 commands were finished, the hold ends for the reason for which the work stops
-pub stops_held : (a b c : Worked) (end : HoldEnd) → a.trace.steps ≤ b.trace.steps → c.finished < a.finished + 64 → StopsBy b c end → HeldTo a c end
-stops_held a b c Drained le few h = h
-stops_held a b c Limit le few h = absurd h
-stops_held a b c Spent le few h = (few, h)
-stops_held a b c (Busy shard loaded found) le few h = found_earlier a.trace b.trace c shard loaded found le h
-
--- the work that goes on after a step
-pub goes_on : (a b c : Worked) → Goes a b → Goes b c → Goes a c
-goes_on a b c x y = let u = x.steps in let v = y.steps in record { table = y.table ∙ x.table; mark = y.mark ∙ x.mark; steps = omega arith }
-
--- a work that stops after a step that went on stops for the same reason from before that step
-pub stops_on : (a b c : Worked) (end : HoldEnd) → a.trace.steps ≤ b.trace.steps → StopsBy b c end → StopsBy a c end
-stops_on a b c Drained le h = h
-stops_on a b c Limit le h = absurd h
-stops_on a b c Spent le h = h
-stops_on a b c (Busy shard loaded found) le h = found_earlier a.trace b.trace c shard loaded found le h

@@ -53,7 +53,7 @@ impl Marked for Block {
 
 impl Block {
     /// The block of a connection that any of 64 cores may hold, with the other end of its event ring.
-    /// After a refusal the pass is handed back.
+    /// After a refusal the pass is handed back. The program calls `among`.
     pub fn new(
         alloc: Global,
         conn: u32,
@@ -135,7 +135,7 @@ impl Block {
     }
 
     /// Takes the texts that wait, with the number of finished commands; no text is left. Takes no
-    /// memory.
+    /// memory. The program calls `send_to`.
     pub fn take_batch(&mut self) -> Batch
         ensures batch { (result.texts ≡ self.old.work.batch) × (result.finished ≡ self.old.work.finished) }
         ensures block { self.new ≡ record self.old {
@@ -150,7 +150,8 @@ impl Block {
     }
 
     /// Moves the texts that wait to an output, with the number of finished commands; no text is left.
-    /// The block keeps their room for further texts. After a refusal block and output are as they were.
+    /// The block keeps their room for further texts, up to 64 KiB. After a refusal block and output are
+    /// as they were.
     pub fn send_to(&mut self, output: &mut Output) -> Result<(), NoMemory>
         ensures output { OnOk result (output.new ≡ with_batch output.old (batch_waiting self.old.work)) }
         ensures block { OnOk result (self.new ≡ record self.old {

@@ -136,7 +136,7 @@ impl Work {
     }
 
     /// Moves the texts that wait to an output, with the number of finished commands; no text is left,
-    /// and the room of the texts is kept. After a refusal nothing has changed.
+    /// and room of up to 64 KiB is kept. After a refusal nothing has changed.
     pub(crate) fn send_to(&mut self, output: &mut Output) -> Result<(), NoMemory>
         ensures output { OnOk result (output.new ≡ with_batch output.old (batch_waiting self.old)) }
         ensures work { OnOk result (self.new ≡ record self.old { shown = self.old.finished; batch = [] }) }

@@ -1,14 +1,14 @@
 -- Each kind of step keeps the rule.
-use Rattle.std.proofs.Common.{◌≡◌, ◌≢◌, ℕ, zero, suc, ◌+◌, ◌%◌, ◌^◌, ◌<◌, ◌≤◌, List, [], ◌∷◌, ◌++◌, get_or, set, true, false, refl, sym, ap, ◌∙◌, subst, ⊎_elim, arith, length, length-set, get_or-set_same, get_or-set_other}
+use Rattle.std.proofs.Common.{◌≡◌, ◌≢◌, ℕ, ◌+◌, ◌%◌, ◌^◌, ◌<◌, ◌≤◌, List, [], ◌∷◌, ◌++◌, get_or, set, true, false, refl, sym, ap, ◌∙◌, subst, ⊎_elim, arith, length, length-set, get_or-set_same, get_or-set_other}
 use Rattle.std.specs.Int.{bit_at}
 use Rattle.std.proofs.lemmas.Nat.Bits.{bit_at_or, bit_at-lt, bit_at-zero}
 use Rattle.std.specs.Int.Bits.{bit_or}
 use mathlib.Core.Logic.{dite}
-use mathlib.Core.Option.{some, some-injective, some-ne-none}
+use mathlib.Core.Option.{some}
 use native.Mathlib.Decide.{ℕ_discrete}
 use lib.ListN.{get_elem?}
 use lib.Seq.{set-get_or}
-use Rattle.atomic_table.specs.Table.{State, opening, keeps, Allows, Splits, Enters}
+use Rattle.atomic_table.specs.Table.{State, keeps, Allows, Splits, Enters}
 use Rattle.atomic_table.proofs.Lists.{at_set, at_snoc}
 use Rattle.zy_control.specs.declared.view.Role.{Role}
 use Rattle.zy_control.specs.declared.view.Role.TheVariants.{Root, Core, Watcher}
@@ -19,16 +19,6 @@ use Rattle.zy_control.specs.ControlRule.{has_one, is_one, is_named, is_asleep, c
 use Rattle.zy_control.specs.Step.{counts, sees_done, sees_stop, stops, enters}
 use Rattle.zy_control.proofs.CountLemmas.{counted_set, cores_set, counted_end, cores_end, counted_le, missing}
 use Rattle.zy_control.proofs.RestLemmas.{one_same, one_other, named_counted, asleep_counted, named_set, asleep_set, named_end, asleep_end}
-
--- ---- the start
-
-pub opens : (n : ℕ) → n < 2 ^ 64 → ControlRule n (opening (0 ∷ 0 ∷ 0 ∷ []) [] (root_view n))
-opens n lt = record { wide = refl; done = refl; few = omega arith; fits = lt; alone = λ i. omega arith; given = λ i le. refl; sleepers = bit_at-zero; each = first }
-  where
-    first : (j : ℕ) (v : View) → get_elem? (root_view n ∷ []) j ≡ some v → Knows (0 ∷ 0 ∷ 0 ∷ []) (root_view n ∷ []) n j v
-    first zero v e = subst (λ (x : View). Knows (0 ∷ 0 ∷ 0 ∷ []) (root_view n ∷ []) n 0 x) (some-injective _ _ e)
-        (record { cores_are = refl; done_seen = omega arith; stop_seen = λ i h. h; role = (refl, refl) })
-    first (suc j) v e = absurd (some-ne-none v (sym e))
 
 -- ---- what other seats know
 

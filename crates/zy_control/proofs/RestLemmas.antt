@@ -1,5 +1,5 @@
 -- The seats of the cores with one number, and the bit of sleepers that they have.
-use Rattle.std.proofs.Common.{◌≡◌, ◌≢◌, ℕ, zero, suc, ◌+◌, ◌*◌, ◌%◌, ◌^◌, ◌<◌, ◌≤◌, ◌==◌, Bool, List, [], ◌∷◌, ◌++◌, set, true, false, refl, sym, ap, ◌∙◌, arith, eq-eqb, ne_eqb}
+use Rattle.std.proofs.Common.{◌≡◌, ◌≢◌, ℕ, zero, suc, ◌+◌, ◌≤◌, ◌==◌, Bool, List, [], ◌∷◌, ◌++◌, set, true, false, refl, sym, ap, arith, eq-eqb, ne_eqb}
 use mathlib.Core.Logic.{dite}
 use mathlib.Core.Option.{some, some-injective, some-ne-none}
 use native.Mathlib.Decide.{ℕ_discrete}
@@ -7,7 +7,7 @@ use lib.ListN.{get_elem?}
 use Rattle.zy_control.specs.declared.view.Role.{Role}
 use Rattle.zy_control.specs.declared.view.Role.TheVariants.{Root, Core, Watcher}
 use Rattle.zy_control.specs.declared.view.View.{View}
-use Rattle.zy_control.specs.View.{counted, announcing}
+use Rattle.zy_control.specs.View.{counted}
 use Rattle.zy_control.specs.ControlRule.{one_if, is_named, is_asleep, named_in, asleep_in}
 
 -- ---- one seat

@@ -1,5 +1,5 @@
 -- The steps on sleepers keep the rule.
-use Rattle.std.proofs.Common.{◌≡◌, ◌≢◌, ◌↔◌, ℕ, zero, suc, ◌+◌, ◌*◌, ◌%◌, ◌^◌, ◌<◌, ◌≤◌, ◌==◌, Bool, List, [], ◌∷◌, set, true, false, refl, sym, ap, ◌∙◌, subst, arith, length, length-set, get_or, get_or-set_same, get_or-set_other, w64}
+use Rattle.std.proofs.Common.{◌≡◌, ◌≢◌, ◌↔◌, ℕ, ◌+◌, ◌*◌, ◌%◌, ◌^◌, ◌<◌, ◌≤◌, Bool, List, [], set, true, false, refl, sym, ap, ◌∙◌, subst, arith, length-set, get_or, get_or-set_same, get_or-set_other, w64}
 use Rattle.std.specs.Int.{bit_at, bit_not}
 use Rattle.std.specs.Int.Bits.{bit_or, bit_and}
 use Rattle.std.proofs.lemmas.Nat.Bits.{bit_at_and, bit_at_above, bit_at_set_same, bit_at_set_other, bit_at_clear_same, bit_at_clear_other}
@@ -12,11 +12,10 @@ use Rattle.zy_control.specs.declared.view.Role.{Role}
 use Rattle.zy_control.specs.declared.view.Role.TheVariants.{Root, Core, Watcher}
 use Rattle.zy_control.specs.declared.view.View.{View}
 use Rattle.zy_control.specs.View.{view, sleepers_step, announcing}
-use Rattle.zy_control.specs.ControlRule.{one_if, is_named, is_asleep, has_one, is_one, IsRole, Knows, ControlRule}
-use Rattle.zy_control.specs.Step.{Seated, announces, withdraws, sees_sleepers}
-use Rattle.zy_control.proofs.CountLemmas.{cores_set}
+use Rattle.zy_control.specs.ControlRule.{is_named, is_asleep, has_one, is_one, IsRole, ControlRule}
+use Rattle.zy_control.specs.Step.{announces, withdraws, sees_sleepers}
 use Rattle.zy_control.proofs.RestLemmas.{one_same, one_other, asleep_else, asleep_some, asleep_there}
-use Rattle.zy_control.proofs.MoveLemmas.{Stepped, stepped, seen}
+use Rattle.zy_control.proofs.MoveLemmas.{stepped, seen}
 
 -- the bit of a core, and every other bit
 abbrev pub bit_of : ℕ → ℕ

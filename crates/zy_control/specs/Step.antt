@@ -1,9 +1,10 @@
 -- What a seat learns from each kind of step on the control words. No public clause cites this module.
-use Rattle.std.specs.Prelude.{◌≡◌, ℕ, ◌+◌, ◌≤◌, [], Bool, true, false, bit_or, bit_and}
+use Rattle.std.specs.Prelude.{◌≡◌, ℕ, ◌+◌, ◌≤◌, [], true, false, bit_or, bit_and}
 use Rattle.atomic_table.specs.Table.{Me}
 use Rattle.zy_control.specs.declared.view.Role.TheVariants.{Watcher}
 use Rattle.zy_control.specs.declared.view.View.{View}
-use Rattle.zy_control.specs.View.{view, untraced, done_step, stop_step, sleepers_step, counted, announcing, Covers, MustHaveCounted}
+use Rattle.zy_control.specs.View.{view, untraced, done_step, stop_step, sleepers_step, counted, announcing, Covers}
+use Rattle.zy_control.specs.View.{MustHaveCounted}
 
 -- a seat's view, and the slots that it has taken: none
 abbrev pub Seated : Type 0

@@ -3,7 +3,8 @@ ghost use Rattle.std.specs.Prelude.{◌≡◌, ◌+◌, ◌<◌, ◌≤◌, true
 ghost use Rattle.std.specs.Int.{bit_at};
 ghost use Rattle.zy_control.specs.declared.view.Role.TheVariants.{Core};
 ghost use Rattle.zy_control.specs.View.{untraced, number_of, HasBit, IsUncounted, MustHaveCounted, Covers};
-ghost use Rattle.zy_control.specs.Pass.{rooted, held, watching, counting, seeing_done, seeing_stop, seeing_sleepers, resting};
+ghost use Rattle.zy_control.specs.Pass.{rooted, held, watching, counting, seeing_done, seeing_stop, seeing_sleepers};
+ghost use Rattle.zy_control.specs.Pass.{resting};
 
 use crate::pass::{ControlPass, ControlRoot};
 use crate::plays::{
@@ -48,7 +49,8 @@ impl Model for Control {
 
     ghost view = { λ c. controlled c.table.shared.table_id c.cores };
 
-    ghost invariant = { λ c. (c.table.shared.table_id.words ≡ 3) × (c.table.shared.key ≡ c.cores) × (c.cores < 2 ^ 64) };
+    ghost invariant = { λ c. (c.table.shared.table_id.words ≡ 3)
+        × (c.table.shared.key ≡ c.cores) × (c.cores < 2 ^ 64) };
 }
 
 impl Control {

@@ -24,13 +24,15 @@ pub fn done_is_at_most_the_number_of_cores()
 
 /// The bit of sleepers with the number of a core is 1 exactly where its seat has announced itself.
 pub fn the_bit_of_a_core_is_set_exactly_where_it_has_announced_itself()
-    ensures value { (cores : ℕ) (s : State ℕ View) (j number : ℕ) (v : View) (counted announced : Bool) → ControlRule cores s
-        → get_elem? s.views j ≡ some v → v.role ≡ Core number counted announced
+    ensures value { (cores : ℕ) (s : State ℕ View) (j number : ℕ) (v : View) (counted announced : Bool)
+        → ControlRule cores s → get_elem? s.views j ≡ some v → v.role ≡ Core number counted announced
         → (bit_at (slice_index s.words 2) number ≡ 1) ↔ (announced ≡ true) }
 {}
 
 /// No bit of sleepers is 1 but those of cores that have announced themselves.
 pub fn each_bit_that_is_set_is_of_a_core_that_has_announced_itself()
-    ensures value { (cores : ℕ) (s : State ℕ View) (number : ℕ) → ControlRule cores s → bit_at (slice_index s.words 2) number ≡ 1
-        → (j : ℕ) × (v : View) × (counted : Bool) × (get_elem? s.views j ≡ some v) × (v.role ≡ Core number counted true) }
+    ensures value { (cores : ℕ) (s : State ℕ View) (number : ℕ)
+        → ControlRule cores s → bit_at (slice_index s.words 2) number ≡ 1
+        → (j : ℕ) × (v : View) × (counted : Bool)
+        × (get_elem? s.views j ≡ some v) × (v.role ≡ Core number counted true) }
 {}

@@ -1,6 +1,7 @@
 //! What a seat learns from each step on the control words. These types are for the proofs alone.
 ghost use Rattle.zy_control.specs.View.{gave, newcomer};
-ghost use Rattle.zy_control.specs.Step.{counts, sees_done, sees_stop, stops, announces, withdraws, sees_sleepers, enters};
+ghost use Rattle.zy_control.specs.Step.{counts, sees_done, sees_stop, stops, announces, withdraws, sees_sleepers};
+ghost use Rattle.zy_control.specs.Step.{enters};
 
 use crate::view::View;
 use atomic_table::{Play, Split};

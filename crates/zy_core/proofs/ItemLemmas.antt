@@ -3,9 +3,8 @@ use Rattle.std.proofs.Common.{◌≡◌, ℕ, ◌<◌, List, [], ◌∷◌, ◌+
 use Rattle.zy_rx.specs.declared.rx.Rx.{Rx}
 use Rattle.zy_rx.specs.Ring.{Taking}
 use Rattle.zy_home.specs.Home.{Homed, HomeStands}
-use Rattle.zy_home.specs.Items.{ReceivesAll, SameFor}
+use Rattle.zy_home.specs.Items.{ReceivesAll}
 use Rattle.zy_core.specs.Turn.{ReceivesTo}
-use Rattle.zy_core.specs.Step.{Kin}
 
 no_items : (items : List Rx) → length items ≡ 0 → items ≡ []
 no_items [] e = refl
@@ -31,6 +30,3 @@ receives_none h h' o o' count r zero =
 
 pub received_stands : (h h' : Homed) (o o' : Taking) (count : ℕ) → ReceivesAll h o h' o' count → HomeStands h o.taken → HomeStands h' o'.taken
 received_stands h h' o o' count r s = subst (HomeStands h') (sym r.taken) (r.stands o.taken s)
-
-pub same_kin : (h h' : Homed) → SameFor 64 h h' → Kin h h'
-same_kin h h' s = record { core = s.core; cores = s.cores; count = s.count; conns = s.conns; table = s.table; label = s.label; out = s.out }

@@ -1,10 +1,4 @@
-pub mod RoundLemmas
-pub mod ListLemmas
-pub mod DealLemmas
-pub mod CoreLemmas
-pub mod KeepLemmas
+pub mod PassLemmas
 pub mod TurnLemmas
 pub mod NapLemmas
-pub mod AloneLemmas
-pub mod GroupLemmas
 pub mod ItemLemmas

@@ -1,5 +1,5 @@
 -- A nap by its parts.
-use Rattle.std.proofs.Common.{◌≡◌, ℕ, true, false, Bool, ap, ◌∙◌}
+use Rattle.std.proofs.Common.{◌≡◌, ℕ, ◌+◌, ◌<◌, true, false, Bool, sym, ap, ◌∙◌, arith}
 use Rattle.std.specs.Prelude.{Result, Ok, Err, IfOk}
 use Rattle.zy_base.specs.declared.outside.NoMemory.{NoMemory}
 use Rattle.zy_control.specs.View.{has_counted}
@@ -7,20 +7,21 @@ use Rattle.zy_control.specs.Pass.{seeing_done, seeing_stop, resting}
 use Rattle.zy_core.specs.declared.turn.Turn.{Turn}
 use Rattle.zy_core.specs.declared.nap.Nap.{Nap}
 use Rattle.zy_core.specs.Core.{Cored, stepped}
-use Rattle.zy_core.specs.Turn.{TurnTo}
+use Rattle.zy_core.specs.Turn.{TurnTo, HasSteps}
 use Rattle.zy_core.specs.Nap.{nap_of, RestTo, NapTo}
 
 -- after the turn done was loaded, then stop
-pub rests : (cores : ℕ) (a b c d : Cored) (turn : Turn) (counted : Bool) (done stop : ℕ) (nap : Nap) → TurnTo a b turn → b.control ≡ a.control
+pub rests : (cores : ℕ) (a b c d : Cored) (turn : Turn) (counted : Bool) (done stop : ℕ) (nap : Nap) → TurnTo a b turn → HasSteps a b → b.control ≡ a.control
     → c ≡ stepped (seeing_done done b.control) b → d ≡ stepped (seeing_stop stop c.control) c → counted ≡ has_counted d.control.role
     → nap ≡ nap_of cores counted turn done stop → RestTo cores a d nap
-rests cores a b c d turn counted done stop nap took control one two has is =
+rests cores a b c d turn counted done stop nap took steps control one two has is =
     let after : d ≡ stepped (seeing_stop stop (seeing_done done a.control)) b =
     two ∙ ap (λ (x : Cored). stepped (seeing_stop stop x.control) x) one ∙ ap (λ h. stepped (seeing_stop stop (seeing_done done h)) b) control in
     record {
       turn = turn;
       turned = b;
       took = took;
+      steps = steps;
       control = control;
       done = done;
       stop = stop;
@@ -32,5 +33,13 @@ rests cores a b c d turn counted done stop nap took control one two has is =
 pub naps : (cores : ℕ) (a b c d : Cored) (set cleared : ℕ) (r : Result Nap NoMemory) → b ≡ stepped (resting true set a.control) a
     → d ≡ stepped (resting false cleared c.control) c → IfOk r (RestTo cores b c) → IfOk r (NapTo cores a d)
 naps cores a b c d set cleared (Ok nap) one two rests =
-    record { set = set; cleared = cleared; announced = b; rested = c; announces = one; rests = rests; withdraws = two }
+    record { set = set; cleared = cleared; announced = b; rested = c; announces = one; rests = rests; withdraws = two; last = later }
+  where
+    -- withdrawing is one step later than the load of stop
+    later : d.control.trace.stop.step < d.control.trace.sleepers.step
+    later =
+        let loaded : c.control.trace.stop.step ≡ c.control.trace.steps = ap (λ (x : Cored). x.control.trace.stop.step) rests.loaded ∙ sym (ap (λ (x : Cored). x.control.trace.steps) rests.loaded) in
+        let stop : d.control.trace.stop.step ≡ c.control.trace.stop.step = ap (λ (x : Cored). x.control.trace.stop.step) two in
+        let sleepers : d.control.trace.sleepers.step ≡ c.control.trace.steps + 1 = ap (λ (x : Cored). x.control.trace.sleepers.step) two in
+        omega arith
 naps cores a b c d set cleared (Err e) one two rests = tt

@@ -3,9 +3,5 @@ pub mod Core
 pub mod Steal
 pub mod Turn
 pub mod Nap
-pub mod Round
-pub mod Drive
+pub mod Cores
 pub mod Step
-pub mod Deal
-pub mod Group
-pub mod Seat

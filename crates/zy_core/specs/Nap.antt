@@ -1,5 +1,5 @@
 -- A nap of a core: it announces itself, takes a turn, and rests until it is rung unless there is something to do.
-use Rattle.std.specs.Prelude.{◌≡◌, ℕ, Bool, true, false, not, ◌||◌, ◌==◌, if◌then◌else◌}
+use Rattle.std.specs.Prelude.{◌≡◌, ◌<◌, ℕ, Bool, true, false, not, ◌||◌, ◌==◌, if◌then◌else◌}
 use Rattle.zy_park.specs.Pass as bells
 use Rattle.zy_control.specs.View.{has_counted}
 use Rattle.zy_control.specs.Pass.{seeing_done, seeing_stop, resting}
@@ -8,7 +8,7 @@ use Rattle.zy_core.specs.declared.turn.Turn.TheVariants.{Worked, Idle, Settled}
 use Rattle.zy_core.specs.declared.nap.Nap.{Nap}
 use Rattle.zy_core.specs.declared.nap.Nap.TheVariants.{Awake, Ending, Rested}
 use Rattle.zy_core.specs.Core.{Cored, stepped}
-use Rattle.zy_core.specs.Turn.{TurnTo}
+use Rattle.zy_core.specs.Turn.{TurnTo, HasSteps}
 
 -- the core stays awake after this turn, whatever the control words are: the turn worked, or it found the core settled,
 -- which has not counted itself on done
@@ -32,6 +32,7 @@ pub record RestTo (cores : ℕ) (before after : Cored) (nap : Nap) : Type 0 wher
   pub turn : Turn
   pub turned : Cored
   pub took : TurnTo before turned turn
+  pub steps : HasSteps before turned
   pub control : turned.control ≡ before.control
   -- then it loaded done and stop, which had these values
   pub done : ℕ
@@ -48,9 +49,12 @@ pub record NapTo (cores : ℕ) (before after : Cored) (nap : Nap) : Type 0 where
   pub announces : announced ≡ stepped (resting true set before.control) before
   pub rests : RestTo cores announced rested nap
   pub withdraws : after ≡ stepped (resting false cleared rested.control) rested
+  -- the load of stop, with whose number it rests, came before the step by which it withdrew
+  pub last : after.control.trace.stop.step < after.control.trace.sleepers.step
 
--- the core's pass at the bells after a nap: its token was taken if it rested, and else it made no step
-abbrev pub rested : Nap → bells.Passed → bells.Passed
-rested (Awake turn) p = p
-rested (Ending done stop) p = p
-rested Rested p = bells.resting p
+-- the core's pass at the bells after a nap: its token was taken if it rested, in a rest with this number, and else it
+-- made no step
+abbrev pub rested : ℕ → Nap → bells.Passed → bells.Passed
+rested number (Awake turn) p = p
+rested number (Ending done stop) p = p
+rested number Rested p = bells.resting number p

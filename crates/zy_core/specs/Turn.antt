@@ -1,17 +1,21 @@
 -- A turn of a core: its steps, and its answer.
 use Rattle.std.specs.Prelude.{◌≡◌, ◌⊎◌, ℕ, zero, suc, ◌+◌, ◌<◌, ◌≤◌, List, [], length, Bool, true, false, Option, Some, None}
+use Rattle.std.proofs.Common.{inl, inr}
 use Rattle.zy_rx.specs.Ring.{Taking}
 use Rattle.zy_conn.specs.declared.hold_end.HoldEnd.{HoldEnd}
+use Rattle.zy_conn.specs.declared.hold_end.HoldEnd.TheVariants as Ends
 use Rattle.zy_home.specs.declared.own.Own.{Own}
 use Rattle.zy_home.specs.declared.own.Own.TheVariants as Owns
 use Rattle.zy_home.specs.Home.{Homed, is_settled}
 use Rattle.zy_home.specs.Place.{CollectsTo, OwnsTo}
 use Rattle.zy_steal.specs.declared.looks.Look.{Look}
 use Rattle.zy_steal.specs.declared.looks.Look.TheVariants.{Empty, Raced}
+use Rattle.zy_steal.specs.Look.{NotesAll}
 use Rattle.zy_steal.specs.Steal.{PassList, AllLooked}
 use Rattle.zy_conn.specs.Block.{Blocked}
 use Rattle.zy_core.specs.declared.turn.Turn.{Turn}
 use Rattle.zy_core.specs.declared.turn.Turn.TheVariants.{Worked, Idle, Settled}
+use Rattle.zy_core.specs.declared.turn.Came.{Came}
 use Rattle.zy_core.specs.Steal.{Steals, StealsTo}
 use Rattle.zy_core.specs.Core.{Cored}
 
@@ -67,6 +71,42 @@ abbrev pub answer : Bool → Look → List (Option Look) → Bool → Turn
 answer true own looks settled = Worked
 answer false own looks true = Settled looks
 answer false own looks false = Idle own looks
+
+-- ---- the answer over a table of looks
+
+-- what a turn came to in which nothing was claimed or stolen
+abbrev pub came_without_hold : Bool → Look → Bool → Came
+came_without_hold true own settled = Came.Worked
+came_without_hold false own true = Came.Settled
+came_without_hold false own false = Came.Idle own
+
+-- what a turn came to whose block was held to this end
+abbrev pub held_to : HoldEnd → Came
+held_to Ends.Drained = Came.Worked
+held_to Ends.Limit = Came.Worked
+held_to Ends.Spent = Came.Worked
+held_to (Ends.Busy shard loaded found) = Came.Busy
+
+-- the answer of a turn that came to this, with these looks
+abbrev pub came_to : Came → List (Option Look) → Turn
+came_to Came.Worked looks = Worked
+came_to Came.Busy looks = Worked
+came_to (Came.Idle own) looks = Idle own looks
+came_to Came.Settled looks = Settled looks
+
+-- the turn worked
+abbrev pub is_work : Came → Bool
+is_work Came.Worked = true
+is_work Came.Busy = true
+is_work (Came.Idle own) = false
+is_work Came.Settled = false
+
+-- the turn worked, and its hold found a shard busy
+abbrev pub is_busy : Came → Bool
+is_busy Came.Worked = false
+is_busy Came.Busy = true
+is_busy (Came.Idle own) = false
+is_busy Came.Settled = false
 
 -- ---- the turn
 
@@ -125,3 +165,40 @@ TurnTo before after Worked =
 TurnTo before after (Idle own looks) = FindsNothing before after own looks × (is_settled after.home ≡ false)
 TurnTo before after (Settled looks) =
     ((own : Look) × FindsNothing before after own looks) × (is_settled after.home ≡ true)
+
+-- what a turn came to whose looks at the other cores were noted over those that there were
+abbrev pub CameTo : Cored → Cored → List (Option Look) → List (Option Look) → Came → Type 0
+CameTo before after looks looks' Came.Worked = TurnTo before after Worked
+CameTo before after looks looks' Came.Busy = TurnTo before after Worked
+CameTo before after looks looks' (Came.Idle own) =
+    (made : List (Option Look)) × NotesAll made looks looks' × TurnTo before after (Idle own made)
+CameTo before after looks looks' Came.Settled =
+    (made : List (Option Look)) × NotesAll made looks looks' × TurnTo before after (Settled made)
+
+-- ---- the hold of a turn
+
+-- how the hold of the block that was stolen ended, if one was
+abbrev pub stolen_end : (p q : PassList Blocked) (looks : Option (List (Option Look))) → StealsTo p q looks
+    → Option HoldEnd
+stolen_end p q None steals = Some steals.end
+stolen_end p q (Some looks) all = None
+
+-- how the hold of the block that was claimed or stolen ended, if one was
+abbrev pub served_end : (places : ℕ) (h h' : Homed) (p q : PassList Blocked) → ServesTo places h h' p q
+    → Option HoldEnd
+served_end places h h' p q (inl claimed) = Some claimed.0.0
+served_end places h h' p q (inr missed) = stolen_end p q missed.2.0 missed.2.1
+
+-- how the hold in a turn with these steps ended, if there was one
+abbrev pub hold_in : (before after : Cored) → HasSteps before after → Option HoldEnd
+hold_in before after s = served_end (places_of before) s.collected after.home before.passes after.passes s.serves
+
+-- the hold found a shard busy
+abbrev pub ends_busy : Option HoldEnd → Bool
+ends_busy None = false
+ends_busy (Some end) = is_busy (held_to end)
+
+-- the turn has all its steps, and came to `Busy` exactly if the hold of its block found a shard busy
+pub record ShowsBusy (before after : Cored) (came : Came) : Type 0 where
+  pub steps : HasSteps before after
+  pub busy : is_busy came ≡ ends_busy (hold_in before after steps)

@@ -9,7 +9,7 @@ use zy_base::NoMemory;
 /// Cores. Contracts see the list of them.
 #[derive(Drop)]
 pub struct Cores {
-    pub(crate) items: Vec<Core>,
+    items: Vec<Core>,
 }
 
 impl Model for Cores {
@@ -29,6 +29,21 @@ impl Cores {
         Cores {
             items: Vec::new(alloc),
         }
+    }
+
+    /// The cores of this list. Takes no memory.
+    pub fn from_items(items: Vec<Core>) -> Cores
+        ensures value { result ≡ items.items }
+    {
+        Cores { items }
+    }
+
+    /// The list of the cores. Takes no memory.
+    pub fn into_items(self) -> Vec<Core>
+        ensures value { result.items ≡ self }
+    {
+        let Cores { items } = self;
+        items
     }
 
     /// Appends; after a refusal the core is handed back.

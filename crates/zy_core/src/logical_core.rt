@@ -1,21 +1,21 @@
 //! One logical core. (A file `core.rt` would be a module with the name of a library.)
-ghost use Rattle.std.specs.Prelude.{◌≡◌, ◌↔◌, ◌+◌, ◌<◌, ◌^◌, true, false, [], length, Some, slice_get, OnOk, OnErr, IfOk};
-ghost use Rattle.zy_home.specs.Home.{HomeStands, is_settled};
+ghost use Rattle.std.specs.Prelude.{◌≡◌, ◌↔◌, ◌+◌, ◌<◌, ◌^◌, ℕ, true, false, [], length, Some, slice_get, OnOk, OnErr, IfOk};
+ghost use Rattle.zy_home.specs.Home.{HomeStands, all_here, is_settled};
 ghost use Rattle.zy_steal.specs.Steal.{AreIdle, seats_of};
 ghost use Rattle.zy_control.specs.declared.view.Role.TheVariants as roles;
 ghost use Rattle.zy_control.specs.View.{has_announced, has_counted};
 ghost use Rattle.zy_control.specs.Pass.{seeing_done, seeing_stop, seeing_sleepers, resting};
 ghost use Rattle.zy_park.specs.Pass.{ringing_each};
 ghost use Rattle.zy_core.specs.Core.{AreOfOne, CoreKeeps, Fits, cored, stepped, identity_of};
-ghost use Rattle.zy_core.specs.Turn.{HasSteps, TurnTo};
+ghost use Rattle.zy_core.specs.Turn.{HasSteps, TurnTo, CameTo, ShowsBusy};
 ghost use Rattle.zy_core.specs.Nap.{NapTo, RestTo, rested};
 ghost use Rattle.zy_rx.specs.Feed.{rings_of};
 
 use crate::nap::Nap;
 use crate::shared::Shared;
 use crate::stealing::steal_once;
-use crate::steps::{claim_own, collect_all, receive_all};
-use crate::turn::Turn;
+use crate::steps::{Claimed, serve_home};
+use crate::turn::{Came, Turn};
 use std::marker::Model;
 use std::sync::Wait;
 use zy_base::{Gate, NoMemory};
@@ -24,7 +24,7 @@ use zy_control::ControlPass;
 use zy_home::Home;
 use zy_park::{BellPass, Bells};
 use zy_rx::{Feeder, Outlet};
-use zy_steal::{Passes, Victims};
+use zy_steal::{Looks, Passes, Victims};
 
 /// A core: its home, its passes on the other cores' rings, the end of its receive ring, and its pass
 /// on the control words. Contracts see it as `Cored`.
@@ -95,30 +95,57 @@ impl Core {
         ensures control { self.new.control ≡ self.old.control }
         ensures still { is_settled self.old.home ≡ true → is_settled self.new.home ≡ true }
     {
+        let mut looks = Looks::new();
+        match self.turn_over(shared, gate, &mut looks) {
+            Ok(came) => Ok(came.with(looks)),
+            Err(e) => Err(e),
+        }
+    }
+
+    /// A turn over a table of looks that the caller owns: its looks at the other cores are noted over
+    /// those that are there. So no table is cleared or moved.
+    pub fn turn_over<G: Gate>(
+        &mut self,
+        shared: &Shared,
+        gate: &G,
+        looks: &mut Looks,
+    ) -> Result<Came, NoMemory>
+        requires fits { Fits shared.now (identity_of self.old) }
+        requires few { self.old.turns < 2 ^ 48 }
+        requires live { self.old.home.refused ≡ false }
+        ensures turn { IfOk result (CameTo self.old self.new looks.old looks.new) }
+        ensures steps { OnOk result (HasSteps self.old self.new) }
+        ensures busy { IfOk result (ShowsBusy self.old self.new) }
+        ensures live { OnOk result (self.new.home.refused ≡ false) }
+        ensures same { identity_of self.new ≡ identity_of self.old }
+        ensures turns { self.new.turns ≡ self.old.turns + 1 }
+        ensures control { self.new.control ≡ self.old.control }
+        ensures still { is_settled self.old.home ≡ true → is_settled self.new.home ≡ true }
+    {
         let ring = shared.rings.ring(self.number);
         self.turns += 1;
-        let received = receive_all(&mut self.home, &mut self.outlet, ring)?;
-        let collected = collect_all(&mut self.home, ring)?;
-        let own = match claim_own(&mut self.home, ring, &shared.store, gate)? {
-            Some(look) => look,
-            None => return Ok(Turn::Worked),
+        let at_home = serve_home(&mut self.home, &mut self.outlet, ring, &shared.store, gate)?;
+        let own = match at_home.claimed {
+            Claimed::Missed(look) => look,
+            Claimed::Held(end) => return Ok(Came::held(end)),
         };
-        let looks = match steal_once(
+        let stolen = steal_once(
             &mut self.victims,
             &mut self.passes,
             &shared.rings,
             &shared.store,
             gate,
             self.number,
-        )? {
-            Some(looks) => looks,
-            None => return Ok(Turn::Worked),
-        };
-        Ok(Turn::of(received, collected, own, looks, &self.home))
+            looks,
+        )?;
+        if let Some(end) = stolen {
+            return Ok(Came::held(end));
+        }
+        Ok(Came::of(at_home.received, at_home.collected, own, &self.home))
     }
 
-    // Shows the outlet and the feeder's inlet what the other end did.
-    pub(crate) fn meet<F: Feeder>(&mut self, feeder: &mut F)
+    /// Shows the outlet and the feeder's inlet what the other end did.
+    pub fn meet<F: Feeder>(&mut self, feeder: &mut F)
         requires ring { slice_get (rings_of (F.inlets feeder.old)) self.old.home.core ≡ Some self.old.outlet.ring }
         ensures core { self.new ≡ record self.old {
           outlet = record self.old.outlet { known = self.new.outlet.known };
@@ -130,15 +157,15 @@ impl Core {
         feeder.meet(self.number, &mut self.outlet);
     }
 
-    // Its number.
-    pub(crate) fn number(&self) -> u32
+    /// Its number.
+    pub fn number(&self) -> u32
         ensures value { result ≡ self.now.home.core }
     {
         self.number
     }
 
-    // The core counts itself if it is settled and has not done so yet. Says whether it did so.
-    pub(crate) fn note(&mut self, shared: &Shared) -> bool
+    /// The core counts itself if it is settled and has not done so yet. Says whether it did so.
+    pub fn note(&mut self, shared: &Shared) -> bool
         requires fits { Fits shared.now (identity_of self.old) }
         ensures same { identity_of self.new ≡ identity_of self.old }
     {
@@ -149,8 +176,8 @@ impl Core {
         false
     }
 
-    // Whether all cores have counted themselves. Then this one is settled.
-    pub(crate) fn is_done(&mut self, shared: &Shared) -> bool
+    /// Whether all cores have counted themselves. Then this one is settled.
+    pub fn is_done(&mut self, shared: &Shared) -> bool
         requires fits { Fits shared.now (identity_of self.old) }
         ensures settled { result ≡ true → is_settled self.new.home ≡ true }
         ensures same { identity_of self.new ≡ identity_of self.old }
@@ -175,7 +202,7 @@ impl Core {
         requires bells { pass.old.bells ≡ bells.now }
         requires core { pass.old.core ≡ self.old.home.core }
         ensures nap { IfOk result (NapTo (length shared.now.rings) self.old self.new) }
-        ensures rested { IfOk result (λ nap. pass.new ≡ rested nap pass.old) }
+        ensures rested { IfOk result (λ nap. pass.new ≡ rested self.new.control.trace.stop.step nap pass.old) }
         ensures kept { OnErr result (pass.new ≡ pass.old) }
         ensures withdrawn { has_announced self.new.control.role ≡ false }
         ensures live { OnOk result (self.new.home.refused ≡ false) }
@@ -204,7 +231,7 @@ impl Core {
         requires live { self.old.home.refused ≡ false }
         requires bells { pass.old.bells ≡ bells.now }
         ensures nap { IfOk result (RestTo (length shared.now.rings) self.old self.new) }
-        ensures rested { IfOk result (λ nap. pass.new ≡ rested nap pass.old) }
+        ensures rested { IfOk result (λ nap. pass.new ≡ rested self.new.control.trace.stop.step nap pass.old) }
         ensures kept { OnErr result (pass.new ≡ pass.old) }
         ensures live { OnOk result (self.new.home.refused ≡ false) }
         ensures same { identity_of self.new ≡ identity_of self.old }
@@ -216,8 +243,22 @@ impl Core {
         let stop = self.load_stop(shared);
         let is_counted = self.is_counted();
         let nap = Nap::of(turn, is_counted, shared.count(), done, stop);
-        nap.rest(rt, bells, pass);
+        self.rest(rt, &nap, bells, pass);
         Ok(nap)
+    }
+
+    // Rests if the nap ends so. The core lends itself for contracts: its pass at the bells keeps the
+    // number of the newest step on the control words, so a rest after a withdrawal has a later one.
+    fn rest<R: Wait>(&self, rt: &R, nap: &Nap, bells: &Bells, pass: &mut BellPass)
+        ghost number: { ℕ }
+        requires number { number ≡ self.now.control.trace.steps }
+        requires bells { pass.old.bells ≡ bells.now }
+        ensures value { pass.new ≡ rested self.now.control.trace.steps nap.now pass.old }
+    {
+        match nap {
+            Nap::Rested => bells.rest(rt, pass),
+            _ => {}
+        }
     }
 
     // Announces that the core rests unless it finds something to do.
@@ -289,8 +330,15 @@ impl Core {
         self.home.is_settled()
     }
 
-    // Whether its home was refused memory.
-    pub(crate) fn is_refused(&self) -> bool
+    /// Whether each block of its home is in the home's hand, so that no other core has one.
+    pub fn has_all_blocks(&self) -> bool
+        ensures value { result ≡ all_here self.now.home.blocks }
+    {
+        self.home.has_all_blocks()
+    }
+
+    /// Whether its home was refused memory.
+    pub fn is_refused(&self) -> bool
         ensures value { result ≡ self.now.home.refused }
     {
         self.home.is_refused()

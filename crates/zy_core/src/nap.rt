@@ -1,16 +1,15 @@
 //! The answer of a nap.
 ghost use Rattle.std.specs.Prelude.{◌≡◌};
-ghost use Rattle.zy_core.specs.Nap.{stays_awake, nap_of, rested};
+ghost use Rattle.zy_core.specs.Nap.{stays_awake, nap_of};
 
 use crate::turn::Turn;
-use std::sync::Wait;
-use zy_park::{BellPass, Bells};
 
 /// How a nap of a core ended.
 #[derive(Drop)]
 pub enum Nap {
     /// The core did not rest: this turn found something to do, or found the core settled, which has
-    /// not counted itself yet.
+    /// not counted itself. The second case never comes where a core counts itself as soon as a turn
+    /// leaves it settled, as cores that are driven do: only a turn that works makes a core settled.
     Awake(Turn),
     /// The core did not rest, since the run ends: all cores are done, or are to stop. These are the
     /// values of done and stop that it loaded.
@@ -33,17 +32,6 @@ impl Nap {
             Nap::Ending { done, stop }
         } else {
             Nap::Rested
-        }
-    }
-
-    // Rests if the nap ends so.
-    pub(crate) fn rest<R: Wait>(&self, rt: &R, bells: &Bells, pass: &mut BellPass)
-        requires bells { pass.old.bells ≡ bells.now }
-        ensures value { pass.new ≡ rested self.now pass.old }
-    {
-        match self {
-            Nap::Rested => bells.rest(rt, pass),
-            _ => {}
         }
     }
 }

@@ -81,11 +81,18 @@ impl Shared {
         self.control.seat(root)
     }
 
-    // The number of cores.
-    pub(crate) fn count(&self) -> u64
+    /// The number of cores.
+    pub fn count(&self) -> u64
         ensures value { result ≡ length self.now.rings }
     {
         self.rings.count() as u64
+    }
+
+    /// The control words.
+    pub fn control(&self) -> &Control
+        ensures value { result.now ≡ self.now.control }
+    {
+        &self.control
     }
 
     /// The rings and the store. Takes no memory.

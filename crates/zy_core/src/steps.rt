@@ -1,26 +1,68 @@
-//! The first three steps of a turn: items are received, blocks are collected, and one is claimed.
+//! The steps of a turn at home: items are received, blocks are collected, and one is claimed.
 ghost use Rattle.std.specs.Prelude.{◌≡◌, ◌+◌, ◌<◌, ◌≤◌, ◌^◌, true, false, OnOk, IfOk, is_err};
 ghost use Rattle.zy_conn.specs.Block.{label_of};
 ghost use Rattle.zy_home.specs.Home.{HomeStands, StandsHome, all_here};
 ghost use Rattle.zy_home.specs.Place.{Looked};
-ghost use Rattle.zy_core.specs.Turn.{ReceivesTo, CollectsAll, ClaimsTo};
-ghost use Rattle.zy_core.specs.Step.{Kin, IsStill};
+ghost use Rattle.zy_core.specs.Turn.{ReceivesTo, CollectsAll};
+ghost use Rattle.zy_core.specs.Step.{Kin, IsStill, Moved, ServesHome, HasHomeSteps};
 
 use mc_store::StoreTable;
 use zy_base::{Gate, NoMemory};
-use zy_conn::Block;
+use zy_conn::{Block, HoldEnd};
 use zy_home::{Home, Own};
 use zy_rx::Outlet;
 use zy_shuffle::Ring;
 use zy_steal::Look;
 
-// Has the home receive the next items, until none is known or there were 64. Says whether there was
-// one.
-pub(crate) fn receive_all(
+// What the steps at home came to: whether an item was received, whether a block was collected, and
+// what was claimed.
+#[derive(Drop)]
+pub(crate) struct AtHome {
+    pub(crate) received: bool,
+    pub(crate) collected: bool,
+    pub(crate) claimed: Claimed,
+}
+
+// What the claim at home came to.
+#[derive(Drop)]
+pub(crate) enum Claimed {
+    // A block was held to this end.
+    Held(HoldEnd),
+    // None was taken, for this cause.
+    Missed(Look),
+}
+
+// The steps at home, in their order.
+pub(crate) fn serve_home<G: Gate>(
     home: &mut Home,
     outlet: &mut Outlet,
     ring: &Ring<Block>,
-) -> Result<bool, NoMemory>
+    store: &StoreTable,
+    gate: &G,
+) -> Result<AtHome, NoMemory>
+    requires table { home.old.pass.table ≡ ring.now.id }
+    requires few { home.old.pass.count < 2 ^ 61 }
+    requires live { home.old.refused ≡ false }
+    requires store { home.old.pass.label ≡ label_of store.now.id home.old.cores }
+    ensures value { IfOk result (HasHomeSteps home.old outlet.old home.new outlet.new) }
+    ensures stands { OnOk result (HomeStands home.old outlet.old.taken → HomeStands home.new outlet.new.taken) }
+    ensures moved { Moved home.old home.new 4161 }
+    ensures refused { home.new.refused ≡ is_err result }
+    ensures ring { outlet.new.ring ≡ outlet.old.ring }
+{
+    let received = receive_all(home, outlet, ring)?;
+    let collected = collect_all(home, ring)?;
+    let claimed = claim_own(home, ring, store, gate)?;
+    Ok(AtHome {
+        received,
+        collected,
+        claimed,
+    })
+}
+
+// Has the home receive the next items, until none is known or there were 64. Says whether there was
+// one.
+fn receive_all(home: &mut Home, outlet: &mut Outlet, ring: &Ring<Block>) -> Result<bool, NoMemory>
     requires table { home.old.pass.table ≡ ring.now.id }
     requires few { home.old.pass.count < 2 ^ 62 }
     requires live { home.old.refused ≡ false }
@@ -41,7 +83,7 @@ pub(crate) fn receive_all(
 
 // Collects and settles blocks until there is none, or as many were collected as the home has
 // places. Returns whether there was one.
-pub(crate) fn collect_all(home: &mut Home, ring: &Ring<Block>) -> Result<bool, NoMemory>
+fn collect_all(home: &mut Home, ring: &Ring<Block>) -> Result<bool, NoMemory>
     requires table { home.old.pass.table ≡ ring.now.id }
     requires few { home.old.pass.count < 2 ^ 62 }
     requires live { home.old.refused ≡ false }
@@ -64,19 +106,18 @@ pub(crate) fn collect_all(home: &mut Home, ring: &Ring<Block>) -> Result<bool, N
     Ok(true)
 }
 
-// Claims once at home. A block that was taken is held and settled; where none was, its cause is the
-// answer.
-pub(crate) fn claim_own<G: Gate>(
+// Claims once at home. A block that was taken is held and settled.
+fn claim_own<G: Gate>(
     home: &mut Home,
     ring: &Ring<Block>,
     store: &StoreTable,
     gate: &G,
-) -> Result<Option<Look>, NoMemory>
+) -> Result<Claimed, NoMemory>
     requires table { home.old.pass.table ≡ ring.now.id }
     requires few { home.old.pass.count < 2 ^ 63 }
     requires live { home.old.refused ≡ false }
     requires store { home.old.pass.label ≡ label_of store.now.id home.old.cores }
-    ensures value { IfOk result (ClaimsTo home.old.pass.table.slots home.old home.new) }
+    ensures value { IfOk result (ServesHome home.old.pass.table.slots home.old home.new) }
     ensures stands { OnOk result (StandsHome home.old home.new) }
     ensures still { IsStill home.old home.new }
     ensures kin { Kin home.old home.new × (home.new.ended ≡ home.old.ended) }
@@ -86,8 +127,8 @@ pub(crate) fn claim_own<G: Gate>(
     // The call tells the prover that the places are the slots of the ring's table, at most 4096.
     let _places = ring.places();
     match home.own(ring, store, gate)? {
-        Own::Took { held: _ } => Ok(None),
-        Own::Empty { at } => Ok(Some(Look::Empty { at })),
-        Own::Raced { saw, found } => Ok(Some(Look::Raced { saw, found })),
+        Own::Took { held } => Ok(Claimed::Held(held)),
+        Own::Empty { at } => Ok(Claimed::Missed(Look::Empty { at })),
+        Own::Raced { saw, found } => Ok(Claimed::Missed(Look::Raced { saw, found })),
     }
 }

@@ -159,11 +159,6 @@ delivered {S} rest faults now p before after item offers first records bytes sta
     sent : AreSent (sent_by after) Cutting records
     sent core got there = rw size (at_core core got (sent_after sents core home (offers.sent ++ item ∷ []) got (subst (λ (l : List (List Rx)). slice_get l core ≡ Some got) offers.is there)))
 
-pub handed_back : {S : Type 0} (rest : S → Option (List ℕ)) (faults : S → ℕ) (now : S) (p : Intake) (before after : List Offering) (item back : Rx) → back ≡ item → sent_by after ≡ sent_by before
-    → Leads rest faults (feeding now p before (Waiting item)) (feeding now p after (Waiting back))
-handed_back rest faults now p before after item back is same first records bytes stands =
-    onward rest faults first (feeding now p after (Waiting back)) records bytes (rw (is, same) stands)
-
 -- ---- the end is offered
 
 end_there : (core next : ℕ) → core < next → end_before core next ≡ End ∷ []
@@ -204,11 +199,6 @@ end_offered {S} rest faults now p before after next offers first records bytes s
 
     sent : AreSent (sent_by after) (Ending (next + 1)) records
     sent core got there = rw size (at_core core got (sent_after sents core next (offers.sent ++ End ∷ []) got (subst (λ (l : List (List Rx)). slice_get l core ≡ Some got) offers.is there)))
-
-pub end_back : {S : Type 0} (rest : S → Option (List ℕ)) (faults : S → ℕ) (now : S) (p : Intake) (before after : List Offering) (next : ℕ) → sent_by after ≡ sent_by before
-    → Leads rest faults (feeding now p before (Ending next)) (feeding now p after (Ending next))
-end_back rest faults now p before after next same first records bytes stands =
-    onward rest faults first (feeding now p after (Ending next)) records bytes (rw same stands)
 
 pub all_ended : {S : Type 0} (rest : S → Option (List ℕ)) (faults : S → ℕ) (now : S) (p : Intake) (inlets : List Offering) (next : ℕ) → length inlets ≤ next
     → Leads rest faults (feeding now p inlets (Ending next)) (feeding now p inlets Ended)

@@ -1,5 +1,4 @@
 pub mod StepLemmas
-pub mod LawfulLemmas
 pub mod ReadLemmas
 pub mod PieceLemmas
 pub mod InletLemmas

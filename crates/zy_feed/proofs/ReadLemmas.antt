@@ -1,87 +1,36 @@
 -- What is read of a capture, piece after piece.
-use Rattle.std.proofs.Common.{◌≡◌, ◌⊎◌, inl, inr, ℕ, ◌≤◌, true, false, List, [], ◌∷◌, ◌++◌, length, refl, sym, ◌∙◌, ap, subst, arith, append_assoc, length-append}
-use Rattle.std.specs.Prelude.{◌==◌, Option, None, Some, Result, Ok, Err, ⊤, option_to_list}
-use Rattle.std.specs.Io.KnownBytes.{Consumes, IsAtEnd}
-use Rattle.std.proofs.lemmas.List.{append-nil}
-use Rattle.zy_read.specs.declared.not_taken.NotTaken.{NotTaken}
-use Rattle.zy_read.specs.declared.not_taken.NotTaken.TheVariants.{Fault}
-use Rattle.zy_read.specs.declared.not_taken.NotTaken.TheVariants as Reads
+use Rattle.std.proofs.Common.{◌≡◌, inl, inr, ℕ, ◌^◌, ◌<◌, ◌≤◌, List, [], ◌∷◌, ◌++◌, length, refl, sym, ◌∙◌, ap, subst, arith, length-append}
+use Rattle.std.specs.Prelude.{Option, None, Some, Ok, option_to_list}
+use Rattle.std.specs.Io.KnownBytes.{Consumes}
 use Rattle.zy_read.specs.Format.{Reading, reading_of, read_on, fault_met}
 use Rattle.zy_read.specs.Standing.{StandsAs}
-use Rattle.zy_read.specs.Piece.{HasGiven}
+use Rattle.zy_read.specs.Bytes.{AreBytes}
 use Rattle.zy_read.proofs.Feeding.{read_more, verdict_here}
-use Rattle.zy_read.proofs.SourceLemmas.{consumed_none, told_first, told_all}
+use Rattle.zy_read.proofs.ByteLemmas.{bytes_front}
+use Rattle.zy_read.proofs.SourceLemmas.{consumed_none}
 use Rattle.zy_capture.specs.declared.record.Record.{Record}
 use Rattle.zy_capture.specs.declared.capture_fault.CaptureFault.{CaptureFault}
 use Rattle.zy_capture.specs.declared.due.Due.{Due}
-use Rattle.zy_capture.specs.declared.due.Due.TheVariants.{Magic, Count, Nothing, Broken}
-use Rattle.zy_capture.specs.declared.capture_fault.CaptureFault.TheVariants.{BadMagic, ConnCount}
-use Rattle.zy_capture.specs.Capture.{capture_limit, IsCapture}
-use Rattle.zy_capture.specs.Steps.{Progress, start, step}
-use Rattle.zy_capture.specs.Verdict.{captures, ended, fault_in, read_from, verdict, fault_of, version_in, version_of, count_in, count_of}
-use Rattle.zy_capture.specs.Verdict.Verdict.{Good, Bad}
-use Rattle.zy_capture.specs.Standing.{StandsFor, EndsAs, EndsBy}
-use Rattle.zy_capture.proofs.Feeding.{version_here, count_here}
+use Rattle.zy_capture.specs.declared.due.Due.TheVariants.{Nothing}
+use Rattle.zy_capture.specs.Capture.{capture_limit}
+use Rattle.zy_capture.specs.Steps.{Progress, step}
+use Rattle.zy_capture.specs.Verdict.{captures, ended, verdict, fault_of, count_of, records_of}
+use Rattle.zy_capture.specs.Verdict.Verdict.{Good}
+use Rattle.zy_capture.specs.Standing.{StandsFor, EndsAs}
+use Rattle.zy_capture.proofs.Feeding.{count_here}
 use Rattle.zy_read.specs.declared.stop.Stop.{Stop}
 use Rattle.zy_feed.specs.declared.intake.Header.{Header}
-use Rattle.zy_feed.specs.Reads.{Intake, IsFresh, HasRead, HasReadAll, StopsBy, TellsHeader, TellsNoHeader, TakesFirst, Advances, came_of, ended_by}
-use Rattle.zy_feed.proofs.LawfulLemmas.{known_version, lawful_records}
-use Rattle.zy_capture.proofs.TellLemmas.{IsPastCount, past_count}
-use Rattle.zy_feed.proofs.StepLemmas.{Stays, step_gave, text_stays, text_short}
-
--- ---- one further answer
-
--- what was read after the source gave the next piece
-pub given_more : {S : Type 0} (rest : S → Option (List ℕ)) (faults : S → ℕ) (first old now : S) (p q : Intake) (records : List Record) (bytes : List ℕ) → q.reader ≡ p.reader → HasRead rest faults first old p records bytes
-    → HasGiven rest faults first now q.left bytes → HasRead rest faults first now q records bytes
-given_more rest faults first old now p q records bytes same has given = record { reader = rw same has.reader; clean = has.clean; given = given }
-
--- the bytes fed are those before and then the others
-regrouped : (bytes fed left later : List ℕ) → (bytes ++ (fed ++ left)) ++ later ≡ bytes ++ (fed ++ (left ++ later))
-regrouped bytes fed left later = append_assoc bytes (fed ++ left) later ∙ ap (λ (l : List ℕ). bytes ++ l) (append_assoc fed left later)
-
-fed_has : {S : Type 0} (rest : S → Option (List ℕ)) (faults : S → ℕ) (first now : S) (p q : Intake) (records : List Record) (bytes fed : List ℕ) (gave : List Record) → p.left ≡ fed ++ q.left → StandsFor q.reader (records ++ gave) (bytes ++ fed) → fault_of (bytes ++ fed) ≡ None
-    → HasRead rest faults first now p records bytes → HasRead rest faults first now q (records ++ gave) (bytes ++ fed)
-fed_has rest faults first now p q records bytes fed gave left reader clean has = record {
-  reader = reader;
-  clean = clean;
-  given = record {
-    source = subst (λ (l : List ℕ). Consumes (rest first) (rest now) l) (ap (λ (l : List ℕ). bytes ++ l) left ∙ sym (append_assoc bytes fed q.left)) has.given.source;
-    count = has.given.count;
-  };
-}
-
--- the reader's answer to some bytes
-pub taken_came : {S : Type 0} (rest : S → Option (List ℕ)) (faults : S → ℕ) (most : ℕ) (first now : S) (p q : Intake) (answer : Result (Option Record) (NotTaken CaptureFault)) (records : List Record) (bytes : List ℕ) → TakesFirst most p q answer
-    → HasRead rest faults first now p records bytes → Advances rest faults most first now q records bytes (came_of answer)
-taken_came rest faults most first now p q (Ok (Some record')) records bytes takes has =
-    (takes.fed, (takes.few, fed_has rest faults first now p q records bytes takes.fed (record' ∷ []) takes.left (takes.feeds records bytes has.reader) (takes.exact records bytes has.reader) has))
-taken_came rest faults most first now p q (Ok None) records bytes takes has = (
-  takes.fed,
-  (
-    takes.some None refl,
-    subst (λ (l : List Record). HasRead rest faults first now q l (bytes ++ takes.fed)) (append-nil records)
-        (fed_has rest faults first now p q records bytes takes.fed [] takes.left (takes.feeds records bytes has.reader) (takes.exact records bytes has.reader) has),
-  ),
-)
-taken_came rest faults most first now p q (Err (Fault fault)) records bytes takes has =
-    told_first (rest first) (rest now) (bytes ++ p.left) (λ (text : List ℕ). verdict text ≡ Bad fault) has.given.source
-    (λ more. ap (λ (l : List ℕ). verdict ((bytes ++ l) ++ more)) takes.left ∙ ap (λ (l : List ℕ). verdict l) (regrouped bytes takes.fed q.left more) ∙ takes.lasts records bytes (q.left ++ more) has.reader)
-taken_came rest faults most first now p q (Err Reads.NoMemory) records bytes takes has = tt
-
--- its answer at the end of the source
-pub ended_came : {S : Type 0} (rest : S → Option (List ℕ)) (faults : S → ℕ) (most : ℕ) (first now : S) (p : Intake) (answer : Result ⊤ CaptureFault) (records : List Record) (bytes : List ℕ) → EndsBy p.reader answer → p.left ≡ [] → IsAtEnd (rest now)
-    → HasRead rest faults first now p records bytes → Advances rest faults most first now p records bytes (ended_by answer)
-ended_came rest faults most first now p (Ok done) records bytes ends none end has = record { reads = has; good = ends records bytes has.reader; none = none; end = end }
-ended_came rest faults most first now p (Err fault) records bytes ends none end has =
-    told_all (rest first) (rest now) bytes (λ (text : List ℕ). verdict text ≡ Bad fault)
-    (subst (λ (l : List ℕ). Consumes (rest first) (rest now) l) (ap (λ (l : List ℕ). bytes ++ l) none ∙ append-nil bytes) has.given.source) end (ends records bytes has.reader)
+use Rattle.zy_feed.specs.Reads.{Intake, IsFresh, HasRead, HasReadAll, StopsBy, TellsHeader, TellsNoHeader}
+use Rattle.zy_capture.specs.Streams.{closes}
+use Rattle.zy_capture.proofs.SoFarLemmas.{good_tells, records_so_far}
+use Rattle.zy_capture.proofs.TellLemmas.{IsPastCount, past_count, version_stays, count_stays, version_read}
+use Rattle.zy_capture.proofs.WholeLemmas.{clean_short, good_spells}
+use Rattle.zy_feed.proofs.StepLemmas.{step_gave}
 
 -- ---- no capture has more bytes than the limit
 
 pub has_few : {S : Type 0} (rest : S → Option (List ℕ)) (faults : S → ℕ) (first now : S) (p : Intake) (records : List Record) (bytes : List ℕ) → HasRead rest faults first now p records bytes → length bytes ≤ capture_limit
-unfolding fault_met reading_of
-has_few rest faults first now p records bytes has = omega (arith, text_short bytes start (omega arith) has.clean)
+has_few rest faults first now p records bytes has = clean_short bytes (bytes_front bytes p.left has.given.bytes) has.clean
 
 -- so after this many bytes no stop needs a cause
 pub too_long : {S : Type 0} (rest : S → Option (List ℕ)) (faults : S → ℕ) (first now : S) (p : Intake) (records : List Record) (bytes more : List ℕ) (n : ℕ) (stop : Stop CaptureFault) → 18446744073709551615 ≤ n → n ≤ length more → HasRead rest faults first now p records (bytes ++ more) → StopsBy rest faults first now stop
@@ -89,34 +38,16 @@ too_long rest faults first now p records bytes more n stop over within has = abs
 
 -- ---- version and count
 
-counts_past : (due : Due) (count told : ℕ) → count_in due count ≡ Some told → IsPastCount due × (count ≡ told)
-counts_past (Magic part) count told is = absurd (cc)
-counts_past Count count told is = absurd (cc)
-counts_past (Broken (BadMagic at)) count told is = absurd (cc)
-counts_past (Broken (ConnCount number)) count told is = absurd (cc)
-counts_past due count told is = (tt, cc)
+-- after the count, version and count are read
+not_early : (p : Progress) (given : List Record) (b : List ℕ) → AreBytes b → StandsFor p given b → IsPastCount p.due → TellsNoHeader b → ⊥
+not_early p given b small stands past none = go none
+  where
+    told : count_of b ≡ Some p.count
+    told = count_here p given b stands ∙ past_count p.due p.count past
 
-version_is : (found told : ℕ) → version_in found ≡ Some told → found ≡ told
-version_is found told is = elim (found == 0) as (λ t. (found == 0) ≡ t → found ≡ told) [
-  | true ↦ λ zero_is. let none : version_in found ≡ None = rw zero_is refl in cc
-  | false ↦ λ some_is. let some : version_in found ≡ Some found = rw some_is refl in cc
-] refl
-
-told_version : (version : ℕ) → (version ≡ 1) ⊎ (version ≡ 2) → version_in version ≡ Some version
-told_version version (inl one) = rw one refl
-told_version version (inr two) = rw two refl
-
--- after the count, version and count are known
-past_told : (p : Progress) (given : List Record) (b : List ℕ) → StandsFor p given b → fault_of b ≡ None → IsPastCount p.due → TellsHeader b (record { version = p.version; count = p.count })
-unfolding fault_met reading_of StandsAs
-past_told p given b stands clean past =
-    let last : (reading_of captures b).last ≡ p = ap (λ (r : Reading Progress Record). r.last) stands in
-    let none : fault_in p.due ≡ None = ap (λ (q : Progress). fault_in q.due) (sym last) ∙ clean in
-    (version_here p given b stands ∙ told_version p.version (known_version p given b stands none past), count_here p given b stands ∙ past_count p.due p.count past)
-
-not_early : (p : Progress) (given : List Record) (b : List ℕ) → StandsFor p given b → fault_of b ≡ None → IsPastCount p.due → TellsNoHeader b → ⊥
-not_early p given b stands clean past (inl none) = let told = past_told p given b stands clean past in let some : version_of b ≡ Some p.version = told.0 in cc
-not_early p given b stands clean past (inr none) = let told = past_told p given b stands clean past in let some : count_of b ≡ Some p.count = told.1 in cc
+    go : TellsNoHeader b → ⊥
+    go (inl none) = let read = version_read b p.count small told in cc
+    go (inr none) = let read : count_of b ≡ Some p.count = told in cc
 
 -- the first record ends after the count
 record_late : (p q : Progress) (b more : List ℕ) (r : Record) → StandsFor p [] b → StandsFor q (r ∷ []) (b ++ more) → length more ≤ 1 → IsPastCount p.due
@@ -134,7 +65,7 @@ record_late p q b (byte ∷ next ∷ more) r first second few = absurd (omega (a
 
 pub record_absurd : {S : Type 0} (rest : S → Option (List ℕ)) (faults : S → ℕ) (first old now : S) (p q : Intake) (bytes more : List ℕ) (r : Record) → HasRead rest faults first old p [] bytes → TellsNoHeader bytes → length more ≤ 1 → HasRead rest faults first now q (r ∷ []) (bytes ++ more) → ⊥
 record_absurd rest faults first old now p q bytes more r has none few later =
-    not_early p.reader [] bytes has.reader has.clean (record_late p.reader q.reader bytes more r has.reader later.reader few) none
+    not_early p.reader [] bytes (bytes_front bytes p.left has.given.bytes) has.reader (record_late p.reader q.reader bytes more r has.reader later.reader few) none
 
 nothing_due : (due : Due) (p : Progress) (given : List Record) (version count : ℕ) → ended due p given ≡ Good version count given → due ≡ Nothing
 nothing_due Nothing p given version count is = refl
@@ -145,40 +76,32 @@ whole_due p given b stands good = nothing_due p.due p given good.0 good.1 (sym (
 
 pub end_absurd : {S : Type 0} (rest : S → Option (List ℕ)) (faults : S → ℕ) (first now : S) (q : Intake) (bytes : List ℕ) → TellsNoHeader bytes → HasReadAll rest faults first now q [] bytes → ⊥
 end_absurd rest faults first now q bytes none all =
-    not_early q.reader [] bytes all.reads.reader all.reads.clean (subst IsPastCount (sym (whole_due q.reader [] bytes all.reads.reader all.good)) tt) none
+    not_early q.reader [] bytes (bytes_front bytes q.left all.reads.given.bytes) all.reads.reader (subst IsPastCount (sym (whole_due q.reader [] bytes all.reads.reader all.good)) tt) none
 
 -- what was read stays
-pub told_stays : (text more : List ℕ) (header : Header) → TellsHeader text header → TellsHeader (text ++ more) header
-unfolding version_of count_of reading_of StandsAs
-told_stays text more header told =
-    let r : Reading Progress Record = reading_of captures text in
-    let counts = counts_past r.last.due r.last.count header.count told.1 in
-    let stays : Stays r.last (read_from r.last more).last = text_stays more r.last counts.0 in
-    let reads = read_more captures r.last r.given text more refl in
-    let last : (reading_of captures (text ++ more)).last ≡ (read_from r.last more).last = ap (λ (x : Reading Progress Record). x.last) reads in
-    let version : version_of (text ++ more) ≡ Some header.version = ap (λ (q : Progress). version_in q.version) last ∙ ap (λ (v : ℕ). version_in v) stays.0 ∙ told.0 in
-    let count : count_of (text ++ more) ≡ Some header.count = ap (λ (q : Progress). count_in q.due q.count) last ∙ past_count (read_from r.last more).last.due (read_from r.last more).last.count stays.1.1 ∙ ap (λ (n : ℕ). Some n) (stays.1.0 ∙ counts.1) in
-    (version, count)
+pub told_stays : (text more : List ℕ) (header : Header) → AreBytes text → TellsHeader text header → TellsHeader (text ++ more) header
+told_stays text more header small told = (version_stays text more header.version told.0, count_stays text more header.count small told.1)
+
+some_same : {a b : ℕ} → Some a ≡ Some b → a ≡ b
+some_same is = cc
+
+some_records : (first : Record) (records : List Record) → first ∷ records ≡ [] → ⊥
+some_records first records is = cc
 
 -- a capture has the version and the count that were read
-header_is : (p : Progress) (given : List Record) (b : List ℕ) (header : Header) → StandsFor p given b → p.due ≡ Nothing → TellsHeader b header → (p.version ≡ header.version) × (p.count ≡ header.count)
-header_is p given b header stands due told =
-    let version : p.version ≡ header.version = version_is p.version header.version (sym (version_here p given b stands) ∙ told.0) in
-    let counts : count_in p.due p.count ≡ Some header.count = sym (count_here p given b stands) ∙ told.1 in
-    (version, (counts_past p.due p.count header.count counts).1)
+pub good_as_told : (records : List Record) (text : List ℕ) (header : Header) → AreBytes text → EndsAs records (Ok tt) (verdict text) → TellsHeader text header → verdict text ≡ Good header.version header.count records
+good_as_told records text header small good told =
+    let spells = good_spells text good.0 good.1 records small good.2 in
+    let tells = good_tells text good.0 good.1 records spells.valid.known good.2 in
+    let version : good.0 ≡ header.version = some_same (sym tells.version_is ∙ told.0) in
+    let count : good.1 ≡ header.count = some_same (sym tells.count_is ∙ told.1) in
+    good.2 ∙ ap (λ (v : ℕ). Good v good.1 records) version ∙ ap (λ (n : ℕ). Good header.version n records) count
 
-pub good_as_told : (p : Progress) (given : List Record) (b : List ℕ) (header : Header) → StandsFor p given b → EndsAs given (Ok tt) (verdict b) → TellsHeader b header → verdict b ≡ Good header.version header.count given
-good_as_told p given b header stands good told =
-    let due : p.due ≡ Nothing = whole_due p given b stands good in
-    let is = header_is p given b header stands due told in
-    verdict_here captures p given b stands ∙ ap (λ (d : Due). ended d p given) due ∙ ap (λ (v : ℕ). Good v p.count given) is.0 ∙ ap (λ (n : ℕ). Good header.version n given) is.1
-
--- and its records are lawful
-pub lawful_as_told : (p : Progress) (given : List Record) (b : List ℕ) (header : Header) → StandsFor p given b → EndsAs given (Ok tt) (verdict b) → TellsHeader b header → IsCapture header.version header.count given
-lawful_as_told p given b header stands good told =
-    let due : p.due ≡ Nothing = whole_due p given b stands good in
-    let is = header_is p given b header stands due told in
-    rw (← is.0, ← is.1) (lawful_records p given b stands due)
+-- few of its records are closes
+pub few_closes : (records : List Record) (text : List ℕ) (conn : ℕ) → AreBytes text → fault_of text ≡ None → records_of text ≡ records → closes conn records < 2 ^ 31
+few_closes [] text conn small clean is = omega arith
+few_closes (first ∷ records) text conn small clean is =
+    subst (λ (l : List Record). closes conn l < 2 ^ 31) is ((records_so_far text small clean (λ none. some_records first records (sym is ∙ none))).few conn)
 
 -- ---- before the first byte
 
@@ -189,6 +112,7 @@ fresh_read rest faults first p fresh = record {
   clean = refl;
   given = record {
     source = subst (λ (l : List ℕ). Consumes (rest first) (rest first) l) (sym fresh.1) (consumed_none (rest first));
+    bytes = subst AreBytes (sym fresh.1) tt;
     count = omega arith;
   };
 }

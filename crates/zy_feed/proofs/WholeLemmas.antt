@@ -4,6 +4,12 @@ use Rattle.std.specs.Prelude.{Option, Some, ◌≤◌}
 use Rattle.std.specs.Io.KnownBytes.{Consumes}
 use Rattle.std.proofs.lemmas.List.{append-nil}
 use Rattle.zy_read.specs.declared.stop.Stop.{Stop}
+use Rattle.zy_read.specs.Bytes.{AreBytes}
+use Rattle.zy_read.proofs.ByteLemmas.{bytes_front}
+use Rattle.zy_read.proofs.Feeding.{given_here}
+use Rattle.zy_capture.specs.Verdict.{captures, verdict}
+use Rattle.zy_capture.specs.Verdict.Verdict.{Good}
+use Rattle.zy_capture.proofs.WholeLemmas.{good_spells}
 use Rattle.zy_capture.specs.declared.capture_fault.CaptureFault.{CaptureFault}
 use Rattle.zy_feed.specs.declared.stage.Stage.{Stage}
 use Rattle.zy_capture.specs.declared.record.Record.{Record}
@@ -11,8 +17,7 @@ use Rattle.zy_feed.specs.declared.stage.Stage.TheVariants.{Cutting, Waiting, End
 use Rattle.zy_feed.specs.declared.intake.Header.{Header}
 use Rattle.zy_feed.specs.Reads.{Intake, HasReadAll, HasBegun}
 use Rattle.zy_feed.specs.Feeding.{Feeding, stop_in, IsReadTo, AreSent, Stands, Leads, HasStopped, AreUnsent, HasFedAll}
-use Rattle.zy_feed.proofs.ReadLemmas.{has_few, told_stays, good_as_told, lawful_as_told}
-use Rattle.zy_feed.proofs.LawfulLemmas.{few_closes}
+use Rattle.zy_feed.proofs.ReadLemmas.{told_stays, good_as_told, few_closes}
 
 -- at the start
 begun : {S : Type 0} (rest : S → Option (List ℕ)) (faults : S → ℕ) (first : S) (header : Header) (f : Feeding S) (begun : HasBegun rest faults first f.source f.intake header) → AreUnsent f.sents → f.stage ≡ Cutting
@@ -28,12 +33,15 @@ fed_all rest faults first header f g begins unsent start ended leads =
     let end = leads first [] begins.bytes (begun rest faults first header f begins unsent start) in
     let bytes : List ℕ = begins.bytes ++ end.1.0 in
     let all : HasReadAll rest faults first g.source g.intake end.0 bytes = subst (λ (s : Stage). IsReadTo rest faults first g.source g.intake s end.0 bytes) ended end.1.1.read in
+    let small : AreBytes bytes = bytes_front bytes g.intake.left all.reads.given.bytes in
+    let good : verdict bytes ≡ Good header.version header.count end.0 = good_as_told end.0 bytes header small all.good (told_stays begins.bytes end.1.0 header (bytes_front begins.bytes end.1.0 small) begins.told) in
     record {
       records = end.0;
       bytes = bytes;
-      good = good_as_told g.intake.reader end.0 bytes header all.reads.reader all.good (told_stays begins.bytes end.1.0 header begins.told);
-      lawful = lawful_as_told g.intake.reader end.0 bytes header all.reads.reader all.good (told_stays begins.bytes end.1.0 header begins.told);
-      few = λ conn. few_closes g.intake.reader end.0 bytes conn all.reads.reader (has_few rest faults first g.source g.intake end.0 bytes all.reads);
+      small = small;
+      good = good;
+      lawful = (good_spells bytes header.version header.count end.0 small good).valid;
+      few = λ conn. few_closes end.0 bytes conn small all.reads.clean (given_here captures g.intake.reader end.0 bytes all.reads.reader);
       source = subst (λ (l : List ℕ). Consumes (rest first) (rest g.source) l) (ap (λ (l : List ℕ). bytes ++ l) all.none ∙ append-nil bytes) all.reads.given.source;
       end = all.end;
       count = all.reads.given.count;

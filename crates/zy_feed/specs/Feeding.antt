@@ -1,7 +1,9 @@
 -- What a feeder has read of a capture, and what each core was sent.
-use Rattle.std.specs.Prelude.{◌≡◌, ◌≢◌, ◌↔◌, ℕ, ◌<◌, ◌^◌, ◌≤◌, ◌==◌, nat_lt, if◌then◌else◌, List, [], ◌∷◌, ◌++◌, length, Option, None, Some, slice_get, slice_set, ⊤}
+use Rattle.std.specs.Prelude.{◌≡◌, ◌≢◌, ◌↔◌, ℕ, ◌<◌, ◌^◌, ◌≤◌, ◌==◌, nat_lt, if◌then◌else◌, List, [], ◌∷◌, ◌++◌}
+use Rattle.std.specs.Prelude.{length, Option, None, Some, slice_get, slice_set, ⊤}
 use Rattle.std.specs.Io.KnownBytes.{Consumes, IsAtEnd}
 use Rattle.zy_read.specs.declared.stop.Stop.{Stop}
+use Rattle.zy_read.specs.Bytes.{AreBytes}
 use Rattle.zy_capture.specs.declared.record.Record.{Record}
 use Rattle.zy_capture.specs.declared.capture_fault.CaptureFault.{CaptureFault}
 use Rattle.zy_capture.specs.Capture.{IsCapture}
@@ -137,6 +139,7 @@ pub record HasFedAll {S : Type 0} (rest : S → Option (List ℕ)) (faults : S �
     (sents : List (List Rx)) : Type 0 where
   pub records : List Record
   pub bytes : List ℕ
+  pub small : AreBytes bytes
   pub good : verdict bytes ≡ Good header.version header.count records
   -- the records are those of a capture of this version and count, and few of them are closes
   pub lawful : IsCapture header.version header.count records

@@ -139,6 +139,13 @@ impl<'s, S: Source> Feeder for CaptureFeeder<'s, S> {
         }
     }
 
+    fn may_wait(&self) -> bool {
+        match self.stage {
+            Stage::Cutting => !self.intake.holds_record(),
+            _ => false,
+        }
+    }
+
     fn meet(&mut self, core: u32, outlet: &mut Outlet) {
         self.inlets.meet(core, outlet);
     }

@@ -141,6 +141,11 @@ impl Intake {
         Err(Stop::Refused(CaptureFault::TooLong))
     }
 
+    // Whether the piece holds the whole next record, so that no read is needed to cut it.
+    pub(crate) fn holds_record(&self) -> bool {
+        !self.reader.is_within_record() && begins_with_record(self.pieces.left())
+    }
+
     // Feeds the reader the next bytes, at most `most`; before that it reads the next piece if
     // nothing is left of this one.
     fn advance<S: Source>(&mut self, source: &mut S, most: usize) -> Result<Came, Stop>
@@ -166,6 +171,17 @@ impl Intake {
         let Fed { taken, answer } = self.reader.feed_piece(&left[..most.min(left.len())]);
         self.pieces.pass(taken);
         answer
+    }
+}
+
+// Whether bytes of a capture hold the whole record with which they begin.
+fn begins_with_record(bytes: &[u8]) -> bool {
+    match bytes {
+        [b'S', _, _, _, _, a, b, c, d, rest @ ..] => {
+            u32::from_be_bytes([*a, *b, *c, *d]) as usize <= rest.len()
+        }
+        [b'C', rest @ ..] => rest.len() >= 4,
+        _ => false,
     }
 }
 

@@ -31,10 +31,6 @@ module _ (before : List (List (List ℕ))) where
       ∙ set-append_seam before (part ∷ parts) [] (sessions_of (before ++ (part ∷ parts) ∷ []) (length before) ++ x ∷ [])
       ∙ ap (λ (old : List (List ℕ)). before ++ (old ++ x ∷ []) ∷ []) (sessions_last (part ∷ parts))
 
-  -- nothing was added yet
-  pub none_added : (all : List (List ℕ)) → HasAdded before all 0 all before
-  none_added all = record { parts = []; whole = refl; count_is = refl; sessions_are = refl }
-
   -- one output was added
   pub one_added : (all left : List (List ℕ)) (count : ℕ) (x : List ℕ) (sessions sessions' : List (List (List ℕ)))
       → HasAdded before all count (x ∷ left) sessions → sessions' ≡ with_session sessions (length before) x → HasAdded before all (count + 1) left sessions'
@@ -54,20 +50,6 @@ module _ (before : List (List (List ℕ))) where
       go : (parts : List (List ℕ)) → sessions ≡ added before parts → length parts ≡ count + 1 → parts ++ [] ≡ all → sessions ≡ before ++ all ∷ []
       go [] are size whole = absurd (omega arith)
       go (part ∷ parts) are size whole = are ∙ ap (λ (l : List (List ℕ)). before ++ l ∷ []) (sym (append-nil (part ∷ parts)) ∙ whole)
-
-  -- the next output may be added
-  pub may_add : (outputs : AllOutputs) (all left : List (List ℕ)) (count : ℕ) → HasAdded before all count left outputs.sessions
-      → outputs.version ≡ 2 → length before < connection_limit → count < 2 ^ 31 → MayAdd outputs (length before)
-  may_add outputs all left count has version few room = go has.parts has.sessions_are has.count_is
-    where
-      go : (parts : List (List ℕ)) → outputs.sessions ≡ added before parts → length parts ≡ count → MayAdd outputs (length before)
-      go [] are size = inl (ap length (sym are), few)
-      go (part ∷ parts) are size =
-          let long = ap length are in
-          let more = length-append before ((part ∷ parts) ∷ []) in
-          let here : sessions_of outputs.sessions (length before) ≡ part ∷ parts = ap (λ (s : List (List (List ℕ))). sessions_of s (length before)) are ∙ sessions_last (part ∷ parts) in
-          let many = ap (λ (l : List (List ℕ)). length l) here in
-          inr (version, (omega arith), (omega arith))
 
 -- ---- the loop over the ends
 

@@ -8,7 +8,7 @@ use Rattle.zy_rx.specs.Routing.{offered_to}
 use Rattle.zy_rx.proofs.TakenLemmas.{all_taken}
 use Rattle.zy_core.specs.Share.{Sharing}
 use Rattle.zy_core.specs.Core.{Cored, Identity, identity_of}
-use Rattle.zy_core.specs.Drive.{identities, AreCores, EachSettled}
+use Rattle.zy_core.specs.Cores.{identities, AreCores, EachSettled}
 use Rattle.zy_rx.specs.Feed.{rings_of, sent_by}
 use Rattle.zy_finish.specs.Received.{homes_of, AreSettled, AllSent}
 use Rattle.zy_finish.specs.Finish.{HaveReceived}

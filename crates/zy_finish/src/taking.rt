@@ -1,7 +1,7 @@
 //! Taking the cores of a run apart.
 ghost use Rattle.std.specs.Prelude.{◌≡◌, List, IfOk};
 ghost use Rattle.zy_capture.specs.declared.record.Record.{Record};
-ghost use Rattle.zy_core.specs.Drive.{identities, AreCores, EachSettled};
+ghost use Rattle.zy_core.specs.Cores.{identities, AreCores, EachSettled};
 ghost use Rattle.zy_rx.specs.Feed.{rings_of, sent_by};
 ghost use Rattle.zy_finish.specs.Received.{homes_of, AreSettled, AllSent};
 ghost use Rattle.zy_finish.specs.Finish.{HaveReceived};

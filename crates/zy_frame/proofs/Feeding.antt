@@ -1,17 +1,15 @@
 -- The frames that several steps give together, and what feeding a piece means for every stream that
 -- may have brought a framer to where it is.
-use Rattle.std.proofs.Common.{◌≡◌, ℕ, ◌+◌, ◌≤◌, false, List, [], ◌++◌, length, drop, refl, sym, ap, ◌∙◌, subst, append_assoc}
-use Rattle.std.specs.Prelude.{option_to_list}
+use Rattle.std.proofs.Common.{◌≡◌, ℕ, ◌≤◌, false, List, [], ◌++◌, length, drop, refl, sym, ap, ◌∙◌, subst, append_assoc}
 use Rattle.std.proofs.lemmas.Bool.{lt-ltb}
-use Rattle.std.proofs.lemmas.List.{append-nil, drop-drop, drop_all}
+use Rattle.std.proofs.lemmas.List.{append-nil, drop_all}
 use Rattle.zy_frame.specs.declared.frame_kind.FrameKind.{FrameKind}
 use Rattle.zy_frame.specs.declared.state.State.{State}
 use Rattle.zy_frame.specs.declared.state.State.TheVariants.{Line, Long, Block, Large, Quit, Refused}
-use Rattle.zy_frame.specs.declared.step.Step.{Step}
 use Rattle.zy_frame.specs.Cut.{frames_of, meets_quit}
 use Rattle.zy_frame.specs.Progress.{Progress, in_line, in_long_line, in_block, in_large_block, behind_quit, without_memory, Keeps, Outcome, outcome_of, with_frames, goes_on, StandsFor, is_quit}
 use Rattle.zy_frame.specs.Feed.{Appends, AppendsFirst}
-use Rattle.zy_frame.specs.Steps.{progress_of, Goes, Gives}
+use Rattle.zy_frame.specs.Steps.{progress_of, Gives}
 use Rattle.zy_frame.proofs.GoingOn.{outcome_of-unended}
 
 with_frames-append : (given more : List FrameKind) (o : Outcome) → with_frames given (with_frames more o) ≡ with_frames (given ++ more) o
@@ -34,29 +32,6 @@ pub quit_exact : (framer : Progress) (fed : List ℕ) → Keeps framer → Stand
 unfolding StandsFor
 quit_exact framer fed keeps stands =
     sym (ap meets_quit (sym (append-nil fed)) ∙ ap (λ (o : Outcome). o.quit) (stands []) ∙ ap (λ (o : Outcome). o.quit) (at_rest framer keeps))
-
--- ---- several steps
-
--- a step whose frame was appended
-pub gives_step : (old : State) (bytes : List ℕ) (step : Step) (before after : List FrameKind) → Goes old bytes step → after ≡ before ++ option_to_list step.frame
-    → Gives (progress_of old) (progress_of step.state) before after bytes step.taken
-gives_step old bytes step before after goes appended = record { keeps = goes.keeps; given = option_to_list step.frame; appended = appended; on = goes.on }
-
--- nothing was taken yet
-pub gives_nothing : (framer : Progress) (frames : List FrameKind) (bytes : List ℕ) → Keeps framer → Gives framer framer frames frames bytes 0
-gives_nothing framer frames bytes keeps = record { keeps = keeps; given = []; appended = sym (append-nil frames); on = λ more. refl }
-
--- one further step
-pub gives_more : (old middle new : Progress) (before between after : List FrameKind) (bytes : List ℕ) (at taken : ℕ)
-    → Gives old middle before between bytes at → Gives middle new between after (drop at bytes) taken → Gives old new before after bytes (at + taken)
-gives_more old middle new before between after bytes at taken one two = record {
-  keeps = two.keeps;
-  given = one.given ++ two.given;
-  appended = two.appended ∙ ap (λ (l : List FrameKind). l ++ two.given) one.appended ∙ append_assoc before one.given two.given;
-  on = λ more. one.on more ∙ ap (with_frames one.given) (two.on more)
-      ∙ ap (λ (l : List ℕ). with_frames one.given (with_frames two.given (goes_on new (l ++ more)))) (drop-drop taken at bytes)
-      ∙ with_frames-append one.given two.given (goes_on new (drop (at + taken) bytes ++ more));
-}
 
 -- ---- a whole piece
 

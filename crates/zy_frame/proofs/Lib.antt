@@ -8,3 +8,4 @@ pub mod CutLaws
 pub mod FrameFits
 pub mod TextKinds
 pub mod BoundLemmas
+pub mod WidthLemmas

@@ -1,6 +1,6 @@
 -- The end of a connection whose block is idle, and its output cut at the ends of its sessions.
 use Rattle.std.specs.Prelude.{flat_map, map}
-use Rattle.std.proofs.Common.{◌≡◌, ℕ, ◌+◌, ◌-◌, ◌≤◌, List, [], ◌∷◌, ◌++◌, length, take, drop, refl, sym, ap, ◌∙◌, arith, append_assoc, append-nil, length-append}
+use Rattle.std.proofs.Common.{◌≡◌, ℕ, ◌+◌, ◌-◌, List, [], ◌∷◌, ◌++◌, length, take, drop, refl, sym, ap, ◌∙◌, arith, append-nil}
 use Rattle.std.proofs.lemmas.List.{take_all, map-append, length-map}
 use Rattle.std.proofs.Math.Seq.{take-append_seam, drop-append_seam}
 use Rattle.zy_base.specs.declared.entry.Entry.{Entry}
@@ -8,7 +8,6 @@ use Rattle.mc_parse.specs.declared.command.Command.{Command}
 use Rattle.mc_parse.specs.Calls.{due}
 use Rattle.mc_reply.specs.Texts.{texts_from, texts_of}
 use Rattle.mc_reply.proofs.TextLemmas.{texts_from-append, length-texts_from}
-use Rattle.zy_frame.specs.declared.frame_kind.FrameKind.{FrameKind}
 use Rattle.zy_frame.specs.Frame.{command_of}
 use Rattle.zy_frame.specs.Cut.{commands_of, frames_of}
 use Rattle.zy_rx.specs.Session.{Sessions, streams_of}

@@ -1,5 +1,5 @@
 -- What a home keeps while it cuts items, and while it settles the blocks that these touched.
-use Rattle.std.specs.Prelude.{◌||◌, ◌==◌, map, is_some}
+use Rattle.std.specs.Prelude.{◌||◌, ◌==◌}
 use Rattle.std.proofs.Common.{◌≡◌, ◌≢◌, ℕ, ◌+◌, ◌<◌, ◌≤◌, List, [], ◌∷◌, ◌++◌, length, drop, set, get_or, Bool, true, false, Option, Some, None, slice_get, refl, sym, ap, ◌∙◌, subst, arith, append_assoc, append-nil, length-append, length-set}
 use Rattle.std.specs.List.{slice_index_or}
 use Rattle.std.proofs.lemmas.List.{drop_more}
@@ -10,18 +10,17 @@ use Rattle.zy_table.proofs.MemberLemmas.{in_cons, in_front, in_more}
 use Rattle.zy_table.proofs.SliceLemmas.{get_at, get_below, get_set_else, get_set_same, set_there}
 use Rattle.zy_rx.specs.declared.rx.Rx.{Rx}
 use Rattle.zy_rx.specs.Ring.{Taking}
-use Rattle.zy_rx.specs.declared.rx.Rx.TheVariants.{Segment, Close, End}
 use Rattle.zy_shuffle.specs.Hand.{marked}
-use Rattle.zy_shuffle.specs.Pass.{Held, after_publish}
-use Rattle.zy_conn.specs.Work.{Mark, Worked}
+use Rattle.zy_shuffle.specs.Pass.{Held}
+use Rattle.zy_conn.specs.Work.{Mark}
 use Rattle.zy_conn.specs.Block.{Blocked}
 use Rattle.zy_home.specs.Link.{Link, IsFor, TakesIn, StandsOn, conn_of}
 use Rattle.zy_home.specs.Offer.{WaitsFull}
 use Rattle.zy_home.specs.Own.{IsOfOthers, item_conn, is_end}
 use Rattle.zy_home.specs.Idle.{IsIdle, due_mark, mark_in}
-use Rattle.zy_home.specs.Home.{Homed, Keeps, HomeStands, SameHome, StandsHome, StandsMore, IsAt, IsHere, conns_in}
+use Rattle.zy_home.specs.Home.{Homed, Keeps, HomeStands, StandsMore, IsAt}
 use Rattle.zy_home.specs.Place.{ComesTo, SameHand}
-use Rattle.zy_home.specs.Items.{CutsOne, CutsEach, ReceivesAll, RefusedAmid, SameFor, SameParts, SettlesEach, StandsAll}
+use Rattle.zy_home.specs.Items.{CutsOne, CutsEach, ReceivesAll, RefusedAmid, SameFor, SameParts, StandsAll}
 use Rattle.zy_home.specs.Turn.{IsDue, IsSettled, IsPutBack, Turns, turned}
 use Rattle.zy_home.specs.Between.{IsBetween, Between, StaysIdle, CutsIn, CutsAll, CutsFrom, SettlesIn, SettlesOn}
 use Rattle.zy_home.proofs.TurnLemmas.{at_else, turned_conns, turned_keeps, turned_stands}
@@ -48,19 +47,6 @@ more_past h item none = by_ended h.ended refl
 -- after the end nothing changes
 pub past_ended : (h : Homed) (item : Rx) → h.ended ≡ true → record h { ended = h.ended || is_end item } ≡ h
 past_ended h item e = ap (λ b. record h { ended = b }) (ap (λ b. b || is_end item) e ∙ sym e)
-
--- an item of others is not the end
-pub past_others : (h : Homed) (item : Rx) → IsOfOthers h.core h.cores h.count item → record h { ended = h.ended || is_end item } ≡ h
-past_others h item others = ap (λ b. record h { ended = b }) (ap (λ b. h.ended || b) (no item others) ∙ either h.ended)
-  where
-    no : (i : Rx) → IsOfOthers h.core h.cores h.count i → is_end i ≡ false
-    no (Segment c bytes) o = refl
-    no (Close c) o = refl
-    no End o = absurd o
-
-    either : (a : Bool) → (a || false) ≡ a
-    either true = refl
-    either false = refl
 
 -- an item that comes to a place is not of others, and not the end
 pub comes_not_others : (h : Homed) → Keeps h → (p : ℕ) (item : Rx) → ComesTo h p item → IsOfOthers h.core h.cores h.count item → ⊥
@@ -106,9 +92,6 @@ stands_more a b c items item s t earlier h = subst (HomeStands c) (append_assoc 
 
 -- ---- what stays
 
-pub same_for_none : (h : Homed) → SameFor 0 h h
-same_for_none h = record { core = refl; cores = refl; count = refl; table = refl; label = refl; out = refl; conns = refl; few = omega arith }
-
 pub same_for_on : (n m k : ℕ) (a b c : Homed) → SameFor n a b → SameFor m b c → n + m ≤ k → SameFor k a c
 same_for_on n m k a b c s t le = record {
   core = t.core ∙ s.core;
@@ -148,10 +131,6 @@ each_at h b p x l eb el = go x (b.each p x l eb el)
     go : (x : Option Blocked) → IsBetween [] h.pass p l x → IsAt h.pass p l x
     go None r = r
     go (Some c) r = (r.0, r.1 refl)
-
--- a home that was refused memory keeps less
-pub keeps_amid : (h : Homed) → Keeps h → Keeps (record h { refused = true })
-keeps_amid h k = record { core = k.core; cores = k.cores; conns = k.conns; long = k.long; places = k.places; here = k.here; each = λ e. absurd (cc) }
 
 pub keeps_again : (h : Homed) → Keeps h → Between h [] → Keeps (record h { refused = false })
 keeps_again h k b = record { core = k.core; cores = k.cores; conns = k.conns; long = k.long; places = k.places; here = k.here; each = λ e. each_at h b }
@@ -342,9 +321,6 @@ module _ (h : Homed) (k : Keeps h) (amid : h.refused ≡ true) (p : ℕ) (rest :
   rest_else : (q : ℕ) → q ≢ p → is_in q rest ≡ is_in q (p ∷ rest)
   rest_else q ne = sym (in_cons p q rest ne)
 
-  pub near_links : p < length h.links
-  near_links = let near = touched_near in let long = k.long in omega arith
-
   -- the home with what is at the place
   home_same : (x : Option Blocked) → x ≡ x0 → record h { blocks = set h.blocks p x; links = set h.links p l } ≡ h
   home_same x same = λ i. record h {
@@ -412,14 +388,6 @@ module _ (h : Homed) (k : Keeps h) (amid : h.refused ≡ true) (p : ℕ) (rest :
           chain = λ places last rest. (p ∷ places, (settled_home, record { given = c; there = touched_slot ∙ ap Some e; settles = settles h p l m w x h.refused touched_there conn c s }, rest));
         }
 
-pub settles_next : (h m h' : Homed) (rest rest' : List ℕ) → SettlesIn h m rest → SettlesIn m h' rest' → SettlesIn h h' rest'
-settles_next h m h' rest rest' s t = record {
-  between = t.between;
-  stands = λ items k. t.stands items (s.stands items k);
-  ended = t.ended ∙ s.ended;
-  chain = λ places last c. let d = t.chain places last c in s.chain d.0 last d.1;
-}
-
 -- ---- the call
 
 -- memory was refused when a block was settled
@@ -459,48 +427,5 @@ module _ (h m n : Homed) (o o1 o2 : Taking) (first : Rx) (touched : List ℕ) (c
         settles = chain.1;
       }
 
-  pub received_same : SettlesOn m n [] 64 → SameFor 64 h (again n)
-  received_same s = let t = same_for_on 0 64 64 (amid h) m n all_cut.same s.same (omega arith) in record {
-    core = t.core;
-    cores = t.cores;
-    count = t.count;
-    table = t.table;
-    label = t.label;
-    out = t.out;
-    conns = t.conns;
-    few = t.few;
-  }
-
-  -- after the end nothing changes
-  pub received_still : h.ended ≡ true → n ≡ m → again n ≡ h
-  received_still e same =
-      let parts = (all_cut.still e).0 in
-      let t = all_cut.same in
-      ap again same ∙ (λ i. record {
-        core = t.core i;
-        cores = t.cores i;
-        count = t.count i;
-        pass = parts.0 i;
-        blocks = parts.1 i;
-        links = parts.2 i;
-        ended = parts.3 i;
-        refused = sym live i;
-      })
-
-  pub received_none : h.ended ≡ true → touched ≡ []
-  received_none e = (all_cut.still e).1
-
   pub received_refused : (h' : Homed) → RefusedAmid m h' → RefusedAmid h h'
   received_refused h' r = refused_from h (amid h) h' (refl, refl, refl, refl) (refused_on (amid h) m h' (first ∷ all_cut.more) all_cut.cuts r)
-
-  pub received_refused_same : (k : ℕ) (h' : Homed) → SameFor k m h' → SameFor k h h'
-  received_refused_same k h' s = let t = same_for_on 0 k k (amid h) m h' all_cut.same s (omega arith) in record {
-    core = t.core;
-    cores = t.cores;
-    count = t.count;
-    table = t.table;
-    label = t.label;
-    out = t.out;
-    conns = t.conns;
-    few = t.few;
-  }

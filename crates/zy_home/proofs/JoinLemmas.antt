@@ -1,9 +1,7 @@
 -- What a home keeps when a block comes into its hand, or when its pass only looked.
-use Rattle.std.specs.Prelude.{is_some, ◌&&◌}
-use Rattle.std.proofs.Common.{◌≡◌, ◌≢◌, ℕ, zero, suc, ◌+◌, ◌<◌, List, [], ◌∷◌, length, set, Bool, true, false, Option, Some, None, slice_get, refl, sym, ap, ◌∙◌, subst, arith}
+use Rattle.std.proofs.Common.{◌≡◌, ℕ, zero, suc, ◌<◌, List, [], ◌∷◌, length, set, true, false, Option, Some, None, slice_get, refl, sym, ap, ◌∙◌, subst, arith}
 use mathlib.Core.Logic.{dite}
 use native.Mathlib.Decide.{ℕ_discrete}
-use Rattle.std.proofs.lemmas.Option.{slice_get-get_or}
 use Rattle.zy_table.specs.Member.{is_in}
 use Rattle.zy_table.proofs.SliceLemmas.{set_there}
 use Rattle.zy_table.proofs.MemberLemmas.{in_cons, in_front}
@@ -13,7 +11,7 @@ use Rattle.zy_shuffle.proofs.HandLemmas.{marked_else}
 use Rattle.zy_conn.specs.Block.{Blocked, label_in}
 use Rattle.zy_home.specs.Link.{Link}
 use Rattle.zy_home.specs.Idle.{due_mark, mark_in}
-use Rattle.zy_home.specs.Home.{Homed, Keeps, SameHome, IsAt, all_here}
+use Rattle.zy_home.specs.Home.{Homed, Keeps, IsAt, all_here}
 use Rattle.zy_home.specs.Place.{IsOut, with_pass}
 use Rattle.zy_home.specs.Turn.{Turns}
 use Rattle.zy_home.proofs.TurnLemmas.{at_else, turned_keeps}
@@ -40,19 +38,6 @@ module _ (h : Homed) (w : Held Blocked) (is : w ≡ record h.pass { trace = w.tr
         places = ap (λ (v : Held Blocked). v.table.slots) is ∙ k.places;
         here = λ p b e. let r = k.here p b e in (ap (is_in p) hand ∙ r.0, r.1 ∙ sym label);
         each = λ live p x l eb el. at_else h.pass w p l x (ap (is_in p) hand) (ap (marked mark_in p) kept) (k.each live p x l eb el);
-      }
-
-  pub same_looks : SameHome h (with_pass h w)
-  same_looks =
-      let count = ap (λ (v : Held Blocked). v.count) is in record {
-        core = refl;
-        cores = refl;
-        count = refl;
-        table = ap (λ (v : Held Blocked). v.table) is;
-        label = ap (λ (v : Held Blocked). v.label) is;
-        out = ap (λ (v : Held Blocked). v.out) is;
-        conns = refl;
-        once = omega arith;
       }
 
 -- ---- a block comes
@@ -82,22 +67,6 @@ module _ (h : Homed) (w : Held Blocked) (n p : ℕ) (b : Blocked) (k : Keeps h) 
         each = λ live q x l eb el. keeps_at q l x (k.each live q x l eb el);
       }
 
-  pub same_joins : (SameHome h (with_pass h w)) × (w.count ≡ h.pass.count)
-  same_joins =
-      let count = ap (λ (v : Held Blocked). v.count) j.is in (
-        record {
-          core = refl;
-          cores = refl;
-          count = refl;
-          table = ap (λ (v : Held Blocked). v.table) j.is;
-          label = ap (λ (v : Held Blocked). v.label) j.is;
-          out = ap (λ (v : Held Blocked). v.out) j.is;
-          conns = refl;
-          once = omega arith;
-        },
-        count,
-      )
-
   pub out_joins : n ≡ length h.links → h.refused ≡ false → marked mark_in p h.pass.kept ≡ Some (mark_in b) → IsOut (with_pass h w) p b
   out_joins size live mark =
       let near = j.near in
@@ -114,19 +83,6 @@ module _ (h : Homed) (w : Held Blocked) (n p : ℕ) (b : Blocked) (k : Keeps h) 
         mark = cc;
         label = j.labelled ∙ sym (ap (λ (v : Held Blocked). v.label) j.is);
       }
-
--- two parts of a call, the first of which publishes nothing
-pub same_on : (a b c : Homed) → SameHome a b → b.pass.count ≡ a.pass.count → SameHome b c → SameHome a c
-same_on a b c s e t = record {
-  core = t.core ∙ s.core;
-  cores = t.cores ∙ s.cores;
-  count = t.count ∙ s.count;
-  table = t.table ∙ s.table;
-  label = t.label ∙ s.label;
-  out = t.out ∙ s.out;
-  conns = t.conns ∙ s.conns;
-  once = (let n = t.once in omega arith);
-}
 
 -- ---- nothing comes into a hand that has all
 

@@ -1,19 +1,15 @@
 -- What a settled home hands out.
-use Rattle.std.specs.Prelude.{◌&&◌, not, is_some, map, option_map}
-use Rattle.std.proofs.Common.{◌≡◌, ℕ, zero, suc, List, [], ◌∷◌, length, Bool, true, false, Option, Some, None, slice_get, refl, sym, ap, ◌∙◌, subst, arith}
+use Rattle.std.specs.Prelude.{◌&&◌, not, map}
+use Rattle.std.proofs.Common.{◌≡◌, ℕ, suc, List, [], ◌∷◌, length, Bool, true, false, Option, Some, None, slice_get, refl, sym, ap, ◌∙◌, subst, arith}
 use Rattle.zy_table.specs.declared.name.Name.{Name}
 use Rattle.zy_rx.specs.declared.rx.Rx.{Rx}
 use Rattle.zy_rx.specs.Flow.{home_of}
 use Rattle.zy_rx.specs.Session.{Sessions, sessions_of}
 use Rattle.zy_shuffle.specs.Pass.{Held}
 use Rattle.zy_conn.specs.Work.{Mark}
-use Rattle.zy_conn.specs.Kept.{Kept}
 use Rattle.zy_conn.specs.Block.{Blocked}
 use Rattle.zy_home.specs.Link.{Link, LinkStands, conn_of}
-use Rattle.zy_home.specs.Idle.{due_mark, mark_in}
-use Rattle.zy_home.specs.Finish.{ConnEnd}
 use Rattle.zy_home.proofs.FinishLemmas.{conn_end}
-use Rattle.zy_home.specs.Own.{own_conns}
 use Rattle.zy_home.specs.End.{Ended, blocks_in, ended_of}
 use Rattle.zy_home.specs.Home.{Homed, HomeStands, Keeps, IsAt, IsHere, all_here, conns_in, is_settled}
 use Rattle.zy_home.specs.Settled.{IsFinished, AreFinished}

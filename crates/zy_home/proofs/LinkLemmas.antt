@@ -1,29 +1,20 @@
 -- What a connection may have received, once it took an item in.
-use Rattle.std.specs.Prelude.{◌==◌, if◌then◌else◌, flat_map}
-use Rattle.std.proofs.Common.{◌≡◌, ℕ, ◌+◌, ◌-◌, List, [], ◌∷◌, ◌++◌, length, Bool, true, false, refl, sym, ap, ◌∙◌, subst, arith, append_assoc, append-nil, length-append, eq-eqb}
+use Rattle.std.specs.Prelude.{flat_map}
+use Rattle.std.proofs.Common.{◌≡◌, ℕ, ◌+◌, List, [], ◌∷◌, ◌++◌, length, refl, sym, ap, ◌∙◌, arith, append_assoc, append-nil, length-append}
 use Rattle.std.proofs.lemmas.Grind.{flat_map-append}
 use Rattle.zy_frame.specs.declared.frame_kind.FrameKind.{FrameKind}
 use Rattle.zy_frame.specs.Cut.{frames_of}
 use Rattle.zy_frame.specs.Progress.{StandsFor}
-use Rattle.zy_frame.specs.Feed.{Appends}
 use Rattle.zy_frame.proofs.CutLaws.{frames_of_nil}
-use Rattle.zy_rx.specs.declared.rx.Rx.{Rx}
-use Rattle.zy_rx.specs.declared.rx.Rx.TheVariants.{Segment, Close}
-use Rattle.zy_rx.specs.Session.{Sessions, no_sessions, with_bytes, with_close, takes_in, streams_of}
+use Rattle.zy_rx.specs.Session.{Sessions, no_sessions, with_close, streams_of}
 use Rattle.zy_conn.specs.Ring.{EventInlet}
-use Rattle.zy_home.specs.Link.{Link, LinkStands, IsFresh, conn_of, frames_in, ends_from}
+use Rattle.zy_home.specs.Link.{Link, LinkStands, IsFresh, frames_in, ends_from}
 
 -- ---- frames of sessions
 
 -- the frames of the closed sessions, and then those of the open one
 pub frames_in-split : (s : Sessions) → frames_in s ≡ flat_map frames_of s.closed ++ frames_of s.current
 frames_in-split s = flat_map-append frames_of s.closed (s.current ∷ []) ∙ ap (λ l. flat_map frames_of s.closed ++ l) (append-nil (frames_of s.current))
-
-frames_in-bytes : (s : Sessions) (bytes : List ℕ) (given : List FrameKind) → frames_of (s.current ++ bytes) ≡ frames_of s.current ++ given → frames_in (with_bytes bytes s) ≡ frames_in s ++ given
-frames_in-bytes s bytes given due =
-    frames_in-split (with_bytes bytes s) ∙ ap (λ l. flat_map frames_of s.closed ++ l) due
-    ∙ sym (append_assoc (flat_map frames_of s.closed) (frames_of s.current) given)
-    ∙ ap (λ l. l ++ given) (sym (frames_in-split s))
 
 frames_in-close : (s : Sessions) → frames_in (with_close s) ≡ frames_in s
 frames_in-close s =
@@ -45,21 +36,6 @@ ends_from-push before (stream ∷ streams) last =
 -- ---- what the connection may have received
 
 module _ (l m : Link) (s : Sessions) (h : LinkStands l s) where
-  -- bytes were cut: `front` is the frame that was handed back, if any
-  pub stands_bytes : (front before after : List FrameKind) (bytes : List ℕ) → l.waiting ≡ front ++ before → m.waiting ≡ front ++ after → m.inlet ≡ l.inlet → m.ends ≡ l.ends
-      → StandsFor m.framer (s.current ++ bytes) → Appends s.current bytes before after → m.cut ≡ l.cut + (length after - length before) → LinkStands m (with_bytes bytes s)
-  stands_bytes front before after bytes was is inlet ends framer a cut =
-      let all = frames_in-bytes s bytes a.given a.due in
-      let waits : m.waiting ≡ l.waiting ++ a.given = is ∙ ap (λ f. front ++ f) a.appended ∙ sym (append_assoc front before a.given) ∙ ap (λ f. f ++ a.given) (sym was) in
-      let long = ap (λ (f : List FrameKind). length f) a.appended in
-      let size = ap (λ (f : List FrameKind). length f) all in
-      let old = h.cut in record {
-        framer = framer;
-        frames = (λ i. (inlet i).sent ++ waits i) ∙ sym (append_assoc l.inlet.sent l.waiting a.given) ∙ ap (λ f. f ++ a.given) h.frames ∙ sym all;
-        ends = ends ∙ h.ends;
-        cut = omega (arith, length-append before a.given, length-append (frames_in s) a.given);
-      }
-
   -- the session was closed
   pub stands_close : m.inlet ≡ l.inlet → m.waiting ≡ l.waiting → m.ends ≡ l.ends ++ l.cut ∷ [] → StandsFor m.framer [] → m.cut ≡ l.cut → LinkStands m (with_close s)
   stands_close inlet waiting ends framer cut =
@@ -71,15 +47,6 @@ module _ (l m : Link) (s : Sessions) (h : LinkStands l s) where
         cut = cut ∙ h.cut ∙ ap (λ (f : List FrameKind). length f) (sym all);
       }
 
-  -- what waited was offered
-  pub stands_offered : m.inlet.sent ++ m.waiting ≡ l.inlet.sent ++ l.waiting → m.framer ≡ l.framer → m.ends ≡ l.ends → m.cut ≡ l.cut → LinkStands m s
-  stands_offered offers framer ends cut = record {
-    framer = subst (λ f. StandsFor f s.current) (sym framer) h.framer;
-    frames = offers ∙ h.frames;
-    ends = ends ∙ h.ends;
-    cut = cut ∙ h.cut;
-  }
-
 -- a fresh connection has received nothing
 pub stands_fresh : (conn : ℕ) (inlet : EventInlet) (l : Link) → IsFresh conn inlet l → inlet.sent ≡ [] → LinkStands l no_sessions
 stands_fresh conn inlet l f none = record {
@@ -88,16 +55,3 @@ stands_fresh conn inlet l f none = record {
   ends = f.ends;
   cut = f.cut ∙ ap (λ (l : List FrameKind). length l) (sym frames_in-none);
 }
-
--- ---- items
-
-takes_here : (s x : Sessions) (a b : Bool) → a ≡ false → b ≡ true → (if a then s else (if b then x else s)) ≡ x
-takes_here s x a b live same = ap (λ c. if c then s else (if b then x else s)) live ∙ ap (λ c. if c then x else s) same
-
--- a segment of this connection
-pub takes_segment : (conn c : ℕ) (bytes : List ℕ) (s : Sessions) → c ≡ conn → s.ended ≡ false → takes_in conn s (Segment c bytes) ≡ with_bytes bytes s
-takes_segment conn c bytes s same live = takes_here s (with_bytes bytes s) s.ended (c == conn) live (eq-eqb c conn same)
-
--- a close of this connection
-pub takes_close : (conn c : ℕ) (s : Sessions) → c ≡ conn → s.ended ≡ false → takes_in conn s (Close c) ≡ with_close s
-takes_close conn c s same live = takes_here s (with_close s) s.ended (c == conn) live (eq-eqb c conn same)

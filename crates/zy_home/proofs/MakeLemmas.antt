@@ -1,14 +1,14 @@
 -- A home that is made of its parts keeps its rule, and has received nothing.
 use Rattle.std.specs.Prelude.{map, option_map, take}
 use Rattle.std.specs.List.{AllByRecursion}
-use Rattle.std.proofs.Common.{◌≡◌, ℕ, zero, suc, ◌+◌, ◌<◌, ◌≤◌, List, [], ◌∷◌, ◌++◌, length, Bool, true, false, Option, Some, None, slice_get, refl, sym, ap, ◌∙◌, subst, arith}
+use Rattle.std.proofs.Common.{◌≡◌, ℕ, zero, suc, ◌<◌, ◌≤◌, List, [], ◌∷◌, ◌++◌, length, true, false, Option, Some, slice_get, refl, sym, ap, ◌∙◌, subst, arith}
 use Rattle.std.proofs.lemmas.List.{length-map}
 use Rattle.std.proofs.lemmas.Option.{slice_get-map}
 use Rattle.zy_table.specs.Member.{is_in}
 use Rattle.zy_table.specs.declared.name.Name.{Name}
 use Rattle.zy_table.proofs.SliceLemmas.{get_below}
 use Rattle.zy_rx.specs.Ring.{RingName}
-use Rattle.zy_shuffle.specs.Pass.{Held, HasAll}
+use Rattle.zy_shuffle.specs.Pass.{Held}
 use Rattle.zy_conn.specs.Ring.{EventInlet}
 use Rattle.zy_conn.specs.Work.{texts_all, texts_taken}
 use Rattle.zy_calls.specs.Output.{Output}
@@ -17,7 +17,6 @@ use Rattle.zy_conn.specs.Block.{Blocked, label_in}
 use Rattle.zy_home.specs.Link.{Link, IsFresh, conn_of}
 use Rattle.zy_home.proofs.LinkLemmas.{stands_fresh}
 use Rattle.zy_home.specs.Own.{own_conns}
-use Rattle.zy_home.specs.End.{blocks_in}
 use Rattle.zy_home.specs.Parts.{AreParts, AreFresh, IsNew, IsUnused, conns_of_blocks, rings_of_blocks, rings_of_inlets}
 use Rattle.zy_home.specs.declared.parts.HomeParts.{HomeParts}
 use Rattle.zy_home.specs.Home.{Homed, HomeStands, Keeps, IsAt, conns_in}
@@ -28,11 +27,6 @@ pub all_at : {A : Type 0} (P : A → Type 0) (xs : List A) (p : ℕ) (x : A) →
 all_at P [] p x all e = absurd (cc)
 all_at P (y ∷ ys) zero x all e = let is : y ≡ x = cc in subst P is all.0
 all_at P (y ∷ ys) (suc p) x all e = all_at P ys p x all.1 e
-
--- the slots of blocks that are all here
-pub blocks_in-some : (blocks : List Blocked) → blocks_in (map Some blocks) ≡ blocks
-blocks_in-some [] = refl
-blocks_in-some (b ∷ bs) = ap (λ l. b ∷ l) (blocks_in-some bs)
 
 slot_at : (blocks : List Blocked) (p : ℕ) (x : Option Blocked) → slice_get (map Some blocks) p ≡ Some x → (b : Blocked) × (slice_get blocks p ≡ Some b) × (x ≡ Some b)
 slot_at [] p x e = absurd (cc)

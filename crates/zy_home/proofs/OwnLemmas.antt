@@ -1,7 +1,7 @@
 -- The connections of a core: they rise, and each is one of the core's.
-use Rattle.std.specs.Prelude.{◌==◌, cond, map, option_map}
+use Rattle.std.specs.Prelude.{◌==◌, cond, option_map}
 use Rattle.std.specs.List.{range_with_len, filter}
-use Rattle.std.proofs.Common.{◌≡◌, ◌≢◌, ℕ, zero, suc, ◌+◌, ◌<◌, ◌≤◌, List, [], ◌∷◌, ◌++◌, Bool, true, false, Option, Some, None, slice_get, refl, sym, ap, ◌∙◌, subst, arith, append-nil, eqb-true, eq-eqb, ne_eqb}
+use Rattle.std.proofs.Common.{◌≡◌, ◌≢◌, ℕ, zero, suc, ◌+◌, ◌<◌, ◌≤◌, List, [], ◌∷◌, ◌++◌, Bool, true, false, Some, slice_get, refl, sym, ap, ◌∙◌, arith, append-nil, eqb-true, eq-eqb, ne_eqb}
 use mathlib.Core.Logic.{dite}
 use native.Mathlib.Decide.{dec_lt}
 use Rattle.std.proofs.lemmas.List.Elements.{filter-append}

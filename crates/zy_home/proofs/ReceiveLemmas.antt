@@ -1,6 +1,6 @@
 -- What a home may have received, and what it did, once it took an item in or dropped it.
-use Rattle.std.specs.Prelude.{◌==◌, ◌||◌, if◌then◌else◌}
-use Rattle.std.proofs.Common.{◌≡◌, ◌≢◌, ℕ, List, [], ◌∷◌, ◌++◌, set, get_or, Bool, true, false, Option, Some, None, slice_get, refl, sym, ap, ◌∙◌, subst, eq-eqb, ne_eqb}
+use Rattle.std.specs.Prelude.{◌==◌, if◌then◌else◌}
+use Rattle.std.proofs.Common.{◌≡◌, ◌≢◌, ℕ, List, [], ◌∷◌, ◌++◌, set, get_or, Bool, true, false, Option, Some, None, slice_get, refl, sym, ap, ◌∙◌, subst, ne_eqb}
 use Rattle.zy_table.proofs.SliceLemmas.{set_there, get_set_same}
 use Rattle.zy_rx.specs.declared.rx.Rx.{Rx}
 use Rattle.zy_rx.specs.declared.rx.Rx.TheVariants.{Segment, Close, End}
@@ -11,12 +11,12 @@ use Rattle.zy_conn.specs.Block.{Blocked}
 use Rattle.zy_home.specs.Link.{Link, LinkStands, IsFor, TakesIn, conn_of}
 use Rattle.zy_home.specs.Offer.{WaitsFull}
 use Rattle.zy_home.specs.Own.{IsOwn, IsOfOthers, IsRising, item_conn, is_end}
-use Rattle.zy_home.specs.Home.{Homed, Keeps, HomeStands, SameHome, StandsMore, conns_in}
+use Rattle.zy_home.specs.Home.{Homed, Keeps, SameHome, StandsMore, conns_in}
 use Rattle.zy_home.specs.Place.{ComesTo, Forwards, SameHand, Settles}
-use Rattle.zy_home.specs.Turn.{IsFed, IsPlace, IsUnfed, Turns, turned}
+use Rattle.zy_home.specs.Turn.{IsFed, IsUnfed, Turns, turned}
 use Rattle.zy_home.proofs.OwnLemmas.{own_is, own_rises, conn_at, rising_apart}
 use Rattle.zy_home.proofs.TurnLemmas.{turned_more}
-use Rattle.zy_home.proofs.SettleLemmas.{Stepped, stepped, settles, same_hand, fed_link, fed_place, fed_slot, fed_step, unfed_step}
+use Rattle.zy_home.proofs.SettleLemmas.{Stepped, stepped, settles, same_hand, fed_link, fed_slot, fed_step, unfed_step}
 
 -- ---- what an item does to the sessions of a connection
 
@@ -170,9 +170,6 @@ module _ (h : Homed) (k : Keeps h) (p : ℕ) (item : Rx) (comes : ComesTo h p it
   -- the item is for the connection at this place
   pub comes_own : IsFor (conn_of l) item
   comes_own = subst (λ (z : Link). IsFor (conn_of z) item) (sym (fed_link h k p comes.link l m w x0 x comes.there slot at)) comes.own
-
-  pub comes_place : h.refused ≡ false → IsPlace h.pass p l x0
-  comes_place = fed_place h k p comes.link l m w x0 x comes.there slot at
 
   pub received : (r : Bool) → (r ≡ false → h.refused ≡ false) → conn_of m ≡ conn_of l → IsFed p l m h.pass w x0 x → TakesIn item l m → Received h (turned h p x m w r) item
   received r live conn s takes =

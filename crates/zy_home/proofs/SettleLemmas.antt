@@ -1,7 +1,7 @@
 -- That a block which is settled or put back, and an item that is taken in, are steps of a home.
 use Rattle.std.specs.Prelude.{map, is_some}
-use Rattle.std.proofs.Common.{◌≡◌, ◌≢◌, ℕ, zero, suc, ◌+◌, ◌≤◌, List, [], ◌∷◌, set, get_or, length, Bool, true, false, Option, Some, None, slice_get, refl, sym, ap, ◌∙◌, subst, arith}
-use Rattle.zy_table.specs.Member.{is_in, without}
+use Rattle.std.proofs.Common.{◌≡◌, ℕ, zero, suc, List, [], ◌∷◌, set, get_or, Bool, true, false, Option, Some, None, slice_get, refl, sym, ap, ◌∙◌, subst, arith}
+use Rattle.zy_table.specs.Member.{is_in}
 use Rattle.zy_table.proofs.MemberLemmas.{in_without}
 use Rattle.zy_table.proofs.SliceLemmas.{get_at, get_below, get_set_same}
 use Rattle.zy_shuffle.specs.Hand.{marked}
@@ -13,9 +13,9 @@ use Rattle.zy_conn.specs.Block.{Blocked, label_in}
 use Rattle.zy_home.specs.Link.{Link, StandsOn, conn_of}
 use Rattle.zy_home.specs.Offer.{WaitsBehind, WaitsFull}
 use Rattle.zy_home.specs.Idle.{IsIdle, due_mark, mark_in}
-use Rattle.zy_home.specs.Home.{Homed, Keeps, SameHome, StandsHome, IsAt, IsHere}
-use Rattle.zy_home.specs.Place.{IsOut, KnowsAll, Settles, PutsBack, SameHand}
-use Rattle.zy_home.specs.Turn.{IsDue, IsSettled, IsPutBack, IsPlace, IsFed, IsUnfed, PassTurns, Turns, turned}
+use Rattle.zy_home.specs.Home.{Homed, Keeps, SameHome, StandsHome, IsAt}
+use Rattle.zy_home.specs.Place.{IsOut, KnowsAll, Settles, SameHand}
+use Rattle.zy_home.specs.Turn.{IsSettled, IsPutBack, IsFed, IsUnfed, PassTurns, Turns, turned}
 use Rattle.zy_home.proofs.TurnLemmas.{turned_keeps, turned_same, turned_stands}
 
 -- ---- passes
@@ -96,9 +96,6 @@ module _ (h : Homed) (p : ℕ) (l m : Link) (w : Held Blocked) (x : Option Block
     behind = λ n e. subst (λ z. WaitsBehind z s.block) (get_set_same h.links p m n e) s.behind;
   }
 
-  pub puts_back : IsPutBack h.pass w x → PutsBack p h (turned h p x m w r)
-  puts_back s = record { block = s.block; pass = s.pass_is; blocks = ap (set h.blocks p) s.slot_is }
-
   -- the slot was empty, and stays so
   away_turns : (r ≡ false → h.refused ≡ false) → Keeps h → slice_get h.blocks p ≡ Some None → due_mark m ≡ due_mark l → w ≡ h.pass → x ≡ None → Turns h p x l m w r
   away_turns live k slot due is none = record {
@@ -130,10 +127,6 @@ module _ (h : Homed) (p : ℕ) (l m : Link) (w : Held Blocked) (x : Option Block
   unfed_turns refused k (Some b) slot s = back_turns refused (k.here p b slot).0 s
   unfed_turns refused k None slot s = unfed_away refused s.0 s.1
 
--- a place of a home that is not refused
-pub place_of_home : (h : Homed) → Keeps h → h.refused ≡ false → (p : ℕ) (x : Option Blocked) (l : Link) → slice_get h.blocks p ≡ Some x → slice_get h.links p ≡ Some l → IsPlace h.pass p l x
-place_of_home h k live p x l ex el = record { here = λ b e. k.here p b (ex ∙ ap Some e); at = k.each live p x l ex el }
-
 -- ---- the hand after a refusal
 
 filled-set : (bs : List (Option Blocked)) (p : ℕ) (x y : Option Blocked) → slice_get bs p ≡ Some x → is_some y ≡ is_some x → map is_some (set bs p y) ≡ map is_some bs
@@ -161,10 +154,6 @@ module _ (h : Homed) (k : Keeps h) (p : ℕ) (b : Blocked) (o : IsOut h p b) (l 
   pub out_there : slice_get h.links p ≡ Some l
   out_there = get_at h.links p l l (get_below h.links p o.link o.there) at
 
-  -- the block has the mark that its connection expects
-  pub out_due : IsDue h.pass p l b
-  out_due = let e : Some o.link ≡ Some l = sym o.there ∙ out_there in let is : o.link ≡ l = cc in record { hand = o.hand; mark = o.mark ∙ ap due_mark is; label = o.label }
-
   pub out_settled : (r : Bool) → (r ≡ false → h.refused ≡ false) → IsSettled p b m h.pass w x → Stepped h (turned h p x m w r) l m
   out_settled r live s = stepped h p x l m w r k (settled_turns h p l m w x r out_there conn b live o.hand s)
 
@@ -181,9 +170,6 @@ module _ (h : Homed) (k : Keeps h) (p : ℕ) (l0 l m : Link) (w : Held Blocked) 
 
   pub fed_link : l ≡ l0
   fed_link = let e : Some l ≡ Some l0 = sym fed_there ∙ there in cc
-
-  pub fed_place : h.refused ≡ false → IsPlace h.pass p l x0
-  fed_place live = place_of_home h k live p x0 l fed_slot fed_there
 
   pub fed_step : (r : Bool) → (r ≡ false → h.refused ≡ false) → conn_of m ≡ conn_of l → IsFed p l m h.pass w x0 x → Turns h p x l m w r
   fed_step r live conn s = fed_turns h p l m w x r fed_there conn live k x0 fed_slot s

@@ -1,19 +1,18 @@
 -- What a home keeps, and what it may have received, after a step at one of its places.
-use Rattle.std.specs.Prelude.{map}
-use Rattle.std.proofs.Common.{◌≡◌, ◌≢◌, ℕ, zero, suc, ◌+◌, ◌<◌, ◌≤◌, List, [], ◌∷◌, ◌++◌, length, set, Bool, true, false, Option, Some, None, slice_get, refl, sym, ap, ◌∙◌, subst, arith, length-set}
+use Rattle.std.proofs.Common.{◌≡◌, ◌≢◌, ℕ, zero, suc, List, [], ◌∷◌, set, Bool, Option, Some, None, slice_get, refl, sym, ap, ◌∙◌, subst, length-set}
 use mathlib.Core.Logic.{dite}
 use native.Mathlib.Decide.{ℕ_discrete}
 use Rattle.zy_table.specs.Member.{is_in}
-use Rattle.zy_table.proofs.SliceLemmas.{get_below, get_set_else, get_set_there, get_set_same}
+use Rattle.zy_table.proofs.SliceLemmas.{get_set_else, get_set_same}
 use Rattle.zy_rx.specs.declared.rx.Rx.{Rx}
-use Rattle.zy_rx.specs.Session.{Sessions, sessions_of, takes_in, no_sessions}
+use Rattle.zy_rx.specs.Session.{sessions_of}
 use Rattle.zy_shuffle.specs.Hand.{marked}
 use Rattle.zy_shuffle.specs.Pass.{Held}
 use Rattle.zy_conn.specs.Block.{Blocked}
 use Rattle.zy_home.specs.Link.{Link, LinkStands, StandsOn, conn_of}
-use Rattle.zy_home.specs.Idle.{due_mark, mark_in}
+use Rattle.zy_home.specs.Idle.{mark_in}
 use Rattle.zy_home.specs.Home.{Homed, Keeps, HomeStands, SameHome, StandsHome, IsAt, IsHere, conns_in}
-use Rattle.zy_home.specs.Turn.{PassTurns, Turns, turned}
+use Rattle.zy_home.specs.Turn.{Turns, turned}
 
 conns-set : (ls : List Link) (p : ℕ) (l m : Link) → slice_get ls p ≡ Some l → conn_of m ≡ conn_of l → conns_in (set ls p m) ≡ conns_in ls
 conns-set [] p l m e same = refl

@@ -4,7 +4,6 @@ use Rattle.zy_table.specs.Member.{is_in}
 use Rattle.zy_rx.specs.declared.rx.Rx.{Rx}
 use Rattle.zy_rx.specs.Ring.{Taking}
 use Rattle.zy_shuffle.specs.Pass.{Held}
-use Rattle.zy_conn.specs.Work.{Worked}
 use Rattle.zy_conn.specs.Block.{Blocked}
 use Rattle.zy_home.specs.Link.{Link}
 use Rattle.zy_home.specs.Idle.{IsIdle, due_mark, mark_in}

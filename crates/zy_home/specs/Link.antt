@@ -1,5 +1,5 @@
 -- What a home keeps of a connection beside its block, and what the connection may have received.
-use Rattle.std.specs.Prelude.{◌≡◌, ℕ, ◌+◌, Bool, false, List, [], ◌∷◌, ◌++◌, length, flat_map}
+use Rattle.std.specs.Prelude.{◌≡◌, ℕ, ◌+◌, false, List, [], ◌∷◌, ◌++◌, length, flat_map}
 use Rattle.zy_frame.specs.declared.frame_kind.FrameKind.{FrameKind}
 use Rattle.zy_frame.specs.Cut.{frames_of}
 use Rattle.zy_frame.specs.Progress.{Progress, StandsFor}

@@ -1,10 +1,10 @@
 -- The parts of which a home is made.
-use Rattle.std.specs.Prelude.{◌≡◌, ℕ, List, [], ◌∷◌, length, map, Option, Some, None}
+use Rattle.std.specs.Prelude.{◌≡◌, ℕ, List, [], ◌∷◌, length, map}
 use Rattle.std.specs.List.{AllByRecursion}
 use Rattle.zy_rx.specs.Ring.{RingName}
-use Rattle.zy_shuffle.specs.Pass.{Held, HasAll}
+use Rattle.zy_shuffle.specs.Pass.{HasAll}
 use Rattle.zy_conn.specs.Ring.{EventInlet}
-use Rattle.zy_conn.specs.Work.{Worked, idle}
+use Rattle.zy_conn.specs.Work.{idle}
 use Rattle.zy_conn.specs.Block.{Blocked}
 use Rattle.zy_table.specs.declared.name.Name.{Name}
 use Rattle.zy_home.specs.Link.{Link, IsFresh}

@@ -12,6 +12,7 @@ mod settling;
 use crate::blocks::Blocks;
 use crate::ends::Ends;
 use crate::link::Link;
+use crate::touched::Touched;
 use std::marker::Model;
 use zy_conn::Block;
 use zy_shuffle::HomePass;
@@ -30,6 +31,8 @@ pub struct Home {
     links: Vec<Link>,
     ended: bool,
     refused: bool,
+    // For `receive_all`, which uses its room again.
+    touched: Touched,
 }
 
 impl Model for Home {
@@ -70,6 +73,13 @@ impl Home {
         self.ended && !self.refused && are_here(&self.blocks)
     }
 
+    /// Whether each block is in the home's hand, so that no other core has one and none is queued.
+    pub fn has_all_blocks(&self) -> bool
+        ensures value { result ≡ all_here self.now.blocks }
+    {
+        are_here(&self.blocks)
+    }
+
     /// Whether a call of this home was refused memory.
     pub fn is_refused(&self) -> bool
         ensures value { result ≡ self.now.refused }
@@ -94,7 +104,9 @@ impl Home {
             links,
             ended: _,
             refused: _,
+            touched,
         } = self;
+        drop(touched);
         (pass, Blocks::from_slots(blocks), Ends::of(links))
     }
 }

@@ -1,13 +1,15 @@
 //! The places whose blocks are to be settled.
-ghost use Rattle.std.specs.Prelude.{◌≡◌, ◌+◌, ◌<◌, ◌≤◌, [], ◌∷◌, ◌++◌, Some, length, slice_get};
+ghost use Rattle.std.specs.Prelude.{◌≡◌, ◌+◌, ◌<◌, ◌≤◌, [], ◌∷◌, ◌++◌, Some, length, slice_get, OnOk, OnErr};
 
-use arrayvec::ArrayVec;
+use std::alloc::Global;
 use std::marker::Model;
+use std::mem;
+use zy_base::NoMemory;
 
-/// Up to 64 places. Contracts see the list of them. It takes no memory.
+/// Places. Contracts see the list of them.
 #[derive(Drop)]
 pub struct Touched {
-    places: ArrayVec<usize, 64>,
+    places: Vec<usize>,
 }
 
 impl Model for Touched {
@@ -19,21 +21,34 @@ impl Model for Touched {
 }
 
 impl Touched {
-    // No place.
-    pub(crate) fn new() -> Touched
+    // No place. Takes no memory.
+    pub(crate) fn new(alloc: Global) -> Touched
         ensures value { result ≡ [] }
     {
         Touched {
-            places: ArrayVec::new(),
+            places: Vec::new(alloc),
         }
     }
 
-    // One further place.
-    pub(crate) fn push(&mut self, place: usize)
-        requires few { length self.old < 64 }
-        ensures value { self.new ≡ self.old ++ place ∷ [] }
+    // No place, with the room of this list, which is left with none.
+    pub(crate) fn take(&mut self) -> Touched
+        ensures value { result ≡ [] }
     {
-        self.places.push(place);
+        let none = Vec::new(*self.places.allocator());
+        let mut places = mem::replace(&mut self.places, none);
+        places.clear();
+        Touched { places }
+    }
+
+    // One further place.
+    pub(crate) fn push(&mut self, place: usize) -> Result<(), NoMemory>
+        ensures ok { OnOk result (self.new ≡ self.old ++ place ∷ []) }
+        ensures err { OnErr result (self.new ≡ self.old) }
+    {
+        match self.places.push(place) {
+            Ok(()) => Ok(()),
+            Err(_) => Err(NoMemory),
+        }
     }
 
     // The places, in their order.

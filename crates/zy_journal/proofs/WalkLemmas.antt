@@ -1,5 +1,5 @@
 -- What is left of histories that are walked.
-use Rattle.std.proofs.Common.{◌≡◌, ◌≢◌, ◌⊎◌, inl, inr, ℕ, zero, suc, ◌+◌, ◌*◌, ◌/◌, ◌%◌, ◌<◌, ◌≤◌, true, List, [], ◌∷◌, drop, length, get_or, set, add-one, replicate, refl, sym, ◌∙◌, ap, subst, arith}
+use Rattle.std.proofs.Common.{◌≡◌, ◌⊎◌, inl, inr, ℕ, zero, suc, ◌+◌, ◌*◌, ◌/◌, ◌%◌, ◌<◌, ◌≤◌, true, List, [], ◌∷◌, drop, length, get_or, set, add-one, replicate, refl, sym, ◌∙◌, ap, subst, arith}
 use Rattle.std.specs.Prelude.{Option, None, Some}
 use Rattle.std.proofs.Math.Nat.{div-add-mod, mod-lt}
 use Rattle.std.proofs.lemmas.List.{get_or-set_same, get_or-set_other}
@@ -30,11 +30,6 @@ first_over [] zero over = refl
 first_over [] (suc n) over = refl
 first_over (x ∷ h) zero over = absurd (omega (arith, over))
 first_over (x ∷ h) (suc n) over = first_over h n (omega (arith, over))
-
-pub first_inside : (h : List Entry) (n : ℕ) (e : Entry) → n < length h → first_stamp (drop n h) ≡ Some (get_or h n e).stamp
-first_inside [] n e inside = absurd (omega (arith, inside))
-first_inside (x ∷ h) zero e inside = refl
-first_inside (x ∷ h) (suc n) e inside = first_inside h n e (omega (arith, inside))
 
 pub own_inside : (hs : List (List Entry)) (i : ℕ) (h : List Entry) → i < length hs → history_of hs i ≡ get_or hs i h
 own_inside [] i h inside = absurd (omega (arith, inside))
@@ -168,43 +163,7 @@ not_lower b at u i le less = grind (arith, nat_tests, le, less)
 not_higher : (b at u i : ℕ) → is_earlier b at u i ≡ true → b ≤ u
 not_higher b at u i is = grind (arith, nat_tests, is)
 
--- of one list
-pub one_none : (rests : List (List Entry)) (n : ℕ) → head_of rests n ≡ None → IsBest rests n (n + 1) None
-one_none rests n none shard low high = let same : shard ≡ n = omega (arith, low, high) in rw same none
-
-pub one_some : (rests : List (List Entry)) (n stamp : ℕ) → head_of rests n ≡ Some stamp → IsBest rests n (n + 1) (Some (record { shard = n; stamp = stamp }))
-one_some rests n stamp is = record { from = omega arith; to = omega arith; is = is; first = λ shard other low high not there. absurd (not (omega (arith, low, high))) }
-
--- of none
-pub no_best : (rests : List (List Entry)) (n : ℕ) → IsBest rests n n None
-no_best rests n shard low high = absurd (omega (arith, low, high))
-
 module _ (rests : List (List Entry)) (low middle high : ℕ) (start : low ≤ middle) (within : middle ≤ high) where
-  -- where those behind are empty
-  pub first_alone : (before : Option Head) → IsBest rests low middle before → IsBest rests middle high None → IsBest rests low high before
-  first_alone None before behind = λ shard from to. elim (sides shard middle) [ inl inside ↦ before shard from inside | inr past ↦ behind shard past to ]
-  first_alone (Some head) before behind = record {
-    from = before.from;
-    to = let inside = before.to in omega (arith, inside, within);
-    is = before.is;
-    first = λ shard stamp from to not is. elim (sides shard middle) [
-      | inl inside ↦ before.first shard stamp from inside not is
-      | inr past ↦ absurd (let no : Some stamp ≡ None = sym is ∙ behind shard past to in cc)
-    ];
-  }
-
-  -- where those before are empty
-  pub first_behind : (next : Head) → IsBest rests low middle None → IsFirstOf rests middle high next → IsFirstOf rests low high next
-  first_behind next before behind = record {
-    from = let place = behind.from in omega (arith, place, start);
-    to = behind.to;
-    is = behind.is;
-    first = λ shard stamp from to not is. elim (sides shard middle) [
-      | inl inside ↦ absurd (let no : Some stamp ≡ None = sym is ∙ before shard from inside in cc)
-      | inr past ↦ behind.first shard stamp past to not is
-    ];
-  }
-
   -- a lower stamp behind comes first
   pub first_lower : (head next : Head) → next.stamp < head.stamp → IsFirstOf rests low middle head → IsFirstOf rests middle high next → IsFirstOf rests low high next
   first_lower head next less before behind = record {

@@ -1,10 +1,10 @@
 -- Texts that are written piece by piece.
-use Rattle.std.proofs.Common.{◌≡◌, ℕ, ◌+◌, ◌<◌, ◌≤◌, List, [], ◌∷◌, ◌++◌, length, take, get_or, refl, sym, ◌∙◌, ap, subst, append_assoc}
-use Rattle.std.specs.Prelude.{flat_map, Option, Err}
-use Rattle.std.proofs.lemmas.List.{append-nil, take_more}
+use Rattle.std.proofs.Common.{◌≡◌, ℕ, ◌≤◌, List, [], ◌∷◌, ◌++◌, refl, sym, ◌∙◌, ap, subst, append_assoc}
+use Rattle.std.specs.Prelude.{flat_map, ⊤, Option, Result, Ok, Err, IsErr}
+use Rattle.std.proofs.lemmas.List.{append-nil}
 use Rattle.std.proofs.lemmas.Grind.{flat_map-append}
 use Rattle.zy_base.specs.Outside.{Grew, Writes}
-use Rattle.zy_base.proofs.WritingLemmas.{grew_nothing, grew_on, writes_on, writes_no_more}
+use Rattle.zy_base.proofs.WritingLemmas.{grew_on, writes_on, writes_no_more}
 
 -- the pieces are these bytes
 pub text_3 : (x : ℕ) (a b c p q r : List ℕ) → a ≡ p → b ≡ q → c ≡ r → (x ∷ []) ++ (a ++ (b ++ (c ++ []))) ≡ x ∷ (p ++ (q ++ r))
@@ -20,12 +20,6 @@ gathered_5 x none one two three four five six a b c d e p q r s t n h i j k l m 
 pub numbers_5 : (a b c d e p q r s t : List ℕ) → a ≡ p → b ≡ q → c ≡ r → d ≡ s → e ≡ t → a ++ (b ++ (c ++ (d ++ (e ++ [])))) ≡ p ++ (q ++ (r ++ (s ++ t)))
 numbers_5 a b c d e p q r s t one two three four five = rw (one, two, three, four, five, append-nil t) refl
 
--- the texts of one further thing
-pub texts_more : {X : Type 0} (text : X → List ℕ) (xs : List X) (i : ℕ) (d : X) → i < length xs → flat_map text (take i xs) ++ text (get_or xs i d) ≡ flat_map text (take (i + 1) xs)
-texts_more text xs i d within =
-    ap (λ (l : List ℕ). flat_map text (take i xs) ++ l) (sym (append-nil (text (get_or xs i d))))
-    ∙ sym (flat_map-append text (take i xs) (get_or xs i d ∷ [])) ∙ ap (flat_map text) (sym (take_more xs i d within))
-
 -- ---- what is taken one by one
 
 -- of these things some were taken and written, and these are left
@@ -34,9 +28,6 @@ pub record AreWritten {X : Type 0} (before after : Option (List ℕ)) (text : X 
   pub split : all ≡ taken ++ left
   pub grew : Grew before after (flat_map text taken)
 
-pub none_written : {X : Type 0} (held : Option (List ℕ)) (text : X → List ℕ) (all : List X) → AreWritten held held text all all
-none_written held text all = record { taken = []; split = refl; grew = grew_nothing held }
-
 -- one thing more
 pub one_written : {X : Type 0} (before between after : Option (List ℕ)) (text : X → List ℕ) (all left rest : List X) (x : X) → AreWritten before between text all left → left ≡ x ∷ rest → Grew between after (text x) → AreWritten before after text all rest
 one_written before between after text all left rest x are is grew = record {
@@ -44,11 +35,6 @@ one_written before between after text all left rest x are is grew = record {
   split = are.split ∙ ap (λ l. are.taken ++ l) is ∙ sym (append_assoc are.taken (x ∷ []) rest);
   grew = subst (Grew before after) (sym (flat_map-append text are.taken (x ∷ []) ∙ ap (λ l. flat_map text are.taken ++ l) (append-nil (text x)))) (grew_on before between after (flat_map text are.taken) (text x) are.grew grew);
 }
-
--- nothing is left
-pub all_written : {X : Type 0} (before after : Option (List ℕ)) (text : X → List ℕ) (all left : List X) → AreWritten before after text all left → left ≡ [] → Grew before after (flat_map text all)
-all_written before after text all left are none =
-    subst (λ l. Grew before after (flat_map text l)) (sym (are.split ∙ ap (λ l. are.taken ++ l) none ∙ append-nil are.taken)) are.grew
 
 module _ {K E X : Type 0} (holds : K → Option (List ℕ)) (faults finishes : K → ℕ) (old between new : K) (text : X → List ℕ) (all left rest : List X) (x : X) where
   -- the text of the next thing failed
@@ -60,3 +46,8 @@ module _ {K E X : Type 0} (holds : K → Option (List ℕ)) (faults finishes : K
       subst (Writes holds faults finishes old new (Err e)) (sym whole)
       (writes_on holds faults finishes old between new (Err e) (flat_map text are.taken) (text x ++ flat_map text rest) are.grew count same
       (writes_no_more holds faults finishes between new e (text x) (flat_map text rest) failed))
+
+-- a text whose writing failed, with whatever error it is answered
+pub failed_as : {K E : Type 0} (holds : K → Option (List ℕ)) (faults finishes : K → ℕ) (old new : K) (result : Result ⊤ E) (e : E) (text : List ℕ) → IsErr result → Writes holds faults finishes old new (Err e) text → Writes holds faults finishes old new result text
+failed_as holds faults finishes old new (Ok u) e text refused failed = absurd (cc)
+failed_as holds faults finishes old new (Err other) e text refused failed = record { whole = tt; part = failed.part; count = failed.count; cause = failed.cause; unfinished = failed.unfinished }

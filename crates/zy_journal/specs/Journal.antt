@@ -8,7 +8,8 @@ use Rattle.zy_base.specs.declared.entry.Entry.{Entry}
 use Rattle.zy_base.specs.declared.hold.Hold.{Hold}
 use Rattle.zy_base.specs.declared.tallied.Tallied.{Tallied}
 use Rattle.zy_base.specs.Call.{key_of}
-use Rattle.zy_base.specs.Code.{call_code, call_flags, call_number, call_value, reply_code, reply_flags, reply_number, reply_value, reply_counts}
+use Rattle.zy_base.specs.Code.{call_code, call_flags, call_number, call_value, reply_code, reply_flags, reply_number}
+use Rattle.zy_base.specs.Code.{reply_value, reply_counts}
 use Rattle.zy_base.specs.Bounds.{IsCall, IsReply}
 use Rattle.zy_base.specs.Limits.{connection_limit, shard_limit, core_limit, hold_limit, command_limit, stamp_limit}
 use Rattle.zy_base.specs.Order.{IsOrdered}

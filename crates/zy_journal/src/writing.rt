@@ -24,15 +24,9 @@ pub fn write_journal<K: Sink>(sink: &mut K, journal: &Journal) -> Result<(), Fai
     requires fits { IsJournal journal.now }
     ensures writes { Writes K.holds K.faults K.finishes sink.old sink.new result (journal_bytes journal.now) }
 {
-    if let Err(failed) = write_whole(sink, b"ZYGJRN1\n") {
-        return Err(failed);
-    }
-    if let Err(failed) = write_entries(sink, journal.entries()) {
-        return Err(failed);
-    }
-    if let Err(failed) = write_holds(sink, journal.holds()) {
-        return Err(failed);
-    }
+    write_whole(sink, b"ZYGJRN1\n")?;
+    write_entries(sink, journal.entries())?;
+    write_holds(sink, journal.holds())?;
     write_whole(sink, b"E")
 }
 
@@ -42,9 +36,7 @@ fn write_entries<K: Sink>(sink: &mut K, entries: Walk<'_>) -> Result<(), Failed>
 {
     let mut left = entries;
     while let Some(entry) = left.next() {
-        if let Err(failed) = write_entry(sink, entry) {
-            return Err(failed);
-        }
+        write_entry(sink, entry)?;
     }
     Ok(())
 }
@@ -54,9 +46,7 @@ fn write_holds<K: Sink>(sink: &mut K, holds: &[Hold]) -> Result<(), Failed>
         (flat_map hold_text holds.now) }
 {
     for hold in holds {
-        if let Err(failed) = write_hold(sink, hold) {
-            return Err(failed);
-        }
+        write_hold(sink, hold)?;
     }
     Ok(())
 }
@@ -74,12 +64,8 @@ fn write_entry<K: Sink>(sink: &mut K, entry: &Entry) -> Result<(), Failed>
     requires fits { IsEntry entry.now }
     ensures writes { Writes K.holds K.faults K.finishes sink.old sink.new result (entry_text entry.now) }
 {
-    if let Err(failed) = write_head(sink, entry) {
-        return Err(failed);
-    }
-    if let Err(failed) = write_call(sink, &entry.call) {
-        return Err(failed);
-    }
+    write_head(sink, entry)?;
+    write_call(sink, &entry.call)?;
     write_reply(sink, &entry.reply)
 }
 
@@ -100,9 +86,7 @@ fn write_call<K: Sink>(sink: &mut K, call: &Call) -> Result<(), Failed>
     requires fits { IsCall call.now }
     ensures writes { Writes K.holds K.faults K.finishes sink.old sink.new result (call_text call.now) }
 {
-    if let Err(failed) = write_start(sink, call.code(), call.key()) {
-        return Err(failed);
-    }
+    write_start(sink, call.code(), call.key())?;
     write_fields(sink, call.flags(), call.number(), call.value())
 }
 
@@ -110,12 +94,8 @@ fn write_reply<K: Sink>(sink: &mut K, reply: &CallReply) -> Result<(), Failed>
     requires fits { IsReply reply.now }
     ensures writes { Writes K.holds K.faults K.finishes sink.old sink.new result (reply_text reply.now) }
 {
-    if let Err(failed) = write_whole(sink, &[reply.code()]) {
-        return Err(failed);
-    }
-    if let Err(failed) = write_counts(sink, reply.counts()) {
-        return Err(failed);
-    }
+    write_whole(sink, &[reply.code()])?;
+    write_counts(sink, reply.counts())?;
     write_fields(sink, reply.flags(), reply.number(), reply.value())
 }
 
@@ -163,9 +143,7 @@ fn write_fields<K: Sink>(
     ensures writes { Writes K.holds K.faults K.finishes sink.old sink.new result
         (fields_text flags number (option_copied value.entry)) }
 {
-    if let Err(failed) = write_numbers(sink, flags, number) {
-        return Err(failed);
-    }
+    write_numbers(sink, flags, number)?;
     write_value(sink, value)
 }
 

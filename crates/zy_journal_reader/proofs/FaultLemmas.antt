@@ -37,7 +37,9 @@ use Rattle.zy_journal_reader.specs.Fields.{fault_in}
 use Rattle.zy_journal_reader.specs.Lasting.{lasting, is_broken}
 use Rattle.zy_journal_reader.specs.Standing.{StandsForJournal}
 use Rattle.zy_journal_reader.specs.Steps.{Progress, Step, start, refuses, lawful_byte, lawful_number, lawful_long, after_byte, after_four, after_eight, after_bytes, four, eight, bytes, taken, is_open, is_full, step, journal_limit}
-use Rattle.zy_journal_reader.specs.Verdict.{Verdict, read_from, ended, verdict, fault_of, is_good, journals, journal_in, IsReadable, AreBytes}
+use Rattle.zy_journal_reader.specs.Verdict.{Verdict, read_from, ended, verdict, fault_of, is_good, journals, journal_in, IsReadable}
+use Rattle.zy_read.specs.Bytes.{AreBytes}
+use Rattle.zy_read.proofs.ByteLemmas.{bytes_on}
 use Rattle.zy_journal_reader.specs.Verdict.Verdict.{Bad}
 use Rattle.zy_journal_reader.specs.LawfulFields.{last_one, number_text, range, EntryField, shape_of, before, IsLawful, IsLawfulUpTo, HoldField, before_in_hold, IsLawfulInHold, IsHoldUpTo}
 use Rattle.zy_journal_reader.specs.Faults.{IsBadMagic, IsBadEntry, IsBadHold, IsWrong}
@@ -46,7 +48,7 @@ use Rattle.zy_journal_reader.specs.LawfulFields.{HoldField as H}
 use Rattle.zy_journal_reader.proofs.CallLemmas.{fields_in, call_in, key_bytes, flags_bytes, number_bytes, call_is}
 use Rattle.zy_journal_reader.proofs.SoFar as SoFar
 use Rattle.zy_journal_reader.proofs.SoFar.{front, head, Kept, Parts, IsReadTo}
-use Rattle.zy_journal_reader.proofs.TestLemmas.{chosen, bytes_on, four_is, eight_is, four_small, eight_small}
+use Rattle.zy_journal_reader.proofs.TestLemmas.{chosen, four_is, eight_is, four_small, eight_small}
 use Rattle.zy_journal_reader.proofs.GoesLemmas.{between, below_is, most_is, stamp_is, shard_is, conn_is}
 use Rattle.zy_journal_reader.proofs.SpelledLemmas.{entry_with}
 use Rattle.zy_journal_reader.proofs.WholeLemmas.{nothing_kept, has_room, from_step, read_whole}

@@ -31,7 +31,9 @@ use Rattle.zy_journal_reader.specs.Fields.{fault_in, fresh}
 use Rattle.zy_journal_reader.specs.Lasting.{lasting}
 use Rattle.zy_journal_reader.specs.Standing.{StandsForJournal}
 use Rattle.zy_journal_reader.specs.Steps.{Progress, Step, start, refuses, lawful_byte, lawful_number, lawful_long, after_byte, after_four, after_eight, is_open, step, journal_limit}
-use Rattle.zy_journal_reader.specs.Verdict.{read_from, ended, verdict, is_good, journals, IsReadable, SpellsJournal, AreBytes}
+use Rattle.zy_journal_reader.specs.Verdict.{read_from, ended, verdict, is_good, journals, IsReadable, SpellsJournal}
+use Rattle.zy_read.specs.Bytes.{AreBytes}
+use Rattle.zy_read.proofs.ByteLemmas.{bytes_front}
 use Rattle.zy_journal_reader.specs.Verdict.Verdict.{Good, Bad}
 use Rattle.zy_journal_reader.specs.LawfulFields.{last_after, last_one, number_text, range, EntryField, shape_of, before, IsLawful, IsLawfulUpTo, HoldField, before_in_hold, IsLawfulInHold, IsHoldUpTo}
 use Rattle.zy_journal_reader.specs.Faults.{front_text, IsBadMagic, IsBadTag, IsBadEntry, IsBadHold, IsTrailing, IsWrong}
@@ -362,10 +364,6 @@ open_counts Nothing p text is read = cc
 open_counts (Broken fault) p text is read = cc
 open_counts due p text is read = read.count
 
-pub all_front : (x y : List ℕ) → AreBytes (x ++ y) → AreBytes x
-all_front [] y all = tt
-all_front (byte ∷ x) y all = (all.0, all_front x y all.1)
-
 trailing_bad : (text : List ℕ) (at : ℕ) → AreBytes text → IsTrailing text at → verdict text ≡ Bad (Form at)
 unfolding verdict_on reading_of StandsAs
 trailing_bad text at all has =
@@ -373,7 +371,7 @@ trailing_bad text at all has =
     let spells : SpellsJournal b has.journal = record { readable = has.readable; spelled = refl; short = omega (arith, has.place, has.within) } in
     let r : Reading Progress ⊤ = read_from start b in
     let due : r.last.due ≡ Nothing = good_nothing r.last.due r.last has.journal (spells_good b has.journal spells) in
-    let read : IsReadTo r.last.due r.last b = read_whole start [] b (all_front b (has.byte ∷ has.rest) (subst AreBytes has.whole all)) begun in
+    let read : IsReadTo r.last.due r.last b = read_whole start [] b (bytes_front b (has.byte ∷ has.rest) (subst AreBytes has.whole all)) begun in
     let parts : Parts Nothing r.last b = subst (λ (d : Due). IsReadTo d r.last b) due read in
     let place_is : Form r.last.at ≡ Form at = ap (λ (n : ℕ). Form n) (parts.count ∙ sym has.place) in
     ap verdict has.whole
@@ -392,7 +390,7 @@ unfolding verdict_on reading_of fault_met StandsAs
 too_long_bad text all has =
     let b : List ℕ = has.front in
     let r : Reading Progress ⊤ = read_from start b in
-    let cut : IsCut b journal_limit = bad_has b (Truncated journal_limit) (all_front b (has.byte ∷ has.rest) (subst AreBytes has.whole all)) has.cut in
+    let cut : IsCut b journal_limit = bad_has b (Truncated journal_limit) (bytes_front b (has.byte ∷ has.rest) (subst AreBytes has.whole all)) has.cut in
     let is : is_open r.last.due ≡ true = open_due r.last.due r.last cut.no_fault cut.no_journal in
     let ends : Bad (Truncated r.last.at) ≡ Bad (Truncated journal_limit) = sym (open_ends r.last.due r.last is) ∙ has.cut in
     let at_limit : r.last.at ≡ journal_limit = cc in

@@ -19,7 +19,7 @@ use Rattle.zy_journal_reader.specs.declared.due.NumberField.TheVariants.{Shard, 
 use Rattle.zy_journal_reader.specs.declared.due.LongField.TheVariants.{Stamp, Index, CallNumber, FoundUnique, ReplyNumber, Gets, Sets, Hits, Misses, Items}
 use Rattle.zy_journal_reader.specs.declared.due.BytesField.TheVariants.{Key, Value, FoundValue}
 use Rattle.zy_journal_reader.specs.Steps.{Progress, journal_limit}
-use Rattle.zy_journal_reader.specs.Verdict.{AreBytes}
+use Rattle.zy_read.specs.Bytes.{AreBytes}
 use Rattle.zy_journal_reader.specs.LawfulFields.{last_one}
 use Rattle.zy_journal_reader.proofs.CallLemmas.{fields_in, call_in, to_flags, to_number, to_value, KeyKnown, FlagsKnown, NumberKnown}
 

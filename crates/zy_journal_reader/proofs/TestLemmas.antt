@@ -1,5 +1,5 @@
 -- Tests, lists, numbers and texts that the lemmas on fields use.
-use Rattle.std.proofs.Common.{◌≡◌, ◌⊎◌, ℕ, ◌+◌, ◌<◌, ◌≤◌, ◌^◌, Bool, true, false, List, [], ◌∷◌, ◌++◌, suc, zero, get_or, length, refl, sym, ◌∙◌, ap, arith, append_assoc, length-append}
+use Rattle.std.proofs.Common.{◌≡◌, ◌⊎◌, ℕ, ◌+◌, ◌<◌, ◌≤◌, ◌^◌, Bool, true, false, List, [], ◌∷◌, ◌++◌, length, refl, sym, ◌∙◌, ap, arith, append_assoc, length-append}
 use Rattle.std.specs.Prelude.{◌==◌, ◌&&◌, ◌||◌, nat_lt, nat_le, if◌then◌else◌, Option, None, Some, flat_map}
 use Rattle.std.specs.List.{AllByRecursion}
 use Rattle.std.specs.Int.{to_be_bytes, from_be_bytes, w32, w64}
@@ -14,7 +14,8 @@ use Rattle.zy_journal.specs.Journal.{magic, entry_text, hold_text, IsEntry, IsHo
 use Rattle.zy_journal_reader.specs.declared.past.Past.{Past}
 use Rattle.zy_journal_reader.specs.Steps.{four, eight, bytes}
 use Rattle.zy_base.specs.Bounds.{FitsEntry}
-use Rattle.zy_journal_reader.specs.Verdict.{AreBytes}
+use Rattle.zy_read.specs.Bytes.{AreBytes}
+use Rattle.zy_read.proofs.ByteLemmas.{bytes_on, byte_at}
 use Rattle.zy_journal_reader.specs.LawfulFields.{last_after}
 use Rattle.zy_journal_reader.proofs.SoFar.{front, ComesAfter, stamp_of, shard_of, conn_of, Kept, IsField}
 
@@ -122,14 +123,6 @@ front_hold es hs h =
     ∙ ap (λ (l : List ℕ). magic ++ (flat_map entry_text es ++ l)) (sym more)
 
 -- ---- numbers
-
-pub bytes_on : (bytes : List ℕ) (byte : ℕ) → AreBytes bytes → byte < 256 → AreBytes (bytes ++ byte ∷ [])
-bytes_on bytes byte all small = all_on (λ b. b < 256) bytes byte all small
-
-pub byte_at : (bytes : List ℕ) → AreBytes bytes → (i : ℕ) → get_or bytes i 0 < 256
-byte_at [] all i = omega arith
-byte_at (x ∷ bytes) all zero = all.0
-byte_at (x ∷ bytes) all (suc i) = byte_at bytes all.1 i
 
 pub four_is : (field : List ℕ) (byte : ℕ) → IsField 3 field → byte < 256 → 3 ≤ length field → to_be_bytes w32 (from_be_bytes w32 (field ++ byte ∷ [])) ≡ field ++ byte ∷ []
 four_is field byte is small long =

@@ -22,10 +22,12 @@ use Rattle.zy_journal_reader.specs.declared.due.NumberField.{NumberField}
 use Rattle.zy_journal_reader.specs.declared.due.LongField.{LongField}
 use Rattle.zy_journal_reader.specs.declared.due.BytesField.{BytesField}
 use Rattle.zy_journal_reader.specs.Steps.{Progress, Step, start, lawful_byte, lawful_number, lawful_long, after_byte, four, eight, bytes, taken, is_open, is_full, step, journal_limit}
-use Rattle.zy_journal_reader.specs.Verdict.{read_from, ended, verdict, journal_in, SpellsJournal, AreBytes}
+use Rattle.zy_journal_reader.specs.Verdict.{read_from, ended, verdict, journal_in, SpellsJournal}
+use Rattle.zy_read.specs.Bytes.{AreBytes}
+use Rattle.zy_read.proofs.ByteLemmas.{bytes_on}
 use Rattle.zy_journal_reader.specs.Verdict.Verdict.{Good}
 use Rattle.zy_journal_reader.proofs.SoFar.{front, head, before, Kept, IsField, Parts, IsReadTo}
-use Rattle.zy_journal_reader.proofs.TestLemmas.{between_true, not_last, chosen, bytes_on, four_is, eight_is, four_small, eight_small, further, counted}
+use Rattle.zy_journal_reader.proofs.TestLemmas.{between_true, not_last, chosen, four_is, eight_is, four_small, eight_small, further, counted}
 use Rattle.zy_journal_reader.proofs.EndLemmas.{Ends, tag_on, code_on, key_length_on, reply_code_on}
 use Rattle.zy_journal_reader.proofs.NumberLemmas.{four_on, eight_on}
 use Rattle.zy_journal_reader.proofs.ContentLemmas.{content_on}

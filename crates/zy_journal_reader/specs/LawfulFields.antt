@@ -1,5 +1,5 @@
--- The fields of a journal that can be wrong, docs/FORMATS.md, "Journal": what comes before each in its entry or hold, and
--- which numbers are lawful there.
+-- The fields of a journal that can be wrong, docs/FORMATS.md, "Journal": what comes before each in its entry or hold,
+-- and which numbers are lawful there.
 use Rattle.std.specs.Prelude.{ℕ, ◌^◌, ◌<◌, ◌≤◌, List, [], ◌∷◌, ◌++◌, Option, None, Some, IsSome, ⊤}
 use Rattle.std.specs.Int.{to_be_bytes, w32, w64}
 use Rattle.zy_base.specs.declared.entry.Entry.{Entry}

@@ -1,7 +1,7 @@
 -- The verdict on a whole text as a journal: the journal that it spells, or its first fault. A text
 -- is read from its first byte to its last. That it is good exactly where it is a spelling, and bad
 -- exactly where it has a fault of specs/Faults.antt, are laws in src/laws.rt.
-use Rattle.std.specs.Prelude.{◌≡◌, ℕ, ◌<◌, ◌≤◌, Bool, true, false, List, length, Option, ⊤}
+use Rattle.std.specs.Prelude.{◌≡◌, ℕ, ◌≤◌, Bool, true, false, List, length, Option, ⊤}
 use Rattle.std.specs.List.{AllByRecursion}
 use Rattle.zy_base.specs.declared.file_fault.FileFault.{FileFault}
 use Rattle.zy_base.specs.declared.file_fault.FileFault.TheVariants.{Truncated}
@@ -66,10 +66,6 @@ pub record SpellsJournal (text : List ℕ) (journal : Journal) : Type 0 where
   pub readable : IsReadable journal
   pub spelled : text ≡ journal_bytes journal
   pub short : length text ≤ journal_limit
-
--- each is a byte
-abbrev pub AreBytes : List ℕ → Type 0
-AreBytes text = AllByRecursion (λ byte. byte < 256) text
 
 -- ---- for proofs
 

@@ -8,7 +8,8 @@ ghost use Rattle.zy_journal.specs.declared.journal.Journal.{Journal};
 ghost use Rattle.zy_journal.specs.Journal.{journal_bytes};
 ghost use Rattle.zy_journal.specs.Worked.{worked, worked_bytes};
 ghost use Rattle.zy_journal_reader.specs.Steps.{Progress, journal_limit};
-ghost use Rattle.zy_journal_reader.specs.Verdict.{journals, verdict, fault_of, IsReadable, SpellsJournal, AreBytes};
+ghost use Rattle.zy_journal_reader.specs.Verdict.{journals, verdict, fault_of, IsReadable, SpellsJournal};
+ghost use Rattle.zy_read.specs.Bytes.{AreBytes};
 ghost use Rattle.zy_journal_reader.specs.Verdict.Verdict.{Good, Bad};
 ghost use Rattle.zy_journal_reader.specs.Faults.{HasFault};
 ghost use Rattle.zy_journal_reader.specs.Standing.{StandsForJournal};
@@ -94,12 +95,13 @@ pub fn worked_entries()
     ensures connection { verdict (with_magic (codes "J\0\0\0\0\0\0\0\u{1}\0\0\0\0\0\0\u{10}\0")) ≡ Bad (Form 21) }
     ensures falling { verdict (behind_entry (codes "J\0\0\0\0\0\0\0\u{1}")) ≡ Bad (Form 40) }
     ensures same { verdict (behind_entry (codes "J\0\0\0\0\0\0\0\u{2}\0\0\0\u{3}")) ≡ Bad (Form 48) }
-    ensures call { verdict (with_call (codes "\r")) ≡ Bad (Form 37) }
+    ensures call { verdict (with_call (codes "ÿ")) ≡ Bad (Form 37) }
     ensures no_key { verdict (with_call (codes "\u{1}\0")) ≡ Bad (Form 38) }
     ensures key { verdict (with_call (codes "\u{1}û")) ≡ Bad (Form 38) }
     ensures value { verdict (with_call (codes "\u{2}\u{1}a\0\0\0\0\0\u{10}\0\u{1}")) ≡ Bad (Form 44) }
-    ensures reply { verdict (with_call (codes "\u{1}\u{1}a\r")) ≡ Bad (Form 40) }
+    ensures reply { verdict (with_call (codes "\u{1}\u{1}aÿ")) ≡ Bad (Form 40) }
     ensures tally { verdict (with_call (codes "\u{c}\u{c}\0\0\0\0\0\0\0\u{2}")) ≡ Bad (Truncated 47) }
-    ensures found { verdict (with_call (codes "\u{1}\u{1}a\u{2}\0\0\0\0\0\0\0\0\0\0\0\0\0\u{10}\0\u{1}")) ≡ Bad (Form 53) }
+    ensures found { verdict (with_call (codes "\u{1}\u{1}a\u{2}\0\0\0\0\0\0\0\0\0\0\0\0\0\u{10}\0\u{1}"))
+        ≡ Bad (Form 53) }
     ensures cut { verdict (with_call (codes "\u{1}úa")) ≡ Bad (Truncated 40) }
 {}

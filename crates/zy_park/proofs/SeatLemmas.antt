@@ -1,13 +1,12 @@
 -- Lists of seats and of parkers, of which one was changed or added.
-use Rattle.std.proofs.Common.{◌≡◌, ◌≢◌, ℕ, zero, suc, ◌+◌, ◌<◌, ◌≤◌, ◌==◌, Bool, true, false, List, [], ◌∷◌, ◌++◌, set, map, length, Option, Some, None, slice_get, if◌then◌else◌, refl, sym, ap, ◌∙◌, arith, take, get_or}
-use Rattle.std.proofs.lemmas.List.{map-append, length-map}
-use Rattle.std.proofs.Math.Seq.{take-suc}
+use Rattle.std.proofs.Common.{◌≡◌, ◌≢◌, ℕ, zero, suc, ◌+◌, ◌≤◌, ◌==◌, Bool, true, false, List, [], ◌∷◌, ◌++◌, set, map, length, Option, Some, None, slice_get, if◌then◌else◌, refl, sym, ap, ◌∙◌, arith}
+use Rattle.std.proofs.lemmas.List.{length-map}
 use Rattle.zy_base.proofs.SetLemmas.{slice_get-set_other}
 use Rattle.std.specs.Int.{bit_at}
 use Rattle.atomic_table.specs.Seated.{TableId}
 use Rattle.zy_park.specs.declared.view.View.{View}
-use Rattle.zy_park.specs.Token.{rings, takes, unrung}
-use Rattle.zy_park.specs.Bell.{Seated, seated, new_seat, tables_of, views_of, IsParker, AreParkers}
+use Rattle.zy_park.specs.Token.{rings, unrung}
+use Rattle.zy_park.specs.Bell.{Seated, seated, new_seat, tables_of, views_of, AreParkers}
 use Rattle.zy_park.specs.Pass.{Rooted, new_root, IsFree, GaveNone, change_at, rung_by}
 
 -- one seat learned of a step of its own
@@ -77,10 +76,6 @@ new_tables (id ∷ ids) = ap (λ ts. id ∷ ts) (new_tables ids)
 pub new_views : (ids : List TableId) → views_of (map new_seat ids) ≡ map (λ (id : TableId). unrung) ids
 new_views [] = refl
 new_views (id ∷ ids) = ap (λ vs. unrung ∷ vs) (new_views ids)
-
--- a seat at one further bell
-pub new_more : (ids : List TableId) (i : ℕ) (d : TableId) → i < length ids → map new_seat (take i ids) ++ new_seat (get_or ids i d) ∷ [] ≡ map new_seat (take (i + 1) ids)
-new_more ids i d lt = let next : i + 1 ≡ suc i = omega arith in rw next (sym (ap (map new_seat) (take-suc ids i d lt) ∙ map-append new_seat (take i ids) (get_or ids i d ∷ [])))
 
 -- ---- parkers
 

@@ -4,7 +4,7 @@ use mathlib.Core.Option.{some, some-injective, some-ne-none}
 use lib.ListN.{get_elem?}
 use Rattle.crossbeam_utils.specs.Register.{Admits, Turns, TurnsAt}
 use Rattle.zy_park.specs.declared.view.View.{View}
-use Rattle.zy_park.specs.Token.{worth, unrung, rings, takes, puts, takes_from, rung_in, taken_in, TokenRule}
+use Rattle.zy_park.specs.Token.{unrung, rings, takes, puts, takes_from, rung_in, taken_in, TokenRule}
 
 -- one seat's view was changed
 rung_set : (vs : List View) (j : ℕ) (v w : View) → get_elem? vs j ≡ some v → rung_in (set vs j w) + v.rung ≡ rung_in vs + w.rung
@@ -26,18 +26,14 @@ taken_end : (vs : List View) (v : View) → taken_in (vs ++ v ∷ []) ≡ taken_
 taken_end [] v = omega arith
 taken_end (x ∷ xs) v = let r = taken_end xs v in omega arith
 
-one_at_most : (b : Bool) → worth b ≤ 1
-one_at_most true = omega arith
-one_at_most false = omega arith
-
 pub enters : Admits TokenRule unrung
 enters x vs h = let a = rung_end vs unrung in let b = taken_end vs unrung in omega arith
 
 pub rings_kept : (id : ℕ) (v : View) → Turns TokenRule id v (λ _. true) puts
 rings_kept id v x vs h at = let a = rung_set vs id v (rings v) at in let b = taken_set vs id v (rings v) at in (rings v, omega arith, refl)
 
-pub takes_kept : (id : ℕ) (v : View) → TurnsAt TokenRule id v true false takes_from
-takes_kept id v vs h at = let a = rung_set vs id v (takes v) at in let b = taken_set vs id v (takes v) at in (takes v, omega arith, refl)
+pub takes_kept : (number id : ℕ) (v : View) → TurnsAt TokenRule id v true false (takes_from number)
+takes_kept number id v vs h at = let w = takes number v in let a = rung_set vs id v w at in let b = taken_set vs id v w at in (w, omega arith, refl)
 
 -- ---- what the rule says
 

@@ -1,5 +1,5 @@
 -- What contracts see of the bells, of the root, and of the passes that it gave.
-use Rattle.std.specs.Prelude.{◌≡◌, ℕ, zero, suc, ◌+◌, ◌≤◌, ◌<◌, ◌==◌, Bool, true, false, List, [], ◌∷◌, length, map, Some, slice_get, if◌then◌else◌}
+use Rattle.std.specs.Prelude.{◌≡◌, ℕ, zero, suc, ◌+◌, ◌<◌, ◌==◌, Bool, false, List, [], ◌∷◌, length, map, Some, slice_get, if◌then◌else◌}
 use Rattle.std.specs.Int.{bit_at}
 use Rattle.atomic_table.specs.Seated.{TableId}
 use Rattle.zy_park.specs.declared.view.View.{View}
@@ -59,9 +59,9 @@ ringing core p = passed p.bells p.core (change_at rings core p.views)
 abbrev pub ringing_from : ℕ → Rooted → Rooted
 ringing_from core r = rooted r.bells r.given (change_at rings core r.views)
 
--- the token of the pass's core was taken
-abbrev pub resting : Passed → Passed
-resting p = passed p.bells p.core (change_at takes p.core p.views)
+-- the token of the pass's core was taken in a rest with this number
+abbrev pub resting : ℕ → Passed → Passed
+resting number p = passed p.bells p.core (change_at (takes number) p.core p.views)
 
 -- the views from this core on, after the token of each core was put whose bit is 1 in the word
 abbrev pub rung_by : ℕ → ℕ → List View → List View

@@ -5,12 +5,12 @@ ghost use Rattle.zy_park.specs.Pass.{new_root, rooted, IsFree, GaveNone, new_pas
 mod making;
 mod ringing;
 
-use crate::bell::Bell;
+use crate::bell::{Bell, Numbered};
 use crate::bells::making::{add_all, enter_each, take_sleeper};
 use crate::bells::ringing::{rest_at, ring_at, ring_each_at};
 use crate::pass::{BellPass, BellRoot};
 use std::alloc::Global;
-use std::marker::Model;
+use std::marker::{Brand, Model};
 use std::sync::Wait;
 use zy_base::NoMemory;
 
@@ -108,12 +108,21 @@ impl Bells {
     }
 
     /// Waits until the token of the pass's core is there, and takes it. It returns only with the
-    /// token taken.
+    /// token taken. The pass keeps the number that the caller's contract gives this rest.
     pub fn rest<R: Wait>(&self, rt: &R, pass: &mut BellPass)
+        ghost number: { ℕ }
         requires bells { pass.old.bells ≡ self.now }
-        ensures value { pass.new ≡ resting pass.old }
+        ensures value { pass.new ≡ resting number pass.old }
     {
-        rest_at(rt, &pass.sleeper, &mut pass.seats, pass.core);
+        self.rest_as::<Brand, R>(rt, pass);
+    }
+
+    // The same, where the type has the number.
+    fn rest_as<J: Numbered, R: Wait>(&self, rt: &R, pass: &mut BellPass)
+        requires bells { pass.old.bells ≡ self.now }
+        ensures value { pass.new ≡ resting J.number pass.old }
+    {
+        rest_at::<J, R>(rt, &pass.sleeper, &mut pass.seats, pass.core);
     }
 
     /// The number of cores.

@@ -6,7 +6,9 @@ use Rattle.std.specs.Int.{to_be_bytes, w32}
 use Rattle.std.proofs.lemmas.Bool.Decides.{nat_tests}
 use Rattle.zy_capture.specs.declared.record.Record.{Record}
 use Rattle.zy_capture.specs.declared.record.Record.TheVariants as Kinds
-use Rattle.zy_capture.specs.Capture.{AreBytes, magic, spelled, spelling, segment_limit}
+use Rattle.zy_capture.specs.Capture.{magic, spelled, spelling, segment_limit}
+use Rattle.zy_read.specs.Bytes.{AreBytes}
+use Rattle.zy_read.proofs.ByteLemmas.{bytes_append, bytes_take, bytes_drop}
 use Rattle.zy_pcap.specs.declared.pcap_fault.PcapFault.{PcapFault}
 use Rattle.zy_pcap.specs.declared.pcap_fault.PcapFault.TheVariants as Faults
 use Rattle.zy_pcap.specs.declared.due.Due.{Due}
@@ -29,22 +31,8 @@ use Rattle.zy_pcap.proofs.FitLemmas.{chosen}
 
 -- ---- lists
 
-join : (xs ys : List ℕ) → AreBytes xs → AreBytes ys → AreBytes (xs ++ ys)
-join [] ys one two = two
-join (x ∷ xs) ys one two = (one.0, join xs ys one.1 two)
-
-taken_small : (n : ℕ) (xs : List ℕ) → AreBytes xs → AreBytes (take n xs)
-taken_small zero xs small = tt
-taken_small (suc n) [] small = tt
-taken_small (suc n) (x ∷ xs) small = (small.0, taken_small n xs small.1)
-
-dropped_small : (n : ℕ) (xs : List ℕ) → AreBytes xs → AreBytes (drop n xs)
-dropped_small zero xs small = small
-dropped_small (suc n) [] small = tt
-dropped_small (suc n) (x ∷ xs) small = dropped_small n xs small.1
-
 range_small : (xs : List ℕ) (from to : ℕ) → AreBytes xs → AreBytes (slice_range xs from to)
-range_small xs from to small = taken_small (to - from) (drop from xs) (dropped_small from xs small)
+range_small xs from to small = bytes_take (to - from) (drop from xs) (bytes_drop from xs small)
 
 -- ---- packets
 
@@ -104,7 +92,7 @@ byte_small (Dues.Original left size) p byte low small =
     chosen HasBytes (nat_lt 1 left) (Goes (then_due p (Dues.Original (left - 1) size))) (if size == 0 then Ends [] else Goes (then_due p (Dues.Frame size)))
     (λ more. tt) (λ last. chosen HasBytes (size == 0) (Ends []) (Goes (then_due p (Dues.Frame size))) (λ none. tt) (λ some. tt))
 byte_small (Dues.Frame size) p byte low small =
-    let next : AreBytes (p.frame ++ byte ∷ []) = join p.frame (byte ∷ []) small (low, tt) in
+    let next : AreBytes (p.frame ++ byte ∷ []) = bytes_append p.frame (byte ∷ []) small (low, tt) in
     chosen HasBytes (nat_lt (length p.frame + 1) size) (Goes (grown_by p (byte ∷ []))) (Ends (p.frame ++ byte ∷ [])) (λ more. next) (λ last. next)
 byte_small (Dues.Broken fault) p byte low small = small
 
@@ -205,7 +193,7 @@ number_bytes n = (omega arith, (omega arith, (omega arith, (omega arith, tt))))
 
 segment_small : (conn : ℕ) (part : List ℕ) → AreBytes part → AreBytes (spelled (Kinds.Segment (record { conn = conn; bytes = part })))
 segment_small conn part small =
-    (omega arith, join (to_be_bytes w32 conn) (to_be_bytes w32 (length part) ++ part) (number_bytes conn) (join (to_be_bytes w32 (length part)) part (number_bytes (length part)) small))
+    (omega arith, bytes_append (to_be_bytes w32 conn) (to_be_bytes w32 (length part) ++ part) (number_bytes conn) (bytes_append (to_be_bytes w32 (length part)) part (number_bytes (length part)) small))
 
 close_small : (conn : ℕ) → AreBytes (spelled (Kinds.Close conn))
 close_small conn = (omega arith, number_bytes conn)
@@ -216,11 +204,11 @@ segments_small conn (suc most) [] small = tt
 segments_small conn (suc most) (byte ∷ bytes) small =
     let part : List ℕ = take segment_limit (byte ∷ bytes) in
     let rest : List ℕ = drop segment_limit (byte ∷ bytes) in
-    join (spelled (Kinds.Segment (record { conn = conn; bytes = part }))) (flat_map spelled (segments_of conn most rest))
-    (segment_small conn part (taken_small segment_limit (byte ∷ bytes) small)) (segments_small conn most rest (dropped_small segment_limit (byte ∷ bytes) small))
+    bytes_append (spelled (Kinds.Segment (record { conn = conn; bytes = part }))) (flat_map spelled (segments_of conn most rest))
+    (segment_small conn part (bytes_take segment_limit (byte ∷ bytes) small)) (segments_small conn most rest (bytes_drop segment_limit (byte ∷ bytes) small))
 
 flat_small : (xs ys : List Record) → AreBytes (flat_map spelled xs) → AreBytes (flat_map spelled ys) → AreBytes (flat_map spelled (xs ++ ys))
-flat_small xs ys one two = rw (flat_append xs ys) (join (flat_map spelled xs) (flat_map spelled ys) one two)
+flat_small xs ys one two = rw (flat_append xs ys) (bytes_append (flat_map spelled xs) (flat_map spelled ys) one two)
 
 session_small : (conn : ℕ) (session : Session) → packets_cost others_in session.packets ≤ 0 → AreBytes (flat_map spelled (session_records conn (stream session)))
 session_small conn session none =
@@ -232,7 +220,7 @@ connection_small conn (session ∷ []) none = session_small conn session (omega 
 connection_small conn (session ∷ next ∷ sessions) none =
     let rest : List Record = connection_records conn (map stream (next ∷ sessions)) in
     flat_small (session_records conn (stream session)) (Kinds.Close conn ∷ rest) (session_small conn session (omega (arith, none)))
-    (join (spelled (Kinds.Close conn)) (flat_map spelled rest) (close_small conn) (connection_small conn (next ∷ sessions) (omega (arith, none))))
+    (bytes_append (spelled (Kinds.Close conn)) (flat_map spelled rest) (close_small conn) (connection_small conn (next ∷ sessions) (omega (arith, none))))
 
 records_small : (conn : ℕ) (flows : Flows) → flows_cost 0 others_in flows ≤ 0 → AreBytes (flat_map spelled (records_from conn (streams_of flows)))
 records_small conn [] none = tt
@@ -245,8 +233,8 @@ magic_small = (omega arith, (omega arith, (omega arith, (omega arith, (omega ari
 spelling_small : (count : ℕ) (items : List Record) → AreBytes (flat_map spelled items) → AreBytes (spelling 2 count items)
 unfolding spelling
 spelling_small count items small =
-    join (magic 2) (to_be_bytes w32 count ++ (flat_map spelled items ++ 69 ∷ [])) magic_small
-    (join (to_be_bytes w32 count) (flat_map spelled items ++ 69 ∷ []) (number_bytes count) (join (flat_map spelled items) (69 ∷ []) small (omega arith, tt)))
+    bytes_append (magic 2) (to_be_bytes w32 count ++ (flat_map spelled items ++ 69 ∷ [])) magic_small
+    (bytes_append (to_be_bytes w32 count) (flat_map spelled items ++ 69 ∷ []) (number_bytes count) (bytes_append (flat_map spelled items) (69 ∷ []) small (omega arith, tt)))
 
 made_small : (given : List Packet) → AreOfBytes given → AreBytes (pcap_capture given)
 unfolding capture_of

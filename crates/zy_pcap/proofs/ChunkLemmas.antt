@@ -5,7 +5,7 @@ use Rattle.std.specs.Int.{bit_at, w64}
 use Rattle.std.proofs.lemmas.Bool.{cases_eq}
 use Rattle.std.proofs.lemmas.Bool.Decides.{nat_tests}
 use Rattle.std.proofs.lemmas.List.{get_or-set_same, get_or-set_other}
-use Rattle.std.proofs.lemmas.Nat.Bits.{bit_at-zero, bit_at_set_same, bit_at_set_other, bit_at-lt, bit_at_above}
+use Rattle.std.proofs.lemmas.Nat.Bits.{bit_at-zero, bit_at_set_same, bit_at_set_other, bit_at_above}
 use Rattle.std.proofs.lemmas.Nat.{pow_pos}
 use Rattle.std.proofs.Math.Nat.{div-lt_iff_lt-mul}
 use Rattle.zy_pcap.specs.declared.chunk.Chunk.{Chunk}
@@ -33,14 +33,6 @@ put_clear chunk place byte at within size clear =
     elim (cases_eq at place) [
       | inl same ↦ rw (same, bit_at_set_same w64 chunk.have place within, get_or-set_same chunk.bytes place byte 0 (omega arith), clear) (grind (arith, nat_tests))
       | inr other ↦ rw (bit_at_set_other w64 chunk.have place within at other, get_or-set_other chunk.bytes place at byte 0 other) (grind (arith, nat_tests, first_none (byte_in chunk at)))
-    ]
-
--- there was a byte
-pub put_there : (chunk : Chunk) (place byte at : ℕ) → (bit_at chunk.have place ≡ 0 → ⊥) → byte_in chunk at ≡ first_of (byte_in chunk at) (alone place byte at)
-put_there chunk place byte at there =
-    elim (cases_eq at place) [
-      | inl same ↦ (let one : bit_at chunk.have place ≡ 1 = omega (arith, there, bit_at-lt chunk.have place) in rw (same, one) refl)
-      | inr other ↦ grind (arith, nat_tests, first_none (byte_in chunk at))
     ]
 
 -- ---- several bytes

@@ -1,10 +1,10 @@
 -- Copies of bytes change no stream, and neither does the order of two packets that do not contradict each other.
-use Rattle.std.proofs.Common.{◌≡◌, ℕ, List, [], ◌∷◌, ◌++◌, refl, sym, ap, ◌∙◌, append_assoc}
+use Rattle.std.proofs.Common.{◌≡◌, ℕ, List, [], ◌∷◌, ◌++◌, refl, sym, ap, ◌∙◌}
 use Rattle.std.specs.Prelude.{Option, Some, None, IsSome}
 use Rattle.zy_pcap.specs.Packet.{Packet}
 use Rattle.zy_pcap.specs.Session.{byte_of, byte_at, first_of}
 use Rattle.zy_pcap.specs.Copies.{stream_of, IsCovered, Agree}
-use Rattle.zy_pcap.proofs.ChunkLemmas.{first_none, first_assoc}
+use Rattle.zy_pcap.proofs.ChunkLemmas.{first_assoc}
 use Rattle.zy_pcap.proofs.StreamLemmas.{same_longest}
 
 -- the byte of some packets and then others

@@ -4,7 +4,7 @@ use Rattle.std.specs.Prelude.{Option, Some, None, Bool, true, false, ifâ—Œthenâ—
 use Rattle.std.specs.List.{AllByRecursion}
 use Rattle.std.proofs.lemmas.Bool.{cases_eq}
 use Rattle.std.proofs.lemmas.Bool.Decides.{nat_tests}
-use Rattle.zy_capture.specs.Capture.{AreBytes}
+use Rattle.zy_read.specs.Bytes.{AreBytes}
 use Rattle.zy_pcap.specs.Packet.{Packet}
 use Rattle.zy_pcap.specs.Session.{offset, byte_from, byte_of, byte_at, first_of, longest_from, longest}
 use Rattle.zy_pcap.specs.Sizes.{payload_bytes}

@@ -6,7 +6,7 @@ use Rattle.std.proofs.lemmas.Bool.Decides.{nat_tests}
 use Rattle.zy_pcap.specs.declared.due.Due.{Due}
 use Rattle.zy_pcap.specs.declared.due.Due.TheVariants as Dues
 use Rattle.zy_pcap.specs.declared.kept_flow.KeptFlow.{KeptFlow}
-use Rattle.zy_pcap.specs.Steps.{Place, Move, move, taken, framed, grown_by, is_full, file_limit}
+use Rattle.zy_pcap.specs.Steps.{Place, move, grown_by, is_full, file_limit}
 use Rattle.zy_pcap.specs.Steps.Move.{Goes}
 use Rattle.zy_pcap.specs.Moves.{room_in, run_room}
 use Rattle.zy_pcap.specs.Flow.{flows_of}

@@ -1,18 +1,18 @@
 -- The capture of recorded packets is one: its count is that of connections that there may be, and its records are lawful.
-use Rattle.std.proofs.Common.{◌≡◌, ℕ, zero, suc, ◌+◌, ◌-◌, ◌*◌, ◌<◌, ◌≤◌, List, [], ◌∷◌, ◌++◌, length, take, drop, map, replicate, length-append, refl, sym, ap, ◌∙◌, subst, inr, inl, arith}
+use Rattle.std.proofs.Common.{◌≡◌, ℕ, zero, suc, ◌+◌, ◌-◌, ◌*◌, ◌<◌, ◌≤◌, List, [], ◌∷◌, ◌++◌, length, drop, replicate, length-append, refl, ap, ◌∙◌, inr, inl, arith}
 use Rattle.std.specs.Prelude.{Option, Some, None, Bool, true, false, nat_lt, slice_index_or}
-use Rattle.std.specs.List.{AllByRecursion, slice_set}
+use Rattle.std.specs.List.{AllByRecursion}
 use Rattle.std.proofs.lemmas.Bool.{cases_lt}
 use Rattle.std.proofs.lemmas.Bool.Decides.{nat_tests}
 use Rattle.std.proofs.lemmas.List.{length-take, length-map, length-set, length-replicate}
 use Rattle.zy_capture.specs.declared.record.Record.{Record}
 use Rattle.zy_capture.specs.declared.record.Record.TheVariants as Kinds
-use Rattle.zy_capture.specs.Capture.{IsRecordOf, IsCapture, Spells, segment_limit, capture_limit, spelling}
+use Rattle.zy_capture.specs.Capture.{IsRecordOf, Spells, segment_limit, capture_limit}
 use Rattle.zy_pcap.specs.declared.slot.Slot.{Slot}
 use Rattle.zy_pcap.specs.declared.slot.Slot.TheVariants.{Known, New, Full}
 use Rattle.zy_pcap.specs.Packet.{Packet}
 use Rattle.zy_pcap.specs.Kept.{IsNumber}
-use Rattle.zy_pcap.specs.Flow.{Flow, Flows, Keys, group_of, is_same, slot_from, slot_of, keys_of, put_at, grown, joined_at, joined, flow_at, sessions_in, flows_after, flows_of, streams_of, streams_in}
+use Rattle.zy_pcap.specs.Flow.{Flows, Keys, group_of, is_same, slot_from, slot_of, keys_of, put_at, grown, joined_at, joined, flow_at, sessions_in, flows_after, flows_of, streams_of, streams_in}
 use Rattle.zy_pcap.specs.Made.{segments_of, session_records, connection_records, records_from, capture_of, pcap_capture}
 
 -- ---- connection numbers

@@ -8,7 +8,7 @@ use Rattle.std.proofs.lemmas.Bool.Decides.{nat_tests}
 use Rattle.std.proofs.lemmas.List.{get_or-drop, get_or_append_left, get_or-append_right, length-append, length-drop}
 use Rattle.zy_pcap.specs.declared.chunk.Chunk.{Chunk}
 use Rattle.zy_pcap.specs.Session.{first_of}
-use Rattle.zy_pcap.specs.Chunk.{byte_in, byte_within, held, held_in, covered, HoldsSame, HoldsBoth, AreThere, HoldsFrom, Held, byte_held}
+use Rattle.zy_pcap.specs.Chunk.{byte_in, held, held_in, covered, HoldsSame, HoldsBoth, AreThere, HoldsFrom, Held, byte_held}
 use Rattle.zy_pcap.proofs.ChunkLemmas.{first_none, first_assoc}
 use Rattle.zy_pcap.proofs.CoverLemmas.{covered_in, covered_above}
 
@@ -196,9 +196,6 @@ pub done_within : (chunks : BTreeMap ℕ Chunk) (chunk : Chunk) (number end : �
 done_within chunks chunk number end some is found part none at above here =
     let found_here : get nat_cmp chunks (at / 64) ≡ Some chunk = rw here found in
     part_none chunks chunk at found_here (none (at % 64) (omega (arith, some, is, part, above, here)))
-
-pub done_at_end : (chunks : BTreeMap ℕ Chunk) (number end : ℕ) → 0 < end → number ≡ (end - 1) / 64 → end % 64 ≡ 0 → (at : ℕ) → end ≤ at → at / 64 ≡ number → held chunks at ≡ None
-done_at_end chunks number end some is whole at above here = absurd (omega (arith, some, is, whole, above, here))
 
 at_other : (number q : ℕ) → (q ≡ number → ⊥) → is_at (nat_cmp number) q ≡ false
 at_other number q other = grind (arith, nat_tests)

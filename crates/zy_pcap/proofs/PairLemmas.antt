@@ -1,5 +1,5 @@
 -- Lists whose elements belong together one by one.
-use Rattle.std.proofs.Common.{◌≡◌, ℕ, zero, suc, ◌+◌, List, [], ◌∷◌, ◌++◌, length, set, replicate, refl, ap, ◌∙◌, add-one}
+use Rattle.std.proofs.Common.{◌≡◌, ℕ, zero, suc, List, [], ◌∷◌, ◌++◌, length, set, refl, ap}
 use Rattle.std.specs.Prelude.{slice_get, slice_set}
 use Rattle.zy_pcap.specs.Pairs.{BothOrNone, AllPairs}
 
@@ -28,12 +28,3 @@ pairs_append R [] more [] others pairs rest = rest
 pairs_append R [] more (b ∷ ys) others pairs rest = absurd pairs
 pairs_append R (a ∷ xs) more [] others pairs rest = absurd pairs
 pairs_append R (a ∷ xs) more (b ∷ ys) others pairs rest = (pairs.0, pairs_append R xs more ys others pairs.1 rest)
-
--- ---- lists with something at a place
-
-replicate_last : {X : Type 0} (count : ℕ) (x : X) → replicate (suc count) x ≡ replicate count x ++ x ∷ []
-replicate_last zero x = refl
-replicate_last (suc count) x = ap (λ xs. x ∷ xs) (replicate_last count x)
-
-pub replicate_more : {X : Type 0} (count : ℕ) (x : X) → replicate (count + 1) x ≡ replicate count x ++ x ∷ []
-replicate_more count x = ap (λ n. replicate n x) (add-one count) ∙ replicate_last count x

@@ -8,19 +8,15 @@ use Rattle.zy_capture.specs.declared.record.Record.{Record}
 use Rattle.zy_capture.specs.declared.record.Record.TheVariants as Kinds
 use Rattle.zy_capture.specs.Capture.{segment_limit, magic, spelled, spelling}
 use Rattle.zy_capture.specs.Replies.{numbered_from}
-use Rattle.zy_pcap.specs.declared.kept_session.KeptSession.{KeptSession}
 use Rattle.zy_pcap.specs.declared.kept_flow.KeptFlow.{KeptFlow}
 use Rattle.zy_pcap.specs.Session.{longest_from, longest}
 use Rattle.zy_pcap.specs.Made.{capture_of, segments_of, session_records, connection_records, records_from}
 use Rattle.zy_pcap.specs.Streams.{kept_stream, streams_by, kept_streams}
-use Rattle.zy_pcap.specs.Texts.{start_text, close_text, head_text, segment_text, stream_text, session_text, kept_text, kept_connection}
+use Rattle.zy_pcap.specs.Texts.{start_text, close_text, head_text, segment_text, stream_text, session_text, kept_connection}
 use Rattle.zy_pcap.proofs.StreamLemmas.{streams_length}
 use Rattle.zy_pcap.proofs.RunLemmas.{few_from, longer, nothing_there, Segment, segment_taken}
 
 -- ---- segments
-
-fewer : (size most : ℕ) → size ≤ suc most → 0 < size → size - segment_limit ≤ most
-fewer size most within some = omega (arith, within, some)
 
 -- how many segments there may be at most doesn't matter
 enough : (conn m n : ℕ) (bytes : List ℕ) → length bytes ≤ m → length bytes ≤ n → segments_of conn m bytes ≡ segments_of conn n bytes

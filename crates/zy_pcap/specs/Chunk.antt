@@ -1,6 +1,7 @@
--- Bytes that are kept by their offsets: the first ones in a row, and others in chunks of 64. No public clause cites this
--- module.
-use Rattle.std.specs.Prelude.{◌≡◌, ℕ, ◌+◌, ◌-◌, ◌/◌, ◌%◌, ◌<◌, ◌≤◌, ◌==◌, nat_le, nat_lt, if◌then◌else◌, ◌&&◌, List, length, Option, None, Some, IsSome, slice_index}
+-- Bytes that are kept by their offsets: the first ones in a row, and others in chunks of 64. No public clause cites
+-- this module.
+use Rattle.std.specs.Prelude.{◌≡◌, ℕ, ◌+◌, ◌-◌, ◌/◌, ◌%◌, ◌<◌, ◌≤◌, ◌==◌, nat_le, nat_lt, if◌then◌else◌, ◌&&◌, List}
+use Rattle.std.specs.Prelude.{length, Option, None, Some, IsSome, slice_index}
 use Rattle.std.specs.Int.{bit_at}
 use Rattle.std.specs.BTreeMap.{BTreeMap, get, is_at}
 use Rattle.std.specs.Map.{lookup}

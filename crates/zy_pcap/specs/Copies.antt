@@ -1,6 +1,6 @@
--- What the stream of a session does not depend on: copies of bytes, and the order of packets that do not contradict each
--- other.
-use Rattle.std.specs.Prelude.{◌≡◌, ℕ, List, [], ◌∷◌, ◌++◌, Some, IsSome}
+-- What the stream of a session does not depend on: copies of bytes, and the order of packets that do not contradict
+-- each other.
+use Rattle.std.specs.Prelude.{◌≡◌, ℕ, List, Some, IsSome}
 use Rattle.zy_pcap.specs.Packet.{Packet}
 use Rattle.zy_pcap.specs.Session.{byte_of, byte_at, longest}
 

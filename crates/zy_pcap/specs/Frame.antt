@@ -1,7 +1,8 @@
 -- The meaning of a frame: RFC 894, RFC 791 and RFC 9293, the headers of Ethernet, IPv4 and TCP,
 -- docs/FORMATS.md, "Recorded packets". The checks are made in the order in which they are listed
 -- here.
-use Rattle.std.specs.Prelude.{ℕ, ◌+◌, ◌-◌, ◌*◌, ◌/◌, ◌%◌, ◌^◌, ◌==◌, nat_lt, if◌then◌else◌, Bool, not, ◌&&◌, List, [], ◌∷◌, ◌++◌, length, take, drop, slice_index}
+use Rattle.std.specs.Prelude.{ℕ, ◌+◌, ◌-◌, ◌*◌, ◌/◌, ◌%◌, ◌^◌, ◌==◌, nat_lt, if◌then◌else◌, Bool, not, ◌&&◌, List, []}
+use Rattle.std.specs.Prelude.{◌∷◌, ◌++◌, length, take, drop, slice_index}
 use Rattle.std.specs.Int.{from_be_bytes, w16, w32}
 use Rattle.zy_pcap.specs.declared.pcap_fault.PcapFault.TheVariants.{Ipv6, Vlan, Fragment, Short, Missing}
 use Rattle.zy_pcap.specs.declared.judged.Segment.{Segment}

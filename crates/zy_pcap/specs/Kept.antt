@@ -1,5 +1,7 @@
 -- What the reader keeps of sessions and flows, and what a packet does to it. No public clause cites this module.
-use Rattle.std.specs.Prelude.{◌≡◌, ℕ, ◌+◌, ◌-◌, ◌%◌, ◌^◌, ◌<◌, if◌then◌else◌, ◌==◌, ◌&&◌, not, Bool, false, List, [], ◌∷◌, ◌++◌, length, map, slice_get, slice_index_or, slice_set, Option, None, Some, Result, Ok, Err, ⊤}
+use Rattle.std.specs.Prelude.{◌≡◌, ℕ, ◌+◌, ◌-◌, ◌%◌, ◌^◌, ◌<◌, if◌then◌else◌, ◌==◌, ◌&&◌, not, Bool, false, List, []}
+use Rattle.std.specs.Prelude.{◌∷◌, ◌++◌, length, map, slice_get, slice_index_or, slice_set, Option, None, Some}
+use Rattle.std.specs.Prelude.{Result, Ok, Err, ⊤}
 use Rattle.zy_read.specs.declared.not_taken.NotTaken.{NotTaken}
 use Rattle.zy_read.specs.declared.not_taken.NotTaken.TheVariants.{Fault, NoMemory}
 use Rattle.zy_pcap.specs.declared.pcap_fault.PcapFault.{PcapFault}
@@ -87,7 +89,8 @@ session_next packet session = record session { packets = session.packets ++ pack
 
 -- a packet comes to the session that goes on
 abbrev pub MeetsSession : Packet → ℕ → KeptSession → KeptSession → Result ⊤ (NotTaken PcapFault) → Type 0
-MeetsSession packet at old new result = MeetsAs KeepsSession (session_fault packet at) (session_next packet) old new result
+MeetsSession packet at old new result =
+    MeetsAs KeepsSession (session_fault packet at) (session_next packet) old new result
 
 -- a packet began a session, or memory was refused
 abbrev pub BeginsSession : Packet → List KeptSession → List KeptSession → Result ⊤ (NotTaken PcapFault) → Type 0
@@ -99,7 +102,8 @@ BeginsSession packet old new (Err NoMemory) = new ≡ old
 -- a packet comes to the sessions of its flow
 abbrev pub MeetsSessions : Packet → ℕ → List KeptSession → List KeptSession → Result ⊤ (NotTaken PcapFault) → Type 0
 MeetsSessions packet at old new result =
-    MeetsAs (AllPairs KeepsSession) (λ sessions. length_fault sessions packet at) (λ sessions. with_packet sessions packet)
+    MeetsAs (AllPairs KeepsSession) (λ sessions. length_fault sessions packet at)
+    (λ sessions. with_packet sessions packet)
     old new result
 
 -- a packet comes to all flows
@@ -131,7 +135,8 @@ GoesOn number packet at old new result =
     × MeetsSessions packet at flow.sessions.items next.sessions.items result)
 
 -- a flow that a packet begins has a number, or memory was refused
-abbrev pub Begins : ℕ → Packet → List (Option KeptFlow) → List (Option KeptFlow) → Result ⊤ (NotTaken PcapFault) → Type 0
+abbrev pub Begins : ℕ → Packet → List (Option KeptFlow) → List (Option KeptFlow) → Result ⊤ (NotTaken PcapFault)
+    → Type 0
 Begins number packet old new (Ok u) =
     (flow : KeptFlow) × ((new ≡ put_at old number flow) × KeepsFlow flow (grown [] packet))
 Begins number packet old new (Err (Fault fault)) = ⊥

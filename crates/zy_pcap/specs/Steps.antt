@@ -1,6 +1,7 @@
 -- What each byte of recorded packets does, up to the end of each record: docs/FORMATS.md, "Recorded packets", after the
 -- pcap file format of tcpdump's pcap-savefile page.
-use Rattle.std.specs.Prelude.{ℕ, ◌+◌, ◌-◌, ◌/◌, ◌%◌, ◌==◌, nat_lt, nat_le, if◌then◌else◌, Bool, true, false, ◌&&◌, List, [], ◌∷◌, ◌++◌, length}
+use Rattle.std.specs.Prelude.{ℕ, ◌+◌, ◌-◌, ◌/◌, ◌%◌, ◌==◌, nat_lt, nat_le, if◌then◌else◌, Bool, true, false, ◌&&◌}
+use Rattle.std.specs.Prelude.{List, [], ◌∷◌, ◌++◌, length}
 use Rattle.std.specs.Int.{from_be_bytes, from_le_bytes, w32}
 use Rattle.zy_pcap.specs.declared.pcap_fault.PcapFault.{PcapFault}
 use Rattle.zy_pcap.specs.declared.pcap_fault.PcapFault.TheVariants as Faults

@@ -1,5 +1,5 @@
 -- The texts of which the capture of recorded packets is made. No public clause cites this module.
-use Rattle.std.specs.Prelude.{ℕ, zero, suc, ◌+◌, List, [], ◌∷◌, ◌++◌, flat_map, Option, None, Some}
+use Rattle.std.specs.Prelude.{ℕ, zero, suc, List, [], ◌∷◌, ◌++◌, flat_map, Option, None, Some}
 use Rattle.std.specs.Int.{to_be_bytes, w32}
 use Rattle.zy_capture.specs.declared.record.Record.TheVariants as Kinds
 use Rattle.zy_capture.specs.Capture.{spelled}

@@ -1,6 +1,7 @@
 //! Laws over the definitions of recorded packets.
 ghost use Rattle.std.specs.Prelude.{◌≡◌, ◌≤◌, ◌+◌, ℕ, List, [], ◌∷◌, ◌++◌, length};
-ghost use Rattle.zy_capture.specs.Capture.{AreBytes, capture_limit};
+ghost use Rattle.zy_capture.specs.Capture.{capture_limit};
+ghost use Rattle.zy_read.specs.Bytes.{AreBytes};
 ghost use Rattle.zy_capture.specs.Verdict.{verdict};
 ghost use Rattle.zy_capture.specs.Verdict.Verdict.{Good};
 ghost use Rattle.zy_pcap.specs.Flow.{flows_of, streams_of};

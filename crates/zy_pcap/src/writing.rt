@@ -5,7 +5,8 @@ ghost use Rattle.zy_capture.specs.Replies.{numbered_from};
 ghost use Rattle.zy_pcap.specs.Session.{longest_from, longest};
 ghost use Rattle.zy_pcap.specs.Chunk.{byte_held};
 ghost use Rattle.zy_pcap.specs.Made.{capture_of};
-ghost use Rattle.zy_pcap.specs.Texts.{start_text, close_text, head_text, segment_text, stream_text, session_text, kept_text, kept_connection};
+ghost use Rattle.zy_pcap.specs.Texts.{start_text, close_text, head_text, segment_text, stream_text, session_text};
+ghost use Rattle.zy_pcap.specs.Texts.{kept_text, kept_connection};
 
 use crate::flows::Flows;
 use crate::kept_flow::KeptFlow;
@@ -25,12 +26,8 @@ pub fn write_flows<K: Sink>(sink: &mut K, flows: &Flows) -> Result<(), Failed>
     ensures writes { Writes K.holds K.faults K.finishes sink.old sink.new result (capture_of flows.now) }
 {
     let all = flows.kept();
-    if let Err(failed) = write_start(sink, flows.count()) {
-        return Err(failed);
-    }
-    if let Err(failed) = write_connections(sink, all) {
-        return Err(failed);
-    }
+    write_start(sink, flows.count())?;
+    write_connections(sink, all)?;
     write_whole(sink, b"E")
 }
 
@@ -50,9 +47,7 @@ fn write_connections<K: Sink>(sink: &mut K, flows: &[Option<KeptFlow>]) -> Resul
         (numbered_from kept_connection 0 flows.now) }
 {
     for conn in 0..flows.len() as u32 {
-        if let Err(failed) = write_connection(sink, conn, &flows[conn as usize]) {
-            return Err(failed);
-        }
+        write_connection(sink, conn, &flows[conn as usize])?;
     }
     Ok(())
 }
@@ -74,9 +69,7 @@ fn write_sessions<K: Sink>(sink: &mut K, conn: u32, sessions: &[KeptSession]) ->
         (numbered_from (kept_text conn) 0 sessions.now) }
 {
     for session in 0..sessions.len() {
-        if let Err(failed) = write_session(sink, conn, session, &sessions[session].bytes) {
-            return Err(failed);
-        }
+        write_session(sink, conn, session, &sessions[session].bytes)?;
     }
     Ok(())
 }
@@ -94,9 +87,7 @@ fn write_session<K: Sink>(
     if session == 0 {
         return write_stream(sink, conn, stream);
     }
-    if let Err(failed) = write_close(sink, conn) {
-        return Err(failed);
-    }
+    write_close(sink, conn)?;
     write_stream(sink, conn, stream)
 }
 
@@ -120,9 +111,7 @@ fn write_stream<K: Sink>(sink: &mut K, conn: u32, stream: &KeptStream) -> Result
         if size == 0 {
             return Ok(());
         }
-        if let Err(failed) = write_segment(sink, conn, stream, at, size) {
-            return Err(failed);
-        }
+        write_segment(sink, conn, stream, at, size)?;
         at += size;
     }
     Ok(())
@@ -141,9 +130,7 @@ fn write_segment<K: Sink>(
     ensures writes { Writes K.holds K.faults K.finishes sink.old sink.new result
         (segment_text conn (longest_from (byte_held stream.now) at size)) }
 {
-    if let Err(failed) = write_head(sink, conn, size) {
-        return Err(failed);
-    }
+    write_head(sink, conn, size)?;
     write_run(sink, stream, at, size)
 }
 
@@ -168,9 +155,7 @@ fn write_run<K: Sink>(sink: &mut K, stream: &KeptStream, at: u32, size: u32) -> 
     while done < size {
         let part = stream.part(at + done);
         let run = part.len().min((size - done) as usize);
-        if let Err(failed) = write_whole(sink, &part[..run]) {
-            return Err(failed);
-        }
+        write_whole(sink, &part[..run])?;
         done += run as u32;
     }
     Ok(())

@@ -1,3 +1,4 @@
+pub mod ByteLemmas
 pub mod Feeding
 pub mod MagicLemmas
 pub mod PieceLemmas

@@ -62,19 +62,3 @@ leads (LineFeed version) letters at byte six within known =
     chosen (LeadsTo letters (at + 1) ((letters ++ (48 + version) ∷ []) ++ byte ∷ [])) (byte == 10) (Whole version) Wrong
     (λ same. (known, append_assoc letters ((48 + version) ∷ []) (byte ∷ []) ∙ ap (λ (b : ℕ). letters ++ (48 + version) ∷ b ∷ []) (eqb-true byte 10 same)))
     (λ differs. tt)
-
--- ---- the version
-
--- what is known after a byte
-abbrev pub StaysKnown : MagicStep → Type 0
-StaysKnown (Next part) = IsKnown part
-StaysKnown (Whole version) = IsVersion version
-StaysKnown Wrong = ⊤
-
-pub stays_known : (part : MagicPart) (letters : List ℕ) (at byte : ℕ) → IsKnown part → StaysKnown (magic_step part letters at byte)
-stays_known Letters letters at byte known =
-    chosen StaysKnown (byte == slice_index letters at) _ Wrong (λ same. chosen StaysKnown (at == 5) (Next Digit) (Next Letters) (λ last. tt) (λ more. tt)) (λ differs. tt)
-stays_known Digit letters at byte known =
-    chosen StaysKnown (byte == 49) (Next (LineFeed 1)) _ (λ one. inl refl) (λ other. chosen StaysKnown (byte == 50) (Next (LineFeed 2)) Wrong (λ two. inr refl) (λ differs. tt))
-stays_known (LineFeed version) letters at byte known =
-    chosen StaysKnown (byte == 10) (Whole version) Wrong (λ same. known) (λ differs. tt)

@@ -1,7 +1,7 @@
 -- Bytes that are fed in runs and one by one.
-use Rattle.std.proofs.Common.{◌≡◌, ℕ, ◌+◌, ◌-◌, ◌<◌, List, [], ◌∷◌, length, take, drop, get_or, take-add, sym, subst}
+use Rattle.std.proofs.Common.{◌≡◌, ℕ, ◌+◌, ◌<◌, List, [], ◌∷◌, length, take, drop, get_or, take-add, sym, subst}
 use Rattle.std.specs.Prelude.{Option, None, Some, Result, Ok, Err, option_to_list}
-use Rattle.std.proofs.lemmas.List.{take_more, take_rest}
+use Rattle.std.proofs.lemmas.List.{take_more}
 use Rattle.zy_read.specs.declared.not_taken.NotTaken.{NotTaken}
 use Rattle.zy_read.specs.declared.not_taken.NotTaken.TheVariants.{Fault, NoMemory}
 use Rattle.zy_read.specs.Format.{Format, IsLasting}
@@ -17,10 +17,6 @@ run_on format old between new bytes at run first second =
 pub byte_on : {P G F V : Type 0} (format : Format P G F V) (old between new : P) (bytes : List ℕ) (at : ℕ) (gave : List G) → at < length bytes → Feeds format old between (take at bytes) [] → Feeds format between new (get_or bytes at 0 ∷ []) gave → Feeds format old new (take (at + 1) bytes) gave
 byte_on format old between new bytes at gave within first second =
     subst (λ (l : List ℕ). Feeds format old new l gave) (sym (take_more bytes at 0 within)) (fed_on format old between new (take at bytes) (get_or bytes at 0 ∷ []) [] gave first second)
-
--- some first bytes of the slice from a place on are those after the place
-pub slice_fed : {P G F V : Type 0} (format : Format P G F V) (old new : P) (bytes : List ℕ) (at taken : ℕ) (gave : List G) → Feeds format old new (take taken (take (length bytes - at) (drop at bytes))) gave → Feeds format old new (take taken (drop at bytes)) gave
-slice_fed format old new bytes at taken gave feeds = subst (λ (l : List ℕ). Feeds format old new (take taken l) gave) (take_rest bytes at) feeds
 
 -- ---- the answer to one byte after some first bytes
 

@@ -3,11 +3,14 @@ use Rattle.std.specs.Prelude.{◌≡◌, ℕ, ◌≤◌, Bool, true, false, List
 use Rattle.std.specs.Io.KnownBytes.{Consumes, IsAtEnd}
 use Rattle.zy_base.specs.Outside.{Rose}
 use Rattle.zy_base.specs.declared.outside.Failed.{Failed}
+use Rattle.zy_read.specs.Bytes.{AreBytes}
 
 -- since the state `first`, a source gave the bytes taken, followed by those left of the piece
 pub record HasGiven {S : Type 0} (rest : S → Option (List ℕ)) (faults : S → ℕ) (first now : S)
     (left taken : List ℕ) : Type 0 where
   pub source : Consumes (rest first) (rest now) (taken ++ left)
+  -- all these numbers are bytes
+  pub bytes : AreBytes (taken ++ left)
   pub count : faults first ≤ faults now
 
 -- nothing is left of the piece, and the source is at its end

@@ -1,6 +1,7 @@
 //! The reading machine: the common part of readers that take bytes one after another.
 #![tactic(auto)]
 
+mod bytes;
 mod fed;
 mod field;
 mod magic;
@@ -9,6 +10,7 @@ mod pieces;
 mod reads;
 mod stop;
 
+pub use bytes::are_bytes;
 pub use fed::{Fed, goes_on};
 pub use field::Field;
 pub use magic::{MagicPart, MagicStep};

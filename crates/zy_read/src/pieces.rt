@@ -2,6 +2,7 @@
 ghost use Rattle.std.specs.Prelude.{◌≡◌, ◌<◌, ◌≤◌, ℕ, List, [], length, drop, true, Ok, IfOk};
 ghost use Rattle.zy_read.specs.Piece.{HasGiven, Refills};
 
+use crate::bytes::are_bytes;
 use std::alloc::Global;
 use std::marker::Model;
 use zy_base::{Failed, NoMemory, Source};
@@ -56,6 +57,7 @@ impl Pieces {
         }
         match source.read(self.piece.as_mut_slice()) {
             Ok(n) => {
+                are_bytes(&self.piece[..n]);
                 self.at = 0;
                 self.end = n;
                 Ok(n > 0)

@@ -1,9 +1,8 @@
 -- What is counted of all shards, entry by entry.
-use Rattle.std.proofs.Common.{◌≡◌, ℕ, suc, ◌+◌, ◌-◌, ◌^◌, ◌<◌, ◌≤◌, ◌≢◌, Bool, true, false, true≢false, cond, List, [], ◌∷◌, ◌++◌, length, map, take, get_or, refl, sym, ap, ◌∙◌, subst, arith}
-use Rattle.std.specs.Prelude.{◌==◌, max, filter}
-use Rattle.std.specs.List.{range_with_len}
+use Rattle.std.proofs.Common.{◌≡◌, ℕ, suc, ◌+◌, ◌-◌, ◌^◌, ◌<◌, ◌≤◌, ◌≢◌, Bool, true, false, true≢false, cond, List, [], ◌∷◌, ◌++◌, length, refl, sym, ap, ◌∙◌, subst, arith}
+use Rattle.std.specs.Prelude.{◌==◌, max}
 use Rattle.std.proofs.Math.ListN.{set}
-use Rattle.std.proofs.lemmas.List.{append-nil, append_assoc, length-append, length-set, get_or-set_same, get_or-set_other}
+use Rattle.std.proofs.lemmas.List.{append-nil, length-append, length-set, get_or-set_same, get_or-set_other}
 use Rattle.std.proofs.lemmas.Bool.{eqb-true, eq-eqb}
 use Rattle.std.proofs.lemmas.List.Elements.{filter-append}
 use Rattle.zy_base.specs.declared.entry.Entry.{Entry}
@@ -74,16 +73,6 @@ pub record HasRead (kept : List Counting) (all left : List Entry) : Type 0 where
 
 pub none_read : (kept : List Counting) (all : List Entry) → kept ≡ [] → HasRead kept all all
 none_read kept all none = record { read = []; split = refl; counts = none_counted kept none }
-
-pub one_read : (old new : List Counting) (all left rest : List Entry) (e : Entry) → HasRead old all left → left ≡ e ∷ rest → ((es : List Entry) → CountsAll old es → CountsAll new (es ++ e ∷ [])) → HasRead new all rest
-one_read old new all left rest e has is adds = record {
-  read = has.read ++ e ∷ [];
-  split = has.split ∙ ap (λ l. has.read ++ l) is ∙ sym (append_assoc has.read (e ∷ []) rest);
-  counts = adds has.read has.counts;
-}
-
-pub all_read : (kept : List Counting) (all left : List Entry) → HasRead kept all left → left ≡ [] → CountsAll kept all
-all_read kept all left has none = subst (CountsAll kept) (sym (has.split ∙ ap (λ l. has.read ++ l) none ∙ append-nil has.read)) has.counts
 
 -- so few entries can be counted, at each shard
 pub room_at : (kept : List Counting) (all left rest : List Entry) (e : Entry) → HasRead kept all left → left ≡ e ∷ rest → length all ≤ 2 ^ 64 - 1 → CanCount (kept_at kept e.shard)

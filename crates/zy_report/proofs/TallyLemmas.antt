@@ -1,46 +1,23 @@
 -- What is counted of a shard, entry by entry.
-use Rattle.std.proofs.Common.{◌≡◌, ℕ, ◌+◌, ◌-◌, ◌^◌, ◌<◌, ◌≤◌, Bool, true, false, cond, not, List, [], ◌∷◌, ◌++◌, length, map, Bor, refl, sym, ap, ◌∙◌, subst, arith}
-use Rattle.std.specs.Prelude.{◌||◌, if◌then◌else◌, fold, count_by, Some, is_some, Option, None, ⊤}
-use Rattle.std.specs.List.{list_any, sum_by}
-use Rattle.std.specs.Ordering.{nat_cmp, eq_by_cmp, is_eq}
+use Rattle.std.proofs.Common.{◌≡◌, ℕ, ◌+◌, ◌-◌, ◌^◌, ◌<◌, Bool, true, false, cond, not, List, [], ◌∷◌, length, map, Bor, refl, sym, ap, ◌∙◌, subst, arith}
+use Rattle.std.specs.Prelude.{◌||◌, if◌then◌else◌, count_by, Some, is_some, Option, None, ⊤}
+use Rattle.std.specs.List.{list_any}
+use Rattle.std.specs.Ordering.{nat_cmp, eq_by_cmp}
 use Rattle.std.specs.Cmp.{eq_by_cmp_equiv}
 use Rattle.std.specs.Cmp.Lexicographic.{slice_cmp, nat_list_cmp_total}
-use Rattle.std.specs.FinMap.{empty, get, contains_key, insert, remove, len, get-empty, get-insert, get-remove, len-empty, len-insert, len-remove}
+use Rattle.std.specs.FinMap.{get, contains_key, insert, remove, get-empty, get-insert, get-remove, len-empty, len-insert, len-remove}
 use Rattle.std.specs.BTreeMap.{is_at}
 use Rattle.std.proofs.lemmas.List.{length-map}
-use Rattle.std.proofs.lemmas.List.Sums.{sum_by-append, fold-append, count_by-le-length}
+use Rattle.std.proofs.lemmas.List.Sums.{count_by-le-length}
 use Rattle.zy_base.specs.declared.entry.Entry.{Entry}
-use Rattle.zy_base.specs.declared.tallied.Tallied.{Tallied}
 use Rattle.zy_base.specs.declared.call.Call.{Call}
 use Rattle.zy_base.specs.declared.call.Call.TheVariants.{Flush}
 use Rattle.zy_base.specs.declared.call_reply.CallReply.{CallReply}
-use Rattle.zy_base.specs.Counted.{KeySet, no_keys, keys_with, keys_after, is_get, is_set, is_hit, is_miss, one_more_if, calls_with, counted, CallCounts}
+use Rattle.zy_base.specs.Counted.{KeySet, no_keys, keys_with, is_get, is_set, is_hit, is_miss, CallCounts}
 use Rattle.zy_report.specs.Counting.{Counting}
-use Rattle.zy_report.specs.Tally.{calls_kept, calls_counted, AreKeysOf, CountsEntries, CanCount, none_kept}
-
--- ---- calls
-
-one_more : (test : Bool) (count : ℕ) → count + (0 + cond test 1 0) ≡ one_more_if test count
-one_more true count = omega arith
-one_more false count = omega arith
-
-count_more : (test : Entry → Bool) (es : List Entry) (e : Entry) → count_by test (es ++ e ∷ []) ≡ one_more_if (test e) (count_by test es)
-count_more test es e = sum_by-append (λ x. cond (test x) 1 0) es (e ∷ []) ∙ one_more (test e) (count_by test es)
-
--- the counts of calls with one more entry
-pub calls_more : (es : List Entry) (e : Entry) → calls_counted (es ++ e ∷ []) ≡ calls_with (calls_counted es) e.call e.reply
-calls_more es e = λ i. record {
-  gets = count_more (λ (e : Entry). is_get e.call) es e i;
-  sets = count_more (λ (e : Entry). is_set e.call) es e i;
-  hits = count_more (λ (e : Entry). is_hit e.call e.reply) es e i;
-  misses = count_more (λ (e : Entry). is_miss e.call e.reply) es e i;
-}
+use Rattle.zy_report.specs.Tally.{AreKeysOf, CountsEntries, CanCount, none_kept}
 
 -- ---- keys
-
--- the keys with one more entry
-keys_more : (es : List Entry) (e : Entry) → keys_after no_keys (es ++ e ∷ []) ≡ keys_with (keys_after no_keys es) e.call e.reply
-keys_more es e = fold-append (λ keys (e : Entry). keys_with keys e.call e.reply) no_keys es (e ∷ [])
 
 pub no_keys_yet : AreKeysOf no_keys []
 no_keys_yet = record {
@@ -121,25 +98,6 @@ module _ (old new : List (Bor (List ℕ))) (key : Bor (List ℕ)) (keys : KeySet
 
 -- ---- both
 
--- one more entry is counted
-pub counts_more : (kept new : Counting) (es : List Entry) (e : Entry) → calls_kept new ≡ calls_with (calls_kept kept) e.call e.reply
-    → ((keys : KeySet) → AreKeysOf keys kept.keys → AreKeysOf (keys_with keys e.call e.reply) new.keys) → CountsEntries kept es → CountsEntries new (es ++ e ∷ [])
-counts_more kept new es e calls keys are = record {
-  calls = calls ∙ ap (λ c. calls_with c e.call e.reply) are.calls ∙ sym (calls_more es e);
-  keys = subst (λ k. AreKeysOf k new.keys) (sym (keys_more es e)) (keys (keys_after no_keys es) are.keys);
-}
-
--- the counts of some entries
-pub counted_of : (kept : Counting) (es : List Entry) (size : ℕ) → CountsEntries kept es → size ≡ length kept.keys
-    → record { gets = kept.calls.gets; sets = kept.calls.sets; hits = kept.calls.hits; misses = kept.calls.misses; items = size } ≡ counted es
-counted_of kept es size are is = λ i. record {
-  gets = (are.calls i).gets;
-  sets = (are.calls i).sets;
-  hits = (are.calls i).hits;
-  misses = (are.calls i).misses;
-  items = (is ∙ are.keys.size) i;
-}
-
 few_of : (test : Entry → Bool) (es : List Entry) (count : ℕ) → count ≡ count_by test es → length es < 2 ^ 64 - 1 → count < 2 ^ 64 - 1
 few_of test es count is few = let most = count_by-le-length test es in omega (arith, is, few, most)
 
@@ -154,10 +112,6 @@ has_room kept es are few = record {
 
 pub nothing_counted : CountsEntries none_kept []
 nothing_counted = record { calls = refl; keys = no_keys_yet }
-
--- what is kept was counted of no entry, where nothing is kept
-pub counts_none : (kept : Counting) → kept ≡ none_kept → CountsEntries kept []
-counts_none kept is = subst (λ k. CountsEntries k []) (sym is) nothing_counted
 
 -- a flush leaves no keys
 pub flushed : (keys : KeySet) (call : Call) (reply : CallReply) (left : List (Bor (List ℕ))) → call ≡ Flush → left ≡ [] → AreKeysOf (keys_with keys call reply) (map (λ key. key.now) left)

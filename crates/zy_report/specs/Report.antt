@@ -1,6 +1,7 @@
 -- The report on a journal, docs/FORMATS.md, "Report": a line for each shard of which a count is not 0,
 -- and a line of the sums.
-use Rattle.std.specs.Prelude.{ℕ, suc, ◌+◌, ◌-◌, ◌==◌, ◌&&◌, max, Bool, if◌then◌else◌, List, [], ◌∷◌, ◌++◌, length, map, replicate, codes, decimal}
+use Rattle.std.specs.Prelude.{ℕ, ◌+◌, ◌-◌, ◌==◌, ◌&&◌, max, Bool, if◌then◌else◌, List, [], ◌∷◌, ◌++◌, length, map}
+use Rattle.std.specs.Prelude.{replicate, codes, decimal}
 use Rattle.std.specs.List.{range_with_len, sum_by}
 use Rattle.zy_base.specs.declared.entry.Entry.{Entry}
 use Rattle.zy_base.specs.declared.tallied.Tallied.{Tallied}

@@ -44,6 +44,12 @@ pub trait Feeder {
         ensures rings { rings_of (inlets self.new) ≡ rings_of (inlets self.old) }
         ensures leads { leads self.old self.new };
 
+    /// Whether the next step may have to wait for what it offers. A hint: it is true unless a feeder
+    /// knows better, and no clause speaks of it.
+    fn may_wait(&self) -> bool {
+        true
+    }
+
     /// Shows the inlet of this core, and its outlet, what the other did. It offers and takes no
     /// item, and takes no memory.
     fn meet(&mut self, core: u32, outlet: &mut Outlet)

@@ -1,5 +1,6 @@
 //! The end of a ring that items are taken from, and both ends together.
-ghost use Rattle.std.specs.Prelude.{◌≡◌, ◌+◌, ◌<◌, ◌≤◌, [], ◌∷◌, ◌++◌, ◌↔◌, length, IsTrue, IfSome, IfNone, IsSome, IfOk};
+ghost use Rattle.std.specs.Prelude.{◌≡◌, ◌+◌, ◌<◌, ◌≤◌, [], ◌∷◌, ◌++◌, ◌↔◌, length, IsTrue, IfSome, IfNone, IsSome};
+ghost use Rattle.std.specs.Prelude.{IfOk};
 ghost use Rattle.zy_rx.specs.Ring.{IsFirstKnown, HasAllFree, offering, taking};
 
 use crate::inlet::RingInlet;

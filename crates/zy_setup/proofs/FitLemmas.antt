@@ -2,7 +2,7 @@
 use Rattle.std.proofs.Common.{◌≡◌, ℕ, List, Some, slice_get}
 use Rattle.zy_core.specs.Share.{Sharing}
 use Rattle.zy_core.specs.Core.{Identity, Fits}
-use Rattle.zy_core.specs.Drive.{EachFits}
+use Rattle.zy_core.specs.Cores.{EachFits}
 
 pub all_fit : (shared : Sharing) (ids : List Identity) → ((i : ℕ) (d : Identity) → slice_get ids i ≡ Some d → Fits shared d) → EachFits shared ids
 unfolding EachFits

@@ -9,7 +9,7 @@ use Rattle.zy_steal.specs.Order.{other_core}
 use Rattle.zy_steal.specs.Steal.{PassList, Thief, seat_of}
 use Rattle.zy_core.specs.Share.{Sharing}
 use Rattle.zy_core.specs.Core.{Cored, Identity, Fits, cored, identity_of}
-use Rattle.zy_core.specs.Drive.{identities}
+use Rattle.zy_core.specs.Cores.{identities}
 use Rattle.zy_rx.specs.Feed.{rings_of}
 use Rattle.zy_setup.specs.declared.making.Making.{Making}
 use Rattle.zy_setup.specs.Ready.{AreReady, IsNewHome, AreNewPasses, IsFresh}

@@ -32,16 +32,6 @@ own_few core cores (suc n) = dite (ℕ_discrete (home_of cores n) core)
     in let on = ap (λ k. length (own_conns core cores k)) (add-one n) in omega arith)
     (λ other. let same = ap (λ (l : List ℕ). length l) (own-else core cores n other) in let rest = own_few core cores n in let on = ap (λ k. length (own_conns core cores k)) (add-one n) in omega arith)
 
--- no connection is below 0
-own_none : (store : TableId) (core cores : ℕ) (own : Own) → IsEmpty own → IsOwnOf store core cores 0 own
-own_none store core cores own is = record {
-  places_are = is.places_are ∙ sym (ap (λ (l : List Blocked). length l) is.blocks_are);
-  conns = ap conns_of_blocks is.blocks_are;
-  new = subst (AllByRecursion (IsNew (label_of store cores))) (sym is.blocks_are) tt;
-  rings = ap rings_of_inlets is.inlets_are ∙ sym (ap rings_of_blocks is.blocks_are);
-  unused = subst (AllByRecursion IsUnused) (sym is.inlets_are) tt;
-}
-
 -- a core has at most as many places as there are connections
 pub places_few : (store : TableId) (core cores count : ℕ) (own : Own) → IsOwnOf store core cores count own → own.places ≤ count
 places_few store core cores count own is =
@@ -77,13 +67,6 @@ module _ (store : TableId) (core cores conn : ℕ) (own : Own) (is : IsOwnOf sto
 
 -- ---- all cores
 
-pub owns_none : (store : TableId) (cores : ℕ) (owns : List Own) → length owns ≡ cores → All IsEmpty owns → AreOwns store cores 0 owns
-owns_none store cores owns count empty = record {
-  count = count;
-  each = λ core own at. own_none store core cores own
-      (subst IsEmpty (get_or_from_slice_get owns core own own at) (All-get_or IsEmpty owns core own (slice_get_within owns core own at) empty));
-}
-
 module _ (store : TableId) (cores conn : ℕ) (owns : List Own) (are : AreOwns store cores conn owns) (core : ℕ) (here : core ≡ home_of cores conn) (within : core < cores)
     (own : Own) (is : own ≡ get_or owns core own) where
   own_at_core : IsOwnOf store core cores conn own
@@ -103,9 +86,6 @@ module _ (store : TableId) (cores conn : ℕ) (owns : List Own) (are : AreOwns s
   }
 
 -- ---- the passes that were given
-
-pub fresh : (given : List ℕ) (conn : ℕ) → ((c : ℕ) → (is_in c given ≡ true) ↔ (c < conn)) → is_in conn given ≡ false
-fresh given conn are = not_in conn given (λ there. let below = (are conn).0 there in omega arith)
 
 pub given_next : (given given' : List ℕ) (conn : ℕ) → ((c : ℕ) → (is_in c given ≡ true) ↔ (c < conn)) → given' ≡ conn ∷ given → (c : ℕ) → (is_in c given' ≡ true) ↔ (c < conn + 1)
 given_next given given' conn are is c = dite (ℕ_discrete c conn)

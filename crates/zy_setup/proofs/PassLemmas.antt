@@ -39,36 +39,12 @@ push_below xs x i y below e = go (push_at xs x i y e)
 -- ---- giving passes to the cores, one after another
 
 module _ (core : ℕ) (first now : Held Blocked) (same : now ≡ record first { out = now.out }) where
-  given_same : newly_given now ≡ newly_given first
-  given_same = ap newly_given same
-
   module _ (before passes : List (PassList Blocked)) (n : ℕ)
       (done : (k : ℕ) → k < n → slice_get passes k ≡ option_map (with_pass core (newly_given first) k) (slice_get before k))
       (rest : (k : ℕ) → n ≤ k → slice_get passes k ≡ slice_get before k) (within : n < length passes) (x : PassList Blocked) (is : x ≡ get_or passes n x)
       (x' : PassList Blocked) (gives : x' ≡ with_pass core (newly_given now) n x) where
     at : slice_get passes n ≡ Some x
     at = get_at passes n x x within is
-
-    pub done_next : (k : ℕ) → k < n + 1 → slice_get (set passes n x') k ≡ option_map (with_pass core (newly_given first) k) (slice_get before k)
-    done_next k below = dite (ℕ_discrete k n)
-        (λ same_k. subst (λ j. slice_get (set passes n x') j ≡ option_map (with_pass core (newly_given first) j) (slice_get before j)) (sym same_k)
-        (get_set_there passes n x' x at ∙ ap Some (gives ∙ ap (λ (v : Held Blocked). with_pass core v n x) given_same)
-        ∙ sym (ap (option_map (with_pass core (newly_given first) n)) (sym (rest n (omega arith)) ∙ at))))
-        (λ other. get_set_else passes n k x' other ∙ done k (omega arith))
-
-    pub rest_next : (k : ℕ) → n + 1 ≤ k → slice_get (set passes n x') k ≡ slice_get before k
-    rest_next k past = get_set_else passes n k x' (λ same_k. omega arith) ∙ rest k (omega arith)
-
--- where all were given
-pub gives_all : (core : ℕ) (pass : Held Blocked) (before passes : List (PassList Blocked)) (n : ℕ) → length passes ≤ n
-    → ((k : ℕ) → k < n → slice_get passes k ≡ option_map (with_pass core pass k) (slice_get before k)) → ((k : ℕ) → n ≤ k → slice_get passes k ≡ slice_get before k)
-    → Gives core pass before passes
-gives_all core pass before passes n past done rest k = dite (dec_lt k n)
-    (λ below. done k below)
-    (λ no.
-    let none : slice_get passes k ≡ None = slice_get_past passes k (omega arith) in
-    let same : slice_get before k ≡ None = sym (rest k (omega arith)) ∙ none in
-    none ∙ sym (ap (option_map (with_pass core pass k)) same))
 
 -- ---- what a core has, when a ring is added
 

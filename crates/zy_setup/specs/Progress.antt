@@ -7,7 +7,7 @@ use Rattle.zy_home.specs.Home.{Homed}
 use Rattle.zy_steal.specs.Steal.{PassList}
 use Rattle.zy_core.specs.Share.{Sharing}
 use Rattle.zy_core.specs.Core.{Cored, Fits, identity_of}
-use Rattle.zy_core.specs.Drive.{identities, AreCores, AreInlets}
+use Rattle.zy_core.specs.Cores.{identities, AreCores, AreInlets}
 use Rattle.zy_rx.specs.Feed.{rings_of, sent_by}
 use Rattle.zy_feed.specs.Feeding.{AreUnsent}
 use Rattle.zy_setup.specs.declared.making.Making.{Making}

@@ -2,7 +2,7 @@
 ghost use Rattle.std.specs.Prelude.{◌≡◌, ◌<◌, ◌≤◌, [], ◌∷◌, ◌++◌, length, IfOk, OnOk};
 ghost use Rattle.zy_conn.specs.Block.{label_of};
 ghost use Rattle.zy_control.specs.Pass.{rooted};
-ghost use Rattle.zy_core.specs.Drive.{identities, AreCores, AreInlets};
+ghost use Rattle.zy_core.specs.Cores.{identities, AreCores, AreInlets};
 ghost use Rattle.zy_rx.specs.Feed.{rings_of, sent_by};
 ghost use Rattle.zy_feed.specs.Feeding.{AreUnsent};
 ghost use Rattle.zy_setup.specs.Ready.{AreReady, IsNewHome, AreNewPasses, AreFresh};

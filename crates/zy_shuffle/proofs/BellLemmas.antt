@@ -1,9 +1,7 @@
 -- The steps of a collect, stated at the values that the code has.
-use Rattle.std.proofs.Common.{◌≡◌, ◌≢◌, ℕ, ◌+◌, ◌-◌, ◌*◌, ◌/◌, ◌%◌, ◌^◌, ◌<◌, ◌≤◌, List, [], ◌∷◌, false, cond, ◌==◌, eq-eqb, ne_eqb, bit_and, w64, refl, sym, ap, ◌∙◌, subst, arith}
+use Rattle.std.proofs.Common.{◌≡◌, ◌≢◌, ℕ, ◌+◌, ◌-◌, ◌*◌, ◌%◌, ◌^◌, ◌<◌, List, [], ◌∷◌, false, bit_and, w64, refl, sym, ap, ◌∙◌, subst, arith}
 use Rattle.std.specs.Prelude as std
 use mathlib.Core.Option.{none}
-use mathlib.Core.Logic.{dite}
-use native.Mathlib.Decide.{ℕ_discrete}
 use Rattle.std.specs.Int.{bit_at, bit_not, trailing_zeros}
 use Rattle.std.proofs.lemmas.Nat.Bits.{bit_at-trailing_zeros}
 use Rattle.atomic_table.specs.Table.{step, rest, Allows}
@@ -12,15 +10,13 @@ use Rattle.zy_shuffle.proofs.LookLemmas.{loads_bells}
 use Rattle.zy_shuffle.proofs.PassLemmas.{within_more}
 use Rattle.zy_shuffle.proofs.DoorbellLemmas.{collects}
 use Rattle.zy_shuffle.specs.Hand.{emptied, marked}
-use Rattle.zy_shuffle.specs.Pass.{Collected, Held, LookedAt, Rang, held, last_bell, out_of, tail_of}
+use Rattle.zy_shuffle.specs.Pass.{LookedAt, held, out_of, tail_of}
 use Rattle.zy_shuffle.specs.PassSeat.{IsHomeSeat, Within, bells_of}
 use Rattle.zy_shuffle.specs.ShuffleRule.{ShuffleRule}
 use Rattle.zy_shuffle.specs.HomeRole.{IsHome, rung_place, with_bells}
 use Rattle.zy_shuffle.specs.Step.{Seated, collected, collecting, noting_bells, saw_bells}
-use Rattle.zy_shuffle.specs.View.{bell_step, sight}
 use Rattle.zy_shuffle.specs.declared.ring.view.Role.{Role}
 use Rattle.zy_shuffle.specs.declared.ring.view.Role.TheVariants.{Home}
-use Rattle.zy_shuffle.specs.declared.ring.view.Sight.{Sight}
 use Rattle.zy_shuffle.specs.declared.ring.view.Trace.{Trace}
 use Rattle.zy_shuffle.specs.Run.{MayFollow}
 use Rattle.zy_shuffle.specs.declared.ring.view.View.{View}
@@ -50,21 +46,6 @@ module _ {T M : Type 0} (mark : T → M) (label : T → Name) where
   bell_slot n i p mask m1 m2 c e =
       let one : m2.1 ≡ (p, std.Some c.0) ∷ m1.1 = ap (λ (m : Seated T). m.1) c.2 ∙ ap (λ y. (y, std.Some c.0) ∷ m1.1) e in
       (std.Some c.0, one ∙ ap (λ l. (p, std.Some c.0) ∷ l) (sym (ap rest one)))
-
-  -- the home after it loaded a word that was 0
-  pub home_looked : (s s' n i w x places : ℕ) (m0 m1 : Seated T) → s' ≡ s → IsHomeSeat s (tail_of m0.0.role) m0 → n ≡ places → i ≡ 32 + places + w → saw_bells (step n i 0 0 none) m0 x m1 → IsHomeSeat s' (tail_of m0.0.role) m1
-  home_looked s s' n i w x places m0 m1 same h size is e =
-      let role = noted_role s n i w x places m0 m1 h size is e in
-      let hand : m1.0.hand ≡ m0.0.hand = ap (λ (m : Seated T). m.0.hand) e in
-      (ap (λ (m : Seated T). m.1) e ∙ h.0 ∙ ap emptied (sym hand), role ∙ ap (λ (y : Role). Home (tail_of m0.0.role) std.None (bells_of y) (out_of y)) (sym role), subst (λ (k : ℕ × List ℕ). Within k.0 k.1) (λ j. (sym same j, sym hand j)) h.2)
-
-  pub looked_none : (s n i w x places : ℕ) (z : TableId) (m0 m1 : Seated T) → IsHomeSeat s (tail_of m0.0.role) m0 → n ≡ places → i ≡ 32 + places + w → saw_bells (step n i 0 0 none) m0 x m1 → x ≡ 0 → LookedAt mark label places (held z m0.0) (held z m1.0) w std.None
-  looked_none s n i w x places z m0 m1 h size is e zero_word =
-      let role = noted_role s n i w x places m0 m1 h size is e in
-      let at : i - (32 + n) ≡ w = omega arith in
-      let trace : m1.0.trace ≡ bell_step w 0 m0.0.trace = ap (λ (m : Seated T). m.0.trace) e ∙ (λ j. bell_step (at j) (zero_word j) m0.0.trace) in
-      let view = ap (λ (m : Seated T). m.0) e in
-      ((λ j. record { table = z; label = (view j).label; hand = (view j).hand; kept = (view j).kept; count = (ap tail_of role) j; out = (ap out_of role) j; trace = m1.0.trace }), trace)
 
   -- the home after it took a block
   pub took : (s s' n i w x mask places p : ℕ) (z : TableId) (m0 m1 m2 m3 : Seated T) (b : T) → s' ≡ s → s ≡ places → IsHomeSeat s (tail_of m0.0.role) m0 → n ≡ places → i ≡ 32 + places + w → x ≢ 0 → x < 2 ^ 64 → saw_bells (step n i 0 0 none) m0 x m1
@@ -109,36 +90,3 @@ module _ {T M : Type 0} (mark : T → M) (label : T → Name) where
 
       some_same : (a b : T) → std.Some a ≡ std.Some b → a ≡ b
       some_same a b e = cc
-
-  pub rang_more : (n w : ℕ) (t t' : Trace) → t' ≡ bell_step w 0 t → n ≤ t.steps → ((q : ℕ) → q < w → Rang n q 0 t) → (q : ℕ) → q < w + 1 → Rang n q 0 t'
-  rang_more n w t t' e le old q lt = subst (λ (y : Trace). Rang n q 0 y) (sym e) (dite (ℕ_discrete q w)
-      (λ f. subst (λ c. ((cond c (sight 0 (t.steps + 1)) (last_bell q t.bells)).value ≡ 0) × (n < (cond c (sight 0 (t.steps + 1)) (last_bell q t.bells)).step)) (sym (eq-eqb q w f)) (refl, omega arith))
-      (λ ne. subst (λ c. ((cond c (sight 0 (t.steps + 1)) (last_bell q t.bells)).value ≡ 0) × (n < (cond c (sight 0 (t.steps + 1)) (last_bell q t.bells)).step)) (sym (ne_eqb q w ne)) (old q (omega arith))))
-
-  pub collected_none : (n : ℕ) (v u w : Held T) (word : ℕ) → u ≡ record v { trace = u.trace } → LookedAt mark label n u w word std.None → w ≡ record v { trace = w.trace }
-  collected_none n v u w word a b = b.0 ∙ ap (λ (x : Held T). record x { trace = w.trace }) a
-
-  pub collected_some : (n : ℕ) (v u w : Held T) (word : ℕ) (x : ℕ × T) → u ≡ record v { trace = u.trace } → v.trace.steps ≤ u.trace.steps → ((q : ℕ) → q < word → Rang v.trace.steps q 0 u.trace) → LookedAt mark label n u w word (std.Some x) → Collected mark label n v w (std.Some x)
-  collected_some n v u w word x a le rang l =
-      let hand = ap (λ (y : Held T). y.hand) a in
-      let tag = ap (λ (y : Held T). y.label) a in
-      let bits : ℕ = l.2.0 in
-      let trace = l.2.2 in
-      let word_is = l.1 in
-      let at : (q : ℕ) → last_bell q w.trace.bells ≡ cond (q == word) (sight bits (u.trace.steps + 1)) (last_bell q u.trace.bells) = λ q. ap (λ (t : Trace). last_bell q t.bells) trace in
-      let here : last_bell (x.0 / 64) w.trace.bells ≡ sight bits (u.trace.steps + 1) = at (x.0 / 64) ∙ ap (λ c. cond c (sight bits (u.trace.steps + 1)) (last_bell (x.0 / 64) u.trace.bells)) (eq-eqb (x.0 / 64) word word_is) in
-      let else_at : (q : ℕ) → q ≢ word → last_bell q w.trace.bells ≡ last_bell q u.trace.bells = λ q ne. at q ∙ ap (λ c. cond c (sight bits (u.trace.steps + 1)) (last_bell q u.trace.bells)) (ne_eqb q word ne) in (
-        record {
-          is = l.0.is ∙ ap (λ (y : Held T). record y { hand = x.0 ∷ y.hand; kept = x ∷ y.kept; trace = w.trace }) a;
-          near = l.0.near;
-          apart = ap (is_in x.0) (sym hand) ∙ l.0.apart;
-          labelled = l.0.labelled ∙ tag;
-        },
-        (
-          bits,
-          (ap (λ (y : Sight). y.value) here, (let b = ap (λ (y : Sight). y.step) here in omega arith)),
-          l.2.3,
-          (λ q lt. let ne : q ≢ word = (λ e. omega arith) in subst (λ (y : Sight). (y.value ≡ 0) × (v.trace.steps < y.step)) (sym (else_at q ne)) (rang q (omega arith))),
-          l.2.4,
-        ),
-      )

@@ -1,5 +1,5 @@
 -- The other steps, stated at the values that the code has.
-use Rattle.std.proofs.Common.{◌≡◌, ℕ, ◌+◌, ◌*◌, ◌/◌, ◌%◌, ◌^◌, List, [], ◌∷◌, true, bit_or, refl, sym, ap, ◌∙◌, subst}
+use Rattle.std.proofs.Common.{◌≡◌, ℕ, ◌+◌, ◌*◌, ◌/◌, ◌%◌, ◌^◌, [], ◌∷◌, true, bit_or, refl, sym, ap, ◌∙◌, subst}
 use Rattle.std.specs.Prelude as std
 use mathlib.Core.Option.{none}
 use Rattle.atomic_table.specs.Table.{step, rest, Allows, Splits, Joins}
@@ -22,10 +22,6 @@ use Rattle.zy_table.specs.declared.name.Name.{Name}
 module _ {T M : Type 0} (mark : T → M) (label : T → Name) where
   pub stores_cell_as : (s n id p i t places : ℕ) (me : Seated T) → IsHomeSeat s t me → is_in p me.0.hand ≡ true → n ≡ places → i ≡ 32 + t % places → Allows (ShuffleRule mark label) n id me i (λ _. p) (λ _ m. stored_cell (step n i p 0 none) me m)
   stores_cell_as s n id p i t places me h has size is = stores_cell mark label n id p i t (out_of me.0.role) std.None (bells_of me.0.role) me h.0 h.1 has (is ∙ ap (λ x. 32 + t % x) (sym size))
-
-  -- slot `p` is in front, with nothing in it
-  pub front_slot : (p : ℕ) (ks : List ℕ) (m : Seated T) → m.1 ≡ emptied (p ∷ ks) → (x : std.Option T) × (m.1 ≡ (p, x) ∷ rest m.1)
-  front_slot p ks m e = (std.None, e ∙ ap (λ l. (p, std.None) ∷ l) (sym (ap rest e)))
 
   pub stores_tail_as : (s n id p i t : ℕ) (b : T) (m0 m1 m2 : Seated T) → IsHomeSeat s t m0 → stored_cell (step n i p 0 none) m0 m1 → m2 ≡ (m1.0, (p, std.Some b) ∷ rest m1.1) → label b ≡ m0.0.label
       → Allows (ShuffleRule mark label) n id m2 16 (λ _. t + 1) (λ _ m. published mark m2 m)
@@ -51,16 +47,6 @@ module _ {T M : Type 0} (mark : T → M) (label : T → Name) where
         slots = h.seat.0 ∙ ap emptied (sym w);
         stays = (refl, refl);
       }
-
-  pub brought_now : (p q y : ℕ) (m0 m1 : Seated T) → fronted p m0 y m1 → q ≡ p → IsBrought q m0 m1
-  brought_now p q y m0 m1 e same = subst (λ x. IsBrought x m0 m1) (sym same) record {
-    role = ap (λ (m : Seated T). m.0.role) e;
-    label = ap (λ (m : Seated T). m.0.label) e;
-    kept = ap (λ (m : Seated T). m.0.kept) e;
-    hand = ap (λ (m : Seated T). m.0.hand) e;
-    slots = ap (λ (m : Seated T). m.1) e;
-    stays = (ap (λ (m : Seated T). m.0.trace.run) e, ap (λ (m : Seated T). m.0.trace.seats) e);
-  }
 
   pub gives_back_as : (s n id q i places mask : ℕ) (b : T) (m0 m1 m2 : Seated T) → IsCoreSeat s m0 → IsBrought q m0 m1 → m2 ≡ (m1.0, (q, std.Some b) ∷ rest m1.1) → label b ≡ m0.0.label → marked mark q m0.0.kept ≡ std.Some (mark b) → n ≡ places
       → i ≡ 32 + places + q / 64 → mask ≡ 1 * 2 ^ (q % 64) % 2 ^ 64 → Allows (ShuffleRule mark label) n id m2 i (λ x. bit_or x mask) (λ _ m. gave m2 m)

@@ -16,7 +16,6 @@ pub mod GiveLemmas
 pub mod BellLemmas
 pub mod PassLemmas
 pub mod LeftLemmas
-pub mod EventLemmas
 pub mod RuleLemmas
 pub mod RunLemmas
 pub mod HolderLemmas

@@ -3,14 +3,12 @@ use Rattle.std.proofs.Common.{◌≡◌, ◌≢◌, ℕ, ◌+◌, ◌<◌, List,
 use Rattle.std.specs.Prelude as std
 use mathlib.Core.Option.{none}
 use Rattle.atomic_table.specs.Table.{step, rest}
-use Rattle.atomic_table.specs.Seated.{TableId}
 use Rattle.zy_shuffle.proofs.HandLemmas.{below_in, in_below}
 use Rattle.zy_shuffle.specs.Hand.{below_then, emptied, rest_of}
-use Rattle.zy_shuffle.specs.Pass.{HasAll, Claimed, Held, held, out_of}
-use Rattle.zy_shuffle.specs.PassSeat.{IsBrought, IsCorePass, IsCoreSeat, IsHomeSeat, Within, bells_of}
+use Rattle.zy_shuffle.specs.Pass.{HasAll, out_of}
+use Rattle.zy_shuffle.specs.PassSeat.{IsBrought, IsCorePass, IsHomeSeat, Within, bells_of}
 use Rattle.zy_shuffle.specs.HomeRole.{with_published, with_stored}
 use Rattle.zy_shuffle.specs.Step.{Seated, gave, giving, named_as, next_publication, published, publishing, stored_cell, storing}
-use Rattle.zy_shuffle.specs.declared.claim.Claim.TheVariants.{Took}
 use Rattle.zy_shuffle.specs.declared.ring.view.Role.{Role}
 use Rattle.zy_shuffle.specs.declared.ring.view.Role.TheVariants.{Home}
 use Rattle.zy_shuffle.specs.declared.ring.view.View.{View}
@@ -44,13 +42,6 @@ pub within_all : (n : ℕ) → Within n (below_then n [])
 within_all n q e = ⊎_elim (λ (a : q < n). a) (λ (a : is_in q [] ≡ true). absurd (true≢false (sym a))) (in_below n q [] e)
 
 module _ {T : Type 0} where
-  pub core_claimed : (s s' : ℕ) (m m' : Seated T) → IsCoreSeat s m → s' ≡ s → m'.1 ≡ emptied m'.0.hand → m'.0.role ≡ m.0.role → Within s' m'.0.hand → IsCoreSeat s' m'
-  core_claimed s s' m m' h f out role near = (out, role ∙ h.1, near)
-
-  pub home_claimed : (s s' t : ℕ) (m m' : Seated T) → IsHomeSeat s t m → s' ≡ s → m'.1 ≡ emptied m'.0.hand → m'.0.role ≡ m.0.role → Within s' m'.0.hand → IsHomeSeat s' t m'
-  home_claimed s s' t m m' h f out role near = (out, role ∙ h.1 ∙ ap (λ (y : Role). Home t std.None (bells_of y) (out_of y)) (sym role), near)
-
-module _ {T : Type 0} where
   pub home_named : (z : Name) (s s' n : ℕ) (m : Seated T) → n ≡ s → s' ≡ s → named_as {T = T} z (step n 0 0 0 none) m → IsHomeSeat s' 0 m
   home_named z s s' n m e f h =
       subst (λ (x : Seated T). IsHomeSeat s' 0 x) (sym h) (refl, refl, subst (λ k. Within k (below_then n [])) (e ∙ sym f) (within_all n))
@@ -77,13 +68,4 @@ module _ {T : Type 0} where
         seat = (slots ∙ ap emptied (sym hand), ap (λ (v : View T). v.role) view ∙ e.role ∙ h.seat.1, subst (λ (k : ℕ × List ℕ). Within k.0 k.1) (λ j. (sym same j, sym hand j)) (within_less s q m0.0.hand h.seat.2));
         front_is = tt;
         apart = subst IsDistinct (sym hand) (distinct_without q m0.0.hand h.apart);
-      }
-
-  pub core_took : {M : Type 0} (mark : T → M) (label : T → Name) (n s s' p : ℕ) (front : std.Option ℕ) (z : TableId) (b : T) (m m' : Seated T) → s' ≡ s → IsCorePass s front m → m'.1 ≡ emptied m'.0.hand → m'.0.role ≡ m.0.role → Within s' m'.0.hand
-      → Claimed mark label n (held z m.0) (held z m'.0) (Took p b) → IsCorePass s' (std.Some p) m'
-  core_took mark label n s s' p front z b m m' same h out role near c =
-      let hand : m'.0.hand ≡ p ∷ m.0.hand = ap (λ (v : Held T). v.hand) c.0.is in record {
-        seat = (out, role ∙ h.seat.1, near);
-        front_is = hand ∙ ap (λ l. p ∷ rest_of l) (sym hand);
-        apart = subst IsDistinct (sym hand) (c.0.apart, h.apart);
       }

@@ -50,11 +50,6 @@ module _ {T : Type 0} where
         sym old.2 ∙ h.tables at old.0 r old.1 there;
   })
 
-  -- giving a block back leaves the passes on the same rings
-  pub gives_within : (rings : List Ringed) (p q : PassList T) (core place : ℕ) (block : T) → q.core ≡ p.core → GivesTo p q core place block → ArePasses rings p → ArePasses rings q
-  gives_within rings p q core place block same g h =
-      passes_tables rings p q same (ap tables_of g.seats ∙ tables-set (seats_of p.items) (number_of p.core core) (seat_of g.before) _ (seats-get p.items (number_of p.core core) g.before g.was) refl) h
-
   module _ {M : Type 0} (mark : T → M) (label : T → Name) where
     -- so does a steal
     pub takes_within : (rings : List Ringed) (p q : PassList T) (core place : ℕ) (block : T) → q.core ≡ p.core → TakesFrom mark label p q core place block → ArePasses rings p → ArePasses rings q

@@ -19,10 +19,6 @@ other-below core at lt = grind (arith, nat_tests)
 pub other-above : (core at : ℕ) → core ≤ at → other_core core at ≡ at + 1
 other-above core at le = grind (arith, nat_tests)
 
--- no other core is this one
-pub other-differs : (core at : ℕ) → other_core core at ≢ core
-other-differs core at e = grind (arith, nat_tests)
-
 -- the core with a number among the others has that number
 pub number_of-other : (core at : ℕ) → number_of core (other_core core at) ≡ at
 number_of-other core at = grind (arith, nat_tests)
@@ -42,14 +38,6 @@ mod_turn : (n k : ℕ) → k < n + n → k % n ≡ cond (nat_lt k n) k (k - n)
 mod_turn n k lt = dite (dec_lt k n)
     (λ below. let a : k % n ≡ k = mod-eq_of_lt below in grind (arith, nat_tests))
     (λ not. let a : k % n ≡ k - n = (let b : k ≡ (k - n) + n = omega arith in ap (λ x. x % n) b ∙ add-mod_right (k - n) n ∙ mod-eq_of_lt {n = k - n} {m = n} (omega arith)) in grind (arith, nat_tests))
-
--- the numbers of a turn are below `count`
-pub turned-below : (start count t : ℕ) → start < count → t < count → turned start count t < count
-turned-below start count t a b = grind (arith, nat_tests)
-
--- a turn has different numbers at different times
-pub turned-apart : (start count t u : ℕ) → start < count → t < count → u < count → t ≢ u → turned start count t ≢ turned start count u
-turned-apart start count t u a b c ne e = grind (arith, nat_tests)
 
 -- the number of the t-th victim among the others
 pub victim_is : (cores core m start t : ℕ) → core < cores → t + 1 < cores → start ≡ (core + m) % (cores - 1) → victim cores core m t ≡ other_core core (turned start (cores - 1) t)

@@ -1,5 +1,5 @@
 -- Passes that make claims one after the other.
-use Rattle.std.proofs.Common.{⊎_elim, inl, inr, ◌≡◌, ◌≢◌, ℕ, ◌+◌, ◌<◌, ◌≤◌, List, length, set, slice_get, refl, sym, ap, ◌∙◌, subst, arith}
+use Rattle.std.proofs.Common.{⊎_elim, inl, inr, ◌≡◌, ◌≢◌, ℕ, ◌+◌, ◌<◌, ◌≤◌, List, length, set, slice_get, sym, ap, ◌∙◌, subst, arith}
 use Rattle.std.specs.Prelude.{Option, Some}
 use mathlib.Core.Logic.{dite}
 use native.Mathlib.Decide.{ℕ_discrete, dec_lt}
@@ -19,10 +19,6 @@ module _ {T : Type 0} where
   found_seat : (v w : Held T) (look : Look) → Found v w look → seat_of w ≡ seat_of v
   found_seat v w (Empty at) f = ap seat_of f.0
   found_seat v w (Raced saw found) f = ap seat_of f.0
-
-  -- no claim was made yet
-  pub ranges_start : (core : ℕ) (vs : List (Held T)) (looks : List (Option Look)) (from : ℕ) → Ranges core vs vs looks looks from from
-  ranges_start core vs looks from = record { seats = refl; looked = λ k ge lt. absurd (omega arith); rest = λ k out. refl; others = λ c free. refl }
 
   -- one further claim, which took nothing
   pub ranges_on : (core : ℕ) (vs ws us : List (Held T)) (a b c : List (Option Look)) (from at : ℕ) → from ≤ at → Ranges core vs ws a b from at → MissesAt core ws us b c at → Ranges core vs us a c from (at + 1)

@@ -6,7 +6,7 @@ use Rattle.zy_shuffle.specs.declared.ring.view.Trace.{Trace}
 use Rattle.zy_shuffle.specs.Pass.{Held, Ringed, after_give_back}
 use Rattle.zy_steal.specs.Order.{other_core, number_of}
 use Rattle.zy_steal.proofs.OrderLemmas.{other-number_of}
-use Rattle.zy_steal.specs.Steal.{ArePasses, Holds, HoldsOf, GivesTo, SeatOf, seat_of, seats_of, pass_list}
+use Rattle.zy_steal.specs.Steal.{ArePasses, Holds, HoldsOf, GivesTo, seat_of, seats_of, pass_list}
 
 module _ {T : Type 0} where
   -- one pass is changed
@@ -25,22 +25,6 @@ module _ {T : Type 0} where
   pub seats-length : (vs : List (Held T)) → length (seats_of vs) ≡ length vs
   seats-length [] = refl
   seats-length (x ∷ xs) = ap suc (seats-length xs)
-
-  -- each is the seat of a pass
-  some_of_seat : (vs : List (Held T)) (i : ℕ) (s : SeatOf) → slice_get (seats_of vs) i ≡ Some s → (v : Held T) × (slice_get vs i ≡ Some v) × (seat_of v ≡ s)
-  some_of_seat [] i s e = absurd (cc)
-  some_of_seat (x ∷ xs) zero s e = (x, refl, cc)
-  some_of_seat (x ∷ xs) (suc i) s e = some_of_seat xs i s e
-
-  -- passes with the same seats are passes on the same rings
-  pub passes_same : (rings : List Ringed) (core : ℕ) (vs ws : List (Held T)) → seats_of ws ≡ seats_of vs → ArePasses rings (pass_list core vs) → ArePasses rings (pass_list core ws)
-  passes_same rings core vs ws same h = record {
-    count = let a = ap length same in let b = seats-length vs in let c = seats-length ws in let d = h.count in omega arith;
-    core = h.core;
-    tables = λ at v r e there.
-        let old = some_of_seat vs at (seat_of v) (ap (λ l. slice_get l at) (sym same) ∙ seats-get ws at v e) in
-        ap (λ (s : SeatOf). s.table) (sym old.2) ∙ h.tables at old.0 r old.1 there;
-  }
 
   -- there are as many passes
   pub count_same : (vs ws : List (Held T)) → seats_of ws ≡ seats_of vs → length ws ≡ length vs

@@ -8,16 +8,15 @@ use native.Mathlib.Decide.{dec_lt}
 use Rattle.zy_table.specs.declared.name.Name.{Name}
 use Rattle.zy_table.specs.Member.{is_in}
 use Rattle.zy_table.proofs.MemberLemmas.{in_front}
-use Rattle.zy_table.proofs.SliceLemmas.{get_below, get_set_else, get_set_there}
+use Rattle.zy_table.proofs.SliceLemmas.{get_set_else, get_set_there}
 use Rattle.zy_shuffle.specs.declared.claim.Claim.TheVariants as claims
 use Rattle.zy_shuffle.specs.Hand.{marked}
 use Rattle.zy_shuffle.specs.Pass.{Held}
 use Rattle.zy_shuffle.proofs.HandLemmas.{marked_here}
 use Rattle.zy_steal.specs.declared.looks.Look.{Look}
 use Rattle.zy_steal.specs.declared.passes.Taken.{Taken}
-use Rattle.zy_steal.specs.Look.{IsBlank}
 use Rattle.zy_steal.specs.Order.{victim, other_core, number_of}
-use Rattle.zy_steal.specs.Steal.{PassList, Thief, seat_of, seats_of, TakesFrom, AllLooked, InTurn}
+use Rattle.zy_steal.specs.Steal.{PassList, Thief, seat_of, seats_of, TakesFrom, InTurn}
 use Rattle.zy_steal.specs.Range.{ClaimsAt, Ranges, RangesTo, StopsAt, StopsInTurn, TurnsTo, IsFirst, turned}
 use Rattle.zy_steal.proofs.OrderLemmas.{number_of-other, victim_is}
 use Rattle.zy_steal.proofs.SeatLemmas.{seats-set}
@@ -132,14 +131,6 @@ module _ {T M : Type 0} (mark : T → M) (label : T → Name) where
         earlier = λ t v w lt ev ew. s.earlier t v w lt (ap (slice_get p.items) (sym (number t (omega arith))) ∙ ev) (ap (slice_get q.items) (sym (number t (omega arith))) ∙ ew);
         later = λ t lt more. ap (slice_get q.items) (number t (omega arith)) ∙ s.later t lt (omega arith) ∙ ap (slice_get p.items) (sym (number t (omega arith)));
       }
-
--- a whole turn made a claim at each other core
-pub all_looked : {T : Type 0} (p q : PassList T) (a b : List (Option Look)) → IsBlank a → Ranges p.core p.items q.items a b 0 (length p.items) → AllLooked p q b
-all_looked p q a b blank r = record {
-  seats = r.seats;
-  looked = λ at v w ev ew. r.looked at (omega arith) (get_below p.items at v ev) v w ev ew;
-  others = λ core free. r.others core (λ at _ lt. free at lt) ∙ blank core;
-}
 
 -- the number with which a thief begins
 pub first_is : (core calls n : ℕ) → (core + calls % n) % n ≡ (core + calls) % n

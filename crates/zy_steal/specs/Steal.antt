@@ -9,7 +9,7 @@ use Rattle.zy_steal.specs.declared.looks.Look.{Look}
 use Rattle.zy_steal.specs.declared.looks.Look.TheVariants.{Empty, Raced}
 use Rattle.zy_steal.specs.declared.victims.Stolen.{Stolen}
 use Rattle.zy_steal.specs.declared.victims.Stolen.TheVariants.{Took, Nothing}
-use Rattle.zy_steal.specs.Look.{look_at}
+use Rattle.zy_steal.specs.Look.{look_at, NotesAll}
 use Rattle.zy_steal.specs.Order.{victim, other_core, number_of}
 
 -- ---- passes
@@ -117,6 +117,12 @@ pub record AllLooked {T : Type 0} (p q : PassList T) (looks : List (Option Look)
   pub seats : seats_of q.items ≡ seats_of p.items
   pub looked : (at : ℕ) → Looked p.core p.items q.items looks at
   pub others : (core : ℕ) → ((at : ℕ) → at < length p.items → other_core p.core at ≢ core) → look_at looks core ≡ None
+
+-- a claim was made at each other core, and these looks were noted over those that there were
+pub record AllLookedOver {T : Type 0} (p q : PassList T) (before after : List (Option Look)) : Type 0 where
+  pub made : List (Option Look)
+  pub looked : AllLooked p q made
+  pub notes : NotesAll made before after
 
 -- ---- the answer
 

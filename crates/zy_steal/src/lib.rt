@@ -12,4 +12,4 @@ pub use looks::{Look, Looks};
 pub use order::Order;
 pub use passes::Passes;
 pub use rings::Rings;
-pub use victims::{Stolen, Victims};
+pub use victims::{Stolen, StolenBlock, Victims};

@@ -29,8 +29,8 @@ impl Model for Looks {
 }
 
 impl Looks {
-    // No look at any core.
-    pub(crate) fn new() -> Looks
+    /// No look at any core.
+    pub fn new() -> Looks
         ensures value { IsBlank result }
     {
         Looks { looks: [None; 64] }

@@ -1,7 +1,7 @@
 //! One core as a thief.
-ghost use Rattle.std.specs.Prelude.{◌≡◌, ◌+◌, ◌%◌, ◌^◌, ◌<◌, ◌≤◌, length};
+ghost use Rattle.std.specs.Prelude.{◌≡◌, ◌+◌, ◌%◌, ◌^◌, ◌<◌, ◌≤◌, length, IfSome, IfNone};
 ghost use Rattle.zy_steal.specs.Order.{order_of, first_victims};
-ghost use Rattle.zy_steal.specs.Steal.{ArePasses, TakesFrom, AllLooked, InTurn, IfStolen, IfNothing};
+ghost use Rattle.zy_steal.specs.Steal.{ArePasses, TakesFrom, AllLooked, AllLookedOver, InTurn, IfStolen, IfNothing};
 ghost use Rattle.zy_steal.specs.Steal.{IsOther, thief};
 ghost use Rattle.zy_steal.specs.Range.{IsFirst};
 
@@ -19,6 +19,14 @@ pub enum Stolen<T> {
     Took { victim: u32, place: u32, block: T },
     /// A claim at every other core took nothing.
     Nothing { looks: Looks },
+}
+
+/// A block of another core, whose place is now in the hand of the pass on that core's ring.
+#[derive(Drop)]
+pub struct StolenBlock<T> {
+    pub victim: u32,
+    pub place: u32,
+    pub block: T,
 }
 
 /// One core as a thief: its number, the number of cores, and the number of its calls so far.
@@ -86,17 +94,56 @@ impl Victims {
         ensures none { IfNothing result (AllLooked passes.old passes.new) }
     {
         let mut looks = Looks::new();
+        match self.steal_into(rings, passes, &mut looks) {
+            Some(
+                StolenBlock {
+                    victim,
+                    place,
+                    block,
+                },
+            ) => Stolen::Took {
+                victim,
+                place,
+                block,
+            },
+            None => Stolen::Nothing { looks },
+        }
+    }
+
+    /// As `steal`, over a table of looks that the caller owns: this call's looks are noted over those
+    /// that are there. So no table is cleared or moved.
+    pub fn steal_into<T: Marked>(
+        &mut self,
+        rings: &Rings<T>,
+        passes: &mut Passes<T>,
+        looks: &mut Looks,
+    ) -> Option<StolenBlock<T>>
+        requires within { ArePasses rings.now passes.old }
+        requires core { passes.old.core ≡ self.old.core }
+        requires cores { length rings.now ≡ self.old.cores }
+        ensures ok { self.new ≡ record self.old { calls = (self.old.calls + 1) % 2 ^ 64 } }
+        ensures kept { passes.new.core ≡ passes.old.core }
+        ensures within { ArePasses rings.now passes.new }
+
+        // Some: a block of another core, and only the cores before it in the order were looked at.
+        ensures other { IfSome result (λ p. IsOther self.old.core self.old.cores p.victim) }
+        ensures taken { IfSome result (λ p. TakesFrom T.mark T.label passes.old passes.new p.victim p.place p.block) }
+        ensures order { IfSome result (λ p. InTurn self.old passes.old passes.new p.victim) }
+
+        // None: a claim at each other core took nothing, and each look says why.
+        ensures none { IfNone result (AllLookedOver passes.old passes.new looks.old looks.new) }
+    {
         let start = self.first();
         self.calls = self.calls.wrapping_add(1);
-        let Some(taken) = passes.turn(rings, start, &mut looks) else {
-            return Stolen::Nothing { looks };
+        let Some(taken) = passes.turn(rings, start, looks) else {
+            return None;
         };
         let Taken { at, place, block } = taken;
-        Stolen::Took {
+        Some(StolenBlock {
             victim: other_core(self.core, at),
             place,
             block,
-        }
+        })
     }
 
     // The number, among the other cores, of the first core that the next call looks at.

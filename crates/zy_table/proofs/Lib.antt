@@ -1,4 +1,3 @@
-pub mod NameLemmas
 pub mod PutLemmas
 pub mod SumLemmas
 pub mod MemberLemmas

@@ -32,22 +32,6 @@ not_in p xs h = go (is_in p xs) h
 pub in_or : (p q : ℕ) (xs : List ℕ) → is_in q (p ∷ xs) ≡ true → (q ≡ p) ⊎ ((q ≢ p) × (is_in q xs ≡ true))
 in_or p q xs h = dite (ℕ_discrete q p) (λ e. inl e) (λ ne. inr (ne, sym (in_cons p q xs ne) ∙ h))
 
--- a number is a member or not
-pub in_cases : (q : ℕ) (xs : List ℕ) {P : Type 0} → (is_in q xs ≡ true → P) → (is_in q xs ≡ false → P) → P
-in_cases q xs {P} is not = go (is_in q xs) is not
-  where
-    go : (b : Bool) → (b ≡ true → P) → (b ≡ false → P) → P
-    go true f g = f refl
-    go false f g = g refl
-
--- a number that is not a member of a list is not one of its rest
-pub in_rest : (q k : ℕ) (xs : List ℕ) → is_in q (k ∷ xs) ≡ false → is_in q xs ≡ false
-in_rest q k xs e = go (q == k) (is_in q xs) e
-  where
-    go : (a b : Bool) → (a || b) ≡ false → b ≡ false
-    go true b e = cc
-    go false b e = e
-
 -- ---- without one number
 
 -- the number is the first

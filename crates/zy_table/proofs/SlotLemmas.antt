@@ -35,10 +35,3 @@ at_below (x ∷ xs) (suc i) a e = let h = at_below xs i a e in omega arith
 -- different members have different indices
 pub places_apart : {A : Type 0} (l : List A) (i j : ℕ) (a b : A) → get_elem? l i ≡ some a → get_elem? l j ≡ some b → (a ≡ b → ⊥) → j ≢ i
 places_apart l i j a b x y ne e = ne (some-injective _ _ (sym x ∙ ap (get_elem? l) (sym e) ∙ y))
-
--- two lists with the same member at each index are equal
-pub list_same : {A : Type 0} (l k : List A) → ((i : ℕ) → get_elem? l i ≡ get_elem? k i) → l ≡ k
-list_same [] [] h = refl
-list_same [] (y ∷ ys) h = absurd (some-ne-none y (sym (h 0)))
-list_same (x ∷ xs) [] h = absurd (some-ne-none x (h 0))
-list_same (x ∷ xs) (y ∷ ys) h = λ i. some-injective _ _ (h 0) i ∷ list_same xs ys (λ j. h (suc j)) i

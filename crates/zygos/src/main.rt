@@ -3,14 +3,16 @@
 
 use std::alloc::Global;
 use std::env::{Env, FillError};
-use std::io::BufWriter;
+use std::io::{BufWriter, Write};
 use std::mem;
 use std::process::ExitCode;
-use zy_base::{Blob, NoMemory, Ungated};
+use zy_base::{Blob, NoMemory, Ungated, write_whole};
 use zygos_run::{StdSink, StdSource, serve, status};
 
-// The exit status if there is no memory for the words themselves, or for the buffer.
+// The exit status if there is no memory for the words themselves, or for the buffer, and its line.
 const OUT_OF_MEMORY: u8 = 6;
+
+const OUT_OF_MEMORY_LINE: &[u8] = b"zygos: out of memory\n";
 
 // The size of the buffer of standard output; longer pieces are not held back.
 const BUFFER: usize = 65_536;
@@ -21,7 +23,7 @@ fn main(rt: HostRuntime) -> ExitCode {
         Ok(words) => {
             let Ok(output) = BufWriter::with_capacity(alloc, BUFFER, rt.stdout()) else {
                 drop(words);
-                return ExitCode::from(OUT_OF_MEMORY);
+                return without_memory(rt.stderr());
             };
             let answer = serve(
                 &rt,
@@ -37,8 +39,17 @@ fn main(rt: HostRuntime) -> ExitCode {
             mem::forget(answer);
             ExitCode::from(status)
         }
-        Err(NoMemory) => ExitCode::from(OUT_OF_MEMORY),
+        Err(NoMemory) => without_memory(rt.stderr()),
     }
+}
+
+// Writes the line to standard error; the exit status. Takes no memory.
+fn without_memory<W: Write + Drop>(error: W) -> ExitCode {
+    let mut says = StdSink::new(error);
+    // The status is the same if the line cannot be written.
+    let _ = write_whole(&mut says, OUT_OF_MEMORY_LINE);
+    drop(says);
+    ExitCode::from(OUT_OF_MEMORY)
 }
 
 // The words after the program's name, as bytes.

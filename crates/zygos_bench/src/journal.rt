@@ -77,6 +77,7 @@ fn writing<R: CpuClock>(rt: &R, alloc: Global, entries: u64) -> Result<Done, NoM
     let mut sink = Counting {
         bytes: 0,
         finishes: 0,
+        is_finished: false,
     };
     let _ = write_journal(&mut sink, &journal);
     let spent = nanos(rt).saturating_sub(before);

@@ -18,6 +18,7 @@ pub(crate) fn measured<R: CpuClock, I: Read>(
     let mut sink = Counting {
         bytes: 0,
         finishes: 0,
+        is_finished: false,
     };
     let start = nanos(rt);
     read_all(input, &mut reader);

@@ -27,8 +27,8 @@ use Rattle.zy_base.specs.declared.file_fault.FileFault.{FileFault}
 use Rattle.zy_journal_reader.specs.Verdict as Journals
 use Rattle.zygos_run.specs.Recorded.{IsRecorded}
 use Rattle.zygos_run.specs.Reported.{IsReported}
-use Rattle.zygos_run.specs.Headline.{IsWritten}
-use Rattle.zygos_run.specs.Seen.{Side, Seen, NoneRose, Takes, OfGiven, OfReported, OfTold}
+use Rattle.zy_serving.specs.Headline.{IsWritten}
+use Rattle.zy_serving.specs.Seen.{Side, Seen, NoneRose, Takes, OfGiven, OfReported, OfTold}
 use Rattle.zygos_run.specs.Ends.{IsChecked, HasServed, HasChecked, HasMade, HasFault, MayRefuse, Ends}
 use Rattle.zygos_run.specs.Served.{HeadlineHolds, CheckHolds, ReportHolds, IsToldGood, IsToldBad, IsDoneOr, IsRefusedOr, IsUsageOr}
 

@@ -7,7 +7,7 @@ use Rattle.zy_read.specs.declared.not_taken.NotTaken.{NotTaken}
 use Rattle.zy_read.specs.declared.not_taken.NotTaken.TheVariants.{Fault, NoMemory}
 use Rattle.zy_read.specs.Piece.{HasGiven, IsOver}
 use Rattle.zy_read.proofs.SourceLemmas.{told_first, told_all, consumed_none}
-use Rattle.zy_capture.specs.Capture.{AreBytes}
+use Rattle.zy_read.specs.Bytes.{AreBytes}
 use Rattle.zy_capture.specs.Verdict.{verdict}
 use Rattle.zy_pcap.specs.declared.pcap_fault.PcapFault.{PcapFault}
 use Rattle.zy_pcap.specs.Packet.{Packet}
@@ -15,13 +15,13 @@ use Rattle.zy_pcap.specs.Packets.{Found, packets}
 use Rattle.zy_pcap.specs.Packets.Found.{Packets, Bad}
 use Rattle.zy_pcap.specs.Made.{capture_of, pcap_capture, pcap_verdict}
 use Rattle.zy_pcap.specs.Standing.{Reading, StandsFor, Feeds, Lasts, TellsLasting, FinishesAs, FinishesBy}
-use Rattle.zygos_run.specs.Seen.{side}
+use Rattle.zy_serving.specs.Seen.{side}
 use Rattle.zygos_run.specs.Recorded.{IsRecorded}
 use Rattle.zygos_run.specs.Packets.{ReadsPackets, HasFed, Advances, came_of, ended_by}
 
 -- before the first byte
 pub fed_none : {S : Type 0} (rest : S → Option (List ℕ)) (faults : S → ℕ) (port : ℕ) (first : S) (reader : Reading) → reader.port ≡ port → StandsFor reader [] → HasFed rest faults port first first [] reader []
-fed_none rest faults port first reader is stands = record { port_is = is; stands = stands; given = record { source = consumed_none (rest first); count = omega arith } }
+fed_none rest faults port first reader is stands = record { port_is = is; stands = stands; given = record { source = consumed_none (rest first); bytes = tt; count = omega arith } }
 
 module _ {S : Type 0} (rest : S → Option (List ℕ)) (faults : S → ℕ) (port : ℕ) (first now : S) (old new : Reading) (left bytes : List ℕ) (count : ℕ) where
   -- some first bytes of those that are left were fed
@@ -31,7 +31,7 @@ module _ {S : Type 0} (rest : S → Option (List ℕ)) (faults : S → ℕ) (por
       record {
         port_is = same ∙ is;
         stands = feeds bytes stands;
-        given = record { source = subst (Consumes (rest first) (rest now)) regrouped given.source; count = given.count };
+        given = record { source = subst (Consumes (rest first) (rest now)) regrouped given.source; bytes = subst AreBytes regrouped given.bytes; count = given.count };
       }
 
   -- one of them is a fault
@@ -54,9 +54,9 @@ abbrev pub CapturesAreGood : Type 0
 CapturesAreGood =
     (port : ℕ) (bytes : List ℕ) (given : List Packet) → packets port bytes ≡ Packets given → AreBytes bytes → verdict (pcap_capture given) ≡ pcap_verdict given
 
-finished_ok : CapturesAreGood → (found : Found) (port : ℕ) (bytes : List ℕ) (streams : List (List (List ℕ))) → packets port bytes ≡ found → FinishesAs found (Ok streams) → IsRecorded port bytes (λ capture. capture ≡ capture_of streams)
-finished_ok good (Packets given) port bytes streams is finishes = record { given = given; are = is; capture = ap capture_of (sym finishes); good = good port bytes given is }
-finished_ok good (Bad fault) port bytes streams is finishes = absurd finishes
+finished_ok : CapturesAreGood → (found : Found) (port : ℕ) (bytes : List ℕ) (streams : List (List (List ℕ))) → AreBytes bytes → packets port bytes ≡ found → FinishesAs found (Ok streams) → IsRecorded port bytes (λ capture. capture ≡ capture_of streams)
+finished_ok good (Packets given) port bytes streams small is finishes = record { given = given; are = is; capture = ap capture_of (sym finishes); good = good port bytes given is small }
+finished_ok good (Bad fault) port bytes streams small is finishes = absurd finishes
 
 finished_bad : (found : Found) (fault : PcapFault) → FinishesAs found (Err fault) → found ≡ Bad fault
 finished_bad (Packets given) fault finishes = absurd finishes
@@ -68,7 +68,8 @@ pub finished : CapturesAreGood → {S : Type 0} (rest : S → Option (List ℕ))
 finished good rest faults port first now left reader bytes (Ok streams) fed over finishes =
     let all : bytes ++ left ≡ bytes = ap (λ (l : List ℕ). bytes ++ l) over.0 ∙ append-nil bytes in
     let ends = subst (λ (n : ℕ). FinishesAs (packets n bytes) (Ok streams)) fed.port_is (finishes bytes fed.stands) in
-    (bytes, (subst (Consumes (rest first) (rest now)) all fed.given.source, over.1), finished_ok good (packets port bytes) port bytes streams refl ends)
+    let small : AreBytes bytes = subst AreBytes all fed.given.bytes in
+    (bytes, (subst (Consumes (rest first) (rest now)) all fed.given.source, over.1, small), finished_ok good (packets port bytes) port bytes streams small refl ends)
 finished good rest faults port first now left reader bytes (Err fault) fed over finishes =
     let all : bytes ++ left ≡ bytes = ap (λ (l : List ℕ). bytes ++ l) over.0 ∙ append-nil bytes in
     let ends = subst (λ (n : ℕ). FinishesAs (packets n bytes) (Err fault)) fed.port_is (finishes bytes fed.stands) in

@@ -4,42 +4,26 @@ use Rattle.zy_capture.specs.Outputs.{AllOutputs, AreOutputs}
 use Rattle.zy_capture.specs.Verdict.{verdict}
 use Rattle.zy_capture.specs.Verdict.Verdict.{Bad}
 use Rattle.zy_journal.specs.declared.journal.Journal.{Journal}
-use Rattle.zy_run.specs.Commands.{streams_in}
 use Rattle.zy_run.specs.declared.summary.Summary.{Summary}
-use Rattle.zy_run.specs.Summary.{summary}
 use Rattle.zy_check_input.specs.declared.stop.Refusal.{Refusal}
 use Rattle.zy_check_input.specs.declared.stop.Refusal.TheVariants.{Capture, Journal as OfJournal, Pcap}
 use Rattle.zy_check_input.specs.Parts.{AreParts, HasPartFault, IsPartFault}
 use Rattle.zy_check.specs.declared.verdict.Verdict.{Verdict as Certified}
 use Rattle.zy_check.specs.Given.{given}
 use Rattle.zy_check.specs.Cause.{HasVerdict}
-use Rattle.zy_gen.specs.Traffic.{gen_bytes, records_of}
 use Rattle.zy_pcap.specs.Packets.{packets}
 use Rattle.zy_pcap.specs.Packets as Recorded
 use Rattle.zy_journal_reader.specs.Verdict as Journals
 use Rattle.zy_command_line.specs.declared.request.Request.{Request}
 use Rattle.zy_command_line.specs.declared.request.Request.TheVariants as Requests
-use Rattle.zy_command_line.specs.declared.request.Traffic.{Traffic}
 use Rattle.zygos_run.specs.declared.answer.Answer.{Answer}
 use Rattle.zygos_run.specs.declared.answer.Answer.TheVariants.{Served, Checked, Made, Tested, Usage, Refused, ReadFault, WriteFault, OutOfMemory}
-use Rattle.zygos_run.specs.Seen.{Seen, HasRisen, Takes, TakesPart, OfGiven}
+use Rattle.zy_serving.specs.Seen.{Seen, HasRisen, Takes, TakesPart, OfGiven}
 use Rattle.zygos_run.specs.Recorded.{IsRecorded}
-use Rattle.zy_command_line.specs.declared.request.Run.{Run}
 use Rattle.zygos_run.specs.Reported.{IsReported}
-use Rattle.zygos_run.specs.Headline.{IsServed, IsWritten, IsPartWritten}
+use Rattle.zy_serving.specs.Headline.{IsWritten, IsPartWritten}
+use Rattle.zy_self.specs.Tested.{IsTested, traffic_bytes}
 use Rattle.zygos_run.specs.Lines.{verdict_line, summary_line}
-
--- ---- traffic
-
--- the capture of some traffic
-abbrev pub traffic_bytes : Traffic → List ℕ
-traffic_bytes traffic = gen_bytes traffic.number traffic.conns traffic.commands
-
--- the numbers that all runs of some traffic have in common: those of the run that makes all calls of connection 0,
--- then all of connection 1, and so on
-abbrev pub traffic_summary : ℕ → Traffic → Summary
-traffic_summary shards traffic =
-    summary shards traffic.conns (streams_in (records_of traffic.number traffic.conns traffic.commands))
 
 -- ---- what was carried out
 
@@ -51,12 +35,6 @@ pub record IsChecked (shards : ℕ) (bytes : List ℕ) (verdict : Certified) : T
   pub parts : AreParts bytes streams journal outputs
   pub lawful : AreOutputs outputs
   pub verdict_is : HasVerdict (given shards streams journal outputs) verdict
-
--- the journal is that of a served run of generated traffic, and the numbers are those of all its runs
-pub record IsTested (traffic : Traffic) (run : Run) (journal : Journal) (numbers : Summary) : Type 0 where
-  pub outputs : AllOutputs
-  pub served : IsServed run (traffic_bytes traffic) journal outputs
-  pub numbers_are : numbers ≡ traffic_summary run.shards traffic
 
 -- ---- the answers, one by one
 

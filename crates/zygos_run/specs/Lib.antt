@@ -1,15 +1,10 @@
 pub mod Answers
 pub mod Lines
 pub mod Said
-pub mod Numbers
-pub mod Seen
-pub mod Headline
 pub mod Packets
-pub mod Prepared
 pub mod Recorded
 pub mod Reported
 pub mod Ends
 pub mod Served
-pub mod Runs
+pub mod Checks
 pub mod Finish
-pub mod Certified

@@ -10,9 +10,9 @@ use Rattle.zy_pcap.specs.Packets.{packets}
 use Rattle.zy_pcap.specs.Packets.Found.{Bad}
 use Rattle.zy_pcap.specs.Made.{capture_of}
 use Rattle.zy_pcap.specs.Standing.{Reading, StandsFor}
-use Rattle.zygos_run.specs.Seen.{Side, side, OfGiven}
+use Rattle.zy_serving.specs.Seen.{Side, side, OfGiven}
 use Rattle.zygos_run.specs.Recorded.{IsRecorded}
-use Rattle.zygos_run.specs.Runs.{StopsFor}
+use Rattle.zygos_run.specs.Checks.{StopsFor}
 
 -- the bytes have this fault as packets to the port
 abbrev pub IsBad : ℕ → PcapFault → List ℕ → Type 0

@@ -1,6 +1,5 @@
 -- What is made of recorded packets.
 use Rattle.std.specs.Prelude.{◌≡◌, ℕ, List}
-use Rattle.zy_capture.specs.Capture.{AreBytes}
 use Rattle.zy_capture.specs.Verdict.{verdict}
 use Rattle.zy_pcap.specs.Packet.{Packet}
 use Rattle.zy_pcap.specs.Packets.{packets}
@@ -12,5 +11,5 @@ pub record IsRecorded (port : ℕ) (bytes : List ℕ) (Holds : List ℕ → Type
   pub given : List Packet
   pub are : packets port bytes ≡ Packets given
   pub capture : Holds (pcap_capture given)
-  -- the capture is good; a source does not say that the numbers that it gives are bytes, so this is a premise
-  pub good : AreBytes bytes → verdict (pcap_capture given) ≡ pcap_verdict given
+  -- the capture is good
+  pub good : verdict (pcap_capture given) ≡ pcap_verdict given

@@ -1,7 +1,7 @@
 -- What is reported of a journal.
 use Rattle.std.specs.Prelude.{◌≡◌, List, ℕ}
 use Rattle.zy_journal.specs.declared.journal.Journal.{Journal}
-use Rattle.zy_journal_reader.specs.Verdict.{verdict, SpellsJournal, AreBytes}
+use Rattle.zy_journal_reader.specs.Verdict.{verdict, SpellsJournal}
 use Rattle.zy_journal_reader.specs.Verdict.Verdict.{Good}
 use Rattle.zy_report.specs.Report.{report_of}
 
@@ -9,6 +9,6 @@ use Rattle.zy_report.specs.Report.{report_of}
 pub record IsReported (bytes : List ℕ) (Holds : List ℕ → Type 0) : Type 0 where
   pub journal : Journal
   pub good : verdict bytes ≡ Good journal
-  -- the bytes are its spelling; a source does not say that the numbers that it gives are bytes, so this is a premise
-  pub spelled : AreBytes bytes → SpellsJournal bytes journal
+  -- the bytes are its spelling
+  pub spelled : SpellsJournal bytes journal
   pub table : Holds (report_of journal.entries)

@@ -16,8 +16,8 @@ use Rattle.zy_command_line.specs.declared.request.Request.{Request}
 use Rattle.zy_command_line.specs.declared.request.Request.TheVariants as Requests
 use Rattle.zygos_run.specs.declared.answer.Answer.{Answer}
 use Rattle.zygos_run.specs.declared.answer.Answer.TheVariants.{Served, Checked, Made, Tested, Usage, Refused, OutOfMemory}
-use Rattle.zygos_run.specs.Headline.{IsWritten}
-use Rattle.zygos_run.specs.Seen.{Seen, OfTold, Takes}
+use Rattle.zy_serving.specs.Headline.{IsWritten}
+use Rattle.zy_serving.specs.Seen.{Seen, OfTold, Takes}
 use Rattle.zygos_run.specs.Reported.{IsReported}
 use Rattle.zygos_run.specs.Ends.{IsChecked, HasFault}
 

@@ -3,10 +3,10 @@ ghost use Rattle.std.specs.Prelude.{◌≡◌, ◌≤◌, Some};
 ghost use Rattle.zy_base.specs.Outside.{WritesLast};
 ghost use Rattle.zy_command_line.specs.Range.{AreShards};
 ghost use Rattle.zy_command_line.specs.declared.request.Request.TheVariants as Requests;
-ghost use Rattle.zygos_run.specs.Seen.{side, seen};
+ghost use Rattle.zy_serving.specs.Seen.{side, seen};
 ghost use Rattle.zygos_run.specs.Finish.{FinishesOnce};
 ghost use Rattle.zygos_run.specs.Ends.{Ends, LeavesSink};
-ghost use Rattle.zygos_run.specs.Runs.{ChecksTo};
+ghost use Rattle.zygos_run.specs.Checks.{ChecksTo};
 ghost use Rattle.zygos_run.specs.Lines.{verdict_line};
 
 use crate::answer::Answer;
@@ -29,7 +29,7 @@ pub(crate) fn check_input<S: Source, K: Sink>(
     ensures ends { Ends (Some (Requests.Check shards))
         (seen (side S.rest S.faults source.old source.new) (side K.holds K.faults sink.old sink.new)) result }
     ensures sink_kept { LeavesSink result → sink.new ≡ sink.old }
-    ensures finished { FinishesOnce result (K.finishes sink.old) (K.finishes sink.new) }
+    ensures finished { FinishesOnce result (K.finishes sink.old) (K.finishes sink.new) (K.is_finished sink.new) }
 {
     match check_parts(alloc, shards, source) {
         Ok(verdict) => match write_line(sink, verdict) {
@@ -62,7 +62,8 @@ fn check_parts<S: Source>(alloc: Global, shards: u32, source: &mut S) -> Result<
 
 // Writes the line of a verdict, and finishes.
 fn write_line<K: Sink>(sink: &mut K, verdict: Verdict) -> Result<(), Failed>
-    ensures writes { WritesLast K.holds K.faults K.finishes sink.old sink.new result (verdict_line verdict) }
+    ensures writes { WritesLast K.holds K.faults K.finishes K.is_finished sink.old sink.new result
+        (verdict_line verdict) }
 {
     write_verdict(sink, verdict)?;
     sink.finish()

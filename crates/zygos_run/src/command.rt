@@ -1,7 +1,7 @@
 //! The command that the words ask for.
 ghost use Rattle.std.specs.Prelude.{◌≡◌, ◌≤◌};
 ghost use Rattle.zy_command_line.specs.Request.{request_of};
-ghost use Rattle.zygos_run.specs.Seen.{side, seen};
+ghost use Rattle.zy_serving.specs.Seen.{side, seen};
 ghost use Rattle.zygos_run.specs.Finish.{FinishesOnce};
 ghost use Rattle.zygos_run.specs.Ends.{Ends, LeavesSink, ReadsNothing};
 
@@ -10,7 +10,7 @@ use crate::check::check_input;
 use crate::generate::make_traffic;
 use crate::packets::make_packets;
 use crate::report::report_journal;
-use crate::run::serve_capture;
+use crate::run::run_capture;
 use crate::self_test::test_traffic;
 use std::alloc::Global;
 use std::sync::Wait;
@@ -33,13 +33,13 @@ pub(crate) fn carry_out<R: Threads + Wait + Sync, S: Source, K: Sink, G: Gate + 
     ensures ends { Ends (request_of words.now)
         (seen (side S.rest S.faults source.old source.new) (side K.holds K.faults sink.old sink.new)) result }
     ensures sink_kept { LeavesSink result → sink.new ≡ sink.old }
-    ensures finished { FinishesOnce result (K.finishes sink.old) (K.finishes sink.new) }
+    ensures finished { FinishesOnce result (K.finishes sink.old) (K.finishes sink.new) (K.is_finished sink.new) }
     ensures source_kept { ReadsNothing (request_of words.now) → source.new ≡ source.old }
 {
     requests_are_in_their_ranges();
     match request_of(alloc, words) {
         Ok(Some(Request::Run { run, out })) => {
-            serve_capture(rt, alloc, run, out, source, sink, gate)
+            run_capture(rt, alloc, run, out, source, sink, gate)
         }
         Ok(Some(Request::Check { shards })) => check_input(alloc, shards, source, sink),
         Ok(Some(Request::Gen { traffic })) => make_traffic(alloc, traffic, sink),

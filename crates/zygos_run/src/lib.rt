@@ -5,7 +5,6 @@ mod answer;
 mod check;
 mod command;
 mod generate;
-mod laws;
 mod lines;
 mod packets;
 mod report;
@@ -16,10 +15,6 @@ mod serving;
 mod standard;
 
 pub use answer::{Answer, status};
-pub use laws::{
-    a_served_run_has_short_files, an_input_has_one_verdict, an_input_that_checks_is_of_a_run,
-    what_is_served_checks,
-};
 pub use serving::serve;
 pub use standard::{StdSink, StdSource};
 pub use zy_check::{Cause, Verdict};

@@ -1,10 +1,10 @@
 //! Reporting on a journal.
 ghost use Rattle.std.specs.Prelude.{◌≡◌, ◌≤◌, Some};
 ghost use Rattle.zy_command_line.specs.declared.request.Request.TheVariants as Requests;
-ghost use Rattle.zygos_run.specs.Seen.{side, seen};
+ghost use Rattle.zy_serving.specs.Seen.{side, seen};
 ghost use Rattle.zygos_run.specs.Finish.{FinishesOnce};
 ghost use Rattle.zygos_run.specs.Ends.{Ends, LeavesSink};
-ghost use Rattle.zygos_run.specs.Runs.{ReportsTo};
+ghost use Rattle.zygos_run.specs.Checks.{ReportsTo};
 
 use crate::answer::Answer;
 use crate::generate::write_last;
@@ -25,7 +25,7 @@ pub(crate) fn report_journal<S: Source, K: Sink>(
     ensures ends { Ends (Some Requests.Report)
         (seen (side S.rest S.faults source.old source.new) (side K.holds K.faults sink.old sink.new)) result }
     ensures sink_kept { LeavesSink result → sink.new ≡ sink.old }
-    ensures finished { FinishesOnce result (K.finishes sink.old) (K.finishes sink.new) }
+    ensures finished { FinishesOnce result (K.finishes sink.old) (K.finishes sink.new) (K.is_finished sink.new) }
 {
     match make_report(alloc, source) {
         Ok(table) => {

@@ -6,17 +6,12 @@ ghost use Rattle.zy_capture.specs.Replies.{replies_bytes};
 ghost use Rattle.zy_journal.specs.Journal.{IsJournal};
 ghost use Rattle.zy_command_line.specs.Range.{IsRunnable};
 ghost use Rattle.zy_command_line.specs.declared.request.Request.TheVariants as Requests;
-ghost use Rattle.zygos_run.specs.Seen.{side, seen};
+ghost use Rattle.zy_serving.specs.Seen.{side, seen};
 ghost use Rattle.zygos_run.specs.Finish.{FinishesOnce};
 ghost use Rattle.zygos_run.specs.Ends.{Ends, LeavesSink};
-ghost use Rattle.zygos_run.specs.Headline.{front, written};
-
-mod drive;
-mod prepare;
-pub(crate) mod serve;
+ghost use Rattle.zy_serving.specs.Headline.{front, written};
 
 use crate::answer::Answer;
-use crate::run::serve::run_capture;
 use std::alloc::Global;
 use std::sync::Wait;
 use std::thread::Threads;
@@ -27,9 +22,10 @@ use zy_command_line::{Out, Run};
 use zy_feed::Stop;
 use zy_finish::Finished;
 use zy_journal::{Journal, write_journal};
+use zy_serving::serve_capture;
 
 /// Serves a capture, and writes the replies, and the journal where it is asked for.
-pub(crate) fn serve_capture<R: Threads + Wait + Sync, S: Source, K: Sink, G: Gate + Sync>(
+pub(crate) fn run_capture<R: Threads + Wait + Sync, S: Source, K: Sink, G: Gate + Sync>(
     rt: &R,
     alloc: Global,
     run: Run,
@@ -44,9 +40,9 @@ pub(crate) fn serve_capture<R: Threads + Wait + Sync, S: Source, K: Sink, G: Gat
     ensures ends { Ends (Some (Requests.Run run out))
         (seen (side S.rest S.faults source.old source.new) (side K.holds K.faults sink.old sink.new)) result }
     ensures sink_kept { LeavesSink result → sink.new ≡ sink.old }
-    ensures finished { FinishesOnce result (K.finishes sink.old) (K.finishes sink.new) }
+    ensures finished { FinishesOnce result (K.finishes sink.old) (K.finishes sink.new) (K.is_finished sink.new) }
 {
-    match run_capture(rt, alloc, run, source, gate) {
+    match serve_capture(rt, alloc, run, source, gate) {
         Ok(done) => match write_all(sink, out, &done) {
             Ok(()) => Answer::Served(done.journal),
             Err(Failed) => Answer::WriteFault,
@@ -61,7 +57,7 @@ pub(crate) fn serve_capture<R: Threads + Wait + Sync, S: Source, K: Sink, G: Gat
 fn write_all<K: Sink>(sink: &mut K, out: Out, done: &Finished) -> Result<(), Failed>
     requires outputs { AreOutputs done.now.outputs }
     requires journal { IsJournal done.now.journal }
-    ensures writes { WritesLast K.holds K.faults K.finishes sink.old sink.new result
+    ensures writes { WritesLast K.holds K.faults K.finishes K.is_finished sink.old sink.new result
         (written out done.now.journal done.now.outputs) }
 {
     match write_front(sink, out, &done.journal) {
@@ -73,7 +69,8 @@ fn write_all<K: Sink>(sink: &mut K, out: Out, done: &Finished) -> Result<(), Fai
 // Writes the replies, and finishes.
 fn write_back<K: Sink>(sink: &mut K, outputs: &Outputs) -> Result<(), Failed>
     requires outputs { AreOutputs outputs.now }
-    ensures writes { WritesLast K.holds K.faults K.finishes sink.old sink.new result (replies_bytes outputs.now) }
+    ensures writes { WritesLast K.holds K.faults K.finishes K.is_finished sink.old sink.new result
+        (replies_bytes outputs.now) }
 {
     write_replies(sink, outputs)?;
     sink.finish()

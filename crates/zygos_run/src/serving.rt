@@ -3,7 +3,7 @@ ghost use Rattle.std.specs.Prelude.{◌≡◌, ◌≤◌, None};
 ghost use Rattle.zy_base.specs.Outside.{Rose};
 ghost use Rattle.zy_command_line.specs.Request.{request_of};
 ghost use Rattle.zygos_run.specs.Lines.{line_of};
-ghost use Rattle.zygos_run.specs.Seen.{side, seen, NoneRose};
+ghost use Rattle.zy_serving.specs.Seen.{side, seen, NoneRose};
 ghost use Rattle.zygos_run.specs.Ends.{HasServed, HasChecked, HasMade, HasTested, HasPart};
 ghost use Rattle.zygos_run.specs.Ends.{IsFaultOf, ReadsInput, ReadsNothing, LeavesSink};
 ghost use Rattle.zygos_run.specs.Served.{HeadlineHolds, CheckHolds, ReportHolds, IsToldGood, IsToldBad};
@@ -29,7 +29,7 @@ use zy_check_input::{parts_have_no_fault, there_is_one_part_fault};
 /// traffic. `self` makes that capture, serves it, checks what came, and writes a line with its
 /// numbers: that the check says yes is proved. `pcap` reads recorded packets to the end of the source,
 /// and writes the capture of those to one port. `report` reads a journal to the end of the source,
-/// and writes a table of what its entries count, by shard. The sink is finished once.
+/// and writes a table of what its entries count, by shard. The sink is finished once, after the last write.
 ///
 /// A line on an answer that is no success goes to `says`; a fault there changes nothing. `gate` is
 /// passed once for each command, when it is begun. Want of memory is free, and comes only before the
@@ -87,7 +87,7 @@ pub fn serve<R: Threads + Wait + Sync, S: Source, K: Sink, E: Sink, G: Gate + Sy
     ensures writes { K.faults sink.old ≤ K.faults sink.new }
 
     // Whether the sink was finished.
-    ensures finished { FinishesOnce result (K.finishes sink.old) (K.finishes sink.new) }
+    ensures finished { FinishesOnce result (K.finishes sink.old) (K.finishes sink.new) (K.is_finished sink.new) }
 
     // The line on standard error.
     ensures said { Said (E.holds says.old) (E.holds says.new) (E.faults says.old) (E.faults says.new) (line_of result) }

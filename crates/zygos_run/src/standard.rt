@@ -47,6 +47,7 @@ pub struct StdSink<W: Write> {
     writer: W,
     faults: u64,
     finishes: u64,
+    is_finished: bool,
     first: Snapshot<W>,
     ghost tells: { IsSome (W.contents first.value) → IsSome (W.contents writer) },
 }
@@ -63,6 +64,7 @@ impl<W: Write> StdSink<W> {
             writer,
             faults: 0,
             finishes: 0,
+            is_finished: false,
             first,
         }
     }
@@ -75,7 +77,10 @@ impl<W: Write> Sink for StdSink<W> {
 
     ghost finishes = { λ s. s.finishes };
 
+    ghost is_finished = { λ s. s.is_finished };
+
     fn write(&mut self, from: &[u8]) -> Result<usize, Failed> {
+        self.is_finished = false;
         match self.writer.write(from) {
             Ok(n) if n > 0 || from.is_empty() => Ok(n),
             _ => {
@@ -87,8 +92,12 @@ impl<W: Write> Sink for StdSink<W> {
 
     fn finish(&mut self) -> Result<(), Failed> {
         self.finishes = self.finishes.saturating_add(1);
+        self.is_finished = false;
         match self.writer.flush() {
-            Ok(()) => Ok(()),
+            Ok(()) => {
+                self.is_finished = true;
+                Ok(())
+            }
             Err(_) => {
                 self.faults = self.faults.saturating_add(1);
                 Err(Failed)

@@ -38,14 +38,19 @@ impl Home {
         };
         // Until all is settled again, the home is as one that was refused memory.
         self.refused = true;
-        let mut touched = Touched::new();
+        let mut touched = self.touched.take();
         let count = match self.cut_all(first, outlet, &mut touched) {
             Ok(count) => count,
-            Err(e) => return Err(e),
+            Err(e) => {
+                drop(touched);
+                return Err(e);
+            }
         };
         if let Err(e) = self.settle_all(ring, &touched) {
+            drop(touched);
             return Err(e);
         }
+        drop(mem::replace(&mut self.touched, touched));
         self.refused = false;
         Ok(count)
     }
@@ -119,7 +124,9 @@ impl Home {
             Ok(false) => return Ok(()),
             Err(e) => return Err(e),
         }
-        touched.push(at);
+        if let Err(e) = touched.push(at) {
+            return Err(e);
+        }
         Ok(())
     }
 

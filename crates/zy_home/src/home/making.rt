@@ -7,6 +7,7 @@ use super::Home;
 use crate::blocks::Blocks;
 use crate::link::Link;
 use crate::parts::{HomeParts, Inlets};
+use crate::touched::Touched;
 use std::alloc::Global;
 use zy_base::NoMemory;
 use zy_conn::Block;
@@ -50,6 +51,7 @@ impl Home {
             links,
             ended: false,
             refused: false,
+            touched: Touched::new(alloc),
         })
     }
 }

@@ -18,6 +18,7 @@ impl Home {
     /// Receives an item. A segment is cut, and a close ends the session of its connection, even
     /// while its block is away; the block of an idle connection that got an event is published. An
     /// item after the end is dropped, and so is one of a connection that is not the home's.
+    /// The program calls `receive_all`.
     pub fn receive(&mut self, ring: &Ring<Block>, item: Rx) -> Result<(), NoMemory>
         requires table { self.old.pass.table ≡ ring.now.id }
         requires few { self.old.pass.count < 2 ^ 63 }

@@ -2,7 +2,8 @@
 ghost use Rattle.std.specs.Prelude.{◌≡◌, ℕ, ◌<◌, [], length, take, true, false, Ok, Err};
 ghost use Rattle.zy_read.specs.declared.not_taken.NotTaken.TheVariants.{Fault};
 ghost use Rattle.zy_pcap.specs.declared.due.Due.TheVariants as Dues;
-ghost use Rattle.zy_pcap.specs.Steps.{then_due, broken, judged, number, settings, time, original, taken, move, is_full, file_limit};
+ghost use Rattle.zy_pcap.specs.Steps.{then_due, broken, judged, number, settings, time, original, taken, move};
+ghost use Rattle.zy_pcap.specs.Steps.{is_full, file_limit};
 ghost use Rattle.zy_pcap.specs.Steps.Move.{Goes};
 ghost use Rattle.zy_pcap.specs.Moves.{Takes, IsPart, IsWithin, has_number};
 

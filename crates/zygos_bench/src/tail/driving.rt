@@ -1,6 +1,6 @@
 //! Driving the cores of a load.
 ghost use Rattle.std.specs.Prelude.{◌≡◌, ◌≤◌, length, IfOk};
-ghost use Rattle.zy_core.specs.Drive.{identities, AreCores};
+ghost use Rattle.zy_core.specs.Cores.{identities, AreCores};
 
 use crate::clock::monotonic;
 use crate::tail::board::Board;
@@ -14,7 +14,8 @@ use std::sync::Wait;
 use std::thread::Threads;
 use std::time::Clock;
 use zy_base::NoMemory;
-use zy_core::{Cores, Driven, Shared, drive};
+use zy_core::{Cores, Shared};
+use zy_drive::{Driven, drive};
 use zy_feed::Inlets;
 use zy_park::Bells;
 use zy_setup::{Made, Started, make, start};

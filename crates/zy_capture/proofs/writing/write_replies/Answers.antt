@@ -3,27 +3,28 @@ use Rattle.std.specs.Prelude.{Err}
 use Rattle.zy_base.specs.Outside.{Grew, Writes}
 use Rattle.zy_base.proofs.WritingLemmas.{writes_on, writes_no_more}
 use Rattle.zy_capture.specs.Replies.{magic, numbered_from, connection_text, replies_bytes}
+use Rattle.zy_capture.proofs.NumberedLemmas.{failed_as}
 use Rattle.zy_capture.proofs.writing.write_replies.Goals as goal
 
-pub returns-in-Err : goal.returns-in-Err
+pub returns-in_err-write_whole : goal.returns-in_err-write_whole
 unfolding replies_bytes
-returns-in-Err g c =
+returns-in_err-write_whole g c =
     let version = c.args.outputs.now.version in
     let body : List ℕ = numbered_from (connection_text version) 0 c.args.outputs.now.sessions in
     let head : c.magic_of.result.now ≡ magic version = c.magic_of.ensures.value ∙ rw c.version.ensures.value refl in
-    let P : List ℕ → Type 0 = λ text. Writes g.K.Sink.holds g.K.Sink.faults g.K.Sink.finishes c.args.sink.now c.write_whole.new.sink (Err c.in-Err.failed) text in
-    record { writes = writes_no_more g.K.Sink.holds g.K.Sink.faults g.K.Sink.finishes c.args.sink.now c.write_whole.new.sink c.in-Err.failed (magic version) (body ++ 69 ∷ []) (subst P head c.in-Err.ensures.writes) }
+    let P : List ℕ → Type 0 = λ text. Writes g.K.Sink.holds g.K.Sink.faults g.K.Sink.finishes c.args.sink.now c.write_whole.new.sink (Err c.in_err-write_whole.field-0.0) text in
+    record { writes = failed_as g.K.Sink.holds g.K.Sink.faults g.K.Sink.finishes _ _ c.from_residual.result _ _ c.from_residual.ensures.0 (writes_no_more g.K.Sink.holds g.K.Sink.faults g.K.Sink.finishes c.args.sink.now c.write_whole.new.sink _ (magic version) (body ++ 69 ∷ []) (subst P head c.in_err-write_whole.ensures.writes)) }
 
-pub returns-in-Err-write_connections : goal.returns-in-Err-write_connections
+pub returns-in_err-write_connections : goal.returns-in_err-write_connections
 unfolding replies_bytes
-returns-in-Err-write_connections g c =
+returns-in_err-write_connections g c =
     let version = c.args.outputs.now.version in
     let body : List ℕ = numbered_from (connection_text version) 0 c.args.outputs.now.sessions in
     let head : c.magic_of.result.now ≡ magic version = c.magic_of.ensures.value ∙ rw c.version.ensures.value refl in
-    let begun : Grew (g.K.Sink.holds c.args.sink.now) (g.K.Sink.holds c.write_whole.new.sink) (magic version) = subst (λ (l : List ℕ). Grew (g.K.Sink.holds c.args.sink.now) (g.K.Sink.holds c.write_whole.new.sink) l) head c.in_default.ensures.writes.whole in
+    let begun : Grew (g.K.Sink.holds c.args.sink.now) (g.K.Sink.holds c.write_whole.new.sink) (magic version) = subst (λ (l : List ℕ). Grew (g.K.Sink.holds c.args.sink.now) (g.K.Sink.holds c.write_whole.new.sink) l) head c.in_ok-write_whole.ensures.writes.whole in
     record {
-      writes = writes_on g.K.Sink.holds g.K.Sink.faults g.K.Sink.finishes c.args.sink.now c.write_whole.new.sink c.write_connections.new.sink (Err c.in-Err-write_connections.failed) (magic version) (body ++ 69 ∷ []) begun c.in_default.ensures.writes.count c.in_default.ensures.writes.unfinished
-          (writes_no_more g.K.Sink.holds g.K.Sink.faults g.K.Sink.finishes c.write_whole.new.sink c.write_connections.new.sink c.in-Err-write_connections.failed body (69 ∷ []) c.in-Err-write_connections.ensures.writes);
+      writes = failed_as g.K.Sink.holds g.K.Sink.faults g.K.Sink.finishes _ _ c.from_residual-in_err-write_connections.result _ _ c.from_residual-in_err-write_connections.ensures.0 (writes_on g.K.Sink.holds g.K.Sink.faults g.K.Sink.finishes c.args.sink.now c.write_whole.new.sink c.write_connections.new.sink (Err c.in_err-write_connections.field-0.0) (magic version) (body ++ 69 ∷ []) begun c.in_ok-write_whole.ensures.writes.count c.in_ok-write_whole.ensures.writes.unfinished
+          (writes_no_more g.K.Sink.holds g.K.Sink.faults g.K.Sink.finishes c.write_whole.new.sink c.write_connections.new.sink _ body (69 ∷ []) c.in_err-write_connections.ensures.writes));
     }
 
 pub returns : goal.returns
@@ -32,8 +33,8 @@ returns g c =
     let version = c.args.outputs.now.version in
     let body : List ℕ = numbered_from (connection_text version) 0 c.args.outputs.now.sessions in
     let head : c.magic_of.result.now ≡ magic version = c.magic_of.ensures.value ∙ rw c.version.ensures.value refl in
-    let begun : Grew (g.K.Sink.holds c.args.sink.now) (g.K.Sink.holds c.write_whole.new.sink) (magic version) = subst (λ (l : List ℕ). Grew (g.K.Sink.holds c.args.sink.now) (g.K.Sink.holds c.write_whole.new.sink) l) head c.in_default.ensures.writes.whole in
+    let begun : Grew (g.K.Sink.holds c.args.sink.now) (g.K.Sink.holds c.write_whole.new.sink) (magic version) = subst (λ (l : List ℕ). Grew (g.K.Sink.holds c.args.sink.now) (g.K.Sink.holds c.write_whole.new.sink) l) head c.in_ok-write_whole.ensures.writes.whole in
     record {
-      writes = writes_on g.K.Sink.holds g.K.Sink.faults g.K.Sink.finishes c.args.sink.now c.write_whole.new.sink c.write_whole-2.new.sink c.write_whole-2.result (magic version) (body ++ 69 ∷ []) begun c.in_default.ensures.writes.count c.in_default.ensures.writes.unfinished
-          (writes_on g.K.Sink.holds g.K.Sink.faults g.K.Sink.finishes c.write_whole.new.sink c.write_connections.new.sink c.write_whole-2.new.sink c.write_whole-2.result body (69 ∷ []) c.in_default-write_connections.ensures.writes.whole c.in_default-write_connections.ensures.writes.count c.in_default-write_connections.ensures.writes.unfinished c.write_whole-2.ensures.writes);
+      writes = writes_on g.K.Sink.holds g.K.Sink.faults g.K.Sink.finishes c.args.sink.now c.write_whole.new.sink c.write_whole-2.new.sink c.write_whole-2.result (magic version) (body ++ 69 ∷ []) begun c.in_ok-write_whole.ensures.writes.count c.in_ok-write_whole.ensures.writes.unfinished
+          (writes_on g.K.Sink.holds g.K.Sink.faults g.K.Sink.finishes c.write_whole.new.sink c.write_connections.new.sink c.write_whole-2.new.sink c.write_whole-2.result body (69 ∷ []) c.in_ok-write_connections.ensures.writes.whole c.in_ok-write_connections.ensures.writes.count c.in_ok-write_connections.ensures.writes.unfinished c.write_whole-2.ensures.writes);
     }

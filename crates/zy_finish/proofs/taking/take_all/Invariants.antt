@@ -1,7 +1,7 @@
 use Rattle.std.proofs.Common.{◌≡◌, ◌≤◌, ◌+◌, ◌++◌, length}
 use Rattle.std.specs.Prelude.{vec_capacity}
 use Rattle.std.specs.Vec.Iter.{into_iter_items}
-use Rattle.zy_core.specs.Drive.{identities}
+use Rattle.zy_core.specs.Cores.{identities}
 use Rattle.zy_rx.specs.Feed.{rings_of}
 use Rattle.zy_finish.specs.Received.{homes_of}
 use Rattle.zy_setup.specs.Station.{rings_in}

@@ -1,4 +1,4 @@
-use Rattle.std.proofs.Common.{◌≡◌, ◌≢◌, ◌+◌, ◌-◌, ◌/◌, ◌<◌, ◌≤◌, Some, slice_get, sym, ap, ◌∙◌, subst, arith, ℕ}
+use Rattle.std.proofs.Common.{◌≡◌, ◌≢◌, ◌+◌, ◌-◌, ◌/◌, ◌<◌, ◌≤◌, Some, slice_get, ◌∙◌, arith}
 use Rattle.zy_table.proofs.SliceLemmas.{get_at}
 use Rattle.zy_home.specs.Link.{conn_of}
 use Rattle.zy_home.proofs.OwnLemmas.{below_middle, above_middle}

@@ -1,5 +1,5 @@
-use Rattle.std.proofs.Common.{◌≡◌, ◌<◌, ◌≤◌, ◌+◌, ◌-◌, ◌^◌, ◌++◌, ℕ, List, [], length, ap, ◌∙◌, sym, subst, refl, arith, append_assoc}
-use Rattle.std.specs.Prelude.{Ok, Err}
+use Rattle.std.proofs.Common.{◌≡◌, ◌+◌, ◌-◌, ◌^◌, ◌++◌, ℕ, List, [], length, ap, ◌∙◌, sym, subst, refl, arith, append_assoc}
+use Rattle.std.specs.Prelude.{Err}
 use Rattle.std.proofs.lemmas.List.{append-nil}
 use Rattle.zy_base.specs.Outside.{Grew, Writes}
 use Rattle.zy_base.proofs.WritingLemmas.{grew_nothing, grew_on, writes_on, writes_no_more}
@@ -8,6 +8,7 @@ use Rattle.zy_pcap.specs.Chunk.{byte_held}
 use Rattle.zy_pcap.specs.Texts.{stream_text, segment_text}
 use Rattle.zy_pcap.proofs.RunLemmas.{self_from}
 use Rattle.zy_pcap.proofs.TextLemmas.{stream_steps, stream_ends, stream_over, stream_whole}
+use Rattle.zy_capture.proofs.NumberedLemmas.{failed_as}
 use Rattle.zy_pcap.proofs.writing.write_stream.Goals as goal
 
 pub loop-at-init : goal.loop-at-init
@@ -39,8 +40,8 @@ pub write_segment-requires-clause-there : goal.write_segment-requires-clause-the
 write_segment-requires-clause-there g c =
     subst (λ (k : ℕ). length (longest_from (byte_held c.args.stream.now) c.loop-at.at k) ≡ k) (sym c.run_size-size.ensures.value) (ap length (self_from (byte_held c.args.stream.now) c.loop-at.at c.min.result))
 
-pub returns-in-Err : goal.returns-in-Err
-returns-in-Err g c =
+pub returns-in_err-write_segment : goal.returns-in_err-write_segment
+returns-in_err-write_segment g c =
     let f = byte_held c.args.stream.now in
     let text : List ℕ = c.loop-at.invariant.text in
     let segment : List ℕ = segment_text c.args.conn (longest_from f c.loop-at.at c.run_size-size.result) in
@@ -48,9 +49,9 @@ returns-in-Err g c =
     let steps = stream_steps f c.args.conn c.loop-at.at c.min.result c.run_size-size.result c.loop-at.invariant.within c.min.ensures c.run_size-size.ensures.value (omega arith) in
     let whole : text ++ (segment ++ rest) ≡ stream_text c.args.conn (longest f) = ap (λ (l : List ℕ). text ++ l) (sym steps) ∙ c.loop-at.invariant.left in
     record {
-      writes = subst (Writes g.K.Sink.holds g.K.Sink.faults g.K.Sink.finishes c.args.sink.now c.write_segment.new.sink (Err c.in-Err.failed)) whole
-          (writes_on g.K.Sink.holds g.K.Sink.faults g.K.Sink.finishes c.args.sink.now c.loop-at.sink c.write_segment.new.sink (Err c.in-Err.failed) text (segment ++ rest) c.loop-at.invariant.written c.loop-at.invariant.count c.loop-at.invariant.unfinished
-          (writes_no_more g.K.Sink.holds g.K.Sink.faults g.K.Sink.finishes c.loop-at.sink c.write_segment.new.sink c.in-Err.failed segment rest c.in-Err.ensures.writes));
+      writes = failed_as g.K.Sink.holds g.K.Sink.faults g.K.Sink.finishes _ _ c.from_residual.result _ _ c.from_residual.ensures.0 (subst (Writes g.K.Sink.holds g.K.Sink.faults g.K.Sink.finishes c.args.sink.now c.write_segment.new.sink (Err c.in_err-write_segment.field-0.0)) whole
+          (writes_on g.K.Sink.holds g.K.Sink.faults g.K.Sink.finishes c.args.sink.now c.loop-at.sink c.write_segment.new.sink (Err c.in_err-write_segment.field-0.0) text (segment ++ rest) c.loop-at.invariant.written c.loop-at.invariant.count c.loop-at.invariant.unfinished
+          (writes_no_more g.K.Sink.holds g.K.Sink.faults g.K.Sink.finishes c.loop-at.sink c.write_segment.new.sink _ segment rest c.in_err-write_segment.ensures.writes)));
     }
 
 pub loop-at-preserved : goal.loop-at-preserved
@@ -63,10 +64,10 @@ loop-at-preserved g c =
     record {
       within = omega (arith, c.run_size-size.ensures.within, c.min.ensures, c.loop-at-test.true);
       text = text ++ segment;
-      written = grew_on (g.K.Sink.holds c.args.sink.now) (g.K.Sink.holds c.loop-at.sink) (g.K.Sink.holds c.write_segment.new.sink) text segment c.loop-at.invariant.written c.in_default.ensures.writes.whole;
+      written = grew_on (g.K.Sink.holds c.args.sink.now) (g.K.Sink.holds c.loop-at.sink) (g.K.Sink.holds c.write_segment.new.sink) text segment c.loop-at.invariant.written c.in_ok-write_segment.ensures.writes.whole;
       left = append_assoc text segment rest ∙ ap (λ (l : List ℕ). text ++ l) (sym steps) ∙ c.loop-at.invariant.left;
-      count = omega (arith, c.loop-at.invariant.count, c.in_default.ensures.writes.count);
-      unfinished = c.in_default.ensures.writes.unfinished ∙ c.loop-at.invariant.unfinished;
+      count = omega (arith, c.loop-at.invariant.count, c.in_ok-write_segment.ensures.writes.count);
+      unfinished = c.in_ok-write_segment.ensures.writes.unfinished ∙ c.loop-at.invariant.unfinished;
     }
 
 pub returns : goal.returns

@@ -1,4 +1,4 @@
-use Rattle.zy_report.proofs.AllLemmas.{none_read, one_read, room_at}
+use Rattle.zy_report.proofs.AllLemmas.{none_read, room_at}
 use Rattle.zy_report.proofs.tallies.add_all.Goals as goal
 
 pub loop-entry-init : goal.loop-entry-init

@@ -1,7 +1,7 @@
 use Rattle.std.proofs.Common.{◌≡◌, sym, ◌∙◌, ap, subst, Some}
 use Rattle.zy_command_line.specs.declared.request.Request.TheVariants as Requests
 use Rattle.zy_command_line.specs.Request.{request_of}
-use Rattle.zygos_run.specs.Seen.{Side, Seen, side, seen}
+use Rattle.zy_serving.specs.Seen.{Side, Seen, side, seen}
 use Rattle.zygos_run.specs.Ends.{Ends}
 use Rattle.zygos_run.proofs.command.carry_out.Goals as goal
 

@@ -8,7 +8,7 @@ returns-in-Ok-made-clause-ends g c =
       record {
         journal = c.in-Ok.journal;
         good = read.2;
-        spelled = λ small. (c.a_journal_is_good_exactly_where_it_is_a_spelling.ensures.exactly read.0 c.in-Ok.journal small).0 read.2;
+        spelled = (c.a_journal_is_good_exactly_where_it_is_a_spelling.ensures.exactly read.0 c.in-Ok.journal read.1.2).0 read.2;
         table = c.in-Ok-made.ensures.value;
       },
     )

@@ -1,6 +1,6 @@
 use Rattle.std.proofs.Common.{refl, subst}
 use Rattle.zy_command_line.specs.Request.{request_of}
-use Rattle.zygos_run.specs.Seen.{Seen, side, seen}
+use Rattle.zy_serving.specs.Seen.{Seen, side, seen}
 use Rattle.zygos_run.specs.Ends.{Ends}
 use Rattle.zygos_run.proofs.EndLemmas.{headline_of, check_of, report_of_made, unlawful_of, done_of, refused_of}
 use Rattle.zygos_run.proofs.serving.serve.Goals as goal

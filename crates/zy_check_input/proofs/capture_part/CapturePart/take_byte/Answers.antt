@@ -1,4 +1,5 @@
-use Rattle.std.proofs.Common.{◌++◌, ◌∷◌, []}
+use Rattle.std.proofs.Common.{◌++◌, ◌∷◌, [], arith}
+use Rattle.zy_read.proofs.ByteLemmas.{bytes_on}
 use Rattle.zy_capture.specs.Verdict.{captures, is_good}
 use Rattle.zy_check_input.proofs.FormatLemmas.{byte_fault}
 use Rattle.zy_check_input.proofs.CaptureLemmas.{once}
@@ -14,15 +15,16 @@ go_on-requires c =
         given = stands.given;
         bytes = bytes ++ c.args.byte ∷ [];
         reader = c.in-Ok.ensures.fed stands.given bytes stands.reader;
+        small = bytes_on bytes c.args.byte stands.small (omega (arith, c.ranges.byte));
         clean = c.in-Ok.ensures.exact stands.given bytes stands.reader;
-        kept = kept_on c.args.self.now.streams stands.given bytes (c.args.byte ∷ []) stands.kept;
+        kept = kept_on c.args.self.now.streams stands.given bytes (c.args.byte ∷ []) stands.small stands.kept;
       };
     }
 
 pub returns-in-Ok : goal.returns-in-Ok
 returns-in-Ok c = record {
-  value = λ bytes stands goes_on. c.go_on.ensures.value stands.given (bytes ++ c.args.byte ∷ []) (c.in-Ok.ensures.fed stands.given bytes stands.reader) (c.in-Ok.ensures.exact stands.given bytes stands.reader)
-      (kept_on c.args.self.now.streams stands.given bytes (c.args.byte ∷ []) stands.kept);
+  value = λ bytes stands goes_on. c.go_on.ensures.value stands.given (bytes ++ c.args.byte ∷ []) (c.in-Ok.ensures.fed stands.given bytes stands.reader) (bytes_on bytes c.args.byte stands.small (omega (arith, c.ranges.byte))) (c.in-Ok.ensures.exact stands.given bytes stands.reader)
+      (kept_on c.args.self.now.streams stands.given bytes (c.args.byte ∷ []) stands.small stands.kept);
 }
 
 pub returns-in-Err-Fault : goal.returns-in-Err-Fault

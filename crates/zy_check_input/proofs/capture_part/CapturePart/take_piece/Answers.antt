@@ -1,4 +1,6 @@
-use Rattle.std.proofs.Common.{rules, ◌≡◌, ◌++◌, take, subst}
+use Rattle.std.proofs.Common.{rules, ◌≡◌, ◌++◌, take, subst, arith}
+use Rattle.zy_read.specs.Bytes.{AreBytes}
+use Rattle.zy_read.proofs.ByteLemmas.{each_byte, bytes_append, bytes_take}
 use Rattle.std.specs.Prelude.{Ok, Err}
 use Rattle.zy_read.specs.declared.not_taken.NotTaken.TheVariants.{Fault}
 use Rattle.zy_read.specs.Standing.{given_in, Feeds, TellsFault}
@@ -15,13 +17,15 @@ go_on-requires c =
     let bytes = c.requires.goes.0 in
     let fed = subst (λ a. Feeds captures c.args.self.now.reader c.feed_piece-taken.new.self piece (given_in a)) told c.feed_piece-taken.ensures.fed in
     let exact = subst (λ a. TellsFault captures c.args.self.now.reader piece a) told c.feed_piece-taken.ensures.exact in
+    let small : AreBytes (bytes ++ piece) = bytes_append bytes piece stands.small (bytes_take c.feed_piece-taken.result.taken c.args.next.now (each_byte c.args.next.now (λ i. omega (arith, c.type_inv.next i)))) in
     record {
       keeping = record {
         given = stands.given;
         bytes = bytes ++ piece;
         reader = fed stands.given bytes stands.reader;
+        small = small;
         clean = exact stands.given bytes stands.reader;
-        kept = kept_on c.args.self.now.streams stands.given bytes piece stands.kept;
+        kept = kept_on c.args.self.now.streams stands.given bytes piece stands.small stands.kept;
       };
     }
 
@@ -31,7 +35,8 @@ returns-in-Ok-clause-value c bytes stands goes_on within =
     let piece = take c.feed_piece-taken.result.taken c.args.next.now in
     let fed = subst (λ a. Feeds captures c.args.self.now.reader c.feed_piece-taken.new.self piece (given_in a)) told c.feed_piece-taken.ensures.fed in
     let exact = subst (λ a. TellsFault captures c.args.self.now.reader piece a) told c.feed_piece-taken.ensures.exact in
-    c.go_on.ensures.value stands.given (bytes ++ piece) (fed stands.given bytes stands.reader) (exact stands.given bytes stands.reader) (kept_on c.args.self.now.streams stands.given bytes piece stands.kept)
+    let small : AreBytes (bytes ++ piece) = bytes_append bytes piece stands.small (bytes_take c.feed_piece-taken.result.taken c.args.next.now (each_byte c.args.next.now (λ i. omega (arith, c.type_inv.next i)))) in
+    c.go_on.ensures.value stands.given (bytes ++ piece) (fed stands.given bytes stands.reader) small (exact stands.given bytes stands.reader) (kept_on c.args.self.now.streams stands.given bytes piece stands.small stands.kept)
 
 pub returns-in-Err-Fault-clause-value : goal.returns-in-Err-Fault-clause-value
 returns-in-Err-Fault-clause-value c bytes stands goes_on within more =

@@ -7,4 +7,4 @@ pub new-requires : goal.new-requires
 new-requires c =
     let k = c.requires.keeping in
     let given = k.1.given ++ option_to_list k.0 in
-    record { version = version_is_known c.args.self.now.reader given k.1.bytes c.in-Some.version k.1.reader (c.in-Some.ensures.value given k.1.bytes k.1.reader) }
+    record { version = version_is_known k.1.bytes c.in-Some.version (c.in-Some.ensures.value given k.1.bytes k.1.reader) }

@@ -1,4 +1,4 @@
-use Rattle.std.proofs.Common.{List, length, arith, sym, ap}
+use Rattle.std.proofs.Common.{List, length, arith, ap}
 use Rattle.zy_conn.specs.Block.{Blocked}
 use Rattle.zy_home.proofs.BlockLemmas.{length-blocks_in}
 use Rattle.zy_home.proofs.blocks.Blocks.room.Goals as goal

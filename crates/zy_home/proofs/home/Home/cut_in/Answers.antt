@@ -1,6 +1,5 @@
-use Rattle.std.proofs.Common.{subst, sym, ap}
+use Rattle.std.proofs.Common.{subst, sym}
 use Rattle.zy_home.specs.Home.{Homed}
-use Rattle.zy_home.specs.Place.{ComesTo}
 use Rattle.zy_home.specs.Between.{Between}
 use Rattle.zy_home.proofs.ItemLemmas.{cut_past}
 use Rattle.zy_home.proofs.home.Home.cut_in.Goals as goal

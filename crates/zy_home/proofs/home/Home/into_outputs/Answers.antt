@@ -1,6 +1,5 @@
-use Rattle.std.proofs.Common.{List, sym, ap, ◌∙◌, subst}
+use Rattle.std.proofs.Common.{sym, ap, ◌∙◌, subst}
 use Rattle.std.specs.List.{AllByRecursion}
-use Rattle.zy_conn.specs.Block.{Blocked}
 use Rattle.zy_home.specs.End.{HasLabel}
 use Rattle.zy_home.specs.Home.{Homed}
 use Rattle.zy_home.proofs.BlockLemmas.{each_block}

@@ -1,6 +1,6 @@
-use Rattle.std.proofs.Common.{refl, sym, subst, List, Option, map, Some}
+use Rattle.std.proofs.Common.{refl, sym, subst, List, Option}
 use Rattle.zy_conn.specs.Block.{Blocked}
-use Rattle.zy_home.specs.Home.{Homed, HomeStands, Keeps}
+use Rattle.zy_home.specs.Home.{Keeps}
 use Rattle.zy_home.proofs.MakeLemmas.{made_conns, made_keeps, made_stands}
 use Rattle.zy_home.proofs.home.Home.new.Goals as goal
 

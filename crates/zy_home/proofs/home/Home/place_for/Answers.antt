@@ -1,4 +1,4 @@
-use Rattle.std.proofs.Common.{List, subst, sym, ap, ◌∙◌}
+use Rattle.std.proofs.Common.{List, subst, sym}
 use Rattle.zy_home.specs.Link.{Link}
 use Rattle.zy_home.specs.Own.{IsRising}
 use Rattle.zy_home.specs.Home.{conns_in}

@@ -5,7 +5,7 @@ use Rattle.zy_home.proofs.ItemLemmas.{between_amid, keeps_again, received_all, r
 use Rattle.zy_home.proofs.home.Home.receive_all.Goals as goal
 
 pub cut_all-requires-clause-between : goal.cut_all-requires-clause-between
-cut_all-requires-clause-between c = between_amid _ c.new-touched.result c.self.invariant (ap (λ (h : Homed). h.refused) c.self.view_is ∙ c.requires.live) c.new-touched.ensures.value
+cut_all-requires-clause-between c = between_amid _ c.take-touched.result c.self.invariant (ap (λ (h : Homed). h.refused) c.self.view_is ∙ c.requires.live) c.take-touched.ensures.value
 
 -- memory was refused
 pub returns-in-Err-clause-err : goal.returns-in-Err-clause-err

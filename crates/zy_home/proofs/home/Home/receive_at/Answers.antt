@@ -1,7 +1,7 @@
-use Rattle.std.proofs.Common.{refl, sym, ap, ◌∙◌, subst}
+use Rattle.std.proofs.Common.{refl, sym, subst}
 use Rattle.zy_home.specs.Home.{Homed}
 use Rattle.zy_home.specs.Place.{ComesTo}
-use Rattle.zy_home.proofs.ReceiveLemmas.{comes_own, comes_place, received, unreceived}
+use Rattle.zy_home.proofs.ReceiveLemmas.{received, unreceived}
 use Rattle.zy_home.proofs.home.Home.receive_at.Goals as goal
 
 pub invariant_of-self : goal.invariant_of-self

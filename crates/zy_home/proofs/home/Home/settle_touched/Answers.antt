@@ -1,8 +1,7 @@
-use Rattle.std.proofs.Common.{◌+◌, drop, sym, ap, ◌∙◌, subst, arith, refl}
+use Rattle.std.proofs.Common.{◌+◌, drop, sym, ap, ◌∙◌, arith}
 use Rattle.std.specs.List.{slice_index_or}
 use Rattle.zy_table.proofs.MemberLemmas.{in_front}
 use Rattle.zy_home.specs.Home.{Homed}
-use Rattle.zy_home.specs.Between.{SettlesIn}
 use Rattle.zy_home.proofs.ItemLemmas.{between_first, rest_home, touched_back, touched_due, touched_settles, touched_step}
 use Rattle.zy_home.proofs.home.Home.settle_touched.Goals as goal
 

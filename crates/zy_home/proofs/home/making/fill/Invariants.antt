@@ -1,4 +1,4 @@
-use Rattle.std.proofs.Common.{◌≡◌, ◌+◌, ◌≤◌, ◌++◌, List, length, map, Some, vec_len, vec_capacity}
+use Rattle.std.proofs.Common.{◌≡◌, ◌+◌, ◌≤◌, ◌++◌, List, length, map, Some, vec_capacity}
 use Rattle.zy_conn.specs.Ring.{EventInlet}
 use Rattle.zy_conn.specs.Block.{Blocked}
 use Rattle.zy_home.specs.Parts.{AreFresh, rings_of_blocks, rings_of_inlets}

@@ -1,4 +1,4 @@
-use Rattle.std.proofs.Common.{◌≡◌, ◌*◌, ◌-◌, ◌≤◌, length}
+use Rattle.std.proofs.Common.{◌*◌, ◌-◌, ◌≤◌}
 use Rattle.zy_journal.specs.Walk.{IsBest}
 use Rattle.zy_journal.proofs.rests.Rests.least.Given as goal
 

@@ -1,6 +1,5 @@
 use Rattle.std.proofs.Common.{◌≡◌, map, set, None, true, refl, sym, ap, ◌∙◌}
 use Rattle.std.proofs.lemmas.List.{map-set}
-use Rattle.atomic_table.specs.Seated.{TableId}
 use Rattle.zy_park.specs.Pass.{Rooted, rooted, passed, new_pass}
 use Rattle.zy_park.specs.Bell.{tables_of, views_of, given_of, is_given, new_seat}
 use Rattle.zy_park.proofs.SeatLemmas.{new_tables, new_views, parker_at, parkers_out, others_free}

@@ -1,4 +1,4 @@
-use Rattle.std.proofs.Common.{◌≡◌, sym, ap, ◌∙◌}
+use Rattle.std.proofs.Common.{sym, ap, ◌∙◌}
 use Rattle.zy_park.specs.Bell.{Seated}
 use Rattle.zy_park.proofs.SeatLemmas.{parkers_end}
 use Rattle.zy_park.proofs.bells.making.add.Goals as goal

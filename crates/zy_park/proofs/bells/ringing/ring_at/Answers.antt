@@ -1,7 +1,6 @@
-use Rattle.std.proofs.Common.{◌≡◌, ◌<◌, length, Some, slice_get, refl, sym, ap, ◌∙◌, arith}
+use Rattle.std.proofs.Common.{refl, arith}
 use Rattle.std.proofs.lemmas.Option.{slice_get_read}
 use Rattle.zy_park.specs.Token.{rings}
-use Rattle.zy_park.specs.Bell.{tables_of}
 use Rattle.zy_park.proofs.SeatLemmas.{set_views, set_tables, table_count}
 use Rattle.zy_park.proofs.bells.ringing.ring_at.Goals as goal
 

@@ -1,7 +1,5 @@
-use Rattle.std.proofs.Common.{◌≡◌, ap, sym, ◌∙◌, arith, rules, List}
+use Rattle.std.proofs.Common.{ap, sym, ◌∙◌, arith}
 use Rattle.std.proofs.lemmas.List.{length-map}
-use Rattle.atomic_table.specs.Seated.{TableId}
-use Rattle.zy_park.specs.declared.view.View.{View}
 use Rattle.zy_park.specs.Token.{rings}
 use Rattle.zy_park.specs.Pass.{change_at}
 use Rattle.zy_park.specs.Bell.{Seated, views_of}

@@ -1,4 +1,4 @@
-use Rattle.std.proofs.Common.{◌≡◌, ◌≤◌}
+use Rattle.std.proofs.Common.{◌≡◌}
 use Rattle.zy_park.specs.Bell.{tables_of, views_of}
 use Rattle.zy_park.proofs.SeatLemmas.{rung_first}
 use Rattle.zy_park.proofs.bells.ringing.ring_each_at.Given as goal

@@ -1,4 +1,3 @@
-use Rattle.std.proofs.Common.{◌≤◌, ◌<◌, ◌^◌, ◌≡◌, arith}
 use Rattle.std.proofs.lemmas.Bool.{eqb-true}
 use Rattle.zy_pcap.proofs.ChunkLemmas.{none_above}
 use Rattle.zy_pcap.proofs.chunk.Chunk.is_done.Goals as goal

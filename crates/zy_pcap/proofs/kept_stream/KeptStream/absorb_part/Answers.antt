@@ -1,4 +1,4 @@
-use Rattle.std.proofs.Common.{◌≡◌, ◌+◌, ◌++◌, length, sym, ap, ◌∙◌, subst, arith, refl}
+use Rattle.std.proofs.Common.{◌≡◌, ◌+◌, ◌++◌, length, ap, subst, arith}
 use Rattle.std.proofs.lemmas.List.{length-append}
 use Rattle.zy_pcap.specs.Chunk.{Held, byte_held, held, HoldsSame, HoldsFrom}
 use Rattle.zy_pcap.proofs.HeldLemmas.{absorbed}

@@ -1,5 +1,4 @@
-use Rattle.std.proofs.Common.{◌≡◌, ◌≤◌, ◌+◌, length, arith}
-use Rattle.std.proofs.lemmas.Bool.{eqb-true}
+use Rattle.std.proofs.Common.{arith}
 use Rattle.zy_pcap.specs.Chunk.{byte_held}
 use Rattle.zy_pcap.proofs.RunLemmas.{run_more, run_ends}
 use Rattle.zy_pcap.proofs.kept_stream.KeptStream.run_size.Goals as goal

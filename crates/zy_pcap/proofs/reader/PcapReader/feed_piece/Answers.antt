@@ -1,4 +1,4 @@
-use Rattle.std.proofs.Common.{◌≡◌, ◌<◌, ◌+◌, ◌∙◌, ℕ, length, take, arith, refl}
+use Rattle.std.proofs.Common.{◌<◌, ◌+◌, ◌∙◌, ℕ, length, take, arith, refl}
 use Rattle.std.specs.Prelude.{None}
 use Rattle.zy_pcap.specs.Standing.{Feeds}
 use Rattle.zy_pcap.proofs.PieceLemmas.{piece_none, piece_more, piece_meets, slice_on, stop_within, stop_fed, stop_told, stop_lasts}

@@ -1,0 +1,162 @@
+-- The items of one bucket: the first entry with a key, and what a change of the row or of the tree changes.
+use Rattle.std.proofs.Common.{◌≡◌, ℕ, zero, suc, ◌+◌, ◌<◌, Bool, true, false, cond, List, [], ◌∷◌, ◌++◌, length, set, slice_get, refl, sym, ap, subst, ◌∙◌, arith}
+use Rattle.std.specs.Prelude.{Option, Some, None}
+use Rattle.std.specs.List.{remove}
+use Rattle.std.specs.Cmp.{eq_by_cmp_equiv}
+use Rattle.std.specs.BTreeMap.{is_at}
+use Rattle.std.proofs.lemmas.Option.{same_Some}
+use Rattle.zy_base.specs.declared.item.Item.{Item}
+use Rattle.mc_shard.specs.Contents.{hashed_cmp, hashed_total}
+use Rattle.mc_shard.specs.Buckets.{Keyed, item_in, IsFirstAt, NoneBefore, IsWith, SameItems}
+use Rattle.mc_shard.proofs.MapLemmas.{same_at}
+use Rattle.mc_shard.proofs.BucketLemmas.{first_of, lookup-append}
+
+-- a key with its item
+abbrev pub Pair : Type 0
+Pair = List ℕ × Item
+
+-- ---- tests of keys
+
+-- the test of two keys is the same both ways
+both_ways : (key q : List ℕ) → is_at (hashed_cmp q) key ≡ is_at (hashed_cmp key) q
+both_ways key q = (eq_by_cmp_equiv hashed_total).symm q key
+
+-- no key is at two keys
+not_both : (key q x : List ℕ) (b : Bool) → is_at (hashed_cmp key) x ≡ false → is_at (hashed_cmp q) x ≡ b → b ≡ true → is_at (hashed_cmp key) q ≡ false
+not_both key q x b other here is = subst (λ (k : List ℕ). is_at (hashed_cmp key) k ≡ false) (sym (same_at q x (here ∙ is))) other
+
+swap : {X : Type 0} (a b : Bool) (x y rest : X) → (b ≡ true → a ≡ false) → cond b y (cond a x rest) ≡ cond a x (cond b y rest)
+swap true true x y rest apart = cc (apart refl)
+swap true false x y rest apart = refl
+swap false true x y rest apart = refl
+swap false false x y rest apart = refl
+
+twice : {X : Type 0} (b : Bool) (x y rest : X) → cond b x rest ≡ cond b x (cond b y rest)
+twice true x y rest = refl
+twice false x y rest = refl
+
+-- ---- the first entry with a key
+
+before_suc : (row : Keyed) (key : List ℕ) (at : ℕ) (x : Pair) → NoneBefore row key at → slice_get row at ≡ Some x → is_at (hashed_cmp key) x.0 ≡ false → NoneBefore row key (suc at)
+before_suc [] key at x none is other = cc
+before_suc (y ∷ row) key zero x none is other = (subst (λ (p : Pair). is_at (hashed_cmp key) p.0 ≡ false) (sym (same_Some y x is)) other, tt)
+before_suc (y ∷ row) key (suc at) x none is other = (none.0, before_suc row key at x none.1 is other)
+
+pub before_next : (row : Keyed) (key : List ℕ) (at : ℕ) (x : Pair) → NoneBefore row key at → slice_get row at ≡ Some x → is_at (hashed_cmp key) x.0 ≡ false → NoneBefore row key (at + 1)
+before_next row key at x none is other =
+    let next : suc at ≡ at + 1 = omega arith in
+    subst (λ (n : ℕ). NoneBefore row key n) next (before_suc row key at x none is other)
+
+pub first_found : (row : Keyed) (key : List ℕ) (at : ℕ) (x : Pair) → NoneBefore row key at → slice_get row at ≡ Some x → is_at (hashed_cmp key) x.0 ≡ true → IsFirstAt row key at
+first_found [] key at x none is here = cc
+first_found (y ∷ row) key zero x none is here = subst (λ (p : Pair). is_at (hashed_cmp key) p.0 ≡ true) (sym (same_Some y x is)) here
+first_found (y ∷ row) key (suc at) x none is here = (none.0, first_found row key at x none.1 is here)
+
+pub none_found : (row : Keyed) (key : List ℕ) → NoneBefore row key (length row) → item_in row key ≡ None
+none_found [] key none = refl
+none_found (y ∷ row) key none = ap (λ b. cond b (Some y.1) (item_in row key)) none.0 ∙ none_found row key none.1
+
+-- ---- an item in the row
+
+pub within_row : (row : Keyed) (key : List ℕ) (at : ℕ) → IsFirstAt row key at → at < length row
+within_row [] key at first = absurd first
+within_row (y ∷ row) key zero first = omega arith
+within_row (y ∷ row) key (suc at) first = let rest = within_row row key at first.1 in omega (arith, rest)
+
+pub item_got : (row tree : Keyed) (key : List ℕ) (at : ℕ) (x : Pair) → IsFirstAt row key at → slice_get row at ≡ Some x → item_in (row ++ tree) key ≡ Some x.1
+item_got [] tree key at x first is = absurd first
+item_got (y ∷ row) tree key zero x first is =
+    ap (λ b. cond b (Some y.1) (item_in (row ++ tree) key)) first ∙ ap (λ (p : Pair). Some p.1) (same_Some y x is)
+item_got (y ∷ row) tree key (suc at) x first is =
+    ap (λ b. cond b (Some y.1) (item_in (row ++ tree) key)) first.0 ∙ item_got row tree key at x first.1 is
+
+-- another item takes the place of one in the row
+pub item_put : (row tree : Keyed) (key : List ℕ) (at : ℕ) (x : Pair) (item : Item) → IsFirstAt row key at → slice_get row at ≡ Some x
+    → IsWith (row ++ tree) key (Some item) (set row at (x.0, item) ++ tree)
+item_put [] tree key at x item first is q = absurd first
+item_put (y ∷ row) tree key zero x item first is q =
+    let same : key ≡ y.0 = same_at key y.0 first in
+    let key_is : x.0 ≡ key = ap (λ (p : Pair). p.0) (sym (same_Some y x is)) ∙ sym same in
+    let rest = item_in (row ++ tree) q in
+    ap (λ (k : List ℕ). cond (is_at (hashed_cmp q) k) (Some item) rest) key_is
+    ∙ twice (is_at (hashed_cmp q) key) (Some item) (Some y.1) rest
+    ∙ ap (λ (k : List ℕ). cond (is_at (hashed_cmp q) key) (Some item) (cond (is_at (hashed_cmp q) k) (Some y.1) rest)) same
+    ∙ ap (λ b. cond b (Some item) (cond (is_at (hashed_cmp q) y.0) (Some y.1) rest)) (both_ways key q)
+item_put (y ∷ row) tree key (suc at) x item first is q =
+    ap (λ o. cond (is_at (hashed_cmp q) y.0) (Some y.1) o) (item_put row tree key at x item first.1 is q)
+    ∙ swap (is_at (hashed_cmp key) q) (is_at (hashed_cmp q) y.0) (Some item) (Some y.1) (item_in (row ++ tree) q) (not_both key q y.0 (is_at (hashed_cmp q) y.0) first.0 refl)
+
+-- ---- an item after the row
+
+joined : (row tree : Keyed) (q : List ℕ) → item_in (row ++ tree) q ≡ first_of (item_in row q) (item_in tree q)
+joined row tree q = lookup-append (is_at (hashed_cmp q)) row tree
+
+changed_by : (b : Bool) (one two item : Option Item) → (b ≡ true → one ≡ None) → first_of one (cond b item two) ≡ cond b item (first_of one two)
+changed_by true one two item none = ap (λ o. first_of o item) (none refl)
+changed_by false one two item none = refl
+
+none_at : (row : Keyed) (key q : List ℕ) → item_in row key ≡ None → is_at (hashed_cmp key) q ≡ true → item_in row q ≡ None
+none_at row key q none is = subst (λ (k : List ℕ). item_in row k ≡ None) (same_at key q is) none
+
+-- the tree changes at a key that is not in the row
+pub tree_changed : (row tree tree' : Keyed) (key : List ℕ) (item : Option Item) → item_in row key ≡ None → IsWith tree key item tree' → IsWith (row ++ tree) key item (row ++ tree')
+tree_changed row tree tree' key item none changed q =
+    joined row tree' q
+    ∙ ap (first_of (item_in row q)) (changed q)
+    ∙ changed_by (is_at (hashed_cmp key) q) (item_in row q) (item_in tree q) item (none_at row key q none)
+    ∙ ap (λ o. cond (is_at (hashed_cmp key) q) item o) (sym (joined row tree q))
+
+pub item_after : (row tree : Keyed) (key : List ℕ) → item_in row key ≡ None → item_in (row ++ tree) key ≡ item_in tree key
+item_after row tree key none = joined row tree key ∙ ap (λ o. first_of o (item_in tree key)) none
+
+-- an entry in front of others
+pub in_front : (tree : Keyed) (key : List ℕ) (item : Item) → IsWith tree key (Some item) ((key, item) ∷ tree)
+in_front tree key item q = ap (λ b. cond b (Some item) (item_in tree q)) (both_ways key q)
+
+append_one : (row tree : Keyed) (x : Pair) → (row ++ x ∷ []) ++ tree ≡ row ++ (x ∷ tree)
+append_one [] tree x = refl
+append_one (y ∷ row) tree x = ap (λ es. y ∷ es) (append_one row tree x)
+
+-- the row gets an entry
+pub row_longer : (row tree : Keyed) (key : List ℕ) (item : Item) → item_in row key ≡ None → IsWith (row ++ tree) key (Some item) ((row ++ (key, item) ∷ []) ++ tree)
+row_longer row tree key item none =
+    subst (λ es. IsWith (row ++ tree) key (Some item) es) (sym (append_one row tree (key, item))) (tree_changed row tree ((key, item) ∷ tree) key (Some item) none (in_front tree key item))
+
+-- the last entry of the row goes to the tree
+pub entry_moved : (row tree tree' : Keyed) (key : List ℕ) (item : Item) → IsWith tree key (Some item) tree' → SameItems ((row ++ (key, item) ∷ []) ++ tree) (row ++ tree')
+entry_moved row tree tree' key item changed q =
+    joined row tree' q
+    ∙ ap (first_of (item_in row q)) (changed q ∙ sym (in_front tree key item q))
+    ∙ sym (joined row ((key, item) ∷ tree) q)
+    ∙ ap (λ es. item_in es q) (sym (append_one row tree (key, item)))
+
+-- ---- a key taken out
+
+-- one entry is taken out
+pub one_out : (row : Keyed) (key : List ℕ) (at : ℕ) → IsFirstAt row key at → (q : List ℕ) → is_at (hashed_cmp key) q ≡ false → item_in (remove row at) q ≡ item_in row q
+one_out [] key at first q other = absurd first
+one_out (y ∷ row) key zero first q other =
+    let apart : is_at (hashed_cmp q) y.0 ≡ false = ap (λ (k : List ℕ). is_at (hashed_cmp q) k) (sym (same_at key y.0 first)) ∙ both_ways key q ∙ other in
+    sym (ap (λ b. cond b (Some y.1) (item_in row q)) apart)
+one_out (y ∷ row) key (suc at) first q other = ap (λ o. cond (is_at (hashed_cmp q) y.0) (Some y.1) o) (one_out row key at first.1 q other)
+
+out_by : (b : Bool) (new old : Option Item) → (b ≡ true → new ≡ None) → (b ≡ false → new ≡ old) → new ≡ cond b None old
+out_by true new old here other = here refl
+out_by false new old here other = other refl
+
+-- all entries of a key are out
+pub all_out : (row row' : Keyed) (key : List ℕ) → item_in row' key ≡ None → ((q : List ℕ) → is_at (hashed_cmp key) q ≡ false → item_in row' q ≡ item_in row q) → IsWith row key None row'
+all_out row row' key none others q = out_by (is_at (hashed_cmp key) q) (item_in row' q) (item_in row q) (none_at row' key q none) (others q)
+
+out_of : (b : Bool) (one two : Option Item) → first_of (cond b None one) (cond b None two) ≡ cond b None (first_of one two)
+out_of true one two = refl
+out_of false one two = refl
+
+-- a key is taken out of the row and of the tree
+pub taken_out : (row tree row' tree' : Keyed) (key : List ℕ) → IsWith row key None row' → IsWith tree key None tree' → IsWith (row ++ tree) key None (row' ++ tree')
+taken_out row tree row' tree' key of_row of_tree q =
+    joined row' tree' q
+    ∙ ap (λ o. first_of o (item_in tree' q)) (of_row q)
+    ∙ ap (first_of (cond (is_at (hashed_cmp key) q) None (item_in row q))) (of_tree q)
+    ∙ out_of (is_at (hashed_cmp key) q) (item_in row q) (item_in tree q)
+    ∙ ap (λ o. cond (is_at (hashed_cmp key) q) None o) (sym (joined row tree q))

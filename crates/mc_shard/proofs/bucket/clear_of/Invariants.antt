@@ -1,0 +1,13 @@
+use Rattle.std.proofs.Common.{◌≡◌, List, ℕ, false, length}
+use Rattle.std.specs.BTreeMap.{is_at}
+use Rattle.mc_shard.specs.Contents.{hashed_cmp}
+use Rattle.mc_shard.specs.Buckets.{item_in}
+use Rattle.mc_shard.proofs.bucket.clear_of.Given as goal
+
+abbrev pub invariant-loop-at : goal.invariant-loop-at
+invariant-loop-at l = record {
+  others : (q : List ℕ) → is_at (hashed_cmp l.key) q ≡ false → item_in l.row.items q ≡ item_in l.fn.row.items q;
+}
+
+abbrev pub decreases-loop-at : goal.decreases-loop-at
+decreases-loop-at l = length l.row.items

@@ -1,0 +1,66 @@
+-- The buckets in which a shard has its items. No public clause cites this module.
+use Rattle.std.specs.Prelude.{◌≡◌, ◌≢◌, ◌⊎◌, ℕ, zero, suc, ◌/◌, ◌^◌, List, [], ◌∷◌, ◌++◌, length, Option, None, true, false, cond, ⊤}
+use Rattle.std.specs.Map.{lookup}
+use Rattle.std.specs.BTreeMap.{is_at}
+use Rattle.zy_base.specs.declared.item.Item.{Item}
+use Rattle.zy_base.specs.Key.{hash_of}
+use Rattle.zy_base.specs.Shard.{Items}
+use Rattle.mc_shard.specs.Contents.{hashed_cmp, items_in}
+
+-- keys with their items
+abbrev pub Keyed : Type 0
+Keyed = List (List ℕ × Item)
+
+-- the number of a key's bucket: the first eight bits of its hash
+abbrev pub bucket_of : List ℕ → ℕ
+bucket_of key = hash_of key / 2 ^ 24
+
+-- the item that the entries have at a key
+abbrev pub item_in : Keyed → List ℕ → Option Item
+item_in entries key = lookup (is_at (hashed_cmp key)) entries
+
+-- the entries of all buckets, one bucket after another
+abbrev pub entries_among : List Keyed → Keyed
+entries_among [] = []
+entries_among (bucket ∷ buckets) = bucket ++ entries_among buckets
+
+-- the items of all buckets
+abbrev pub items_among : List Keyed → Items
+items_among buckets = items_in (entries_among buckets)
+
+-- a bucket has no key of another bucket
+abbrev pub HasOwnKeys : ℕ → Keyed → Type 0
+HasOwnKeys at bucket = (key : List ℕ) → bucket_of key ≢ at → item_in bucket key ≡ None
+
+-- these buckets, which are numbered from `at` on, have their own keys
+abbrev pub HaveOwnKeys : ℕ → List Keyed → Type 0
+HaveOwnKeys at [] = ⊤
+HaveOwnKeys at (bucket ∷ buckets) = HasOwnKeys at bucket × HaveOwnKeys (suc at) buckets
+
+-- no buckets, or 256, each with its own keys
+pub record AreBuckets (buckets : List Keyed) : Type 0 where
+  pub count : (buckets ≡ []) ⊎ (length buckets ≡ 256)
+  pub own : HaveOwnKeys 0 buckets
+
+-- ---- one bucket
+
+-- the entry at this place is the first one with the key
+abbrev pub IsFirstAt : Keyed → List ℕ → ℕ → Type 0
+IsFirstAt [] key at = ⊥
+IsFirstAt (entry ∷ entries) key zero = is_at (hashed_cmp key) entry.0 ≡ true
+IsFirstAt (entry ∷ entries) key (suc at) = (is_at (hashed_cmp key) entry.0 ≡ false) × IsFirstAt entries key at
+
+-- the first entries, of this number, are at other keys
+abbrev pub NoneBefore : Keyed → List ℕ → ℕ → Type 0
+NoneBefore entries key zero = ⊤
+NoneBefore [] key (suc at) = ⊤
+NoneBefore (entry ∷ entries) key (suc at) = (is_at (hashed_cmp key) entry.0 ≡ false) × NoneBefore entries key at
+
+-- the items are the same but at the key, which now has this one or none
+abbrev pub IsWith : Keyed → List ℕ → Option Item → Keyed → Type 0
+IsWith old key item new =
+    (q : List ℕ) → item_in new q ≡ cond (is_at (hashed_cmp key) q) item (item_in old q)
+
+-- each key has the same item
+abbrev pub SameItems : Keyed → Keyed → Type 0
+SameItems old new = (q : List ℕ) → item_in new q ≡ item_in old q

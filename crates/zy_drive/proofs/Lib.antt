@@ -1,0 +1,6 @@
+pub mod RoundLemmas
+pub mod ListLemmas
+pub mod DealLemmas
+pub mod CoreLemmas
+pub mod AloneLemmas
+pub mod GroupLemmas

@@ -1,0 +1,21 @@
+use Rattle.std.proofs.Common.{refl, ◌∙◌}
+use Rattle.zy_drive.proofs.threads.tending.tend.Goals as goal
+
+pub loop-init : goal.loop-init
+loop-init g c =
+    (tt, tt, refl, refl, refl, refl, g.met.F.Feeder.leads_same c.args.feeder.now, (λ e. absurd (cc)), (λ e. c.requires.fresh), refl)
+
+pub loop-preserved : goal.loop-preserved
+loop-preserved g c =
+    let inv = c.loop.invariant in (
+      tt,
+      tt,
+      c.go_on_if.ensures.same ∙ inv.2,
+      c.go_on_if.ensures.len ∙ inv.3,
+      c.is_stopped.ensures.watch ∙ c.ring_if-in-loop.ensures.watch ∙ c.ring_if.ensures.watch ∙ inv.4,
+      c.is_stopped.ensures.bells ∙ c.ring_if-in-loop.ensures.bells ∙ c.ring_if.ensures.bells ∙ inv.5,
+      g.met.F.Feeder.leads_on _ _ _ inv.6 c.feed_once.ensures.leads,
+      c.in-Some-feed_once.ensures.ended,
+      c.in-Some-feed_once.ensures.fresh,
+      c.feed_once.ensures.rings ∙ inv.9,
+    )

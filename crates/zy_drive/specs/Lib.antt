@@ -1,0 +1,5 @@
+pub mod Round
+pub mod Drive
+pub mod Deal
+pub mod Group
+pub mod Seat

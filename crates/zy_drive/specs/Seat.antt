@@ -1,0 +1,31 @@
+-- Where groups of cores are while threads drive them. No public clause cites this module.
+use Rattle.std.specs.Prelude.{List, [], ◌∷◌, map, Vec, ⊤}
+use Rattle.std.specs.declared.alloc.Global.{Global}
+use Rattle.zy_core.specs.declared.logical_core.Core.{Core}
+use Rattle.zy_drive.specs.declared.threads.seat.Seat.{Seat}
+use Rattle.zy_drive.specs.declared.threads.seat.Seat.TheVariants.{Away, Here}
+use Rattle.zy_core.specs.Share.{Sharing}
+use Rattle.zy_core.specs.Core.{Identity}
+use Rattle.zy_core.specs.Cores.{identities, EachFits, EachSettled}
+
+-- what stays of the cores of a seat
+abbrev pub seat_identities : Seat → List Identity
+seat_identities (Away handle) = identities handle.promise.before.value.cores
+seat_identities (Here group) = identities group.cores
+
+abbrev pub all_of_seats : List Seat → List (List Identity)
+all_of_seats seats = map seat_identities seats
+
+-- what stays of the cores of groups
+abbrev pub all_of_groups : List (Vec Core Global) → List (List Identity)
+all_of_groups groups = map (λ (g : Vec Core Global). identities g.items) groups
+
+-- each core of each group is one of the shared parts
+abbrev pub AllFit : Sharing → List (List Identity) → Type 0
+AllFit shared [] = ⊤
+AllFit shared (ids ∷ rest) = EachFits shared ids × AllFit shared rest
+
+-- each core of each group is settled
+abbrev pub AllSettled : List (Vec Core Global) → Type 0
+AllSettled [] = ⊤
+AllSettled (group ∷ groups) = EachSettled group.items × AllSettled groups

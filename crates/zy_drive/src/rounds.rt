@@ -1,0 +1,105 @@
+//! Turns of several cores.
+ghost use Rattle.std.specs.Prelude.{◌≡◌, ◌≢◌, true, IfOk};
+ghost use Rattle.zy_core.specs.Core.{Fits, identity_of};
+ghost use Rattle.zy_core.specs.Cores.{identities, EachFits, EachSettled};
+
+use crate::round::Round;
+use zy_base::{Gate, NoMemory};
+use zy_core::{Core, Shared};
+use zy_steal::Looks;
+
+// The most turns of a core.
+pub(crate) const TURN_LIMIT: u64 = 1 << 48;
+
+// A turn of one core, where it may take one. Its looks are noted over others, and nobody reads them.
+pub(crate) fn turn_one<G: Gate>(
+    core: &mut Core,
+    shared: &Shared,
+    gate: &G,
+    looks: &mut Looks,
+) -> Result<Round, NoMemory>
+    requires fits { Fits shared.now (identity_of core.old) }
+    ensures same { identity_of core.new ≡ identity_of core.old }
+    ensures awake { IfOk result (λ round. round ≢ Round.Rested) }
+{
+    if core.is_refused() {
+        return Err(NoMemory);
+    }
+    if core.turns() >= TURN_LIMIT {
+        return Ok(Round::Idle);
+    }
+    let came = core.turn_over(shared, gate, looks)?;
+    Ok(Round::of(came))
+}
+
+// A turn of each core.
+pub(crate) fn turn_each<G: Gate>(
+    cores: &mut Vec<Core>,
+    shared: &Shared,
+    gate: &G,
+    looks: &mut Looks,
+) -> Result<Round, NoMemory>
+    requires fits { EachFits shared.now (identities cores.old.items) }
+    ensures same { identities cores.new.items ≡ identities cores.old.items }
+    ensures awake { IfOk result (λ round. round ≢ Round.Rested) }
+{
+    let mut round = Round::Idle;
+    for i in 0..cores.len() {
+        let core = &mut cores[i];
+        let turn = turn_one(core, shared, gate, looks)?;
+        round = round.with(turn);
+    }
+    Ok(round)
+}
+
+// Each core that is settled counts itself, once. Says whether one of them did so.
+pub(crate) fn note_each(cores: &mut Vec<Core>, shared: &Shared) -> bool
+    requires fits { EachFits shared.now (identities cores.old.items) }
+    ensures same { identities cores.new.items ≡ identities cores.old.items }
+{
+    let mut counted = false;
+    for i in 0..cores.len() {
+        let core = &mut cores[i];
+        let now = core.note(shared);
+        counted = counted || now;
+    }
+    counted
+}
+
+// Whether each core finds that all cores are done. Then each of these is settled.
+pub(crate) fn all_done(cores: &mut Vec<Core>, shared: &Shared) -> bool
+    requires fits { EachFits shared.now (identities cores.old.items) }
+    ensures same { identities cores.new.items ≡ identities cores.old.items }
+    ensures settled { result ≡ true → EachSettled cores.new.items }
+{
+    for i in 0..cores.len() {
+        let core = &mut cores[i];
+        if !core.is_done(shared) {
+            return false;
+        }
+    }
+    true
+}
+
+// Whether no block of these cores is away.
+pub(crate) fn have_all_blocks(cores: &[Core]) -> bool {
+    for core in cores {
+        if !core.has_all_blocks() {
+            return false;
+        }
+    }
+    true
+}
+
+// Whether each core is settled.
+pub(crate) fn are_settled(cores: &[Core]) -> bool
+    ensures settled { result ≡ true → EachSettled cores.now }
+{
+    for i in 0..cores.len() {
+        let core = &cores[i];
+        if !core.is_settled() {
+            return false;
+        }
+    }
+    true
+}

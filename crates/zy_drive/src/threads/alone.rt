@@ -1,0 +1,82 @@
+//! The core of a group that has no other: its naps, and how it calls up others.
+ghost use Rattle.std.specs.Prelude.{◌≡◌};
+ghost use Rattle.zy_core.specs.Core.{Fits, identity_of};
+ghost use Rattle.zy_core.specs.Cores.{identities, EachFits};
+ghost use Rattle.zy_drive.specs.Group.{IsAlone};
+
+use crate::round::Round;
+use crate::rounds::TURN_LIMIT;
+use crate::threads::driving::Driving;
+use std::sync::Wait;
+use zy_base::{Gate, NoMemory};
+use zy_core::{Core, Nap, Turn};
+use zy_park::BellPass;
+
+// A nap of the one core.
+pub(crate) fn nap_first<R: Wait, G: Gate>(
+    driving: &Driving<'_, R, G>,
+    cores: &mut Vec<Core>,
+    pass: &mut BellPass,
+) -> Result<Round, NoMemory>
+    requires fits { EachFits driving.now.shared.now (identities cores.old.items) }
+    requires alone { IsAlone pass.old.core (identities cores.old.items) }
+    requires bells { pass.old.bells ≡ driving.now.bells.now }
+    ensures same { identities cores.new.items ≡ identities cores.old.items }
+    ensures pass { (pass.new.bells ≡ pass.old.bells) × (pass.new.core ≡ pass.old.core) }
+{
+    let core = &mut cores[0];
+    nap_one(driving, core, pass)
+}
+
+// A nap of a core, where it may take a turn.
+fn nap_one<R: Wait, G: Gate>(
+    driving: &Driving<'_, R, G>,
+    core: &mut Core,
+    pass: &mut BellPass,
+) -> Result<Round, NoMemory>
+    requires fits { Fits driving.now.shared.now (identity_of core.old) }
+    requires core { pass.old.core ≡ core.old.home.core }
+    requires bells { pass.old.bells ≡ driving.now.bells.now }
+    ensures same { identity_of core.new ≡ identity_of core.old }
+    ensures pass { (pass.new.bells ≡ pass.old.bells) × (pass.new.core ≡ pass.old.core) }
+{
+    if core.is_refused() {
+        return Err(NoMemory);
+    }
+    if core.turns() >= TURN_LIMIT {
+        return Ok(Round::Idle);
+    }
+    let nap = core.nap(
+        driving.rt,
+        driving.shared,
+        driving.bells,
+        pass,
+        driving.gate,
+    )?;
+    Ok(round_of(nap))
+}
+
+// What a nap of the one core of a group came to.
+fn round_of(nap: Nap) -> Round {
+    match nap {
+        Nap::Awake(Turn::Worked) => Round::Worked,
+        Nap::Rested => Round::Rested,
+        _ => Round::Idle,
+    }
+}
+
+// The one core calls up those that rest.
+pub(crate) fn call_up_first<R, G>(
+    driving: &Driving<'_, R, G>,
+    cores: &mut Vec<Core>,
+    pass: &mut BellPass,
+)
+    requires fits { EachFits driving.now.shared.now (identities cores.old.items) }
+    requires alone { IsAlone pass.old.core (identities cores.old.items) }
+    requires bells { pass.old.bells ≡ driving.now.bells.now }
+    ensures same { identities cores.new.items ≡ identities cores.old.items }
+    ensures pass { (pass.new.bells ≡ pass.old.bells) × (pass.new.core ≡ pass.old.core) }
+{
+    let core = &mut cores[0];
+    core.call_up(driving.shared, driving.bells, pass);
+}

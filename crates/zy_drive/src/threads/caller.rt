@@ -1,0 +1,60 @@
+//! The caller's passes, and how it rings the cores that rest.
+ghost use Rattle.std.specs.Prelude.{◌≡◌};
+
+use crate::threads::driving::Driving;
+use zy_control::ControlPass;
+use zy_core::Shared;
+use zy_park::BellRoot;
+
+// The caller's pass on the control words, the root of the bells, and whether cores rest.
+#[derive(Drop)]
+pub(crate) struct Caller<'a> {
+    watch: ControlPass,
+    root: &'a mut BellRoot,
+    rings: bool,
+}
+
+impl<'a> Caller<'a> {
+    // The caller, which rings cores only if some rest.
+    pub(crate) fn new(shared: &Shared, root: &'a mut BellRoot, rings: bool) -> Caller<'a>
+        ensures watch { result.watch.table ≡ shared.now.control.id }
+        ensures root { result.root.now ≡ root.old }
+    {
+        let (watch, _) = shared.control().watch();
+        Caller { watch, root, rings }
+    }
+
+    // Loads sleepers, and rings each core whose bit is 1, if that is due and cores rest.
+    pub(crate) fn ring_if<R, G>(&mut self, is_due: bool, driving: &Driving<'_, R, G>)
+        requires watch { self.old.watch.table ≡ driving.now.shared.now.control.id }
+        requires bells { self.old.root.now.bells ≡ driving.now.bells.now }
+        ensures watch { self.new.watch.table ≡ self.old.watch.table }
+        ensures bells { self.new.root.now.bells ≡ self.old.root.now.bells }
+    {
+        if !is_due || !self.rings {
+            return;
+        }
+        let sleepers = driving.shared.control().load_sleepers(&mut self.watch);
+        if sleepers != 0 {
+            driving.bells.ring_each_from(self.root, sleepers);
+        }
+    }
+
+    // Whether the cores are to stop.
+    pub(crate) fn is_stopped(&mut self, shared: &Shared) -> bool
+        requires watch { self.old.watch.table ≡ shared.now.control.id }
+        ensures watch { self.new.watch.table ≡ self.old.watch.table }
+        ensures bells { self.new.root.now.bells ≡ self.old.root.now.bells }
+    {
+        shared.control().is_stopped(&mut self.watch)
+    }
+
+    // Asks all cores to stop, also those that rest.
+    pub(crate) fn stop<R, G>(&mut self, driving: &Driving<'_, R, G>)
+        requires watch { self.old.watch.table ≡ driving.now.shared.now.control.id }
+        requires bells { self.old.root.now.bells ≡ driving.now.bells.now }
+    {
+        driving.shared.control().stop(&mut self.watch);
+        self.ring_if(true, driving);
+    }
+}

@@ -1,0 +1,117 @@
+//! What the caller does while threads drive the cores.
+ghost use Rattle.std.specs.Prelude.{◌≡◌, vec_len};
+ghost use Rattle.zy_drive.specs.Seat.{all_of_seats, AllFit};
+ghost use Rattle.zy_rx.specs.Feed.{rings_of};
+
+use crate::feeding::feed_once;
+use crate::round::Round;
+use crate::threads::caller::Caller;
+use crate::threads::driving::Driving;
+use crate::threads::patience::Patience;
+use crate::threads::seat::Seat;
+use crate::threads::seats::{are_done_here, are_some_away, are_some_here, go_on_here};
+use std::sync::Wait;
+use zy_base::{Gate, NoMemory};
+use zy_rx::Feeder;
+
+// How many items are offered in a row before the cores that are with the caller take a turn: as many
+// as a core receives in one.
+const ITEMS_A_TURN: u32 = 64;
+
+// How the caller's own loop ended.
+#[derive(Clone, Copy, Drop, PartialEq, Eq)]
+pub(crate) enum How {
+    // The feeder ended, and the cores that are with the caller found that all are done.
+    Ended,
+    // The feeder is broken.
+    Broken,
+    // An allocation was refused.
+    Stopped,
+}
+
+// Feeds the cores, one item at a time, and lets those that are with the caller take turns. After each
+// step it looks at stop. Before a step that may have to wait for the source, the cores that are with
+// the caller take turns until none works and no block of theirs is away.
+pub(crate) fn tend<R: Wait, F: Feeder, G: Gate>(
+    driving: &Driving<'_, R, G>,
+    seats: &mut Vec<Seat>,
+    feeder: &mut F,
+    caller: &mut Caller<'_>,
+) -> How
+    requires fits { AllFit driving.now.shared.now (all_of_seats seats.old.items) }
+    requires watch { caller.old.watch.table ≡ driving.now.shared.now.control.id }
+    requires bells { caller.old.root.now.bells ≡ driving.now.bells.now }
+    requires fresh { ¬ F.ended feeder.old × ¬ F.broken feeder.old }
+    ensures same { all_of_seats seats.new.items ≡ all_of_seats seats.old.items }
+    ensures len { vec_len seats.new ≡ vec_len seats.old }
+    ensures watch { caller.new.watch.table ≡ caller.old.watch.table }
+    ensures bells { caller.new.root.now.bells ≡ caller.old.root.now.bells }
+    ensures ended { result ≡ How.Ended → F.ended feeder.new }
+    ensures broken { result ≡ How.Broken → F.broken feeder.new }
+    ensures leads { F.leads feeder.old feeder.new }
+    ensures rings { rings_of (F.inlets feeder.new) ≡ rings_of (F.inlets feeder.old) }
+{
+    let has_here = are_some_here(seats);
+    let mut items = 0;
+    let mut has_work = false;
+    let mut is_ended = false;
+    let mut patience = Patience::new();
+    for _ in driving.rt.forever() {
+        let step = match feed_once(feeder, is_ended, has_work) {
+            Some(step) => step,
+            None => return How::Broken,
+        };
+        is_ended = step.is_ended;
+        caller.ring_if(step.has_offered, driving);
+        items = items_after(items, step.has_offered);
+        let round = match go_on_if(has_here && items == 0, driving, seats) {
+            Ok(round) => round,
+            Err(NoMemory) => return How::Stopped,
+        };
+        has_work = has_here && (items > 0 || round.calls_up() || are_some_away(seats));
+        caller.ring_if(round.calls_up(), driving);
+        if caller.is_stopped(driving.shared) {
+            return How::Stopped;
+        }
+        if is_ended && are_done_here(seats) {
+            return How::Ended;
+        }
+        patience.wait_after(found(step.has_offered, round));
+    }
+    unreachable!()
+}
+
+// How many items were offered in a row since the cores that are with the caller took a turn: 0 if
+// they are to take one.
+fn items_after(items: u32, has_offered: bool) -> u32 {
+    if has_offered && items < ITEMS_A_TURN {
+        items + 1
+    } else {
+        0
+    }
+}
+
+// What the caller found to do, by whether an item was offered, and by the round of its own cores.
+fn found(has_offered: bool, round: Round) -> Round {
+    match round {
+        Round::Idle if has_offered => Round::Worked,
+        round => round,
+    }
+}
+
+// A turn of each core that is with the caller, if that is due.
+fn go_on_if<R, G: Gate>(
+    is_due: bool,
+    driving: &Driving<'_, R, G>,
+    seats: &mut Vec<Seat>,
+) -> Result<Round, NoMemory>
+    requires fits { AllFit driving.now.shared.now (all_of_seats seats.old.items) }
+    ensures same { all_of_seats seats.new.items ≡ all_of_seats seats.old.items }
+    ensures len { vec_len seats.new ≡ vec_len seats.old }
+{
+    if is_due {
+        go_on_here(driving, seats)
+    } else {
+        Ok(Round::Idle)
+    }
+}

@@ -1,0 +1,4 @@
+mod PreparedLemmas
+mod FeedLemmas
+mod OverLemmas
+mod ServedLemmas

@@ -1,0 +1,57 @@
+-- What a run leaves of a capture that was fed whole is the served run of its bytes.
+use Rattle.std.proofs.Common.{◌≡◌, ℕ, List, refl, sym, ◌∙◌, ap, ap₂, subst}
+use Rattle.zy_capture.specs.declared.record.Record.{Record}
+use Rattle.zy_capture.specs.Outputs.{AllOutputs}
+use Rattle.zy_capture.specs.Verdict.{verdict}
+use Rattle.zy_capture.specs.Verdict.Verdict.{Good}
+use Rattle.zy_journal.specs.declared.journal.Journal.{Journal}
+use Rattle.zy_finish.specs.declared.finishing.Finished.{Finished}
+use Rattle.std.specs.Prelude.{Option, Ok, ◌↔◌}
+use Rattle.zy_read.specs.Bytes.{AreBytes}
+use Rattle.zy_capture.specs.Capture.{IsCapture, Spells}
+use Rattle.zy_rx.specs.declared.rx.Rx.{Rx}
+use Rattle.zy_feed.specs.declared.intake.Header.{Header}
+use Rattle.zy_feed.specs.Feeding.{HasFedAll}
+use Rattle.zy_finish.specs.Received.{AllSent}
+use Rattle.zy_feed.specs.Reads.{Intake, HasBegun}
+use Rattle.std.specs.List.{AllByRecursion}
+use Rattle.zy_command_line.specs.declared.request.Run.{Run}
+use Rattle.zy_finish.specs.Finish.{IsFinished, IsHoldBy}
+use Rattle.zy_serving.specs.Headline.{IsServed, outputs_of}
+use Rattle.zy_serving.specs.Seen.{side}
+use Rattle.zy_serving.specs.Runs.{RunsTo}
+
+pub served_of : (asked : Run) (version count : ℕ) (records : List Record) (bytes : List ℕ) (done : Finished)
+    → ((text : List ℕ) (version count : ℕ) (items : List Record) → AreBytes text → verdict text ≡ Good version count items ↔ Spells text version count items)
+    → verdict bytes ≡ Good version count records → AreBytes bytes → IsFinished asked.shards version count records done
+    → AllByRecursion (IsHoldBy asked.cores) done.journal.holds → IsServed asked bytes done.journal done.outputs
+served_of asked version count records bytes done exactly good small is held = record {
+  version = version;
+  count = count;
+  records = records;
+  capture = good;
+  spelled = (exactly bytes version count records small).0 good;
+  run = is.run;
+  order = is.order;
+  holds = is.spans;
+  held = held;
+  replies = ap₂ (λ v s. record { version = v; sessions = s }) is.version_is is.outputs;
+  readable = record { valid = is.journal; fits = is.fits };
+  lawful = is.lawful;
+}
+
+-- a capture that was fed whole to cores, of which this is left
+pub runs_to : {S : Type 0} (rest : S → Option (List ℕ)) (faults : S → ℕ) (asked : Run) (source source' : S) (header : Header) (sents : List (List Rx)) (done : Finished)
+    → ((text : List ℕ) (version count : ℕ) (items : List Record) → AreBytes text → verdict text ≡ Good version count items ↔ Spells text version count items)
+    → HasFedAll rest faults source source' header sents
+    → ((records : List Record) → IsCapture header.version header.count records → AllSent sents records → IsFinished asked.shards header.version header.count records done)
+    → AllByRecursion (IsHoldBy asked.cores) done.journal.holds → RunsTo asked (side rest faults source source') (Ok done)
+runs_to rest faults asked source source' header sents done exactly fed finished held =
+    let is = finished fed.records fed.lawful fed.sent in
+    (fed.bytes, (fed.source, fed.end, fed.small), served_of asked header.version header.count fed.records fed.bytes done exactly fed.good fed.small is held)
+
+-- what has begun with these has begun with equals of them
+pub begun_as : {S : Type 0} (rest : S → Option (List ℕ)) (faults : S → ℕ) (first now : S) (intake intake' : Intake) (header header' : Header) → HasBegun rest faults first now intake header
+    → intake' ≡ intake → header' ≡ header → HasBegun rest faults first now intake' header'
+begun_as rest faults first now intake intake' header header' begun same are =
+    subst (λ (h : Header). HasBegun rest faults first now intake' h) (sym are) (subst (λ (i : Intake). HasBegun rest faults first now i header) (sym same) begun)

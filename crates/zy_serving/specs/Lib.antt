@@ -1,0 +1,4 @@
+pub mod Seen
+pub mod Headline
+pub mod Runs
+pub mod Prepared

@@ -1,0 +1,59 @@
+-- What a call saw of its source and of its sink.
+use Rattle.std.specs.Prelude.{◌≡◌, ℕ, List, [], Option, None, Some, ⊤}
+use Rattle.zy_base.specs.Outside.{Rose, Grew, GrewByPrefix}
+use Rattle.zy_read.specs.Bytes.{ReadsAll}
+
+-- a source or a sink, before a call and after it: the bytes that the source has left, or the sink holds, where it
+-- reports them, and the count of its faults
+pub record Side : Type 0 where
+  pub before : Option (List ℕ)
+  pub after : Option (List ℕ)
+  pub faults_before : ℕ
+  pub faults_after : ℕ
+
+-- the two sides of a call
+pub record Seen : Type 0 where
+  pub source : Side
+  pub sink : Side
+
+-- an object that was this and is that now, by the bytes that it reports and its count of faults
+abbrev pub side : {A : Type 0} → (A → Option (List ℕ)) → (A → ℕ) → A → A → Side
+side bytes faults old new = record {
+  before = bytes old;
+  after = bytes new;
+  faults_before = faults old;
+  faults_after = faults new;
+}
+
+-- what is seen of these two
+abbrev pub seen : Side → Side → Seen
+seen source sink = record { source = source; sink = sink }
+
+-- the count of faults rose, or is at its last value
+abbrev pub HasRisen : Side → Type 0
+HasRisen of = Rose of.faults_before of.faults_after
+
+-- neither count rose, or is at its last value
+abbrev pub NoneRose : Seen → Type 0
+NoneRose call = (HasRisen call.source → ⊥) × (HasRisen call.sink → ⊥)
+
+-- this was written
+abbrev pub Takes : Side → List ℕ → Type 0
+Takes sink bytes = Grew sink.before sink.after bytes
+
+-- a prefix of this was written
+abbrev pub TakesPart : Side → List ℕ → Type 0
+TakesPart sink bytes = GrewByPrefix sink.before sink.after bytes
+
+-- this is so of the bytes that the source gave, and it is at its end
+abbrev pub OfGiven : Side → (List ℕ → Type 0) → Type 0
+OfGiven source Holds = (bytes : List ℕ) × ReadsAll source.before source.after bytes × Holds bytes
+
+-- this is so of all bytes that the source reported before the call, and none of them is left; of a source that
+-- reports none it says nothing
+abbrev pub OfReported : Option (List ℕ) → Option (List ℕ) → (List ℕ → Type 0) → Type 0
+OfReported None after Holds = ⊤
+OfReported (Some bytes) after Holds = (after ≡ Some []) × Holds bytes
+
+abbrev pub OfTold : Side → (List ℕ → Type 0) → Type 0
+OfTold source Holds = OfReported source.before source.after Holds

@@ -1,0 +1,196 @@
+//! Driving the cores of a run while its capture is fed.
+ghost use Rattle.std.specs.Prelude.{◌≡◌, ◌≤◌, ◌<◌, length, IfOk, IfErr};
+ghost use Rattle.zy_feed.specs.Reads.{HasBegun, StopsBy};
+ghost use Rattle.zy_feed.specs.Feeding.{HasFedAll};
+ghost use Rattle.zy_rx.specs.Feed.{rings_of, sent_by};
+ghost use Rattle.zy_command_line.specs.Range.{IsRunnable};
+ghost use Rattle.zy_core.specs.Cores.{AreCores, AreInlets, EachSettled, identities};
+ghost use Rattle.zy_drive.specs.Drive.{rest_of, IsSettled, IsBroken, cores_of};
+ghost use Rattle.zy_serving.specs.Prepared.{IsPrepared, IsDriven};
+
+use crate::prepare::Prepared;
+use mc_store::Root;
+use std::alloc::Global;
+use std::sync::Wait;
+use std::thread;
+use std::thread::Threads;
+use zy_base::{Gate, NoMemory, Source};
+use zy_command_line::Run;
+use zy_core::{Cores, Shared};
+use zy_drive::{Driven, FirstGroup, drive_groups, drive_ordered, rest_of, take_back};
+use zy_feed::{
+    CaptureFeeder, Header, Inlets, Stop, a_broken_feeder_has_its_cause,
+    a_feeder_that_ended_has_offered_the_capture,
+};
+use zy_park::Bells;
+use zy_rx::Feeder;
+
+/// The cores of a run that are settled, with what they shared, the inlets of their rings, the root of
+/// their store, and the head of the capture.
+#[derive(Drop)]
+pub(crate) struct Ran {
+    pub(crate) header: Header,
+    pub(crate) cores: Cores,
+    pub(crate) shared: Shared,
+    pub(crate) inlets: Inlets,
+    pub(crate) root: Root,
+}
+
+/// Feeds the capture to the cores, and drives them until all are settled.
+pub(crate) fn drive_capture<R: Threads + Wait + Sync, S: Source, G: Gate + Sync>(
+    rt: &R,
+    alloc: Global,
+    run: Run,
+    source: &mut S,
+    prepared: Prepared,
+    gate: &G,
+) -> Result<Ran, Stop>
+    requires runnable { IsRunnable run }
+    requires prepared { IsPrepared run prepared }
+
+    // The capture, and why it was read no further.
+    ensures fed { (first : S) → HasBegun S.rest S.faults first source.old prepared.intake prepared.header
+        → IfOk result (λ ran. HasFedAll S.rest S.faults first source.new prepared.header (sent_by ran.inlets)) }
+    ensures stopped { (first : S) → HasBegun S.rest S.faults first source.old prepared.intake prepared.header
+        → IfErr result (λ stop. StopsBy S.rest S.faults first source.new stop) }
+    ensures count { (first : S) → HasBegun S.rest S.faults first source.old prepared.intake prepared.header
+        → S.faults first ≤ S.faults source.new }
+
+    // The cores.
+    ensures driven { IfOk result IsDriven }
+    ensures header { IfOk result (λ ran. ran.header ≡ prepared.header) }
+    ensures shards { IfOk result (λ ran. ran.shared.store.shards ≡ run.shards) }
+    ensures cores { IfOk result (λ ran. length ran.cores ≡ run.cores) }
+{
+    a_feeder_that_ended_has_offered_the_capture::<S>();
+    a_broken_feeder_has_its_cause::<S>();
+    let Prepared {
+        header,
+        intake,
+        cores,
+        shared,
+        inlets,
+        root,
+    } = prepared;
+    let mut feeder = CaptureFeeder::new(source, intake, inlets);
+    let driven = drive_cores(rt, alloc, run, cores, &shared, gate, &mut feeder);
+    let (source, inlets, stop) = feeder.into_parts();
+    take_back(source);
+    match driven {
+        Driven::Settled(cores) => Ok(Ran {
+            header,
+            cores,
+            shared,
+            inlets,
+            root,
+        }),
+        Driven::Broken(cores) => {
+            drop(Ran {
+                header,
+                cores,
+                shared,
+                inlets,
+                root,
+            });
+            match stop {
+                Some(stop) => Err(stop),
+                None => Err(Stop::NoMemory),
+            }
+        }
+        Driven::NoMemory(cores) => {
+            drop(Ran {
+                header,
+                cores,
+                shared,
+                inlets,
+                root,
+            });
+            Err(Stop::NoMemory)
+        }
+    }
+}
+
+// Drives the cores on one thread, by the order that the words ask for, or on several.
+pub(crate) fn drive_cores<R: Threads + Wait + Sync, F: Feeder, G: Gate + Sync>(
+    rt: &R,
+    alloc: Global,
+    run: Run,
+    cores: Cores,
+    shared: &Shared,
+    gate: &G,
+    feeder: &mut F,
+) -> Driven
+    requires runnable { IsRunnable run }
+    requires cores { AreCores shared.now (identities cores) }
+    requires count { length shared.now.rings ≡ run.cores }
+    requires inlets { AreInlets (rings_of (F.inlets feeder.old)) (identities cores) }
+    requires fresh { ¬ F.ended feeder.old × ¬ F.broken feeder.old }
+    ensures settled { IsSettled result → F.ended feeder.new × EachSettled (cores_of result) }
+    ensures broken { IsBroken result → F.broken feeder.new }
+    ensures same { identities (cores_of result) ≡ identities cores }
+    ensures leads { F.leads feeder.old feeder.new }
+    ensures rings { rings_of (F.inlets feeder.new) ≡ rings_of (F.inlets feeder.old) }
+{
+    if run.threads == 1 {
+        drive_ordered(rt, cores, run.order, shared, gate, feeder)
+    } else {
+        drive_threads(rt, alloc, run, cores, shared, gate, feeder)
+    }
+}
+
+// Makes the bells of the cores, and drives the cores on several threads.
+fn drive_threads<R: Threads + Wait + Sync, F: Feeder, G: Gate + Sync>(
+    rt: &R,
+    alloc: Global,
+    run: Run,
+    cores: Cores,
+    shared: &Shared,
+    gate: &G,
+    feeder: &mut F,
+) -> Driven
+    requires runnable { IsRunnable run }
+    requires cores { AreCores shared.now (identities cores) }
+    requires count { length shared.now.rings ≡ run.cores }
+    requires fresh { ¬ F.ended feeder.old × ¬ F.broken feeder.old }
+    ensures settled { IsSettled result → F.ended feeder.new × EachSettled (cores_of result) }
+    ensures broken { IsBroken result → F.broken feeder.new }
+    ensures same { identities (cores_of result) ≡ identities cores }
+    ensures leads { F.leads feeder.old feeder.new }
+    ensures rings { rings_of (F.inlets feeder.new) ≡ rings_of (F.inlets feeder.old) }
+{
+    let (bells, mut root) = match Bells::new(alloc, run.cores) {
+        Ok(made) => made,
+        Err(NoMemory) => return Driven::NoMemory(cores),
+    };
+    let driven = drive_groups(
+        rt,
+        alloc,
+        cores,
+        run.threads,
+        shared,
+        gate,
+        feeder,
+        &bells,
+        &mut root,
+        rest_of(run.threads, run.cores as usize, run.rest),
+        first_group(rt, run),
+    );
+    drop(root);
+    drop(bells);
+    driven
+}
+
+// Who drives the first group. The caller does if each processor has a thread of the run, so that none is
+// left for a feeder that stays apart, and no core rests.
+fn first_group<R: Threads>(rt: &R, run: Run) -> FirstGroup
+    ensures caller { result ≡ FirstGroup.Caller
+        → (1 < run.threads) × (rest_of run.threads run.cores run.rest ≡ 0) }
+{
+    if run.threads == 1 || rest_of(run.threads, run.cores as usize, run.rest) != 0 {
+        return FirstGroup::Thread;
+    }
+    match thread::available_parallelism(rt) {
+        Ok(processors) if processors.get() == run.threads as usize => FirstGroup::Caller,
+        _ => FirstGroup::Thread,
+    }
+}

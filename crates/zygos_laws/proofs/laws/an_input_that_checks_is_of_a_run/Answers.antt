@@ -1,0 +1,5 @@
+use Rattle.zygos_laws.proofs.CertifiedLemmas.{checked_run}
+use Rattle.zygos_laws.proofs.laws.an_input_that_checks_is_of_a_run.Goals as goal
+
+pub returns : goal.returns
+returns c = record { run = checked_run }

@@ -1,5 +1,0 @@
-use Rattle.zygos_run.proofs.CertifiedLemmas.{checked_run}
-use Rattle.zygos_run.proofs.laws.an_input_that_checks_is_of_a_run.Goals as goal
-
-pub returns : goal.returns
-returns c = record { run = checked_run }

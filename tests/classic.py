@@ -1,0 +1,53 @@
+"""Lines of classic commands, with their answers."""
+from certificates import FIRST, FIRST_TOLD
+
+
+def counts(gets, sets, hits, misses, items):
+    """The lines of `stats`."""
+    return (b"STAT cmd_get %d\r\nSTAT cmd_set %d\r\nSTAT get_hits %d\r\nSTAT get_misses %d\r\nSTAT curr_items %d\r\nEND\r\n"
+            % (gets, sets, hits, misses, items))
+
+
+def examples(lines):
+    """Has `lines` compare the answers to what was sent."""
+    lines("a set and a gets", FIRST, FIRST_TOLD)
+    lines("the same in segments of one byte", FIRST, FIRST_TOLD, size=1)
+    lines("nothing after quit", b"quit\r\nget a\r\n", b"")
+    lines("a key asked for twice", b"set a 0 0 1\r\nx\r\nget a a\r\n",
+          b"STORED\r\nVALUE a 0 1\r\nx\r\nVALUE a 0 1\r\nx\r\nEND\r\n")
+    lines("incr wraps", b"set a 5 0 20\r\n18446744073709551615\r\nincr a 1\r\nget a\r\n",
+          b"STORED\r\n0\r\nVALUE a 5 1\r\n0\r\nEND\r\n")
+    lines("decr stops at 0, and faults of counting",
+          b"set a 0 0 1\r\n3\r\ndecr a 5\r\nset a 0 0 1\r\nx\r\ndecr a 5\r\nincr a z\r\nincr b 1\r\n",
+          b"STORED\r\n0\r\nSTORED\r\nCLIENT_ERROR cannot increment or decrement non-numeric value\r\n"
+          b"CLIENT_ERROR invalid numeric delta argument\r\nNOT_FOUND\r\n")
+    lines("a block that does not end", b"set a 0 0 3\r\nabcXYversion\r\n",
+          b"CLIENT_ERROR bad data chunk\r\nVERSION zygos-1.0\r\n")
+    lines("keys of 250 and of 251 bytes", b"get " + b"k" * 250 + b"\r\nset " + b"k" * 251 + b" 0 0 1\r\nx\r\n",
+          b"END\r\nCLIENT_ERROR bad command line format\r\nERROR\r\n")
+    large = b"SERVER_ERROR object too large for cache\r\n"
+    lines("the greatest value, and one byte more",
+          b"set a 0 0 1048576\r\n" + b"y" * 1048576 + b"\r\nappend a 0 0 1\r\nz\r\nset b 0 0 1048577\r\n"
+          + b"y" * 1048577 + b"\r\nget b\r\n", b"STORED\r\n" + large + large + b"END\r\n")
+    lines("noreply where nothing is stored",
+          b"set a 0 0 1 noreply\r\nxyzset a 0 0 1048577 noreply\r\n" + b"y" * 1048577 + b"\r\nget a\r\n", b"END\r\n")
+    lines("noreply", b"set a 0 0 1 noreply\r\nx\r\nget a\r\n", b"VALUE a 0 1\r\nx\r\nEND\r\n")
+    lines("cas", b"set a 0 0 1\r\nx\r\ncas a 0 0 1 99\r\ny\r\ngets a\r\ncas b 0 0 1 1\r\nz\r\ncas a 0 0 1 28\r\ny\r\ngets a\r\n",
+          b"STORED\r\nEXISTS\r\nVALUE a 0 1 28\r\nx\r\nEND\r\nNOT_FOUND\r\nSTORED\r\nVALUE a 0 1 44\r\ny\r\nEND\r\n")
+    lines("two keys with one hash, which begin alike",
+          b"set session:149599 0 0 1\r\nx\r\nadd session:312382 0 0 1\r\ny\r\nget session:149599 session:312382\r\n"
+          b"delete session:149599\r\nget session:149599 session:312382\r\n",
+          b"STORED\r\nSTORED\r\nVALUE session:149599 0 1\r\nx\r\nVALUE session:312382 0 1\r\ny\r\nEND\r\n"
+          b"DELETED\r\nVALUE session:312382 0 1\r\ny\r\nEND\r\n")
+    lines("a request that does not end", b"set a 0 0 5\r\nab", b"")
+    lines("add, replace, append and prepend",
+          b"replace a 0 0 1\r\nx\r\nadd a 7 0 1\r\nx\r\nadd a 0 0 1\r\ny\r\nappend a 9 0 2\r\nyz\r\nprepend a 9 0 1\r\nw\r\nget a\r\n",
+          b"NOT_STORED\r\nSTORED\r\nNOT_STORED\r\nSTORED\r\nSTORED\r\nVALUE a 7 4\r\nwxyz\r\nEND\r\n")
+    lines("faulty lines", b"\r\nstats\r\nget\r\nset a 0 0\r\nset a x 0 1\r\n version \nverbosity 1\r\ntouch a 0\r\n",
+          b"ERROR\r\n" + counts(0, 0, 0, 0, 0) + b"ERROR\r\n" * 2
+          + b"CLIENT_ERROR bad command line format\r\nVERSION zygos-1.0\r\nOK\r\nERROR\r\n")
+    lines("a line that is too long", b"a" * 65537 + b"\n" + b"a" * 65536 + b"\nversion\r\n",
+          b"CLIENT_ERROR line too long\r\nERROR\r\nVERSION zygos-1.0\r\n")
+    lines("a session of a web page",
+          b"set session:42 0 3600 11\r\nhello world\r\nget session:41 session:42 session:43\r\ndelete session:42 noreply\r\nget session:42\r\n",
+          b"STORED\r\nVALUE session:42 0 11\r\nhello world\r\nEND\r\nEND\r\n")
