@@ -1,9 +1,9 @@
-"""Charts of curves as SVG: axes with units and round ticks, the spread of the runs of a point, and the command that made it."""
+"""Charts of curves as SVG: axes with units and round ticks, the spread of runs, and the command that made it."""
 import html
 import math
 from dataclasses import dataclass, field
 
-WIDTH, HEIGHT, LEFT, RIGHT, BELOW = 800, 430, 84, 256, 92
+WIDTH, HEIGHT, LEFT, RIGHT, BELOW = 820, 430, 84, 276, 92
 BLUE, ORANGE, GREEN, GOLD, GRAY, PURPLE = "#1f5fa8", "#c0501f", "#3a8a3a", "#b8860b", "#6f6f6f", "#7b3fa0"
 
 
@@ -71,8 +71,8 @@ class Chart:
         self.draw_axes()
 
     def text(self, x, y, text, anchor="start", size=12, colour="black", more=""):
-        self.lines.append(f'<text x="{x:.1f}" y="{y:.1f}" text-anchor="{anchor}" font-size="{size}" fill="{colour}"{more}>'
-                          f"{html.escape(text)}</text>")
+        self.lines.append(f'<text x="{x:.1f}" y="{y:.1f}" text-anchor="{anchor}" font-size="{size}" fill="{colour}"'
+                          f"{more}>{html.escape(text)}</text>")
 
     def line(self, x1, y1, x2, y2, colour="black", more=""):
         self.lines.append(f'<line x1="{x1:.1f}" y1="{y1:.1f}" x2="{x2:.1f}" y2="{y2:.1f}" stroke="{colour}"{more}/>')
@@ -104,20 +104,30 @@ class Chart:
         self.line(left, up, self.at(self.x.high, value)[0], up, "black", ' stroke-dasharray="2 3"')
         self.text(left + 6, up - 5, name, size=11)
 
+    def within(self, points):
+        """The points up to the first one above the chart, in whose place comes the one where the curve leaves it."""
+        above = next((at for at, point in enumerate(points) if point[1] > self.y.high), len(points))
+        shown = list(points[:above])
+        if 0 < above < len(points) and math.isfinite(points[above][1]):
+            change, back = (math.log, math.exp) if self.y.is_log else (float, float)
+            (x1, y1), (x2, y2) = points[above - 1][:2], points[above][:2]
+            part = (change(self.y.high) - change(y1)) / (change(y2) - change(y1))
+            shown.append((x1 + part * (x2 - x1), back(change(self.y.high))))
+        return shown
+
     def curve(self, curve):
         """Draws a curve: solid with points where it was measured, dashed where it is computed. It ends at the edge."""
-        shown = [point for point in curve.points if point[0] <= self.x.high]
-        beyond = next((at for at, point in enumerate(shown) if point[1] >= self.y.high), len(shown) - 1)
-        shown = shown[: beyond + 1]
+        shown = self.within(curve.points)
         dashes = ' stroke-dasharray="7 4"' if curve.is_computed else ""
         line = " ".join("{:.1f},{:.1f}".format(*self.at(*point[:2])) for point in shown)
         self.lines.append(f'<polyline points="{line}" fill="none" stroke="{curve.colour}" stroke-width="2"{dashes}/>')
-        for point in [] if curve.is_computed else shown:
+        for point in [] if curve.is_computed else shown[: len(shown) - (shown != curve.points[: len(shown)])]:
             across, up = self.at(*point[:2])
             if len(point) == 4:
                 low, high = self.at(point[0], point[2])[1], self.at(point[0], point[3])[1]
-                self.lines.append(f'<path d="M{across:.1f} {low:.1f}V{high:.1f}M{across - 4:.1f} {low:.1f}h8M{across - 4:.1f} '
-                                  f'{high:.1f}h8" stroke="{curve.colour}" fill="none"/>')
+                ends = "".join(f"M{across - 4:.1f} {end:.1f}h8" for end in (low, high))
+                self.lines.append(f'<path d="M{across:.1f} {low:.1f}V{high:.1f}{ends}" stroke="{curve.colour}" '
+                                  'fill="none"/>')
             self.lines.append(f'<circle cx="{across:.1f}" cy="{up:.1f}" r="3" fill="{curve.colour}"/>')
         self.name(curve, dashes)
 
@@ -140,6 +150,6 @@ class Chart:
     def svg(self, command):
         """The chart; the command that made it is its last line."""
         self.text(14, HEIGHT - 14, f"made by: {command}", size=11, colour="#333333")
-        head = (f'<svg xmlns="http://www.w3.org/2000/svg" width="{WIDTH}" height="{HEIGHT}" viewBox="0 0 {WIDTH} {HEIGHT}" '
-                'font-family="sans-serif">')
+        head = (f'<svg xmlns="http://www.w3.org/2000/svg" width="{WIDTH}" height="{HEIGHT}" '
+                f'viewBox="0 0 {WIDTH} {HEIGHT}" font-family="sans-serif">')
         return "\n".join([head, f'<rect width="{WIDTH}" height="{HEIGHT}" fill="white"/>', *self.lines, "</svg>\n"])

@@ -37,9 +37,10 @@ def main():
             entries = common.entries(program, connections, commands)
             least = least or (size, cost)
             print(f"{connections} connections of {commands} commands, {entries} entries, {size / 1e6:.0f} MB: "
-                  f"{cost.used * 1e6 / entries:.2f} microseconds of processor time an entry, {cost.resident / size:.1f} times "
-                  f"the input resident; the input is {size / least[0]:.1f}, the time {cost.used / least[1].used:.1f} and the "
-                  f"memory {cost.resident / least[1].resident:.1f} times the least", flush=True)
+                  f"{cost.used * 1e6 / entries:.2f} microseconds of processor time an entry, "
+                  f"{cost.resident / size:.1f} times the input resident; the input is {size / least[0]:.1f}, "
+                  f"the time {cost.used / least[1].used:.1f} and the memory "
+                  f"{cost.resident / least[1].resident:.1f} times the least", flush=True)
 
 
 main()

@@ -1,6 +1,7 @@
 """What the scripts of bench share: the programs, their runs and what these cost, made traffic, and words.
 
-A script ends with a line on standard error where a run fails, with status 1, and with status 2 at words that it does not know.
+A script ends with a line on standard error where a run fails, with status 1, and at words that it does not know, with
+status 2.
 """
 import argparse
 import collections
@@ -99,7 +100,7 @@ def read_json(path):
 
 
 def built(program, given=None):
-    """The path of a program of the repository, which is proved and built first where it isn't; or the one that is given."""
+    """The path of a program of the repository, which is proved and built first where it isn't; or the given one."""
     if given:
         if not os.access(given, os.X_OK):
             stop(f"{given}: no program")
@@ -127,7 +128,17 @@ def machine():
 
 def command_line():
     """The command that made a picture, less the program that was given."""
-    return " ".join([NAME, *(word for word in sys.argv[1:] if not os.access(word, os.X_OK) or not os.path.isfile(word))])
+    is_program = lambda word: os.path.isfile(word) and os.access(word, os.X_OK)
+    return " ".join([NAME, *(word for word in sys.argv[1:] if not is_program(word))])
+
+
+def draw(chart, path):
+    """Writes a chart, with the command that made it."""
+    try:
+        with open(path, "w", encoding="utf-8") as file:
+            file.write(chart.svg(command_line()))
+    except OSError as error:
+        stop(f"{path}: {error.strerror}")
 
 
 # ---- runs

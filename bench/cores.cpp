@@ -1,14 +1,14 @@
 /*
- * A simulation of the cores, for bench/simulate.py: a feeder, receive rings, turns, the shuffle queues, holds, steals and the
- * shards, event by event. It follows the rules of the program; each thing that a thread does takes the time that is given for
- * it. All times are nanoseconds.
+ * A simulation of the cores, for bench/simulate.py: a feeder, receive rings, turns, the shuffle queues, holds, steals
+ * and the shards, event by event. It follows the rules of the program; each thing that a thread does takes the time
+ * that is given for it. All times are nanoseconds.
  *
  * usage: cores NAME VALUE ..      each NAME is one of those that `given` lists; what is left out has the value there
  *
- * It prints a line NAME VALUE for each thing that it counted. A command has two segments, one after the other; or `segment`
- * commands have one. With `service` 0 all commands lie there when the run begins, and `wall` says when the last one was done.
- * Otherwise a command is one segment with one call, they come at random times at `load` of what the cores could carry, and p50,
- * p99 and p999 say how long they took, in mean service times.
+ * It prints a line NAME VALUE for each thing that it counted. A command has two segments, one after the other; or
+ * `segment` commands have one. With `service` 0 all commands lie there when the run begins, and `wall` says when the
+ * last one was done. Otherwise a command is one segment with one call, they come at random times at `load` of what
+ * the cores could carry, and p50, p99 and p999 say how long they took, in mean service times.
  */
 #include <algorithm>
 #include <cmath>
@@ -29,8 +29,9 @@ const int ring_slots = 256, items_a_turn = 64, commands_a_hold = 64, groups = 12
 // ---- what is given
 
 struct Given {
-    // The run: cores, each on its own thread; processors; whether the caller drives the first core; whether cores steal.
-    double cores = 4, processors = 4, caller = 0, stealing = 1, skewed = 0, connections = 200, commands = 100000, seed = 1;
+    // The run: cores, each on a thread; processors; whether the caller drives the first core; whether cores steal.
+    double cores = 4, processors = 4, caller = 0, stealing = 1, skewed = 0;
+    double connections = 200, commands = 100000, seed = 1;
     // Commands of a segment; 0 where a command has two. Calls of a command; shards.
     double segment = 0, calls = 3.3, shards = 16;
     // Under load: the mean service time, the load of the cores, and the law: 0 fixed, 1 exponential, 2 bimodal.
@@ -39,11 +40,11 @@ struct Given {
     double feed = 315, full = 60;
     // The home: an item is received and cut; a block is settled and published; the doorbells are looked at.
     double item = 225, settle = 150, collect = 60;
-    // A core: a turn begins; a block is claimed and its hold begins and ends; another core is looked at; a block is stolen.
+    // A core: a turn begins; a block is claimed, with its hold's begin and end; another core is looked at; a theft.
     double turn = 60, claim = 150, look = 40, steal = 350;
     // A command, less its calls; a call on a shard; a call whose shard another core had last takes so much more.
     double command = 1500, call = 600, away = 720;
-    // An idle thread: a pause of its spins, a yield; and how long a thread keeps its processor while others wait for one.
+    // An idle thread: a pause of its spins, a yield; and how long a thread keeps its processor while others wait.
     double pause = 5, yield = 1200, slice = 3e6;
 };
 
@@ -68,7 +69,8 @@ const Name given[] = {
 static Given read_given(int count, char **words) {
     Given found;
     for (int at = 1; at + 1 < count; at += 2) {
-        auto name = std::find_if(std::begin(given), std::end(given), [&](const Name &it) { return !strcmp(it.name, words[at]); });
+        auto is_it = [&](const Name &it) { return !strcmp(it.name, words[at]); };
+        auto name = std::find_if(std::begin(given), std::end(given), is_it);
         if (name == std::end(given)) {
             fprintf(stderr, "cores: %s is no name\n", words[at]);
             exit(2);
@@ -204,7 +206,7 @@ private:
         else make_rounds();
     }
 
-    // In each round a command of each connection, in two segments, or every so many rounds a segment with the commands of all.
+    // In each round a command of each connection, in two segments; or in each a segment with `segment` commands.
     void make_rounds() {
         int each = std::max(1, int(p.segment)), count = int(p.connections);
         total = total / (each * count) * each * count;
@@ -222,10 +224,15 @@ private:
         Nanos time = 0, gap = p.service / (p.cores * p.load);
         for (long sent = 0; sent < total; sent++) {
             time -= std::log(1 - drawn()) * gap;
-            int core = p.skewed && cores.size() > 1 ? (below(2) ? 0 : 1 + below(int(cores.size()) - 1)) : below(int(cores.size()));
+            int core = home_of_request(int(cores.size()));
             const auto &here = at_home[size_t(core)];
             items.push_back({here[size_t(below(int(here.size())))], 1, time, service_time()});
         }
+    }
+
+    int home_of_request(int count) {
+        if (!p.skewed || count == 1) return below(count);
+        return below(2) ? 0 : 1 + below(count - 1);
     }
 
     Nanos service_time() {

@@ -1,9 +1,9 @@
 #!/usr/bin/env python3
 """Serves the same traffic with more threads than processors, and prints what it costs.
 
-The traffic is that of `zygos gen --number 1` with 200 connections. The program may use one, two or all processors, and runs
-on 1, 2, 4 and 8 threads with as many cores. Printed are the medians of wall seconds and of processor seconds of the runs, and
-the wall time beside that of one thread on the same processors.
+The traffic is that of `zygos gen --number 1` with 200 connections. The program may use one, two or all processors,
+and runs on 1, 2, 4 and 8 threads with as many cores. Printed are the medians of wall seconds and of processor seconds
+of the runs, and the wall time beside that of one thread on the same processors.
 
 usage: bench/run crowd [--commands N] [--runs N] [PROGRAM]
 

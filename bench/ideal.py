@@ -15,7 +15,7 @@ REQUESTS = 60_000
 
 
 class Law:
-    """How service times are distributed: a name, the mean in microseconds, and the times themselves where a file gave them."""
+    """How service times are distributed: a name, the mean in microseconds, and the times if a file gave them."""
 
     def __init__(self, name, mean, times=()):
         self.name, self.mean, self.times = name, mean, times
@@ -36,7 +36,7 @@ class Law:
         return 1.0
 
     def written(self, room):
-        """The path of what zygos_bench reads: each time as a number of nanoseconds in 4 bytes, the most significant first."""
+        """The path of what zygos_bench reads: each time in nanoseconds, 4 bytes, the most significant first."""
         if not self.times:
             return os.devnull
         path = os.path.join(room, "times")
@@ -137,7 +137,7 @@ def by_drawing(shares, load, cores, skewed, law, part):
 
 
 def quantile(shares, load, cores, skewed, law, part=0.99):
-    """The quantile over the mean where cores share one queue or each has its own; infinite where that can't carry the load."""
+    """The quantile over the mean where cores share one queue or each has its own; infinite above their full load."""
     if law.shape == SHAPES["exponential"]:
         return by_formula(shares, load, cores, skewed, part)
     return by_drawing(shares, load, cores, skewed, law, part)

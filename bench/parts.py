@@ -91,14 +91,16 @@ def journal(bench):
         print(f"merging {shards} histories: {1e3 / many:.1f} million entries a second; "
               f"ten times the entries in {many / few * 10:.1f} times the time")
     few, many = (bench.least(3, "journal", 2, entries) for entries in (100_000, 1_000_000))
-    print(f"writing: {1e3 * many[0] / many[1]:.0f} MB/s; ten times the entries in {many[1] / few[1]:.1f} times the time")
+    print(f"writing: {1e3 * many[0] / many[1]:.0f} MB/s; "
+          f"ten times the entries in {many[1] / few[1]:.1f} times the time")
     worst = max(worst, many[1] / few[1])
     found, call, stored = [], Call("set", b"key:0123", 0, None, b"0123456789"), Reply("stored")
     with tempfile.TemporaryDirectory() as room:
         for count in (100_000, 1_000_000):
             path = os.path.join(room, str(count))
             with open(path, "wb") as out:
-                out.write(journal_of([Entry(i + 1, i % 16, i % 100, i // 100, 0, call, stored) for i in range(count)], []))
+                entries = [Entry(i + 1, i % 16, i % 100, i // 100, 0, call, stored) for i in range(count)]
+                out.write(journal_of(entries, []))
             found.append((os.path.getsize(path), bench.fed(path, "journal", 3)))
     ratio = found[1][1] / found[0][1]
     print(f"reading: {found[1][0] / found[1][1] * 1e3:.0f} MB/s; ten times the entries in {ratio:.1f} times the time")
@@ -145,7 +147,8 @@ def store(bench):
     """one pass on one shard beside the shard alone; 1, 2 and 4 threads on 16 shards"""
     calls = 1_000_000
     alone, by_pass = (bench.each(5, "store", which, calls) for which in (0, 9))
-    print(f"the shard alone: {alone:.0f} ns a call; one pass alone: {by_pass:.0f} ns, {100 * by_pass / alone:.0f} percent")
+    print(f"the shard alone: {alone:.0f} ns a call; "
+          f"one pass alone: {by_pass:.0f} ns, {100 * by_pass / alone:.0f} percent")
     for threads in (1, 2, 4):
         nanos = bench.least(5, "store", threads, calls)[1]
         print(f"{threads} threads on 16 shards: {threads * calls * 1e9 / nanos:.0f} calls a second")
@@ -153,7 +156,7 @@ def store(bench):
 
 
 def claims(bench, which, thieves):
-    """The nanoseconds of a claim from the shuffle queue (0) or from a queue with a lock (1), by so many thieves at once."""
+    """The nanoseconds of a claim from the shuffle queue (0) or one with a lock (1), by this number of thieves."""
     return bench.each(3, "shuffle", which, thieves, 1_000_000 if thieves else 5_000_000)
 
 
@@ -177,7 +180,7 @@ def hold(bench):
 
 
 def held_and_served(bench, size):
-    """The nanoseconds of a command in a hold of so many, and of one at its home, from segment to text, in the same holds."""
+    """The nanoseconds of a command in a hold of `size`, and of one at its home, from segment to text."""
     return tuple(bench.each(5, "conn", which, 1280 // size, size) for which in (1, 2))
 
 
@@ -186,8 +189,9 @@ def home(bench):
     for size in (4, 16, 64):
         held, served = held_and_served(bench, size)
         alone = served - held
-        print(f"{size} at once: a home {served:.0f} ns a command, the hold in it {held:.0f} ns; what the home does alone, "
-              f"cut, settle and collect: {alone:.0f} ns, {100 * alone / held:.0f} percent of the hold")
+        print(f"{size} at once: a home {served:.0f} ns a command, the hold in it {held:.0f} ns; "
+              f"what the home does alone, cut, settle and collect: {alone:.0f} ns, "
+              f"{100 * alone / held:.0f} percent of the hold")
     return 2 * served > 3 * held
 
 

@@ -40,8 +40,8 @@ struct connection {
 enum call { GET, SET, APPEND, INCR, DELETE };
 enum reply { MISS, HIT, STORED, NOT_STORED, TOO_LARGE, NUMBER, NO_NUMBER, NOT_FOUND, DELETED };
 
-/* A call of the journal. The item is the one that was found or stored: it has the flags and the value of call and reply.
-   The number is what incr adds, or the length of what append adds. A key of up to 32 bytes is here. */
+/* A call of the journal. The item is the one that was found or stored: it has the flags and the value of call and
+   reply. The number is what incr adds, or the length of what append adds. A key of up to 32 bytes is here. */
 struct entry {
     uint64_t stamp, command, number;
     struct item *item;

@@ -1,17 +1,18 @@
 #!/usr/bin/env python3
-"""Serves the same traffic on 1, 2, 3 and 4 threads with as many cores, in three kinds of capture, and prints what it costs.
+"""Serves the same traffic on 1, 2, 3 and 4 threads with as many cores, in three kinds of capture, and prints what it
+costs.
 
 The traffic is that of `zygos gen --number 1` with 200 connections and 1,000,000 commands. The capture `even` is the
-generated one, with its own short segments: the connections are at home at all cores. In `skewed` all connections are at
-home at core 0, so that the other cores have only what they steal; it is also served by one core on one thread. In
-`large` the streams of `even` come in turn in segments of 1,400 bytes. Printed are the machine, and for each
-kind and number of threads the medians of wall seconds and of processor seconds of the runs, how these compare with one
-thread, and from the journal of one further run the number of holds, the commands of a hold, how many holds had 1, 2 to 3,
-4 to 7 and so on up to 64 commands, and the share that was by another core than the connection's home.
+generated one, with its own short segments: the connections are at home at all cores. In `skewed` all connections are
+at home at core 0, so that the other cores have only what they steal; it is also served by one core on one thread. In
+`large` the streams of `even` come in turn in segments of 1,400 bytes. Printed are the machine, and for each kind and
+number of threads the medians of wall seconds and of processor seconds of the runs, how these compare with one thread,
+and from the journal of one further run the number of holds, the commands of a hold, how many holds had 1, 2 to 3, 4
+to 7 and so on up to 64 commands, and the share that was by another core than the connection's home.
 
-Then `even` is served by 2 and 4 cores on as many threads with `--rest 0` and with `--rest 100`: from a file, and over a pipe
-that gives it in 20 pieces, with a pause of 100 ms after each. The pauses are in the wall seconds; processor seconds are those
-of the program alone.
+Then `even` is served by 2 and 4 cores on as many threads with `--rest 0` and with `--rest 100`: from a file, and over
+a pipe that gives it in 20 pieces, with a pause of 100 ms after each. The pauses are in the wall seconds; processor
+seconds are those of the program alone.
 
 usage: bench/run scale [--commands N] [--runs N] [--only KIND] [--picture FILE] [PROGRAM]
 
@@ -29,7 +30,7 @@ import time
 
 import chart
 import common
-from formats import Part, capture, read_capture, segment
+from formats import Hold, Part, capture, journal_records, read_capture, segment
 
 MOST, NUMBERS = 4, 4096
 THREADS = (1, 2, 3, 4)
@@ -108,25 +109,16 @@ def with_rests(program, path, runs):
                       f"{cost.used:.2f} s of processor time", flush=True)
 
 
-def holds(program, words, path, commands):
-    """The connection, the core and the number of commands of each hold of a run. They are the last records of the
-    journal, 13 bytes each, and have all commands together."""
+def holds(program, words, path):
+    """The connection, the core and the number of commands of each hold of a run."""
     with tempfile.NamedTemporaryFile() as file:
         common.run([program, "run", *words, "--out", "both"], path, file.name)
-        journal = file.read()
-    found, at, left = [], journal.index(b"EZYGREP1\n") - 13, commands
-    while left > 0:
-        record = journal[at : at + 13]
-        if record[:1] != b"H":
-            common.stop("the holds of the journal do not have all commands")
-        found.append(tuple(int.from_bytes(record[begin : begin + 4], "big") for begin in (1, 5, 9)))
-        at, left = at - 13, left - found[-1][2]
-    return found
+        return [record for record in journal_records(Part("journal", more=file.read)) if isinstance(record, Hold)]
 
 
 def about_holds(program, path, threads, commands):
     """What is said of the holds of a run."""
-    found = holds(program, common.cores(threads), path, commands)
+    found = holds(program, common.cores(threads), path)
     sizes = [0] * len(SIZES)
     for _, _, count in found:
         sizes[count.bit_length() - 1] += 1
@@ -142,8 +134,9 @@ def report(costs, kind, threads, about):
     """Prints the medians of the runs, beside those of one thread."""
     cost, alone = common.medians(costs[kind, threads]), common.medians(costs[kind, 1])
     least, most = (which(run.wall for run in costs[kind, threads]) for which in (min, max))
-    print(f"{kind}, {threads} cores on as many threads: {cost.wall:.2f} s ({least:.2f} to {most:.2f}), {cost.used:.2f} s of "
-          f"processor time, {alone.wall / cost.wall:.2f} times as fast as one, {cost.used / alone.used:.2f} times the "
+    print(f"{kind}, {threads} cores on as many threads: {cost.wall:.2f} s ({least:.2f} to {most:.2f}), "
+          f"{cost.used:.2f} s of processor time, {alone.wall / cost.wall:.2f} times as fast as one, "
+          f"{cost.used / alone.used:.2f} times the "
           f"processor time\n  {about}", flush=True)
 
 
@@ -163,9 +156,10 @@ def picture(costs, commands, runs):
     curves = [curve(costs, kind, commands) for kind in KINDS]
     top = max(max(of.points[0][1] * MOST, *(point[3] for point in of.points)) for of in curves)
     drawn = chart.Chart(f"Serving {commands:,} commands of {common.CONNECTIONS} connections",
-                        [common.machine_name(), f"as many cores as threads; median of {runs} runs, with the slowest and the "
-                         "fastest"],
-                        chart.Axis("threads", 1, MOST, list(THREADS)), chart.linear("thousands of commands a second", top))
+                        [common.machine_name(),
+                         f"as many cores as threads; median of {runs} runs, with the slowest and the fastest"],
+                        chart.Axis("threads", 1, MOST, list(THREADS)),
+                        chart.linear("thousands of commands a second", top))
     for of in curves:
         drawn.curve(of)
     for of in curves:
@@ -203,8 +197,7 @@ def main():
                     report(costs, kind, threads, about_holds(program, path, threads, commands))
             os.remove(path)
     if given.picture:
-        with open(given.picture, "w", encoding="utf-8") as file:
-            file.write(picture(costs, commands, given.runs).svg(common.command_line()))
+        common.draw(picture(costs, commands, given.runs), given.picture)
 
 
 main()

@@ -1,10 +1,11 @@
 #!/usr/bin/env python3
 """Serves generated traffic of 200 connections with 100,000 and 1,000,000 commands, and prints what it costs.
 
-On one thread: microseconds of processor time a command and resident memory as a multiple of the capture, and how both grow
-from the smaller capture to the larger: of zygos, which keeps a journal, with and without writing it; and of `bench/plain.c`, a
-plain server in C, with a journal of 80 bytes a call that it keeps, and without one. The plain server's replies must be the same,
-byte for byte. Then the larger capture on more cores, with one thread and with as many threads.
+On one thread: microseconds of processor time a command and resident memory as a multiple of the capture, and how both
+grow from the smaller capture to the larger: of zygos, which keeps a journal, with and without writing it; and of
+`bench/plain.c`, a plain server in C, with a journal of 80 bytes a call that it keeps, and without one. The plain
+server's replies must be the same, byte for byte. Then the larger capture on more cores, with one thread and with as
+many threads.
 
 usage: bench/run serve [--runs N] [--commands N] [PROGRAM]
 
@@ -56,9 +57,10 @@ def beside(kinds, paths, sizes, runs):
         rows[kind] = row = Row(command, paths, sizes, runs)
         print(f"{kind:28}{row.cells()}{row.growth[0]:8.1f}{row.growth[1]:8.1f}", flush=True)
     for one, other in ((ZYGOS, JOURNAL), (ZYGOS, PLAIN), (WRITTEN, ZYGOS)):
-        pairs = [(rows[one].each[at] / rows[other].each[at], rows[one].memory[at] / rows[other].memory[at]) for at in (0, 1)]
-        print(f"{one} / {other}: " + "; ".join(f"{time:.2f} times the time, {memory:.2f} times the memory, of {size:,} commands"
-                                               for (time, memory), size in zip(pairs, sizes)))
+        print(f"{one} / {other}: " + "; ".join(
+            f"{rows[one].each[at] / rows[other].each[at]:.2f} times the time, "
+            f"{rows[one].memory[at] / rows[other].memory[at]:.2f} times the memory, of {sizes[at]:,} commands"
+            for at in (0, 1)))
 
 
 def main():
@@ -80,10 +82,12 @@ def main():
                 PLAIN: [plain]}, paths, sizes, given.runs)
         for cores in (4, 16, 64):
             cost = common.least(given.runs, [program, "run", *common.cores(cores, 1)], paths[1])
-            print(f"{cores} cores on one thread: {cost.used / largest * 1e6:.2f} us of processor time a command", flush=True)
+            print(f"{cores} cores on one thread: {cost.used / largest * 1e6:.2f} us of processor time a command",
+                  flush=True)
         for threads in (1, 2, 4):
             cost = common.least(given.runs, [program, "run", *common.cores(threads)], paths[1])
-            print(f"{threads} cores on as many threads: {cost.wall:.2f} s, {cost.used:.2f} s of processor time", flush=True)
+            print(f"{threads} cores on as many threads: {cost.wall:.2f} s, {cost.used:.2f} s of processor time",
+                  flush=True)
 
 
 main()

@@ -1,24 +1,25 @@
 #!/usr/bin/env python3
-"""Simulates the program on more cores than there are here, and says where throughput stops and which load stays in time.
+"""Simulates the program on more cores than are here: where throughput stops, and which load stays in time.
 
-`bench/cores.cpp` has the rules: one feeder, receive rings of 256 items, turns of 64 items, collecting, one claim, one steal,
-holds of 64 commands, shards that one core has at a time. Where there are as many processors as cores the caller drives the
-first core between its offers. Each thing takes the time that it took by itself: on the machine that runs this with --measure,
-and otherwise on the one that `costs of` names. What the work of one command takes beside its parts is the rest of what one
-thread took for the traffic of `zygos gen`, so the simulation has nothing to say of one thread, and is compared with the program
-on 2 to 4 threads.
+`bench/cores.cpp` has the rules: one feeder, receive rings of 256 items, turns of 64 items, collecting, one claim, one
+steal, holds of 64 commands, shards that one core has at a time. Where there are as many processors as cores the
+caller drives the first core between its offers. Each thing takes the time that it took by itself: on the machine that
+runs this with --measure, and otherwise on the one that `costs of` names. What the work of one command takes beside
+its parts is the rest of what one thread took for the traffic of `zygos gen`, so the simulation has nothing to say of
+one thread, and is compared with the program on 2 to 4 threads.
 
-Printed are the costs; the rate on 1 to 4 cores, beside the program's; the load at which 99 % of the requests are served within
-ten times the mean service time of 5, 10 and 25 us on three cores, beside that of `bench/run tail --json`, if it is given; and
-both on up to 64 cores, even and skewed, with and without stealing.
+Printed are the costs; the rate on 1 to 4 cores, beside the program's; the load at which 99 % of the requests are
+served within ten times the mean service time of 5, 10 and 25 us on three cores, beside that of `bench/run tail
+--json`, if it is given; and both on up to 64 cores, even and skewed, with and without stealing.
 
-usage: bench/run simulate [--measure FILE | --costs FILE] [--tail FILE] [--commands N] [--picture FOLDER]
-                          [--program PATH] [--bench PATH]
+usage: bench/run simulate [--measure FILE | --costs FILE] [--tail FILE] [--commands N] [--traffic N]
+                          [--picture FOLDER] [--program PATH] [--bench PATH]
 
 --measure FILE    measures the costs here, in about three minutes, and writes them to FILE
 --costs FILE      costs that were measured before
 --tail FILE       what `bench/run tail --json` printed
 --commands N      the commands of a simulated run (100000)
+--traffic N       the commands that the program serves where it is measured (1000000)
 --picture FOLDER  writes scale-cores.svg and tail-cores.svg
 --program PATH    `zygos`, built, and
 --bench PATH      `zygos_bench` (if left out, the repository's, which are proved and built first where they aren't)
@@ -65,9 +66,9 @@ class Costs:
             json.dump(self.__dict__, file, indent=1)
 
     def print(self):
-        print(f"costs of: {self.machine}\n  " + ", ".join(f"{name} {value:.0f}" for name, value in self.cost.items())
-              + "\n  of a request under load: " + ", ".join(f"{name} {value:.0f}" for name, value in self.request.items())
-              + " (ns)", flush=True)
+        listed = lambda costs: ", ".join(f"{name} {value:.0f}" for name, value in costs.items())
+        print(f"costs of: {self.machine}\n  {listed(self.cost)}\n"
+              f"  of a request under load: {listed(self.request)} (ns)", flush=True)
 
 
 def read_costs(path):
@@ -107,8 +108,8 @@ def measured(given):
         path = common.generated(program, os.path.join(room, "capture"), commands)
         cost = parts_of(parts.Bench(timer), path, 2 * commands)
         rates = rates_of(program, path, commands, 3)
-    rest = 1e9 / rates[1] - 2 * (cost["feed"] + cost["item"]) - CALLS * cost["call"] - (cost["settle"] + cost["claim"]) / 30
-    cost["command"] = max(0, rest)
+    fixed = 2 * (cost["feed"] + cost["item"]) + (cost["settle"] + cost["claim"]) / 30
+    cost["command"] = max(0, 1e9 / rates[1] - fixed - CALLS * cost["call"])
     request = {**REQUEST, "item": cost["item"], "away": cost["away"] / 4}
     whole = 1e3 * beside_service(timer)
     request["command"] = max(0, whole - sum({**cost, **request}[name] for name in
@@ -119,10 +120,11 @@ def measured(given):
 
 
 def beside_service(timer):
-    """The microseconds that a request takes its core beside a fixed service of 10, at one and a half times the full load."""
+    """The microseconds that a request takes its core beside a fixed service of 10, at 1.5 times the full load."""
     words = ["tail", 1, 0, 0, 10_000, round(10e6 / 1.5), 40_000, 1]
-    said = subprocess.run([timer, *map(str, words)], stdin=subprocess.DEVNULL, capture_output=True, text=True, check=False).stdout
-    spans = [line.split() for line in said.splitlines() if line.startswith("nanos ")]
+    ran = subprocess.run([timer, *map(str, words)], stdin=subprocess.DEVNULL, capture_output=True, text=True,
+                         check=False)
+    spans = [line.split() for line in ran.stdout.splitlines() if line.startswith("nanos ")]
     if not spans:
         common.stop("zygos_bench tail: it printed no times")
     return int(spans[0][3]) / 40_000 / 1e3 - 10
@@ -153,15 +155,17 @@ class Simulation:
         """What a run of generated traffic counts, with its commands a second."""
         connections = max(common.CONNECTIONS, 64 * cores)
         found = self.run(**{**self.costs.cost, "cores": cores, "processors": cores, "caller": 1, "calls": CALLS,
-                            "commands": max(self.commands, 2 * LARGE * connections), "connections": connections, **words})
+                            "commands": max(self.commands, 2 * LARGE * connections), "connections": connections,
+                            **words})
         return {**found, "rate": found["commands"] / found["wall"] * 1e9}
 
     def is_in_time(self, load, cores, service, **words):
-        """Whether 99 % of the requests are served within the bound, in the middle of three runs."""
-        found = [self.run(**{**self.costs.cost, **self.costs.request, "cores": cores, "processors": cores + 1, "calls": 1,
-                             "connections": 64 * cores, "commands": max(30_000, 1500 * cores), "service": service * 1000,
-                             "load": load, "seed": seed, **words})["p99"] for seed in (1, 2, 3)]
-        return statistics.median(found) <= BOUND
+        """Whether 99 % of the requests are served within the bound; on few cores in the middle of three runs."""
+        given = {**self.costs.cost, **self.costs.request, "cores": cores, "processors": cores + 1, "calls": 1,
+                 "connections": 64 * cores, "commands": max(30_000, 800 * cores), "load": load,
+                 "service": service * 1000}
+        seeds = (1, 2, 3) if cores <= 4 else (1,)
+        return statistics.median(self.run(**{**given, "seed": seed, **words})["p99"] for seed in seeds) <= BOUND
 
     def carried(self, cores, service, **words):
         """The highest load that is served in time, in percent."""
@@ -169,7 +173,7 @@ class Simulation:
         for _ in range(7):
             middle = (low + high) / 2
             low, high = (middle, high) if self.is_in_time(middle, cores, service, **words) else (low, middle)
-        return 100 * low
+        return 50 * (low + high)
 
     def all(self, call, cases):
         """What a call gives for each case, side by side; a case is its words."""
@@ -182,8 +186,8 @@ class Simulation:
 def print_few(simulation, rates):
     """The rate on 1 to 4 cores beside the program's."""
     print("\non 1 to 4 cores, thousands of commands a second", flush=True)
-    apart = os.cpu_count() or 1
-    cases = [((cores,), {"connections": common.CONNECTIONS, "processors": max(4, apart), "caller": int(cores in (1, max(4, apart)))})
+    here = max(FEW[-1], os.cpu_count() or 1)
+    cases = [((cores,), {"connections": common.CONNECTIONS, "processors": here, "caller": int(cores in (1, here))})
              for cores in FEW]
     for cores, found in zip(FEW, simulation.all(simulation.rate, cases)):
         told = ""
@@ -216,8 +220,8 @@ def print_tail(simulation, tail):
 RUNS = {
     "even": {"stealing": 1},
     "even, 256 shards": {"stealing": 1, "shards": 256},
-    "segments of 1,400 bytes": {"stealing": 1, "segment": LARGE},
-    "segments of 1,400 bytes, 256 shards": {"stealing": 1, "segment": LARGE, "shards": 256},
+    "1,400-byte segments": {"stealing": 1, "segment": LARGE},
+    "1,400-byte segments, 256 shards": {"stealing": 1, "segment": LARGE, "shards": 256},
     "skewed, with stealing": {"stealing": 1, "skewed": 1},
     "skewed, without stealing": {"stealing": 0, "skewed": 1},
 }
@@ -234,16 +238,18 @@ def print_rates(simulation):
     """The rate by cores of each kind of run, and what keeps the threads busy."""
     cases = [(kind, cores) for kind in RUNS for cores in CORES]
     found = dict(zip(cases, simulation.all(simulation.rate, [((cores,), RUNS[kind]) for kind, cores in cases])))
-    print("\nsimulated, a processor for each core; in percent: of the time in which the feeder feeds, in which the busiest home does\n"
-          "a home's own work, and in which cores are busy; of the calls, those that found their shard busy; and of the cores' time,\n"
-          "that in which lines come from another core\n"
-          f"{'cores':>7}{'thousands/s':>13}{'times one':>11}{'feeder':>8}{'home':>6}{'cores':>7}{'refused':>9}{'lines':>7}")
+    print("\nsimulated, a processor for each core; in percent: the time in which the feeder feeds, in which the busiest\n"
+          "home does a home's own work, and in which cores are busy; the calls that found their shard busy; and the part\n"
+          "of the cores' time in which lines come from another core\n"
+          f"{'cores':>7}{'thousands/s':>13}{'times one':>11}{'feeder':>8}{'home':>6}{'cores':>7}{'refused':>9}"
+          f"{'lines':>7}")
     for kind in RUNS:
         print(kind)
         for cores in CORES:
             run = found[kind, cores]
-            print(f"{cores:7}{run['rate'] / 1e3:13,.0f}{run['rate'] / found[kind, 1]['rate']:11.1f}{run['feeding']:8.0%}"
-                  f"{run['at_home']:6.0%}{run['busy']:7.0%}{run['refused']:9.0%}{run['moved']:7.0%}", flush=True)
+            print(f"{cores:7}{run['rate'] / 1e3:13,.0f}{run['rate'] / found[kind, 1]['rate']:11.1f}"
+                  f"{run['feeding']:8.0%}{run['at_home']:6.0%}{run['busy']:7.0%}{run['refused']:9.0%}"
+                  f"{run['moved']:7.0%}", flush=True)
     return {kind: [(cores, found[kind, cores]["rate"] / 1e6) for cores in CORES] for kind in RUNS}
 
 
@@ -268,24 +274,28 @@ def print_loads(simulation):
 
 
 def picture_of_rates(curves, costs):
-    drawn = chart.Chart("Throughput by cores, simulated", [f"costs of: {costs.machine}", "traffic of zygos gen, 64 connections a "
-                        "core, at least 200; a processor for each core"],
+    drawn = chart.Chart("Throughput by cores, simulated",
+                        [f"costs of: {costs.machine}",
+                         "traffic of zygos gen, 64 connections a core, at least 200; a processor for each core"],
                         chart.doubling("cores", CORES),
                         chart.logarithmic("millions of commands a second", 0.1, 20))
     for (kind, points), colour in zip(curves.items(), COLOURS):
         drawn.curve(chart.Curve(kind, colour, points, True))
     if costs.rates:
-        drawn.curve(chart.Curve("even, measured", "black", [(at, rate / 1e6) for at, rate in sorted(costs.rates.items())]))
+        points = [(at, rate / 1e6) for at, rate in sorted(costs.rates.items())]
+        drawn.curve(chart.Curve("even, measured", "black", points))
     drawn.note("dashed: simulated", *(["solid: measured"] if costs.rates else []))
     return drawn
 
 
 def picture_of_loads(curves, costs):
     drawn = chart.Chart("Load with 99 % served within ten times the mean service time, simulated",
-                        [f"costs of: {costs.machine}", "exponential service times of 10 us; skewed: half of the requests at home "
-                         "at one core"],
-                        chart.doubling("cores", CORES), chart.linear("load, in % of what the cores can carry at most", 100))
-    for (kind, points), colour in zip(curves.items(), (chart.BLUE, chart.ORANGE, chart.GREEN, chart.PURPLE, chart.GRAY, chart.GOLD)):
+                        [f"costs of: {costs.machine}",
+                         "exponential service times of 10 us; skewed: half of the requests at home at one core"],
+                        chart.doubling("cores", CORES),
+                        chart.linear("load, in % of what the cores can carry at most", 100))
+    colours = (chart.BLUE, chart.ORANGE, chart.GREEN, chart.PURPLE, chart.GRAY, chart.GOLD)
+    for (kind, points), colour in zip(curves.items(), colours):
         drawn.curve(chart.Curve(kind, colour, points, True))
     drawn.note("dashed: simulated, and theory", "without any cost between", "requests")
     return drawn
@@ -318,9 +328,9 @@ def main():
         print_tail(simulation, tail)
         rates, loads = print_rates(simulation), print_loads(simulation)
     if given.picture:
-        for name, drawn in (("scale-cores.svg", picture_of_rates(rates, costs)), ("tail-cores.svg", picture_of_loads(loads, costs))):
-            with open(os.path.join(given.picture, name), "w", encoding="utf-8") as file:
-                file.write(drawn.svg(common.command_line()))
+        common.draw(picture_of_rates(rates, costs), os.path.join(given.picture, "scale-cores.svg"))
+        common.draw(picture_of_loads(loads, costs), os.path.join(given.picture, "tail-cores.svg"))
 
 
-main()
+if __name__ == "__main__":
+    main()

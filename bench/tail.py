@@ -1,19 +1,19 @@
 #!/usr/bin/env python3
 """Latency under load: how long requests take from the time at which they are expected.
 
-Requests come at the times of a Poisson process, whether or not there is room for them, and each takes a drawn service time on
-the core that carries it out. Measured are the crates of the product on a thread for each core, fed by a thread of its own,
-which is `with stealing`; and `without stealing`, the same as a run of one core for each core, with its part of the requests.
-Beside both is what theory says of cores that lose no time between requests: `theory, no stealing`, where each core serves its
-own requests in their order, and `theory, one queue`, where all cores share them; by formulas (M/M/1, M/M/n) for exponential
-service times, and by a simulation for others. Each point is measured three times, and the median counts. The load is the
-share of what the cores could carry at most; the first tenth of each run is left out. In skewed runs half of the requests are
-of connections of the first core.
+Requests come at the times of a Poisson process, whether or not there is room for them, and each takes a drawn service
+time on the core that carries it out. Measured are the crates of the product on a thread for each core, fed by a
+thread of its own, which is `with stealing`; and `without stealing`, the same as a run of one core for each core, with
+its part of the requests. Beside both is what theory says of cores that lose no time between requests: `theory, no
+stealing`, where each core serves its own requests in their order, and `theory, one queue`, where all cores share
+them; by formulas (M/M/1, M/M/n) for exponential service times, and by a simulation for others. Each point is measured
+three times, and the median counts. The load is the share of what the cores could carry at most; the first tenth of
+each run is left out. In skewed runs half of the requests are of connections of the first core.
 
 The threads spin, so they notice when the machine takes a processor away for more than 10 microseconds. A run that was
-interrupted for more than one part in 500 of its time is repeated, up to three times for each that is wanted; if there are not
-enough runs then, those that were interrupted least count, and the point is marked with `!`. Where the system allows it, runs
-have a real-time priority.
+interrupted for more than one part in 500 of its time is repeated, up to three times for each that is wanted; if there
+are not enough runs then, those that were interrupted least count, and the point is marked with `!`. Where the system
+allows it, runs have a real-time priority.
 
 usage: bench/run tail [--cores N] [--loads L,..] [--service US,..] [--law LAW] [--only KIND] [--runs N] [--seconds S]
                       [--picture FOLDER] [--json] [PROGRAM]
@@ -21,9 +21,9 @@ usage: bench/run tail [--cores N] [--loads L,..] [--service US,..] [--law LAW] [
 --cores N         1 to 8 cores (as many as leave a processor for the feeder, 3 at most)
 --loads L,..      the loads, in percent (10,20,30,40,50,60,70,80,90,95)
 --service US,..   the mean service times, in microseconds (5,10,25,100)
---law LAW         how service times are distributed: fixed, exponential, bimodal (one in ten takes ten times as long as the
-                  others), or the path of a file with a time in microseconds on each line, from which they are drawn
-                  (exponential; and at 10 us, even, also fixed and bimodal)
+--law LAW         how service times are distributed: fixed, exponential, bimodal (one in ten takes ten times as long as
+                  the others), or the path of a file with a time in microseconds on each line, from which they are
+                  drawn (exponential; and at 10 us, even, also fixed and bimodal)
 --only KIND       even or skewed alone
 --runs N          the number of runs of each point (3)
 --seconds S       the seconds of a run; it is longer for service times over 10 microseconds (0.2)
@@ -176,7 +176,7 @@ class Bench:
         return sorted(runs, key=lambda run: run.interrupted)[: self.runs]
 
     def cost(self, cores, skewed):
-        """The microseconds that a command costs its core beside a fixed service of 10, at one and a half times the full load."""
+        """The microseconds that a command costs its core beside a fixed service of 10, at 1.5 times the full load."""
         begun = self.start(cores, skewed, ideal.Law("fixed", 10), 150, 1)
         return cores / self.gathered([begun], Counted()).rate * 1e6 - 10
 
@@ -187,8 +187,9 @@ class Bench:
 def row(point):
     sizes = point["holds"]
     all_, one = sum(sizes.values()), sizes.get(1, 0)
-    return (f"{point['load']:6} % {point['kind']:17}{point['throughput']:11,.0f}{point['median']:10.2f}{point['p99']:10.2f}"
-            f"{point['p999']:10.2f}{point['away']:8.1%}   {one / max(1, all_):.0%} of one, most {max(sizes, default=0)}"
+    return (f"{point['load']:6} % {point['kind']:17}{point['throughput']:11,.0f}{point['median']:10.2f}"
+            f"{point['p99']:10.2f}{point['p999']:10.2f}{point['away']:8.1%}   {one / max(1, all_):.0%} of one, "
+            f"most {max(sizes, default=0)}"
             f"{' !' if point['interrupted'] > SOUND else ''}")
 
 
@@ -208,7 +209,7 @@ def picture(curves, cores, skewed, law, runs):
     drawn = chart.Chart(f"Latency of {cores} cores, {law.told()}",
                         [f"{common.machine_name()}; {spread}", f"median of {runs} runs, with the least and the most"],
                         chart.Axis("load, in % of what the cores can carry at most", 0, 100, list(range(0, 101, 20))),
-                        chart.logarithmic("time in which 99 % are served, in mean service times", 1, TOP))
+                        chart.logarithmic("99 % take at most, in mean service times", 1, TOP))
     drawn.bound(BOUND, "ten times the mean service time")
     for kind, curve in curves.items():
         load = ideal.carried(curve, BOUND)
@@ -276,9 +277,8 @@ def main():
                 + ", ".join(f"{kind} {ideal.carried(curve, BOUND):.0f} %" for kind, curve in curves.items()))
             if given.picture:
                 several = len({(law.name, law.mean) for _, law in cases}) > 1
-                name = "tail" + ("-skew" if skewed else "") + (f"-{law.name}-{law.mean:g}us" if several else "") + ".svg"
-                with open(os.path.join(given.picture, name), "w", encoding="utf-8") as file:
-                    file.write(picture(curves, cores, skewed, law, given.runs).svg(common.command_line()))
+                name = "tail" + "-skew" * skewed + f"-{law.name}-{law.mean:g}us" * several + ".svg"
+                common.draw(picture(curves, cores, skewed, law, given.runs), os.path.join(given.picture, name))
         costs = {"one core": bench.cost(1, False), f"{cores} cores": bench.cost(cores, False),
                  f"{cores} cores, skewed": bench.cost(cores, True)}
     say("microseconds that a command costs its core beside its service, at one and a half times the full load: "

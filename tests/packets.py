@@ -2,13 +2,18 @@
 """Drawn files of recorded packets, and the capture that is made of them.
 
 usage: tests/packets.py [--files N] [--from NUMBER] [PROGRAM | COMMAND ..]
+       tests/packets.py --crowd COUNT
 
 Draws N files (2,000 if not said), numbered from NUMBER (0) on, after cases of bad input. Each is given to the command
-`pcap` of PROGRAM, or to COMMAND, with its port in the option `--port`; what comes back is compared byte for byte with the
-model. Without either the model runs alone. At the end a recording is made by tcpdump, where it is installed and may record.
+`pcap` of PROGRAM, or to COMMAND, with its port in the option `--port`; what comes back is compared byte for byte with
+the model. Without either the model runs alone. At the end a recording is made by tcpdump, where it is installed and may
+record.
 
-The model is that of the tools, `tools/recorded.py`; it looks at whole files by their places, and shares no code with the
-program.
+With --crowd it says in how many of 200 draws of COUNT connections, of 8 clients with random ports, a group has over 32
+flows, so that the file is refused.
+
+The model is that of the tools, `tools/recorded.py`; it looks at whole files by their places, and shares no code with
+the program.
 """
 
 import os
@@ -311,6 +316,31 @@ def cases():
         yield "random bytes after a header", file_of() + draw.randbytes(draw.randrange(200))
 
 
+# ---- flows of clients with random ports
+
+
+def crowded(count, draw, parts):
+    """Whether a group has more than 32 of `count` flows; `parts` has the hash of each byte at each place."""
+    clients = [draw.randbytes(4) + bytes([10, 0, 0, 1]) for _ in range(8)]
+    flows = set()
+    while len(flows) < count:
+        flows.add(draw.choice(clients) + struct.pack(">HH", draw.randrange(32768, 61000), 11211))
+    groups = [0] * 128
+    for flow in flows:
+        number = 0
+        for part, byte in zip(parts, flow):
+            number ^= part[byte]
+        groups[number % 128] += 1
+    return max(groups) > 32
+
+
+def crowds(count):
+    draw = random.Random(1)
+    parts = [[toeplitz(bytes(place) + bytes([byte]) + bytes(11 - place)) for byte in range(256)] for place in range(12)]
+    found = sum(crowded(count, draw, parts) for _ in range(200))
+    print(f"{count} connections of 8 clients with random ports: refused in {found} of 200 draws")
+
+
 # ---- a recording
 
 
@@ -393,6 +423,9 @@ def main(words):
             count, words = int(words[1]), words[2:]
         elif words[0] == "--from":
             first, words = int(words[1]), words[2:]
+        elif words[0] == "--crowd":
+            crowds(int(words[1]))
+            return
         else:
             sys.exit(__doc__)
     words = [words[0], "pcap"] if len(words) == 1 else words

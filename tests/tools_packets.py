@@ -5,33 +5,23 @@ usage: tests/tools_packets.py [PROGRAM]     (run by tools/test; crates/zygos/out
 
 What needs the program, tcpdump or memcached is left out, with a line, where these are not there.
 """
+import contextlib
 import os
-import random
+import re
 import shutil
 import signal
-import socket
 import struct
 import subprocess
 import sys
-import tempfile
 import time
 
-TOP = os.path.dirname(os.path.dirname(os.path.realpath(__file__)))
-sys.dont_write_bytecode = True
-sys.path.insert(0, os.path.join(TOP, "tools"))
+from traffic import NAME, TOP, all_of, connected, memcached, module_of, same, take
 import packets
-from formats import Close, Output, Part, Segment, close, capture, read_capture, read_replies, segment, sessions
+from formats import Close, Part, capture, close, read_capture, read_replies, segment, sessions
 from packets import expected, frame_of, said
 
-PROGRAM = sys.argv[1] if len(sys.argv) > 1 else os.path.join(TOP, "crates/zygos/out/zygos")
+PROGRAM = os.path.realpath(sys.argv[1] if len(sys.argv) > 1 else os.path.join(TOP, "crates/zygos/out/zygos"))
 CLIENTS = [bytes([10, 0, 0, at, 10, 0, 0, 9]) + struct.pack(">HH", 40000 + at, 11211) for at in (1, 2)]
-failures = []
-
-
-def same(name, wanted, got):
-    if wanted != got:
-        failures.append(name)
-        print(f"tests/tools_packets.py: {name}: wanted {wanted!r}, got {got!r}")
 
 
 def run(*words, given=b"", tool="packets"):
@@ -71,14 +61,30 @@ def streams(text):
 # ---- what it says
 
 
+TOOL = module_of("packets")
+
+
+def looked(text, port=11211):
+    """The status and the lines of a file, and its capture in order; in this process, as many are looked at."""
+    reading, report, why = TOOL.look(text, "-", port)
+    lines = [*report.lines, *(f"tools/packets: standard input: {why}".split("\n") if why else [])]
+    return int(bool(why or report.sums["cut"])), lines, b"".join(reading.flows.in_order(reading.arrivals))
+
+
 def messages():
     """The corpus: the status and a line of each file."""
     for name, text, status, line in said():
-        ran = run(given=text)
-        lines = (ran.stdout + ran.stderr).decode().split("\n")
-        same(f"the status of {name}", status, ran.returncode)
+        got, lines, _ = looked(text)
+        same(f"the status of {name}", status, got)
         if line not in lines:
             same(name, line, lines)
+    name, text, status, line = next(one for one in said() if one[2])
+    ran = run(given=text)
+    same(f"{name}, as it is printed", (status, "\n".join(looked(text)[1]) + "\n", b""),
+         (ran.returncode, ran.stdout.decode(), ran.stderr))
+    ran = run(given=b"")
+    same("an empty file, as it is said", (1, b"", "\n".join(looked(b"")[1]) + "\n"),
+         (ran.returncode, ran.stdout, ran.stderr.decode()))
 
 
 def words():
@@ -104,29 +110,28 @@ def words():
 
 def model():
     """A file is refused exactly where the model has a fault; else the streams in order are those of the model."""
-    for number in range(60):
+    for number in range(100):
         text, port = packets.drawn(number)
         status, wanted, error = expected(text, port)
-        ran = run("--port", str(port), "--in-order", "-", given=text)
-        lines = ran.stderr.decode()
+        got, lines, made = looked(text, port)
         name = f"drawn file {number}"
         if status:
-            fault = error.decode().split(": ", 2)[2].strip()
-            same(name, (1, b"", True), (ran.returncode, ran.stdout, f"tools/packets: standard input: {fault}" in lines))
-        elif b"Z" in ran.stdout:
-            same(name, streams(wanted), streams(ran.stdout))
-            same(f"{name}: its status", " cut after byte" in lines, bool(ran.returncode))
+            fault = error.decode().removeprefix("zygos: pcap: ").strip()
+            is_said = any(re.match(f"tools/packets: standard input: {fault}[: ]", line) for line in lines)
+            same(name, (1, True), (got, is_said))
         else:
-            same(name, (1, True, capture(0, [], 2)), (ran.returncode, "no request goes to port" in lines, wanted))
+            is_empty = wanted == capture(0, [], 2)
+            same(name, streams(wanted), streams(made))
+            same(f"{name}: its status", is_empty or any("cut after byte" in line for line in lines), bool(got))
 
 
 def order():
     """Two clients in turn, the second with two sessions, and their packets out of the order of their times."""
     one, other = CLIENTS
     frames = [frame_of(b"", 99, 2, one), frame_of(b"", 199, 2, other), frame_of(b"set a 0 0 1\r\n", 100, 16, one),
-              frame_of(b"get a\r\n", 200, 16, other), frame_of(b"x\r\n", 113, 16, one), frame_of(b"get ", 207, 16, other),
-              frame_of(b"b\r\n", 211, 16, other), frame_of(b"", 900, 2, other), frame_of(b"get a\r\n", 901, 16, other),
-              frame_of(b"get a\r\n", 116, 16, one)]
+              frame_of(b"get a\r\n", 200, 16, other), frame_of(b"x\r\n", 113, 16, one),
+              frame_of(b"get ", 207, 16, other), frame_of(b"b\r\n", 211, 16, other), frame_of(b"", 900, 2, other),
+              frame_of(b"get a\r\n", 901, 16, other), frame_of(b"get a\r\n", 116, 16, one)]
     first, second = map(number_of, CLIENTS)
     wanted = capture(max(first, second) + 1, [
         segment(first, b"set a 0 0 1\r\n"), segment(second, b"get a\r\n"), segment(first, b"x\r\n"),
@@ -143,7 +148,7 @@ def order():
 
 
 def answers():
-    """The server's side: late and doubled packets, a session without answers, and what came before the first request."""
+    """The server's side: late and doubled packets, a flow without answers, and what came before the first request."""
     one, other = CLIENTS
     frames = [answer_of(b"END\r\n", 495, one), frame_of(b"", 99, 2, one), answer_of(b"", 500, one, 18),
               frame_of(b"get a\r\n", 100, 16, one), answer_of(b"a\r\n", 508, one), answer_of(b"VALUE ", 501, one),
@@ -156,7 +161,8 @@ def answers():
     wanted[first] = [b"VALUE a\r\n", b"END\r\n"]
     ran = run("--replies", "-", given=packets.file_of(*frames))
     same("replies", (0, sessions(wanted)), (ran.returncode, ran.stdout))
-    same("what came too early", True, b"  5 bytes of the server left out, before the first request of a flow\n" in ran.stderr)
+    same("what came too early", True,
+         b"  5 bytes of the server left out, before the first request of a flow\n" in ran.stderr)
     ran = run("--replies", "-", given=packets.file_of(*frames[:5], *frames[6:]))
     wanted[first][0] = b""
     same("a lost answer", (1, sessions(wanted), True), (ran.returncode, ran.stdout,
@@ -165,11 +171,9 @@ def answers():
 
 def nothing_written():
     """A file that is refused, or has nothing for the port, writes nothing."""
-    with tempfile.TemporaryDirectory() as folder:
-        path = os.path.join(folder, "made")
-        for given in (packets.file_of(frame_of(b"a"), frame_of(b"x", kind=b"\x81\x00")), packets.file_of()):
-            ran = run("--in-order", path, "--replies", path, given=given)
-            same("a refused file", (1, False), (ran.returncode, os.path.exists(path)))
+    for given in (packets.file_of(frame_of(b"a"), frame_of(b"x", kind=b"\x81\x00")), packets.file_of()):
+        ran = run("--in-order", "made", "--replies", "made", given=given)
+        same("a refused file", (1, False), (ran.returncode, os.path.exists("made")))
 
 
 # ---- with the program, tcpdump and memcached
@@ -180,74 +184,59 @@ def served(text, *words):
     return subprocess.run([PROGRAM, *words], input=text, stdout=subprocess.PIPE, timeout=300, check=False).stdout
 
 
-def talked(port):
+@contextlib.contextmanager
+def dumped(path, port):
+    """Records the packets of a port; whether that is done."""
+    if not shutil.which("tcpdump"):
+        print(f"{NAME}: tcpdump is not installed: no recording")
+        yield False
+        return
+    # as root, tcpdump would otherwise become a user who may not write there
+    words = ["-i", "lo", "-U", *(["-Z", "root"] if os.geteuid() == 0 else []), "-w", path, "tcp", "port", port]
+    with subprocess.Popen(["tcpdump", *words], stderr=subprocess.PIPE) as dump:
+        is_recording = any(b"listening" in line for line in dump.stderr)
+        if not is_recording:
+            print(f"{NAME}: tcpdump may not record: no recording")
+        yield is_recording
+        time.sleep(1)
+        dump.send_signal(signal.SIGINT)
+        dump.stderr.read()
+
+
+def talked(place):
     """Two clients on keys of their own, one after the other at each step."""
-    with socket.create_connection(("127.0.0.1", port), 20) as one, socket.create_connection(("127.0.0.1", port), 20) as other:
+    with connected(place) as one, connected(place) as other:
         for at in range(100):
             for name, client in (b"a", one), (b"b", other):
                 client.sendall(b"set %s%d 0 0 1\r\nx\r\nget %s%d\r\n" % (name, at, name, at))
-                got = b""
-                while not got.endswith(b"END\r\n"):
-                    got += client.recv(1 << 16)
-
-
-def recorded(folder):
-    """A recording of two clients of memcached and its port; or why there is none."""
-    for name in ("tcpdump", "memcached"):
-        if not shutil.which(name):
-            return f"{name} is not installed", 0
-    with socket.socket() as free:
-        free.bind(("127.0.0.1", 0))
-        port = free.getsockname()[1]
-    path, is_root = os.path.join(folder, "file.pcap"), os.geteuid() == 0
-    listen = ["memcached", "-l", "127.0.0.1", "-p", str(port), *(["-u", "nobody"] if is_root else [])]
-    dump = ["tcpdump", "-i", "lo", "-U", *(["-Z", "root"] if is_root else []), "-w", path, "tcp", "port", str(port)]
-    with subprocess.Popen(listen, stderr=subprocess.DEVNULL) as server, subprocess.Popen(dump, stderr=subprocess.PIPE) as dumping:
-        try:
-            if not any(b"listening" in line for line in dumping.stderr):
-                return "tcpdump may not record", 0
-            for _ in range(100):
-                with socket.socket() as one:
-                    if one.connect_ex(("127.0.0.1", port)) == 0:
-                        break
-                time.sleep(0.1)
-            talked(port)
-            time.sleep(1)
-            dumping.send_signal(signal.SIGINT)
-            dumping.stderr.read()
-        finally:
-            server.terminate()
-    return path, port
+                take(client, len(b"STORED\r\nVALUE %s%d 0 1\r\nx\r\nEND\r\n" % (name, at)))
 
 
 def real():
     """What tcpdump recorded of memcached is served, and compared with what memcached answered."""
-    with tempfile.TemporaryDirectory() as folder:
-        path, port = recorded(folder)
-        if not port:
-            print(f"tests/tools_packets.py: {path}: no recording")
+    with memcached() as place:
+        if place is None:
             return
-        made, answered = os.path.join(folder, "capture"), os.path.join(folder, "replies")
-        ran = run("--port", str(port), "--in-order", made, "--replies", answered, path)
-        last = ran.stdout.decode().split("\n")[-2]
-        same("a recording", (0, True), (ran.returncode, ", 400 requests, " in last))
-        texts = [open(name, "rb").read() for name in (made, answered, path)]
-        same("its answers", 2, sum(output.text.count(b"STORED") == 100 for output in read_replies(Part("", texts[1])).outputs))
-        if not os.access(PROGRAM, os.X_OK):
-            print(f"tests/tools_packets.py: {PROGRAM} is not there: the recording is not served")
-            return
-        same("the streams of the program", streams(served(texts[2], "pcap", "--port", str(port))), streams(texts[0]))
-        for text in (texts[0], served(texts[2], "pcap", "--port", str(port))):
-            compared = run("compare", answered, "-", given=served(text, "run"), tool="compare")
-            same("memcached and the program", (0, True), (compared.returncode, compared.stdout.startswith(b"same")))
-
-
-def main():
-    for part in (messages, words, model, order, answers, nothing_written, real):
-        part()
-    print(f"tests/tools_packets.py: {len(failures)} failed" if failures else "tests/tools_packets.py: ok")
-    sys.exit(1 if failures else 0)
+        port = place.rsplit(":", 1)[1]
+        with dumped("file.pcap", port) as is_recording:
+            if is_recording:
+                talked(place)
+    if not is_recording:
+        return
+    ran = run("--port", port, "--in-order", "made", "--replies", "answered", "file.pcap")
+    same("a recording", (0, True), (ran.returncode, b", 2 sessions, 400 requests, " in ran.stdout))
+    made, answered, recorded = [open(name, "rb").read() for name in ("made", "answered", "file.pcap")]
+    outputs = read_replies(Part("replies", answered)).outputs
+    same("its answers", 2, sum(output.text.count(b"STORED") == 100 for output in outputs))
+    if not os.access(PROGRAM, os.X_OK):
+        print(f"{NAME}: {PROGRAM} is not there: the recording is not served")
+        return
+    capture_of_program = served(recorded, "pcap", "--port", port)
+    same("the streams of the program", streams(capture_of_program), streams(made))
+    for text in (made, capture_of_program):
+        compared = run("answered", "-", given=served(text, "run", "--threads", "1"), tool="compare")
+        same("memcached and the program", (0, True), (compared.returncode, compared.stdout.startswith(b"same")))
 
 
 if __name__ == "__main__":
-    main()
+    all_of(messages, words, model, order, answers, nothing_written, real)

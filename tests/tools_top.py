@@ -3,22 +3,19 @@
 
 usage: tests/tools_top.py     (run by tools/test)
 """
+import contextlib
+import io
 import os
 import random
 import subprocess
-import sys
 from collections import Counter
 
-TOP = os.path.dirname(os.path.dirname(os.path.realpath(__file__)))
-sys.dont_write_bytecode = True
-sys.path.insert(0, os.path.join(TOP, "tools"))
+from traffic import TOP, all_of, module_of, same
 import drawn
 import reports
-from formats import (Call, Close, Entry, Hold, Part, Reply, capture, close, journal, read_capture, read_journal, replies,
-                     segment, shown)
+from formats import (Call, Close, Entry, Hold, Part, Reply, capture, close, journal, read_capture, read_journal,
+                     replies, segment, shown)
 from model import commands_of
-
-failures = []
 
 CAPTURE = """\
 capture: 7 commands, 2 connections, 3 keys
@@ -73,7 +70,8 @@ home cores, of 4
          0   0.0 %     0            0  3
 """
 SENT = capture(130, [
-    segment(2, b"set a 0 0 3\r\nx"), segment(129, b"get a b\x01\r\n"), segment(2, b"yz\r\nget a\r\n\r\nget b\x01\r\nms b\x01 2\r\n12\r\n"),
+    segment(2, b"set a 0 0 3\r\nx"), segment(129, b"get a b\x01\r\n"),
+    segment(2, b"yz\r\nget a\r\n\r\nget b\x01\r\nms b\x01 2\r\n12\r\n"),
     segment(129, b"set c 0 0 0 noreply\r\n\r\nget c"), close(129), segment(129, b"quit\r\nget a\r\n")], 2)
 MADE = [Entry(1, 0, 0, 0, 0, Call("get", b"b"), Reply("miss")),
         Entry(2, 0, 1, 0, 0, Call("set", b"a", 0, value=b"v" * 20), Reply("stored")),
@@ -82,14 +80,9 @@ MADE = [Entry(1, 0, 0, 0, 0, Call("get", b"b"), Reply("miss")),
 HELD = [Hold(0, 2, 1), Hold(1, 1, 3), Hold(1, 2, 2)]
 
 
-def same(name, wanted, got):
-    if wanted != got:
-        failures.append(name)
-        print(f"tests/tools_top.py: {name}: wanted {wanted!r}, got {got!r}")
-
-
 def run(*words, given=b""):
-    ran = subprocess.run([os.path.join(TOP, "tools/top"), *words], input=given, capture_output=True, timeout=300, check=False)
+    ran = subprocess.run([os.path.join(TOP, "tools/top"), *words], input=given, capture_output=True, timeout=300,
+                         check=False)
     return ran.returncode, ran.stdout.decode(), ran.stderr.decode()
 
 
@@ -106,13 +99,16 @@ def prints():
 def faults():
     """What was counted before a fault is printed; other cores than there were, and unknown words."""
     cut = journal(MADE, HELD)[:-1]
-    same("a journal that is cut off", (1, JOURNAL, f"tools/top: standard input: journal: truncated at {len(cut)}\n"), run(given=cut))
-    same("fewer cores than were seen", (1, "", "tools/top: standard input: journal: core 2 has holds, so there were more "
-                                                "than 2 cores\n"), run("--cores", "2", given=journal(MADE, HELD)))
+    begun = "tools/top: standard input"
+    same("a journal that is cut off", (1, JOURNAL, f"{begun}: journal: truncated at {len(cut)}\n"), run(given=cut))
+    same("fewer cores than were seen",
+         (1, "", f"{begun}: journal: core 2 has holds, so there were more than 2 cores\n"),
+         run("--cores", "2", given=journal(MADE, HELD)))
     lines = run(given=journal([], [Hold(1, 6, 5)]))[1].split("\n")
-    same("cores that are not given", ["home cores are left out: --cores is not given, and core 6 has commands", ""], lines[-2:])
+    same("cores that are not given", "home cores are left out: --cores is not given, and core 6 has commands",
+         lines[-2])
     same("and no home", "         5  100.0 %     -  1", lines[-4])
-    same("no file to count", (1, "", "tools/top: standard input: no capture or journal in it\n"), run(given=replies([b""])))
+    same("no file to count", (1, "", f"{begun}: no capture or journal in it\n"), run(given=replies([b""])))
     for words, line in ((["--first", "0"], "--first takes a number of 1 or more, not 0"),
                         (["--cores", "65"], "--cores takes a number from 1 to 64, not 65"),
                         (["--what"], "no such option: --what; --help lists them")):
@@ -124,12 +120,22 @@ def faults():
     same("a closed pipe", b"", ran.stderr)
 
 
-# ---- drawn files
+# ---- drawn files, in this process
 
 
-def rows(printed, title):
+TOOL = module_of("top")
+
+
+def printed(text, kind, cores=None):
+    """What is printed of a file without a fault."""
+    with contextlib.redirect_stdout(io.StringIO()) as page:
+        TOOL.show(Part(kind, text), 1000, cores)
+    return page.getvalue()
+
+
+def rows(page, title):
     """The cells of the rows of a table that was printed."""
-    lines = iter(printed.split("\n"))
+    lines = iter(page.split("\n"))
     next(line for line in lines if line.startswith(title))
     next(lines)
     return [line.split() for line in iter(lambda: next(lines), "")]
@@ -137,7 +143,7 @@ def rows(printed, title):
 
 def drawn_captures():
     """The commands and keys of drawn captures are those of the model."""
-    for number in range(20):
+    for number in range(100):
         text = drawn.drawn_capture(random.Random(number), 16)
         sessions, session = {}, Counter()
         for record in read_capture(Part("capture", text)).records:
@@ -149,32 +155,25 @@ def drawn_captures():
         made = {key: commands_of(stream) for key, stream in sessions.items()}
         connections = Counter(key[0] for key, commands in made.items() for _ in commands)
         keys = Counter(shown(key) for commands in made.values() for command in commands for key in command.keys)
-        printed = run("--first", "1000", given=text)[1]
+        page = printed(text, "capture")
         same(f"capture {number}", f"capture: {sum(connections.values())} commands, {len(connections)} connections, "
-                                  f"{len(keys)} keys", printed.split("\n")[0])
+                                  f"{len(keys)} keys", page.split("\n")[0])
         if keys:
-            same(f"the keys of capture {number}", dict(keys), {row[-1]: int(row[0]) for row in rows(printed, "keys")})
+            same(f"the keys of capture {number}", dict(keys), {row[-1]: int(row[0]) for row in rows(page, "keys")})
             same(f"the connections of capture {number}", dict(connections),
-                 {int(row[-1]): int(row[0]) for row in rows(printed, "connections")})
+                 {int(row[-1]): int(row[0]) for row in rows(page, "connections")})
 
 
 def drawn_journals():
     """The hits of drawn journals are those of the report."""
-    for number in range(20):
+    for number in range(100):
         text = reports.drawn(number)
         if reports.expected(text)[0] == 0:
             entries = read_journal(Part("journal", text)).entries
             gets, _, hits, *_ = reports.counts(entries)
             line = f"  hits {hits} of {gets} gets: " + (f"{100 * hits / gets:.1f} %" if gets else "-")
-            same(f"journal {number}", True, line in run("--cores", "64", given=text)[1].split("\n"))
-
-
-def main():
-    for part in (prints, faults, drawn_captures, drawn_journals):
-        part()
-    print(f"tests/tools_top.py: {len(failures)} failed" if failures else "tests/tools_top.py: ok")
-    sys.exit(1 if failures else 0)
+            same(f"journal {number}", True, line in printed(text, "journal", 64).split("\n"))
 
 
 if __name__ == "__main__":
-    main()
+    all_of(prints, faults, drawn_captures, drawn_journals)

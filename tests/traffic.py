@@ -1,6 +1,7 @@
 """Servers and clients of the tests of recording and playing, and how these tests report."""
 import asyncio
 import contextlib
+import importlib.machinery
 import os
 import shutil
 import signal
@@ -10,6 +11,7 @@ import sys
 import tempfile
 import threading
 import time
+import types
 
 TOP = os.path.dirname(os.path.dirname(os.path.realpath(__file__)))
 sys.dont_write_bytecode = True
@@ -37,6 +39,14 @@ def brief(value):
 def same(name, wanted, got):
     if wanted != got:
         fail(name, f"wanted {brief(wanted)}, got {brief(got)}")
+
+
+def module_of(tool):
+    """A tool as a module."""
+    loader = importlib.machinery.SourceFileLoader(tool, os.path.join(TOP, "tools", tool))
+    module = types.ModuleType(tool)
+    loader.exec_module(module)
+    return module
 
 
 def all_of(*parts):

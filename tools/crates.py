@@ -22,7 +22,8 @@ def functions_of(top, name):
             if made:
                 path = f"{at}/{file}"
                 function = made[2] if made[1] == name else f"{made[1]}: {made[2]}"
-                found[function] = max(found.get(function, (0, 0, "")), (os.stat(path).st_mtime, os.path.getsize(path), path))
+                newest = os.stat(path).st_mtime, os.path.getsize(path), path
+                found[function] = max(found.get(function, (0, 0, "")), newest)
     return {function: (size, path) for function, (_, size, path) in found.items()}
 
 

@@ -476,6 +476,23 @@ def skim(part):
         pass
 
 
+def cut(part, write):
+    """Reads a part to its end, and gives its bytes to `write`."""
+    part.passed = write
+    skim(part)
+    part.pass_rest()
+
+
+def cut_all(text):
+    """The bytes of each of several files that are joined, by their names."""
+    found = {}
+    while text:
+        part = Part(FORMATS[text[:6]], text)
+        skim(part)
+        found[part.name], text = text[: part.at], text[part.at :]
+    return found
+
+
 def big(size, number):
     """A number in `size` bytes, the most significant first."""
     return number.to_bytes(size, "big")

@@ -1,7 +1,7 @@
 """Recorded packets, as docs/FORMATS.md says: the packets of a file to one port, their flows, and the captures of these.
 
-`made` gives the capture that `zygos pcap` makes of a file, or raises its first fault. `records`, `tcp_in`, `packet_of` and
-`Flows` are its steps. All take time in proportion to the file.
+`made` gives the capture that `zygos pcap` makes of a file, or raises its first fault. `records`, `tcp_in`, `packet_of`
+and `Flows` are its steps. All take time in proportion to the file.
 """
 import struct
 from bisect import bisect_right
@@ -222,7 +222,7 @@ class Stream:
 
 
 class Answers(Stream):
-    """What a server sends in a session: its length has no bound, and what is far from its end lies before it or after."""
+    """What a server sends in a session: its length has no bound."""
 
     def offset(self, packet, at):
         ahead = (packet.sequence + packet.is_syn - self.base - self.size()) % NUMBERS
