@@ -235,7 +235,7 @@ def forms(kind, table):
     for code_of, (name, line) in enumerate(table, 1):
         fields = line.split()
         numbers = [field for field in fields if field != "key"]
-        places = {"name": 0, "key": 1, "value": 3, **{field: 4 + at for at, field in enumerate(numbers) if field != "value"}}
+        places = {**{field: 4 + at for at, field in enumerate(numbers)}, "name": 0, "key": 1, "value": 3}
         order = itemgetter(*(places[field] if field in ["name", *fields] else 2 for field in kind._fields))
         layout = ">" + "".join(SIZES.get(field, "Q") for field in numbers)
         found[code_of] = Form(name, "key" in fields, struct.Struct(layout), "value" in fields, order)
@@ -278,8 +278,8 @@ def whole_entries(part, before):
         while True:
             tag, stamp, shard, connection, index, piece = ENTRY.unpack_from(text, at)
             is_next = stamp > last or stamp == last and shard > last_shard
-            if tag != 74 or not is_next or stamp > MOST_STAMP or shard >= MOST_SHARDS or connection >= MOST_CONNECTIONS \
-                    or index > MOST_INDEX:
+            is_within = stamp <= MOST_STAMP and shard < MOST_SHARDS and connection < MOST_CONNECTIONS
+            if tag != 74 or not is_next or not is_within or index > MOST_INDEX:
                 return
             call, at = coded_at(text, at + 29, Call, CALL_FORMS)
             reply, at = coded_at(text, at, Reply, REPLY_FORMS)
@@ -522,7 +522,7 @@ def shown(text):
 
 def bytes_of(words):
     """The bytes that are shown as this text."""
-    return re.sub(rb"\\(\\|x([0-9a-fA-F]{2}))", lambda match: bytes.fromhex((match[2] or b"5c").decode()), os.fsencode(words))
+    return re.sub(rb"\\(?:\\|x([0-9a-fA-F]{2}))", lambda match: bytes([int(match[1] or b"5c", 16)]), os.fsencode(words))
 
 
 # the fields of each kind of call and reply, with their places
