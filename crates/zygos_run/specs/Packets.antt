@@ -12,7 +12,7 @@ use Rattle.zy_pcap.specs.Made.{capture_of}
 use Rattle.zy_pcap.specs.Standing.{Reading, StandsFor}
 use Rattle.zy_serving.specs.Seen.{Side, side, OfGiven}
 use Rattle.zygos_run.specs.Recorded.{IsRecorded}
-use Rattle.zygos_run.specs.Checks.{StopsFor}
+use Rattle.zy_serving.specs.Runs.{StopsFor}
 
 -- the bytes have this fault as packets to the port
 abbrev pub IsBad : ℕ → PcapFault → List ℕ → Type 0

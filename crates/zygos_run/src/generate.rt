@@ -1,5 +1,5 @@
 //! Making traffic.
-ghost use Rattle.std.specs.Prelude.{◌≤◌, Some};
+ghost use Rattle.std.specs.Prelude.{◌≡◌, ◌≤◌, Some};
 ghost use Rattle.zy_base.specs.Outside.{WritesLast};
 ghost use Rattle.zy_command_line.specs.Range.{IsMakeable};
 ghost use Rattle.zy_command_line.specs.declared.request.Request.TheVariants as Requests;

@@ -5,8 +5,8 @@ use Rattle.zy_serving.specs.Seen.{Side, Seen, side, seen}
 use Rattle.zygos_run.specs.Ends.{Ends}
 use Rattle.zygos_run.proofs.command.carry_out.Goals as goal
 
-pub serve_capture-requires-clause-runnable : goal.serve_capture-requires-clause-runnable
-serve_capture-requires-clause-runnable g c κs within =
+pub run_capture-requires-clause-runnable : goal.run_capture-requires-clause-runnable
+run_capture-requires-clause-runnable g c κs within =
     c.requests_are_in_their_ranges.ensures.run c.args.words.now c.in-Ok-Some-Run.run' c.in-Ok-Some-Run.out
     (sym c.in-Ok-Some-Run.ensures.value ∙ c.in-Ok-Some-Run.field-0-is ∙ ap Some c.in-Ok-Some-Run.field-0-0-is)
 
