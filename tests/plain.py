@@ -29,9 +29,13 @@ def closes(records, connection):
 
 def stream(records, connection, session):
     """The bytes of those segments of a connection that have this number of its close records before them."""
-    return b"".join(record.text for at, record in enumerate(records)
-                    if isinstance(record, Segment) and record.connection == connection
-                    and closes(records[:at], connection) == session)
+    closed, found = 0, []
+    for record in records:
+        if record.connection == connection and not isinstance(record, Segment):
+            closed += 1
+        elif record.connection == connection and closed == session:
+            found.append(record.text)
+    return b"".join(found)
 
 
 def streams_of(capture):
