@@ -63,7 +63,7 @@ impl Buckets {
         ensures ok { OnOk result (self.new ≡ insert self.old key item) }
         ensures err { OnErr result (self.new ≡ self.old) }
     {
-        match plant(&mut self.buckets) {
+        match make_buckets(&mut self.buckets) {
             Ok(()) => insert_in(&mut self.buckets, key, item),
             Err(e) => {
                 drop(key);
@@ -95,7 +95,7 @@ impl Buckets {
 }
 
 // Makes the buckets where there are none.
-fn plant(buckets: &mut Vec<Bucket>) -> Result<(), NoMemory>
+fn make_buckets(buckets: &mut Vec<Bucket>) -> Result<(), NoMemory>
     requires buckets { AreBuckets buckets.old.items }
     ensures buckets { AreBuckets buckets.new.items }
     ensures same { items_among buckets.new.items ≡ items_among buckets.old.items }

@@ -1,5 +1,5 @@
 -- What contracts see of a core, what each core keeps, and what stays of it while it is driven.
-use Rattle.std.specs.Prelude.{◌≡◌, ℕ, ◌+◌, ◌*◌, ◌<◌, ◌≤◌, List, length, Some, slice_get, true, false}
+use Rattle.std.specs.Prelude.{◌≡◌, Bool, ℕ, ◌+◌, ◌*◌, ◌<◌, ◌≤◌, List, length, Some, slice_get, true, false}
 use Rattle.atomic_table.specs.Seated.{TableId}
 use Rattle.zy_table.specs.declared.name.Name.{Name}
 use Rattle.zy_rx.specs.Ring.{RingName, Taking}
@@ -32,6 +32,14 @@ cored home thief passes outlet control turns =
 -- the core after steps of its pass on the control words, after which the pass is this
 abbrev pub stepped : control.Held → Cored → Cored
 stepped pass c = cored c.home c.thief c.passes c.outlet pass c.turns
+
+-- the core after it counted itself as done, when so many had done so
+abbrev pub with_count : ℕ → Cored → Cored
+with_count done c = stepped (control.counting done c.control) c
+
+-- the core after it announced that it rests, or withdrew that, when the bits of all cores were these
+abbrev pub with_announcement : Bool → ℕ → Cored → Cored
+with_announcement is sleepers c = stepped (control.resting is sleepers c.control) c
 
 -- ---- what each core keeps
 

@@ -2,12 +2,12 @@
 use Rattle.std.specs.Prelude.{◌≡◌, ◌<◌, ℕ, Bool, true, false, not, ◌||◌, ◌==◌, if◌then◌else◌}
 use Rattle.zy_park.specs.Pass as bells
 use Rattle.zy_control.specs.View.{has_counted}
-use Rattle.zy_control.specs.Pass.{seeing_done, seeing_stop, resting}
+use Rattle.zy_control.specs.Pass.{seeing_done, seeing_stop}
 use Rattle.zy_core.specs.declared.turn.Turn.{Turn}
 use Rattle.zy_core.specs.declared.turn.Turn.TheVariants.{Worked, Idle, Settled}
 use Rattle.zy_core.specs.declared.nap.Nap.{Nap}
 use Rattle.zy_core.specs.declared.nap.Nap.TheVariants.{Awake, Ending, Rested}
-use Rattle.zy_core.specs.Core.{Cored, stepped}
+use Rattle.zy_core.specs.Core.{Cored, stepped, with_announcement}
 use Rattle.zy_core.specs.Turn.{TurnTo, HasSteps}
 
 -- the core stays awake after this turn, whatever the control words are: the turn worked, or it found the core settled,
@@ -46,9 +46,9 @@ pub record NapTo (cores : ℕ) (before after : Cored) (nap : Nap) : Type 0 where
   pub cleared : ℕ
   pub announced : Cored
   pub rested : Cored
-  pub announces : announced ≡ stepped (resting true set before.control) before
+  pub announces : announced ≡ with_announcement true set before
   pub rests : RestTo cores announced rested nap
-  pub withdraws : after ≡ stepped (resting false cleared rested.control) rested
+  pub withdraws : after ≡ with_announcement false cleared rested
   -- the load of stop, with whose number it rests, came before the step by which it withdrew
   pub last : after.control.trace.stop.step < after.control.trace.sleepers.step
 

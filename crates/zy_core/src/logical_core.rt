@@ -1,12 +1,12 @@
 //! One logical core. (A file `core.rt` would be a module with the name of a library.)
-ghost use Rattle.std.specs.Prelude.{◌≡◌, ◌↔◌, ◌+◌, ◌<◌, ◌^◌, ℕ, true, false, [], length, Some, slice_get, OnOk, OnErr, IfOk};
+ghost use Rattle.std.specs.Prelude.{◌≡◌, ◌↔◌, ◌+◌, ◌<◌, ◌^◌, ◌==◌, ◌&&◌, not, ℕ, true, false, [], length, Some, slice_get, OnOk, OnErr, IfOk};
 ghost use Rattle.zy_home.specs.Home.{HomeStands, all_here, is_settled};
 ghost use Rattle.zy_steal.specs.Steal.{AreIdle, seats_of};
 ghost use Rattle.zy_control.specs.declared.view.Role.TheVariants as roles;
 ghost use Rattle.zy_control.specs.View.{has_announced, has_counted};
-ghost use Rattle.zy_control.specs.Pass.{seeing_done, seeing_stop, seeing_sleepers, resting};
+ghost use Rattle.zy_control.specs.Pass.{seeing_done, seeing_stop, seeing_sleepers};
 ghost use Rattle.zy_park.specs.Pass.{ringing_each};
-ghost use Rattle.zy_core.specs.Core.{AreOfOne, CoreKeeps, Fits, cored, stepped, identity_of};
+ghost use Rattle.zy_core.specs.Core.{AreOfOne, CoreKeeps, Fits, cored, stepped, with_count, with_announcement, identity_of};
 ghost use Rattle.zy_core.specs.Turn.{HasSteps, TurnTo, CameTo, ShowsBusy};
 ghost use Rattle.zy_core.specs.Nap.{NapTo, RestTo, rested};
 ghost use Rattle.zy_rx.specs.Feed.{rings_of};
@@ -47,7 +47,8 @@ impl Model for Core {
 
     ghost view = { λ c. cored c.home c.victims c.passes c.outlet c.control c.turns };
 
-    ghost invariant = { λ c. CoreKeeps (cored c.home c.victims c.passes c.outlet c.control c.turns) × (c.number ≡ c.home.core) };
+    ghost invariant = { λ c. CoreKeeps (cored c.home c.victims c.passes c.outlet c.control c.turns)
+        × (c.number ≡ c.home.core) };
 }
 
 impl Core {
@@ -167,6 +168,9 @@ impl Core {
     /// The core counts itself if it is settled and has not done so yet. Says whether it did so.
     pub fn note(&mut self, shared: &Shared) -> bool
         requires fits { Fits shared.now (identity_of self.old) }
+        ensures value { result ≡ (not (has_counted self.old.control.role) && is_settled self.old.home) }
+        ensures counted { result ≡ true → self.new ≡ with_count self.new.control.trace.done.value self.old }
+        ensures kept { result ≡ false → self.new ≡ self.old }
         ensures same { identity_of self.new ≡ identity_of self.old }
     {
         if !self.control.is_counted() && self.home.is_settled() {
@@ -179,6 +183,8 @@ impl Core {
     /// Whether all cores have counted themselves. Then this one is settled.
     pub fn is_done(&mut self, shared: &Shared) -> bool
         requires fits { Fits shared.now (identity_of self.old) }
+        ensures value { result ≡ (self.new.control.trace.done.value == self.old.control.cores) }
+        ensures core { self.new ≡ stepped (seeing_done self.new.control.trace.done.value self.old.control) self.old }
         ensures settled { result ≡ true → is_settled self.new.home ≡ true }
         ensures same { identity_of self.new ≡ identity_of self.old }
     {
@@ -264,7 +270,7 @@ impl Core {
     // Announces that the core rests unless it finds something to do.
     fn announce(&mut self, shared: &Shared)
         requires fits { Fits shared.now (identity_of self.old) }
-        ensures value { self.new ≡ stepped (resting true self.new.control.trace.sleepers.value self.old.control) self.old }
+        ensures value { self.new ≡ with_announcement true self.new.control.trace.sleepers.value self.old }
         ensures announced { has_announced self.new.control.role ≡ true }
     {
         shared.control.announce(&mut self.control);
@@ -273,7 +279,7 @@ impl Core {
     // Withdraws what it announced.
     fn withdraw(&mut self, shared: &Shared)
         requires fits { Fits shared.now (identity_of self.old) }
-        ensures value { self.new ≡ stepped (resting false self.new.control.trace.sleepers.value self.old.control) self.old }
+        ensures value { self.new ≡ with_announcement false self.new.control.trace.sleepers.value self.old }
     {
         shared.control.withdraw(&mut self.control);
     }

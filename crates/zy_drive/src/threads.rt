@@ -153,7 +153,8 @@ fn make_room(
 ) -> Result<(Room<Core, Seat>, Vec<Core>), NoMemory>
     requires some { (1 ≤ count) × (1 ≤ threads) }
     requires few { threads ≤ 64 }
-    ensures groups { IfOk result (λ made. HaveRoom count made.0.groups.items × AreEmpty (lists_of made.0.groups.items)) }
+    ensures groups { IfOk result (λ made. HaveRoom count made.0.groups.items
+        × AreEmpty (lists_of made.0.groups.items)) }
     ensures some { IfOk result (λ made. 1 ≤ vec_len made.0.groups) }
     ensures whole { IfOk result (λ made. (vec_len made.1 ≡ 0) × (count ≤ vec_capacity made.1)) }
 {

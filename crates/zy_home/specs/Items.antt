@@ -17,7 +17,8 @@ abbrev pub SameParts : Homed → Homed → Type 0
 SameParts h h' = (h'.pass ≡ h.pass) × (h'.blocks ≡ h.blocks) × (h'.links ≡ h.links) × (h'.ended ≡ h.ended)
 
 -- an item was cut. Nothing was published, and the blocks in the hand are as they were. A frame of a connection whose
--- block is away waits only if no slot of the ring is known to be free. An item that is for no place changes no connection
+-- block is away waits only if no slot of the ring is known to be free. An item that is for no place changes no
+-- connection
 pub record CutsOne (h : Homed) (item : Rx) (h' : Homed) : Type 0 where
   pub pass : h'.pass ≡ h.pass
   pub blocks : h'.blocks ≡ h.blocks

@@ -36,7 +36,8 @@ CheckHolds request call found = ⊥
 
 -- where a report was asked for, all bytes that the source reported are a journal, and the report on it was written
 abbrev pub ReportHolds : Option Request → Seen → Type 0
-ReportHolds (Some Requests.Report) call = OfTold call.source (λ bytes. IsReported bytes (λ table. Takes call.sink table))
+ReportHolds (Some Requests.Report) call =
+    OfTold call.source (λ bytes. IsReported bytes (λ table. Takes call.sink table))
 ReportHolds request call = ⊤
 
 -- ---- answers that must come
@@ -56,7 +57,8 @@ IsToldGood (Some (Requests.Run run out)) (Some bytes) = (fault : CaptureFault) �
 IsToldGood (Some (Requests.Check shards)) None = ⊥
 IsToldGood (Some (Requests.Check shards)) (Some bytes) = (refusal : Refusal) → HasPartFault bytes refusal → ⊥
 IsToldGood (Some (Requests.Pcap port)) None = ⊥
-IsToldGood (Some (Requests.Pcap port)) (Some bytes) = (fault : PcapFault) → packets port bytes ≡ Recorded.Found.Bad fault → ⊥
+IsToldGood (Some (Requests.Pcap port)) (Some bytes) =
+    (fault : PcapFault) → packets port bytes ≡ Recorded.Found.Bad fault → ⊥
 IsToldGood (Some Requests.Report) None = ⊥
 IsToldGood (Some Requests.Report) (Some bytes) =
     (fault : FileFault) → Journals.verdict bytes ≡ Journals.Verdict.Bad fault → ⊥

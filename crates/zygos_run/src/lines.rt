@@ -107,7 +107,8 @@ fn write_output<K: Sink>(
     session: u32,
     at: u64,
 ) -> Result<(), Failed>
-    ensures writes { Writes K.holds K.faults K.finishes sink.old sink.new result (output_line text.now conn session at) }
+    ensures writes { Writes K.holds K.faults K.finishes sink.old sink.new result
+        (output_line text.now conn session at) }
 {
     let text = Piece::Text(text);
     let conn = Piece::Number(conn as u64);

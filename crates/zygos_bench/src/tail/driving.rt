@@ -29,8 +29,8 @@ struct Ready {
     root: Root,
 }
 
-/// Serves the requests of a load on a thread for each core, with the service times that were given, and prints what came of
-/// them.
+/// Serves the requests of a load on a thread for each core, with the service times that were given, and prints what
+/// came of them.
 pub(crate) fn run<R: Threads + Wait + Clock + Print + Sync>(
     rt: &R,
     alloc: Global,
