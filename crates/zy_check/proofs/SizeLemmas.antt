@@ -283,11 +283,11 @@ module _ (shards version count : ℕ) (bytes : List ℕ) (records : List Record)
       )
 
   -- the text of the journal is short
-  pub journal_short : IsJournal journal → length (journal_bytes journal) ≤ 2 ^ 63 - 1
+  pub journal_short : IsJournal journal → length (journal_bytes journal) < 2 ^ 63 - 1
   journal_short lawful = omega (arith, journal_few journal lawful.entries, entries_few, holds_few lawful.holds)
 
   -- so is the replies file
-  pub replies_short : IsJournal journal → AllByRecursion FitsEntry journal.entries → length (replies_bytes outputs) ≤ 2 ^ 63 - 1
+  pub replies_short : IsJournal journal → AllByRecursion FitsEntry journal.entries → length (replies_bytes outputs) < 2 ^ 63 - 1
   replies_short lawful fit =
       let most = spells.valid.few in
       let small = all_small journal.entries lawful.entries fit in

@@ -70,16 +70,16 @@ pub fn what_checks_is_of_a_run()
     ensures order { (journal : Journal) → IsJournal journal → IsOrdered None journal.entries }
 {}
 
-/// The files of a run of a capture on at most 256 shards have at most 2^63 - 1 bytes each, if the
+/// The files of a run of a capture on at most 256 shards have fewer than 2^63 - 1 bytes each, if the
 /// journal is within the bounds of its format, and the numbers of its entries fit their bytes.
 pub fn a_run_has_short_files()
     ensures journal { (shards version count : ℕ) (text : List ℕ) (records : List Record)
         (journal : Journal) (outputs : AllOutputs) → shards ≤ 256
         → Spells text version count records → AreOfRun shards count records journal outputs
-        → IsJournal journal → length (journal_bytes journal) ≤ 2 ^ 63 - 1 }
+        → IsJournal journal → length (journal_bytes journal) < 2 ^ 63 - 1 }
     ensures replies { (shards version count : ℕ) (text : List ℕ) (records : List Record)
         (journal : Journal) (outputs : AllOutputs) → shards ≤ 256
         → Spells text version count records → AreOfRun shards count records journal outputs
         → IsJournal journal → AllByRecursion FitsEntry journal.entries
-        → length (replies_bytes outputs) ≤ 2 ^ 63 - 1 }
+        → length (replies_bytes outputs) < 2 ^ 63 - 1 }
 {}

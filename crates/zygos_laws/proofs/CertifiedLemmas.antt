@@ -1,6 +1,6 @@
 -- What was served checks, and what checks is of a run.
 use Rattle.std.specs.Prelude.{Option, Some}
-use Rattle.std.proofs.Common.{◌≡◌, ℕ, ◌<◌, ◌≤◌, List, [], ◌∷◌, ◌++◌, length, refl, ap, subst}
+use Rattle.std.proofs.Common.{◌≡◌, ℕ, ◌<◌, ◌≤◌, List, [], ◌∷◌, ◌++◌, length, refl, ap, subst, arith}
 use Rattle.zy_read.specs.Bytes.{AreBytes}
 use Rattle.zy_read.proofs.ByteLemmas.{bytes_front, bytes_back}
 use Rattle.zy_capture.specs.Outputs.{AllOutputs, AreOutputs}
@@ -45,10 +45,10 @@ module _ (asked : Run) (bytes : List ℕ) (journal : Journal) (outputs : AllOutp
   of_run : AreOfRun asked.shards is.count is.records journal outputs
   of_run = record { run = is.run; replies = ap (λ (o : AllOutputs). o.sessions) is.replies; holds = is.holds }
 
-  pub short_journal : length (journal_bytes journal) ≤ journal_limit
+  pub short_journal : length (journal_bytes journal) < journal_limit
   short_journal = journal_short asked.shards is.version is.count bytes is.records journal outputs lawful.1 is.spelled of_run is.readable.valid
 
-  pub short_replies : length (replies_bytes outputs) ≤ replies_limit
+  pub short_replies : length (replies_bytes outputs) < replies_limit
   short_replies = replies_short asked.shards is.version is.count bytes is.records journal outputs lawful.1 is.spelled of_run is.readable.valid is.readable.fits
 
   served_parts : AreParts (bytes ++ written Both journal outputs) (with_records (no_bytes is.count) is.records) journal outputs
@@ -58,8 +58,8 @@ module _ (asked : Run) (bytes : List ℕ) (journal : Journal) (outputs : AllOutp
     replies_text = replies_bytes outputs;
     whole = refl;
     of_capture = record { version = is.version; count = is.count; records = is.records; good = is.capture; joined = refl };
-    of_journal = journal_good (journal_bytes journal) journal (record { readable = is.readable; spelled = refl; short = short_journal });
-    of_replies = replies_good (replies_bytes outputs) outputs.version (items_of outputs) (written_spells outputs is.lawful short_replies);
+    of_journal = journal_good (journal_bytes journal) journal (record { readable = is.readable; spelled = refl; short = omega (arith, short_journal) });
+    of_replies = replies_good (replies_bytes outputs) outputs.version (items_of outputs) (written_spells outputs is.lawful (omega (arith, short_replies)));
   }
 
   -- they check

@@ -1,5 +1,5 @@
 //! Laws of served runs and of checks: each is the contract of a function without a body.
-ghost use Rattle.std.specs.Prelude.{◌≡◌, ◌≤◌, ◌++◌, ℕ, List, length, Some};
+ghost use Rattle.std.specs.Prelude.{◌≡◌, ◌<◌, ◌≤◌, ◌++◌, ℕ, List, length, Some};
 ghost use Rattle.zy_read.specs.Bytes.{AreBytes};
 ghost use Rattle.zy_capture.specs.Outputs.{AllOutputs, AreOutputs};
 ghost use Rattle.zy_capture.specs.Replies.{replies_bytes, replies_limit};
@@ -22,14 +22,14 @@ ghost use Rattle.zygos_run.specs.Ends.{IsChecked};
 ghost use Rattle.zygos_run.specs.Served.{HeadlineHolds};
 ghost use Rattle.zygos_laws.specs.Certified.{IsInputOfRun, IsCertified};
 
-/// The text of a served run's journal has at most 2^63 - 1 bytes, and so has its replies file.
+/// The text of a served run's journal has fewer than 2^63 - 1 bytes, and so has its replies file.
 pub fn a_served_run_has_short_files()
     ensures journal { (asked : Run) (bytes : List ℕ) (journal : Journal) (outputs : AllOutputs)
         → AreShards asked.shards → IsServed asked bytes journal outputs
-        → length (journal_bytes journal) ≤ journal_limit }
+        → length (journal_bytes journal) < journal_limit }
     ensures replies { (asked : Run) (bytes : List ℕ) (journal : Journal) (outputs : AllOutputs)
         → AreShards asked.shards → IsServed asked bytes journal outputs
-        → length (replies_bytes outputs) ≤ replies_limit }
+        → length (replies_bytes outputs) < replies_limit }
 {}
 
 /// A capture that was served, with the text of the run's journal and the replies file behind it, is
