@@ -13,4 +13,4 @@ pub use finishing::{Finished, finish};
 pub use laws::{
     a_connection_receives_its_streams, outputs_are_cut_at_the_ends, what_is_served_is_a_run,
 };
-pub use taking::{Taken, take};
+pub use taking::{Taken, abandon, take};

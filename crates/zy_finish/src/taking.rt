@@ -8,7 +8,7 @@ ghost use Rattle.zy_finish.specs.Finish.{HaveReceived};
 ghost use Rattle.zy_setup.specs.Station.{stations_of, stations_in, rings_in};
 ghost use Rattle.zy_finish.specs.Shown.{HasShown, HaveShown};
 
-use mc_store::StoreTable;
+use mc_store::{Root, StoreTable};
 use std::alloc::Global;
 use zy_base::NoMemory;
 use zy_core::{Core, Cores, Shared};
@@ -50,6 +50,14 @@ pub fn take(alloc: Global, cores: Cores, shared: Shared, inlets: Inlets) -> Resu
     };
     let (_, store) = shared.into_parts();
     Ok(Taken { homes, store })
+}
+
+/// Lets the parts of a run go that came to no end.
+pub fn abandon(cores: Cores, shared: Shared, inlets: Inlets, root: Root) {
+    drop(cores);
+    drop(shared);
+    drop(inlets);
+    drop(root);
 }
 
 // Takes each core apart.

@@ -1,4 +1,4 @@
-mod PreparedLemmas
+mod RunningLemmas
 mod FeedLemmas
 mod OverLemmas
 mod ServedLemmas

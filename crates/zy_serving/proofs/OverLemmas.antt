@@ -10,7 +10,7 @@ use Rattle.zy_core.specs.Core.{Identity}
 use Rattle.zy_finish.specs.Over.{AreOver}
 use Rattle.zy_setup.specs.Station.{Station, station_of, stations_of, stations_in, station_in}
 use Rattle.zy_finish.specs.Received.{AreSettled}
-use Rattle.zy_serving.specs.Prepared.{IsStation, AreStations}
+use Rattle.zy_serving.specs.Running.{IsStation, AreStations}
 
 pub over_of : (store : TableId) (count : ℕ) (ids : List Identity) (homes : List Homed) → count ≤ connection_limit → 1 ≤ length ids → length ids ≤ 64
     → AreStations store count (stations_in ids) → stations_of homes ≡ stations_in ids → AreSettled homes → AreOver store count homes

@@ -50,8 +50,7 @@ runs_to rest faults asked source source' header sents done exactly fed finished 
     let is = finished fed.records fed.lawful fed.sent in
     (fed.bytes, (fed.source, fed.end, fed.small), served_of asked header.version header.count fed.records fed.bytes done exactly fed.good fed.small is held)
 
--- what has begun with these has begun with equals of them
-pub begun_as : {S : Type 0} (rest : S → Option (List ℕ)) (faults : S → ℕ) (first now : S) (intake intake' : Intake) (header header' : Header) → HasBegun rest faults first now intake header
-    → intake' ≡ intake → header' ≡ header → HasBegun rest faults first now intake' header'
-begun_as rest faults first now intake intake' header header' begun same are =
-    subst (λ (h : Header). HasBegun rest faults first now intake' h) (sym are) (subst (λ (i : Intake). HasBegun rest faults first now i header) (sym same) begun)
+-- what has begun with a head has begun with an equal of it
+pub begun_as : {S : Type 0} (rest : S → Option (List ℕ)) (faults : S → ℕ) (first now : S) (intake : Intake) (header header' : Header) → HasBegun rest faults first now intake header
+    → header' ≡ header → HasBegun rest faults first now intake header'
+begun_as rest faults first now intake header header' begun are = subst (λ (h : Header). HasBegun rest faults first now intake h) (sym are) begun

@@ -1,4 +1,4 @@
 pub mod Seen
 pub mod Headline
 pub mod Runs
-pub mod Prepared
+pub mod Running

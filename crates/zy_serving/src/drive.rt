@@ -6,10 +6,9 @@ ghost use Rattle.zy_rx.specs.Feed.{rings_of, sent_by};
 ghost use Rattle.zy_command_line.specs.Range.{IsRunnable};
 ghost use Rattle.zy_core.specs.Cores.{AreCores, AreInlets, EachSettled, identities};
 ghost use Rattle.zy_drive.specs.Drive.{rest_of, IsSettled, IsBroken, cores_of};
-ghost use Rattle.zy_serving.specs.Prepared.{IsPrepared, IsDriven};
+ghost use Rattle.zy_serving.specs.Running.{IsPrepared, IsDriven};
 
-use crate::prepare::Prepared;
-use mc_store::Root;
+use crate::running::Running;
 use std::alloc::Global;
 use std::sync::Wait;
 use std::thread;
@@ -19,22 +18,12 @@ use zy_command_line::Run;
 use zy_core::{Cores, Shared};
 use zy_drive::{Driven, FirstGroup, drive_groups, drive_ordered, rest_of, take_back};
 use zy_feed::{
-    CaptureFeeder, Header, Inlets, Stop, a_broken_feeder_has_its_cause,
+    CaptureFeeder, Intake, Stop, a_broken_feeder_has_its_cause,
     a_feeder_that_ended_has_offered_the_capture,
 };
+use zy_finish::abandon;
 use zy_park::Bells;
 use zy_rx::Feeder;
-
-/// The cores of a run that are settled, with what they shared, the inlets of their rings, the root of
-/// their store, and the head of the capture.
-#[derive(Drop)]
-pub(crate) struct Ran {
-    pub(crate) header: Header,
-    pub(crate) cores: Cores,
-    pub(crate) shared: Shared,
-    pub(crate) inlets: Inlets,
-    pub(crate) root: Root,
-}
 
 /// Feeds the capture to the cores, and drives them until all are settled.
 pub(crate) fn drive_capture<R: Threads + Wait + Sync, S: Source, G: Gate + Sync>(
@@ -42,42 +31,42 @@ pub(crate) fn drive_capture<R: Threads + Wait + Sync, S: Source, G: Gate + Sync>
     alloc: Global,
     run: Run,
     source: &mut S,
-    prepared: Prepared,
+    intake: Intake,
+    running: Running,
     gate: &G,
-) -> Result<Ran, Stop>
+) -> Result<Running, Stop>
     requires runnable { IsRunnable run }
-    requires prepared { IsPrepared run prepared }
+    requires prepared { IsPrepared run running }
 
     // The capture, and why it was read no further.
-    ensures fed { (first : S) → HasBegun S.rest S.faults first source.old prepared.intake prepared.header
-        → IfOk result (λ ran. HasFedAll S.rest S.faults first source.new prepared.header (sent_by ran.inlets)) }
-    ensures stopped { (first : S) → HasBegun S.rest S.faults first source.old prepared.intake prepared.header
+    ensures fed { (first : S) → HasBegun S.rest S.faults first source.old intake running.header
+        → IfOk result (λ ran. HasFedAll S.rest S.faults first source.new running.header (sent_by ran.inlets)) }
+    ensures stopped { (first : S) → HasBegun S.rest S.faults first source.old intake running.header
         → IfErr result (λ stop. StopsBy S.rest S.faults first source.new stop) }
-    ensures count { (first : S) → HasBegun S.rest S.faults first source.old prepared.intake prepared.header
+    ensures count { (first : S) → HasBegun S.rest S.faults first source.old intake running.header
         → S.faults first ≤ S.faults source.new }
 
     // The cores.
     ensures driven { IfOk result IsDriven }
-    ensures header { IfOk result (λ ran. ran.header ≡ prepared.header) }
+    ensures header { IfOk result (λ ran. ran.header ≡ running.header) }
     ensures shards { IfOk result (λ ran. ran.shared.store.shards ≡ run.shards) }
     ensures cores { IfOk result (λ ran. length ran.cores ≡ run.cores) }
 {
     a_feeder_that_ended_has_offered_the_capture::<S>();
     a_broken_feeder_has_its_cause::<S>();
-    let Prepared {
+    let Running {
         header,
-        intake,
         cores,
         shared,
         inlets,
         root,
-    } = prepared;
+    } = running;
     let mut feeder = CaptureFeeder::new(source, intake, inlets);
     let driven = drive_cores(rt, alloc, run, cores, &shared, gate, &mut feeder);
     let (source, inlets, stop) = feeder.into_parts();
     take_back(source);
     match driven {
-        Driven::Settled(cores) => Ok(Ran {
+        Driven::Settled(cores) => Ok(Running {
             header,
             cores,
             shared,
@@ -85,26 +74,14 @@ pub(crate) fn drive_capture<R: Threads + Wait + Sync, S: Source, G: Gate + Sync>
             root,
         }),
         Driven::Broken(cores) => {
-            drop(Ran {
-                header,
-                cores,
-                shared,
-                inlets,
-                root,
-            });
+            abandon(cores, shared, inlets, root);
             match stop {
                 Some(stop) => Err(stop),
                 None => Err(Stop::NoMemory),
             }
         }
         Driven::NoMemory(cores) => {
-            drop(Ran {
-                header,
-                cores,
-                shared,
-                inlets,
-                root,
-            });
+            abandon(cores, shared, inlets, root);
             Err(Stop::NoMemory)
         }
     }

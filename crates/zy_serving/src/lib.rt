@@ -3,6 +3,7 @@
 
 mod drive;
 mod prepare;
+mod running;
 mod serving;
 
 pub use serving::serve_capture;

@@ -9,10 +9,11 @@ ghost use Rattle.zy_finish.specs.Received.{AllSent};
 ghost use Rattle.zy_finish.specs.Finish.{IsFinished, IsHoldBy};
 ghost use Rattle.zy_serving.specs.Seen.{side};
 ghost use Rattle.zy_serving.specs.Runs.{RunsTo};
-ghost use Rattle.zy_serving.specs.Prepared.{IsDriven};
+ghost use Rattle.zy_serving.specs.Running.{IsDriven};
 
-use crate::drive::{Ran, drive_capture};
+use crate::drive::drive_capture;
 use crate::prepare::prepare;
+use crate::running::Running;
 use std::alloc::Global;
 use std::sync::Wait;
 use std::thread::Threads;
@@ -37,28 +38,34 @@ pub fn serve_capture<R: Threads + Wait + Sync, S: Source, G: Gate + Sync>(
 {
     a_capture_is_good_exactly_where_it_is_a_spelling();
     let (intake, header) = Intake::begin(alloc, source)?;
-    let prepared = prepare(alloc, run, intake, header)?;
-    let ran = drive_capture(rt, alloc, run, source, prepared, gate)?;
-    let finished = finish_run(alloc, ran)?;
+    let prepared = match prepare(alloc, run, header) {
+        Ok(prepared) => prepared,
+        Err(NoMemory) => {
+            drop(intake);
+            return Err(Stop::NoMemory);
+        }
+    };
+    let driven = drive_capture(rt, alloc, run, source, intake, prepared, gate)?;
+    let finished = finish_run(alloc, driven)?;
     Ok(finished)
 }
 
 // Takes the cores of a run apart, and puts together what it leaves.
-fn finish_run(alloc: Global, ran: Ran) -> Result<Finished, NoMemory>
-    requires version { (ran.header.version ≡ 1) ⊎ (ran.header.version ≡ 2) }
-    requires driven { IsDriven ran }
+fn finish_run(alloc: Global, driven: Running) -> Result<Finished, NoMemory>
+    requires version { (driven.header.version ≡ 1) ⊎ (driven.header.version ≡ 2) }
+    requires driven { IsDriven driven }
     ensures finished { IfOk result (λ finished. (records : List Record)
-        → IsCapture ran.header.version ran.header.count records → AllSent (sent_by ran.inlets) records
-        → IsFinished ran.shared.store.shards ran.header.version ran.header.count records finished) }
-    ensures held { IfOk result (λ finished. AllByRecursion (IsHoldBy (length ran.cores)) finished.journal.holds) }
+        → IsCapture driven.header.version driven.header.count records → AllSent (sent_by driven.inlets) records
+        → IsFinished driven.shared.store.shards driven.header.version driven.header.count records finished) }
+    ensures held { IfOk result (λ finished. AllByRecursion (IsHoldBy (length driven.cores)) finished.journal.holds) }
 {
-    let Ran {
+    let Running {
         header,
         cores,
         shared,
         inlets,
         root,
-    } = ran;
+    } = driven;
     let taken = match take(alloc, cores, shared, inlets) {
         Ok(taken) => taken,
         Err(e) => {

@@ -17,9 +17,8 @@ use Rattle.zy_setup.specs.Start.{IsStart}
 use Rattle.zy_setup.specs.Station.{Station, station_of, station_in, stations_of, stations_in, rings_in}
 use Rattle.zy_conn.specs.Block.{label_of}
 use Rattle.zy_command_line.specs.declared.request.Run.{Run}
-use Rattle.zy_serving.specs.declared.prepare.Prepared.{Prepared}
-use Rattle.zy_serving.specs.declared.drive.Ran.{Ran}
-use Rattle.zy_serving.specs.Prepared.{IsStation, AreStations, IsPrepared, IsDriven}
+use Rattle.zy_serving.specs.declared.running.Running.{Running}
+use Rattle.zy_serving.specs.Running.{IsStation, AreStations, IsPrepared, IsDriven}
 
 -- a home whose station this is
 pub record HomeAt (homes : List Homed) (core : ℕ) (s : Station) : Type 0 where
@@ -44,7 +43,7 @@ stations_new count cores shards start stations is same core s e =
       label_is = new.label_is ∙ ap (label_of start.store.id) (sym all);
     })
 
-pub prepared_of : (asked : Run) (start : Started) (p : Prepared) → p.header.count ≤ connection_limit → IsStart p.header.count asked.cores asked.shards start
+pub prepared_of : (asked : Run) (start : Started) (p : Running) → p.header.count ≤ connection_limit → IsStart p.header.count asked.cores asked.shards start
     → AreCores p.shared (identities p.cores) → AreInlets (rings_of p.inlets) (identities p.cores) → stations_in (identities p.cores) ≡ stations_of start.homes.items
     → rings_of p.inlets ≡ rings_in (identities p.cores) → p.shared.store ≡ start.store → AreUnsent (sent_by p.inlets) → p.root ≡ start.root
     → IsPrepared asked p
@@ -63,7 +62,7 @@ prepared_of asked start p few is driven feeds same rings store unsent root = rec
 }
 
 -- driving keeps it so
-pub driven_of : (asked : Run) (p : Prepared) (r : Ran) → IsPrepared asked p → r.header ≡ p.header → r.shared ≡ p.shared → r.root ≡ p.root
+pub driven_of : (asked : Run) (p : Running) (r : Running) → IsPrepared asked p → r.header ≡ p.header → r.shared ≡ p.shared → r.root ≡ p.root
     → identities r.cores ≡ identities p.cores → rings_of r.inlets ≡ rings_of p.inlets → EachSettled r.cores → IsDriven r
 driven_of asked p r is header shared root same rings settled = record {
   connections = subst (λ (h : Header). h.count ≤ connection_limit) (sym header) is.connections;
@@ -79,10 +78,10 @@ driven_of asked p r is header shared root same rings settled = record {
 }
 
 -- and the number of cores
-pub driven_count : (asked : Run) (p : Prepared) (cores : List Cored) → IsPrepared asked p → identities cores ≡ identities p.cores → length cores ≡ asked.cores
+pub driven_count : (asked : Run) (p : Running) (cores : List Cored) → IsPrepared asked p → identities cores ≡ identities p.cores → length cores ≡ asked.cores
 driven_count asked p cores is same =
     sym (length_map identity_of cores) ∙ ap (λ (l : List Identity). length l) same ∙ length_map identity_of p.cores ∙ is.count
 
 -- there is a ring for each core that was asked for
-pub rings_count : (asked : Run) (p : Prepared) → IsPrepared asked p → length p.shared.rings ≡ asked.cores
+pub rings_count : (asked : Run) (p : Running) → IsPrepared asked p → length p.shared.rings ≡ asked.cores
 rings_count asked p is = sym is.cores.count ∙ length_map identity_of p.cores ∙ is.count

@@ -9,8 +9,7 @@ use Rattle.zy_command_line.specs.declared.request.Run.{Run}
 use Rattle.zy_core.specs.Cores.{AreCores, AreInlets, EachSettled, identities}
 use Rattle.mc_store.specs.Root.{IsRootOf}
 use Rattle.zy_setup.specs.Station.{Station, stations_in, rings_in}
-use Rattle.zy_serving.specs.declared.prepare.Prepared.{Prepared}
-use Rattle.zy_serving.specs.declared.drive.Ran.{Ran}
+use Rattle.zy_serving.specs.declared.running.Running.{Running}
 
 -- the home of this core, of this number of cores, has its core's number, the count of connections, and the label of the
 -- store and the number of cores
@@ -26,7 +25,7 @@ AreStations store count stations =
     (core : ℕ) (s : Station) → slice_get stations core ≡ Some s → IsStation store (length stations) count core s
 
 -- the cores that were asked for can be driven, and taken apart again
-pub record IsPrepared (asked : Run) (p : Prepared) : Type 0 where
+pub record IsPrepared (asked : Run) (p : Running) : Type 0 where
   pub connections : p.header.count ≤ connection_limit
   pub cores : AreCores p.shared (identities p.cores)
   pub feeds : AreInlets (rings_of p.inlets) (identities p.cores)
@@ -38,7 +37,7 @@ pub record IsPrepared (asked : Run) (p : Prepared) : Type 0 where
   pub root_is : IsRootOf p.shared.store.id p.header.count p.root
 
 -- the cores were driven until all are settled, and can be taken apart
-pub record IsDriven (r : Ran) : Type 0 where
+pub record IsDriven (r : Running) : Type 0 where
   pub connections : r.header.count ≤ connection_limit
   pub cores : AreCores r.shared (identities r.cores)
   pub settled : EachSettled r.cores
