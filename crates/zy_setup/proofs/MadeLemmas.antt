@@ -7,14 +7,14 @@ use Rattle.zy_shuffle.specs.Pass.{Held, Ringed, newly_held}
 use Rattle.zy_steal.specs.Steal.{PassList, AreIdle, seats_of}
 use Rattle.zy_conn.specs.Block.{Blocked, label_of}
 use Rattle.zy_home.specs.Home.{Homed, HomeStands, IsMade}
-use Rattle.zy_setup.specs.declared.own.Own.{Own}
-use Rattle.zy_setup.specs.declared.made.Made.{Made}
+use Rattle.zy_setup.specs.declared.own_connections.OwnConnections.{OwnConnections}
+use Rattle.zy_setup.specs.declared.core_parts.CoreParts.{CoreParts}
 use Rattle.zy_setup.specs.Ready.{IsNewHome, AreNewPasses, AreReady}
 use Rattle.zy_setup.specs.Make.{Gives, no_passes, HasPasses, AreMade}
 use Rattle.zy_setup.proofs.PassLemmas.{push_at, push_below, passes_next, passes_none, length-no_passes, passes_all}
 
 -- nothing is made yet
-pub made_none : (store : TableId) (cores count : ℕ) (made : Made) → made.homes.items ≡ [] → made.rings ≡ [] → made.passes.items ≡ no_passes cores → AreMade store cores count made
+pub made_none : (store : TableId) (cores count : ℕ) (made : CoreParts) → made.homes.items ≡ [] → made.rings ≡ [] → made.passes.items ≡ no_passes cores → AreMade store cores count made
 made_none store cores count made homes rings passes = record {
   same = ap (λ (l : List Ringed). length l) rings ∙ sym (ap (λ (l : List Homed). length l) homes);
   all = ap (λ (l : List (PassList Blocked)). length l) passes ∙ length-no_passes cores;
@@ -43,7 +43,7 @@ new_home store rings rings' core cores count places ring first pass blocks h rin
     last_ring r (inr found) = found.1
 
 -- one further core
-module _ (store : TableId) (cores count : ℕ) (made made' : Made) (are : AreMade store cores count made) (home : Homed) (ring : Ringed) (pass : Held Blocked)
+module _ (store : TableId) (cores count : ℕ) (made made' : CoreParts) (are : AreMade store cores count made) (home : Homed) (ring : Ringed) (pass : Held Blocked)
     (homes_are : made'.homes.items ≡ made.homes.items ++ home ∷ []) (rings_are : made'.rings ≡ made.rings ++ ring ∷ [])
     (passes' : List (PassList Blocked)) (passes_are : made'.passes.items ≡ passes') (gives : Gives (length made.homes.items) pass made.passes.items passes') (size : length passes' ≡ length made.passes.items)
     (new : IsNewHome made'.rings (label_of store cores) cores (length made.homes.items) home) (counted : home.count ≡ count)
@@ -80,7 +80,7 @@ module _ (store : TableId) (cores count : ℕ) (made made' : Made) (are : AreMad
   }
 
 -- the parts of all cores, when all are made
-pub ready_of : (store : Stored) (cores count : ℕ) (made : Made) → AreMade store.id cores count made → length made.homes.items ≡ cores → 1 ≤ cores → cores ≤ 64
+pub ready_of : (store : Stored) (cores count : ℕ) (made : CoreParts) → AreMade store.id cores count made → length made.homes.items ≡ cores → 1 ≤ cores → cores ≤ 64
     → AreReady made.rings store made.homes.items made.passes.items
 ready_of store cores count made are all some few =
     let same = are.same in
@@ -103,17 +103,17 @@ ready_of store cores count made are all some few =
 -- ---- what is left to make, from a number on
 
 -- the first one is that of the number
-pub first_left : (P : ℕ → Own → Type 0) (xs ys : List Own) (own : Own) (n : ℕ) → xs ≡ own ∷ ys → ((k : ℕ) (x : Own) → slice_get xs k ≡ Some x → P (n + k) x) → P n own
+pub first_left : (P : ℕ → OwnConnections → Type 0) (xs ys : List OwnConnections) (own : OwnConnections) (n : ℕ) → xs ≡ own ∷ ys → ((k : ℕ) (x : OwnConnections) → slice_get xs k ≡ Some x → P (n + k) x) → P n own
 first_left P xs ys own n are each =
-    let same : n + 0 ≡ n = omega arith in subst (λ m. P m own) same (each 0 own (ap (λ (l : List Own). slice_get l 0) are))
+    let same : n + 0 ≡ n = omega arith in subst (λ m. P m own) same (each 0 own (ap (λ (l : List OwnConnections). slice_get l 0) are))
 
 -- the others are those from the next number on
-pub others_left : (P : ℕ → Own → Type 0) (xs ys : List Own) (own : Own) (n m : ℕ) → xs ≡ own ∷ ys → m ≡ n + 1 → ((k : ℕ) (x : Own) → slice_get xs k ≡ Some x → P (n + k) x)
-    → (k : ℕ) (x : Own) → slice_get ys k ≡ Some x → P (m + k) x
+pub others_left : (P : ℕ → OwnConnections → Type 0) (xs ys : List OwnConnections) (own : OwnConnections) (n m : ℕ) → xs ≡ own ∷ ys → m ≡ n + 1 → ((k : ℕ) (x : OwnConnections) → slice_get xs k ≡ Some x → P (n + k) x)
+    → (k : ℕ) (x : OwnConnections) → slice_get ys k ≡ Some x → P (m + k) x
 others_left P xs ys own n m are next each k x at =
-    let same : n + suc k ≡ m + k = omega arith in subst (λ i. P i x) same (each (suc k) x (ap (λ (l : List Own). slice_get l (suc k)) are ∙ at))
+    let same : n + suc k ≡ m + k = omega arith in subst (λ i. P i x) same (each (suc k) x (ap (λ (l : List OwnConnections). slice_get l (suc k)) are ∙ at))
 
 -- all are, from 0 on
-pub all_left : (P : ℕ → Own → Type 0) (xs ys : List Own) (n : ℕ) → ys ≡ xs → n ≡ 0 → ((k : ℕ) (x : Own) → slice_get xs k ≡ Some x → P k x) → (k : ℕ) (x : Own) → slice_get ys k ≡ Some x → P (n + k) x
+pub all_left : (P : ℕ → OwnConnections → Type 0) (xs ys : List OwnConnections) (n : ℕ) → ys ≡ xs → n ≡ 0 → ((k : ℕ) (x : OwnConnections) → slice_get xs k ≡ Some x → P k x) → (k : ℕ) (x : OwnConnections) → slice_get ys k ≡ Some x → P (n + k) x
 all_left P xs ys n are none each k x at =
-    let same : k ≡ n + k = omega arith in subst (λ i. P i x) same (each k x (ap (λ (l : List Own). slice_get l k) (sym are) ∙ at))
+    let same : k ≡ n + k = omega arith in subst (λ i. P i x) same (each k x (ap (λ (l : List OwnConnections). slice_get l k) (sym are) ∙ at))

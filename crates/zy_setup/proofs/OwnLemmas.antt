@@ -19,7 +19,7 @@ use Rattle.zy_home.specs.Own.{own_conns}
 use Rattle.zy_home.specs.Parts.{IsNew, IsUnused, conns_of_blocks, rings_of_blocks, rings_of_inlets}
 use Rattle.zy_home.proofs.OwnLemmas.{own-here, own-else}
 use Rattle.zy_setup.proofs.ListLemmas.{all_append}
-use Rattle.zy_setup.specs.declared.own.Own.{Own}
+use Rattle.zy_setup.specs.declared.own_connections.OwnConnections.{OwnConnections}
 use Rattle.zy_setup.specs.Make.{IsEmpty, IsConnection, HasOneMore, IsOwnOf, AreOwns}
 
 -- ---- a core
@@ -33,7 +33,7 @@ own_few core cores (suc n) = dite (ℕ_discrete (home_of cores n) core)
     (λ other. let same = ap (λ (l : List ℕ). length l) (own-else core cores n other) in let rest = own_few core cores n in let on = ap (λ k. length (own_conns core cores k)) (add-one n) in omega arith)
 
 -- a core has at most as many places as there are connections
-pub places_few : (store : TableId) (core cores count : ℕ) (own : Own) → IsOwnOf store core cores count own → own.places ≤ count
+pub places_few : (store : TableId) (core cores count : ℕ) (own : OwnConnections) → IsOwnOf store core cores count own → own.places ≤ count
 places_few store core cores count own is =
     let places = is.places_are in
     let size = ap (λ (l : List ℕ). length l) is.conns in
@@ -41,9 +41,9 @@ places_few store core cores count own is =
     let few = own_few core cores count in
     omega arith
 
-module _ (store : TableId) (core cores conn : ℕ) (own : Own) (is : IsOwnOf store core cores conn own) where
+module _ (store : TableId) (core cores conn : ℕ) (own : OwnConnections) (is : IsOwnOf store core cores conn own) where
   -- a connection of the core is added
-  own_added : (own' : Own) (block : Blocked) (inlet : EventInlet) → home_of cores conn ≡ core → IsConnection store cores conn block inlet → HasOneMore block inlet own own' → IsOwnOf store core cores (conn + 1) own'
+  own_added : (own' : OwnConnections) (block : Blocked) (inlet : EventInlet) → home_of cores conn ≡ core → IsConnection store cores conn block inlet → HasOneMore block inlet own own' → IsOwnOf store core cores (conn + 1) own'
   own_added own' block inlet here new more = record {
     places_are = (let places = is.places_are in let one = more.places_are in let size = ap (λ (l : List Blocked). length l) more.blocks_are in let long = length-append own.blocks (block ∷ []) in omega arith);
     conns = ap conns_of_blocks more.blocks_are ∙ map-append (λ (b : Blocked). b.work.conn) own.blocks (block ∷ [])
@@ -67,8 +67,8 @@ module _ (store : TableId) (core cores conn : ℕ) (own : Own) (is : IsOwnOf sto
 
 -- ---- all cores
 
-module _ (store : TableId) (cores conn : ℕ) (owns : List Own) (are : AreOwns store cores conn owns) (core : ℕ) (here : core ≡ home_of cores conn) (within : core < cores)
-    (own : Own) (is : own ≡ get_or owns core own) where
+module _ (store : TableId) (cores conn : ℕ) (owns : List OwnConnections) (are : AreOwns store cores conn owns) (core : ℕ) (here : core ≡ home_of cores conn) (within : core < cores)
+    (own : OwnConnections) (is : own ≡ get_or owns core own) where
   own_at_core : IsOwnOf store core cores conn own
   own_at_core = let size = are.count in are.each core own (get_at owns core own own (omega arith) is)
 
@@ -76,7 +76,7 @@ module _ (store : TableId) (cores conn : ℕ) (owns : List Own) (are : AreOwns s
   pub own_room : conn < 4096 → own.places < 4096
   own_room below = let few = places_few store core cores conn own own_at_core in omega arith
 
-  pub owns_next : (own' : Own) (block : Blocked) (inlet : EventInlet) → IsConnection store cores conn block inlet → HasOneMore block inlet own own' → AreOwns store cores (conn + 1) (set owns core own')
+  pub owns_next : (own' : OwnConnections) (block : Blocked) (inlet : EventInlet) → IsConnection store cores conn block inlet → HasOneMore block inlet own own' → AreOwns store cores (conn + 1) (set owns core own')
   owns_next own' block inlet new more = record {
     count = length-set owns core own' ∙ are.count;
     each = λ k x at. dite (ℕ_discrete k core)

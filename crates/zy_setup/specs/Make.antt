@@ -11,14 +11,14 @@ use Rattle.zy_conn.specs.Block.{Blocked, label_of}
 use Rattle.zy_home.specs.Own.{own_conns}
 use Rattle.zy_home.specs.Parts.{IsNew, IsUnused, conns_of_blocks, rings_of_blocks, rings_of_inlets}
 use Rattle.zy_home.specs.Home.{Homed}
-use Rattle.zy_setup.specs.declared.own.Own.{Own}
-use Rattle.zy_setup.specs.declared.made.Made.{Made}
+use Rattle.zy_setup.specs.declared.own_connections.OwnConnections.{OwnConnections}
+use Rattle.zy_setup.specs.declared.core_parts.CoreParts.{CoreParts}
 use Rattle.zy_setup.specs.Ready.{IsNewHome}
 
 -- ---- connections
 
 -- a core has no connection yet
-pub record IsEmpty (own : Own) : Type 0 where
+pub record IsEmpty (own : OwnConnections) : Type 0 where
   pub places_are : own.places ≡ 0
   pub blocks_are : own.blocks ≡ []
   pub inlets_are : own.inlets ≡ []
@@ -31,13 +31,13 @@ pub record IsConnection (store : TableId) (cores conn : ℕ) (block : Blocked) (
   pub unused : IsUnused inlet
 
 -- one further connection
-pub record HasOneMore (block : Blocked) (inlet : EventInlet) (own own' : Own) : Type 0 where
+pub record HasOneMore (block : Blocked) (inlet : EventInlet) (own own' : OwnConnections) : Type 0 where
   pub places_are : own'.places ≡ own.places + 1
   pub blocks_are : own'.blocks ≡ own.blocks ++ block ∷ []
   pub inlets_are : own'.inlets ≡ own.inlets ++ inlet ∷ []
 
 -- the connections below `conn` that belong to core `core` of `cores`
-pub record IsOwnOf (store : TableId) (core cores conn : ℕ) (own : Own) : Type 0 where
+pub record IsOwnOf (store : TableId) (core cores conn : ℕ) (own : OwnConnections) : Type 0 where
   pub places_are : own.places ≡ length own.blocks
   pub conns : conns_of_blocks own.blocks ≡ own_conns core cores conn
   pub new : AllByRecursion (IsNew (label_of store cores)) own.blocks
@@ -45,9 +45,9 @@ pub record IsOwnOf (store : TableId) (core cores conn : ℕ) (own : Own) : Type 
   pub unused : AllByRecursion IsUnused own.inlets
 
 -- those of each core
-pub record AreOwns (store : TableId) (cores conn : ℕ) (owns : List Own) : Type 0 where
+pub record AreOwns (store : TableId) (cores conn : ℕ) (owns : List OwnConnections) : Type 0 where
   pub count : length owns ≡ cores
-  pub each : (core : ℕ) (own : Own) → slice_get owns core ≡ Some own → IsOwnOf store core cores conn own
+  pub each : (core : ℕ) (own : OwnConnections) → slice_get owns core ≡ Some own → IsOwnOf store core cores conn own
 
 -- ---- passes
 
@@ -81,7 +81,7 @@ pub record HasPasses (label : Name) (rings : List Ringed) (core : ℕ) (passes :
 -- ---- cores
 
 -- what was made for the first of `cores` cores
-pub record AreMade (store : TableId) (cores count : ℕ) (made : Made) : Type 0 where
+pub record AreMade (store : TableId) (cores count : ℕ) (made : CoreParts) : Type 0 where
   pub same : length made.rings ≡ length made.homes.items
   pub all : length made.passes.items ≡ cores
   pub homes : (core : ℕ) (h : Homed) → slice_get made.homes.items core ≡ Some h

@@ -5,7 +5,7 @@ ghost use Rattle.zy_table.specs.Member.{is_in};
 ghost use Rattle.mc_store.specs.Pass.{rooted};
 ghost use Rattle.zy_setup.specs.Make.{IsEmpty, IsConnection, AreOwns};
 
-use crate::own::Own;
+use crate::own_connections::OwnConnections;
 use mc_store::{Root, StoreTable};
 use std::alloc::Global;
 use zy_base::NoMemory;
@@ -38,13 +38,13 @@ fn connection(
 }
 
 // Adds the cores, without connections.
-fn add_cores(alloc: Global, cores: u32, owns: &mut Vec<Own>) -> Result<(), NoMemory>
+fn add_cores(alloc: Global, cores: u32, owns: &mut Vec<OwnConnections>) -> Result<(), NoMemory>
     requires none { owns.old.items ≡ [] }
     ensures count { OnOk result (length owns.new.items ≡ cores) }
     ensures empty { OnOk result (All IsEmpty owns.new.items) }
 {
     for _core in 0..cores {
-        owns.push(Own::new(alloc))?;
+        owns.push(OwnConnections::new(alloc))?;
     }
     Ok(())
 }
@@ -56,7 +56,7 @@ fn add_connections(
     cores: u32,
     store: &StoreTable,
     root: &mut Root,
-    owns: &mut Vec<Own>,
+    owns: &mut Vec<OwnConnections>,
 ) -> Result<(), NoMemory>
     requires few { count ≤ 4096 }
     requires some { 1 ≤ cores }
@@ -86,7 +86,7 @@ pub(crate) fn all_owns(
     cores: u32,
     store: &StoreTable,
     root: &mut Root,
-) -> Result<Vec<Own>, NoMemory>
+) -> Result<Vec<OwnConnections>, NoMemory>
     requires few { count ≤ 4096 }
     requires some { 1 ≤ cores }
     requires cores { cores ≤ 64 }
@@ -114,7 +114,7 @@ fn fill(
     cores: u32,
     store: &StoreTable,
     root: &mut Root,
-    owns: &mut Vec<Own>,
+    owns: &mut Vec<OwnConnections>,
 ) -> Result<(), NoMemory>
     requires few { count ≤ 4096 }
     requires some { 1 ≤ cores }

@@ -3,10 +3,10 @@
 #![tactic(auto)]
 
 mod connections;
+mod core_parts;
 pub mod laws;
-mod made;
 mod making;
-mod own;
+mod own_connections;
 mod ringing;
 mod starting;
 

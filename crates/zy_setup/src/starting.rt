@@ -5,7 +5,7 @@ ghost use Rattle.zy_setup.specs.Start.{IsStart};
 ghost use Rattle.zy_setup.specs.Make.{AreMade};
 
 use crate::connections::all_owns;
-use crate::made::Made;
+use crate::core_parts::CoreParts;
 use mc_store::{Root, StoreTable};
 use std::alloc::Global;
 use zy_base::NoMemory;
@@ -39,7 +39,7 @@ pub fn start(alloc: Global, count: u32, cores: u32, shards: u32) -> Result<Start
     let (store, mut root) = StoreTable::new(alloc, shards)?;
     match parts_of(alloc, count, cores, &store, &mut root) {
         Ok(
-            Made {
+            CoreParts {
                 homes,
                 rings,
                 passes,
@@ -66,7 +66,7 @@ fn parts_of(
     cores: u32,
     store: &StoreTable,
     root: &mut Root,
-) -> Result<Made, NoMemory>
+) -> Result<CoreParts, NoMemory>
     requires connections { count ≤ 4096 }
     requires some { 1 ≤ cores }
     requires few { cores ≤ 64 }
@@ -79,5 +79,5 @@ fn parts_of(
     ensures given { OnOk result ((conn : ℕ) → (is_in conn root.new.given ≡ true) ↔ (conn < count)) }
 {
     let owns = all_owns(alloc, count, cores, store, root)?;
-    Made::of(alloc, store, cores, count, owns)
+    CoreParts::of(alloc, store, cores, count, owns)
 }

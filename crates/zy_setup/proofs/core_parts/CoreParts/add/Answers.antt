@@ -8,7 +8,7 @@ use Rattle.zy_setup.specs.Ready.{IsNewHome}
 use Rattle.zy_setup.specs.Make.{Gives}
 use Rattle.zy_setup.proofs.OwnLemmas.{places_few}
 use Rattle.zy_setup.proofs.MadeLemmas.{made_next, new_home}
-use Rattle.zy_setup.proofs.made.Made.add.Goals as goal
+use Rattle.zy_setup.proofs.core_parts.CoreParts.add.Goals as goal
 
 pub ring_of-requires : goal.ring_of-requires
 ring_of-requires c =

@@ -1,16 +1,16 @@
 use Rattle.std.proofs.Common.{◌≡◌, List, length, ap, arith, rules}
 use Rattle.std.specs.Vec.Iter.{into_iter_items}
 use Rattle.zy_home.specs.Home.{Homed}
-use Rattle.zy_setup.specs.declared.own.Own.{Own}
+use Rattle.zy_setup.specs.declared.own_connections.OwnConnections.{OwnConnections}
 use Rattle.zy_setup.specs.Make.{IsOwnOf}
 use Rattle.zy_setup.proofs.MadeLemmas.{made_none, first_left, others_left, all_left}
-use Rattle.zy_setup.proofs.made.Made.add_all.Goals as goal
+use Rattle.zy_setup.proofs.core_parts.CoreParts.add_all.Goals as goal
 
 pub loop-own-init : goal.loop-own-init
 loop-own-init c =
     let all : into_iter_items c.into_iter-own-iterator.result ≡ c.args.owns.items = search rules in
     let none : length c.args.self.now.homes.items ≡ 0 = ap (λ (l : List Homed). length l) c.requires.none.0 in
-    let size = ap (λ (l : List Own). length l) all in
+    let size = ap (λ (l : List OwnConnections). length l) all in
     let count = c.requires.owns.count in (
       tt,
       tt,
@@ -27,7 +27,7 @@ add-requires-clause-own c =
 
 pub loop-own-preserved : goal.loop-own-preserved
 loop-own-preserved c =
-    let size = ap (λ (l : List Own). length l) c.in-Some.ensures.steps.0 in
+    let size = ap (λ (l : List OwnConnections). length l) c.in-Some.ensures.steps.0 in
     let one = c.in_ok-add.ensures.one in
     let sum = c.loop-own.invariant.3 in (
       tt,

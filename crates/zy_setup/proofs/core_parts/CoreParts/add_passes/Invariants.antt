@@ -1,6 +1,6 @@
 use Rattle.std.proofs.Common.{◌≡◌}
 use Rattle.zy_setup.specs.Make.{no_passes}
-use Rattle.zy_setup.proofs.made.Made.add_passes.Given as goal
+use Rattle.zy_setup.proofs.core_parts.CoreParts.add_passes.Given as goal
 
 abbrev pub invariant-loop-core : goal.invariant-loop-core
 invariant-loop-core l = record {

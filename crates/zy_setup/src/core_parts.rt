@@ -4,7 +4,7 @@ ghost use Rattle.zy_home.specs.Home.{HomeStands, IsMade};
 ghost use Rattle.zy_home.specs.Parts.{AreParts};
 ghost use Rattle.zy_setup.specs.Make.{AreOwns, AreMade, IsOwnOf, no_passes};
 
-use crate::own::Own;
+use crate::own_connections::OwnConnections;
 use crate::ringing::{give_passes, ring_of};
 use mc_store::StoreTable;
 use std::alloc::Global;
@@ -16,28 +16,28 @@ use zy_steal::{Passes, Rings};
 
 /// The homes and the rings of the first cores, and the passes of all cores on these rings.
 #[derive(Drop)]
-pub(crate) struct Made {
+pub(crate) struct CoreParts {
     pub(crate) homes: Vec<Home>,
     pub(crate) rings: Rings<Block>,
     pub(crate) passes: Vec<Passes<Block>>,
 }
 
-impl Made {
+impl CoreParts {
     /// The parts of all cores, with these connections.
     pub(crate) fn of(
         alloc: Global,
         store: &StoreTable,
         cores: u32,
         count: u32,
-        owns: Vec<Own>,
-    ) -> Result<Made, NoMemory>
+        owns: Vec<OwnConnections>,
+    ) -> Result<CoreParts, NoMemory>
         requires cores { cores ≤ 64 }
         requires few { count ≤ 4096 }
         requires owns { AreOwns store.now.id cores count owns.items }
         ensures made { IfOk result (AreMade store.now.id cores count) }
         ensures all { IfOk result (λ made. length made.homes.items ≡ cores) }
     {
-        let mut made = Made::new(alloc);
+        let mut made = CoreParts::new(alloc);
         if let Err(e) = made.add_passes(alloc, cores) {
             drop(made);
             drop(owns);
@@ -53,12 +53,12 @@ impl Made {
     }
 
     // No home, and no passes. Takes no memory.
-    fn new(alloc: Global) -> Made
+    fn new(alloc: Global) -> CoreParts
         ensures homes { result.homes.items ≡ [] }
         ensures rings { result.rings ≡ [] }
         ensures passes { result.passes.items ≡ [] }
     {
-        Made {
+        CoreParts {
             homes: Vec::new(alloc),
             rings: Rings::new(alloc),
             passes: Vec::new(alloc),
@@ -85,7 +85,7 @@ impl Made {
         store: &StoreTable,
         cores: u32,
         count: u32,
-        owns: Vec<Own>,
+        owns: Vec<OwnConnections>,
     ) -> Result<(), NoMemory>
         requires cores { cores ≤ 64 }
         requires few { count ≤ 4096 }
@@ -108,7 +108,7 @@ impl Made {
         store: &StoreTable,
         cores: u32,
         count: u32,
-        own: Own,
+        own: OwnConnections,
     ) -> Result<(), NoMemory>
         requires cores { cores ≤ 64 }
         requires few { count ≤ 4096 }
@@ -168,7 +168,7 @@ fn home_of(
     cores: u32,
     count: u32,
     pass: HomePass<Block>,
-    own: Own,
+    own: OwnConnections,
 ) -> Result<Home, NoMemory>
     requires core { core < cores }
     requires cores { cores ≤ 64 }
@@ -176,7 +176,7 @@ fn home_of(
     ensures ok { IfOk result (λ home. IsMade core cores count pass own.blocks home) }
     ensures stands { IfOk result (λ home. HomeStands home []) }
 {
-    let Own {
+    let OwnConnections {
         places: _,
         blocks,
         inlets,

@@ -9,18 +9,18 @@ use zy_home::{Blocks, Inlets};
 
 /// The blocks of a core's connections by rising number, with their inlets, and how many they are.
 #[derive(Drop)]
-pub(crate) struct Own {
+pub(crate) struct OwnConnections {
     pub(crate) places: u32,
     pub(crate) blocks: Blocks,
     pub(crate) inlets: Inlets,
 }
 
-impl Own {
+impl OwnConnections {
     /// No connection. Takes no memory.
-    pub(crate) fn new(alloc: Global) -> Own
+    pub(crate) fn new(alloc: Global) -> OwnConnections
         ensures value { IsEmpty result }
     {
-        Own {
+        OwnConnections {
             places: 0,
             blocks: Blocks::new(alloc),
             inlets: Inlets::new(alloc),
