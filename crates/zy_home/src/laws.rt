@@ -63,11 +63,13 @@ pub fn a_connection_in_the_hand_is_finished()
         → ConnEnd b.work.table.slots b.work.calls (sessions_of (conn_of l) items) l.output l.ends }
 {}
 
-/// A connection that was idle and gets a frame arrives: if an item came for a connection whose block was
-/// in the home's hand, and the block is away after it, the home's pass made the events by which an idle
-/// connection is published.
+/// A connection that was idle and gets a frame arrives. A block in the hand of a home that was not
+/// refused memory is idle. If an item came for its connection, and the block is away after it, the
+/// home's pass made the events by which an idle connection is published.
 pub fn an_idle_connection_that_gets_a_frame_arrives()
-    ensures value { (h h' : Homed) (item : Rx) (place : ℕ) (block : Blocked) → Forwards h h' item
+    ensures idle { (h : Homed) (p : ℕ) (b : Blocked) (l : Link) → Keeps h → h.refused ≡ false → IsInHand h p b l
+        → IsIdle b.work l }
+    ensures arrives { (h h' : Homed) (item : Rx) (place : ℕ) (block : Blocked) → Forwards h h' item
         → ComesTo h place item → slice_get h.blocks place ≡ Some (Some block)
         → slice_get h'.blocks place ≡ Some None → PublishMakes was_idle mark_in place h.pass h'.pass }
 {}

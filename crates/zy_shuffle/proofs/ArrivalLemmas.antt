@@ -1,9 +1,7 @@
 -- A publication of a connection that was idle is its arrival.
-use Rattle.std.proofs.Common.{◌≡◌, ℕ, ◌+◌, ◌<◌, List, [], ◌∷◌, ◌++◌, length, ap, ◌∙◌}
+use Rattle.std.proofs.Common.{◌≡◌, ℕ, ◌+◌, ◌<◌, ◌∷◌, ◌++◌, length, ap, ◌∙◌}
 use Rattle.std.specs.Prelude as std
-use mathlib.Core.Option.{some}
 use Rattle.zy_table.specs.declared.name.Name.{Name}
-use Rattle.zy_shuffle.specs.declared.ring.view.Event.{Event}
 use Rattle.zy_shuffle.specs.declared.ring.view.Event.TheVariants.{Arrive}
 use Rattle.zy_shuffle.specs.declared.ring.view.Role.{Role}
 use Rattle.zy_shuffle.specs.declared.ring.view.Role.TheVariants.{Closed, Core, Home, Spent, Start}
@@ -11,8 +9,7 @@ use Rattle.zy_shuffle.specs.declared.ring.view.View.{View}
 use Rattle.zy_shuffle.specs.Hand.{marked}
 use Rattle.zy_shuffle.specs.Holder.{cores}
 use Rattle.zy_shuffle.specs.HomeRole.{IsActive, IsHome}
-use Rattle.zy_shuffle.specs.Ownership.{Owners, Runs, idle}
-use Rattle.zy_shuffle.specs.Run.{was_idle, AreOfSeat, MakesAll, publication, went_idle}
+use Rattle.zy_shuffle.specs.Run.{was_idle, publication}
 use Rattle.zy_shuffle.specs.OneStep.{Ruled, IsPublication, GrowsByAll, LeadsByAll, ArrivesIdle, idling_of}
 use Rattle.zy_shuffle.proofs.FollowLemmas.{publication_seat, idle_before}
 use Rattle.zy_shuffle.proofs.OwnerLemmas.{runs_steps}

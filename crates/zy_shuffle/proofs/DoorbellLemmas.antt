@@ -3,7 +3,7 @@ use Rattle.zy_shuffle.proofs.FollowLemmas.{follows_give, follows_collect}
 use Rattle.zy_shuffle.proofs.KnownLemmas.{between, since_is, may_follow, known_more}
 use Rattle.zy_shuffle.specs.declared.ring.view.Event.{Event}
 use Rattle.zy_shuffle.specs.declared.ring.view.Event.TheVariants.{GiveBack, Collect}
-use Rattle.std.proofs.Common.{◌≡◌, ◌≢◌, ℕ, ◌+◌, ◌*◌, ◌/◌, ◌%◌, ◌^◌, ◌<◌, ◌≤◌, List, ◌∷◌, length, get_or, set, true, false, true≢false, refl, sym, ap, ◌∙◌, subst, ⊎_elim, arith, length-set, get_or-set_other, get_or-set_same, bit_or, bit_and, w64}
+use Rattle.std.proofs.Common.{◌≡◌, ◌≢◌, ℕ, ◌+◌, ◌*◌, ◌/◌, ◌%◌, ◌^◌, ◌<◌, ◌≤◌, List, [], ◌∷◌, length, get_or, set, true, false, true≢false, refl, sym, ap, ◌∙◌, subst, ⊎_elim, arith, length-set, get_or-set_other, get_or-set_same, bit_or, bit_and, w64}
 use Rattle.std.specs.Prelude as std
 use mathlib.Core.Option.{none, some}
 use mathlib.Core.Logic.{dite}

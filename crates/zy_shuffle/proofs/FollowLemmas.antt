@@ -128,7 +128,7 @@ pub record GoesReady (p : ℕ) (s t : Owners) : Type 0 where
 -- the events of a publication are the home's
 pub publication_seat : {M : Type 0} (before : Before) (p : ℕ) (kept : std.Option M) → AreOfSeat 0 (publication before p kept)
 publication_seat was_idle p std.None = (refl, tt)
-publication_seat was_idle p (std.Some x) = (refl, refl, refl, tt)
+publication_seat was_idle p (std.Some x) = (refl, (refl, (refl, tt)))
 publication_seat was_held p std.None = (refl, tt)
 publication_seat was_held p (std.Some x) = (refl, tt)
 
@@ -198,29 +198,32 @@ idle_before p (std.Some x) s u run none some =
     let arrived : w.arrived p ≡ s.arrived p = ap (λ (z : Owners). z.arrived p) ended ∙ ap (λ (z : Owners). z.arrived p) from in
     ap (λ (z : Owners). z.places p) (run.2.2 (omega arith)) ∙ put_here w.places p idle
 
-module _ {T M : Type 0} (before : Before) (m : ℕ) (marks : ℕ → std.Option M) (views : List (View T)) where
-  -- the home publishes a place
-  pub follows_publish : (ws ws' : List ℕ) (head tail p : ℕ) (holders : ℕ → Holder) (mark : M) → head ≤ tail → p < m → holders p ≡ in_hand 0 → ((k : ℕ) → head ≤ k → k < tail → cell ws' m k ≡ cell ws m k) → cell ws' m tail ≡ p → (f : Follows ws m head tail holders marks views)
+module _ {T M : Type 0} (m : ℕ) (marks : ℕ → std.Option M) (views : List (View T)) where
+  -- the home raises the tail, by events with which the place becomes ready
+  follows_ready : (ws ws' : List ℕ) (head tail p : ℕ) (holders : ℕ → Holder) (mark : M) → head ≤ tail → ((k : ℕ) → head ≤ k → k < tail → cell ws' m k ≡ cell ws m k) → cell ws' m tail ≡ p → (f : Follows ws m head tail holders marks views)
+      → (acts : List Event) (t : Owners) → Runs 0 no_requests (acts ++ f.events) t → GoesReady p f.owners t → (views' : List (View T)) → IsKnown (acts ++ f.events) views' → Follows ws' m head (tail + 1) (put holders p (in_queue tail)) (put marks p (std.Some mark)) views'
+  follows_ready ws ws' head tail p holders mark le same stored f acts t run goes views' known =
+      let count : tail + 1 - head ≡ suc (tail - head) = omega arith in
+      let end : head + (tail - head) ≡ tail = omega arith in record {
+        owners = t;
+        events = acts ++ f.events;
+        run = run;
+        places = λ q lt. subst (Agrees (put holders p (in_queue tail) q)) (sym (goes.places q)) (at_both holders f.owners.places p (in_queue tail) ready (λ _ x y. Agrees x y) q refl (λ _. f.places q lt));
+        queue = goes.queue
+            ∙ (λ i. (f.queue ∙ sym (queue-same ws ws' m head (tail - head) (λ k a b. same k a (omega arith)))) i ++ (sym stored ∙ ap (cell ws' m) (sym end)) i ∷ [])
+            ∙ sym (queue-more ws' m head (tail - head)) ∙ ap (queue_of ws' m head) (sym count);
+        unmarked = λ q lt. subst (λ x. (x ≡ idle) ↔ (put marks p (std.Some mark) q ≡ std.None)) (sym (goes.places q)) (at_both marks f.owners.places p (std.Some mark) ready (λ _ x y. (y ≡ idle) ↔ (x ≡ std.None)) q ((λ e. cc), λ e. cc) (λ _. f.unmarked q lt));
+        due = λ q lt busy. dite (ℕ_discrete q p)
+            (λ is. subst (λ k. t.finished k + 1 ≡ t.arrived k) (sym is) goes.one)
+            (λ ne. let o = goes.others q ne in ap (λ n. n + 1) o.0 ∙ f.due q lt (λ g. busy (goes.places q ∙ put_else f.owners.places p ready q ne ∙ g)) ∙ sym o.1);
+        known = known;
+      }
+
+  -- the home publishes a place, which was so before
+  pub follows_publish : (before : Before) (ws ws' : List ℕ) (head tail p : ℕ) (holders : ℕ → Holder) (mark : M) → head ≤ tail → p < m → holders p ≡ in_hand 0 → ((k : ℕ) → head ≤ k → k < tail → cell ws' m k ≡ cell ws m k) → cell ws' m tail ≡ p → (f : Follows ws m head tail holders marks views)
       → (views' : List (View T)) → IsKnown (publication before p (marks p) ++ f.events) views' → Follows ws' m head (tail + 1) (put holders p (in_queue tail)) (put marks p (std.Some mark)) views'
-  follows_publish ws ws' head tail p holders mark le near mine same stored f views' known =
+  follows_publish before ws ws' head tail p holders mark le near mine same stored f =
       let here : f.owners.places p ≢ idle → f.owners.places p ≡ held 0 = λ busy. ⊎_elim (λ (e : f.owners.places p ≡ held 0). e) (λ (e : (0 ≡ 0) × (f.owners.places p ≡ idle)). absurd (busy e.1)) (subst (λ y. Agrees y (f.owners.places p)) mine (f.places p near)) in
       let leads = publication_leads before p (marks p) f.owners f.events f.run (f.unmarked p near).1
-          (λ x is. let busy : f.owners.places p ≢ idle = (λ e. let none = (f.unmarked p near).0 e in cc) in (here busy, f.due p near busy)) in
-      let t : Owners = leads.0 in
-      let goes = leads.2 in
-      let count : tail + 1 - head ≡ suc (tail - head) = omega arith in
-      let end : head + (tail - head) ≡ tail = omega arith in
-      record {
-    owners = t;
-    events = publication before p (marks p) ++ f.events;
-    run = leads.1;
-    places = λ q lt. subst (Agrees (put holders p (in_queue tail) q)) (sym (goes.places q)) (at_both holders f.owners.places p (in_queue tail) ready (λ _ x y. Agrees x y) q refl (λ _. f.places q lt));
-    queue = goes.queue
-        ∙ (λ i. (f.queue ∙ sym (queue-same ws ws' m head (tail - head) (λ k a b. same k a (omega arith)))) i ++ (sym stored ∙ ap (cell ws' m) (sym end)) i ∷ [])
-        ∙ sym (queue-more ws' m head (tail - head)) ∙ ap (queue_of ws' m head) (sym count);
-    unmarked = λ q lt. subst (λ x. (x ≡ idle) ↔ (put marks p (std.Some mark) q ≡ std.None)) (sym (goes.places q)) (at_both marks f.owners.places p (std.Some mark) ready (λ _ x y. (y ≡ idle) ↔ (x ≡ std.None)) q ((λ e. cc), λ e. cc) (λ _. f.unmarked q lt));
-    due = λ q lt busy. dite (ℕ_discrete q p)
-        (λ is. subst (λ k. t.finished k + 1 ≡ t.arrived k) (sym is) goes.one)
-        (λ ne. let o = goes.others q ne in ap (λ n. n + 1) o.0 ∙ f.due q lt (λ g. busy (goes.places q ∙ put_else f.owners.places p ready q ne ∙ g)) ∙ sym o.1);
-    known = known;
-  }
+      (λ x is. let busy : f.owners.places p ≢ idle = (λ e. let none = (f.unmarked p near).0 e in cc) in (here busy, f.due p near busy)) in
+      follows_ready ws ws' head tail p holders mark le same stored f (publication before p (marks p)) leads.0 leads.1 leads.2

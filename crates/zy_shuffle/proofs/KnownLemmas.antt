@@ -276,10 +276,10 @@ module _ {T : Type 0} where
               (id, w, here, ap (is_in id) seats ∙ in_own id v.trace.seats (t.leads id v at))
               of
               (owned_else views (set views id w) events
-                  (λ n h. dite (ℕ_discrete h.0 id)
-                  (λ is. (id, w, here, ap (is_in n) seats ∙ more_own id n v.trace.seats (ap (λ (y : View T). is_in n y.trace.seats) (same_view views id h.0 v h.1 at h.2 (sym is)) ∙ h.3)))
-                  (λ ne. (h.0, h.1, set_else views id h.0 w ne ∙ h.2, h.3)))
-                  t.owned);
+              (λ n h. dite (ℕ_discrete h.0 id)
+              (λ is. (id, w, here, ap (is_in n) seats ∙ more_own id n v.trace.seats (ap (λ (y : View T). is_in n y.trace.seats) (same_view views id h.0 v h.1 at h.2 (sym is)) ∙ h.3)))
+              (λ ne. (h.0, h.1, set_else views id h.0 w ne ∙ h.2, h.3)))
+              t.owned);
           seats_of = λ j u f n has. ⊎_elim
               (λ (x : (j ≡ id) × (w ≡ u)). ⊎_elim
               (λ (y : n ≡ id). inl (y ∙ sym x.0))

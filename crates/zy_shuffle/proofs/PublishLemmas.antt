@@ -110,7 +110,7 @@ module _ {T M : Type 0} (before : Before) (mark : T → M) (label : T → Name) 
               λ q lt. at_put r.holders p (in_queue r.tail) (λ a b. b ≡ nobody → ⊥) q (λ e. cc) (λ _. home.7 q lt),
             );
           };
-          follows = follows_publish before m r.marks s.views s.words ws' r.head r.tail p r.holders (mark b) ordered near (mine.1 ∙ ap in_hand home.0) (λ k _ _. cells k) stored f (set s.views id v')
+          follows = follows_publish m r.marks s.views before s.words ws' r.head r.tail p r.holders (mark b) ordered near (mine.1 ∙ ap in_hand home.0) (λ k _ _. cells k) stored f (set s.views id v')
               (subst (λ (es : List Event). IsKnown (es ++ f.events) (set s.views id v')) acts_are known);
           live_here = λ j e. cc;
           live_else = λ q ne e. sym (in_cons p q ks ne) ∙ sym (ap (is_in q) front) ∙ e;

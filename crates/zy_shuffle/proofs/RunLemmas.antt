@@ -28,7 +28,7 @@ all_own seats seat [] is of = tt
 all_own seats seat (e ∷ es) is of = (ap (λ n. is_in n seats) of.0 ∙ is, all_own seats seat es is of.1)
 
 -- the events of these seats
-those_of : List ℕ → List Event → List Event
+abbrev those_of : List ℕ → List Event → List Event
 those_of seats [] = []
 those_of seats (e ∷ es) = cond (is_in (seat_of e) seats) (e ∷ those_of seats es) (those_of seats es)
 
@@ -42,18 +42,18 @@ those_none seats (e ∷ es) h = ap (λ b. cond b (e ∷ those_of seats es) (thos
 
 those_append : (seats : List ℕ) (xs ys : List Event) → those_of seats (xs ++ ys) ≡ those_of seats xs ++ those_of seats ys
 those_append seats [] ys = refl
-those_append seats (x ∷ xs) ys = go (is_in (seat_of x) seats)
+those_append seats (x ∷ xs) ys = go (is_in (seat_of x) seats) (those_append seats xs ys)
   where
-    go : (b : Bool) → cond b (x ∷ those_of seats (xs ++ ys)) (those_of seats (xs ++ ys)) ≡ cond b (x ∷ those_of seats xs) (those_of seats xs) ++ those_of seats ys
-    go true = ap (λ l. x ∷ l) (those_append seats xs ys)
-    go false = those_append seats xs ys
+    go : (b : Bool) → those_of seats (xs ++ ys) ≡ those_of seats xs ++ those_of seats ys → cond b (x ∷ those_of seats (xs ++ ys)) (those_of seats (xs ++ ys)) ≡ cond b (x ∷ those_of seats xs) (those_of seats xs) ++ those_of seats ys
+    go true e = ap (λ l. x ∷ l) e
+    go false e = e
 
 -- a list that is written in two ways, both times with the events of these seats in one place
-same_acts : (seats : List ℕ) (more la later acts mid : List Event) → more ++ la ≡ later ++ acts ++ mid → AllIn seats more → AllIn seats acts → Apart seats la → Apart seats later → Apart seats mid → more ≡ acts
+same_acts : (seats : List ℕ) (more la later acts mid : List Event) → more ++ la ≡ later ++ (acts ++ mid) → AllIn seats more → AllIn seats acts → Apart seats la → Apart seats later → Apart seats mid → more ≡ acts
 same_acts seats more la later acts mid both more_own acts_own la_apart later_apart mid_apart =
     let left : those_of seats (more ++ la) ≡ more = those_append seats more la ∙ (λ i. those_all seats more more_own i ++ those_none seats la la_apart i) ∙ append-nil more in
-    let right : those_of seats (later ++ acts ++ mid) ≡ acts = those_append seats later (acts ++ mid) ∙ (λ i. those_none seats later later_apart i ++ those_append seats acts mid i)
-            ∙ (λ i. those_all seats acts acts_own i ++ those_none seats mid mid_apart i) ∙ append-nil acts in
+    let right : those_of seats (later ++ (acts ++ mid)) ≡ acts = those_append seats later (acts ++ mid) ∙ (λ i. those_none seats later later_apart i ++ those_append seats acts mid i)
+    ∙ (λ i. those_all seats acts acts_own i ++ those_none seats mid mid_apart i) ∙ append-nil acts in
     sym left ∙ ap (those_of seats) both ∙ right
 
 module _ {T : Type 0} where
@@ -93,7 +93,7 @@ module _ {T : Type 0} where
       sym (all_of x.0 es es' x.1 (omega arith))
 
   -- events: the run goes on by them, and by nothing else
-  pub run_grows : (views : List (View T)) (es es' : List Event) (id : ℕ) (v w : View T) (since : ℕ × List Event) (acts : List Event) → get_elem? views id ≡ some v → IsActive v.role → w.trace.run ≡ acts ++ since.1 ++ v.trace.run → w.trace.seats ≡ with_own since.0 v.trace.seats → MayFollow since v.trace → AllIn w.trace.seats acts
+  pub run_grows : (views : List (View T)) (es es' : List Event) (id : ℕ) (v w : View T) (since : ℕ × List Event) (acts : List Event) → get_elem? views id ≡ some v → IsActive v.role → w.trace.run ≡ acts ++ (since.1 ++ v.trace.run) → w.trace.seats ≡ with_own since.0 v.trace.seats → MayFollow since v.trace → AllIn w.trace.seats acts
       → IsKnown es views → IsKnown es' (set views id w) → es' ≡ acts ++ es
   run_grows views es es' id v w since acts at active run seats may of t t' =
       let here : get_elem? (set views id w) id ≡ some w = set_here views id w (at_below views id v at) in
@@ -102,7 +102,7 @@ module _ {T : Type 0} where
       let la : List Event = mine.0 in
       let now = t'.missing id w here in
       let later : List Event = now.0 in
-      let now_is : es' ≡ (later ++ acts ++ mid) ++ v.trace.run = now.1 ∙ ap (λ l. later ++ l) (run ∙ sym (append_assoc acts mid v.trace.run)) ∙ sym (append_assoc later (acts ++ mid) v.trace.run) in
+      let now_is : es' ≡ (later ++ (acts ++ mid)) ++ v.trace.run = now.1 ∙ ap (λ l. later ++ l) (run ∙ sym (append_assoc acts mid v.trace.run)) ∙ sym (append_assoc later (acts ++ mid) v.trace.run) in
       let own_seats : with_own id v.trace.seats ≡ w.trace.seats = same_own v.trace.seats (subst (Leads id) seats (t'.leads id w here)) ∙ sym seats in
       let mid_apart : Apart w.trace.seats mid = subst (λ l. Apart l mid) (sym seats) may.1 in
       let la_apart : Apart w.trace.seats la = subst (λ l. Apart l la) own_seats (apart_own es views t id v at active la (owned_front views la v.trace.run (subst (AreOwned views) mine.1 t.owned)) mine.2) in
@@ -110,7 +110,7 @@ module _ {T : Type 0} where
       let last = t.last in
       let last_is = last.3 in
       let grown : (more : List Event) × (es' ≡ more ++ es) = dite (ℕ_discrete last.0 id)
-      (λ same. (later ++ acts ++ mid, now_is ∙ ap (λ l. (later ++ acts ++ mid) ++ l) (ap (λ (y : View T). y.trace.run) (same_view views id last.0 v last.1 at last.2 (sym same)) ∙ last_is)))
+      (λ same. (later ++ (acts ++ mid), now_is ∙ ap (λ l. (later ++ (acts ++ mid)) ++ l) (ap (λ (y : View T). y.trace.run) (same_view views id last.0 v last.1 at last.2 (sym same)) ∙ last_is)))
       (λ ne. let o = t'.missing last.0 last.1 (set_else views id last.0 w ne ∙ last.2) in (o.0, o.1 ∙ ap (λ l. o.0 ++ l) last_is)) in
       let more : List Event = grown.0 in
       let more_is = grown.1 in
@@ -122,7 +122,7 @@ module _ {T : Type 0} where
       apart_front u.trace.seats more old.0 (subst (Apart u.trace.seats) is new.2) in
       let all : AllIn w.trace.seats more = owns more (owned_front (set views id w) more es (subst (AreOwned (set views id w)) more_is t'.owned)) others in
       -- both ways of writing it
-      let both : more ++ la ≡ later ++ acts ++ mid = append_cancel_right (more ++ la) (later ++ acts ++ mid) v.trace.run (append_assoc more la v.trace.run ∙ ap (λ l. more ++ l) (sym mine.1) ∙ sym more_is ∙ now_is) in
+      let both : more ++ la ≡ later ++ (acts ++ mid) = append_cancel_right (more ++ la) (later ++ (acts ++ mid)) v.trace.run (append_assoc more la v.trace.run ∙ ap (λ l. more ++ l) (sym mine.1) ∙ sym more_is ∙ now_is) in
       more_is ∙ ap (λ l. l ++ es) (same_acts w.trace.seats more la later acts mid both all of la_apart now.2 mid_apart)
     where
       same_own : (xs : List ℕ) → Leads id (with_own since.0 xs) → with_own id xs ≡ with_own since.0 xs
@@ -149,7 +149,7 @@ module _ {T : Type 0} where
       let leads = subst (Leads id) ran.2 (u.leads id w (set_here views id w (at_below views id v s.0))) in
       let number : since.0 ≡ id = first v.trace.seats since.0 ran.3.0 leads in
       let mine : is_in id w.trace.seats ≡ true = ap (is_in id) ran.2 ∙ ap (λ n. is_in n (with_own since.0 v.trace.seats)) (sym number) ∙ in_own since.0 v.trace.seats ran.3.0 in
-      run_grows views es es' id v w since (acts id) s.0 active (ran.1 ∙ ap (λ n. acts n ++ since.1 ++ v.trace.run) number) ran.2 ran.3 (all_own w.trace.seats id (acts id) mine own) t u
+      run_grows views es es' id v w since (acts id) s.0 active (ran.1 ∙ ap (λ n. acts n ++ (since.1 ++ v.trace.run)) number) ran.2 ran.3 (all_own w.trace.seats id (acts id) mine own) t u
     where
       first : (xs : List ℕ) (n : ℕ) → Leads n xs → Leads id (with_own n xs) → n ≡ id
       first [] n a b = sym b

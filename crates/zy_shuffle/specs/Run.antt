@@ -67,7 +67,7 @@ MayFollow since t = Leads since.0 t.seats × Apart (with_own since.0 t.seats) si
 -- the seat made these events, the newest first, which depend on its number: to the run that it knew
 -- it added events of other seats, and then these
 abbrev pub MakesAll : (ℕ → List Event) → Trace → Trace → Type 0
-MakesAll acts t u = (since : ℕ × List Event) × (u.run ≡ acts since.0 ++ since.1 ++ t.run)
+MakesAll acts t u = (since : ℕ × List Event) × (u.run ≡ acts since.0 ++ (since.1 ++ t.run))
     × (u.seats ≡ with_own since.0 t.seats) × MayFollow since t
 
 -- the seat made this event alone

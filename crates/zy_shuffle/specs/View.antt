@@ -58,7 +58,7 @@ with_own seat (x ∷ xs) = x ∷ xs
 -- the seat with the number `since.0` made these events, the newest first, after the events
 -- `since.1` of other seats
 abbrev pub after_events : ℕ × List Event → List Event → Trace → Trace
-after_events since acts t = record t { run = acts ++ since.1 ++ t.run; seats = with_own since.0 t.seats }
+after_events since acts t = record t { run = acts ++ (since.1 ++ t.run); seats = with_own since.0 t.seats }
 
 -- the seat made this event alone
 abbrev pub after_event : ℕ × List Event → Event → Trace → Trace
