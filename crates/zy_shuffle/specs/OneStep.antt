@@ -1,5 +1,5 @@
--- A step of a ring, as two states that meet the rule, and the event of the ownership machine that it is.
-use Rattle.std.specs.Prelude.{◌≡◌, ◌≢◌, ℕ, ◌+◌, List, [], ◌∷◌, ◌++◌, slice_set}
+-- A step of a ring, as two states that meet the rule, and the events of the ownership machine that it is.
+use Rattle.std.specs.Prelude.{◌≡◌, ◌≢◌, ℕ, ◌+◌, List, [], ◌∷◌, ◌++◌, None, slice_set}
 use mathlib.Core.Option.{some}
 use lib.ListN.{get_elem?}
 use Rattle.zy_table.specs.declared.name.Name.{Name}
@@ -9,7 +9,7 @@ use Rattle.zy_shuffle.specs.declared.ring.view.View.{View}
 use Rattle.zy_shuffle.specs.View.{spent}
 use Rattle.zy_shuffle.specs.Hand.{marked}
 use Rattle.zy_shuffle.specs.HomeRole.{IsActive, IsHome}
-use Rattle.zy_shuffle.specs.Ownership.{Owners, no_requests, happens, Runs, StaysHeld, held, idle}
+use Rattle.zy_shuffle.specs.Ownership.{Owners, no_requests, happens, Runs, StaysHeld, held, idle, ready}
 use Rattle.zy_shuffle.specs.Run.{Before, AreOfSeat, MakesAll, MakesNone, publication, went_idle}
 use Rattle.zy_shuffle.specs.ShuffleRule.{RingState, ShuffleRule}
 use Rattle.zy_shuffle.specs.Step.{splitting, newcomer, taken_in}
@@ -87,6 +87,14 @@ module _ {T M : Type 0} {mark : T → M} {label : T → Name} where
   abbrev pub ArrivesIdle : ℕ → Ruled mark label → Ruled mark label → Type 0
   ArrivesIdle place s t = (u : Owners) × Runs 0 (owners_of s) (idling_of place s) u × (u.places place ≡ idle)
       × happens 0 u (Arrive place 1) (owners_of t)
+
+  -- the home published the place before
+  abbrev pub WasPublished : ℕ → Ruled mark label → Type 0
+  WasPublished place s = s.1.marks place ≢ None
+
+  -- the home held the connection, which is now ready
+  abbrev pub BecomesReady : ℕ → Ruled mark label → Ruled mark label → Type 0
+  BecomesReady place s t = ((owners_of s).places place ≡ held 0) × ((owners_of t).places place ≡ ready)
 
   -- if the connection is not idle, one request of it is unfinished
   abbrev pub HasOneRequest : ℕ → Ruled mark label → Type 0

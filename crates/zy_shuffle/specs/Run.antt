@@ -70,7 +70,8 @@ abbrev pub MakesAll : (ℕ → List Event) → Trace → Trace → Type 0
 MakesAll acts t u = (since : ℕ × List Event) × (u.run ≡ acts since.0 ++ (since.1 ++ t.run))
     × (u.seats ≡ with_own since.0 t.seats) × MayFollow since t
 
--- the seat made this event alone
+-- the seat made this event, which depends on its number: to the run that it knew it added events of
+-- other seats, and then this one
 abbrev pub Makes : (ℕ → Event) → Trace → Trace → Type 0
 Makes e t u = MakesAll (λ seat. e seat ∷ []) t u
 

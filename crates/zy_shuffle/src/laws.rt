@@ -8,9 +8,9 @@ ghost use Rattle.zy_shuffle.specs.OnePlace.{IsOpen, NoneIsLost};
 ghost use Rattle.zy_shuffle.specs.OneStep.{Ruled, run_of, owners_of, KnowsHeld};
 ghost use Rattle.zy_shuffle.specs.OneStep.{HaveNoEvents, IsNoEvent, IsEvent, GrowsBy, LeadsBy, IsGiven, IsJoined};
 ghost use Rattle.zy_shuffle.specs.OneStep.{AreEvents, GrowsByAll, LeadsByAll, HasOneRequest};
-ghost use Rattle.zy_shuffle.specs.OneStep.{IsPublication, ArrivesIdle, idling_of};
-ghost use Rattle.zy_shuffle.specs.Run.{was_idle};
-ghost use Rattle.zy_shuffle.specs.declared.ring.view.Event.TheVariants.{Arrive};
+ghost use Rattle.zy_shuffle.specs.OneStep.{IsPublication, ArrivesIdle, WasPublished, BecomesReady, idling_of};
+ghost use Rattle.zy_shuffle.specs.Run.{was_idle, was_held};
+ghost use Rattle.zy_shuffle.specs.declared.ring.view.Event.TheVariants.{Arrive, Settle};
 
 use crate::marked::Marked;
 
@@ -105,6 +105,15 @@ pub fn a_publication_of_an_idle_connection_is_its_arrival<T: Marked>()
         → GrowsByAll (Arrive place 1 ∷ idling_of place s) s t }
     ensures state { (s t : Ruled T.mark T.label) (place : ℕ) → place < length s.0.homes
         → IsPublication was_idle place s t → ArrivesIdle place s t }
+{}
+
+/// A publication of a connection that was held settles it, if it was published before: the home held
+/// it, and then it is ready.
+pub fn a_publication_of_a_held_connection_settles_it<T: Marked>()
+    ensures run { (s t : Ruled T.mark T.label) (place : ℕ) → WasPublished place s
+        → IsPublication was_held place s t → GrowsBy (Settle place) s t }
+    ensures state { (s t : Ruled T.mark T.label) (place : ℕ) → place < length s.0.homes → WasPublished place s
+        → IsPublication was_held place s t → BecomesReady place s t }
 {}
 
 /// A connection that is not idle has one unfinished request.
