@@ -11,6 +11,7 @@ use Rattle.zy_table.proofs.SliceLemmas.{get_at, get_below, get_set_else, get_set
 use Rattle.zy_rx.specs.declared.rx.Rx.{Rx}
 use Rattle.zy_rx.specs.Ring.{Taking}
 use Rattle.zy_shuffle.specs.Hand.{marked}
+use Rattle.zy_shuffle.specs.Run.{was_idle}
 use Rattle.zy_shuffle.specs.Pass.{Held}
 use Rattle.zy_conn.specs.Work.{Mark}
 use Rattle.zy_conn.specs.Block.{Blocked}
@@ -211,8 +212,8 @@ module _ (h : Homed) (k : Keeps h) (amid : h.refused ≡ true) (touched : List �
       go None e idle = λ out. b.each p None l e there_is out ∙ ap Some (sym due)
       go (Some c) e idle = ((b.each p (Some c) l e there_is).0 ∙ sym due, idle c refl)
 
-  was_idle : (c : Blocked) → x0 ≡ Some c → is_in p touched ≡ false → IsIdle c.work l
-  was_idle c e = go x0 slot_is e
+  idle_before : (c : Blocked) → x0 ≡ Some c → is_in p touched ≡ false → IsIdle c.work l
+  idle_before c e = go x0 slot_is e
     where
       go : (y : Option Blocked) → slice_get h.blocks p ≡ Some y → y ≡ Some c → is_in p touched ≡ false → IsIdle c.work l
       go None at e = absurd (cc)
@@ -226,7 +227,7 @@ module _ (h : Homed) (k : Keeps h) (amid : h.refused ≡ true) (touched : List �
   cut_idle due takes full idle = record {
     cuts = cut_cuts full;
     stands = stands_at due takes;
-    between = cut_between touched (λ q ne. refl) (here_at touched due (λ c e out. idle c e (was_idle c e out)));
+    between = cut_between touched (λ q ne. refl) (here_at touched due (λ c e out. idle c e (idle_before c e out)));
     room = omega arith;
     still = λ e. absurd (let live = comes.live in cc);
   }
@@ -347,10 +348,10 @@ module _ (h : Homed) (k : Keeps h) (amid : h.refused ≡ true) (p : ℕ) (rest :
     settled_home = turned h p x m w h.refused
 
     -- it was settled
-    pub touched_turns : (c : Blocked) → x0 ≡ Some c → IsSettled p c m h.pass w x → Turns h p x l m w h.refused
+    pub touched_turns : (c : Blocked) → x0 ≡ Some c → IsSettled was_idle p c m h.pass w x → Turns h p x l m w h.refused
     touched_turns c e s = settled_turns h p l m w x h.refused touched_there conn c (λ e. e) (touched_due c e).hand s
 
-    settled_at : (c : Blocked) → x0 ≡ Some c → IsSettled p c m h.pass w x → IsAt w p m x
+    settled_at : (c : Blocked) → x0 ≡ Some c → IsSettled was_idle p c m h.pass w x → IsAt w p m x
     settled_at c e s = (settled_turns (record h { refused = false }) p l m w x false touched_there conn c (λ e. refl) (touched_due c e).hand s).at refl
 
     -- memory was refused, and it is in its slot again
@@ -360,7 +361,7 @@ module _ (h : Homed) (k : Keeps h) (amid : h.refused ≡ true) (p : ℕ) (rest :
       same_hand h p m w x (Some c) h.refused (touched_slot ∙ ap Some e) s,
     )
 
-    pub touched_step : (c : Blocked) → x0 ≡ Some c → IsSettled p c m h.pass w x → Stepped h settled_home l m
+    pub touched_step : (c : Blocked) → x0 ≡ Some c → IsSettled was_idle p c m h.pass w x → Stepped h settled_home l m
     touched_step c e s = stepped h p x l m w h.refused k (touched_turns c e s)
 
     rest_at : IsAt w p m x → IsBetween rest w p m x
@@ -370,7 +371,7 @@ module _ (h : Homed) (k : Keeps h) (amid : h.refused ≡ true) (p : ℕ) (rest :
         go None r = r
         go (Some d) r = (r.0, λ _. r.1)
 
-    pub touched_settles : (c : Blocked) → x0 ≡ Some c → IsSettled p c m h.pass w x → StandsOn l m → SettlesIn h settled_home rest
+    pub touched_settles : (c : Blocked) → x0 ≡ Some c → IsSettled was_idle p c m h.pass w x → StandsOn l m → SettlesIn h settled_home rest
     touched_settles c e s stands =
         let t = touched_turns c e s in record {
           between = record {

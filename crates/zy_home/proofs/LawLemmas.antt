@@ -1,16 +1,20 @@
--- What a settled home hands out.
+-- What a settled home hands out, and when a block that is away was published.
 use Rattle.std.specs.Prelude.{◌&&◌, not, map}
 use Rattle.std.proofs.Common.{◌≡◌, ℕ, suc, List, [], ◌∷◌, length, Bool, true, false, Option, Some, None, slice_get, refl, sym, ap, ◌∙◌, subst, arith}
 use Rattle.zy_table.specs.declared.name.Name.{Name}
 use Rattle.zy_rx.specs.declared.rx.Rx.{Rx}
 use Rattle.zy_rx.specs.Flow.{home_of}
 use Rattle.zy_rx.specs.Session.{Sessions, sessions_of}
-use Rattle.zy_shuffle.specs.Pass.{Held}
-use Rattle.zy_conn.specs.Work.{Mark}
+use Rattle.zy_table.proofs.SliceLemmas.{get_set_same}
+use Rattle.zy_shuffle.specs.Run.{Before}
+use Rattle.zy_shuffle.specs.Pass.{Held, PublishMakes}
+use Rattle.zy_conn.specs.Work.{Mark, has_event}
 use Rattle.zy_conn.specs.Block.{Blocked}
 use Rattle.zy_home.specs.Link.{Link, LinkStands, conn_of}
 use Rattle.zy_home.proofs.FinishLemmas.{conn_end}
 use Rattle.zy_home.specs.End.{Ended, blocks_in, ended_of}
+use Rattle.zy_home.specs.Idle.{mark_in}
+use Rattle.zy_home.specs.Place.{Settles}
 use Rattle.zy_home.specs.Home.{Homed, HomeStands, Keeps, IsAt, IsHere, all_here, conns_in, is_settled}
 use Rattle.zy_home.specs.Settled.{IsFinished, AreFinished}
 use Rattle.zy_home.proofs.OwnLemmas.{own_is, conn_at}
@@ -67,3 +71,13 @@ home_finished h items received k settled stands same =
     let own = own_is h.core h.cores h.count p (conn_of l) (ap (λ ns. slice_get ns p) (sym k.conns) ∙ conn_at h.links p l el) in
     finished_at h.pass.label received h.pass p b l (k.here p b eb) (k.each (settled_live h settled) p (Some b) l eb el) refl
     (subst (LinkStands l) (same (conn_of l) own.1) (stands.links p l el)))
+
+-- ---- publications
+
+-- a block that was settled and is away was published
+pub published_away : {before : Before} (h h' : Homed) (p : ℕ) (given : Blocked) → Settles before p given h h' → slice_get h'.blocks p ≡ Some None → PublishMakes before mark_in p h.pass h'.pass
+published_away {before} h h' p given s gone = go (has_event s.block.work) refl
+  where
+    go : (b : Bool) → has_event s.block.work ≡ b → PublishMakes before mark_in p h.pass h'.pass
+    go true e = s.makes e
+    go false e = absurd (let is : Some s.block ≡ None = get_set_same h.blocks p (Some s.block) None (ap (λ bs. slice_get bs p) (sym (s.idle e).1) ∙ gone) in cc)

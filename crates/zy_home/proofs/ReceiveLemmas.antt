@@ -6,6 +6,7 @@ use Rattle.zy_rx.specs.declared.rx.Rx.{Rx}
 use Rattle.zy_rx.specs.declared.rx.Rx.TheVariants.{Segment, Close, End}
 use Rattle.zy_rx.specs.Session.{Sessions, no_sessions, with_bytes, with_close, takes_in, sessions_of}
 use Rattle.zy_rx.proofs.SessionLemmas.{sessions-push}
+use Rattle.zy_shuffle.specs.Run.{was_idle}
 use Rattle.zy_shuffle.specs.Pass.{Held}
 use Rattle.zy_conn.specs.Block.{Blocked}
 use Rattle.zy_home.specs.Link.{Link, LinkStands, IsFor, TakesIn, conn_of}
@@ -142,8 +143,8 @@ module _ (h : Homed) (k : Keeps h) (p : ℕ) (x : Option Blocked) (l m : Link) (
   place_is : (q : ℕ) → ComesTo h q item → q ≡ p
   place_is q c = apart h k q p c.link l c.there there (let one = for_is (conn_of c.link) item c.own in let two = for_is (conn_of l) item own in cc)
 
-  here_at : (x0 : Option Blocked) (b : Blocked) → x0 ≡ Some b → IsFed p l m h.pass w x0 x → Settles p b h (turned h p x m w r)
-  here_at (Some c) b is fed = let same : c ≡ b = cc in subst (λ z. Settles p z h (turned h p x m w r)) same (settles h p l m w x r there conn c fed)
+  here_at : (x0 : Option Blocked) (b : Blocked) → x0 ≡ Some b → IsFed p l m h.pass w x0 x → Settles was_idle p b h (turned h p x m w r)
+  here_at (Some c) b is fed = let same : c ≡ b = cc in subst (λ z. Settles was_idle p z h (turned h p x m w r)) same (settles h p l m w x r there conn c fed)
   here_at None b is fed = absurd (cc)
 
   away_at : (x0 : Option Blocked) → x0 ≡ None → slice_get h.blocks p ≡ Some x0 → IsFed p l m h.pass w x0 x → (w ≡ h.pass) × (set h.blocks p x ≡ h.blocks) × ((n : Link) → slice_get (set h.links p m) p ≡ Some n → WaitsFull n)
@@ -152,7 +153,7 @@ module _ (h : Homed) (k : Keeps h) (p : ℕ) (x : Option Blocked) (l m : Link) (
 
   pub forwards_at : (x0 : Option Blocked) → slice_get h.blocks p ≡ Some x0 → IsFed p l m h.pass w x0 x → Forwards h (turned h p x m w r) item
   forwards_at x0 slot fed = record {
-    here = λ q b comes at. let same = place_is q comes in subst (λ z. Settles z b h (turned h p x m w r)) (sym same) (here_at x0 b (let one = ap (slice_get h.blocks) (sym same) ∙ at in cc) fed);
+    here = λ q b comes at. let same = place_is q comes in subst (λ z. Settles was_idle z b h (turned h p x m w r)) (sym same) (here_at x0 b (let one = ap (slice_get h.blocks) (sym same) ∙ at in cc) fed);
     away = λ q comes at. let same = place_is q comes in let r = away_at x0 (let one = ap (slice_get h.blocks) (sym same) ∙ at in cc) slot fed in
         (r.0, r.1, λ n e. r.2 n (ap (slice_get (set h.links p m)) (sym same) ∙ e));
   }

@@ -5,6 +5,7 @@ use Rattle.zy_table.specs.Member.{is_in}
 use Rattle.zy_table.proofs.MemberLemmas.{in_without}
 use Rattle.zy_table.proofs.SliceLemmas.{get_at, get_below, get_set_same}
 use Rattle.zy_shuffle.specs.Hand.{marked}
+use Rattle.zy_shuffle.specs.Run.{Before}
 use Rattle.zy_shuffle.specs.Pass.{Held, after_publish}
 use Rattle.zy_shuffle.proofs.HandLemmas.{marked_here, marked_else}
 use Rattle.zy_conn.specs.Ring.{EventInlet}
@@ -46,7 +47,7 @@ same_turns p v w is =
 
 module _ (h : Homed) (p : ℕ) (l m : Link) (w : Held Blocked) (x : Option Blocked) (r : Bool) (there : slice_get h.links p ≡ Some l) (conn : conn_of m ≡ conn_of l) where
   -- the block was settled
-  pub settled_turns : (given : Blocked) → (r ≡ false → h.refused ≡ false) → is_in p h.pass.hand ≡ true → IsSettled p given m h.pass w x → Turns h p x l m w r
+  pub settled_turns : {before : Before} (given : Blocked) → (r ≡ false → h.refused ≡ false) → is_in p h.pass.hand ≡ true → IsSettled before p given m h.pass w x → Turns h p x l m w r
   settled_turns given live hand s = go (has_event s.block.work) refl
     where
       out : (w ≡ after_publish p s.block h.pass w.trace) × (x ≡ None) → Turns h p x l m w r
@@ -86,11 +87,12 @@ module _ (h : Homed) (p : ℕ) (l m : Link) (w : Held Blocked) (x : Option Block
         (ap (λ (z : Held Blocked). is_in p z.hand) s.pass_is ∙ hand, ap label_in (sym same) ∙ s.label ∙ ap (λ (z : Held Blocked). z.label) (sym s.pass_is));
   }
 
-  pub settles : (given : Blocked) → IsSettled p given m h.pass w x → Settles p given h (turned h p x m w r)
+  pub settles : {before : Before} (given : Blocked) → IsSettled before p given m h.pass w x → Settles before p given h (turned h p x m w r)
   settles given s = record {
     block = s.block;
     met = s.met;
     event = λ e. let is = s.event e in (is.0, ap (set h.blocks p) is.1);
+    makes = s.makes;
     idle = λ e. let is = s.idle e in (is.0, ap (set h.blocks p) is.1);
     knows = λ n e. subst (λ z. KnowsAll z s.block) (get_set_same h.links p m n e) s.knows;
     behind = λ n e. subst (λ z. WaitsBehind z s.block) (get_set_same h.links p m n e) s.behind;
@@ -154,7 +156,7 @@ module _ (h : Homed) (k : Keeps h) (p : ℕ) (b : Blocked) (o : IsOut h p b) (l 
   pub out_there : slice_get h.links p ≡ Some l
   out_there = get_at h.links p l l (get_below h.links p o.link o.there) at
 
-  pub out_settled : (r : Bool) → (r ≡ false → h.refused ≡ false) → IsSettled p b m h.pass w x → Stepped h (turned h p x m w r) l m
+  pub out_settled : {before : Before} (r : Bool) → (r ≡ false → h.refused ≡ false) → IsSettled before p b m h.pass w x → Stepped h (turned h p x m w r) l m
   out_settled r live s = stepped h p x l m w r k (settled_turns h p l m w x r out_there conn b live o.hand s)
 
   pub out_back : IsPutBack h.pass w x → Stepped h (turned h p x m w true) l m

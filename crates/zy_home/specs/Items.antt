@@ -8,6 +8,7 @@ use Rattle.zy_home.specs.Link.{Link}
 use Rattle.zy_home.specs.Offer.{WaitsFull}
 use Rattle.zy_home.specs.Own.{is_end}
 use Rattle.zy_home.specs.Home.{Homed, HomeStands, conns_in}
+use Rattle.zy_shuffle.specs.Run.{was_idle}
 use Rattle.zy_home.specs.Place.{ComesTo, SameHand, Settles}
 
 -- ---- one after another
@@ -32,11 +33,11 @@ abbrev pub CutsEach : Homed → List Rx → Homed → Type 0
 CutsEach h [] h' = SameParts h h'
 CutsEach h (item ∷ items) h' = (next : Homed) × CutsOne h item next × CutsEach next items h'
 
--- the block of a place was in the hand, and was settled
+-- the block of a place was in the hand, as one of a connection that was idle, and was settled
 pub record SettlesHere (place : ℕ) (h h' : Homed) : Type 0 where
   pub given : Blocked
   pub there : slice_get h.blocks place ≡ Some (Some given)
-  pub settles : Settles place given h h'
+  pub settles : Settles was_idle place given h h'
 
 -- the blocks of these places were settled, one after another
 abbrev pub SettlesEach : Homed → List ℕ → Homed → Type 0

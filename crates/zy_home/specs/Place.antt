@@ -3,7 +3,8 @@ use Rattle.std.specs.Prelude.{◌≡◌, ℕ, ◌+◌, ◌≤◌, [], ◌++◌, 
 use Rattle.zy_table.specs.Member.{is_in}
 use Rattle.zy_rx.specs.declared.rx.Rx.{Rx}
 use Rattle.zy_shuffle.specs.declared.claim.Claim.TheVariants as Claims
-use Rattle.zy_shuffle.specs.Pass.{Held, Joined, Claimed, Collected, after_publish}
+use Rattle.zy_shuffle.specs.Run.{Before, was_idle, was_held}
+use Rattle.zy_shuffle.specs.Pass.{Held, Joined, Claimed, Collected, PublishMakes, after_publish}
 use Rattle.zy_conn.specs.Work.{has_event}
 use Rattle.zy_conn.specs.declared.hold_end.HoldEnd.{HoldEnd}
 use Rattle.zy_conn.specs.Hold.{HeldTo, IsRecorded}
@@ -42,12 +43,14 @@ abbrev pub KnowsAll : Link → Blocked → Type 0
 KnowsAll l block = l.inlet.sent ≡ block.work.taken ++ block.work.known
 
 -- the block that was given was settled at a place: its batch was taken, and it met its inlet; it was published if it
--- then has an event, and stays in the home's hand otherwise. A frame waits only if the ring is full
-pub record Settles (place : ℕ) (given : Blocked) (h h' : Homed) : Type 0 where
+-- then has an event, as one of a connection that was so before, and stays in the home's hand otherwise. A frame waits
+-- only if the ring is full
+pub record Settles (before : Before) (place : ℕ) (given : Blocked) (h h' : Homed) : Type 0 where
   pub block : Blocked
   pub met : MeetsInlet given block
   pub event : has_event block.work ≡ true
       → (h'.pass ≡ after_publish place block h.pass h'.pass.trace) × (h'.blocks ≡ slice_set h.blocks place None)
+  pub makes : has_event block.work ≡ true → PublishMakes before mark_in place h.pass h'.pass
   pub idle : has_event block.work ≡ false
       → (h'.pass ≡ h.pass) × (h'.blocks ≡ slice_set h.blocks place (Some block))
   pub knows : (link : Link) → slice_get h'.links place ≡ Some link → KnowsAll link block
@@ -89,12 +92,12 @@ pub record HeldBy (core : ℕ) (before after : Blocked) (end : HoldEnd) : Type 0
 
 -- ---- answers
 
--- a block was collected and settled; or the ring's collect took nothing, with its cause, and
--- nothing else changed
+-- a block was collected and settled, which the home held until then; or the ring's collect took nothing, with its
+-- cause, and nothing else changed
 abbrev pub CollectsTo : ℕ → Homed → Homed → Bool → Type 0
 CollectsTo places h h' true = (place : ℕ) × (block : Blocked) × (pass : Held Blocked)
     × Collected mark_in label_in places h.pass pass (Some (place, block))
-    × Settles place block (with_pass h pass) h'
+    × Settles was_held place block (with_pass h pass) h'
 CollectsTo places h h' false =
     Collected mark_in label_in places h.pass h'.pass None × (h' ≡ with_pass h h'.pass)
 
@@ -104,7 +107,7 @@ abbrev pub OwnsTo : ℕ → Homed → Homed → Own → Type 0
 OwnsTo places h h' (Took held) = (place : ℕ) × (block after : Blocked) × (pass : Held Blocked)
     × Claimed mark_in label_in places h.pass pass (Claims.Took place block)
     × HeldBy h.core block after held
-    × Settles place after (with_pass h pass) h'
+    × Settles was_held place after (with_pass h pass) h'
 OwnsTo places h h' (Empty at) =
     Claimed mark_in label_in places h.pass h'.pass (Claims.Empty at) × (h' ≡ with_pass h h'.pass)
 OwnsTo places h h' (Raced saw found) =
@@ -119,11 +122,11 @@ pub record ComesTo (h : Homed) (place : ℕ) (item : Rx) : Type 0 where
   pub there : slice_get h.links place ≡ Some link
   pub own : IsFor (conn_of link) item
 
--- an item came for the connection at a place. If its block is in the hand, it was settled. If it is
+-- an item came for the connection at a place. If its block is in the hand, it was idle and was settled. If it is
 -- away, nothing was published, and a frame waits only if no slot of the ring is known to be free
 pub record Forwards (h h' : Homed) (item : Rx) : Type 0 where
   pub here : (place : ℕ) (block : Blocked) → ComesTo h place item
-      → slice_get h.blocks place ≡ Some (Some block) → Settles place block h h'
+      → slice_get h.blocks place ≡ Some (Some block) → Settles was_idle place block h h'
   pub away : (place : ℕ) → ComesTo h place item → slice_get h.blocks place ≡ Some None
       → (h'.pass ≡ h.pass) × (h'.blocks ≡ h.blocks)
       × ((link : Link) → slice_get h'.links place ≡ Some link → WaitsFull link)

@@ -2,7 +2,8 @@
 use Rattle.std.specs.Prelude.{◌≡◌, ◌≢◌, ℕ, ◌+◌, ◌≤◌, true, false, Bool, Option, Some, None, slice_get, slice_set}
 use Rattle.zy_table.specs.Member.{is_in}
 use Rattle.zy_shuffle.specs.Hand.{marked}
-use Rattle.zy_shuffle.specs.Pass.{Held, after_publish}
+use Rattle.zy_shuffle.specs.Run.{Before, was_idle}
+use Rattle.zy_shuffle.specs.Pass.{Held, PublishMakes, after_publish}
 use Rattle.zy_conn.specs.Work.{has_event}
 use Rattle.zy_conn.specs.Block.{Blocked, label_in}
 use Rattle.zy_home.specs.Link.{Link, conn_of}
@@ -19,8 +20,9 @@ pub record IsDue (pass : Held Blocked) (place : ℕ) (link : Link) (block : Bloc
   pub mark : mark_in block ≡ due_mark link
   pub label : label_in block ≡ pass.label
 
--- the block that was given was settled: it was published if it has an event, and otherwise is in its slot, idle
-pub record IsSettled (place : ℕ) (given : Blocked) (link' : Link) (pass pass' : Held Blocked)
+-- the block that was given was settled: it was published if it has an event, as one of a connection that was so
+-- before, and otherwise is in its slot, idle
+pub record IsSettled (before : Before) (place : ℕ) (given : Blocked) (link' : Link) (pass pass' : Held Blocked)
     (slot' : Option Blocked) : Type 0 where
   pub block : Blocked
   pub met : MeetsInlet given block
@@ -28,6 +30,7 @@ pub record IsSettled (place : ℕ) (given : Blocked) (link' : Link) (pass pass' 
   pub label : label_in block ≡ pass.label
   pub event : has_event block.work ≡ true
       → (pass' ≡ after_publish place block pass pass'.trace) × (slot' ≡ None)
+  pub makes : has_event block.work ≡ true → PublishMakes before mark_in place pass pass'
   pub idle : has_event block.work ≡ false
       → (pass' ≡ pass) × (slot' ≡ Some block) × IsIdle block.work link'
   pub knows : KnowsAll link' block
@@ -45,10 +48,10 @@ pub record IsPlace (pass : Held Blocked) (place : ℕ) (link : Link) (slot : Opt
   pub here : (block : Blocked) → slot ≡ Some block → IsHere pass place block
   pub at : IsAt pass place link slot
 
--- an item was received. If the block is in its slot, it was settled; if it is away, nothing was
+-- an item was received. If the block is in its slot, it was idle and was settled; if it is away, nothing was
 -- published, the frames that wait were offered, and the expected mark is the same
 abbrev pub IsFed : ℕ → Link → Link → Held Blocked → Held Blocked → Option Blocked → Option Blocked → Type 0
-IsFed place link link' pass pass' (Some block) slot' = IsSettled place block link' pass pass' slot'
+IsFed place link link' pass pass' (Some block) slot' = IsSettled was_idle place block link' pass pass' slot'
 IsFed place link link' pass pass' None slot' =
     (pass' ≡ pass) × (slot' ≡ None) × (due_mark link' ≡ due_mark link) × WaitsFull link'
 

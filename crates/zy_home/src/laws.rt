@@ -1,11 +1,13 @@
-//! Laws of homes and their connections at the end: the functions do nothing, and their contracts are
-//! the laws.
-ghost use Rattle.std.specs.Prelude.{◌≡◌, ◌≢◌, ℕ, ◌+◌, List, [], ◌∷◌, ◌++◌, map, true, false};
+//! Laws of homes and their connections, most of them of the end: the functions do nothing, and their
+//! contracts are the laws.
+ghost use Rattle.std.specs.Prelude.{◌≡◌, ◌≢◌, ℕ, ◌+◌, List, [], ◌∷◌, ◌++◌, map, true, false, Some, None, slice_get};
 ghost use Rattle.zy_base.specs.declared.entry.Entry.{Entry};
 ghost use Rattle.mc_reply.specs.Texts.{texts_of};
 ghost use Rattle.zy_rx.specs.declared.rx.Rx.{Rx};
 ghost use Rattle.zy_rx.specs.Flow.{home_of};
 ghost use Rattle.zy_rx.specs.Session.{Sessions, sessions_of, streams_of};
+ghost use Rattle.zy_shuffle.specs.Run.{was_idle};
+ghost use Rattle.zy_shuffle.specs.Pass.{PublishMakes};
 ghost use Rattle.zy_conn.specs.Kept.{Kept};
 ghost use Rattle.zy_conn.specs.Block.{Blocked};
 ghost use Rattle.zy_home.specs.Link.{Link, LinkStands, conn_of, ends_from};
@@ -14,6 +16,7 @@ ghost use Rattle.zy_home.specs.Finish.{ConnEnd, commands_received, cut_at, outpu
 ghost use Rattle.zy_home.specs.Own.{own_conns};
 ghost use Rattle.zy_home.specs.End.{Ended, blocks_in, ended_of};
 ghost use Rattle.zy_home.specs.Home.{Homed, HomeStands, IsInHand, Keeps, is_settled};
+ghost use Rattle.zy_home.specs.Place.{ComesTo, Forwards};
 ghost use Rattle.zy_home.specs.Settled.{AreFinished};
 
 /// A connection whose block is idle has finished what it received: each expected call was made in
@@ -58,4 +61,15 @@ pub fn a_connection_in_the_hand_is_finished()
     ensures value { (h : Homed) (p : ℕ) (b : Blocked) (l : Link) (items : List Rx) → Keeps h
         → h.refused ≡ false → HomeStands h items → IsInHand h p b l → Kept b.work
         → ConnEnd b.work.table.slots b.work.calls (sessions_of (conn_of l) items) l.output l.ends }
+{}
+
+/// A connection that was idle and gets a frame arrives. A block in the hand of a home that was not
+/// refused memory is idle. If an item came for its connection, and the block is away after it, the
+/// home's pass made the events by which an idle connection is published.
+pub fn an_idle_connection_that_gets_a_frame_arrives()
+    ensures idle { (h : Homed) (p : ℕ) (b : Blocked) (l : Link) → Keeps h → h.refused ≡ false → IsInHand h p b l
+        → IsIdle b.work l }
+    ensures arrives { (h h' : Homed) (item : Rx) (place : ℕ) (block : Blocked) → Forwards h h' item
+        → ComesTo h place item → slice_get h.blocks place ≡ Some (Some block)
+        → slice_get h'.blocks place ≡ Some None → PublishMakes was_idle mark_in place h.pass h'.pass }
 {}

@@ -13,7 +13,7 @@ use std::mem;
 use zy_base::NoMemory;
 use zy_conn::Block;
 use zy_rx::Rx;
-use zy_shuffle::{HomePass, Ring};
+use zy_shuffle::{HomePass, Publishing, Ring, WasIdle};
 
 // The connection of an item; the end has none.
 pub(crate) fn conn_in(item: &Rx) -> Option<u32>
@@ -63,8 +63,9 @@ pub(crate) fn put(slot: &mut Option<Block>, block: Option<Block>)
     drop(mem::replace(slot, block));
 }
 
-// Settles a block: it is published if it then has an event, and otherwise is put into its slot.
-pub(crate) fn settle_at(
+// Settles a block: it is published if it then has an event, and otherwise is put into its slot. `B`
+// is what its connection was before.
+pub(crate) fn settle_at<B: Publishing>(
     ring: &Ring<Block>,
     pass: &mut HomePass<Block>,
     slot: &mut Option<Block>,
@@ -75,7 +76,7 @@ pub(crate) fn settle_at(
     requires table { pass.old.table ≡ ring.now.id }
     requires few { pass.old.count < 2 ^ 63 }
     requires due { IsDue pass.old place link.old block }
-    ensures ok { OnOk result (IsSettled place block link.new pass.old pass.new slot.new) }
+    ensures ok { OnOk result (IsSettled B.before place block link.new pass.old pass.new slot.new) }
     ensures err { OnErr result (IsPutBack pass.old pass.new slot.new) }
     ensures stands { OnOk result (StandsOn link.old link.new) }
     ensures same { SameLink link.old link.new }
@@ -83,7 +84,7 @@ pub(crate) fn settle_at(
     let mut block = block;
     match link.settle(&mut block) {
         Ok(true) => {
-            ring.publish(pass, place, block);
+            ring.publish::<B>(pass, place, block);
             put(slot, None);
             Ok(())
         }
@@ -121,7 +122,7 @@ pub(crate) fn feed_at(
         return Err(e);
     }
     match mem::replace(slot, None) {
-        Some(block) => settle_at(ring, pass, slot, link, place, block),
+        Some(block) => settle_at::<WasIdle>(ring, pass, slot, link, place, block),
         None => {
             link.offer_waiting();
             Ok(())

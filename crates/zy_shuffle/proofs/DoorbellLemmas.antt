@@ -3,7 +3,7 @@ use Rattle.zy_shuffle.proofs.FollowLemmas.{follows_give, follows_collect}
 use Rattle.zy_shuffle.proofs.KnownLemmas.{between, since_is, may_follow, known_more}
 use Rattle.zy_shuffle.specs.declared.ring.view.Event.{Event}
 use Rattle.zy_shuffle.specs.declared.ring.view.Event.TheVariants.{GiveBack, Collect}
-use Rattle.std.proofs.Common.{◌≡◌, ◌≢◌, ℕ, ◌+◌, ◌*◌, ◌/◌, ◌%◌, ◌^◌, ◌<◌, ◌≤◌, List, ◌∷◌, length, get_or, set, true, false, true≢false, refl, sym, ap, ◌∙◌, subst, ⊎_elim, arith, length-set, get_or-set_other, get_or-set_same, bit_or, bit_and, w64}
+use Rattle.std.proofs.Common.{◌≡◌, ◌≢◌, ℕ, ◌+◌, ◌*◌, ◌/◌, ◌%◌, ◌^◌, ◌<◌, ◌≤◌, List, [], ◌∷◌, length, get_or, set, true, false, true≢false, refl, sym, ap, ◌∙◌, subst, ⊎_elim, arith, length-set, get_or-set_other, get_or-set_same, bit_or, bit_and, w64}
 use Rattle.std.specs.Prelude as std
 use mathlib.Core.Option.{none, some}
 use mathlib.Core.Logic.{dite}
@@ -107,7 +107,7 @@ module _ {T M : Type 0} (mark : T → M) (label : T → Name) where
             role = subst (λ x. IsRole mark label ws' m r.head r.tail holders' marks' r.name (cores s.views) id ks v.label kept' x) (sym role) core;
           };
           follows = follows_give m r.marks s.views (set s.views id v') s.words ws' r.head r.tail id p r.holders ordered near mine.1 core.1 (λ k _ _. cells k) f
-              (known_more f.events s.views f.known id v at active v' (GiveBack id p) (λ i. GiveBack id (ap first_of front i) ∷ back i) refl refl);
+              (known_more f.events s.views f.known id v at active v' (GiveBack id p ∷ []) (λ i. GiveBack id (ap first_of front i) ∷ back i) refl (refl, tt));
           live_here = λ j e. cc;
           live_else = λ q ne e. sym (in_cons p q ks ne) ∙ sym (ap (is_in q) front) ∙ e;
         },
@@ -199,7 +199,7 @@ module _ {T M : Type 0} (mark : T → M) (label : T → Name) where
                 (home.0, home.1, home.2, home.3, stored ws' (cells r.tail) st home.4, tt, marks_now, λ q lt. at_put r.holders p (in_hand id) (λ a b. b ≡ nobody → ⊥) q (λ e. cc) (λ _. home.7 q lt));
           };
           follows = follows_collect m r.marks s.views (set s.views id v') s.words ws' r.head r.tail id p r.holders ordered near is_rung home.0 (λ k _ _. cells k) f
-              (known_more f.events s.views f.known id v at active v' (Collect p) (ap (λ l. Collect p ∷ l) (sym (since_is f.events s.views f.known id v at active))) refl (sym home.0));
+              (known_more f.events s.views f.known id v at active v' (Collect p ∷ []) (ap (λ l. Collect p ∷ l) (sym (since_is f.events s.views f.known id v at active))) refl (sym home.0, tt));
           live_here = λ j e. ((cc), in_front p v.hand);
           live_else = λ q ne e. in_more p q v.hand e;
         },

@@ -1,4 +1,4 @@
--- Each step is one event of the ownership machine, or no event.
+-- Each step follows the ownership machine: it is one event, or no event, or the events of a publication.
 use Rattle.std.proofs.Common.{◌≡◌, ◌≢◌, ℕ, zero, suc, ◌+◌, ◌-◌, ◌<◌, ◌≤◌, List, [], ◌∷◌, ◌++◌, refl, sym, ap, ◌∙◌, subst, inl, ⊎_elim, arith}
 use Rattle.std.specs.Prelude as std
 use Rattle.std.specs.Prelude.{◌↔◌}
@@ -6,10 +6,11 @@ use Rattle.zy_table.specs.Put.{put}
 use Rattle.zy_table.proofs.PutLemmas.{at_both, at_put, put_here, put_else}
 use mathlib.Core.Logic.{dite}
 use native.Mathlib.Decide.{ℕ_discrete}
-use Rattle.zy_shuffle.specs.Ownership.{Place, idle, ready, held, returned, moved, queued, with_requests}
-use Rattle.zy_shuffle.specs.declared.ring.view.Event.TheVariants.{Arrive, Claim, GiveBack, Collect, Settle}
+use Rattle.zy_shuffle.specs.Ownership.{Place, idle, ready, held, returned, Owners, no_requests, moved, queued, with_requests, with_finished, Runs}
+use Rattle.zy_shuffle.specs.declared.ring.view.Event.{Event}
+use Rattle.zy_shuffle.specs.declared.ring.view.Event.TheVariants.{Arrive, Claim, Handle, GiveBack, Collect, Settle}
 use Rattle.zy_shuffle.specs.declared.ring.view.View.{View}
-use Rattle.zy_shuffle.specs.Run.{IsKnown, publication, seat_of}
+use Rattle.zy_shuffle.specs.Run.{Before, was_idle, was_held, AreOfSeat, IsKnown, publication, went_idle}
 use Rattle.zy_shuffle.specs.Word.{cell}
 use Rattle.zy_shuffle.specs.Holder.{Holder, in_queue, in_hand, at_bell}
 use Rattle.zy_shuffle.specs.Follow.{Agrees, queue_of, Follows}
@@ -81,7 +82,7 @@ module _ {T M : Type 0} (m : ℕ) (marks : ℕ → std.Option M) (views views' :
         places = λ q lt. at_both holders f.owners.places p (in_hand id) (held id) (λ _ x y. Agrees x y) q (inl refl) (λ _. f.places q lt);
         queue = sym (queue-same ws ws' m (head + 1) left (λ k a b. same k (omega arith) (omega arith)));
         unmarked = λ q lt. at_both marks f.owners.places p (marks p) (held id) (λ _ x y. (y ≡ idle) ↔ (x ≡ std.None)) q (still_busy (marks p) (f.owners.places p) (held id) (f.unmarked p near) (λ e. cc) (λ e. cc)) (λ _. f.unmarked q lt);
-        due = λ q lt. at_put f.owners.places p (held id) (λ j x. x ≢ idle → f.owners.finished j < f.owners.arrived j) q (λ _. f.due p near (λ e. cc)) (λ _. f.due q lt);
+        due = λ q lt. at_put f.owners.places p (held id) (λ j x. x ≢ idle → f.owners.finished j + 1 ≡ f.owners.arrived j) q (λ _. f.due p near (λ e. cc)) (λ _. f.due q lt);
         known = known;
       }
 
@@ -96,7 +97,7 @@ module _ {T M : Type 0} (m : ℕ) (marks : ℕ → std.Option M) (views views' :
         places = λ q lt. at_both holders f.owners.places p at_bell returned (λ _ x y. Agrees x y) q refl (λ _. f.places q lt);
         queue = f.queue ∙ sym (queue-same ws ws' m head (tail - head) (λ k a b. same k a (omega arith)));
         unmarked = λ q lt. at_both marks f.owners.places p (marks p) returned (λ _ x y. (y ≡ idle) ↔ (x ≡ std.None)) q (still_busy (marks p) (f.owners.places p) returned (f.unmarked p near) (λ e. cc) (λ e. cc)) (λ _. f.unmarked q lt);
-        due = λ q lt. at_put f.owners.places p returned (λ j x. x ≢ idle → f.owners.finished j < f.owners.arrived j) q (λ _. f.due p near (λ e. cc)) (λ _. f.due q lt);
+        due = λ q lt. at_put f.owners.places p returned (λ j x. x ≢ idle → f.owners.finished j + 1 ≡ f.owners.arrived j) q (λ _. f.due p near (λ e. cc)) (λ _. f.due q lt);
         known = known;
       }
 
@@ -111,65 +112,118 @@ module _ {T M : Type 0} (m : ℕ) (marks : ℕ → std.Option M) (views views' :
         places = λ q lt. at_both holders f.owners.places p (in_hand id) (held 0) (λ _ x y. Agrees x y) q (inl (ap held (sym home))) (λ _. f.places q lt);
         queue = f.queue ∙ sym (queue-same ws ws' m head (tail - head) (λ k a b. same k a (omega arith)));
         unmarked = λ q lt. at_both marks f.owners.places p (marks p) (held 0) (λ _ x y. (y ≡ idle) ↔ (x ≡ std.None)) q (still_busy (marks p) (f.owners.places p) (held 0) (f.unmarked p near) (λ e. cc) (λ e. cc)) (λ _. f.unmarked q lt);
-        due = λ q lt. at_put f.owners.places p (held 0) (λ j x. x ≢ idle → f.owners.finished j < f.owners.arrived j) q (λ _. f.due p near (λ e. cc)) (λ _. f.due q lt);
+        due = λ q lt. at_put f.owners.places p (held 0) (λ j x. x ≢ idle → f.owners.finished j + 1 ≡ f.owners.arrived j) q (λ _. f.due p near (λ e. cc)) (λ _. f.due q lt);
         known = known;
       }
 
+-- ---- publications
+
+-- the connection went to the end of the queue, with one unfinished request, and every other is as it was
+pub record GoesReady (p : ℕ) (s t : Owners) : Type 0 where
+  pub queue : t.queue ≡ s.queue ++ p ∷ []
+  pub places : (q : ℕ) → t.places q ≡ put s.places p ready q
+  pub one : t.finished p + 1 ≡ t.arrived p
+  pub others : (q : ℕ) → q ≢ p → (t.finished q ≡ s.finished q) × (t.arrived q ≡ s.arrived q)
+
+-- the events of a publication are the home's
+pub publication_seat : {M : Type 0} (before : Before) (p : ℕ) (kept : std.Option M) → AreOfSeat 0 (publication before p kept)
+publication_seat was_idle p std.None = (refl, tt)
+publication_seat was_idle p (std.Some x) = (refl, (refl, (refl, tt)))
+publication_seat was_held p std.None = (refl, tt)
+publication_seat was_held p (std.Some x) = (refl, tt)
+
+-- a request arrives at an idle connection
+arrives : (p : ℕ) (s : Owners) (es : List Event) → Runs 0 no_requests es s → s.places p ≡ idle → (t : Owners) × Runs 0 no_requests (Arrive p 1 ∷ es) t × GoesReady p s t
+arrives p s es run at =
+    let done = (runs_sound 0 s es run).idle_done p at in
+    let one = put_here s.arrived p (s.arrived p + 1) in (
+      queued p (with_requests p 1 s),
+      (s, run, (omega arith, (λ _. refl), λ ne. absurd (ne at))),
+      record {
+        queue = refl;
+        places = λ q. refl;
+        one = omega arith;
+        others = λ q ne. (refl, put_else s.arrived p (s.arrived p + 1) q ne);
+      },
+    )
+
+-- a connection that the home holds is settled, with a request left
+settles : (p : ℕ) (s : Owners) (es : List Event) → Runs 0 no_requests es s → s.places p ≡ held 0 → s.finished p + 1 ≡ s.arrived p → (t : Owners) × Runs 0 no_requests (Settle p ∷ es) t × GoesReady p s t
+settles p s es run at left = (
+  queued p s,
+  (s, run, (at, (λ _. refl), λ all. absurd (omega arith))),
+  record { queue = refl; places = λ q. refl; one = left; others = λ q ne. (refl, refl) },
+)
+
+-- its last request is finished, and it is settled and idle
+idles : (p : ℕ) (s : Owners) (es : List Event) → Runs 0 no_requests es s → s.places p ≡ held 0 → s.finished p + 1 ≡ s.arrived p → Runs 0 no_requests (Settle p ∷ Handle 0 p ∷ es) (moved p idle (with_finished p s))
+idles p s es run at left =
+    let one = put_here s.finished p (s.finished p + 1) in
+    (with_finished p s, (s, run, (at, omega arith, refl)), (at, (λ more. absurd (omega arith)), λ _. refl))
+
+-- and then a request arrives
+idles_arrives : (p : ℕ) (s : Owners) (es : List Event) → Runs 0 no_requests es s → s.places p ≡ held 0 → s.finished p + 1 ≡ s.arrived p → (t : Owners) × Runs 0 no_requests (Arrive p 1 ∷ Settle p ∷ Handle 0 p ∷ es) t × GoesReady p s t
+idles_arrives p s es run at left =
+    let r = arrives p (moved p idle (with_finished p s)) (Settle p ∷ Handle 0 p ∷ es) (idles p s es run at left) (put_here s.places p idle) in
+    let g = r.2 in (
+      r.0,
+      r.1,
+      record {
+        queue = g.queue;
+        places = λ q. g.places q ∙ at_put (put s.places p idle) p ready (λ j x. x ≡ put s.places p ready j) q (sym (put_here s.places p ready)) (λ ne. put_else s.places p idle q ne ∙ sym (put_else s.places p ready q ne));
+        one = g.one;
+        others = λ q ne. let o = g.others q ne in (o.0 ∙ put_else s.finished p (s.finished p + 1) q ne, o.1);
+      },
+    )
+
+-- the events of a publication lead to a state in which the connection is ready
+publication_leads : {M : Type 0} (before : Before) (p : ℕ) (kept : std.Option M) (s : Owners) (es : List Event) → Runs 0 no_requests es s → (kept ≡ std.None → s.places p ≡ idle) → ((x : M) → kept ≡ std.Some x → (s.places p ≡ held 0) × (s.finished p + 1 ≡ s.arrived p))
+    → (t : Owners) × Runs 0 no_requests (publication before p kept ++ es) t × GoesReady p s t
+publication_leads was_idle p std.None s es run none some = arrives p s es run (none refl)
+publication_leads was_idle p (std.Some x) s es run none some = let a = some x refl in idles_arrives p s es run a.0 a.1
+publication_leads was_held p std.None s es run none some = arrives p s es run (none refl)
+publication_leads was_held p (std.Some x) s es run none some = let a = some x refl in settles p s es run a.0 a.1
+
+-- after the events with which a connection became idle, it is idle
+pub idle_before : {M : Type 0} (p : ℕ) (kept : std.Option M) (s u : Owners) → Runs 0 s (went_idle p kept) u → (kept ≡ std.None → s.places p ≡ idle) → ((x : M) → kept ≡ std.Some x → s.finished p + 1 ≡ s.arrived p) → u.places p ≡ idle
+idle_before p std.None s u run none some = ap (λ (z : Owners). z.places p) run ∙ none refl
+idle_before p (std.Some x) s u run none some =
+    let w : Owners = run.0 in
+    let y : Owners = run.1.0 in
+    let from : y ≡ s = run.1.1 in
+    let ended : w ≡ with_finished p y = run.1.2.2 in
+    let left = some x refl in
+    let one : w.finished p ≡ y.finished p + 1 = ap (λ (z : Owners). z.finished p) ended ∙ put_here y.finished p (y.finished p + 1) in
+    let finished : y.finished p ≡ s.finished p = ap (λ (z : Owners). z.finished p) from in
+    let arrived : w.arrived p ≡ s.arrived p = ap (λ (z : Owners). z.arrived p) ended ∙ ap (λ (z : Owners). z.arrived p) from in
+    ap (λ (z : Owners). z.places p) (run.2.2 (omega arith)) ∙ put_here w.places p idle
+
 module _ {T M : Type 0} (m : ℕ) (marks : ℕ → std.Option M) (views : List (View T)) where
-  -- the home publishes a place: a request arrives at a connection that was never published, and any
-  -- other is settled
-  pub follows_publish : (ws ws' : List ℕ) (head tail p : ℕ) (holders : ℕ → Holder) (mark : M) → head ≤ tail → p < m → holders p ≡ in_hand 0 → ((k : ℕ) → head ≤ k → k < tail → cell ws' m k ≡ cell ws m k) → cell ws' m tail ≡ p → (f : Follows ws m head tail holders marks views)
-      → (seat_of (publication p (marks p)) ≡ 0) × ((views' : List (View T)) → IsKnown (publication p (marks p) ∷ f.events) views' → Follows ws' m head (tail + 1) (put holders p (in_queue tail)) (put marks p (std.Some mark)) views')
-  follows_publish ws ws' head tail p holders mark le near mine same stored f = by_mark (marks p) refl
-    where
-      count : tail + 1 - head ≡ suc (tail - head)
-      count = omega arith
+  -- the home raises the tail, by events with which the place becomes ready
+  follows_ready : (ws ws' : List ℕ) (head tail p : ℕ) (holders : ℕ → Holder) (mark : M) → head ≤ tail → ((k : ℕ) → head ≤ k → k < tail → cell ws' m k ≡ cell ws m k) → cell ws' m tail ≡ p → (f : Follows ws m head tail holders marks views)
+      → (acts : List Event) (t : Owners) → Runs 0 no_requests (acts ++ f.events) t → GoesReady p f.owners t → (views' : List (View T)) → IsKnown (acts ++ f.events) views' → Follows ws' m head (tail + 1) (put holders p (in_queue tail)) (put marks p (std.Some mark)) views'
+  follows_ready ws ws' head tail p holders mark le same stored f acts t run goes views' known =
+      let count : tail + 1 - head ≡ suc (tail - head) = omega arith in
+      let end : head + (tail - head) ≡ tail = omega arith in record {
+        owners = t;
+        events = acts ++ f.events;
+        run = run;
+        places = λ q lt. subst (Agrees (put holders p (in_queue tail) q)) (sym (goes.places q)) (at_both holders f.owners.places p (in_queue tail) ready (λ _ x y. Agrees x y) q refl (λ _. f.places q lt));
+        queue = goes.queue
+            ∙ (λ i. (f.queue ∙ sym (queue-same ws ws' m head (tail - head) (λ k a b. same k a (omega arith)))) i ++ (sym stored ∙ ap (cell ws' m) (sym end)) i ∷ [])
+            ∙ sym (queue-more ws' m head (tail - head)) ∙ ap (queue_of ws' m head) (sym count);
+        unmarked = λ q lt. subst (λ x. (x ≡ idle) ↔ (put marks p (std.Some mark) q ≡ std.None)) (sym (goes.places q)) (at_both marks f.owners.places p (std.Some mark) ready (λ _ x y. (y ≡ idle) ↔ (x ≡ std.None)) q ((λ e. cc), λ e. cc) (λ _. f.unmarked q lt));
+        due = λ q lt busy. dite (ℕ_discrete q p)
+            (λ is. subst (λ k. t.finished k + 1 ≡ t.arrived k) (sym is) goes.one)
+            (λ ne. let o = goes.others q ne in ap (λ n. n + 1) o.0 ∙ f.due q lt (λ g. busy (goes.places q ∙ put_else f.owners.places p ready q ne ∙ g)) ∙ sym o.1);
+        known = known;
+      }
 
-      end : head + (tail - head) ≡ tail
-      end = omega arith
-
-      places : (q : ℕ) → q < m → Agrees (put holders p (in_queue tail) q) (put f.owners.places p ready q)
-      places q lt = at_both holders f.owners.places p (in_queue tail) ready (λ _ x y. Agrees x y) q refl (λ _. f.places q lt)
-
-      queue : f.owners.queue ++ p ∷ [] ≡ queue_of ws' m head (tail + 1 - head)
-      queue = (λ i. (f.queue ∙ sym (queue-same ws ws' m head (tail - head) (λ k a b. same k a (omega arith)))) i ++ (sym stored ∙ ap (cell ws' m) (sym end)) i ∷ [])
-          ∙ sym (queue-more ws' m head (tail - head)) ∙ ap (queue_of ws' m head) (sym count)
-
-      unmarked : (q : ℕ) → q < m → (put f.owners.places p ready q ≡ idle) ↔ (put marks p (std.Some mark) q ≡ std.None)
-      unmarked q lt = at_both marks f.owners.places p (std.Some mark) ready (λ _ x y. (y ≡ idle) ↔ (x ≡ std.None)) q ((λ e. cc), λ e. cc) (λ _. f.unmarked q lt)
-
-      by_mark : (k : std.Option M) → marks p ≡ k → (seat_of (publication p k) ≡ 0) × ((views' : List (View T)) → IsKnown (publication p k ∷ f.events) views' → Follows ws' m head (tail + 1) (put holders p (in_queue tail)) (put marks p (std.Some mark)) views')
-      by_mark std.None is =
-          let some = (runs_sound 0 f.owners f.events f.run).counts p in
-          let one = put_here f.owners.arrived p (f.owners.arrived p + 1) in
-          let at_home : f.owners.places p ≡ idle = (f.unmarked p near).1 is in (
-            refl,
-            λ views' known. record {
-              owners = queued p (with_requests p 1 f.owners);
-              events = Arrive p 1 ∷ f.events;
-              run = (f.owners, f.run, (omega arith, (λ _. refl), λ ne. absurd (ne at_home)));
-              places = places;
-              queue = queue;
-              unmarked = unmarked;
-              due = λ q lt. dite (ℕ_discrete q p)
-                  (λ is _. let a = ap f.owners.finished is in let b = ap (put f.owners.arrived p (f.owners.arrived p + 1)) is in omega arith)
-                  (λ ne h. let a = put_else f.owners.arrived p (f.owners.arrived p + 1) q ne in let b = f.due q lt (λ g. h (put_else f.owners.places p ready q ne ∙ g)) in omega arith);
-              known = known;
-            },
-          )
-      by_mark (std.Some x) is =
-          let busy : f.owners.places p ≢ idle = (λ e. let none = (f.unmarked p near).0 e in cc) in
-          let here : f.owners.places p ≡ held 0 = ⊎_elim (λ (e : f.owners.places p ≡ held 0). e) (λ (e : (0 ≡ 0) × (f.owners.places p ≡ idle)). absurd (busy e.1)) (subst (λ y. Agrees y (f.owners.places p)) mine (f.places p near)) in
-          let left : f.owners.finished p < f.owners.arrived p = f.due p near busy in (
-            refl,
-            λ views' known. record {
-              owners = queued p f.owners;
-              events = Settle p ∷ f.events;
-              run = (f.owners, f.run, (here, (λ _. refl), λ all. absurd (omega arith)));
-              places = places;
-              queue = queue;
-              unmarked = unmarked;
-              due = λ q lt. at_put f.owners.places p ready (λ j x. x ≢ idle → f.owners.finished j < f.owners.arrived j) q (λ _. left) (λ _. f.due q lt);
-              known = known;
-            },
-          )
+  -- the home publishes a place, which was so before
+  pub follows_publish : (before : Before) (ws ws' : List ℕ) (head tail p : ℕ) (holders : ℕ → Holder) (mark : M) → head ≤ tail → p < m → holders p ≡ in_hand 0 → ((k : ℕ) → head ≤ k → k < tail → cell ws' m k ≡ cell ws m k) → cell ws' m tail ≡ p → (f : Follows ws m head tail holders marks views)
+      → (views' : List (View T)) → IsKnown (publication before p (marks p) ++ f.events) views' → Follows ws' m head (tail + 1) (put holders p (in_queue tail)) (put marks p (std.Some mark)) views'
+  follows_publish before ws ws' head tail p holders mark le near mine same stored f =
+      let here : f.owners.places p ≢ idle → f.owners.places p ≡ held 0 = λ busy. ⊎_elim (λ (e : f.owners.places p ≡ held 0). e) (λ (e : (0 ≡ 0) × (f.owners.places p ≡ idle)). absurd (busy e.1)) (subst (λ y. Agrees y (f.owners.places p)) mine (f.places p near)) in
+      let leads = publication_leads before p (marks p) f.owners f.events f.run (f.unmarked p near).1
+      (λ x is. let busy : f.owners.places p ≢ idle = (λ e. let none = (f.unmarked p near).0 e in cc) in (here busy, f.due p near busy)) in
+      follows_ready ws ws' head tail p holders mark le same stored f (publication before p (marks p)) leads.0 leads.1 leads.2

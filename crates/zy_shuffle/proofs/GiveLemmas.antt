@@ -10,6 +10,7 @@ use Rattle.zy_shuffle.proofs.PublishLemmas.{stores_tail}
 use Rattle.zy_shuffle.specs.Hand.{emptied, marked, rest_of}
 use Rattle.zy_shuffle.specs.Pass.{out_of}
 use Rattle.zy_shuffle.specs.PassSeat.{IsBrought, IsCorePass, IsCoreSeat, IsFront, IsHomeSeat, bells_of}
+use Rattle.zy_shuffle.specs.Run.{Before}
 use Rattle.zy_shuffle.specs.ShuffleRule.{ShuffleRule}
 use Rattle.zy_shuffle.specs.HomeRole.{IsActive, with_stored}
 use Rattle.zy_shuffle.specs.Step.{Seated, fronted, gave, newcomer, published, splitting, stored_cell, storing, taken_in}
@@ -23,13 +24,13 @@ module _ {T M : Type 0} (mark : T → M) (label : T → Name) where
   pub stores_cell_as : (s n id p i t places : ℕ) (me : Seated T) → IsHomeSeat s t me → is_in p me.0.hand ≡ true → n ≡ places → i ≡ 32 + t % places → Allows (ShuffleRule mark label) n id me i (λ _. p) (λ _ m. stored_cell (step n i p 0 none) me m)
   stores_cell_as s n id p i t places me h has size is = stores_cell mark label n id p i t (out_of me.0.role) std.None (bells_of me.0.role) me h.0 h.1 has (is ∙ ap (λ x. 32 + t % x) (sym size))
 
-  pub stores_tail_as : (s n id p i t : ℕ) (b : T) (m0 m1 m2 : Seated T) → IsHomeSeat s t m0 → stored_cell (step n i p 0 none) m0 m1 → m2 ≡ (m1.0, (p, std.Some b) ∷ rest m1.1) → label b ≡ m0.0.label
-      → Allows (ShuffleRule mark label) n id m2 16 (λ _. t + 1) (λ _ m. published mark m2 m)
-  stores_tail_as s n id p i t b m0 m1 m2 h e f tag =
+  pub stores_tail_as : (before : Before) (s n id p i t : ℕ) (b : T) (m0 m1 m2 : Seated T) → IsHomeSeat s t m0 → stored_cell (step n i p 0 none) m0 m1 → m2 ≡ (m1.0, (p, std.Some b) ∷ rest m1.1) → label b ≡ m0.0.label
+      → Allows (ShuffleRule mark label) n id m2 16 (λ _. t + 1) (λ _ m. published before mark m2 m)
+  stores_tail_as before s n id p i t b m0 m1 m2 h e f tag =
       let v : View T = storing p m0.0 in
       let is : m2 ≡ (v, (p, std.Some b) ∷ rest m1.1) = f ∙ ap (λ (m : Seated T). (m.0, (p, std.Some b) ∷ rest m1.1)) e in
-      subst (λ (m : Seated T). Allows (ShuffleRule mark label) n id m 16 (λ _. t + 1) (λ _ w. published mark m w)) (sym is)
-      (stores_tail mark label n id p t (out_of m0.0.role) (t + 1) (bells_of m0.0.role) b v (rest m1.1) (ap (with_stored p) h.1) refl tag refl)
+      subst (λ (m : Seated T). Allows (ShuffleRule mark label) n id m 16 (λ _. t + 1) (λ _ w. published before mark m w)) (sym is)
+      (stores_tail before mark label n id p t (out_of m0.0.role) (t + 1) (bells_of m0.0.role) b v (rest m1.1) (ap (with_stored p) h.1) refl tag refl)
 
   pub fronts_as : (s n id p : ℕ) (me : Seated T) → IsCoreSeat s me → is_in p me.0.hand ≡ true → Allows (ShuffleRule mark label) n id me 0 (λ y. y) (λ y m. fronted p me y m)
   fronts_as s n id p me h has = fronts mark label n id p me h.0 (subst IsActive (sym h.1) tt) has

@@ -4,7 +4,7 @@ use mathlib.Core.Option.{some, some-injective, some-ne-none}
 use mathlib.Core.Logic.{dite}
 use native.Mathlib.Decide.{ℕ_discrete}
 use lib.ListN.{get_elem?}
-use Rattle.std.proofs.lemmas.List.{append-nil}
+use Rattle.std.proofs.lemmas.List.{append-nil, append_assoc}
 use Rattle.atomic_table.proofs.Lists.{at_set, set_here, set_else, at_longer}
 use Rattle.zy_table.specs.Member.{is_in}
 use Rattle.zy_table.proofs.MemberLemmas.{in_front, in_more, in_or, not_in}
@@ -14,7 +14,7 @@ use Rattle.zy_shuffle.specs.declared.ring.view.Role.{Role}
 use Rattle.zy_shuffle.specs.declared.ring.view.Role.TheVariants.{Spent}
 use Rattle.zy_shuffle.specs.declared.ring.view.View.{View}
 use Rattle.zy_shuffle.specs.HomeRole.{IsActive}
-use Rattle.zy_shuffle.specs.Run.{seat_of, Apart, Leads, IsOwned, AreOwned, IsSpent, IsKnown}
+use Rattle.zy_shuffle.specs.Run.{seat_of, AreOfSeat, Apart, Leads, IsOwned, AreOwned, IsSpent, IsKnown}
 use Rattle.zy_shuffle.specs.View.{with_own, is_no_longer, longer, start, spent}
 
 -- ---- lists of events
@@ -27,6 +27,11 @@ apart_none (e ∷ es) = (refl, apart_none es)
 pub apart_front : (seats : List ℕ) (xs ys : List Event) → Apart seats (xs ++ ys) → Apart seats xs
 apart_front seats [] ys h = tt
 apart_front seats (x ∷ xs) ys h = (h.0, apart_front seats xs ys h.1)
+
+-- further events of a seat that is none of these
+apart_more : (seats : List ℕ) (seat : ℕ) (acts es : List Event) → is_in seat seats ≡ false → AreOfSeat seat acts → Apart seats es → Apart seats (acts ++ es)
+apart_more seats seat [] es out of h = h
+apart_more seats seat (e ∷ acts) es out of h = (ap (λ n. is_in n seats) of.0 ∙ out, apart_more seats seat acts es out of.1 h)
 
 -- a member of two lists together
 in_some : (n : ℕ) (xs ys : List ℕ) → is_in n (xs ++ ys) ≡ true → (is_in n xs ≡ true) ⊎ (is_in n ys ≡ true)
@@ -142,6 +147,10 @@ module _ {T : Type 0} where
   owned_front vs [] ys h = tt
   owned_front vs (x ∷ xs) ys h = (h.0, owned_front vs xs ys h.1)
 
+  owned_more : (vs : List (View T)) (seat : ℕ) (acts es : List Event) → IsOwned vs seat → AreOfSeat seat acts → AreOwned vs es → AreOwned vs (acts ++ es)
+  owned_more vs seat [] es is of h = h
+  owned_more vs seat (e ∷ acts) es is of h = (subst (IsOwned vs) (sym of.0) is, owned_more vs seat acts es is of.1 h)
+
   -- ---- one seat's own events
 
   -- the events of an active seat
@@ -253,24 +262,24 @@ module _ {T : Type 0} where
               (at_set views1 other j spent u e);
         }
 
-    -- the seat makes an event
-    pub known_more : (w : View T) (e : Event) → w.trace.run ≡ e ∷ events → w.trace.seats ≡ with_own id v.trace.seats → seat_of e ≡ id → IsKnown (e ∷ events) (set views id w)
-    known_more w e run seats of =
+    -- the seat makes events
+    pub known_more : (w : View T) (acts : List Event) → w.trace.run ≡ acts ++ events → w.trace.seats ≡ with_own id v.trace.seats → AreOfSeat id acts → IsKnown (acts ++ events) (set views id w)
+    known_more w acts run seats of =
         let here : get_elem? (set views id w) id ≡ some w = set_here views id w (at_below views id v at) in record {
           last = (id, w, here, run);
           missing = λ j u f. ⊎_elim
               (λ (x : (j ≡ id) × (w ≡ u)). ([], sym run ∙ ap (λ (y : View T). y.trace.run) x.1, tt))
               (λ (x : (j ≢ id) × (get_elem? views j ≡ some u)). let o = t.missing j u x.1 in
-              (e ∷ o.0, ap (λ l. e ∷ l) o.1, (not_in (seat_of e) u.trace.seats (λ has. x.0 (own j (seat_of e) u x.1 of has)), o.2)))
+              (acts ++ o.0, ap (λ l. acts ++ l) o.1 ∙ sym (append_assoc acts o.0 u.trace.run), apart_more u.trace.seats id acts o.0 (not_in id u.trace.seats (λ has. x.0 (own j id u x.1 refl has))) of o.2))
               (at_set views id j w u f);
-          owned = (
-            (id, w, here, ap (is_in (seat_of e)) seats ∙ ap (λ n. is_in n (with_own id v.trace.seats)) of ∙ in_own id v.trace.seats (t.leads id v at)),
-            owned_else views (set views id w) events
-                (λ n h. dite (ℕ_discrete h.0 id)
-                (λ is. (id, w, here, ap (is_in n) seats ∙ more_own id n v.trace.seats (ap (λ (y : View T). is_in n y.trace.seats) (same_view views id h.0 v h.1 at h.2 (sym is)) ∙ h.3)))
-                (λ ne. (h.0, h.1, set_else views id h.0 w ne ∙ h.2, h.3)))
-                t.owned,
-          );
+          owned = owned_more (set views id w) id acts events
+              (id, w, here, ap (is_in id) seats ∙ in_own id v.trace.seats (t.leads id v at))
+              of
+              (owned_else views (set views id w) events
+              (λ n h. dite (ℕ_discrete h.0 id)
+              (λ is. (id, w, here, ap (is_in n) seats ∙ more_own id n v.trace.seats (ap (λ (y : View T). is_in n y.trace.seats) (same_view views id h.0 v h.1 at h.2 (sym is)) ∙ h.3)))
+              (λ ne. (h.0, h.1, set_else views id h.0 w ne ∙ h.2, h.3)))
+              t.owned);
           seats_of = λ j u f n has. ⊎_elim
               (λ (x : (j ≡ id) × (w ≡ u)). ⊎_elim
               (λ (y : n ≡ id). inl (y ∙ sym x.0))

@@ -1,6 +1,6 @@
 pub mod OwnerLemmas
 pub mod KnownLemmas
-mod FollowLemmas
+pub mod FollowLemmas
 pub mod HandLemmas
 pub mod MoveLemmas
 pub mod LookLemmas
@@ -18,4 +18,5 @@ pub mod PassLemmas
 pub mod LeftLemmas
 pub mod RuleLemmas
 pub mod RunLemmas
+pub mod ArrivalLemmas
 pub mod HolderLemmas

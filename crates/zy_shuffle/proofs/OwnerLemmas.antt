@@ -185,8 +185,17 @@ runs_one home t t' [] h k = h ∙ sym k
 runs_one home t t' (e ∷ es) h k =
     happens_one home h.0 t t' e (runs_sound home h.0 es h.1) h.2 (subst (λ u. happens home u e t') (sym (runs_one home h.0 k.0 es h.1 k.1)) k.2)
 
--- a run that goes on by one event: it leads from the state that the run reached
+-- a run of two lists of events passes through a state between them
+runs_between : (home : ℕ) (s t : Owners) (acts es : List Event) → Runs home s (acts ++ es) t → (u : Owners) × Runs home s es u × Runs home u acts t
+runs_between home s t [] es h = (t, h, refl)
+runs_between home s t (e ∷ acts) es h = let r = runs_between home s h.0 acts es h.1 in (r.0, r.1, (h.0, r.2, h.2))
+
+-- a run that goes on by these events: they lead from the state that the run reached
+pub runs_steps : (home : ℕ) (s t : Owners) (es es' acts : List Event) → es' ≡ acts ++ es → Runs home no_requests es s → Runs home no_requests es' t → Runs home s acts t
+runs_steps home s t es es' acts is h k =
+    let l = runs_between home no_requests t acts es (subst (λ x. Runs home no_requests x t) is k) in
+    subst (λ u. Runs home u acts t) (sym (runs_one home s l.0 es h l.1)) l.2
+
+-- the same of one event
 pub runs_step : (home : ℕ) (s t : Owners) (es es' : List Event) (e : Event) → es' ≡ e ∷ es → Runs home no_requests es s → Runs home no_requests es' t → happens home s e t
-runs_step home s t es es' e is h k =
-    let l = subst (λ x. Runs home no_requests x t) is k in
-    subst (λ u. happens home u e t) (sym (runs_one home s l.0 es h l.1)) l.2
+runs_step home s t es es' e is h k = let l = runs_steps home s t es es' (e ∷ []) is h k in subst (λ u. happens home u e t) l.1 l.2

@@ -8,6 +8,7 @@ use Rattle.zy_shuffle.specs.Hand.{below_then, emptied, rest_of}
 use Rattle.zy_shuffle.specs.Pass.{HasAll, out_of}
 use Rattle.zy_shuffle.specs.PassSeat.{IsBrought, IsCorePass, IsHomeSeat, Within, bells_of}
 use Rattle.zy_shuffle.specs.HomeRole.{with_published, with_stored}
+use Rattle.zy_shuffle.specs.Run.{Before}
 use Rattle.zy_shuffle.specs.Step.{Seated, gave, giving, named_as, next_publication, published, publishing, stored_cell, storing}
 use Rattle.zy_shuffle.specs.declared.ring.view.Role.{Role}
 use Rattle.zy_shuffle.specs.declared.ring.view.Role.TheVariants.{Home}
@@ -50,12 +51,12 @@ module _ {T : Type 0} where
   pub hand_named : (z : Name) (n places : ℕ) (m : Seated T) → named_as {T = T} z (step n 0 0 0 none) m → n ≡ places → HasAll places m.0.hand
   hand_named z n places m e size place lt = ap (λ (x : Seated T). is_in place x.0.hand) e ∙ below_in n place [] (omega arith)
 
-  pub home_published : {M : Type 0} (mark : T → M) (s s' n i p t : ℕ) (b : T) (m0 m1 m2 m3 : Seated T) → s' ≡ s → IsHomeSeat s t m0 → stored_cell (step n i p 0 none) m0 m1 → m2 ≡ (m1.0, (p, std.Some b) ∷ rest m1.1) → published mark m2 m3 → IsHomeSeat s' (t + 1) m3
-  home_published mark s s' n i p t b m0 m1 m2 m3 same h e f g =
+  pub home_published : {M : Type 0} (before : Before) (mark : T → M) (s s' n i p t : ℕ) (b : T) (m0 m1 m2 m3 : Seated T) → s' ≡ s → IsHomeSeat s t m0 → stored_cell (step n i p 0 none) m0 m1 → m2 ≡ (m1.0, (p, std.Some b) ∷ rest m1.1) → published before mark m2 m3 → IsHomeSeat s' (t + 1) m3
+  home_published before mark s s' n i p t b m0 m1 m2 m3 same h e f g =
       let v : View T = storing p m0.0 in
       let cs : List (ℕ × std.Option T) = emptied (without p m0.0.hand) in
       let is2 : m2 ≡ (v, (p, std.Some b) ∷ cs) = f ∙ (λ j. ((e j).0, (p, std.Some b) ∷ rest (e j).1)) in
-      let is3 : m3 ≡ (publishing g.0 (next_publication mark v) v ((p, std.Some b) ∷ cs), cs) = g.1 ∙ ap (λ (m : Seated T). (publishing g.0 (next_publication mark m.0) m.0 m.1, rest m.1)) is2 in
+      let is3 : m3 ≡ (publishing g.0 (next_publication before mark v) v ((p, std.Some b) ∷ cs), cs) = g.1 ∙ ap (λ (m : Seated T). (publishing g.0 (next_publication before mark m.0) m.0 m.1, rest m.1)) is2 in
       let role : with_published (with_stored p m0.0.role) ≡ Home (t + 1) std.None (bells_of m0.0.role) (out_of m0.0.role) = ap (λ x. with_published (with_stored p x)) h.1 in
       let role' : with_published (with_stored p m0.0.role) ≡ Home (t + 1) std.None (bells_of (with_published (with_stored p m0.0.role))) (out_of (with_published (with_stored p m0.0.role))) = role ∙ ap (λ (y : Role). Home (t + 1) std.None (bells_of y) (out_of y)) (sym role) in
       subst (λ (x : Seated T). IsHomeSeat s' (t + 1) x) (sym is3) (refl, role', subst (λ k. Within k (without p m0.0.hand)) (sym same) (within_less s p m0.0.hand h.2))

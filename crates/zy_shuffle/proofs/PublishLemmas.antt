@@ -1,8 +1,8 @@
 -- The store of the tail: it puts a place at the end of the queue.
-use Rattle.zy_shuffle.proofs.FollowLemmas.{follows_publish}
+use Rattle.zy_shuffle.proofs.FollowLemmas.{follows_publish, publication_seat}
 use Rattle.zy_shuffle.proofs.KnownLemmas.{between, since_is, may_follow, known_more}
 use Rattle.zy_shuffle.specs.declared.ring.view.Event.{Event}
-use Rattle.std.proofs.Common.{◌≡◌, ◌≢◌, ℕ, ◌+◌, ◌/◌, ◌%◌, ◌<◌, ◌≤◌, List, ◌∷◌, length, set, true, true≢false, refl, sym, ap, ◌∙◌, subst, arith, length-set, get_or-set_other, get_or-set_same}
+use Rattle.std.proofs.Common.{◌≡◌, ◌≢◌, ℕ, ◌+◌, ◌/◌, ◌%◌, ◌<◌, ◌≤◌, List, ◌∷◌, ◌++◌, length, set, true, true≢false, refl, sym, ap, ◌∙◌, subst, arith, length-set, get_or-set_other, get_or-set_same}
 use Rattle.std.specs.Prelude as std
 use mathlib.Core.Option.{some}
 use mathlib.Core.Logic.{dite}
@@ -16,8 +16,7 @@ use Rattle.zy_shuffle.specs.Hand.{first_of, marked, rest_of}
 use Rattle.zy_shuffle.specs.Holder.{Holder, at_bell, bell, core_count, cores, in_hand, in_queue, nobody, weight}
 use Rattle.zy_shuffle.specs.ShuffleRule.{IsRole, ShuffleRule}
 use Rattle.zy_shuffle.specs.HomeRole.{IsActive, with_published}
-use Rattle.zy_shuffle.specs.Follow.{Follows}
-use Rattle.zy_shuffle.specs.Run.{IsKnown, publication, seat_of}
+use Rattle.zy_shuffle.specs.Run.{Before, AreOfSeat, IsKnown, publication}
 use Rattle.zy_shuffle.specs.Step.{next_publication, published, publishing}
 use Rattle.zy_shuffle.specs.Word.{bell_at, cell}
 use Rattle.zy_shuffle.specs.declared.ring.view.Role.TheVariants.{Home}
@@ -29,10 +28,10 @@ use Rattle.zy_table.specs.Put.{put}
 use Rattle.zy_table.specs.declared.name.Name.{Name}
 use Rattle.zy_shuffle.proofs.TakeLemmas.{ready_in}
 
-module _ {T M : Type 0} (mark : T → M) (label : T → Name) where
+module _ {T M : Type 0} (before : Before) (mark : T → M) (label : T → Name) where
   -- the store of the tail, after the block was put into its slot
   pub stores_tail : (n id p t out new : ℕ) (nt : std.Option (ℕ × ℕ)) (b : T) (v : View T) (cs : List (ℕ × std.Option T)) → v.role ≡ Home t (std.Some p) nt out → v.hand ≡ p ∷ rest_of v.hand → label b ≡ v.label → new ≡ t + 1
-      → Allows (ShuffleRule mark label) n id (v, (p, std.Some b) ∷ cs) 16 (λ _. new) (λ _ m. published mark (v, (p, std.Some b) ∷ cs) m)
+      → Allows (ShuffleRule mark label) n id (v, (p, std.Some b) ∷ cs) 16 (λ _. new) (λ _ m. published before mark (v, (p, std.Some b) ∷ cs) m)
   stores_tail n id p t out new nt b v cs role front tag next s r wide at _ =
       let m : ℕ = length s.homes in
       let k = r.each_seat id v at in
@@ -57,12 +56,12 @@ module _ {T M : Type 0} (mark : T → M) (label : T → Name) where
       let kept' : List (ℕ × T) = (p, b) ∷ v.kept in
       let active : IsActive v.role = subst IsActive (sym role) tt in
       let f = r.follows in
-      let e : Event = next_publication mark v in
-      let e_is : e ≡ publication p (r.marks p) = ap (λ q. publication q (marked mark q v.kept)) (ap first_of front) ∙ ap (publication p) (home.6 p) in
-      let event = subst (λ (x : Event). (seat_of x ≡ 0) × ((views' : List (View T)) → IsKnown (x ∷ f.events) views' → Follows ws' m r.head (r.tail + 1) holders' marks' views')) (sym e_is)
-      (follows_publish m r.marks s.views s.words ws' r.head r.tail p r.holders (mark b) ordered near (mine.1 ∙ ap in_hand home.0) (λ k _ _. cells k) stored f) in
+      let acts : List Event = next_publication before mark v in
+      let acts_are : acts ≡ publication before p (r.marks p) = ap (λ q. publication before q (marked mark q v.kept)) (ap first_of front) ∙ ap (publication before p) (home.6 p) in
+      let own : AreOfSeat id acts = subst (λ n. AreOfSeat n acts) (sym home.0) (publication_seat before (first_of v.hand) (marked mark (first_of v.hand) v.kept)) in
       let since : ℕ × List Event = (id, between f.events s.views f.known id v at active) in
-      let v' : View T = publishing since e v ((p, std.Some b) ∷ cs) in
+      let v' : View T = publishing since acts v ((p, std.Some b) ∷ cs) in
+      let known : IsKnown (acts ++ f.events) (set s.views id v') = known_more f.events s.views f.known id v at active v' acts (ap (λ l. acts ++ l) (sym (since_is f.events s.views f.known id v at active))) refl own in
       let marks_now : (q : ℕ) → marked mark q kept' ≡ marks' q = λ q. dite (ℕ_discrete q p)
       (λ e. ap (λ y. marked mark y kept') e ∙ marked_here mark p b v.kept ∙ sym (put_here r.marks p (std.Some (mark b))) ∙ ap marks' (sym e))
       (λ ne. marked_else mark p q b v.kept ne ∙ home.6 q ∙ sym (put_else r.marks p (std.Some (mark b)) q ne)) in (
@@ -111,7 +110,8 @@ module _ {T M : Type 0} (mark : T → M) (label : T → Name) where
               λ q lt. at_put r.holders p (in_queue r.tail) (λ a b. b ≡ nobody → ⊥) q (λ e. cc) (λ _. home.7 q lt),
             );
           };
-          follows = event.1 (set s.views id v') (known_more f.events s.views f.known id v at active v' e (ap (λ l. e ∷ l) (sym (since_is f.events s.views f.known id v at active))) refl (event.0 ∙ sym home.0));
+          follows = follows_publish m r.marks s.views before s.words ws' r.head r.tail p r.holders (mark b) ordered near (mine.1 ∙ ap in_hand home.0) (λ k _ _. cells k) stored f (set s.views id v')
+              (subst (λ (es : List Event). IsKnown (es ++ f.events) (set s.views id v')) acts_are known);
           live_here = λ j e. cc;
           live_else = λ q ne e. sym (in_cons p q ks ne) ∙ sym (ap (is_in q) front) ∙ e;
         },

@@ -1,52 +1,60 @@
 -- The views of a ring determine its run, and a step adds its own event to it, or none.
-use Rattle.std.proofs.Common.{◌≡◌, ◌≢◌, ℕ, suc, ◌≤◌, List, [], ◌∷◌, ◌++◌, length, set, true, true≢false, refl, sym, ap, ◌∙◌, subst, arith}
+use Rattle.std.proofs.Common.{◌≡◌, ◌≢◌, ℕ, List, [], ◌∷◌, ◌++◌, length, set, cond, Bool, true, false, true≢false, refl, sym, ap, ◌∙◌, subst, arith}
 use mathlib.Core.Option.{some}
 use mathlib.Core.Logic.{dite}
-use native.Mathlib.Decide.{ℕ_discrete, dec_le}
+use native.Mathlib.Decide.{ℕ_discrete}
 use lib.ListN.{get_elem?}
-use Rattle.std.proofs.lemmas.List.{append_cancel_left, append_cancel_right, append_assoc}
+use Rattle.std.proofs.lemmas.List.{append-nil, append_cancel_right, append_assoc}
 use Rattle.atomic_table.proofs.Lists.{set_here, set_else}
 use Rattle.zy_table.specs.Member.{is_in}
 use Rattle.zy_table.proofs.SlotLemmas.{at_below}
 use Rattle.zy_shuffle.specs.declared.ring.view.Event.{Event}
 use Rattle.zy_shuffle.specs.declared.ring.view.View.{View}
 use Rattle.zy_shuffle.specs.HomeRole.{IsActive}
-use Rattle.zy_shuffle.specs.Run.{seat_of, Apart, Leads, AreOwned, MayFollow, Makes, MakesNone, IsKnown}
+use Rattle.zy_shuffle.specs.Run.{seat_of, AreOfSeat, Apart, Leads, AreOwned, MayFollow, MakesAll, MakesNone, IsKnown}
 use Rattle.zy_shuffle.specs.OneStep.{IsStep}
 use Rattle.zy_shuffle.specs.Step.{newcomer, splitting, taken_in}
 use Rattle.zy_shuffle.specs.View.{with_own, spent}
-use Rattle.zy_shuffle.proofs.KnownLemmas.{in_own, not_spent, known_added, known_same, known_joined, all_of, apart_front, apart_own, front_of, long_append, owned_front, same_view}
+use Rattle.zy_shuffle.proofs.KnownLemmas.{in_own, not_spent, known_added, known_same, known_joined, all_of, apart_front, apart_own, long_append, owned_front, same_view}
 
 -- each event is of one of these seats
 abbrev AllIn : List ℕ → List Event → Type 0
 AllIn seats [] = Unit {0}
 AllIn seats (e ∷ es) = (is_in (seat_of e) seats ≡ true) × AllIn seats es
 
-all_front : (seats : List ℕ) (xs ys : List Event) → AllIn seats (xs ++ ys) → AllIn seats xs
-all_front seats [] ys h = tt
-all_front seats (x ∷ xs) ys h = (h.0, all_front seats xs ys h.1)
+-- the events of a seat among these are of these
+all_own : (seats : List ℕ) (seat : ℕ) (es : List Event) → is_in seat seats ≡ true → AreOfSeat seat es → AllIn seats es
+all_own seats seat [] is of = tt
+all_own seats seat (e ∷ es) is of = (ap (λ n. is_in n seats) of.0 ∙ is, all_own seats seat es is of.1)
 
-all_back : (seats : List ℕ) (xs ys : List Event) → AllIn seats (xs ++ ys) → AllIn seats ys
-all_back seats [] ys h = h
-all_back seats (x ∷ xs) ys h = all_back seats xs ys h.1
+-- the events of these seats
+abbrev those_of : List ℕ → List Event → List Event
+those_of seats [] = []
+those_of seats (e ∷ es) = cond (is_in (seat_of e) seats) (e ∷ those_of seats es) (those_of seats es)
 
-apart_back : (seats : List ℕ) (xs ys : List Event) → Apart seats (xs ++ ys) → Apart seats ys
-apart_back seats [] ys h = h
-apart_back seats (x ∷ xs) ys h = apart_back seats xs ys h.1
+those_all : (seats : List ℕ) (es : List Event) → AllIn seats es → those_of seats es ≡ es
+those_all seats [] h = refl
+those_all seats (e ∷ es) h = ap (λ b. cond b (e ∷ those_of seats es) (those_of seats es)) h.0 ∙ ap (λ l. e ∷ l) (those_all seats es h.1)
 
--- of these seats, and of none of them
-none_left : (seats : List ℕ) (es : List Event) → AllIn seats es → Apart seats es → es ≡ []
-none_left seats [] a b = refl
-none_left seats (x ∷ xs) a b = absurd (true≢false (sym a.0 ∙ b.0))
+those_none : (seats : List ℕ) (es : List Event) → Apart seats es → those_of seats es ≡ []
+those_none seats [] h = refl
+those_none seats (e ∷ es) h = ap (λ b. cond b (e ∷ those_of seats es) (those_of seats es)) h.0 ∙ those_none seats es h.1
 
--- the shorter of two ends of a list ends the other
-end_of : (xs ys us vs : List Event) → xs ++ us ≡ ys ++ vs → length us ≤ length vs → (rest : List Event) × (vs ≡ rest ++ us)
-end_of xs ys us vs e le =
-    let a = long_append xs us in
-    let b = long_append ys vs in
-    let c = ap length e in
-    let f = front_of xs ys us vs e (omega arith) in
-    (f.0, append_cancel_left ys vs (f.0 ++ us) (sym e ∙ ap (λ l. l ++ us) f.1 ∙ append_assoc ys f.0 us))
+those_append : (seats : List ℕ) (xs ys : List Event) → those_of seats (xs ++ ys) ≡ those_of seats xs ++ those_of seats ys
+those_append seats [] ys = refl
+those_append seats (x ∷ xs) ys = go (is_in (seat_of x) seats) (those_append seats xs ys)
+  where
+    go : (b : Bool) → those_of seats (xs ++ ys) ≡ those_of seats xs ++ those_of seats ys → cond b (x ∷ those_of seats (xs ++ ys)) (those_of seats (xs ++ ys)) ≡ cond b (x ∷ those_of seats xs) (those_of seats xs) ++ those_of seats ys
+    go true e = ap (λ l. x ∷ l) e
+    go false e = e
+
+-- a list that is written in two ways, both times with the events of these seats in one place
+same_acts : (seats : List ℕ) (more la later acts mid : List Event) → more ++ la ≡ later ++ (acts ++ mid) → AllIn seats more → AllIn seats acts → Apart seats la → Apart seats later → Apart seats mid → more ≡ acts
+same_acts seats more la later acts mid both more_own acts_own la_apart later_apart mid_apart =
+    let left : those_of seats (more ++ la) ≡ more = those_append seats more la ∙ (λ i. those_all seats more more_own i ++ those_none seats la la_apart i) ∙ append-nil more in
+    let right : those_of seats (later ++ (acts ++ mid)) ≡ acts = those_append seats later (acts ++ mid) ∙ (λ i. those_none seats later later_apart i ++ those_append seats acts mid i)
+    ∙ (λ i. those_all seats acts acts_own i ++ those_none seats mid mid_apart i) ∙ append-nil acts in
+    sym left ∙ ap (those_of seats) both ∙ right
 
 module _ {T : Type 0} where
   -- there is one run
@@ -84,17 +92,17 @@ module _ {T : Type 0} where
       let f = long_append x.0 es in
       sym (all_of x.0 es es' x.1 (omega arith))
 
-  -- an event: the run goes on by it, and by nothing else
-  pub run_grows : (views : List (View T)) (es es' : List Event) (id : ℕ) (v w : View T) (since : ℕ × List Event) (e : Event) → get_elem? views id ≡ some v → IsActive v.role → w.trace.run ≡ e ∷ since.1 ++ v.trace.run → w.trace.seats ≡ with_own since.0 v.trace.seats → MayFollow since v.trace → is_in (seat_of e) w.trace.seats ≡ true
-      → IsKnown es views → IsKnown es' (set views id w) → es' ≡ e ∷ es
-  run_grows views es es' id v w since e at active run seats may of t t' =
+  -- events: the run goes on by them, and by nothing else
+  pub run_grows : (views : List (View T)) (es es' : List Event) (id : ℕ) (v w : View T) (since : ℕ × List Event) (acts : List Event) → get_elem? views id ≡ some v → IsActive v.role → w.trace.run ≡ acts ++ (since.1 ++ v.trace.run) → w.trace.seats ≡ with_own since.0 v.trace.seats → MayFollow since v.trace → AllIn w.trace.seats acts
+      → IsKnown es views → IsKnown es' (set views id w) → es' ≡ acts ++ es
+  run_grows views es es' id v w since acts at active run seats may of t t' =
       let here : get_elem? (set views id w) id ≡ some w = set_here views id w (at_below views id v at) in
       let mid : List Event = since.1 in
       let mine = t.missing id v at in
       let la : List Event = mine.0 in
       let now = t'.missing id w here in
       let later : List Event = now.0 in
-      let now_is : es' ≡ (later ++ e ∷ mid) ++ v.trace.run = now.1 ∙ ap (λ l. later ++ l) run ∙ sym (append_assoc later (e ∷ mid) v.trace.run) in
+      let now_is : es' ≡ (later ++ (acts ++ mid)) ++ v.trace.run = now.1 ∙ ap (λ l. later ++ l) (run ∙ sym (append_assoc acts mid v.trace.run)) ∙ sym (append_assoc later (acts ++ mid) v.trace.run) in
       let own_seats : with_own id v.trace.seats ≡ w.trace.seats = same_own v.trace.seats (subst (Leads id) seats (t'.leads id w here)) ∙ sym seats in
       let mid_apart : Apart w.trace.seats mid = subst (λ l. Apart l mid) (sym seats) may.1 in
       let la_apart : Apart w.trace.seats la = subst (λ l. Apart l la) own_seats (apart_own es views t id v at active la (owned_front views la v.trace.run (subst (AreOwned views) mine.1 t.owned)) mine.2) in
@@ -102,7 +110,7 @@ module _ {T : Type 0} where
       let last = t.last in
       let last_is = last.3 in
       let grown : (more : List Event) × (es' ≡ more ++ es) = dite (ℕ_discrete last.0 id)
-      (λ same. (later ++ e ∷ mid, now_is ∙ ap (λ l. (later ++ e ∷ mid) ++ l) (ap (λ (y : View T). y.trace.run) (same_view views id last.0 v last.1 at last.2 (sym same)) ∙ last_is)))
+      (λ same. (later ++ (acts ++ mid), now_is ∙ ap (λ l. (later ++ (acts ++ mid)) ++ l) (ap (λ (y : View T). y.trace.run) (same_view views id last.0 v last.1 at last.2 (sym same)) ∙ last_is)))
       (λ ne. let o = t'.missing last.0 last.1 (set_else views id last.0 w ne ∙ last.2) in (o.0, o.1 ∙ ap (λ l. o.0 ++ l) last_is)) in
       let more : List Event = grown.0 in
       let more_is = grown.1 in
@@ -114,18 +122,8 @@ module _ {T : Type 0} where
       apart_front u.trace.seats more old.0 (subst (Apart u.trace.seats) is new.2) in
       let all : AllIn w.trace.seats more = owns more (owned_front (set views id w) more es (subst (AreOwned (set views id w)) more_is t'.owned)) others in
       -- both ways of writing it
-      let both : more ++ la ≡ later ++ e ∷ mid = append_cancel_right (more ++ la) (later ++ e ∷ mid) v.trace.run (append_assoc more la v.trace.run ∙ ap (λ l. more ++ l) (sym mine.1) ∙ sym more_is ∙ now_is) in
-      let short : length la ≤ length mid = dite (dec_le (suc (length mid)) (length la))
-      (λ long. let r = end_of later more (e ∷ mid) la (sym both) long in
-      absurd (true≢false (sym of ∙ (apart_back w.trace.seats r.0 (e ∷ mid) (subst (Apart w.trace.seats) r.1 la_apart)).0)))
-      (λ no. omega arith) in
-      let r = end_of more (later ++ e ∷ []) la mid (both ∙ sym (append_assoc later (e ∷ []) mid)) short in
-      let front : more ≡ (later ++ e ∷ []) ++ r.0 = append_cancel_right more ((later ++ e ∷ []) ++ r.0) la
-      (both ∙ sym (append_assoc later (e ∷ []) mid) ∙ ap (λ l. (later ++ e ∷ []) ++ l) r.1 ∙ sym (append_assoc (later ++ e ∷ []) r.0 la)) in
-      let all' : AllIn w.trace.seats ((later ++ e ∷ []) ++ r.0) = subst (AllIn w.trace.seats) front all in
-      let nothing_later : later ≡ [] = none_left w.trace.seats later (all_front w.trace.seats later (e ∷ []) (all_front w.trace.seats (later ++ e ∷ []) r.0 all')) now.2 in
-      let nothing_between : r.0 ≡ [] = none_left w.trace.seats r.0 (all_back w.trace.seats (later ++ e ∷ []) r.0 all') (apart_front w.trace.seats r.0 la (subst (Apart w.trace.seats) r.1 mid_apart)) in
-      more_is ∙ ap (λ l. l ++ es) (front ∙ (λ i. (nothing_later i ++ e ∷ []) ++ nothing_between i))
+      let both : more ++ la ≡ later ++ (acts ++ mid) = append_cancel_right (more ++ la) (later ++ (acts ++ mid)) v.trace.run (append_assoc more la v.trace.run ∙ ap (λ l. more ++ l) (sym mine.1) ∙ sym more_is ∙ now_is) in
+      more_is ∙ ap (λ l. l ++ es) (same_acts w.trace.seats more la later acts mid both all of la_apart now.2 mid_apart)
     where
       same_own : (xs : List ℕ) → Leads id (with_own since.0 xs) → with_own id xs ≡ with_own since.0 xs
       same_own [] l = ap (λ n. n ∷ []) l
@@ -144,14 +142,14 @@ module _ {T : Type 0} where
   pub step_stays : (views views' : List (View T)) (es es' : List Event) (id : ℕ) (v w : View T) → IsStep id v w views views' → MakesNone v.trace w.trace → IsKnown es views → IsKnown es' views' → es' ≡ es
   step_stays views views' es es' id v w s stay t t' = run_stays views es es' id v w s.0 stay.0 t (subst (IsKnown es') s.1 t')
 
-  pub step_grows : (views views' : List (View T)) (es es' : List Event) (id : ℕ) (v w : View T) (e : ℕ → Event) → IsStep id v w views views' → IsActive v.role → Makes e v.trace w.trace → seat_of (e id) ≡ id → IsKnown es views → IsKnown es' views' → es' ≡ e id ∷ es
-  step_grows views views' es es' id v w e s active ran own t t' =
+  pub step_grows : (views views' : List (View T)) (es es' : List Event) (id : ℕ) (v w : View T) (acts : ℕ → List Event) → IsStep id v w views views' → IsActive v.role → MakesAll acts v.trace w.trace → AreOfSeat id (acts id) → IsKnown es views → IsKnown es' views' → es' ≡ acts id ++ es
+  step_grows views views' es es' id v w acts s active ran own t t' =
       let u = subst (IsKnown es') s.1 t' in
       let since : ℕ × List Event = ran.0 in
       let leads = subst (Leads id) ran.2 (u.leads id w (set_here views id w (at_below views id v s.0))) in
       let number : since.0 ≡ id = first v.trace.seats since.0 ran.3.0 leads in
-      run_grows views es es' id v w since (e id) s.0 active (ran.1 ∙ ap (λ n. e n ∷ since.1 ++ v.trace.run) number) ran.2 ran.3
-      (ap (is_in (seat_of (e id))) ran.2 ∙ ap (λ n. is_in n (with_own since.0 v.trace.seats)) (own ∙ sym number) ∙ in_own since.0 v.trace.seats ran.3.0) t u
+      let mine : is_in id w.trace.seats ≡ true = ap (is_in id) ran.2 ∙ ap (λ n. is_in n (with_own since.0 v.trace.seats)) (sym number) ∙ in_own since.0 v.trace.seats ran.3.0 in
+      run_grows views es es' id v w since (acts id) s.0 active (ran.1 ∙ ap (λ n. acts n ++ (since.1 ++ v.trace.run)) number) ran.2 ran.3 (all_own w.trace.seats id (acts id) mine own) t u
     where
       first : (xs : List ℕ) (n : ℕ) → Leads n xs → Leads id (with_own n xs) → n ≡ id
       first [] n a b = sym b

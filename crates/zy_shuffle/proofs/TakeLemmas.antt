@@ -3,7 +3,7 @@ use Rattle.zy_shuffle.proofs.FollowLemmas.{follows_claim}
 use Rattle.zy_shuffle.proofs.KnownLemmas.{between, since_is, may_follow, known_more}
 use Rattle.zy_shuffle.specs.declared.ring.view.Event.{Event}
 use Rattle.zy_shuffle.specs.declared.ring.view.Event.TheVariants.{Claim}
-use Rattle.std.proofs.Common.{◌≡◌, ◌≢◌, ℕ, ◌+◌, ◌/◌, ◌%◌, ◌<◌, List, ◌∷◌, length, get_or, set, eqb, true, false, true≢false, refl, sym, ap, ◌∙◌, subst, ⊎_elim, arith, length-set, get_or-set_other, get_or-set_same}
+use Rattle.std.proofs.Common.{◌≡◌, ◌≢◌, ℕ, ◌+◌, ◌/◌, ◌%◌, ◌<◌, List, [], ◌∷◌, length, get_or, set, eqb, true, false, true≢false, refl, sym, ap, ◌∙◌, subst, ⊎_elim, arith, length-set, get_or-set_other, get_or-set_same}
 use Rattle.std.specs.Prelude as std
 use mathlib.Core.Option.{none}
 use mathlib.Core.Logic.{dite}
@@ -43,7 +43,7 @@ module _ {T M : Type 0} (mark : T → M) (label : T → Name) where
     tag_of (Home t st nt out) a h = h.1
     tag_of (Closed gone) a h = absurd a
 
-    kept_of : (x : Role) → IsHome x → IsRole mark label ws m head tail holders marks z count j hand tag kept x → (p : ℕ) → marked mark p kept ≡ marks p
+    pub kept_of : (x : Role) → IsHome x → IsRole mark label ws m head tail holders marks z count j hand tag kept x → (p : ℕ) → marked mark p kept ≡ marks p
     kept_of Spent a h = absurd a
     kept_of Start a h = absurd a
     kept_of Core a h = absurd a
@@ -145,7 +145,7 @@ module _ {T M : Type 0} (mark : T → M) (label : T → Name) where
                 k.role;
           };
           follows = follows_claim m r.marks s.views (set s.views id v') s.words ws' r.head r.tail id p r.holders before at_cell near ready_p (λ k _ _. cells k) f
-              (known_more f.events s.views f.known id v at active v' (Claim id) (ap (λ l. Claim id ∷ l) (sym (since_is f.events s.views f.known id v at active))) refl refl);
+              (known_more f.events s.views f.known id v at active v' (Claim id ∷ []) (ap (λ l. Claim id ∷ l) (sym (since_is f.events s.views f.known id v at active))) refl (refl, tt));
           live_here = λ j e. ((cc), in_front p v.hand);
           live_else = λ q ne e. in_more p q v.hand e;
         },

@@ -1,14 +1,16 @@
--- A step of a ring, as two states that meet the rule, and the event of the ownership machine that it is.
-use Rattle.std.specs.Prelude.{◌≡◌, ℕ, List, [], ◌∷◌, ◌++◌, slice_set}
+-- A step of a ring, as two states that meet the rule, and the events of the ownership machine that it is.
+use Rattle.std.specs.Prelude.{◌≡◌, ◌≢◌, ℕ, ◌+◌, List, [], ◌∷◌, ◌++◌, None, slice_set}
 use mathlib.Core.Option.{some}
 use lib.ListN.{get_elem?}
 use Rattle.zy_table.specs.declared.name.Name.{Name}
 use Rattle.zy_shuffle.specs.declared.ring.view.Event.{Event}
+use Rattle.zy_shuffle.specs.declared.ring.view.Event.TheVariants.{Arrive}
 use Rattle.zy_shuffle.specs.declared.ring.view.View.{View}
 use Rattle.zy_shuffle.specs.View.{spent}
-use Rattle.zy_shuffle.specs.HomeRole.{IsActive}
-use Rattle.zy_shuffle.specs.Ownership.{Owners, no_requests, happens, Runs, StaysHeld, held}
-use Rattle.zy_shuffle.specs.Run.{seat_of, Makes, MakesNone}
+use Rattle.zy_shuffle.specs.Hand.{marked}
+use Rattle.zy_shuffle.specs.HomeRole.{IsActive, IsHome}
+use Rattle.zy_shuffle.specs.Ownership.{Owners, no_requests, happens, Runs, StaysHeld, held, idle, ready}
+use Rattle.zy_shuffle.specs.Run.{Before, AreOfSeat, MakesAll, MakesNone, publication, went_idle}
 use Rattle.zy_shuffle.specs.ShuffleRule.{RingState, ShuffleRule}
 use Rattle.zy_shuffle.specs.Step.{splitting, newcomer, taken_in}
 
@@ -47,18 +49,57 @@ module _ {T M : Type 0} {mark : T → M} {label : T → Name} where
   abbrev pub IsNoEvent : ℕ → Ruled mark label → Ruled mark label → Type 0
   IsNoEvent id s t = (v w : View T) × IsStep id v w (views_of s) (views_of t) × MakesNone v.trace w.trace
 
+  -- seat `id` made a step that is these events, which are its own
+  abbrev pub AreEvents : ℕ → (ℕ → List Event) → Ruled mark label → Ruled mark label → Type 0
+  AreEvents id acts s t = (v w : View T) × IsStep id v w (views_of s) (views_of t) × IsActive v.role
+      × MakesAll acts v.trace w.trace × AreOfSeat id (acts id)
+
   -- seat `id` made a step that is this event, which is its own
   abbrev pub IsEvent : ℕ → (ℕ → Event) → Ruled mark label → Ruled mark label → Type 0
-  IsEvent id e s t = (v w : View T) × IsStep id v w (views_of s) (views_of t) × IsActive v.role
-      × Makes e v.trace w.trace × (seat_of (e id) ≡ id)
+  IsEvent id e s t = AreEvents id (λ seat. e seat ∷ []) s t
 
-  -- the run grew by this event, and by nothing else
+  -- the run grew by these events, the newest first, and by nothing else
+  abbrev pub GrowsByAll : List Event → Ruled mark label → Ruled mark label → Type 0
+  GrowsByAll acts s t = run_of t ≡ acts ++ run_of s
+
+  -- the same of one event
   abbrev pub GrowsBy : Event → Ruled mark label → Ruled mark label → Type 0
-  GrowsBy e s t = run_of t ≡ e ∷ run_of s
+  GrowsBy e s t = GrowsByAll (e ∷ []) s t
+
+  -- the events lead, one after another, from the state of the machine before to the one after
+  abbrev pub LeadsByAll : List Event → Ruled mark label → Ruled mark label → Type 0
+  LeadsByAll acts s t = Runs 0 (owners_of s) acts (owners_of t)
 
   -- the event leads from the state of the machine before to the one after
   abbrev pub LeadsBy : Event → Ruled mark label → Ruled mark label → Type 0
   LeadsBy e s t = happens 0 (owners_of s) e (owners_of t)
+
+  -- the home published the place, which was so before
+  abbrev pub IsPublication : Before → ℕ → Ruled mark label → Ruled mark label → Type 0
+  IsPublication before place s t = (v w : View T) × IsStep 0 v w (views_of s) (views_of t) × IsHome v.role
+      × MakesAll (λ _. publication before place (marked mark place v.kept)) v.trace w.trace
+
+  -- the events by which the connection became idle, if it was ever published
+  abbrev pub idling_of : ℕ → Ruled mark label → List Event
+  idling_of place s = went_idle place (s.1.marks place)
+
+  -- the connection became idle by these events, and then a request arrived at it
+  abbrev pub ArrivesIdle : ℕ → Ruled mark label → Ruled mark label → Type 0
+  ArrivesIdle place s t = (u : Owners) × Runs 0 (owners_of s) (idling_of place s) u × (u.places place ≡ idle)
+      × happens 0 u (Arrive place 1) (owners_of t)
+
+  -- the home published the place before
+  abbrev pub WasPublished : ℕ → Ruled mark label → Type 0
+  WasPublished place s = s.1.marks place ≢ None
+
+  -- the home held the connection, which is now ready
+  abbrev pub BecomesReady : ℕ → Ruled mark label → Ruled mark label → Type 0
+  BecomesReady place s t = ((owners_of s).places place ≡ held 0) × ((owners_of t).places place ≡ ready)
+
+  -- if the connection is not idle, one request of it is unfinished
+  abbrev pub HasOneRequest : ℕ → Ruled mark label → Type 0
+  HasOneRequest place s = (owners_of s).places place ≢ idle
+      → (owners_of s).finished place + 1 ≡ (owners_of s).arrived place
 
   -- seat `id` gave a pass, which has the next number
   abbrev pub IsGiven : ℕ → Ruled mark label → Ruled mark label → Type 0

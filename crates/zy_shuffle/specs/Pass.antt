@@ -15,7 +15,7 @@ use Rattle.zy_shuffle.specs.declared.claim.Claim.{Claim}
 use Rattle.zy_shuffle.specs.declared.claim.Claim.TheVariants.{Took, Empty, Raced}
 use Rattle.zy_shuffle.specs.Hand.{below_then, marked, left_of}
 use Rattle.zy_shuffle.specs.View.{sight, untraced, plain_step, bell_step, after_event, joining}
-use Rattle.zy_shuffle.specs.Run.{MayFollow, Makes, MakesNone, claim_of, publication}
+use Rattle.zy_shuffle.specs.Run.{Before, MayFollow, Makes, MakesAll, MakesNone, claim_of, publication}
 use Rattle.zy_shuffle.specs.Word.{bell_words}
 
 -- ---- rings and passes
@@ -175,9 +175,10 @@ module _ {T M : Type 0} (mark : T → M) (label : T → Name) (places : ℕ) (v 
 
 -- ---- the events of calls
 
--- to publish a place is the event `publication` of the home
-abbrev pub PublishMakes : {T M : Type 0} → (T → M) → ℕ → Held T → Held T → Type 0
-PublishMakes mark place v w = Makes (λ _. publication place (marked mark place v.kept)) v.trace w.trace
+-- to publish a place, which was so before, is the events `publication` of the home
+abbrev pub PublishMakes : {T M : Type 0} → Before → (T → M) → ℕ → Held T → Held T → Type 0
+PublishMakes before mark place v w =
+    MakesAll (λ _. publication before place (marked mark place v.kept)) v.trace w.trace
 
 -- a claim that took a place is the event `Claim` of the pass, and any other claim is no event
 abbrev pub ClaimMakes : {T : Type 0} → Trace → Trace → Claim T → Type 0

@@ -10,6 +10,28 @@ use Rattle.zy_shuffle.specs.declared.ring.view.Trace.{Trace}
 use Rattle.zy_shuffle.specs.declared.ring.view.View.{View}
 use Rattle.zy_shuffle.specs.View.{with_own}
 
+-- ---- publications
+
+-- the state of a connection before its home publishes it: idle, with all that had arrived finished,
+-- until something new came; or held by the home, with something left
+pub data Before : Type 0 where
+  was_idle : Before
+  was_held : Before
+
+-- the events by which a connection became idle that was published before, the newest first: what
+-- made it ready then was finished, and it was settled. One that was never published is idle
+abbrev pub went_idle : {M : Type 0} → ℕ → Option M → List Event
+went_idle place None = []
+went_idle place (Some mark) = Settle place ∷ Handle 0 place ∷ []
+
+-- the events of a publication, the newest first, by the mark that the home keeps for the place: a
+-- request arrives at a connection that was idle, as is one that was never published, and one that
+-- was held is settled
+abbrev pub publication : {M : Type 0} → Before → ℕ → Option M → List Event
+publication was_idle place kept = Arrive place 1 ∷ went_idle place kept
+publication was_held place None = Arrive place 1 ∷ []
+publication was_held place (Some mark) = Settle place ∷ []
+
 -- ---- events and seats
 
 -- the seat whose event it is; the home is seat 0
@@ -20,6 +42,11 @@ seat_of (Handle core c) = core
 seat_of (GiveBack core c) = core
 seat_of (Collect c) = 0
 seat_of (Settle c) = 0
+
+-- each of these events is of this seat
+abbrev pub AreOfSeat : ℕ → List Event → Type 0
+AreOfSeat seat [] = Unit {0}
+AreOfSeat seat (e ∷ es) = (seat_of e ≡ seat) × AreOfSeat seat es
 
 -- none of these events is of one of these seats
 abbrev pub Apart : List ℕ → List Event → Type 0
@@ -37,11 +64,16 @@ Leads seat (x ∷ xs) = seat ≡ x
 abbrev pub MayFollow : ℕ × List Event → Trace → Type 0
 MayFollow since t = Leads since.0 t.seats × Apart (with_own since.0 t.seats) since.1
 
+-- the seat made these events, the newest first, which depend on its number: to the run that it knew
+-- it added events of other seats, and then these
+abbrev pub MakesAll : (ℕ → List Event) → Trace → Trace → Type 0
+MakesAll acts t u = (since : ℕ × List Event) × (u.run ≡ acts since.0 ++ (since.1 ++ t.run))
+    × (u.seats ≡ with_own since.0 t.seats) × MayFollow since t
+
 -- the seat made this event, which depends on its number: to the run that it knew it added events of
 -- other seats, and then this one
 abbrev pub Makes : (ℕ → Event) → Trace → Trace → Type 0
-Makes e t u = (since : ℕ × List Event) × (u.run ≡ e since.0 ∷ since.1 ++ t.run)
-    × (u.seats ≡ with_own since.0 t.seats) × MayFollow since t
+Makes e t u = MakesAll (λ seat. e seat ∷ []) t u
 
 -- the seat made no event, and knows what it knew of the run
 abbrev pub MakesNone : Trace → Trace → Type 0
@@ -54,12 +86,6 @@ claim_of core = Claim core
 -- the event of a core that gives a place back
 abbrev pub give_back_of : ℕ → ℕ → Event
 give_back_of place core = GiveBack core place
-
--- the event of a publication, by the mark that the home keeps for the place: a request arrives at a
--- place that was never published, and any other is settled
-abbrev pub publication : {M : Type 0} → ℕ → Option M → Event
-publication place None = Arrive place 1
-publication place (Some mark) = Settle place
 
 -- ---- what all seats know
 

@@ -147,6 +147,6 @@ module _ {T M : Type 0} (mark : T → M) (label : T → Name) where
     -- kept is still true
     pub each_seat : (j : ℕ) (v : View T) → get_elem? s.views j ≡ some v
         → Knows s.words (length s.homes) head tail holders marks name (cores s.views) j v
-    -- each step is one event of the ownership machine, or no event: the state that the table shows
-    -- is one that a run of the machine reaches, and the views have this run between them
+    -- each step is its events of the ownership machine, or no event: the state that the table shows is
+    -- one that a run of the machine reaches, and the views have this run between them
     pub follows : Follows s.words (length s.homes) head tail holders marks s.views

@@ -6,12 +6,12 @@ use Rattle.zy_table.specs.Member.{is_in, without}
 use Rattle.zy_shuffle.specs.declared.ring.view.Role.TheVariants.{Core, Home, Closed}
 use Rattle.zy_shuffle.specs.declared.ring.view.Event.{Event}
 use Rattle.zy_shuffle.specs.declared.ring.view.Event.TheVariants.{Claim, GiveBack, Collect}
-use Rattle.zy_shuffle.specs.Run.{publication, MayFollow}
+use Rattle.zy_shuffle.specs.Run.{Before, publication, MayFollow}
 use Rattle.zy_shuffle.specs.declared.ring.view.View.{View}
 use Rattle.zy_shuffle.specs.HomeRole.{with_stored, with_published, with_bells, one_more, one_less, IsHome, rung_place, noted_in}
 use Rattle.zy_shuffle.specs.Hand.{first_of, rest_of, emptied, below_then, marked}
 use Rattle.zy_shuffle.specs.View.{plain_step, head_step, tail_step, try_step, bell_step, fresh, traced}
-use Rattle.zy_shuffle.specs.View.{after_event, joining}
+use Rattle.zy_shuffle.specs.View.{after_event, after_events, joining}
 
 -- a seat's view, and the slots that it has taken
 abbrev pub Seated : Type 0 → Type 0
@@ -42,14 +42,14 @@ module _ {T : Type 0} where
   storing p v = record v { role = with_stored p v.role; hand = p ∷ without p v.hand; trace = plain_step v.trace }
 
   -- the home raised the tail, with this block in the slot in front
-  abbrev pub publishing : ℕ × List Event → Event → View T → List (ℕ × Option T) → View T
-  publishing since e v [] = v
-  publishing since e v ((p, None) ∷ cs) = v
-  publishing since e v ((p, Some b) ∷ cs) = record v {
+  abbrev pub publishing : ℕ × List Event → List Event → View T → List (ℕ × Option T) → View T
+  publishing since acts v [] = v
+  publishing since acts v ((p, None) ∷ cs) = v
+  publishing since acts v ((p, Some b) ∷ cs) = record v {
     role = with_published v.role;
     hand = rest_of v.hand;
     kept = (p, b) ∷ v.kept;
-    trace = after_event since e (plain_step v.trace);
+    trace = after_events since acts (plain_step v.trace);
   }
 
   -- the slot of the place is in front
@@ -131,10 +131,10 @@ module _ {T : Type 0} where
   abbrev pub closed : Seated T → Seated T → Type 0
   closed m n = n ≡ (closing m.0, [])
 
-  module _ {M : Type 0} (mark : T → M) where
-    -- the event of publishing the place in front
-    abbrev pub next_publication : View T → Event
-    next_publication v = publication (first_of v.hand) (marked mark (first_of v.hand) v.kept)
+  module _ {M : Type 0} (before : Before) (mark : T → M) where
+    -- the events of publishing the place in front
+    abbrev pub next_publication : View T → List Event
+    next_publication v = publication before (first_of v.hand) (marked mark (first_of v.hand) v.kept)
 
     abbrev pub published : Seated T → Seated T → Type 0
     published m n = (since : ℕ × List Event) × (n ≡ (publishing since (next_publication m.0) m.0 m.1, rest m.1))

@@ -55,9 +55,14 @@ abbrev pub with_own : ℕ → List ℕ → List ℕ
 with_own seat [] = seat ∷ []
 with_own seat (x ∷ xs) = x ∷ xs
 
--- the seat with the number `since.0` made this event, after the events `since.1` of other seats
+-- the seat with the number `since.0` made these events, the newest first, after the events
+-- `since.1` of other seats
+abbrev pub after_events : ℕ × List Event → List Event → Trace → Trace
+after_events since acts t = record t { run = acts ++ (since.1 ++ t.run); seats = with_own since.0 t.seats }
+
+-- the seat made this event alone
 abbrev pub after_event : ℕ × List Event → Event → Trace → Trace
-after_event since e t = record t { run = e ∷ since.1 ++ t.run; seats = with_own since.0 t.seats }
+after_event since e t = after_events since (e ∷ []) t
 
 -- the first run is no longer than the second
 abbrev pub is_no_longer : List Event → List Event → Bool

@@ -1,5 +1,5 @@
 //! Laws of the ownership machine and of the rule, as contracts of functions without a body.
-ghost use Rattle.std.specs.Prelude.{◌≡◌, ◌≢◌, ℕ, ◌<◌, List, [], length};
+ghost use Rattle.std.specs.Prelude.{◌≡◌, ◌≢◌, ℕ, ◌<◌, List, [], ◌∷◌, length};
 ghost use Rattle.zy_shuffle.specs.Ownership.{Owners, no_requests, happens, IsSound, Runs, idle};
 ghost use Rattle.zy_shuffle.specs.declared.ring.view.Event.{Event};
 ghost use Rattle.zy_shuffle.specs.ShuffleRule.{RingState, ShuffleRule};
@@ -7,6 +7,10 @@ ghost use Rattle.zy_shuffle.specs.OnePlace.{IsBounded, HasOneHand, IsOnceQueued,
 ghost use Rattle.zy_shuffle.specs.OnePlace.{IsOpen, NoneIsLost};
 ghost use Rattle.zy_shuffle.specs.OneStep.{Ruled, run_of, owners_of, KnowsHeld};
 ghost use Rattle.zy_shuffle.specs.OneStep.{HaveNoEvents, IsNoEvent, IsEvent, GrowsBy, LeadsBy, IsGiven, IsJoined};
+ghost use Rattle.zy_shuffle.specs.OneStep.{AreEvents, GrowsByAll, LeadsByAll, HasOneRequest};
+ghost use Rattle.zy_shuffle.specs.OneStep.{IsPublication, ArrivesIdle, WasPublished, BecomesReady, idling_of};
+ghost use Rattle.zy_shuffle.specs.Run.{was_idle, was_held};
+ghost use Rattle.zy_shuffle.specs.declared.ring.view.Event.TheVariants.{Arrive, Settle};
 
 use crate::marked::Marked;
 
@@ -83,6 +87,38 @@ pub fn a_step_without_an_event_leaves_the_machine<T: Marked>()
 pub fn a_step_with_an_event_is_that_event<T: Marked>()
     ensures run { (s t : Ruled T.mark T.label) (id : ℕ) (e : ℕ → Event) → IsEvent id e s t → GrowsBy (e id) s t }
     ensures state { (s t : Ruled T.mark T.label) (id : ℕ) (e : ℕ → Event) → IsEvent id e s t → LeadsBy (e id) s t }
+{}
+
+/// A step in which a seat made several events is these events: the run grows by them alone, in their
+/// order, and they lead from the state that the table showed to the one that it shows.
+pub fn a_step_with_events_is_these_events<T: Marked>()
+    ensures run { (s t : Ruled T.mark T.label) (id : ℕ) (acts : ℕ → List Event) → AreEvents id acts s t
+        → GrowsByAll (acts id) s t }
+    ensures state { (s t : Ruled T.mark T.label) (id : ℕ) (acts : ℕ → List Event) → AreEvents id acts s t
+        → LeadsByAll (acts id) s t }
+{}
+
+/// A publication of a connection that was idle is its arrival: the run grows by the events with which
+/// it became idle, if it was ever published, and by the arrival of one request while it is idle.
+pub fn a_publication_of_an_idle_connection_is_its_arrival<T: Marked>()
+    ensures run { (s t : Ruled T.mark T.label) (place : ℕ) → IsPublication was_idle place s t
+        → GrowsByAll (Arrive place 1 ∷ idling_of place s) s t }
+    ensures state { (s t : Ruled T.mark T.label) (place : ℕ) → place < length s.0.homes
+        → IsPublication was_idle place s t → ArrivesIdle place s t }
+{}
+
+/// A publication of a connection that was held settles it, if it was published before: the home held
+/// it, and then it is ready.
+pub fn a_publication_of_a_held_connection_settles_it<T: Marked>()
+    ensures run { (s t : Ruled T.mark T.label) (place : ℕ) → WasPublished place s
+        → IsPublication was_held place s t → GrowsBy (Settle place) s t }
+    ensures state { (s t : Ruled T.mark T.label) (place : ℕ) → place < length s.0.homes → WasPublished place s
+        → IsPublication was_held place s t → BecomesReady place s t }
+{}
+
+/// A connection that is not idle has one unfinished request.
+pub fn a_busy_connection_has_one_request<T: Marked>()
+    ensures value { (s : Ruled T.mark T.label) (place : ℕ) → place < length s.0.homes → HasOneRequest place s }
 {}
 
 /// Giving a pass, or joining one, is no event.

@@ -10,5 +10,5 @@ mod ring;
 
 pub use claim::Claim;
 pub use left::Left;
-pub use marked::{Label, Marked};
+pub use marked::{Label, Marked, Publishing, WasHeld, WasIdle};
 pub use ring::{CorePass, HomePass, Ring};

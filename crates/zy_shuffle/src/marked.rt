@@ -15,6 +15,32 @@ pub trait Marked {
     ghost label: { Self → Name };
 }
 
+/// The state of a connection before its home publishes it, for contracts alone. The caller names it
+/// by a marker type, which does not exist at run time.
+pub trait Publishing {
+    ghost use Rattle.zy_shuffle.specs.Run.{Before};
+
+    ghost before: { Before };
+}
+
+/// All that had arrived was finished, and the home had settled the connection, until something new came.
+pub struct WasIdle;
+
+impl Publishing for WasIdle {
+    ghost use Rattle.zy_shuffle.specs.Run.{was_idle};
+
+    ghost before = { was_idle };
+}
+
+/// The home took the connection from the queue or from its doorbell, and something is left to do.
+pub struct WasHeld;
+
+impl Publishing for WasHeld {
+    ghost use Rattle.zy_shuffle.specs.Run.{was_held};
+
+    ghost before = { was_held };
+}
+
 /// The label that the maker of a ring names, for contracts alone. It is named by a marker type,
 /// which does not exist at run time.
 pub trait Label {

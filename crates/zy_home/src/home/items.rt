@@ -13,7 +13,7 @@ use std::mem;
 use zy_base::NoMemory;
 use zy_conn::Block;
 use zy_rx::{Outlet, Rx};
-use zy_shuffle::Ring;
+use zy_shuffle::{Ring, WasIdle};
 
 // The most items that a call receives.
 const ITEMS_AT_ONCE: u32 = 64;
@@ -177,7 +177,7 @@ impl Home {
         let Some(block) = mem::replace(slot, None) else {
             return Ok(());
         };
-        if let Err(e) = settle_at(ring, pass, slot, link, place as u32, block) {
+        if let Err(e) = settle_at::<WasIdle>(ring, pass, slot, link, place as u32, block) {
             return Err(e);
         }
         Ok(())

@@ -1,5 +1,6 @@
 //! Settling blocks: those that come back, and those that the home claims itself.
 ghost use Rattle.std.specs.Prelude.{◌≡◌, ◌<◌, ◌^◌, List, true, false, OnOk, OnErr, IfOk, is_err};
+ghost use Rattle.zy_shuffle.specs.Run.{was_held};
 ghost use Rattle.zy_conn.specs.Block.{label_of};
 ghost use Rattle.zy_home.specs.Home.{SameHome, StandsHome, all_here};
 ghost use Rattle.zy_home.specs.Place.{IsOut, Settles, PutsBack, StaysIn, Looked, CollectsTo, OwnsTo};
@@ -10,7 +11,7 @@ use crate::place::{put, settle_at};
 use mc_store::StoreTable;
 use zy_base::{Gate, NoMemory};
 use zy_conn::Block;
-use zy_shuffle::{Claim, Ring};
+use zy_shuffle::{Claim, Ring, WasHeld};
 
 impl Home {
     /// Settles the block of a place of the home's hand: its batch is carried out, waiting frames
@@ -21,7 +22,7 @@ impl Home {
         requires few { self.old.pass.count < 2 ^ 63 }
         requires live { self.old.refused ≡ false }
         requires out { IsOut self.old place block }
-        ensures settled { OnOk result (Settles place block self.old self.new) }
+        ensures settled { OnOk result (Settles was_held place block self.old self.new) }
         ensures stands { OnOk result (StandsHome self.old self.new) }
         ensures same { SameHome self.old self.new × (self.new.ended ≡ self.old.ended) }
         ensures refused { self.new.refused ≡ is_err result }
@@ -29,7 +30,7 @@ impl Home {
     {
         let at = place as usize;
         let (pass, slot, link) = (&mut self.pass, &mut self.blocks[at], &mut self.links[at]);
-        match settle_at(ring, pass, slot, link, place, block) {
+        match settle_at::<WasHeld>(ring, pass, slot, link, place, block) {
             Ok(()) => Ok(()),
             Err(e) => {
                 self.refused = true;

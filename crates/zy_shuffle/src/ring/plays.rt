@@ -6,7 +6,7 @@ ghost use Rattle.zy_shuffle.specs.Step.{published, claimed, collected, fronted, 
 ghost use Rattle.zy_shuffle.specs.Step.{named_as, closed, splitting, newcomer, taken_in};
 
 use super::view::View;
-use crate::marked::{Label, Marked};
+use crate::marked::{Label, Marked, Publishing};
 use atomic_table::{Join, Play, Split};
 use std::marker::{Brand, PhantomData};
 
@@ -45,12 +45,14 @@ impl<T> Play<Option<T>, View<T>> for StoresCell {
     ghost then = { λ st m r n. stored_cell st m n };
 }
 
-/// A store of the tail: a request arrives at a connection that was never published, or the
-/// connection is settled, with a request left.
-pub struct Publishes;
+/// A store of the tail: a request arrives at a connection that was idle, or a connection that was
+/// held is settled, with a request left.
+pub struct Publishes<B> {
+    marker: PhantomData<B>,
+}
 
-impl<T: Marked> Play<Option<T>, View<T>> for Publishes {
-    ghost then = { λ st m r n. published T.mark m n };
+impl<T: Marked, B: Publishing> Play<Option<T>, View<T>> for Publishes<B> {
+    ghost then = { λ st m r n. published B.before T.mark m n };
 }
 
 /// The place that a call names for contracts.

@@ -15,26 +15,27 @@ use super::plays::{
 use super::view::View;
 use super::{CELLS, CorePass, HEAD, HomePass, Ring, TAIL};
 use crate::claim::Claim;
-use crate::marked::Marked;
+use crate::marked::{Marked, Publishing};
 use atomic_table::Seat;
 use std::marker::Brand;
 
 impl<T: Marked> Ring<T> {
-    /// Puts the place, with its block, at the end of the queue. It cannot fail.
-    pub fn publish(&self, home: &mut HomePass<T>, place: u32, block: T)
+    /// Puts the place, with its block, at the end of the queue. It cannot fail. `B` says for
+    /// contracts what the connection was before: `WasIdle` or `WasHeld`.
+    pub fn publish<B: Publishing>(&self, home: &mut HomePass<T>, place: u32, block: T)
         requires within { home.old.table ≡ self.now.id }
         requires hand { is_in place home.old.hand ≡ true }
         requires few { home.old.count < 2 ^ 63 }
         requires label { T.label block ≡ home.old.label }
         ensures value { home.new ≡ after_publish place block home.old home.new.trace }
-        ensures event { PublishMakes T.mark place home.old home.new }
+        ensures event { PublishMakes B.before T.mark place home.old home.new }
     {
         let words = &self.table.shared;
         let at = (home.tail % self.places as u64) as usize;
         words.store::<StoresCell>(&mut home.seat, CELLS + at, place as u64);
         let old = words.exchange(&mut home.seat, place as usize, Some(block));
         let None = old else { unreachable!() };
-        words.store::<Publishes>(&mut home.seat, TAIL, home.tail + 1);
+        words.store::<Publishes<B>>(&mut home.seat, TAIL, home.tail + 1);
         home.tail += 1;
     }
 

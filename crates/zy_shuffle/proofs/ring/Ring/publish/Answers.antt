@@ -32,9 +32,9 @@ store-requires-2 g c =
     let i = c.self.invariant in (
       search rules,
       omega arith,
-      stores_tail_as g.T.Marked.mark g.T.Marked.label c.home.inside.seat.table_id.slots _ _ c.args.place (32 + c.home.inside.tail % c.self.inside.places) c.home.inside.tail c.args.block c.home.inside.seat.me c.store.new.seat.me c.exchange-old.new.seat.me c.home.invariant c.store.ensures.2 c.exchange-old.ensures.3 (c.requires.label ∙ ap (λ v. v.label) (sym c.home.view_is)),
+      stores_tail_as g.T.Marked.mark g.T.Marked.label g.B.Publishing.before c.home.inside.seat.table_id.slots _ _ c.args.place (32 + c.home.inside.tail % c.self.inside.places) c.home.inside.tail c.args.block c.home.inside.seat.me c.store.new.seat.me c.exchange-old.new.seat.me c.home.invariant c.store.ensures.2 c.exchange-old.ensures.3 (c.requires.label ∙ ap (λ v. v.label) (sym c.home.view_is)),
     )
 
 pub invariant_of-home : goal.invariant_of-home
 invariant_of-home g c =
-    home_published g.T.Marked.mark _ _ c.self.inside.table.shared.table_id.slots (32 + c.home.inside.tail % c.self.inside.places) c.args.place c.home.inside.tail c.args.block c.home.inside.seat.me c.store.new.seat.me c.exchange-old.new.seat.me c.store-2.new.seat.me (ap (λ z. z.slots) (c.store-2.ensures.0 ∙ c.exchange-old.ensures.0 ∙ c.store.ensures.0)) c.home.invariant c.store.ensures.2 c.exchange-old.ensures.3 c.store-2.ensures.2
+    home_published g.B.Publishing.before g.T.Marked.mark _ _ c.self.inside.table.shared.table_id.slots (32 + c.home.inside.tail % c.self.inside.places) c.args.place c.home.inside.tail c.args.block c.home.inside.seat.me c.store.new.seat.me c.exchange-old.new.seat.me c.store-2.new.seat.me (ap (λ z. z.slots) (c.store-2.ensures.0 ∙ c.exchange-old.ensures.0 ∙ c.store.ensures.0)) c.home.invariant c.store.ensures.2 c.exchange-old.ensures.3 c.store-2.ensures.2
