@@ -1,6 +1,6 @@
 //! Making traffic.
-ghost use Rattle.std.specs.Prelude.{◌≡◌, ◌≤◌, Some};
-ghost use Rattle.zy_base.specs.Outside.{WritesLast};
+ghost use Rattle.std.specs.Prelude.{◌≡◌, ◌≤◌, ℕ, List, Some};
+ghost use Rattle.zy_base.specs.Outside.{Writes, WritesLast};
 ghost use Rattle.zy_command_line.specs.Range.{IsMakeable};
 ghost use Rattle.zy_command_line.specs.declared.request.Request.TheVariants as Requests;
 ghost use Rattle.zy_serving.specs.Seen.{Side, side, seen};
@@ -36,6 +36,19 @@ pub(crate) fn write_last<K: Sink>(sink: &mut K, piece: &[u8]) -> Result<(), Fail
     ensures writes { WritesLast K.holds K.faults K.finishes K.is_finished sink.old sink.new result
         piece.now }
 {
-    write_whole(sink, piece)?;
+    let written = write_whole(sink, piece);
+    finish_written(sink, written)
+}
+
+/// Finishes the sink, if all of a text was written to it.
+pub(crate) fn finish_written<K: Sink>(
+    sink: &mut K,
+    written: Result<(), Failed>,
+) -> Result<(), Failed>
+    ensures writes { (first : _) (text : List ℕ)
+        → Writes K.holds K.faults K.finishes first sink.old written text
+        → WritesLast K.holds K.faults K.finishes K.is_finished first sink.new result text }
+{
+    written?;
     sink.finish()
 }

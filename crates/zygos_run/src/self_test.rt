@@ -9,6 +9,7 @@ ghost use Rattle.zygos_run.specs.Ends.{Ends, LeavesSink};
 ghost use Rattle.zygos_run.specs.Lines.{summary_line};
 
 use crate::answer::Answer;
+use crate::generate::finish_written;
 use crate::lines::write_summary;
 use std::alloc::Global;
 use std::sync::Wait;
@@ -49,6 +50,6 @@ fn write_line<K: Sink>(sink: &mut K, summary: &Summary) -> Result<(), Failed>
     ensures writes { WritesLast K.holds K.faults K.finishes K.is_finished sink.old sink.new result
         (summary_line summary.now) }
 {
-    write_summary(sink, summary)?;
-    sink.finish()
+    let written = write_summary(sink, summary);
+    finish_written(sink, written)
 }
