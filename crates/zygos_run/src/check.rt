@@ -10,8 +10,8 @@ ghost use Rattle.zygos_run.specs.Checks.{ChecksTo};
 ghost use Rattle.zygos_run.specs.Lines.{verdict_line};
 
 use crate::answer::Answer;
-use crate::generate::finish_written;
 use crate::lines::write_verdict;
+use crate::writing::finish_written;
 use std::alloc::Global;
 use zy_base::{Failed, Sink, Source};
 use zy_check::{Verdict, check};

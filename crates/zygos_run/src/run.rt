@@ -12,7 +12,7 @@ ghost use Rattle.zygos_run.specs.Ends.{Ends, LeavesSink};
 ghost use Rattle.zy_serving.specs.Headline.{front, written};
 
 use crate::answer::Answer;
-use crate::generate::finish_written;
+use crate::writing::finish_written;
 use std::alloc::Global;
 use std::sync::Wait;
 use std::thread::Threads;

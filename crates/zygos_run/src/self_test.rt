@@ -9,8 +9,8 @@ ghost use Rattle.zygos_run.specs.Ends.{Ends, LeavesSink};
 ghost use Rattle.zygos_run.specs.Lines.{summary_line};
 
 use crate::answer::Answer;
-use crate::generate::finish_written;
 use crate::lines::write_summary;
+use crate::writing::finish_written;
 use std::alloc::Global;
 use std::sync::Wait;
 use std::thread::Threads;
