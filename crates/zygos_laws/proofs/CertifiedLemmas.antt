@@ -1,6 +1,6 @@
 -- What was served checks, and what checks is of a run.
 use Rattle.std.specs.Prelude.{Option, None, Some}
-use Rattle.std.proofs.Common.{◌≡◌, ℕ, ◌<◌, ◌≤◌, List, [], ◌∷◌, ◌++◌, length, refl, sym, ap, subst}
+use Rattle.std.proofs.Common.{◌≡◌, ℕ, ◌≤◌, List, ◌++◌, length, refl, sym, ap, subst}
 use Rattle.zy_read.specs.Bytes.{AreBytes}
 use Rattle.zy_read.proofs.ByteLemmas.{bytes_front, bytes_back}
 use Rattle.zy_capture.specs.Outputs.{AllOutputs, AreOutputs}

@@ -29,7 +29,7 @@ pub fn the_headline_is_of_a_run()
     ensures run { (request : Option Request) (call : Seen) (journal : Journal)
         → HeadlineHolds request call journal
         ↔ ((asked : Run) × (out : Out) × (request ≡ Some (Requests.Run asked out))
-            × OfTold call.source (λ bytes. IsWritten asked out bytes journal (Takes call.sink))) }
+        × OfTold call.source (λ bytes. IsWritten asked out bytes journal (Takes call.sink))) }
 {}
 
 /// The text of a served run's journal has at most 2^63 - 1 bytes, and so has its replies file.
