@@ -20,7 +20,6 @@ use Rattle.zy_finish.specs.Finish.{IsHoldBy}
 use Rattle.zy_command_line.specs.declared.request.Run.{Run}
 use Rattle.zy_command_line.specs.declared.request.Out.{Out}
 use Rattle.zy_command_line.specs.declared.request.Out.TheVariants.{Replies, Both}
-use Rattle.zy_serving.specs.Seen.{Side, Takes, TakesPart}
 
 -- the outputs of all connections of these records, by the replies in the entries
 abbrev pub outputs_of : ℕ → ℕ → List Record → List Entry → AllOutputs
@@ -61,15 +60,9 @@ pub record IsServed (asked : Run) (bytes : List ℕ) (journal : Journal) (output
   -- so are the outputs
   pub lawful : AreOutputs outputs
 
--- the same, and all that is expected of it was written
-pub record IsWritten (asked : Run) (out : Out) (bytes : List ℕ) (journal : Journal) (sink : Side) : Type 0 where
+-- the same, and this is so of the text that is expected of it
+pub record IsWritten (asked : Run) (out : Out) (bytes : List ℕ) (journal : Journal)
+    (Writes : List ℕ → Type 0) : Type 0 where
   pub outputs : AllOutputs
   pub served : IsServed asked bytes journal outputs
-  pub wrote : Takes sink (written out journal outputs)
-
--- the same, and a prefix of it was written
-pub record IsPartWritten (asked : Run) (out : Out) (bytes : List ℕ) (sink : Side) : Type 0 where
-  pub journal : Journal
-  pub outputs : AllOutputs
-  pub served : IsServed asked bytes journal outputs
-  pub wrote : TakesPart sink (written out journal outputs)
+  pub wrote : Writes (written out journal outputs)

@@ -1,6 +1,6 @@
 -- What was served checks, and what checks is of a run.
-use Rattle.std.specs.Prelude.{Option, Some}
-use Rattle.std.proofs.Common.{◌≡◌, ℕ, ◌<◌, ◌≤◌, List, [], ◌∷◌, ◌++◌, length, refl, ap, subst, arith}
+use Rattle.std.specs.Prelude.{Option, None, Some}
+use Rattle.std.proofs.Common.{◌≡◌, ℕ, ◌<◌, ◌≤◌, List, ◌++◌, length, refl, sym, ap, subst, arith}
 use Rattle.zy_read.specs.Bytes.{AreBytes}
 use Rattle.zy_read.proofs.ByteLemmas.{bytes_front, bytes_back}
 use Rattle.zy_capture.specs.Outputs.{AllOutputs, AreOutputs}
@@ -33,9 +33,9 @@ use Rattle.zy_command_line.specs.declared.request.Out.{Out}
 use Rattle.zy_command_line.specs.declared.request.Out.TheVariants.{Both}
 use Rattle.zy_command_line.specs.declared.request.Request.{Request}
 use Rattle.zy_command_line.specs.declared.request.Request.TheVariants as Requests
-use Rattle.zy_serving.specs.Seen.{Seen, OfReported}
+use Rattle.zy_serving.specs.Seen.{Seen, Takes, OfReported, OfTold}
 use Rattle.zy_serving.specs.Headline.{IsServed, IsWritten, written}
-use Rattle.zygos_run.specs.Ends.{IsChecked}
+use Rattle.zygos_run.specs.Checked.{IsChecked}
 use Rattle.zygos_run.specs.Served.{HeadlineHolds}
 use Rattle.zygos_laws.specs.Certified.{IsInputOfRun, IsCertified}
 
@@ -73,12 +73,24 @@ module _ (asked : Run) (bytes : List ℕ) (journal : Journal) (outputs : AllOutp
     verdict_is = run_is_right (given_of asked.shards is.count is.records journal outputs) (of_records asked.shards is.count is.records journal outputs of_run);
   }
 
+-- the headline is of a run
+pub headline_run : (request : Option Request) (call : Seen) (journal : Journal) → HeadlineHolds request call journal
+    → (asked : Run) × (out : Out) × (request ≡ Some (Requests.Run asked out)) × OfTold call.source (λ bytes. IsWritten asked out bytes journal (Takes call.sink))
+headline_run None call journal holds = absurd holds
+headline_run (Some (Requests.Run asked out)) call journal holds = (asked, out, refl, holds)
+headline_run (Some request) call journal holds = absurd holds
+
+pub run_headline : (request : Option Request) (call : Seen) (journal : Journal)
+    → ((asked : Run) × (out : Out) × (request ≡ Some (Requests.Run asked out)) × OfTold call.source (λ bytes. IsWritten asked out bytes journal (Takes call.sink)))
+    → HeadlineHolds request call journal
+run_headline request call journal run = subst (λ r. HeadlineHolds r call journal) (sym run.2) run.3
+
 -- what the headline says of bytes that are reported
 written_of : (asked : Run) (out : Out) (call : Seen) (bytes : List ℕ) (journal : Journal) (request : Option Request) → request ≡ Some (Requests.Run asked out) → call.source.before ≡ Some bytes
-    → HeadlineHolds request call journal → IsWritten asked out bytes journal call.sink
+    → HeadlineHolds request call journal → IsWritten asked out bytes journal (Takes call.sink)
 written_of asked out call bytes journal request is told holds =
     let run : HeadlineHolds (Some (Requests.Run asked out)) call journal = subst (λ r. HeadlineHolds r call journal) is holds in
-    (subst (λ (before : Option (List ℕ)). OfReported before call.source.after (λ b. IsWritten asked out b journal call.sink)) told run).1
+    (subst (λ (before : Option (List ℕ)). OfReported before call.source.after (λ b. IsWritten asked out b journal (Takes call.sink))) told run).1
 
 pub certified_of : (asked : Run) (out : Out) (call : Seen) (bytes : List ℕ) (journal : Journal) (request : Option Request) → (request ≡ Some (Requests.Run asked out) → IsRunnable asked)
     → request ≡ Some (Requests.Run asked out) → call.source.before ≡ Some bytes → HeadlineHolds request call journal → IsCertified asked out bytes journal call.sink

@@ -13,7 +13,7 @@ use Rattle.zy_command_line.specs.declared.request.Out.{Out}
 use Rattle.zy_command_line.specs.declared.request.Out.TheVariants.{Both}
 use Rattle.zy_serving.specs.Seen.{Side, Takes}
 use Rattle.zy_serving.specs.Headline.{written}
-use Rattle.zygos_run.specs.Ends.{IsChecked}
+use Rattle.zygos_run.specs.Checked.{IsChecked}
 
 -- the bytes are a capture, a journal and a replies file, one after the other, and the capture's records have a run
 -- with this journal and these outputs

@@ -1,5 +1,5 @@
 //! Laws of served runs and of checks: each is the contract of a function without a body.
-ghost use Rattle.std.specs.Prelude.{◌≡◌, ◌<◌, ◌≤◌, ◌++◌, ℕ, List, length, Some};
+ghost use Rattle.std.specs.Prelude.{◌≡◌, ◌<◌, ◌≤◌, ◌++◌, ◌↔◌, ℕ, List, length, Option, Some};
 ghost use Rattle.zy_read.specs.Bytes.{AreBytes};
 ghost use Rattle.zy_capture.specs.Outputs.{AllOutputs, AreOutputs};
 ghost use Rattle.zy_capture.specs.Replies.{replies_bytes, replies_limit};
@@ -15,12 +15,22 @@ ghost use Rattle.zy_command_line.specs.Request.{request_of};
 ghost use Rattle.zy_command_line.specs.declared.request.Run.{Run};
 ghost use Rattle.zy_command_line.specs.declared.request.Out.{Out};
 ghost use Rattle.zy_command_line.specs.declared.request.Out.TheVariants.{Both};
+ghost use Rattle.zy_command_line.specs.declared.request.Request.{Request};
 ghost use Rattle.zy_command_line.specs.declared.request.Request.TheVariants as Requests;
-ghost use Rattle.zy_serving.specs.Seen.{Seen};
-ghost use Rattle.zy_serving.specs.Headline.{IsServed, written};
-ghost use Rattle.zygos_run.specs.Ends.{IsChecked};
+ghost use Rattle.zy_serving.specs.Seen.{Seen, Takes, OfTold};
+ghost use Rattle.zy_serving.specs.Headline.{IsServed, IsWritten, written};
+ghost use Rattle.zygos_run.specs.Checked.{IsChecked};
 ghost use Rattle.zygos_run.specs.Served.{HeadlineHolds};
 ghost use Rattle.zygos_laws.specs.Certified.{IsInputOfRun, IsCertified};
+
+/// The headline says of a run that was asked for, and of no other command, that it was served of all bytes
+/// that the source reported, and that all of it was written.
+pub fn the_headline_is_of_a_run()
+    ensures run { (request : Option Request) (call : Seen) (journal : Journal)
+        → HeadlineHolds request call journal
+        ↔ ((asked : Run) × (out : Out) × (request ≡ Some (Requests.Run asked out))
+        × OfTold call.source (λ bytes. IsWritten asked out bytes journal (Takes call.sink))) }
+{}
 
 /// The text of a served run's journal has fewer than 2^63 - 1 bytes, and so has its replies file.
 pub fn a_served_run_has_short_files()

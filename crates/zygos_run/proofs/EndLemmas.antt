@@ -1,36 +1,80 @@
 -- What follows from how a call ends: of the bytes that its source reported, and of answers that must come.
-use Rattle.std.proofs.Common.{◌≡◌, ℕ, List, ◌++◌, refl, sym, ◌∙◌, ap, subst, ◌⊎◌, inl, inr}
-use Rattle.std.specs.Prelude.{Option, None, Some, IfSome}
+use Rattle.std.proofs.Common.{◌≡◌, ℕ, List, ◌++◌, refl, sym, ◌∙◌, ap, subst, inl, inr, true≢false}
+use Rattle.std.specs.Prelude.{Option, None, Some, IfSome, IsSome, IsSomeAnd}
 use Rattle.std.specs.Io.KnownBytes.{Consumes, IsAtEnd}
 use Rattle.std.proofs.lemmas.List.{append-nil}
-use Rattle.zy_capture.specs.declared.capture_fault.CaptureFault.{CaptureFault}
 use Rattle.zy_capture.specs.declared.record.Record.{Record}
 use Rattle.zy_capture.specs.Outputs.{AllOutputs}
-use Rattle.zy_capture.specs.Verdict.{verdict}
-use Rattle.zy_capture.specs.Verdict.Verdict.{Good, Bad}
-use Rattle.zy_journal.specs.declared.journal.Journal.{Journal}
-use Rattle.zy_check.specs.declared.verdict.Verdict.{Verdict as Certified}
+use Rattle.zy_capture.specs.Verdict as Captures
+use Rattle.zy_journal.specs.declared.journal.Journal.{Journal as OneJournal}
 use Rattle.zy_check_input.specs.declared.stop.Refusal.{Refusal}
-use Rattle.zy_check_input.specs.declared.stop.Refusal.TheVariants as Refusals
+use Rattle.zy_check_input.specs.declared.stop.Refusal.TheVariants.{Capture, Journal, Pcap}
 use Rattle.zy_check_input.specs.Parts.{AreParts, HasPartFault}
 use Rattle.zy_read.proofs.SourceLemmas.{told_all}
-use Rattle.zy_command_line.specs.declared.request.Run.{Run}
-use Rattle.zy_command_line.specs.declared.request.Out.{Out}
 use Rattle.zy_command_line.specs.declared.request.Request.{Request}
-use Rattle.zy_command_line.specs.declared.request.Request.TheVariants as Requests
+use Rattle.zy_command_line.specs.declared.request.Request.TheVariants.{Run, Check, Gen, Pcap as PcapOf, Report, SelfTest}
+use Rattle.zy_pcap.specs.Packet.{Packet}
+use Rattle.zy_pcap.specs.Packets as Recorded
+use Rattle.zy_journal_reader.specs.Verdict as Journals
+use Rattle.zy_serving.specs.Seen.{Side, Seen, NoneRose, Takes, OfGiven, OfReported, OfTold}
 use Rattle.zygos_run.specs.declared.answer.Answer.{Answer}
 use Rattle.zygos_run.specs.declared.answer.Answer.TheVariants.{Served, Checked, Made, Tested, Usage, Refused, ReadFault, WriteFault, OutOfMemory}
-use Rattle.zy_pcap.specs.declared.pcap_fault.PcapFault.{PcapFault}
-use Rattle.zy_pcap.specs.Packets.{packets}
-use Rattle.zy_pcap.specs.Packets as Recorded
-use Rattle.zy_base.specs.declared.file_fault.FileFault.{FileFault}
-use Rattle.zy_journal_reader.specs.Verdict as Journals
-use Rattle.zygos_run.specs.Recorded.{IsRecorded}
-use Rattle.zygos_run.specs.Reported.{IsReported}
-use Rattle.zy_serving.specs.Headline.{IsWritten}
-use Rattle.zy_serving.specs.Seen.{Side, Seen, NoneRose, Takes, OfGiven, OfReported, OfTold}
-use Rattle.zygos_run.specs.Ends.{IsChecked, HasServed, HasChecked, HasMade, HasFault, MayRefuse, Ends}
-use Rattle.zygos_run.specs.Served.{HeadlineHolds, CheckHolds, ReportHolds, IsToldGood, IsToldBad, IsDoneOr, IsRefusedOr, IsUsageOr}
+use Rattle.zygos_run.specs.Input.{Input, HasFault, IsFaultless, IsRefusedFor}
+use Rattle.zygos_run.specs.Input.Input.{CaptureInput, CheckInput, PacketsInput, JournalInput}
+use Rattle.zygos_run.specs.Task.{Task, task_of, input_of}
+use Rattle.zygos_run.specs.Ends.{OfInput, CarriesOut, IsFaultOf, Ends}
+use Rattle.zygos_run.specs.Served.{IsToldGood, IsToldBad, IsDone, IsDoneOr, IsRefusedOr, IsUsageOr}
+
+-- ---- inputs
+
+-- parts of a check's input have no fault
+abbrev pub PartsHaveNone : Type 0
+PartsHaveNone = (text : List ℕ) (streams : List (List (List ℕ))) (journal : OneJournal) (outputs : AllOutputs) (refusal : Refusal) → AreParts text streams journal outputs → HasPartFault text refusal → ⊥
+
+-- a check's input has one fault at most
+abbrev pub PartsHaveOne : Type 0
+PartsHaveOne = (text : List ℕ) (first second : Refusal) → HasPartFault text first → HasPartFault text second → first ≡ second
+
+-- a capture, recorded packets and a journal have no fault as such
+capture_faultless : (bytes : List ℕ) (version count : ℕ) (records : List Record) → Captures.verdict bytes ≡ Captures.Verdict.Good version count records → (refusal : Refusal) → HasFault CaptureInput refusal bytes → ⊥
+capture_faultless bytes version count records good (Capture fault) bad = let both : Captures.Verdict.Good version count records ≡ Captures.Verdict.Bad fault = sym good ∙ bad in cc
+capture_faultless bytes version count records good refusal bad = bad
+
+packets_faultless : (port : ℕ) (bytes : List ℕ) (given : List Packet) → Recorded.packets port bytes ≡ Recorded.Found.Packets given → (refusal : Refusal) → HasFault (PacketsInput port) refusal bytes → ⊥
+packets_faultless port bytes given good (Pcap fault) bad = let both : Recorded.Found.Packets given ≡ Recorded.Found.Bad fault = sym good ∙ bad in cc
+packets_faultless port bytes given good refusal bad = bad
+
+journal_faultless : (bytes : List ℕ) (journal : OneJournal) → Journals.verdict bytes ≡ Journals.Verdict.Good journal → (refusal : Refusal) → HasFault JournalInput refusal bytes → ⊥
+journal_faultless bytes journal good (Journal fault) bad = let both : Journals.Verdict.Good journal ≡ Journals.Verdict.Bad fault = sym good ∙ bad in cc
+journal_faultless bytes journal good refusal bad = bad
+
+-- an input has one fault at most
+one_fault : PartsHaveOne → (input : Input) (bytes : List ℕ) (first second : Refusal) → HasFault input first bytes → HasFault input second bytes → first ≡ second
+one_fault one CaptureInput bytes (Capture f) (Capture g) x y =
+    let both : Captures.Verdict.Bad f ≡ Captures.Verdict.Bad g = sym x ∙ y in
+    let same : f ≡ g = cc in ap (λ h. Capture h) same
+one_fault one CaptureInput bytes (Capture f) second x y = absurd y
+one_fault one CaptureInput bytes first second x y = absurd x
+one_fault one CheckInput bytes first second x y = one bytes first second x y
+one_fault one (PacketsInput port) bytes (Pcap f) (Pcap g) x y =
+    let both : Recorded.Found.Bad f ≡ Recorded.Found.Bad g = sym x ∙ y in
+    let same : f ≡ g = cc in ap (λ h. Pcap h) same
+one_fault one (PacketsInput port) bytes (Pcap f) second x y = absurd y
+one_fault one (PacketsInput port) bytes first second x y = absurd x
+one_fault one JournalInput bytes (Journal f) (Journal g) x y =
+    let both : Journals.Verdict.Bad f ≡ Journals.Verdict.Bad g = sym x ∙ y in
+    let same : f ≡ g = cc in ap (λ h. Journal h) same
+one_fault one JournalInput bytes (Journal f) second x y = absurd y
+one_fault one JournalInput bytes first second x y = absurd x
+
+-- what is done is done of an input without a fault: a line for each row
+faultless : PartsHaveNone → (asked : Request) (bytes : List ℕ) (found : (task_of asked).Found) (Writes : List ℕ → Type 0) → (task_of asked).Does bytes found Writes → IfSome (task_of asked).reads (λ input. IsFaultless input bytes)
+faultless parts (Run run out) bytes found Writes does = capture_faultless bytes does.served.version does.served.count does.served.records does.served.capture
+faultless parts (Check shards) bytes found Writes does = λ refusal bad. parts bytes does.0.streams does.0.journal does.0.outputs refusal does.0.parts bad
+faultless parts (Gen traffic) bytes found Writes does = tt
+faultless parts (SelfTest traffic run) bytes found Writes does = tt
+faultless parts (PcapOf port) bytes found Writes does = packets_faultless port bytes does.given does.are
+faultless parts Report bytes found Writes does = journal_faultless bytes does.journal does.good
 
 -- ---- bytes that are reported
 
@@ -40,224 +84,106 @@ reported None after bytes P consumed end holds = tt
 reported (Some u) None bytes P consumed end holds = absurd consumed
 reported (Some u) (Some v) bytes P consumed end holds = (ap Some end, subst P (sym (consumed ∙ ap (λ (l : List ℕ). bytes ++ l) end ∙ append-nil bytes)) holds)
 
-told : (source : Side) (P : List ℕ → Type 0) → OfGiven source P → OfTold source P
-told source P given = reported source.before source.after given.0 P given.1.0 given.1.1 given.2
+told : (source : Side) (reads : Option Input) (P : List ℕ → Type 0) → OfInput reads (OfGiven source) P → OfInput reads (OfTold source) P
+told source None P given = given
+told source (Some input) P given = reported source.before source.after given.0 P given.1.0 given.1.1 given.2
 
-pub headline_of : (request : Option Request) (call : Seen) (journal : Journal) → HasServed request call journal → HeadlineHolds request call journal
-headline_of None call journal has = has
-headline_of (Some (Requests.Run run out)) call journal has = told call.source (λ bytes. IsWritten run out bytes journal call.sink) has
-headline_of (Some (Requests.Check shards)) call journal has = has
-headline_of (Some (Requests.Gen traffic)) call journal has = has
-headline_of (Some (Requests.SelfTest traffic run)) call journal has = has
-headline_of (Some (Requests.Pcap port)) call journal has = has
-headline_of (Some Requests.Report) call journal has = has
+told_found : (call : Seen) (task : Task) (found : Option task.Found) → IsSomeAnd found (λ f. OfInput task.reads (OfGiven call.source) (λ bytes. task.Does bytes f (Takes call.sink)))
+    → IsSomeAnd found (λ f. OfInput task.reads (OfTold call.source) (λ bytes. task.Does bytes f (Takes call.sink)))
+told_found call task None has = has
+told_found call task (Some f) has = told call.source task.reads (λ bytes. task.Does bytes f (Takes call.sink)) has
 
-pub check_of : (request : Option Request) (call : Seen) (found : Certified) → HasChecked request call found → CheckHolds request call found
-check_of None call found has = has
-check_of (Some (Requests.Run run out)) call found has = has
-check_of (Some (Requests.Check shards)) call found has = told call.source (λ bytes. IsChecked shards bytes found) has.0
-check_of (Some (Requests.Gen traffic)) call found has = has
-check_of (Some (Requests.SelfTest traffic run)) call found has = has
-check_of (Some (Requests.Pcap port)) call found has = has
-check_of (Some Requests.Report) call found has = has
-
-pub report_of_made : (request : Option Request) (call : Seen) → HasMade request call → ReportHolds request call
-report_of_made None call has = tt
-report_of_made (Some (Requests.Run run out)) call has = tt
-report_of_made (Some (Requests.Check shards)) call has = tt
-report_of_made (Some (Requests.Gen traffic)) call has = tt
-report_of_made (Some (Requests.SelfTest traffic run)) call has = tt
-report_of_made (Some (Requests.Pcap port)) call has = tt
-report_of_made (Some Requests.Report) call has = told call.source (λ bytes. IsReported bytes (λ table. Takes call.sink table)) has
+-- what was carried out of the bytes that the source gave was carried out of all that it reported
+pub told_of : (request : Option Request) (call : Seen) (answer : Answer) → CarriesOut request answer (OfGiven call.source) (Takes call.sink) → CarriesOut request answer (OfTold call.source) (Takes call.sink)
+told_of None call answer has = has
+told_of (Some asked) call answer has = told_found call (task_of asked) ((task_of asked).found_in answer) has
 
 -- ---- words that are not lawful
 
 pub unlawful_of : (call : Seen) (answer : Answer) → Ends None call answer → IsUsageOr answer
 unlawful_of call (Served journal) ends = absurd ends
-unlawful_of call (Checked found) ends = absurd ends
+unlawful_of call (Checked verdict) ends = absurd ends
 unlawful_of call Made ends = absurd ends
 unlawful_of call (Tested journal numbers) ends = absurd ends
 unlawful_of call Usage ends = inl refl
-unlawful_of call (Refused refusal) ends = absurd ends.0
-unlawful_of call ReadFault ends = absurd ends.0
+unlawful_of call (Refused refusal) ends = absurd ends
+unlawful_of call ReadFault ends = absurd (true≢false (sym ends.0))
 unlawful_of call WriteFault ends = absurd ends.0
 unlawful_of call OutOfMemory ends = inr refl
 
 -- ---- input that is good
 
--- good input has no fault
-no_fault : (request : Option Request) (reported : Option (List ℕ)) (refusal : Refusal) → IsToldGood request reported → MayRefuse request refusal → IfSome reported (HasFault request refusal) → ⊥
-no_fault None reported refusal good may fault = good
-no_fault (Some (Requests.Run run out)) None refusal good may fault = good
-no_fault (Some (Requests.Run run out)) (Some bytes) (Refusals.Capture f) good may fault = good f fault
-no_fault (Some (Requests.Run run out)) (Some bytes) (Refusals.Journal f) good may fault = may
-no_fault (Some (Requests.Run run out)) (Some bytes) (Refusals.Replies f) good may fault = may
-no_fault (Some (Requests.Run run out)) (Some bytes) (Refusals.Pcap f) good may fault = may
-no_fault (Some (Requests.Check shards)) None refusal good may fault = good
-no_fault (Some (Requests.Check shards)) (Some bytes) refusal good may fault = good refusal fault
-no_fault (Some (Requests.Gen traffic)) reported refusal good may fault = may
-no_fault (Some (Requests.SelfTest traffic run)) reported refusal good may fault = may
-no_fault (Some (Requests.Pcap port)) None refusal good may fault = good
-no_fault (Some (Requests.Pcap port)) (Some bytes) (Refusals.Pcap f) good may fault = good f fault
-no_fault (Some (Requests.Pcap port)) (Some bytes) (Refusals.Capture f) good may fault = may
-no_fault (Some (Requests.Pcap port)) (Some bytes) (Refusals.Journal f) good may fault = may
-no_fault (Some (Requests.Pcap port)) (Some bytes) (Refusals.Replies f) good may fault = may
-no_fault (Some Requests.Report) None refusal good may fault = good
-no_fault (Some Requests.Report) (Some bytes) (Refusals.Journal f) good may fault = good f fault
-no_fault (Some Requests.Report) (Some bytes) (Refusals.Capture f) good may fault = may
-no_fault (Some Requests.Report) (Some bytes) (Refusals.Replies f) good may fault = may
-no_fault (Some Requests.Report) (Some bytes) (Refusals.Pcap f) good may fault = may
+found_some : {T : Type 0} (found : Option T) (P : T → Type 0) → IsSomeAnd found P → IsSome found
+found_some None P has = absurd has
+found_some (Some f) P has = refl
 
--- there are words
-some_words : (request : Option Request) (reported : Option (List ℕ)) → IsToldGood request reported → request ≡ None → ⊥
-some_words None reported good none = good
-some_words (Some request) reported good none = absurd (cc)
+done : (request : Option Request) (call : Seen) (answer : Answer) → CarriesOut request answer (OfGiven call.source) (Takes call.sink) → IsDone request answer
+done None call answer has = has
+done (Some asked) call answer has =
+    found_some ((task_of asked).found_in answer) (λ f. OfInput (task_of asked).reads (OfGiven call.source) (λ bytes. (task_of asked).Does bytes f (Takes call.sink))) has
+
+-- good input is not refused
+good_input : (reads : Option Input) (reported : Option (List ℕ)) (refusal : Refusal) → IfSome reads (λ input. IsSomeAnd reported (λ bytes. IsFaultless input bytes)) → IsSomeAnd reads (λ input. IsRefusedFor input reported refusal) → ⊥
+good_input None reported refusal good refused = refused
+good_input (Some input) None refusal good refused = good
+good_input (Some input) (Some bytes) refusal good refused = good refusal refused.1
+
+not_refused : (request : Option Request) (reported : Option (List ℕ)) (refusal : Refusal) → IsToldGood request reported → IsFaultOf request reported refusal → ⊥
+not_refused None reported refusal good refused = good
+not_refused (Some asked) reported refusal good refused = good_input (task_of asked).reads reported refusal good refused
 
 pub done_of : (request : Option Request) (call : Seen) (answer : Answer) → IsToldGood request call.source.before → NoneRose call → Ends request call answer → IsDoneOr request answer
-done_of None call (Served journal) good none ends = absurd ends
-done_of (Some (Requests.Run run out)) call (Served journal) good none ends = inl tt
-done_of (Some (Requests.Check shards)) call (Served journal) good none ends = absurd ends
-done_of (Some (Requests.Gen traffic)) call (Served journal) good none ends = absurd ends
-done_of (Some (Requests.SelfTest traffic run)) call (Served journal) good none ends = absurd ends
-done_of (Some (Requests.Pcap port)) call (Served journal) good none ends = absurd ends
-done_of (Some Requests.Report) call (Served journal) good none ends = absurd ends
-done_of None call (Checked found) good none ends = absurd ends
-done_of (Some (Requests.Run run out)) call (Checked found) good none ends = absurd ends
-done_of (Some (Requests.Check shards)) call (Checked found) good none ends = inl tt
-done_of (Some (Requests.Gen traffic)) call (Checked found) good none ends = absurd ends
-done_of (Some (Requests.SelfTest traffic run)) call (Checked found) good none ends = absurd ends
-done_of (Some (Requests.Pcap port)) call (Checked found) good none ends = absurd ends
-done_of (Some Requests.Report) call (Checked found) good none ends = absurd ends
-done_of None call Made good none ends = absurd ends
-done_of (Some (Requests.Run run out)) call Made good none ends = absurd ends
-done_of (Some (Requests.Check shards)) call Made good none ends = absurd ends
-done_of (Some (Requests.Gen traffic)) call Made good none ends = inl tt
-done_of (Some (Requests.SelfTest traffic run)) call Made good none ends = absurd ends
-done_of (Some (Requests.Pcap port)) call Made good none ends = inl tt
-done_of (Some Requests.Report) call Made good none ends = inl tt
-done_of None call (Tested journal numbers) good none ends = absurd ends
-done_of (Some (Requests.Run run out)) call (Tested journal numbers) good none ends = absurd ends
-done_of (Some (Requests.Check shards)) call (Tested journal numbers) good none ends = absurd ends
-done_of (Some (Requests.Gen traffic)) call (Tested journal numbers) good none ends = absurd ends
-done_of (Some (Requests.SelfTest traffic run)) call (Tested journal numbers) good none ends = inl tt
-done_of (Some (Requests.Pcap port)) call (Tested journal numbers) good none ends = absurd ends
-done_of (Some Requests.Report) call (Tested journal numbers) good none ends = absurd ends
-done_of request call Usage good none ends = absurd (some_words request call.source.before good ends)
-done_of request call (Refused refusal) good none ends = absurd (no_fault request call.source.before refusal good ends.0 ends.1)
+done_of request call (Served journal) good none ends = inl (done request call (Served journal) ends)
+done_of request call (Checked verdict) good none ends = inl (done request call (Checked verdict) ends)
+done_of request call Made good none ends = inl (done request call Made ends)
+done_of request call (Tested journal numbers) good none ends = inl (done request call (Tested journal numbers) ends)
+done_of request call Usage good none ends = absurd (subst (λ r. IsToldGood r call.source.before) ends good)
+done_of request call (Refused refusal) good none ends = absurd (not_refused request call.source.before refusal good ends)
 done_of request call ReadFault good none ends = absurd (none.0 ends.1)
 done_of request call WriteFault good none ends = absurd (none.1 ends.1)
 done_of request call OutOfMemory good none ends = inr refl
 
 -- ---- input that has a fault
 
--- a text is not good and bad
-good_and_bad : (text : List ℕ) (version count : ℕ) (records : List Record) (fault : CaptureFault) → verdict text ≡ Good version count records → verdict text ≡ Bad fault → ⊥
-good_and_bad text version count records fault good bad = let both : Good version count records ≡ Bad fault = sym good ∙ bad in cc
+module _ (call : Seen) (text : List ℕ) (refusal : Refusal) (is_told : call.source.before ≡ Some text) where
+  -- of such an input nothing is done
+  bad_input : (reads : Option Input) (P : List ℕ → Type 0) → ((bytes : List ℕ) → P bytes → IfSome reads (λ input. IsFaultless input bytes)) → IsSomeAnd reads (λ input. HasFault input refusal text) → OfInput reads (OfGiven call.source) P → ⊥
+  bad_input None P clean bad has = bad
+  bad_input (Some input) P clean bad has =
+      let all = told_all call.source.before call.source.after has.0 P has.1.0 has.1.1 has.2 in
+      let of_text : P text = rw is_told at all in
+      clean text of_text refusal bad
 
-same_fault : (text : List ℕ) (first second : CaptureFault) → verdict text ≡ Bad first → verdict text ≡ Bad second → first ≡ second
-same_fault text first second one other = let both : Bad first ≡ Bad second = sym one ∙ other in cc
+  bad_found : PartsHaveNone → (asked : Request) (found : Option (task_of asked).Found) → IsSomeAnd (task_of asked).reads (λ input. HasFault input refusal text)
+      → IsSomeAnd found (λ f. OfInput (task_of asked).reads (OfGiven call.source) (λ bytes. (task_of asked).Does bytes f (Takes call.sink))) → ⊥
+  bad_found parts asked None bad has = has
+  bad_found parts asked (Some f) bad has =
+      bad_input (task_of asked).reads (λ bytes. (task_of asked).Does bytes f (Takes call.sink)) (λ bytes does. faultless parts asked bytes f (Takes call.sink) does) bad has
 
-module _ (call : Seen) (text : List ℕ) (is_told : call.source.before ≡ Some text) (none : NoneRose call) where
-  -- what is so of the bytes that the source gave is so of the text
-  of_text : (P : List ℕ → Type 0) → OfGiven call.source P → P text
-  of_text P given = let all = told_all call.source.before call.source.after given.0 P given.1.0 given.1.1 given.2 in rw is_told at all
+  not_done : PartsHaveNone → (request : Option Request) (answer : Answer) → IsToldBad request (Some text) refusal → CarriesOut request answer (OfGiven call.source) (Takes call.sink) → ⊥
+  not_done parts None answer bad has = bad
+  not_done parts (Some asked) answer bad has = bad_found parts asked ((task_of asked).found_in answer) bad has
 
-  run_refused : (run : Run) (out : Out) (fault : CaptureFault) (answer : Answer) → Ends (Some (Requests.Run run out)) call answer → verdict text ≡ Bad fault → IsRefusedOr (Refusals.Capture fault) answer
-  run_refused run out fault (Served journal) ends bad =
-      let is = of_text (λ bytes. IsWritten run out bytes journal call.sink) ends in
-      absurd (good_and_bad text is.served.version is.served.count is.served.records fault is.served.capture bad)
-  run_refused run out fault (Checked found) ends bad = absurd ends
-  run_refused run out fault Made ends bad = absurd ends
-  run_refused run out fault (Tested journal numbers) ends bad = absurd ends
-  run_refused run out fault Usage ends bad = absurd (cc)
-  run_refused run out fault (Refused (Refusals.Capture other)) ends bad =
-      let cause = ends.1 in
-      let is : verdict text ≡ Bad other = rw is_told at cause in
-      inl (ap (λ f. Refused (Refusals.Capture f)) (same_fault text other fault is bad))
-  run_refused run out fault (Refused (Refusals.Journal other)) ends bad = absurd ends.0
-  run_refused run out fault (Refused (Refusals.Replies other)) ends bad = absurd ends.0
-  run_refused run out fault (Refused (Refusals.Pcap other)) ends bad = absurd ends.0
-  run_refused run out fault ReadFault ends bad = absurd (none.0 ends.1)
-  run_refused run out fault WriteFault ends bad = absurd (none.1 ends.1)
-  run_refused run out fault OutOfMemory ends bad = inr refl
+  -- and it is refused for this fault
+  same_refusal : PartsHaveOne → (reads : Option Input) (other : Refusal) → IsSomeAnd reads (λ input. HasFault input refusal text) → IsSomeAnd reads (λ input. IsRefusedFor input call.source.before other) → other ≡ refusal
+  same_refusal one None other bad refused = absurd bad
+  same_refusal one (Some input) other bad refused =
+      let cause = refused.1 in
+      let is : HasFault input other text = rw is_told at cause in
+      one_fault one input text other refusal is bad
 
-  check_refused : (shards : ℕ) (refusal : Refusal) (answer : Answer)
-      → ((text : List ℕ) (streams : List (List (List ℕ))) (journal : Journal) (outputs : AllOutputs) (refusal : Refusal) → AreParts text streams journal outputs → HasPartFault text refusal → ⊥)
-      → ((text : List ℕ) (first second : Refusal) → HasPartFault text first → HasPartFault text second → first ≡ second)
-      → Ends (Some (Requests.Check shards)) call answer → HasPartFault text refusal → IsRefusedOr refusal answer
-  check_refused shards refusal (Served journal) parts one ends bad = absurd ends
-  check_refused shards refusal (Checked found) parts one ends bad =
-      let is = of_text (λ bytes. IsChecked shards bytes found) ends.0 in
-      absurd (parts text is.streams is.journal is.outputs refusal is.parts bad)
-  check_refused shards refusal Made parts one ends bad = absurd ends
-  check_refused shards refusal (Tested journal numbers) parts one ends bad = absurd ends
-  check_refused shards refusal Usage parts one ends bad = absurd (cc)
-  check_refused shards refusal (Refused other) parts one ends bad =
-      let cause = ends.1 in
-      let is : HasPartFault text other = rw is_told at cause in
-      inl (ap Refused (one text other refusal is bad))
-  check_refused shards refusal ReadFault parts one ends bad = absurd (none.0 ends.1)
-  check_refused shards refusal WriteFault parts one ends bad = absurd (none.1 ends.1)
-  check_refused shards refusal OutOfMemory parts one ends bad = inr refl
-
-  pcap_refused : (port : ℕ) (fault : PcapFault) (answer : Answer) → Ends (Some (Requests.Pcap port)) call answer → packets port text ≡ Recorded.Found.Bad fault → IsRefusedOr (Refusals.Pcap fault) answer
-  pcap_refused port fault (Served journal) ends bad = absurd ends
-  pcap_refused port fault (Checked found) ends bad = absurd ends
-  pcap_refused port fault Made ends bad =
-      let is = of_text (λ bytes. IsRecorded port bytes (λ capture. Takes call.sink capture)) ends in
-      let both : Recorded.Found.Packets is.given ≡ Recorded.Found.Bad fault = sym is.are ∙ bad in cc
-  pcap_refused port fault (Tested journal numbers) ends bad = absurd ends
-  pcap_refused port fault Usage ends bad = absurd (cc)
-  pcap_refused port fault (Refused (Refusals.Capture other)) ends bad = absurd ends.0
-  pcap_refused port fault (Refused (Refusals.Journal other)) ends bad = absurd ends.0
-  pcap_refused port fault (Refused (Refusals.Replies other)) ends bad = absurd ends.0
-  pcap_refused port fault (Refused (Refusals.Pcap other)) ends bad =
-      let cause = ends.1 in
-      let is : packets port text ≡ Recorded.Found.Bad other = rw is_told at cause in
-      let both : Recorded.Found.Bad other ≡ Recorded.Found.Bad fault = sym is ∙ bad in
-      inl (let same : other ≡ fault = cc in ap (λ f. Refused (Refusals.Pcap f)) same)
-  pcap_refused port fault ReadFault ends bad = absurd (none.0 ends.1)
-  pcap_refused port fault WriteFault ends bad = absurd (none.1 ends.1)
-  pcap_refused port fault OutOfMemory ends bad = inr refl
-
-  report_refused : (fault : FileFault) (answer : Answer) → Ends (Some Requests.Report) call answer → Journals.verdict text ≡ Journals.Verdict.Bad fault → IsRefusedOr (Refusals.Journal fault) answer
-  report_refused fault (Served journal) ends bad = absurd ends
-  report_refused fault (Checked found) ends bad = absurd ends
-  report_refused fault Made ends bad =
-      let is = of_text (λ bytes. IsReported bytes (λ table. Takes call.sink table)) ends in
-      let both : Journals.Verdict.Good is.journal ≡ Journals.Verdict.Bad fault = sym is.good ∙ bad in cc
-  report_refused fault (Tested journal numbers) ends bad = absurd ends
-  report_refused fault Usage ends bad = absurd (cc)
-  report_refused fault (Refused (Refusals.Capture other)) ends bad = absurd ends.0
-  report_refused fault (Refused (Refusals.Replies other)) ends bad = absurd ends.0
-  report_refused fault (Refused (Refusals.Pcap other)) ends bad = absurd ends.0
-  report_refused fault (Refused (Refusals.Journal other)) ends bad =
-      let cause = ends.1 in
-      let is : Journals.verdict text ≡ Journals.Verdict.Bad other = rw is_told at cause in
-      let both : Journals.Verdict.Bad other ≡ Journals.Verdict.Bad fault = sym is ∙ bad in
-      inl (let same : other ≡ fault = cc in ap (λ f. Refused (Refusals.Journal f)) same)
-  report_refused fault ReadFault ends bad = absurd (none.0 ends.1)
-  report_refused fault WriteFault ends bad = absurd (none.1 ends.1)
-  report_refused fault OutOfMemory ends bad = inr refl
+  refused_told : (request : Option Request) (answer : Answer) → PartsHaveNone → PartsHaveOne → IsToldBad request (Some text) refusal → NoneRose call → Ends request call answer → IsRefusedOr refusal answer
+  refused_told request (Served journal) parts one bad none ends = absurd (not_done parts request (Served journal) bad ends)
+  refused_told request (Checked verdict) parts one bad none ends = absurd (not_done parts request (Checked verdict) bad ends)
+  refused_told request Made parts one bad none ends = absurd (not_done parts request Made bad ends)
+  refused_told request (Tested journal numbers) parts one bad none ends = absurd (not_done parts request (Tested journal numbers) bad ends)
+  refused_told request Usage parts one bad none ends = absurd (subst (λ r. IsToldBad r (Some text) refusal) ends bad)
+  refused_told request (Refused other) parts one bad none ends = inl (ap Refused (same_refusal one (input_of request) other bad ends))
+  refused_told request ReadFault parts one bad none ends = absurd (none.0 ends.1)
+  refused_told request WriteFault parts one bad none ends = absurd (none.1 ends.1)
+  refused_told request OutOfMemory parts one bad none ends = inr refl
 
 pub refused_of : (request : Option Request) (call : Seen) (answer : Answer) (reported : Option (List ℕ)) (refusal : Refusal)
-    → ((text : List ℕ) (streams : List (List (List ℕ))) (journal : Journal) (outputs : AllOutputs) (refusal : Refusal) → AreParts text streams journal outputs → HasPartFault text refusal → ⊥)
-    → ((text : List ℕ) (first second : Refusal) → HasPartFault text first → HasPartFault text second → first ≡ second)
-    → call.source.before ≡ reported → IsToldBad request reported refusal → NoneRose call → Ends request call answer → IsRefusedOr refusal answer
+    → PartsHaveNone → PartsHaveOne → call.source.before ≡ reported → IsToldBad request reported refusal → NoneRose call → Ends request call answer → IsRefusedOr refusal answer
 refused_of request call answer None refusal parts one is bad none ends = absurd bad
-refused_of None call answer (Some text) refusal parts one is bad none ends = absurd bad
-refused_of (Some (Requests.Run run out)) call answer (Some text) (Refusals.Capture fault) parts one is bad none ends = run_refused call text is none run out fault answer ends bad
-refused_of (Some (Requests.Run run out)) call answer (Some text) (Refusals.Journal fault) parts one is bad none ends = absurd bad
-refused_of (Some (Requests.Run run out)) call answer (Some text) (Refusals.Replies fault) parts one is bad none ends = absurd bad
-refused_of (Some (Requests.Run run out)) call answer (Some text) (Refusals.Pcap fault) parts one is bad none ends = absurd bad
-refused_of (Some (Requests.Check shards)) call answer (Some text) refusal parts one is bad none ends = check_refused call text is none shards refusal answer parts one ends bad
-refused_of (Some (Requests.Gen traffic)) call answer (Some text) refusal parts one is bad none ends = absurd bad
-refused_of (Some (Requests.SelfTest traffic run)) call answer (Some text) refusal parts one is bad none ends = absurd bad
-refused_of (Some (Requests.Pcap port)) call answer (Some text) (Refusals.Pcap fault) parts one is bad none ends = pcap_refused call text is none port fault answer ends bad
-refused_of (Some (Requests.Pcap port)) call answer (Some text) (Refusals.Capture fault) parts one is bad none ends = absurd bad
-refused_of (Some (Requests.Pcap port)) call answer (Some text) (Refusals.Journal fault) parts one is bad none ends = absurd bad
-refused_of (Some (Requests.Pcap port)) call answer (Some text) (Refusals.Replies fault) parts one is bad none ends = absurd bad
-refused_of (Some Requests.Report) call answer (Some text) (Refusals.Journal fault) parts one is bad none ends = report_refused call text is none fault answer ends bad
-refused_of (Some Requests.Report) call answer (Some text) (Refusals.Capture fault) parts one is bad none ends = absurd bad
-refused_of (Some Requests.Report) call answer (Some text) (Refusals.Replies fault) parts one is bad none ends = absurd bad
-refused_of (Some Requests.Report) call answer (Some text) (Refusals.Pcap fault) parts one is bad none ends = absurd bad
+refused_of request call answer (Some text) refusal parts one is bad none ends = refused_told call text refusal is request answer parts one bad none ends

@@ -16,7 +16,7 @@ use Rattle.zy_run.specs.declared.summary.Summary.{Summary}
 use Rattle.zygos_run.specs.declared.lines.Piece.{Piece}
 use Rattle.zygos_run.specs.declared.lines.Piece.TheVariants.{Text, Number}
 use Rattle.zygos_run.specs.declared.answer.Answer.{Answer}
-use Rattle.zygos_run.specs.declared.answer.Answer.TheVariants.{Served, Checked, Made, Tested, Usage, Refused, ReadFault, WriteFault, OutOfMemory}
+use Rattle.zygos_run.specs.declared.answer.Answer.TheVariants.{Usage, Refused, ReadFault, WriteFault, OutOfMemory}
 
 -- ---- pieces of a line
 

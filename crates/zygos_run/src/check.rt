@@ -11,6 +11,7 @@ ghost use Rattle.zygos_run.specs.Lines.{verdict_line};
 
 use crate::answer::Answer;
 use crate::lines::write_verdict;
+use crate::writing::finish_written;
 use std::alloc::Global;
 use zy_base::{Failed, Sink, Source};
 use zy_check::{Verdict, check};
@@ -65,6 +66,6 @@ fn write_line<K: Sink>(sink: &mut K, verdict: Verdict) -> Result<(), Failed>
     ensures writes { WritesLast K.holds K.faults K.finishes K.is_finished sink.old sink.new result
         (verdict_line verdict) }
 {
-    write_verdict(sink, verdict)?;
-    sink.finish()
+    let written = write_verdict(sink, verdict);
+    finish_written(sink, written)
 }

@@ -1,6 +1,5 @@
 //! Making traffic.
 ghost use Rattle.std.specs.Prelude.{◌≡◌, ◌≤◌, Some};
-ghost use Rattle.zy_base.specs.Outside.{WritesLast};
 ghost use Rattle.zy_command_line.specs.Range.{IsMakeable};
 ghost use Rattle.zy_command_line.specs.declared.request.Request.TheVariants as Requests;
 ghost use Rattle.zy_serving.specs.Seen.{Side, side, seen};
@@ -8,8 +7,9 @@ ghost use Rattle.zygos_run.specs.Finish.{FinishesOnce};
 ghost use Rattle.zygos_run.specs.Ends.{Ends, LeavesSink};
 
 use crate::answer::Answer;
+use crate::writing::write_last;
 use std::alloc::Global;
-use zy_base::{Failed, NoMemory, Sink, write_whole};
+use zy_base::{Failed, NoMemory, Sink};
 use zy_command_line::Traffic;
 use zy_self::capture_of;
 
@@ -29,13 +29,4 @@ pub(crate) fn make_traffic<K: Sink>(alloc: Global, traffic: Traffic, sink: &mut 
             Err(Failed) => Answer::WriteFault,
         },
     }
-}
-
-/// Writes the whole piece, and finishes.
-pub(crate) fn write_last<K: Sink>(sink: &mut K, piece: &[u8]) -> Result<(), Failed>
-    ensures writes { WritesLast K.holds K.faults K.finishes K.is_finished sink.old sink.new result
-        piece.now }
-{
-    write_whole(sink, piece)?;
-    sink.finish()
 }

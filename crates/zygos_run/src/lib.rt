@@ -13,6 +13,7 @@ mod saying;
 mod self_test;
 mod serving;
 mod standard;
+mod writing;
 
 pub use answer::{Answer, status};
 pub use serving::serve;

@@ -7,7 +7,7 @@ ghost use Rattle.zygos_run.specs.Ends.{Ends, LeavesSink};
 ghost use Rattle.zygos_run.specs.Checks.{ReportsTo};
 
 use crate::answer::Answer;
-use crate::generate::write_last;
+use crate::writing::write_last;
 use std::alloc::Global;
 use zy_base::{Blob, Failed, NoMemory, Sink, Source};
 use zy_check_input::{Stop, read_journal};

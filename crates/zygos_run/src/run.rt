@@ -12,6 +12,7 @@ ghost use Rattle.zygos_run.specs.Ends.{Ends, LeavesSink};
 ghost use Rattle.zy_serving.specs.Headline.{front, written};
 
 use crate::answer::Answer;
+use crate::writing::finish_written;
 use std::alloc::Global;
 use std::sync::Wait;
 use std::thread::Threads;
@@ -72,8 +73,8 @@ fn write_back<K: Sink>(sink: &mut K, outputs: &Outputs) -> Result<(), Failed>
     ensures writes { WritesLast K.holds K.faults K.finishes K.is_finished sink.old sink.new result
         (replies_bytes outputs.now) }
 {
-    write_replies(sink, outputs)?;
-    sink.finish()
+    let written = write_replies(sink, outputs);
+    finish_written(sink, written)
 }
 
 // Writes what comes before the replies.

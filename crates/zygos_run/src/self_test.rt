@@ -10,6 +10,7 @@ ghost use Rattle.zygos_run.specs.Lines.{summary_line};
 
 use crate::answer::Answer;
 use crate::lines::write_summary;
+use crate::writing::finish_written;
 use std::alloc::Global;
 use std::sync::Wait;
 use std::thread::Threads;
@@ -49,6 +50,6 @@ fn write_line<K: Sink>(sink: &mut K, summary: &Summary) -> Result<(), Failed>
     ensures writes { WritesLast K.holds K.faults K.finishes K.is_finished sink.old sink.new result
         (summary_line summary.now) }
 {
-    write_summary(sink, summary)?;
-    sink.finish()
+    let written = write_summary(sink, summary);
+    finish_written(sink, written)
 }

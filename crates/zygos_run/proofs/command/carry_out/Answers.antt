@@ -1,8 +1,5 @@
-use Rattle.std.proofs.Common.{◌≡◌, sym, ◌∙◌, ap, subst, Some}
-use Rattle.zy_command_line.specs.declared.request.Request.TheVariants as Requests
-use Rattle.zy_command_line.specs.Request.{request_of}
-use Rattle.zy_serving.specs.Seen.{Side, Seen, side, seen}
-use Rattle.zygos_run.specs.Ends.{Ends}
+use Rattle.std.proofs.Common.{sym, ◌∙◌, ap, Some}
+use Rattle.zy_serving.specs.Seen.{side}
 use Rattle.zygos_run.proofs.command.carry_out.Goals as goal
 
 pub run_capture-requires-clause-runnable : goal.run_capture-requires-clause-runnable
@@ -38,16 +35,28 @@ make_packets-requires g c = record {
       (sym c.in-Ok-Some-Pcap.ensures.value ∙ c.in-Ok-Some-Pcap.field-0-is ∙ ap Some c.in-Ok-Some-Pcap.field-0-0-is);
 }
 
+pub returns-in-Ok-Some-Run-clause-ends : goal.returns-in-Ok-Some-Run-clause-ends
+returns-in-Ok-Some-Run-clause-ends g c =
+    rw (← c.in-Ok-Some-Run.ensures.value, c.in-Ok-Some-Run.field-0-is, c.in-Ok-Some-Run.field-0-0-is) c.run_capture.ensures.ends
+
+pub returns-in-Ok-Some-Check-clause-ends : goal.returns-in-Ok-Some-Check-clause-ends
+returns-in-Ok-Some-Check-clause-ends g c =
+    rw (← c.in-Ok-Some-Check.ensures.value, c.in-Ok-Some-Check.field-0-is, c.in-Ok-Some-Check.field-0-0-is) c.check_input.ensures.ends
+
+pub returns-in-Ok-Some-Pcap-clause-ends : goal.returns-in-Ok-Some-Pcap-clause-ends
+returns-in-Ok-Some-Pcap-clause-ends g c =
+    rw (← c.in-Ok-Some-Pcap.ensures.value, c.in-Ok-Some-Pcap.field-0-is, c.in-Ok-Some-Pcap.field-0-0-is) c.make_packets.ensures.ends
+
+pub returns-in-Ok-Some-Report-clause-ends : goal.returns-in-Ok-Some-Report-clause-ends
+returns-in-Ok-Some-Report-clause-ends g c =
+    rw (← c.in-Ok-Some-Report.ensures.value, c.in-Ok-Some-Report.field-0-is, c.in-Ok-Some-Report.field-0-0-is) c.report_journal.ensures.ends
+
 pub returns-in-Ok-Some-Gen-clause-ends : goal.returns-in-Ok-Some-Gen-clause-ends
 returns-in-Ok-Some-Gen-clause-ends g c =
-    let source : Side = side g.S.Source.rest g.S.Source.faults c.args.source.now c.args.source.now in
-    let call : Seen = seen source (side g.K.Sink.holds g.K.Sink.faults c.args.sink.now c.make_traffic.new.sink) in
-    subst (λ r. Ends r call c.make_traffic.result) (sym (sym c.in-Ok-Some-Gen.ensures.value ∙ c.in-Ok-Some-Gen.field-0-is ∙ ap Some c.in-Ok-Some-Gen.field-0-0-is))
-    (c.make_traffic.ensures.ends source)
+    rw (← c.in-Ok-Some-Gen.ensures.value, c.in-Ok-Some-Gen.field-0-is, c.in-Ok-Some-Gen.field-0-0-is)
+    (c.make_traffic.ensures.ends (side g.S.Source.rest g.S.Source.faults c.args.source.now c.args.source.now))
 
 pub returns-in-Ok-Some-SelfTest-clause-ends : goal.returns-in-Ok-Some-SelfTest-clause-ends
 returns-in-Ok-Some-SelfTest-clause-ends g c =
-    let source : Side = side g.S.Source.rest g.S.Source.faults c.args.source.now c.args.source.now in
-    let call : Seen = seen source (side g.K.Sink.holds g.K.Sink.faults c.args.sink.now c.test_traffic.new.sink) in
-    subst (λ r. Ends r call c.test_traffic.result) (sym (sym c.in-Ok-Some-SelfTest.ensures.value ∙ c.in-Ok-Some-SelfTest.field-0-is ∙ ap Some c.in-Ok-Some-SelfTest.field-0-0-is))
-    (c.test_traffic.ensures.ends source)
+    rw (← c.in-Ok-Some-SelfTest.ensures.value, c.in-Ok-Some-SelfTest.field-0-is, c.in-Ok-Some-SelfTest.field-0-0-is)
+    (c.test_traffic.ensures.ends (side g.S.Source.rest g.S.Source.faults c.args.source.now c.args.source.now))

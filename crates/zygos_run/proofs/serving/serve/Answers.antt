@@ -1,24 +1,25 @@
 use Rattle.std.proofs.Common.{refl, subst}
 use Rattle.zy_command_line.specs.Request.{request_of}
 use Rattle.zy_serving.specs.Seen.{Seen, side, seen}
+use Rattle.zygos_run.specs.declared.answer.Answer.TheVariants.{Served, Checked, Made}
 use Rattle.zygos_run.specs.Ends.{Ends}
-use Rattle.zygos_run.proofs.EndLemmas.{headline_of, check_of, report_of_made, unlawful_of, done_of, refused_of}
+use Rattle.zygos_run.proofs.EndLemmas.{told_of, unlawful_of, done_of, refused_of}
 use Rattle.zygos_run.proofs.serving.serve.Goals as goal
 
 pub returns-clause-headline : goal.returns-clause-headline
 returns-clause-headline g c = λ j is.
     let call : Seen = seen (side g.S.Source.rest g.S.Source.faults c.args.source.now c.carry_out-answer.new.source) (side g.K.Sink.holds g.K.Sink.faults c.args.sink.now c.carry_out-answer.new.sink) in
-    headline_of (request_of c.args.words.now) call j (subst (λ a. Ends (request_of c.args.words.now) call a) is c.carry_out-answer.ensures.ends)
+    told_of (request_of c.args.words.now) call (Served j) (subst (λ a. Ends (request_of c.args.words.now) call a) is c.carry_out-answer.ensures.ends)
 
 pub returns-clause-verdict : goal.returns-clause-verdict
 returns-clause-verdict g c = λ v is.
     let call : Seen = seen (side g.S.Source.rest g.S.Source.faults c.args.source.now c.carry_out-answer.new.source) (side g.K.Sink.holds g.K.Sink.faults c.args.sink.now c.carry_out-answer.new.sink) in
-    check_of (request_of c.args.words.now) call v (subst (λ a. Ends (request_of c.args.words.now) call a) is c.carry_out-answer.ensures.ends)
+    told_of (request_of c.args.words.now) call (Checked v) (subst (λ a. Ends (request_of c.args.words.now) call a) is c.carry_out-answer.ensures.ends)
 
 pub returns-clause-reported : goal.returns-clause-reported
 returns-clause-reported g c = λ is.
     let call : Seen = seen (side g.S.Source.rest g.S.Source.faults c.args.source.now c.carry_out-answer.new.source) (side g.K.Sink.holds g.K.Sink.faults c.args.sink.now c.carry_out-answer.new.sink) in
-    report_of_made (request_of c.args.words.now) call (subst (λ a. Ends (request_of c.args.words.now) call a) is c.carry_out-answer.ensures.ends)
+    told_of (request_of c.args.words.now) call Made (subst (λ a. Ends (request_of c.args.words.now) call a) is c.carry_out-answer.ensures.ends)
 
 pub returns-clause-unlawful : goal.returns-clause-unlawful
 returns-clause-unlawful g c = λ none.

@@ -1,0 +1,41 @@
+-- What commands of the program read, and which faults that may have.
+use Rattle.std.specs.Prelude.{◌≡◌, ℕ, List, Option, ⊤, IfSome}
+use Rattle.zy_capture.specs.Verdict as Captures
+use Rattle.zy_check_input.specs.declared.stop.Refusal.{Refusal}
+use Rattle.zy_check_input.specs.declared.stop.Refusal.TheVariants.{Capture, Journal, Pcap}
+use Rattle.zy_check_input.specs.Parts.{HasPartFault, IsPartFault}
+use Rattle.zy_journal_reader.specs.Verdict as Journals
+use Rattle.zy_pcap.specs.Packets as Recorded
+
+-- a kind of input: a capture; a capture, a journal and a replies file, one after the other; recorded packets, of which
+-- those to a port count; or a journal
+pub data Input : Type 0 where
+  CaptureInput : Input
+  CheckInput : Input
+  PacketsInput : ℕ → Input
+  JournalInput : Input
+
+-- an input of this kind may have such a fault
+abbrev pub MayHaveFault : Input → Refusal → Type 0
+MayHaveFault CaptureInput (Capture fault) = ⊤
+MayHaveFault CheckInput refusal = IsPartFault refusal
+MayHaveFault (PacketsInput port) (Pcap fault) = ⊤
+MayHaveFault JournalInput (Journal fault) = ⊤
+MayHaveFault input refusal = ⊥
+
+-- the bytes have this fault as an input of this kind
+abbrev pub HasFault : Input → Refusal → List ℕ → Type 0
+HasFault CaptureInput (Capture fault) bytes = Captures.verdict bytes ≡ Captures.Verdict.Bad fault
+HasFault CheckInput refusal bytes = HasPartFault bytes refusal
+HasFault (PacketsInput port) (Pcap fault) bytes = Recorded.packets port bytes ≡ Recorded.Found.Bad fault
+HasFault JournalInput (Journal fault) bytes = Journals.verdict bytes ≡ Journals.Verdict.Bad fault
+HasFault input refusal bytes = ⊥
+
+-- such an input is refused for this fault: it may have it, and the bytes have it where they are reported
+abbrev pub IsRefusedFor : Input → Option (List ℕ) → Refusal → Type 0
+IsRefusedFor input reported refusal =
+    MayHaveFault input refusal × IfSome reported (λ bytes. HasFault input refusal bytes)
+
+-- the bytes have no fault as an input of this kind
+abbrev pub IsFaultless : Input → List ℕ → Type 0
+IsFaultless input bytes = (refusal : Refusal) → HasFault input refusal bytes → ⊥
