@@ -15,6 +15,7 @@ mod long_numbers;
 mod numbers;
 mod runs;
 mod steps;
+mod whole_numbers;
 
 use crate::draft::Draft;
 use crate::due::{ByteField, BytesField, Due};

@@ -30,7 +30,7 @@ impl JournalReader {
     }
 
     // Whether the number is allowed there.
-    fn is_lawful_long(&self, field: LongField, number: u64) -> bool
+    pub(super) fn is_lawful_long(&self, field: LongField, number: u64) -> bool
         ensures value { result ≡ lawful_long field self.now number }
     {
         match field {
@@ -48,7 +48,7 @@ impl JournalReader {
     }
 
     // A lawful number.
-    fn take_long(&mut self, field: LongField, number: u64) -> Result<Option<()>, FileFeed>
+    pub(super) fn take_long(&mut self, field: LongField, number: u64) -> Result<Option<()>, FileFeed>
         requires due { self.old.due ≡ Dues.Long field }
         requires room { self.old.at < journal_limit }
         ensures value { Takes (after_eight field self.old number) self.old self.new result }

@@ -36,7 +36,7 @@ impl JournalReader {
     }
 
     // Whether the number is allowed there.
-    fn is_lawful_number(&self, field: NumberField, number: u32) -> bool
+    pub(super) fn is_lawful_number(&self, field: NumberField, number: u32) -> bool
         ensures value { result ≡ lawful_number field self.now number }
     {
         match field {
@@ -57,7 +57,7 @@ impl JournalReader {
     }
 
     // A lawful number.
-    fn take_number(&mut self, field: NumberField, number: u32) -> Result<Option<()>, FileFeed>
+    pub(super) fn take_number(&mut self, field: NumberField, number: u32) -> Result<Option<()>, FileFeed>
         requires due { self.old.due ≡ Dues.Number field }
         requires room { self.old.at < journal_limit }
         ensures value { Takes (after_four field self.old number) self.old self.new result }

@@ -10,10 +10,21 @@ use super::{JOURNAL_LIMIT, JournalReader};
 use crate::due::{BytesField, Due};
 
 impl JournalReader {
+    // Takes whole numbers, and then expected bytes, from some place on, but not the last byte of
+    // the piece. Returns their number.
+    pub(super) fn feed_run(&mut self, bytes: &[u8], at: usize) -> usize
+        requires place { at < length bytes.now }
+        ensures within { at + result < length bytes.now }
+        ensures fed { Feeds journals self.old self.new (take result (drop at bytes.now)) [] }
+    {
+        let run = self.take_numbers(bytes, at);
+        run + self.feed_part(bytes, at + run)
+    }
+
     #[tactic(auto, using(crate::proofs::RunLemmas::run_fed, zy_read::proofs::Feeding::fed_none))]
     // Takes several expected bytes at once, from some place on, but neither the last expected one
     // nor the last of the piece. Returns their number; if memory for them was refused, 0.
-    pub(super) fn feed_run(&mut self, bytes: &[u8], at: usize) -> usize
+    fn feed_part(&mut self, bytes: &[u8], at: usize) -> usize
         requires place { at < length bytes.now }
         ensures within { at + result < length bytes.now }
         ensures fed { Feeds journals self.old self.new (take result (drop at bytes.now)) [] }
@@ -36,7 +47,7 @@ impl JournalReader {
     }
 
     // A number that begins there ends before the journal has its most bytes.
-    fn has_room(&self) -> bool
+    pub(super) fn has_room(&self) -> bool
         ensures value { result ≡ true → self.now.at + 8 ≤ journal_limit }
     {
         self.at <= JOURNAL_LIMIT - 8
