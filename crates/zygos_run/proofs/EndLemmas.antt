@@ -10,9 +10,9 @@ use Rattle.zy_capture.specs.Verdict.{verdict}
 use Rattle.zy_capture.specs.Verdict.Verdict.{Good, Bad}
 use Rattle.zy_journal.specs.declared.journal.Journal.{Journal}
 use Rattle.zy_check.specs.declared.verdict.Verdict.{Verdict as Certified}
-use Rattle.zy_check_input.specs.declared.stop.Refusal.{Refusal}
-use Rattle.zy_check_input.specs.declared.stop.Refusal.TheVariants as Refusals
-use Rattle.zy_check_input.specs.Parts.{AreParts, HasPartFault}
+use Rattle.zy_input.specs.declared.stop.Refusal.{Refusal}
+use Rattle.zy_input.specs.declared.stop.Refusal.TheVariants as Refusals
+use Rattle.zy_input.specs.Parts.{AreParts, HasPartFault}
 use Rattle.zy_read.proofs.SourceLemmas.{told_all}
 use Rattle.zy_command_line.specs.declared.request.Run.{Run}
 use Rattle.zy_command_line.specs.declared.request.Out.{Out}

@@ -2,10 +2,10 @@
 use Rattle.std.specs.Prelude.{◌≡◌, ℕ, List, Result, Ok, Err, ⊤, IfSome}
 use Rattle.zy_read.specs.declared.stop.Stop.{Stop}
 use Rattle.zy_read.specs.declared.stop.Stop.TheVariants as Stops
-use Rattle.zy_check_input.specs.declared.stop.Refusal.{Refusal}
-use Rattle.zy_check_input.specs.Parts.{HasPartFault, IsPartFault}
+use Rattle.zy_input.specs.declared.stop.Refusal.{Refusal}
+use Rattle.zy_input.specs.Parts.{HasPartFault, IsPartFault}
 use Rattle.zy_check.specs.declared.verdict.Verdict.{Verdict as Certified}
-use Rattle.zy_check_input.specs.declared.stop.Refusal.TheVariants.{Journal as OfJournal}
+use Rattle.zy_input.specs.declared.stop.Refusal.TheVariants.{Journal as OfJournal}
 use Rattle.zy_journal_reader.specs.Verdict as Journals
 use Rattle.zy_serving.specs.Seen.{Side, HasRisen, OfGiven}
 use Rattle.zygos_run.specs.Reported.{IsReported}

@@ -4,8 +4,8 @@ use Rattle.zy_capture.specs.declared.capture_fault.CaptureFault.{CaptureFault}
 use Rattle.zy_capture.specs.Verdict.{verdict}
 use Rattle.zy_capture.specs.Verdict.Verdict.{Bad}
 use Rattle.zy_journal.specs.declared.journal.Journal.{Journal}
-use Rattle.zy_check_input.specs.declared.stop.Refusal.{Refusal}
-use Rattle.zy_check_input.specs.Parts.{HasPartFault}
+use Rattle.zy_input.specs.declared.stop.Refusal.{Refusal}
+use Rattle.zy_input.specs.Parts.{HasPartFault}
 use Rattle.zy_check.specs.declared.verdict.Verdict.{Verdict as Certified}
 use Rattle.zy_pcap.specs.declared.pcap_fault.PcapFault.{PcapFault}
 use Rattle.zy_pcap.specs.Packets.{packets}
