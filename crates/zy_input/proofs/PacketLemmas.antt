@@ -13,19 +13,16 @@ use Rattle.zy_input.specs.declared.packets_part.PacketsPart.{PacketsPart}
 use Rattle.zy_input.specs.declared.stop.Refusal.{Refusal}
 use Rattle.zy_input.specs.declared.stop.Refusal.TheVariants.{Capture, Journal as OfJournal, Replies as OfReplies, Pcap}
 use Rattle.zy_input.specs.Parts.{HasPackets, HasReadPackets}
-use Rattle.zy_input.specs.Reading.{IsReading, HasFaultBehind, Reads}
+use Rattle.zy_input.specs.Reading.{HasFaultBehind, Reads}
 use Rattle.zy_input.specs.Kinds.{StandsForPackets, packets_kind}
-use Rattle.zy_input.proofs.PartLemmas.{given_none, begun, if_some, read_all}
+use Rattle.zy_input.proofs.PartLemmas.{if_some, read_all}
 
 -- ---- where they begin
 
-no_fault : (port : ℕ) → fault_met port [] ≡ None
+-- before the first byte there is no fault
+pub no_fault : (port : ℕ) → fault_met port [] ≡ None
 unfolding fault_met read read_on
 no_fault port = refl
-
--- before the first byte
-pub packets_begun : {S : Type 0} (rest : S → Option (List ℕ)) (faults : S → ℕ) (first : S) (left : List ℕ) (part : PacketsPart) (port : ℕ) → left ≡ [] → part.reader.port ≡ port → StandsFor part.reader [] → IsReading (packets_kind port) rest faults first first left [] [] part
-packets_begun rest faults first left part port none is stands = begun (packets_kind port) rest faults first first left [] part (given_none rest faults first left none) (is, stands) (no_fault port)
 
 -- ---- further bytes
 

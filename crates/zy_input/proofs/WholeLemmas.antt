@@ -40,24 +40,30 @@ no_count : Captures.count_of [] ≡ None
 unfolding Captures.count_of reading_of read_on
 no_count = refl
 
-no_capture : GoesOn Captures.captures Captures.is_good []
+-- no byte of the capture was fed
+pub capture_stands : (part : CapturePart) → StandsFor part.reader [] [] → part.streams ≡ None → StandsForCapture part []
+capture_stands part reader none = kept_none capture_keeping part.reader part.streams reader none no_count
+
+pub no_capture : GoesOn Captures.captures Captures.is_good []
 unfolding fault_met verdict_on reading_of read_on
 no_capture = (refl, refl)
 
 -- before the first byte of the capture
 pub capture_begun : {S : Type 0} (rest : S → Option (List ℕ)) (faults : S → ℕ) (first : S) (left : List ℕ) (part : CapturePart) → left ≡ [] → StandsFor part.reader [] [] → part.streams ≡ None → IsReading capture_kind rest faults first first left [] [] part
-capture_begun rest faults first left part none reader streams =
-    begun capture_kind rest faults first first left [] part (given_none rest faults first left none) (kept_none capture_keeping part.reader part.streams reader streams no_count) no_capture
+capture_begun rest faults first left part empty reader none = begun capture_kind rest faults first first left [] part (given_none rest faults first left empty) (capture_stands part reader none) no_capture
 
-no_journal : (until : Until) → GoesOn Journals.journals (is_whole until) []
+-- no byte of the journal was fed
+pub journal_stands : (part : JournalPart) (until : Until) → StandsForJournal part.reader [] [] → part.until ≡ until → StandsForJournalPart until part []
+journal_stands part until reader is = record { given = []; reader = reader; ends = is }
+
+pub no_journal : (until : Until) → GoesOn Journals.journals (is_whole until) []
 unfolding fault_met verdict_on reading_of read_on
 no_journal OwnEnd = (refl, refl)
 no_journal SourceEnd = (refl, refl)
 
 -- before the first byte of the journal
 pub journal_begun : {S : Type 0} (rest : S → Option (List ℕ)) (faults : S → ℕ) (first now : S) (left bytes : List ℕ) (part : JournalPart) (until : Until) → HasGiven rest faults first now left bytes → StandsForJournal part.reader [] [] → part.until ≡ until → IsReading (journal_kind until) rest faults first now left bytes [] part
-journal_begun rest faults first now left bytes part until given reader is =
-    begun (journal_kind until) rest faults first now left bytes part given (record { given = []; reader = reader; ends = is }) (no_journal until)
+journal_begun rest faults first now left bytes part until given reader is = begun (journal_kind until) rest faults first now left bytes part given (journal_stands part until reader is) (no_journal until)
 
 -- before the first byte there is no version
 no_version : Texts.version_of [] ≡ None
@@ -70,8 +76,8 @@ no_replies = (refl, refl)
 
 -- before the first byte of the replies file
 pub replies_begun : {S : Type 0} (rest : S → Option (List ℕ)) (faults : S → ℕ) (first now : S) (left bytes : List ℕ) (part : RepliesPart) → HasGiven rest faults first now left bytes → StandsForReplies part.reader [] [] → part.outputs ≡ None → IsReading replies_kind rest faults first now left bytes [] part
-replies_begun rest faults first now left bytes part given reader outputs =
-    begun replies_kind rest faults first now left bytes part given (kept_none replies_keeping part.reader part.outputs reader outputs no_version) no_replies
+replies_begun rest faults first now left bytes part given reader none =
+    begun replies_kind rest faults first now left bytes part given (kept_none replies_keeping part.reader part.outputs reader none no_version) no_replies
 
 -- ---- stops
 

@@ -1,5 +1,5 @@
 -- A part, by the bytes that were read of a source. No public clause cites this module.
-use Rattle.std.specs.Prelude.{◌≡◌, ◌⊎◌, ℕ, ◌<◌, Bool, true, false, List, ◌++◌, length, Option, None, Result, Ok, Err}
+use Rattle.std.specs.Prelude.{◌≡◌, ◌⊎◌, ℕ, ◌<◌, Bool, true, false, List, [], ◌++◌, length, Option, None, Result, Ok, Err}
 use Rattle.std.specs.Prelude.{IfSome, ⊤}
 use Rattle.zy_base.specs.Outside.{Rose}
 use Rattle.zy_read.specs.declared.stop.Stop.{Stop}
@@ -123,6 +123,11 @@ abbrev pub Reads : {P T S : Type 0} → Kind P T → (S → Option (List ℕ)) �
     → Result T (Stop Refusal) → Type 0
 Reads kind rest faults first now left before (Ok gave) = HasRead kind rest faults first now left before gave
 Reads kind rest faults first now left before (Err stop) = StopsBy kind rest faults first now before stop
+
+-- a part with which the source begins was read, or it is read no further
+abbrev pub ReadsAlone : {P T S : Type 0} → Kind P T → (S → Option (List ℕ)) → (S → ℕ) → S → S → Result T (Stop Refusal)
+    → Type 0
+ReadsAlone kind rest faults first now result = (left : List ℕ) × Reads kind rest faults first now left [] result
 
 -- ---- texts of a format
 

@@ -1,10 +1,11 @@
 //! Reading one part of an input.
 ghost use Rattle.std.specs.Prelude.{◌≡◌, ◌<◌, ◌≤◌, ℕ, List, [], ◌++◌, length, take, Ok, OnOk};
 ghost use Rattle.zy_input.specs.Reading.{Kind, IsPartOpen, IsPartFed, IsLeft, IsReading, Takes, EndsWhole};
-ghost use Rattle.zy_input.specs.Reading.{EndsCut, Advances, Feeds, Reads};
+ghost use Rattle.zy_input.specs.Reading.{EndsCut, Advances, Feeds, Reads, ReadsAlone};
 
 use crate::stop::Stop;
-use zy_base::{Failed, Source};
+use std::alloc::Global;
+use zy_base::{Failed, NoMemory, Source};
 use zy_read::Pieces;
 
 /// How many bytes a part took, and whether it is whole with them.
@@ -42,6 +43,27 @@ pub(crate) trait Part: Drop {
             → (kind setting).whole bytes → EndsWhole (kind setting) bytes result }
         ensures cut { (setting : Setting) (bytes : List ℕ) → (kind setting).stands self bytes
             → (kind setting).goes_on bytes → EndsCut (kind setting) bytes result };
+}
+
+// Reads a part with which the source begins, to its end, or to that of the source.
+pub(crate) fn read_alone<P: Part, S: Source>(
+    alloc: Global,
+    part: P,
+    source: &mut S,
+) -> Result<P::Gives, Stop>
+    requires goes { IsPartOpen P.kind part }
+    ensures value { (setting : P.Setting) → (P.kind setting).stands part []
+        → (P.kind setting).goes_on []
+        → ReadsAlone (P.kind setting) S.rest S.faults source.old source.new result }
+    ensures count { S.faults source.old ≤ S.faults source.new }
+{
+    match Pieces::new(alloc) {
+        Ok(mut pieces) => read_part(part, &mut pieces, source),
+        Err(NoMemory) => {
+            drop(part);
+            Err(Stop::NoMemory)
+        }
+    }
 }
 
 // Reads a part to its end, or to that of the source.

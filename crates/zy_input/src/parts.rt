@@ -5,7 +5,7 @@ ghost use Rattle.zy_input.specs.Parts.{HasReadParts, HasReadStreams, HasReadJour
 use crate::capture_part::CapturePart;
 use crate::journal_part::{JournalPart, Until};
 use crate::packets_part::PacketsPart;
-use crate::part::read_part;
+use crate::part::{read_alone, read_part};
 use crate::replies_part::RepliesPart;
 use crate::stop::Stop;
 use std::alloc::Global;
@@ -60,11 +60,7 @@ pub fn read_streams<S: Source>(alloc: Global, source: &mut S) -> Result<Streams,
     ensures streams { HasReadStreams S.rest S.faults source.old source.new result }
     ensures count { S.faults source.old ≤ S.faults source.new }
 {
-    let mut pieces = match Pieces::new(alloc) {
-        Ok(pieces) => pieces,
-        Err(NoMemory) => return Err(Stop::NoMemory),
-    };
-    read_part(CapturePart::new(alloc), &mut pieces, source)
+    read_alone(alloc, CapturePart::new(alloc), source)
 }
 
 /// Reads a journal to the end of the source.
@@ -72,11 +68,7 @@ pub fn read_journal<S: Source>(alloc: Global, source: &mut S) -> Result<Journal,
     ensures journal { HasReadJournal S.rest S.faults source.old source.new result }
     ensures count { S.faults source.old ≤ S.faults source.new }
 {
-    let mut pieces = match Pieces::new(alloc) {
-        Ok(pieces) => pieces,
-        Err(NoMemory) => return Err(Stop::NoMemory),
-    };
-    read_part(JournalPart::new(alloc, Until::SourceEnd), &mut pieces, source)
+    read_alone(alloc, JournalPart::new(alloc, Until::SourceEnd), source)
 }
 
 /// Reads recorded packets to the end of the source, and gives the streams of those to a port.
@@ -85,9 +77,5 @@ pub fn read_packets<S: Source>(alloc: Global, port: u16, source: &mut S) -> Resu
     ensures packets { HasReadPackets port S.rest S.faults source.old source.new result }
     ensures count { S.faults source.old ≤ S.faults source.new }
 {
-    let mut pieces = match Pieces::new(alloc) {
-        Ok(pieces) => pieces,
-        Err(NoMemory) => return Err(Stop::NoMemory),
-    };
-    read_part(PacketsPart::new(alloc, port), &mut pieces, source)
+    read_alone(alloc, PacketsPart::new(alloc, port), source)
 }
