@@ -26,29 +26,29 @@ KeepsSoFar keeping None number given = given ≡ []
 KeepsSoFar keeping (Some kept) number given = Keeps keeping (Some kept) number given
 
 -- these bytes were fed, and this is kept of their records
-pub record HasKept {P G F V K : Type 0} (keeping : Keeping P G F V K) (reader : P) (kept : Option K)
+pub record HasKept {P G F V K : Type 0} (keeping : Keeping P G F V K) (place : P) (made : Option K)
     (bytes : List ℕ) : Type 0 where
   pub given : List G
-  pub reader : StandsAs keeping.format reader given bytes
+  pub reader : StandsAs keeping.format place given bytes
   pub small : AreBytes bytes
-  pub kept : Keeps keeping kept (keeping.number_of bytes) given
+  pub kept : Keeps keeping made (keeping.number_of bytes) given
 
 -- the reader was fed bytes without a fault, and their records are those that are kept and this one, if there is one
-pub record IsKeeping {P G F V K : Type 0} (keeping : Keeping P G F V K) (reader : P) (kept : Option K)
+pub record IsKeeping {P G F V K : Type 0} (keeping : Keeping P G F V K) (place : P) (made : Option K)
     (gave : Option G) : Type 0 where
   pub given : List G
   pub bytes : List ℕ
-  pub reader : StandsAs keeping.format reader (given ++ option_to_list gave) bytes
+  pub reader : StandsAs keeping.format place (given ++ option_to_list gave) bytes
   pub small : AreBytes bytes
   pub clean : fault_met keeping.format bytes ≡ None
-  pub kept : KeepsSoFar keeping kept (keeping.number_of bytes) given
+  pub kept : KeepsSoFar keeping made (keeping.number_of bytes) given
 
 -- the same, where what is kept was made if the number is known, and there is one further record
-pub record IsAdding {P G F V K : Type 0} (keeping : Keeping P G F V K) (reader : P) (kept : Option K)
+pub record IsAdding {P G F V K : Type 0} (keeping : Keeping P G F V K) (place : P) (made : Option K)
     (item : G) : Type 0 where
   pub given : List G
   pub bytes : List ℕ
-  pub reader : StandsAs keeping.format reader (given ++ item ∷ []) bytes
+  pub reader : StandsAs keeping.format place (given ++ item ∷ []) bytes
   pub small : AreBytes bytes
   pub clean : fault_met keeping.format bytes ≡ None
-  pub kept : Keeps keeping kept (keeping.number_of bytes) given
+  pub kept : Keeps keeping made (keeping.number_of bytes) given
