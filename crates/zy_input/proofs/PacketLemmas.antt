@@ -1,6 +1,6 @@
 -- Recorded packets that are all that a source gives.
 use Rattle.std.proofs.Common.{◌≡◌, ℕ, List, [], ◌++◌, refl, sym, ◌∙◌, ap, subst, append_assoc}
-use Rattle.std.specs.Prelude.{Option, None, IfSome, Result, Ok, Err, ⊤}
+use Rattle.std.specs.Prelude.{Option, None, Result, Ok, Err, ⊤}
 use Rattle.zy_read.specs.declared.not_taken.NotTaken.{NotTaken}
 use Rattle.zy_read.specs.declared.not_taken.NotTaken.TheVariants.{Fault}
 use Rattle.zy_read.specs.declared.stop.Stop.{Stop}

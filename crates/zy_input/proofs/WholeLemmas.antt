@@ -1,11 +1,10 @@
 -- The three parts of an input, one after the other.
 use Rattle.std.proofs.Common.{◌≡◌, ℕ, List, [], ◌++◌, refl, sym, ◌∙◌, ap, subst, true≢false, append_assoc}
-use Rattle.std.specs.Prelude.{Option, None, IfSome, Result, Ok, Err}
+use Rattle.std.specs.Prelude.{Option, None, Result, Ok, Err}
 use Rattle.std.proofs.lemmas.List.{append-nil}
 use Rattle.zy_base.specs.declared.file_fault.FileFault.{FileFault}
 use Rattle.zy_read.specs.Format.{reading_of, read_on, fault_met, verdict_on}
 use Rattle.zy_capture.specs.declared.capture_fault.CaptureFault.{CaptureFault}
-use Rattle.zy_capture.specs.Outputs.{AllOutputs}
 use Rattle.zy_capture.specs.Standing.{StandsFor}
 use Rattle.zy_capture.specs.RepliesStanding.{StandsForReplies}
 use Rattle.zy_capture.specs.Verdict as Captures
