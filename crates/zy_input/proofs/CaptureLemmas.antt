@@ -26,7 +26,7 @@ use Rattle.zy_input.specs.declared.capture_part.CapturePart.{CapturePart}
 use Rattle.zy_input.specs.declared.stop.Refusal.TheVariants.{Capture}
 use Rattle.zy_input.specs.Parts.{HasStreams}
 use Rattle.zy_input.specs.Reading.{GoesOn, IsFaultyText}
-use Rattle.zy_input.specs.Keeping.{Keeps}
+use Rattle.zy_input.specs.Keeping.{KeepsRecords}
 use Rattle.zy_input.specs.Kinds.{StandsForCapture, capture_keeping}
 use Rattle.zy_journal_reader.proofs.CallLemmas.{either}
 use Rattle.zy_input.proofs.FormatLemmas.{EndsOnce, StaysOpen, answer_fault}
@@ -116,7 +116,7 @@ fault_within part q bytes piece more answer fault is stands goes_on within feeds
 -- ---- what is kept
 
 -- one further record
-pub record_kept : (old new : List (List (List ℕ))) (count : Option ℕ) (item : Record) (given : List Record) (answer : Result ⊤ Outside.NoMemory) → OnOk answer (new ≡ with_record old item) → Keeps capture_keeping (Some old) count given → OnOk answer (Keeps capture_keeping (Some new) count (given ++ item ∷ []))
+pub record_kept : (old new : List (List (List ℕ))) (count : Option ℕ) (item : Record) (given : List Record) (answer : Result ⊤ Outside.NoMemory) → OnOk answer (new ≡ with_record old item) → KeepsRecords capture_keeping (Some old) count given → OnOk answer (KeepsRecords capture_keeping (Some new) count (given ++ item ∷ []))
 record_kept old new (Some count) item given (Ok done) added kept =
     added ∙ ap (λ (l : List (List (List ℕ))). with_record l item) kept ∙ sym (records_on (no_bytes count) given item)
 record_kept old new None item given (Ok done) added kept = absurd kept

@@ -1,6 +1,6 @@
 -- Formats in which a byte after a whole text is a fault: at most one prefix of a text is whole.
 use Rattle.std.proofs.Common.{◌≡◌, ◌⊎◌, inl, inr, ⊎_elim, ℕ, Bool, true, false, true≢false, List, [], ◌∷◌, ◌++◌, refl, sym, ◌∙◌, ap, subst, append_assoc}
-use Rattle.std.specs.Prelude.{Option, None, Some, option_to_list, Result, Ok, Err}
+use Rattle.std.specs.Prelude.{Option, None, Some, option_to_list, Result, Err}
 use Rattle.std.proofs.lemmas.List.{append-nil, append_cancel_left}
 use Rattle.zy_read.specs.declared.not_taken.NotTaken.{NotTaken}
 use Rattle.zy_read.specs.declared.not_taken.NotTaken.TheVariants.{Fault}
@@ -8,7 +8,7 @@ use Rattle.zy_read.specs.Format.{Format, IsLasting, Reading, read_on, reading_of
 use Rattle.zy_read.specs.Standing.{StandsAs, given_in, Feeds, MeetsFault, TellsFault, TellsLasting}
 use Rattle.zy_read.proofs.Feeding.{read_more, fed_step, verdict_here, fault_here, fault_stays, fault_lasts}
 use Rattle.zy_input.specs.declared.stop.Refusal.{Refusal}
-use Rattle.zy_input.specs.Reading.{GoesOn, IsWhole, HasNoWhole, IsFaultyText, HasFaultBehind, Takes, format_kind, never}
+use Rattle.zy_input.specs.Reading.{GoesOn, IsWhole, HasNoWhole, IsFaultyText, HasFaultBehind, format_kind, never}
 
 -- the first fault counts, a byte after a whole text is a fault, and a text with a fault is not whole
 pub record EndsOnce {P G F V : Type 0} (format : Format P G F V) (good : V → Bool) : Type 0 where
@@ -198,12 +198,6 @@ fault_ever {P} {G} {F} format refused p given text taken more answer fault is st
     (fault, refl, none_ever format ((text ++ taken) ++ more), ap (λ (l : List ℕ). verdict_on format l) (append_assoc text taken more) ∙ lasts given text more stands)
 
 -- ---- kinds of a format
-
--- after bytes without a fault the text is whole or goes on
-pub takes_on : {P T R G F V : Type 0} (format : Format R G F V) (good : V → Bool) (refused : F → Refusal) (stands : P → List ℕ → Type 0) (gives : T → List ℕ → Type 0) (now : P) (text : List ℕ) (whole : Bool) → stands now text → fault_met format text ≡ None → whole ≡ good (verdict_on format text)
-    → Takes (format_kind format good refused stands gives) now text (Ok whole)
-takes_on format good refused stands gives now text true here clean is = (here, sym is)
-takes_on format good refused stands gives now text false here clean is = (here, (clean, sym is))
 
 -- what came before a text, and the fault of that text
 pub record EndsFaulty {P G F V : Type 0} (format : Format P G F V) (good : V → Bool) (before all : List ℕ) (fault : F) : Type 0 where

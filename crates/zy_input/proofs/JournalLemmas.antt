@@ -1,7 +1,7 @@
 -- A byte after a journal is a fault, and the byte that ends a journal reports its end; what this means where the journal
 -- ends with the source.
-use Rattle.std.proofs.Common.{◌≡◌, inl, ℕ, Bool, ◌+◌, ◌-◌, ◌==◌, true, false, true≢false, List, [], ◌∷◌, ◌++◌, length, refl, sym, ◌∙◌, ap, subst}
-use Rattle.std.specs.Prelude.{nat_lt, if◌then◌else◌, Option, Some, None, option_to_list, Result, Ok, Err, ⊤}
+use Rattle.std.proofs.Common.{◌≡◌, inl, ℕ, ◌+◌, ◌-◌, ◌==◌, true, false, true≢false, List, [], ◌∷◌, ◌++◌, length, refl, sym, ◌∙◌, ap}
+use Rattle.std.specs.Prelude.{nat_lt, if◌then◌else◌, Option, Some, None, Result, Err, ⊤}
 use Rattle.std.specs.Int.{from_be_bytes, w32, w64}
 use Rattle.zy_base.specs.declared.call_kind.CallFields.{CallFields}
 use Rattle.zy_base.specs.declared.call_reply.CallReply.TheVariants as Replies
@@ -10,9 +10,8 @@ use Rattle.zy_base.specs.declared.file_fault.FileFault.TheVariants.{Form, TooLon
 use Rattle.zy_base.specs.Code.{kind_of, fields_of, hit_code, number_code, tally_code, plain_reply}
 use Rattle.zy_read.specs.declared.not_taken.NotTaken.{NotTaken}
 use Rattle.zy_read.specs.declared.not_taken.NotTaken.TheVariants.{Fault}
-use Rattle.zy_read.specs.Standing.{given_in, Feeds, TellsFault, TellsLasting, AnswersBy}
+use Rattle.zy_read.specs.Standing.{given_in, Feeds, TellsFault, TellsLasting}
 use Rattle.zy_read.proofs.Feeding.{verdict_here}
-use Rattle.zy_journal.specs.declared.journal.Journal.{Journal}
 use Rattle.zy_journal_reader.specs.declared.due.Due.{Due}
 use Rattle.zy_journal_reader.specs.declared.due.Due.TheVariants.{Byte, Number, Long, Bytes, Nothing, Broken}
 use Rattle.zy_journal_reader.specs.declared.due.ByteField.{ByteField}
@@ -27,16 +26,15 @@ use Rattle.zy_journal_reader.specs.Fields.{fault_in, at_key, at_flags, at_number
 use Rattle.zy_journal_reader.specs.Steps.{Progress, Step, goes, knows, begins, ends_entry, ends, refuses, keeps, grows, lawful_byte, after_byte, lawful_number, after_four, lawful_long, after_eight, after_bytes, taken, is_full, step}
 use Rattle.zy_journal_reader.specs.Standing.{StandsForJournal}
 use Rattle.zy_journal_reader.specs.Verdict.{journals, ended, is_good, verdict}
-use Rattle.zy_journal_reader.specs.Verdict.Verdict.{Good}
 use Rattle.zy_journal_reader.specs.Lasting.{lasting}
 use Rattle.zy_journal_reader.proofs.CallLemmas.{either}
 use Rattle.zy_input.specs.declared.journal_part.JournalPart.{JournalPart}
 use Rattle.zy_input.specs.declared.journal_part.Until.{Until}
 use Rattle.zy_input.specs.declared.journal_part.Until.TheVariants.{OwnEnd, SourceEnd}
 use Rattle.zy_input.specs.declared.stop.Refusal.TheVariants.{Journal as OfJournal}
-use Rattle.zy_input.specs.Reading.{GoesOn, IsFaultyText, Takes}
-use Rattle.zy_input.specs.Kinds.{StandsForJournalPart, is_whole, journal_kind}
-use Rattle.zy_input.proofs.FormatLemmas.{EndsOnce, StaysOpen, answer_fault, once_never, fault_ever, takes_on}
+use Rattle.zy_input.specs.Reading.{GoesOn, IsFaultyText}
+use Rattle.zy_input.specs.Kinds.{StandsForJournalPart, is_whole}
+use Rattle.zy_input.proofs.FormatLemmas.{EndsOnce, StaysOpen, answer_fault, once_never, fault_ever}
 
 -- the end was read where a journal is whole
 end_read : (due : Due) (p : Progress) → is_good (ended due p) ≡ true → due ≡ Nothing
@@ -161,23 +159,6 @@ open_here p given text stands goes_on is =
 pub once_until : (until : Until) → EndsOnce journals (is_whole until)
 once_until OwnEnd = once
 once_until SourceEnd = once_never journals lasting
-
--- the end was read
-pub own_whole : (part : JournalPart) (until : Until) (bytes : List ℕ) (done : Bool) → part.until ≡ OwnEnd → AnswersBy journals part.reader (λ b. is_good (verdict b)) done → StandsForJournalPart until part bytes → done ≡ is_whole until (verdict bytes)
-own_whole part until bytes done is answers stands = subst (λ (u : Until). done ≡ is_whole u (verdict bytes)) (sym is ∙ stands.ends) (answers stands.given bytes stands.reader)
-
--- a journal that ends with the source is not whole yet
-pub source_whole : (part : JournalPart) (until : Until) (bytes : List ℕ) → part.until ≡ SourceEnd → StandsForJournalPart until part bytes → false ≡ is_whole until (verdict bytes)
-source_whole part until bytes is stands = subst (λ (u : Until). false ≡ is_whole u (verdict bytes)) (sym is ∙ stands.ends) refl
-
--- after a piece without a fault the journal is whole or goes on
-pub journal_on : (until : Until) (old new : JournalPart) (bytes piece : List ℕ) (answer : Result (Option ⊤) (NotTaken FileFault)) (gave : Option ⊤) (whole : Bool) → answer ≡ Ok gave → StandsForJournalPart until old bytes → new.until ≡ old.until → Feeds journals old.reader new.reader piece (given_in answer) → TellsFault journals old.reader piece answer
-    → ((u : Until) (b : List ℕ) → StandsForJournalPart u new b → whole ≡ is_whole u (verdict b)) → Takes (journal_kind until) new (bytes ++ piece) (Ok whole)
-journal_on until old new bytes piece answer gave whole is stands same feeds tells ends =
-    let fed = subst (λ (a : Result (Option ⊤) (NotTaken FileFault)). Feeds journals old.reader new.reader piece (given_in a)) is feeds in
-    let exact = subst (λ (a : Result (Option ⊤) (NotTaken FileFault)). TellsFault journals old.reader piece a) is tells in
-    let here : StandsForJournalPart until new (bytes ++ piece) = record { given = stands.given ++ option_to_list gave; reader = fed stands.given bytes stands.reader; ends = same ∙ stands.ends } in
-    takes_on journals (is_whole until) (λ (f : FileFault). OfJournal f) (StandsForJournalPart until) (λ (journal : Journal) (text : List ℕ). verdict text ≡ Good journal) new (bytes ++ piece) whole here (exact stands.given bytes stands.reader) (ends until (bytes ++ piece) here)
 
 -- a fault in a piece, whatever follows
 pub fault_in_piece : (until : Until) (part : JournalPart) (q : Progress) (bytes piece more : List ℕ) (answer : Result (Option ⊤) (NotTaken FileFault)) (fault : FileFault) → answer ≡ Err (Fault fault) → StandsForJournalPart until part bytes → GoesOn journals (is_whole until) bytes

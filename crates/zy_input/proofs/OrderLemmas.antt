@@ -13,7 +13,7 @@ use Rattle.zy_capture.proofs.AddLemmas.{Adds, next_adds}
 use Rattle.zy_capture.proofs.AgainLemmas.{with_output_are}
 use Rattle.zy_capture.proofs.RepliesSoFarLemmas.{outputs_so_far}
 use Rattle.zy_capture.proofs.RepliesTellLemmas.{told_magic, version_stays}
-use Rattle.zy_input.specs.Keeping.{Keeps, IsAdding}
+use Rattle.zy_input.specs.Keeping.{KeepsRecords, IsAdding}
 use Rattle.zy_input.specs.Kinds.{replies_keeping}
 use Rattle.zy_input.proofs.KeepingLemmas.{Stays, not_none, kept_here, given_last, given_some}
 
@@ -53,7 +53,7 @@ may_add reader kept item outputs is made = (adds reader kept item outputs is mad
 
 -- one further output is kept
 pub output_kept : (reader : Progress) (kept : Option AllOutputs) (old new : AllOutputs) (item : SessionBytes) (given : List SessionBytes) (version : Option ℕ) → IsAdding replies_keeping reader kept item → kept ≡ Some old
-    → Keeps replies_keeping (Some old) version given → new ≡ with_output old item.conn item.bytes → Keeps replies_keeping (Some new) version (given ++ item ∷ [])
+    → KeepsRecords replies_keeping (Some old) version given → new ≡ with_output old item.conn item.bytes → KeepsRecords replies_keeping (Some new) version (given ++ item ∷ [])
 output_kept reader kept old new item given None is made keeps added = absurd keeps
 output_kept reader kept old new item given (Some v) is made keeps added =
     let found = adds reader kept item old is made in (

@@ -29,12 +29,12 @@ use Rattle.zy_input.specs.declared.stop.Refusal.{Refusal}
 use Rattle.zy_input.specs.declared.stop.Refusal.TheVariants.{Capture, Journal as OfJournal, Replies as OfReplies, Pcap}
 use Rattle.zy_input.specs.Parts.{HasStreams, HasPackets}
 use Rattle.zy_input.specs.Reading.{Kind, format_kind, never}
-use Rattle.zy_input.specs.Keeping.{Keeping, HasKept}
+use Rattle.zy_input.specs.Keeping.{Keeper, HasKept}
 
 -- ---- captures
 
 -- of a capture its streams are kept, from its count on
-abbrev pub capture_keeping : Keeping CaptureSteps.Progress Record CaptureFault Captures.Verdict (List (List (List ℕ)))
+abbrev pub capture_keeping : Keeper CaptureSteps.Progress Record CaptureFault Captures.Verdict (List (List (List ℕ)))
 capture_keeping = record {
   format = Captures.captures;
   number_of = Captures.count_of;
@@ -76,7 +76,7 @@ journal_kind until =
 -- ---- replies files, which end with the source
 
 -- of a replies file its outputs are kept, from its version on
-abbrev pub replies_keeping : Keeping RepliesSteps.Progress SessionBytes FileFault Replies.Verdict AllOutputs
+abbrev pub replies_keeping : Keeper RepliesSteps.Progress SessionBytes FileFault Replies.Verdict AllOutputs
 replies_keeping = record {
   format = Replies.replies;
   number_of = Replies.version_of;

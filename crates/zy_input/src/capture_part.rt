@@ -7,7 +7,7 @@ ghost use Rattle.zy_capture.specs.Standing.{StandsFor};
 ghost use Rattle.zy_capture.specs.Streams.{with_record};
 ghost use Rattle.zy_capture.specs.Verdict.{fault_of, count_of, is_within_record};
 ghost use Rattle.zy_input.specs.Reading.{Takes, IsPartOpen};
-ghost use Rattle.zy_input.specs.Keeping.{Keeps, KeepsSoFar, IsKeeping, IsAdding};
+ghost use Rattle.zy_input.specs.Keeping.{KeepsRecords, KeepsSoFar, IsKeeping, IsAdding};
 ghost use Rattle.zy_input.specs.Kinds.{MayKeep, capture_keeping, capture_kind};
 
 use crate::part::{Part, Taken};
@@ -46,7 +46,7 @@ impl CapturePart {
         ensures value { (given all : List Record) (bytes : List ℕ)
             → StandsFor self.old.reader all bytes
             → KeepsSoFar capture_keeping self.old.streams (count_of bytes) given
-            → OnOk result (Keeps capture_keeping self.new.streams (count_of bytes) given) }
+            → OnOk result (KeepsRecords capture_keeping self.new.streams (count_of bytes) given) }
     {
         if self.streams.is_some() {
             return Ok(());
@@ -68,8 +68,8 @@ impl CapturePart {
         requires adding { IsAdding capture_keeping self.old.reader self.old.streams item.now }
         ensures reader { self.new.reader ≡ self.old.reader }
         ensures value { (given : List Record) (count : Option ℕ)
-            → Keeps capture_keeping self.old.streams count given
-            → OnOk result (Keeps capture_keeping self.new.streams count (given ++ item.now ∷ [])) }
+            → KeepsRecords capture_keeping self.old.streams count given
+            → OnOk result (KeepsRecords capture_keeping self.new.streams count (given ++ item.now ∷ [])) }
     {
         match &mut self.streams {
             Some(streams) => add_record(streams, item),
@@ -84,7 +84,7 @@ impl CapturePart {
         ensures value { (given : List Record) (bytes : List ℕ)
             → StandsFor self.old.reader (given ++ option_to_list gave) bytes
             → KeepsSoFar capture_keeping self.old.streams (count_of bytes) given
-            → OnOk result (Keeps capture_keeping self.new.streams (count_of bytes)
+            → OnOk result (KeepsRecords capture_keeping self.new.streams (count_of bytes)
             (given ++ option_to_list gave)) }
     {
         match self.begin() {

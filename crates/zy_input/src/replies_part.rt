@@ -5,7 +5,7 @@ ghost use Rattle.zy_capture.specs.declared.session_bytes.SessionBytes.{SessionBy
 ghost use Rattle.zy_capture.specs.RepliesStanding.{StandsForReplies};
 ghost use Rattle.zy_capture.specs.RepliesVerdict.{fault_of, version_of};
 ghost use Rattle.zy_input.specs.Reading.{Takes};
-ghost use Rattle.zy_input.specs.Keeping.{Keeps, KeepsSoFar, IsKeeping, IsAdding};
+ghost use Rattle.zy_input.specs.Keeping.{KeepsRecords, KeepsSoFar, IsKeeping, IsAdding};
 ghost use Rattle.zy_input.specs.Kinds.{replies_keeping, replies_kind};
 
 use crate::part::{Part, Taken};
@@ -44,7 +44,7 @@ impl RepliesPart {
         ensures value { (given all : List SessionBytes) (bytes : List ℕ)
             → StandsForReplies self.old.reader all bytes
             → KeepsSoFar replies_keeping self.old.outputs (version_of bytes) given
-            → Keeps replies_keeping self.new.outputs (version_of bytes) given }
+            → KeepsRecords replies_keeping self.new.outputs (version_of bytes) given }
     {
         if self.outputs.is_some() {
             return;
@@ -59,8 +59,8 @@ impl RepliesPart {
         requires adding { IsAdding replies_keeping self.old.reader self.old.outputs item }
         ensures reader { self.new.reader ≡ self.old.reader }
         ensures value { (given : List SessionBytes) (version : Option ℕ)
-            → Keeps replies_keeping self.old.outputs version given
-            → OnOk result (Keeps replies_keeping self.new.outputs version (given ++ item ∷ [])) }
+            → KeepsRecords replies_keeping self.old.outputs version given
+            → OnOk result (KeepsRecords replies_keeping self.new.outputs version (given ++ item ∷ [])) }
     {
         match &mut self.outputs {
             Some(outputs) => match outputs.add(item.conn, item.bytes) {
@@ -81,7 +81,7 @@ impl RepliesPart {
         ensures value { (given : List SessionBytes) (bytes : List ℕ)
             → StandsForReplies self.old.reader (given ++ option_to_list gave) bytes
             → KeepsSoFar replies_keeping self.old.outputs (version_of bytes) given
-            → OnOk result (Keeps replies_keeping self.new.outputs (version_of bytes)
+            → OnOk result (KeepsRecords replies_keeping self.new.outputs (version_of bytes)
             (given ++ option_to_list gave)) }
     {
         self.begin();

@@ -1,5 +1,5 @@
 use Rattle.std.proofs.Common.{subst}
-use Rattle.zy_input.specs.Keeping.{Keeps}
+use Rattle.zy_input.specs.Keeping.{KeepsRecords}
 use Rattle.zy_input.specs.Kinds.{capture_keeping}
 use Rattle.zy_input.proofs.CaptureLemmas.{record_kept}
 use Rattle.zy_input.proofs.LawfulLemmas.{streams_made, may_keep}
@@ -13,4 +13,4 @@ unreachable-requires c = absurd (streams_made c.args.self.now.reader c.args.self
 
 pub returns-clause-value : goal.returns-clause-value
 returns-clause-value c given count kept =
-    record_kept c.in-Some.streams c.add_record.new.streams count c.args.item.now given c.add_record.result c.add_record.ensures.ok (subst (λ o. Keeps capture_keeping o count given) c.in-Some.is kept)
+    record_kept c.in-Some.streams c.add_record.new.streams count c.args.item.now given c.add_record.result c.add_record.ensures.ok (subst (λ o. KeepsRecords capture_keeping o count given) c.in-Some.is kept)
