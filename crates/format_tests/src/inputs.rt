@@ -2,7 +2,7 @@
 use crate::failing::source_of;
 use std::alloc::Global;
 use zy_base::{MemSource, NoMemory};
-use zy_check_input::{Stop, read_parts, read_streams};
+use zy_input::{Stop, read_parts, read_streams};
 
 // A capture of one segment, a journal without records, and a replies file: 42 bytes.
 const INPUT: &[u8] = b"ZYGCAP1\n\0\0\0\x01S\0\0\0\0\0\0\0\x02geEZYGJRN1\nEZYGREP1\nE";

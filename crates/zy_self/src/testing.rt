@@ -16,7 +16,7 @@ use std::thread::Threads;
 use zy_base::{Blob, Gate, NoMemory, SureSource};
 use zy_capture::Streams;
 use zy_check::{Verdict, check, served_runs_check};
-use zy_check_input::read_streams;
+use zy_input::read_streams;
 use zy_command_line::{Run, Traffic};
 use zy_feed::Stop;
 use zy_finish::Finished;

@@ -15,8 +15,8 @@ use Rattle.zy_journal.specs.Journal.{journal_bytes}
 use Rattle.zy_journal_reader.specs.Steps.{journal_limit}
 use Rattle.zy_journal_reader.proofs.WholeLemmas.{good_spells as journal_spells}
 use Rattle.zy_journal_reader.proofs.SpelledLemmas.{spells_good as journal_good}
-use Rattle.zy_check_input.specs.Parts.{AreParts}
-use Rattle.zy_check_input.proofs.DivisionLemmas.{one_streams, one_journal, one_outputs}
+use Rattle.zy_input.specs.Parts.{AreParts}
+use Rattle.zy_input.proofs.DivisionLemmas.{one_streams, one_journal, one_outputs}
 use Rattle.zy_check.specs.declared.verdict.Verdict.{Verdict}
 use Rattle.zy_check.specs.declared.verdict.Verdict.TheVariants.{Yes}
 use Rattle.zy_check.specs.Given.{given}

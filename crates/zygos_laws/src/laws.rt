@@ -8,7 +8,7 @@ ghost use Rattle.zy_journal.specs.Journal.{journal_bytes};
 ghost use Rattle.zy_journal_reader.specs.Steps.{journal_limit};
 ghost use Rattle.zy_check.specs.declared.verdict.Verdict.{Verdict};
 ghost use Rattle.zy_check.specs.declared.verdict.Verdict.TheVariants.{Yes};
-ghost use Rattle.zy_check_input.specs.Parts.{AreParts};
+ghost use Rattle.zy_input.specs.Parts.{AreParts};
 ghost use Rattle.zy_command_line.specs.Grammar.{Word};
 ghost use Rattle.zy_command_line.specs.Range.{AreShards};
 ghost use Rattle.zy_command_line.specs.Request.{request_of};

@@ -7,9 +7,9 @@ use Rattle.zy_capture.specs.declared.record.Record.{Record}
 use Rattle.zy_capture.specs.Outputs.{AllOutputs}
 use Rattle.zy_capture.specs.Verdict as Captures
 use Rattle.zy_journal.specs.declared.journal.Journal.{Journal as OneJournal}
-use Rattle.zy_check_input.specs.declared.stop.Refusal.{Refusal}
-use Rattle.zy_check_input.specs.declared.stop.Refusal.TheVariants.{Capture, Journal, Pcap}
-use Rattle.zy_check_input.specs.Parts.{AreParts, HasPartFault}
+use Rattle.zy_input.specs.declared.stop.Refusal.{Refusal}
+use Rattle.zy_input.specs.declared.stop.Refusal.TheVariants.{Capture, Journal, Pcap}
+use Rattle.zy_input.specs.Parts.{AreParts, HasPartFault}
 use Rattle.zy_read.proofs.SourceLemmas.{told_all}
 use Rattle.zy_command_line.specs.declared.request.Request.{Request}
 use Rattle.zy_command_line.specs.declared.request.Request.TheVariants.{Run, Check, Gen, Pcap as PcapOf, Report, SelfTest}

@@ -2,7 +2,7 @@
 use Rattle.std.specs.Prelude.{ℕ, List}
 use Rattle.zy_capture.specs.Outputs.{AllOutputs, AreOutputs}
 use Rattle.zy_journal.specs.declared.journal.Journal.{Journal}
-use Rattle.zy_check_input.specs.Parts.{AreParts}
+use Rattle.zy_input.specs.Parts.{AreParts}
 use Rattle.zy_check.specs.declared.verdict.Verdict.{Verdict as Certified}
 use Rattle.zy_check.specs.Given.{given}
 use Rattle.zy_check.specs.Cause.{HasVerdict}

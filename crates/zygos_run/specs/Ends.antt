@@ -2,7 +2,7 @@
 use Rattle.std.specs.Prelude.{◌≡◌, ℕ, List, [], Option, None, Some, ⊤, IsSome, IsNone, IsSomeAnd}
 use Rattle.zy_journal.specs.declared.journal.Journal.{Journal}
 use Rattle.zy_run.specs.declared.summary.Summary.{Summary}
-use Rattle.zy_check_input.specs.declared.stop.Refusal.{Refusal}
+use Rattle.zy_input.specs.declared.stop.Refusal.{Refusal}
 use Rattle.zy_check.specs.declared.verdict.Verdict.{Verdict as Certified}
 use Rattle.zy_command_line.specs.declared.request.Request.{Request}
 use Rattle.zy_serving.specs.Seen.{Seen, HasRisen, Takes, TakesPart, OfGiven}

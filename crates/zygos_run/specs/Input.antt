@@ -1,9 +1,9 @@
 -- What commands of the program read, and which faults that may have.
 use Rattle.std.specs.Prelude.{◌≡◌, ℕ, List, Option, ⊤, IfSome}
 use Rattle.zy_capture.specs.Verdict as Captures
-use Rattle.zy_check_input.specs.declared.stop.Refusal.{Refusal}
-use Rattle.zy_check_input.specs.declared.stop.Refusal.TheVariants.{Capture, Journal, Pcap}
-use Rattle.zy_check_input.specs.Parts.{HasPartFault, IsPartFault}
+use Rattle.zy_input.specs.declared.stop.Refusal.{Refusal}
+use Rattle.zy_input.specs.declared.stop.Refusal.TheVariants.{Capture, Journal, Pcap}
+use Rattle.zy_input.specs.Parts.{HasPartFault, IsPartFault}
 use Rattle.zy_journal_reader.specs.Verdict as Journals
 use Rattle.zy_pcap.specs.Packets as Recorded
 

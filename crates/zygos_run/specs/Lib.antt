@@ -1,7 +1,6 @@
 pub mod Answers
 pub mod Lines
 pub mod Said
-pub mod Packets
 pub mod Checked
 pub mod Recorded
 pub mod Reported

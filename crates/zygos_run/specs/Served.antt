@@ -1,7 +1,7 @@
 -- What the clauses of the top call say besides: of the bytes that a source reports, and of answers that must come.
 use Rattle.std.specs.Prelude.{◌≡◌, ◌⊎◌, ℕ, List, Option, IfSome, IsSome, IsSomeAnd}
 use Rattle.zy_journal.specs.declared.journal.Journal.{Journal}
-use Rattle.zy_check_input.specs.declared.stop.Refusal.{Refusal}
+use Rattle.zy_input.specs.declared.stop.Refusal.{Refusal}
 use Rattle.zy_check.specs.declared.verdict.Verdict.{Verdict as Certified}
 use Rattle.zy_command_line.specs.declared.request.Request.{Request}
 use Rattle.zy_serving.specs.Seen.{Seen, OfTold, Takes}

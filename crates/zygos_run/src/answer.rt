@@ -3,7 +3,7 @@ ghost use Rattle.std.specs.Prelude.{◌≡◌};
 ghost use Rattle.zygos_run.specs.Answers.{status_of};
 
 use zy_check::Verdict;
-use zy_check_input::Refusal;
+use zy_input::Refusal;
 use zy_journal::Journal;
 use zy_run::Summary;
 

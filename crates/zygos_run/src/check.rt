@@ -15,7 +15,7 @@ use crate::writing::finish_written;
 use std::alloc::Global;
 use zy_base::{Failed, Sink, Source};
 use zy_check::{Verdict, check};
-use zy_check_input::{Stop, read_parts};
+use zy_input::{Stop, read_parts};
 
 /// Reads a capture, a journal and a replies file, and writes the line of the verdict on them.
 pub(crate) fn check_input<S: Source, K: Sink>(

@@ -19,5 +19,5 @@ pub use answer::{Answer, status};
 pub use serving::serve;
 pub use standard::{StdSink, StdSource};
 pub use zy_check::{Cause, Verdict};
-pub use zy_check_input::Refusal;
+pub use zy_input::Refusal;
 pub use zy_run::Summary;

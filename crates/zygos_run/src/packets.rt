@@ -1,22 +1,20 @@
 //! Making the capture of recorded packets.
-ghost use Rattle.std.specs.Prelude.{◌≡◌, ◌≤◌, Some, [], List, ℕ};
+ghost use Rattle.std.specs.Prelude.{◌≡◌, ◌≤◌, Some, Err, IfOk, IfErr};
 ghost use Rattle.zy_base.specs.Outside.{WritesLast};
 ghost use Rattle.zy_command_line.specs.Range.{IsPort};
 ghost use Rattle.zy_command_line.specs.declared.request.Request.TheVariants as Requests;
 ghost use Rattle.zy_pcap.specs.Made.{capture_of};
-ghost use Rattle.zy_serving.specs.Seen.{side, seen};
+ghost use Rattle.zy_serving.specs.Seen.{side, seen, OfGiven};
+ghost use Rattle.zy_input.specs.Parts.{HasReadPackets};
 ghost use Rattle.zygos_run.specs.Finish.{FinishesOnce};
 ghost use Rattle.zygos_run.specs.Ends.{Ends, LeavesSink};
-ghost use Rattle.zygos_run.specs.Packets.{ReadsPackets, HasFed, FeedsAll, Advances, came_of, ended_by};
+ghost use Rattle.zygos_run.specs.Recorded.{IsRecorded};
 
 use crate::answer::Answer;
 use std::alloc::Global;
-use zy_base::{Failed, NoMemory, Sink, Source};
-use zy_check_input::Refusal;
-use zy_pcap::{
-    Fed, Flows, PcapFault, PcapFeed, PcapReader, the_capture_of_a_file_is_good, write_flows,
-};
-use zy_read::{Pieces, Stop};
+use zy_base::{Failed, Sink, Source};
+use zy_input::{Stop, read_packets};
+use zy_pcap::{Flows, the_capture_of_a_file_is_good, write_flows};
 
 /// Reads recorded packets, and writes the capture of those to a port.
 pub(crate) fn make_packets<S: Source, K: Sink>(
@@ -33,7 +31,7 @@ pub(crate) fn make_packets<S: Source, K: Sink>(
     ensures sink_kept { LeavesSink result → sink.new ≡ sink.old }
     ensures finished { FinishesOnce result (K.finishes sink.old) (K.finishes sink.new) (K.is_finished sink.new) }
 {
-    match read_packets(alloc, port, source) {
+    match read_flows(alloc, port, source) {
         Ok(flows) => {
             let written = write_capture(sink, &flows);
             drop(flows);
@@ -42,7 +40,7 @@ pub(crate) fn make_packets<S: Source, K: Sink>(
                 Err(Failed) => Answer::WriteFault,
             }
         }
-        Err(Stop::Refused(fault)) => Answer::Refused(Refusal::Pcap(fault)),
+        Err(Stop::Refused(refusal)) => Answer::Refused(refusal),
         Err(Stop::ReadFault) => Answer::ReadFault,
         Err(Stop::NoMemory) => Answer::OutOfMemory,
     }
@@ -57,108 +55,18 @@ fn write_capture<K: Sink>(sink: &mut K, flows: &Flows) -> Result<(), Failed>
     sink.finish()
 }
 
-// Reads the source to its end.
-fn read_packets<S: Source>(
-    alloc: Global,
-    port: u16,
-    source: &mut S,
-) -> Result<Flows, Stop<PcapFault>>
+// Reads recorded packets to the end of the source. Their capture is good.
+fn read_flows<S: Source>(alloc: Global, port: u16, source: &mut S) -> Result<Flows, Stop>
     requires port { IsPort port }
     ensures reads { S.faults source.old ≤ S.faults source.new }
-    ensures ends { ReadsPackets port (side S.rest S.faults source.old source.new) result }
+    ensures ok { IfOk result (λ streams. OfGiven (side S.rest S.faults source.old source.new)
+        (λ bytes. IsRecorded port bytes (λ capture. capture ≡ capture_of streams))) }
+    ensures err { IfErr result
+        (λ stop. HasReadPackets port S.rest S.faults source.old source.new (Err stop)) }
 {
     the_capture_of_a_file_is_good();
-    let mut reader = PcapReader::new(alloc, port);
-    match feed_pieces(alloc, &mut reader, source) {
-        Ok(()) => ended_by(reader.finish()),
-        Err(stop) => {
-            drop(reader);
-            Err(stop)
-        }
-    }
-}
-
-// What comes of the reader's answer at the end.
-fn ended_by(answer: Result<Flows, PcapFault>) -> Result<Flows, Stop<PcapFault>>
-    ensures value { result ≡ ended_by answer }
-{
-    match answer {
+    match read_packets(alloc, port, source) {
         Ok(flows) => Ok(flows),
-        Err(fault) => Err(Stop::Refused(fault)),
-    }
-}
-
-// Feeds the reader all bytes of the source, piece by piece.
-fn feed_pieces<S: Source>(
-    alloc: Global,
-    reader: &mut PcapReader,
-    source: &mut S,
-) -> Result<(), Stop<PcapFault>>
-    ensures value { (first : S) (port : ℕ)
-        → HasFed S.rest S.faults port first source.old [] reader.old []
-        → FeedsAll S.rest S.faults port first source.new reader.new result }
-    ensures count { S.faults source.old ≤ S.faults source.new }
-{
-    let mut pieces = match Pieces::new(alloc) {
-        Ok(pieces) => pieces,
-        Err(NoMemory) => return Err(Stop::NoMemory),
-    };
-    let fed = feed_all(reader, &mut pieces, source);
-    drop(pieces);
-    fed
-}
-
-// Feeds the reader up to the end of the source.
-fn feed_all<S: Source>(
-    reader: &mut PcapReader,
-    pieces: &mut Pieces,
-    source: &mut S,
-) -> Result<(), Stop<PcapFault>>
-    ensures value { (first : S) (port : ℕ)
-        → HasFed S.rest S.faults port first source.old pieces.old reader.old []
-        → FeedsAll S.rest S.faults port first source.new reader.new result }
-    ensures count { S.faults source.old ≤ S.faults source.new }
-{
-    for _ in 0..u64::MAX {
-        match advance(reader, pieces, source) {
-            Ok(true) => {}
-            Ok(false) => return Ok(()),
-            Err(stop) => return Err(stop),
-        }
-    }
-    // No file has so many bytes.
-    Err(Stop::NoMemory)
-}
-
-// Feeds the reader some bytes. Gives whether there were any.
-fn advance<S: Source>(
-    reader: &mut PcapReader,
-    pieces: &mut Pieces,
-    source: &mut S,
-) -> Result<bool, Stop<PcapFault>>
-    ensures value { (first : S) (port : ℕ) (bytes : List ℕ)
-        → HasFed S.rest S.faults port first source.old pieces.old reader.old bytes
-        → Advances S.rest S.faults port first source.new pieces.new reader.new bytes result }
-    ensures count { S.faults source.old ≤ S.faults source.new }
-{
-    match pieces.refill(source) {
-        Ok(true) => {
-            let Fed { taken, answer } = reader.feed_piece(pieces.left());
-            pieces.pass(taken);
-            came_of(answer)
-        }
-        Ok(false) => Ok(false),
-        Err(Failed) => Err(Stop::ReadFault),
-    }
-}
-
-// What comes of the reader's answer to some bytes.
-fn came_of(answer: Result<(), PcapFeed>) -> Result<bool, Stop<PcapFault>>
-    ensures value { result ≡ came_of answer }
-{
-    match answer {
-        Ok(()) => Ok(true),
-        Err(PcapFeed::Fault(fault)) => Err(Stop::Refused(fault)),
-        Err(PcapFeed::NoMemory) => Err(Stop::NoMemory),
+        Err(stop) => Err(stop),
     }
 }

@@ -10,7 +10,7 @@ use crate::answer::Answer;
 use crate::writing::write_last;
 use std::alloc::Global;
 use zy_base::{Blob, Failed, NoMemory, Sink, Source};
-use zy_check_input::{Stop, read_journal};
+use zy_input::{Stop, read_journal};
 use zy_journal_reader::a_journal_is_good_exactly_where_it_is_a_spelling;
 use zy_report::report;
 

@@ -8,7 +8,7 @@ use crate::answer::Answer;
 use crate::lines::{write_number, write_two};
 use zy_base::{Failed, FileFault, Sink, write_whole};
 use zy_capture::CaptureFault;
-use zy_check_input::Refusal;
+use zy_input::Refusal;
 use zy_pcap::PcapFault;
 
 /// Writes the line of the answer. A failure here is ignored.

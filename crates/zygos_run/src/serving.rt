@@ -18,7 +18,7 @@ use std::alloc::Global;
 use std::sync::Wait;
 use std::thread::Threads;
 use zy_base::{Blob, Gate, Sink, Source};
-use zy_check_input::{parts_have_no_fault, there_is_one_part_fault};
+use zy_input::{parts_have_no_fault, there_is_one_part_fault};
 
 /// Carries out the command that the words ask for.
 ///

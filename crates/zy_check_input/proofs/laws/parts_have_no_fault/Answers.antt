@@ -1,5 +1,0 @@
-use Rattle.zy_check_input.proofs.FaultLemmas.{no_fault}
-use Rattle.zy_check_input.proofs.laws.parts_have_no_fault.Goals as goal
-
-pub returns : goal.returns
-returns c = record { none = no_fault }

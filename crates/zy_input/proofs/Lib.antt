@@ -1,0 +1,13 @@
+pub mod PartLemmas
+pub mod FormatLemmas
+pub mod KeepingLemmas
+pub mod CaptureLemmas
+pub mod RepliesLemmas
+pub mod JournalLemmas
+pub mod WholeLemmas
+pub mod FaultLemmas
+pub mod DivisionLemmas
+pub mod FileLemmas
+pub mod PacketLemmas
+pub mod LawfulLemmas
+pub mod OrderLemmas

@@ -1,0 +1,71 @@
+-- Recorded packets that are all that a source gives.
+use Rattle.std.proofs.Common.{◌≡◌, ℕ, List, [], ◌++◌, refl, sym, ◌∙◌, ap, subst, append_assoc}
+use Rattle.std.specs.Prelude.{Option, None, Result, Ok, Err, ⊤}
+use Rattle.zy_read.specs.declared.not_taken.NotTaken.{NotTaken}
+use Rattle.zy_read.specs.declared.not_taken.NotTaken.TheVariants.{Fault}
+use Rattle.zy_read.specs.declared.stop.Stop.{Stop}
+use Rattle.zy_read.specs.declared.stop.Stop.TheVariants.{Refused, ReadFault, NoMemory}
+use Rattle.zy_pcap.specs.declared.pcap_fault.PcapFault.{PcapFault}
+use Rattle.zy_pcap.specs.Packets.{Found, read_on, read, packets, fault_met}
+use Rattle.zy_pcap.specs.Packets.Found.{Packets, Bad}
+use Rattle.zy_pcap.specs.Standing.{Reading, StandsFor, Feeds, TellsFault, TellsLasting, FinishesAs, FinishesBy}
+use Rattle.zy_input.specs.declared.packets_part.PacketsPart.{PacketsPart}
+use Rattle.zy_input.specs.declared.stop.Refusal.{Refusal}
+use Rattle.zy_input.specs.declared.stop.Refusal.TheVariants.{Capture, Journal as OfJournal, Replies as OfReplies, Pcap}
+use Rattle.zy_input.specs.Parts.{HasPackets, HasReadPackets}
+use Rattle.zy_input.specs.Reading.{HasFaultBehind, Reads}
+use Rattle.zy_input.specs.Kinds.{StandsForPackets, packets_kind}
+use Rattle.zy_input.proofs.PartLemmas.{if_some, read_all}
+
+-- ---- where they begin
+
+-- before the first byte there is no fault
+pub no_fault : (port : ℕ) → fault_met port [] ≡ None
+unfolding fault_met read read_on
+no_fault port = refl
+
+-- ---- further bytes
+
+-- after a piece without a fault
+pub packets_on : (port : ℕ) (part : PacketsPart) (new : Reading) (bytes piece : List ℕ) (answer : Result ⊤ (NotTaken PcapFault)) → answer ≡ Ok tt → StandsForPackets port part bytes → new.port ≡ part.reader.port → Feeds part.reader new piece → TellsFault part.reader piece answer
+    → ((new.port ≡ port) × StandsFor new (bytes ++ piece)) × (fault_met port (bytes ++ piece) ≡ None)
+packets_on port part new bytes piece answer is stands same feeds tells =
+    let met = subst (λ (a : Result ⊤ (NotTaken PcapFault)). TellsFault part.reader piece a) is tells in
+    ((same ∙ stands.0, feeds bytes stands.1), subst (λ (n : ℕ). fault_met n (bytes ++ piece) ≡ None) stands.0 (met bytes stands.1))
+
+-- after a fault, whatever follows
+pub packets_faulty : (port : ℕ) (part : PacketsPart) (bytes piece more : List ℕ) (answer : Result ⊤ (NotTaken PcapFault)) (fault : PcapFault) → answer ≡ Err (Fault fault) → StandsForPackets port part bytes → TellsLasting part.reader piece answer → packets port ((bytes ++ piece) ++ more) ≡ Bad fault
+packets_faulty port part bytes piece more answer fault is stands tells =
+    let lasts = subst (λ (a : Result ⊤ (NotTaken PcapFault)). TellsLasting part.reader piece a) is tells in
+    subst (λ (n : ℕ). packets n ((bytes ++ piece) ++ more) ≡ Bad fault) stands.0 (ap (packets part.reader.port) (append_assoc bytes piece more) ∙ lasts bytes more stands.1)
+
+-- ---- the end
+
+streams_found : (found : Found) (port : ℕ) (bytes : List ℕ) (streams : List (List (List ℕ))) → packets port bytes ≡ found → FinishesAs found (Ok streams) → HasPackets port bytes streams
+streams_found (Packets given) port bytes streams is finishes = record { given = given; good = is; joined = finishes }
+streams_found (Bad fault) port bytes streams is finishes = absurd finishes
+
+fault_found : (found : Found) (fault : PcapFault) → FinishesAs found (Err fault) → found ≡ Bad fault
+fault_found (Packets given) fault finishes = absurd finishes
+fault_found (Bad met) fault finishes = ap Bad (sym finishes)
+
+pub ends_good : (port : ℕ) (part : PacketsPart) (bytes : List ℕ) (streams : List (List (List ℕ))) → StandsForPackets port part bytes → FinishesBy part.reader (Ok streams) → HasPackets port bytes streams
+ends_good port part bytes streams stands finishes = streams_found (packets port bytes) port bytes streams refl (subst (λ (n : ℕ). FinishesAs (packets n bytes) (Ok streams)) stands.0 (finishes bytes stands.1))
+
+pub ends_bad : (port : ℕ) (part : PacketsPart) (bytes : List ℕ) (fault : PcapFault) → StandsForPackets port part bytes → FinishesBy part.reader (Err fault) → packets port bytes ≡ Bad fault
+ends_bad port part bytes fault stands finishes = fault_found (packets port bytes) fault (subst (λ (n : ℕ). FinishesAs (packets n bytes) (Err fault)) stands.0 (finishes bytes stands.1))
+
+-- ---- all of them
+
+-- the fault is that of all the text
+fault_behind : (port : ℕ) (text : List ℕ) (fault : PcapFault) → HasFaultBehind (packets_kind port) [] text (Pcap fault) → packets port text ≡ Bad fault
+fault_behind port text fault behind = ap (packets port) behind.whole ∙ behind.faulty
+
+pub packets_read : {S : Type 0} (port : ℕ) (rest : S → Option (List ℕ)) (faults : S → ℕ) (first now : S) (left : List ℕ) (answer : Result (List (List (List ℕ))) (Stop Refusal)) → Reads (packets_kind port) rest faults first now left [] answer → HasReadPackets port rest faults first now answer
+packets_read port rest faults first now left (Ok streams) has = (has.bytes, read_all (packets_kind port) rest faults first now left [] streams (λ text whole. whole) has, has.gives)
+packets_read port rest faults first now left (Err (Refused (Pcap fault))) stops = if_some (rest first) (λ text. HasFaultBehind (packets_kind port) [] text (Pcap fault)) (λ text. packets port text ≡ Bad fault) (λ text. fault_behind port text fault) stops.1
+packets_read port rest faults first now left (Err (Refused (Capture fault))) stops = absurd stops.0.1
+packets_read port rest faults first now left (Err (Refused (OfJournal fault))) stops = absurd stops.0.1
+packets_read port rest faults first now left (Err (Refused (OfReplies fault))) stops = absurd stops.0.1
+packets_read port rest faults first now left (Err ReadFault) stops = stops
+packets_read port rest faults first now left (Err NoMemory) stops = tt

@@ -1,0 +1,116 @@
+-- The kinds of parts: which bytes brought their readers to where they are, and what a text of each kind gives. No
+-- public clause cites this module.
+use Rattle.std.specs.Prelude.{◌≡◌, ℕ, ◌^◌, ◌<◌, Bool, List, length, None, ⊤}
+use Rattle.zy_base.specs.declared.file_fault.FileFault.{FileFault}
+use Rattle.zy_capture.specs.declared.capture_fault.CaptureFault.{CaptureFault}
+use Rattle.zy_capture.specs.declared.record.Record.{Record}
+use Rattle.zy_capture.specs.declared.record.Record.TheVariants as Kinds
+use Rattle.zy_capture.specs.declared.session_bytes.SessionBytes.{SessionBytes}
+use Rattle.zy_capture.specs.Streams.{sessions_of, no_bytes, with_records}
+use Rattle.zy_capture.specs.Steps as CaptureSteps
+use Rattle.zy_capture.specs.Outputs.{AllOutputs, AreOutputs}
+use Rattle.zy_capture.specs.Replies.{items_of}
+use Rattle.zy_capture.specs.RepliesSteps as RepliesSteps
+use Rattle.zy_capture.specs.Verdict as Captures
+use Rattle.zy_capture.specs.RepliesVerdict as Replies
+use Rattle.zy_pcap.specs.Packets.{fault_met, packets}
+use Rattle.zy_pcap.specs.Packets.Found.{Bad}
+use Rattle.zy_pcap.specs.Standing.{StandsFor}
+use Rattle.zy_journal.specs.declared.journal.Journal.{Journal}
+use Rattle.zy_journal_reader.specs.Standing.{StandsForJournal}
+use Rattle.zy_journal_reader.specs.Verdict as Journals
+use Rattle.zy_input.specs.declared.capture_part.CapturePart.{CapturePart}
+use Rattle.zy_input.specs.declared.journal_part.JournalPart.{JournalPart}
+use Rattle.zy_input.specs.declared.journal_part.Until.{Until}
+use Rattle.zy_input.specs.declared.journal_part.Until.TheVariants.{OwnEnd, SourceEnd}
+use Rattle.zy_input.specs.declared.packets_part.PacketsPart.{PacketsPart}
+use Rattle.zy_input.specs.declared.replies_part.RepliesPart.{RepliesPart}
+use Rattle.zy_input.specs.declared.stop.Refusal.{Refusal}
+use Rattle.zy_input.specs.declared.stop.Refusal.TheVariants.{Capture, Journal as OfJournal, Replies as OfReplies, Pcap}
+use Rattle.zy_input.specs.Parts.{HasStreams, HasPackets}
+use Rattle.zy_input.specs.Reading.{Kind, format_kind, never}
+use Rattle.zy_input.specs.Keeping.{Keeper, HasKept}
+
+-- ---- captures
+
+-- of a capture its streams are kept, from its count on
+abbrev pub capture_keeping : Keeper CaptureSteps.Progress Record CaptureFault Captures.Verdict (List (List (List ℕ)))
+capture_keeping = record {
+  format = Captures.captures;
+  number_of = Captures.count_of;
+  holds = λ streams count given. streams ≡ with_records (no_bytes count) given;
+}
+
+-- these bytes of a capture were fed, and their records are kept
+abbrev pub StandsForCapture : CapturePart → List ℕ → Type 0
+StandsForCapture part bytes = HasKept capture_keeping part.reader part.streams bytes
+
+-- the record is of one of the connections, which has room for a further session if the record begins one
+abbrev pub MayKeep : List (List (List ℕ)) → Record → Type 0
+MayKeep streams (Kinds.Segment s) = s.conn < length streams
+MayKeep streams (Kinds.Close conn) = (conn < length streams) × (length (sessions_of streams conn) < 2 ^ 31)
+
+abbrev pub capture_kind : Kind CapturePart (List (List (List ℕ)))
+capture_kind =
+    format_kind Captures.captures Captures.is_good (λ fault. Capture fault) StandsForCapture
+    (λ streams text. HasStreams text streams)
+
+-- ---- journals
+
+-- the verdict is that the text is whole; a journal that ends with the source is not, before that
+abbrev pub is_whole : Until → Journals.Verdict → Bool
+is_whole OwnEnd verdict = Journals.is_good verdict
+is_whole SourceEnd verdict = never verdict
+
+-- these bytes of a journal were fed
+pub record StandsForJournalPart (until : Until) (part : JournalPart) (bytes : List ℕ) : Type 0 where
+  pub given : List ⊤
+  pub reader : StandsForJournal part.reader given bytes
+  pub ends : part.until ≡ until
+
+abbrev pub journal_kind : Until → Kind JournalPart Journal
+journal_kind until =
+    format_kind Journals.journals (is_whole until) (λ fault. OfJournal fault) (StandsForJournalPart until)
+    (λ journal text. Journals.verdict text ≡ Journals.Verdict.Good journal)
+
+-- ---- replies files, which end with the source
+
+-- of a replies file its outputs are kept, from its version on
+abbrev pub replies_keeping : Keeper RepliesSteps.Progress SessionBytes FileFault Replies.Verdict AllOutputs
+replies_keeping = record {
+  format = Replies.replies;
+  number_of = Replies.version_of;
+  holds = λ outputs version given. (items_of outputs ≡ given) × (outputs.version ≡ version) × AreOutputs outputs;
+}
+
+-- these bytes of a replies file were fed, and their outputs are kept
+abbrev pub StandsForRepliesPart : RepliesPart → List ℕ → Type 0
+StandsForRepliesPart part bytes = HasKept replies_keeping part.reader part.outputs bytes
+
+-- the text is a replies file with these outputs
+abbrev pub HasOutputs : AllOutputs → List ℕ → Type 0
+HasOutputs outputs text =
+    (Replies.verdict text ≡ Replies.Verdict.Good outputs.version (items_of outputs)) × AreOutputs outputs
+
+abbrev pub replies_kind : Kind RepliesPart AllOutputs
+replies_kind = format_kind Replies.replies never (λ fault. OfReplies fault) StandsForRepliesPart HasOutputs
+
+-- ---- recorded packets, which end with the source
+
+-- these bytes of recorded packets to a port were fed
+abbrev pub StandsForPackets : ℕ → PacketsPart → List ℕ → Type 0
+StandsForPackets port part bytes = (part.reader.port ≡ port) × StandsFor part.reader bytes
+
+-- the text has this fault as packets to the port
+abbrev pub IsFaultyPackets : ℕ → List ℕ → Refusal → Type 0
+IsFaultyPackets port text (Pcap fault) = packets port text ≡ Bad fault
+IsFaultyPackets port text refusal = ⊥
+
+abbrev pub packets_kind : ℕ → Kind PacketsPart (List (List (List ℕ)))
+packets_kind port = record {
+  stands = StandsForPackets port;
+  goes_on = λ text. fault_met port text ≡ None;
+  whole = λ text. ⊥;
+  gives = λ streams text. HasPackets port text streams;
+  faulty = IsFaultyPackets port;
+}

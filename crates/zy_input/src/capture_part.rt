@@ -1,0 +1,202 @@
+//! Reading the capture, whose records are added to streams.
+ghost use Rattle.std.specs.Prelude.{◌≡◌, ◌<◌, ◌≤◌, ◌++◌, ◌∷◌, [], ℕ, List, length, take, true, Option, None, Ok, ⊤};
+ghost use Rattle.std.specs.Prelude.{OnOk, option_to_list};
+ghost use Rattle.zy_read.specs.Bytes.{AreBytes};
+ghost use Rattle.zy_capture.specs.declared.record.Record.{Record};
+ghost use Rattle.zy_capture.specs.Standing.{StandsFor};
+ghost use Rattle.zy_capture.specs.Streams.{with_record};
+ghost use Rattle.zy_capture.specs.Verdict.{fault_of, count_of, is_within_record};
+ghost use Rattle.zy_input.specs.Reading.{Takes, IsPartOpen};
+ghost use Rattle.zy_input.specs.Keeping.{KeepsRecords, KeepsSoFar, IsKeeping, IsAdding};
+ghost use Rattle.zy_input.specs.Kinds.{MayKeep, capture_keeping, capture_kind};
+
+use crate::part::{Part, Taken};
+use crate::stop::{Refusal, Stop};
+use std::alloc::Global;
+use zy_base::NoMemory;
+use zy_capture::{FeedFault, Reader, Record, Streams};
+use zy_read::Fed;
+
+/// The reader of the capture, and the streams of the records that it gave.
+#[derive(Drop)]
+pub(crate) struct CapturePart {
+    alloc: Global,
+    reader: Reader,
+    streams: Option<Streams>,
+}
+
+impl CapturePart {
+    // No byte was taken yet.
+    pub(crate) fn new(alloc: Global) -> CapturePart
+        ensures reader { StandsFor result.reader [] [] }
+        ensures none { result.streams ≡ None }
+    {
+        CapturePart {
+            alloc,
+            reader: Reader::new(alloc),
+            streams: None,
+        }
+    }
+
+    // Makes the streams where the count is known and they were not made.
+    fn begin(&mut self) -> Result<(), NoMemory>
+        requires keeping { (gave : Option Record)
+            × IsKeeping capture_keeping self.old.reader self.old.streams gave }
+        ensures reader { self.new.reader ≡ self.old.reader }
+        ensures value { (given all : List Record) (bytes : List ℕ)
+            → StandsFor self.old.reader all bytes
+            → KeepsSoFar capture_keeping self.old.streams (count_of bytes) given
+            → OnOk result (KeepsRecords capture_keeping self.new.streams (count_of bytes) given) }
+    {
+        if self.streams.is_some() {
+            return Ok(());
+        }
+        match self.reader.count() {
+            Some(count) => match Streams::new(self.alloc, count) {
+                Ok(streams) => {
+                    self.streams = Some(streams);
+                    Ok(())
+                }
+                Err(NoMemory) => Err(NoMemory),
+            },
+            None => Ok(()),
+        }
+    }
+
+    // Adds a record to the streams. A reader gives none before the count.
+    fn add(&mut self, item: &Record) -> Result<(), NoMemory>
+        requires adding { IsAdding capture_keeping self.old.reader self.old.streams item.now }
+        ensures reader { self.new.reader ≡ self.old.reader }
+        ensures value { (given : List Record) (count : Option ℕ)
+            → KeepsRecords capture_keeping self.old.streams count given
+            → OnOk result (KeepsRecords capture_keeping self.new.streams count (given ++ item.now ∷ [])) }
+    {
+        match &mut self.streams {
+            Some(streams) => add_record(streams, item),
+            None => unreachable!(),
+        }
+    }
+
+    // Keeps what the reader gave.
+    fn keep(&mut self, gave: Option<Record>) -> Result<(), NoMemory>
+        requires keeping { IsKeeping capture_keeping self.old.reader self.old.streams gave }
+        ensures reader { self.new.reader ≡ self.old.reader }
+        ensures value { (given : List Record) (bytes : List ℕ)
+            → StandsFor self.old.reader (given ++ option_to_list gave) bytes
+            → KeepsSoFar capture_keeping self.old.streams (count_of bytes) given
+            → OnOk result (KeepsRecords capture_keeping self.new.streams (count_of bytes)
+            (given ++ option_to_list gave)) }
+    {
+        match self.begin() {
+            Ok(()) => match gave {
+                Some(item) => self.add(&item),
+                None => Ok(()),
+            },
+            Err(NoMemory) => {
+                drop(gave);
+                Err(NoMemory)
+            }
+        }
+    }
+
+    // Keeps what the reader gave for some bytes. Gives whether the capture is whole.
+    fn go_on(&mut self, gave: Option<Record>) -> Result<bool, Stop>
+        requires keeping { IsKeeping capture_keeping self.old.reader self.old.streams gave }
+        ensures value { (given : List Record) (bytes : List ℕ)
+            → StandsFor self.old.reader (given ++ option_to_list gave) bytes
+            → AreBytes bytes → fault_of bytes ≡ None
+            → KeepsSoFar capture_keeping self.old.streams (count_of bytes) given
+            → Takes capture_kind self.new bytes result }
+    {
+        match self.keep(gave) {
+            Ok(()) => Ok(self.reader.is_done()),
+            Err(NoMemory) => Err(Stop::NoMemory),
+        }
+    }
+
+    // Takes one byte. Gives whether the capture is whole.
+    fn take_byte(&mut self, byte: u8) -> Result<bool, Stop>
+        requires goes { IsPartOpen (λ (u : ⊤). capture_kind) self.old }
+        ensures value { (bytes : List ℕ) → capture_kind.stands self.old bytes
+            → capture_kind.goes_on bytes → Takes capture_kind self.new (bytes ++ byte ∷ []) result }
+    {
+        match self.reader.feed(byte) {
+            Ok(gave) => self.go_on(gave),
+            Err(FeedFault::Fault(fault)) => Err(Stop::Refused(Refusal::Capture(fault))),
+            Err(FeedFault::NoMemory) => Err(Stop::NoMemory),
+        }
+    }
+
+    // Takes bytes of a record, up to its end at most.
+    fn take_piece(&mut self, next: &[u8]) -> Taken
+        requires some { 0 < length next.now }
+        requires goes { IsPartOpen (λ (u : ⊤). capture_kind) self.old }
+        ensures within { result.count ≤ length next.now }
+        ensures taken { (whole : _) → result.answer ≡ Ok whole → 0 < result.count }
+        ensures value { (bytes : List ℕ) → capture_kind.stands self.old bytes
+            → capture_kind.goes_on bytes → is_within_record bytes ≡ true
+            → Takes capture_kind self.new (bytes ++ take result.count next.now) result.answer }
+    {
+        let Fed { taken, answer } = self.reader.feed_piece(next);
+        match answer {
+            Ok(gave) => Taken {
+                count: taken,
+                answer: self.go_on(gave),
+            },
+            Err(FeedFault::Fault(fault)) => Taken {
+                count: taken,
+                answer: Err(Stop::Refused(Refusal::Capture(fault))),
+            },
+            Err(FeedFault::NoMemory) => Taken {
+                count: taken,
+                answer: Err(Stop::NoMemory),
+            },
+        }
+    }
+}
+
+impl Part for CapturePart {
+    type Gives = Streams;
+
+    ghost Setting = { ⊤ };
+
+    ghost kind = { λ u. capture_kind };
+
+    // Within a record the end of the capture doesn't come; elsewhere it may be the next byte.
+    fn take(&mut self, next: &[u8]) -> Taken {
+        if self.reader.is_within_record() {
+            return self.take_piece(next);
+        }
+        Taken {
+            count: 1,
+            answer: self.take_byte(next[0]),
+        }
+    }
+
+    fn end(self) -> Result<Streams, Stop> {
+        let CapturePart {
+            reader,
+            streams,
+            ..
+        } = self;
+        if let Err(fault) = reader.end() {
+            return Err(Stop::Refused(Refusal::Capture(fault)));
+        }
+        match streams {
+            Some(streams) => Ok(streams),
+            // The count of a capture that is whole was read.
+            None => unreachable!(),
+        }
+    }
+}
+
+// Adds a record to streams.
+fn add_record(streams: &mut Streams, item: &Record) -> Result<(), NoMemory>
+    requires may { MayKeep streams.old item.now }
+    ensures ok { OnOk result (streams.new ≡ with_record streams.old item.now) }
+{
+    match item {
+        Record::Segment(segment) => streams.add(segment),
+        Record::Close { conn } => streams.close(*conn),
+    }
+}

@@ -1,0 +1,16 @@
+//! The inputs of the program, read from one source: a capture, a journal and a replies file, one after the other; a
+//! capture or a journal alone; and recorded packets.
+#![tactic(auto)]
+
+mod capture_part;
+mod journal_part;
+mod laws;
+mod packets_part;
+mod part;
+mod parts;
+mod replies_part;
+mod stop;
+
+pub use laws::{an_input_has_one_set_of_parts, parts_have_no_fault, there_is_one_part_fault};
+pub use parts::{Parts, read_journal, read_packets, read_parts, read_streams};
+pub use stop::{Refusal, Stop};

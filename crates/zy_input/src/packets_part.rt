@@ -1,0 +1,62 @@
+//! Reading recorded packets.
+ghost use Rattle.std.specs.Prelude.{◌≡◌, ◌≤◌, [], ℕ};
+ghost use Rattle.zy_pcap.specs.Standing.{StandsFor};
+ghost use Rattle.zy_input.specs.Kinds.{packets_kind};
+
+use crate::part::{Part, Taken};
+use crate::stop::{Refusal, Stop};
+use std::alloc::Global;
+use zy_pcap::{Fed, Flows, PcapFeed, PcapReader};
+
+/// The reader of recorded packets.
+#[derive(Drop)]
+pub(crate) struct PacketsPart {
+    reader: PcapReader,
+}
+
+impl PacketsPart {
+    // No byte was taken yet.
+    pub(crate) fn new(alloc: Global, port: u16) -> PacketsPart
+        requires port { 1 ≤ port }
+        ensures port { result.reader.port ≡ port }
+        ensures value { StandsFor result.reader [] }
+    {
+        PacketsPart {
+            reader: PcapReader::new(alloc, port),
+        }
+    }
+}
+
+impl Part for PacketsPart {
+    type Gives = Flows;
+
+    ghost Setting = { ℕ };
+
+    ghost kind = { packets_kind };
+
+    // The file ends with the source.
+    fn take(&mut self, next: &[u8]) -> Taken {
+        let Fed { taken, answer } = self.reader.feed_piece(next);
+        match answer {
+            Ok(()) => Taken {
+                count: taken,
+                answer: Ok(false),
+            },
+            Err(PcapFeed::Fault(fault)) => Taken {
+                count: taken,
+                answer: Err(Stop::Refused(Refusal::Pcap(fault))),
+            },
+            Err(PcapFeed::NoMemory) => Taken {
+                count: taken,
+                answer: Err(Stop::NoMemory),
+            },
+        }
+    }
+
+    fn end(self) -> Result<Flows, Stop> {
+        match self.reader.finish() {
+            Ok(flows) => Ok(flows),
+            Err(fault) => Err(Stop::Refused(Refusal::Pcap(fault))),
+        }
+    }
+}

@@ -1,0 +1,135 @@
+//! Reading one part of an input.
+ghost use Rattle.std.specs.Prelude.{◌≡◌, ◌<◌, ◌≤◌, ℕ, List, [], ◌++◌, length, take, Ok, OnOk};
+ghost use Rattle.zy_input.specs.Reading.{Kind, IsPartOpen, IsPartFed, IsLeft, IsReading, Takes, EndsWhole};
+ghost use Rattle.zy_input.specs.Reading.{EndsCut, Advances, Feeds, Reads, ReadsAlone};
+
+use crate::stop::Stop;
+use std::alloc::Global;
+use zy_base::{Failed, NoMemory, Source};
+use zy_read::Pieces;
+
+/// How many bytes a part took, and whether it is whole with them.
+#[derive(Clone, Copy)]
+pub(crate) struct Taken {
+    pub(crate) count: usize,
+    pub(crate) answer: Result<bool, Stop>,
+}
+
+/// The reader of a part.
+pub(crate) trait Part: Drop {
+    /// What the part gives.
+    type Gives;
+
+    // What its bytes are read by: of a journal, where it ends; of recorded packets, their port.
+    ghost Setting: { Type 0 };
+
+    // What its bytes mean.
+    ghost kind: { Setting → Kind Self Self.Gives };
+
+    // Takes the first of the next bytes, but none after the end of the part.
+    fn take(&mut self, next: &[u8]) -> Taken
+        requires some { 0 < length next.now }
+        requires goes { IsPartOpen kind self.old }
+        ensures within { result.count ≤ length next.now }
+        ensures taken { (whole : _) → result.answer ≡ Ok whole → 0 < result.count }
+        ensures value { (setting : Setting) (bytes : List ℕ) → (kind setting).stands self.old bytes
+            → (kind setting).goes_on bytes
+            → Takes (kind setting) self.new (bytes ++ take result.count next.now) result.answer };
+
+    // What the bytes give that were taken, or what they lack.
+    fn end(self) -> Result<Self::Gives, Stop>
+        requires fed { IsPartFed kind self }
+        ensures whole { (setting : Setting) (bytes : List ℕ) → (kind setting).stands self bytes
+            → (kind setting).whole bytes → EndsWhole (kind setting) bytes result }
+        ensures cut { (setting : Setting) (bytes : List ℕ) → (kind setting).stands self bytes
+            → (kind setting).goes_on bytes → EndsCut (kind setting) bytes result };
+}
+
+// Reads a part with which the source begins, to its end, or to that of the source.
+pub(crate) fn read_alone<P: Part, S: Source>(
+    alloc: Global,
+    part: P,
+    source: &mut S,
+) -> Result<P::Gives, Stop>
+    requires goes { IsPartOpen P.kind part }
+    ensures value { (setting : P.Setting) → (P.kind setting).stands part []
+        → (P.kind setting).goes_on []
+        → ReadsAlone (P.kind setting) S.rest S.faults source.old source.new result }
+    ensures count { S.faults source.old ≤ S.faults source.new }
+{
+    match Pieces::new(alloc) {
+        Ok(mut pieces) => read_part(part, &mut pieces, source),
+        Err(NoMemory) => {
+            drop(part);
+            Err(Stop::NoMemory)
+        }
+    }
+}
+
+// Reads a part to its end, or to that of the source.
+pub(crate) fn read_part<P: Part, S: Source>(
+    part: P,
+    pieces: &mut Pieces,
+    source: &mut S,
+) -> Result<P::Gives, Stop>
+    requires goes { IsPartOpen P.kind part }
+    ensures value { (setting : P.Setting) (first : S) (before : List ℕ)
+        → IsReading (P.kind setting) S.rest S.faults first source.old pieces.old before [] part
+        → Reads (P.kind setting) S.rest S.faults first source.new pieces.new before result }
+    ensures count { S.faults source.old ≤ S.faults source.new }
+{
+    let mut part = part;
+    match feed_all(&mut part, pieces, source) {
+        Ok(()) => part.end(),
+        Err(stop) => Err(stop),
+    }
+}
+
+// Feeds the reader up to the end of the part, or of the source.
+fn feed_all<P: Part, S: Source>(
+    part: &mut P,
+    pieces: &mut Pieces,
+    source: &mut S,
+) -> Result<(), Stop>
+    requires goes { IsPartOpen P.kind part.old }
+    ensures value { (setting : P.Setting) (first : S) (before : List ℕ)
+        → IsReading (P.kind setting) S.rest S.faults first source.old pieces.old before [] part.old
+        → Feeds (P.kind setting) S.rest S.faults first source.new pieces.new before part.new result }
+    ensures fed { OnOk result (IsPartFed P.kind part.new) }
+    ensures count { S.faults source.old ≤ S.faults source.new }
+{
+    for _ in 0..u64::MAX {
+        match advance(part, pieces, source) {
+            Ok(false) => {}
+            Ok(true) => return Ok(()),
+            Err(stop) => return Err(stop),
+        }
+    }
+    // No part has this many bytes.
+    Err(Stop::NoMemory)
+}
+
+// Feeds the reader some bytes. Returns whether there is nothing further to feed.
+fn advance<P: Part, S: Source>(
+    part: &mut P,
+    pieces: &mut Pieces,
+    source: &mut S,
+) -> Result<bool, Stop>
+    requires goes { IsPartOpen P.kind part.old }
+    ensures left { IsLeft P.kind part.new result }
+    ensures value { (setting : P.Setting) (first : S) (before bytes : List ℕ)
+        → IsReading (P.kind setting) S.rest S.faults first source.old pieces.old before bytes part.old
+        → Advances (P.kind setting) S.rest S.faults first source.new pieces.new before bytes part.new
+        result }
+    ensures count { S.faults source.old ≤ S.faults source.new }
+{
+    match pieces.refill(source) {
+        Ok(true) => {
+            let Taken { count, answer } = part.take(pieces.left());
+            pieces.pass(count);
+            answer
+        }
+        Ok(false) => Ok(true),
+        Err(Failed) => Err(Stop::ReadFault),
+    }
+}
