@@ -34,7 +34,7 @@ pub fn worked_answers()
     ensures version { text Command.Version [] ≡ codes "VERSION zygos-1.0\r\n" }
     ensures stats { text Command.Stats (Replies.Tally 2 0 1 1 0 ∷ Replies.Tally 0 1 0 0 1 ∷ [])
         ≡ codes "STAT cmd_get 2\r\nSTAT cmd_set 1\r\nSTAT get_hits 1\r\n"
-          ++ codes "STAT get_misses 1\r\nSTAT curr_items 1\r\nEND\r\n" }
+        ++ codes "STAT get_misses 1\r\nSTAT curr_items 1\r\nEND\r\n" }
     ensures fault { text (Command.Fault Errors.TooLarge false) []
         ≡ codes "SERVER_ERROR object too large for cache\r\n" }
 {}

@@ -82,7 +82,7 @@ made_in g conn session done =
 abbrev pub AreCompared : Given → ℕ → ℕ → List Command → ℕ → Option Differing → Type 0
 AreCompared g conn session done at None =
     ((s : ℕ) → s < session → IsOutput g conn s)
-      × HasFirst (found_output g conn session) (made_in g conn session done) at
+    × HasFirst (found_output g conn session) (made_in g conn session done) at
 AreCompared g conn session done at (Some d) = IsDiffering g conn d.session d.at
 
 -- where the entries are complete: the replies are those of the entries, and the outputs were compared so far

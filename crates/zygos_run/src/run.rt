@@ -18,10 +18,10 @@ use std::sync::Wait;
 use std::thread::Threads;
 use zy_base::{Failed, Gate, Sink, Source};
 use zy_capture::{Outputs, write_replies};
-use zy_input::Refusal;
 use zy_command_line::{Out, Run};
 use zy_feed::Stop;
 use zy_finish::Finished;
+use zy_input::Refusal;
 use zy_journal::{Journal, write_journal};
 use zy_serving::serve_capture;
 
