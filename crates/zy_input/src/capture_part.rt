@@ -1,15 +1,17 @@
 //! Reading the capture, whose records are added to streams.
-ghost use Rattle.std.specs.Prelude.{◌≡◌, ◌<◌, ◌≤◌, ◌++◌, ◌∷◌, [], ℕ, List, length, take, true, Option, None, Ok, ⊤};
+ghost use Rattle.std.specs.Prelude.{◌≡◌, ◌<◌, ◌≤◌, ◌++◌, ◌∷◌, [], ℕ, List, length, take, true, None, Ok, ⊤};
 ghost use Rattle.std.specs.Prelude.{OnOk, option_to_list};
 ghost use Rattle.zy_read.specs.Bytes.{AreBytes};
+ghost use Rattle.zy_capture.specs.declared.capture_fault.CaptureFault.{CaptureFault};
 ghost use Rattle.zy_capture.specs.declared.record.Record.{Record};
 ghost use Rattle.zy_capture.specs.Standing.{StandsFor};
 ghost use Rattle.zy_capture.specs.Streams.{with_record};
-ghost use Rattle.zy_capture.specs.Verdict.{fault_of, count_of, is_within_record};
+ghost use Rattle.zy_capture.specs.Verdict.{Verdict, fault_of, count_of, is_within_record};
 ghost use Rattle.zy_input.specs.Reading.{Takes, IsPartOpen};
-ghost use Rattle.zy_input.specs.Keeping.{KeepsRecords, KeepsSoFar, IsKeeping, IsAdding};
+ghost use Rattle.zy_input.specs.Keeping.{KeepsSoFar, IsKeeping};
 ghost use Rattle.zy_input.specs.Kinds.{MayKeep, capture_keeping, capture_kind};
 
+use crate::keep::{Keep, keep_next};
 use crate::part::{Part, Taken};
 use crate::stop::{Refusal, Stop};
 use std::alloc::Global;
@@ -38,67 +40,6 @@ impl CapturePart {
         }
     }
 
-    // Makes the streams where the count is known and they were not made.
-    fn begin(&mut self) -> Result<(), NoMemory>
-        requires keeping { (gave : Option Record)
-            × IsKeeping capture_keeping self.old.reader self.old.streams gave }
-        ensures reader { self.new.reader ≡ self.old.reader }
-        ensures value { (given all : List Record) (bytes : List ℕ)
-            → StandsFor self.old.reader all bytes
-            → KeepsSoFar capture_keeping self.old.streams (count_of bytes) given
-            → OnOk result (KeepsRecords capture_keeping self.new.streams (count_of bytes) given) }
-    {
-        if self.streams.is_some() {
-            return Ok(());
-        }
-        match self.reader.count() {
-            Some(count) => match Streams::new(self.alloc, count) {
-                Ok(streams) => {
-                    self.streams = Some(streams);
-                    Ok(())
-                }
-                Err(NoMemory) => Err(NoMemory),
-            },
-            None => Ok(()),
-        }
-    }
-
-    // Adds a record to the streams. A reader gives none before the count.
-    fn add(&mut self, item: &Record) -> Result<(), NoMemory>
-        requires adding { IsAdding capture_keeping self.old.reader self.old.streams item.now }
-        ensures reader { self.new.reader ≡ self.old.reader }
-        ensures value { (given : List Record) (count : Option ℕ)
-            → KeepsRecords capture_keeping self.old.streams count given
-            → OnOk result (KeepsRecords capture_keeping self.new.streams count (given ++ item.now ∷ [])) }
-    {
-        match &mut self.streams {
-            Some(streams) => add_record(streams, item),
-            None => unreachable!(),
-        }
-    }
-
-    // Keeps what the reader gave.
-    fn keep(&mut self, gave: Option<Record>) -> Result<(), NoMemory>
-        requires keeping { IsKeeping capture_keeping self.old.reader self.old.streams gave }
-        ensures reader { self.new.reader ≡ self.old.reader }
-        ensures value { (given : List Record) (bytes : List ℕ)
-            → StandsFor self.old.reader (given ++ option_to_list gave) bytes
-            → KeepsSoFar capture_keeping self.old.streams (count_of bytes) given
-            → OnOk result (KeepsRecords capture_keeping self.new.streams (count_of bytes)
-            (given ++ option_to_list gave)) }
-    {
-        match self.begin() {
-            Ok(()) => match gave {
-                Some(item) => self.add(&item),
-                None => Ok(()),
-            },
-            Err(NoMemory) => {
-                drop(gave);
-                Err(NoMemory)
-            }
-        }
-    }
-
     // Keeps what the reader gave for some bytes. Gives whether the capture is whole.
     fn go_on(&mut self, gave: Option<Record>) -> Result<bool, Stop>
         requires keeping { IsKeeping capture_keeping self.old.reader self.old.streams gave }
@@ -108,7 +49,7 @@ impl CapturePart {
             → KeepsSoFar capture_keeping self.old.streams (count_of bytes) given
             → Takes capture_kind self.new bytes result }
     {
-        match self.keep(gave) {
+        match keep_next(self.alloc, &self.reader, &mut self.streams, gave) {
             Ok(()) => Ok(self.reader.is_done()),
             Err(NoMemory) => Err(Stop::NoMemory),
         }
@@ -185,6 +126,37 @@ impl Part for CapturePart {
         match streams {
             Some(streams) => Ok(streams),
             // The count of a capture that is whole was read.
+            None => unreachable!(),
+        }
+    }
+}
+
+impl Keep for Streams {
+    type Reader = Reader;
+
+    type Item = Record;
+
+    ghost Fault = { CaptureFault };
+
+    ghost Verdict = { Verdict };
+
+    ghost keeping = { capture_keeping };
+
+    fn number(reader: &Reader) -> Option<u32> {
+        reader.count()
+    }
+
+    fn make(alloc: Global, number: u32) -> Result<Streams, NoMemory> {
+        Streams::new(alloc, number)
+    }
+
+    fn add(made: &mut Option<Streams>, item: Record) -> Result<(), NoMemory> {
+        match made {
+            Some(streams) => {
+                let added = add_record(streams, &item);
+                drop(item);
+                added
+            }
             None => unreachable!(),
         }
     }

@@ -4,6 +4,7 @@
 
 mod capture_part;
 mod journal_part;
+mod keep;
 mod laws;
 mod packets_part;
 mod part;
