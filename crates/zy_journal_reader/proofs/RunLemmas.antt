@@ -1,5 +1,5 @@
 -- Bytes of a key, a value or a number that are fed at once.
-use Rattle.std.proofs.Common.{◌≡◌, ℕ, ◌+◌, ◌<◌, ◌≤◌, List, [], ◌∷◌, ◌++◌, length, take, drop, get_or, get_or-drop, refl, sym, ◌∙◌, ap, subst, arith, append_assoc, length-append}
+use Rattle.std.proofs.Common.{◌≡◌, ℕ, ◌+◌, ◌-◌, ◌<◌, ◌≤◌, List, [], ◌∷◌, ◌++◌, length, take, drop, get_or, get_or-drop, refl, sym, ◌∙◌, ap, subst, arith, append_assoc, length-append}
 use Rattle.std.specs.Prelude.{option_to_list, Option, None, true, ⊤, ◌==◌}
 use Rattle.std.specs.Int.{from_be_bytes, w32, w64}
 use Rattle.std.proofs.lemmas.List.{append-nil, length-drop, length-take-le, take_all, take_more, drop-drop}
@@ -15,8 +15,9 @@ use Rattle.zy_journal_reader.specs.declared.due.NumberField.TheVariants.{Shard, 
 use Rattle.zy_journal_reader.specs.declared.due.LongField.{LongField}
 use Rattle.zy_journal_reader.specs.declared.due.LongField.TheVariants.{Stamp, Index, CallNumber, FoundUnique, ReplyNumber, Gets, Sets, Hits, Misses, Items}
 use Rattle.zy_journal_reader.specs.declared.due.BytesField.{BytesField}
+use Rattle.zy_journal_reader.specs.declared.due.BytesField.TheVariants.{Key, Value, FoundValue}
 use Rattle.zy_journal_reader.specs.Fields.{IsNumber}
-use Rattle.zy_journal_reader.specs.Steps.{Progress, Step, grows, keeps, step, grown_by, journal_limit, lawful_number, after_four, lawful_long, after_eight}
+use Rattle.zy_journal_reader.specs.Steps.{Progress, Step, grows, keeps, step, grown_by, journal_limit, lawful_number, after_four, lawful_long, after_eight, after_bytes}
 use Rattle.zy_journal_reader.specs.Verdict.{journals, read_from}
 use Rattle.zy_journal_reader.proofs.TestLemmas.{chosen}
 
@@ -193,6 +194,38 @@ eight_fed p q field l due empty size room lawful leads =
     let places : h.at ≡ p.at + 7 = ap (λ (k : ℕ). p.at + k) few in
     let done : after_eight field h n ≡ record { next = q; gave = None } = eight_done field p h.field h.at n ∙ ap (λ (k : ℕ). record { next = (after_eight field (record p { at = k }) n).next; gave = None }) places ∙ ap (λ (r : Progress). record { next = r; gave = None }) (sym leads) in
     whole_fed p q l 7 (subst (λ (d : Due). IsNumber d 7) (sym due) refl) empty size room (there ∙ done)
+
+-- ---- whole keys and values
+
+-- a key or a value is judged by what was read before it, and gives nothing
+bytes_done : (field : BytesField) (p : Progress) (f : List ℕ) (at : ℕ) (l : List ℕ) → after_bytes field (record p { payload = f; at = at }) l ≡ record { next = (after_bytes field (record p { at = at }) l).next; gave = None }
+bytes_done Key p f at l = refl
+bytes_done Value p f at l = refl
+bytes_done FoundValue p f at l = refl
+
+bytes_there : (h : Progress) (field : BytesField) (byte : ℕ) → h.due ≡ Bytes field → length h.payload + 1 ≡ h.draft.size → h.at < journal_limit → step h byte ≡ after_bytes field h (h.payload ++ byte ∷ [])
+bytes_there h field byte is size room = rw is (grind (arith, nat_tests, size, room))
+
+-- a key or a value leads to `q`
+pub bytes_fed : (p q : Progress) (field : BytesField) (l : List ℕ) → p.due ≡ Bytes field → p.payload ≡ [] → length l ≡ p.draft.size → 0 < p.draft.size → p.at + p.draft.size ≤ journal_limit
+    → q ≡ (after_bytes field (record p { at = p.at + (p.draft.size - 1) }) l).next → Feeds journals p q l []
+bytes_fed p q field l due empty size some room leads =
+    let most : ℕ = p.draft.size - 1 in
+    let f : List ℕ = take most l in
+    let byte : ℕ = get_or l most 0 in
+    let h : Progress = grown_by p f in
+    let few : length f ≡ most = length-take-le most l (omega (arith, size)) in
+    let none : length p.payload ≡ 0 = ap (λ (k : List ℕ). length k) empty in
+    let front : h.payload ≡ f = ap (λ (k : List ℕ). k ++ f) empty in
+    let whole : l ≡ f ++ byte ∷ [] = split_last l most (omega (arith, size, some)) in
+    let same : h.payload ++ byte ∷ [] ≡ l = ap (λ (k : List ℕ). k ++ byte ∷ []) front ∙ sym whole in
+    let first : Feeds journals p h f [] = run_fed p h f field due (omega (arith, few, none, some)) (omega (arith, few, room)) refl in
+    let there : step h byte ≡ after_bytes field h l =
+    subst (λ (k : List ℕ). step h byte ≡ after_bytes field h k) same (bytes_there h field byte due (let here = ap (λ (k : List ℕ). length k) front in omega (arith, here, few, some)) (omega (arith, few, some, room))) in
+    let places : h.at ≡ p.at + most = ap (λ (k : ℕ). p.at + k) few in
+    let done : after_bytes field h l ≡ record { next = q; gave = None } = bytes_done field p h.payload h.at l ∙ ap (λ (k : ℕ). record { next = (after_bytes field (record p { at = k }) l).next; gave = None }) places ∙ ap (λ (r : Progress). record { next = r; gave = None }) (sym leads) in
+    let second : Feeds journals h q (byte ∷ []) [] = subst (λ (s : Step). Feeds journals h s.next (byte ∷ []) (option_to_list s.gave)) (there ∙ done) (fed_step journals h byte) in
+    subst (λ (k : List ℕ). Feeds journals p q k []) (sym whole) (fed_on journals p h q f (byte ∷ []) [] [] first second)
 
 -- ---- bytes taken after bytes
 

@@ -15,7 +15,7 @@ mod long_numbers;
 mod numbers;
 mod runs;
 mod steps;
-mod whole_numbers;
+mod whole_fields;
 
 use crate::draft::Draft;
 use crate::due::{ByteField, BytesField, Due};

@@ -8,7 +8,7 @@ ghost use Rattle.zy_journal_reader.specs.declared.due.BytesField.TheVariants as 
 use super::JournalReader;
 use crate::call_fields::at_flags;
 use crate::due::{ByteField, BytesField, Due};
-use zy_base::{Blob, NoMemory};
+use zy_base::{Blob, CallReply, NoMemory};
 use zy_read::FileFeed;
 
 impl JournalReader {
@@ -41,11 +41,7 @@ impl JournalReader {
     {
         match ended(&mut self.payload, byte) {
             Ok(key) => {
-                self.draft.key = key;
-                self.draft.size = 0;
-                self.due = at_flags(self.draft.kind.fields());
-                self.field.clear();
-                self.at += 1;
+                self.take_key(key);
                 Ok(None)
             }
             Err(NoMemory) => Err(FileFeed::NoMemory),
@@ -61,15 +57,64 @@ impl JournalReader {
     {
         match ended(&mut self.payload, byte) {
             Ok(value) => {
-                self.draft.value = value;
-                self.draft.size = 0;
-                self.due = Due::Byte(ByteField::ReplyCode);
-                self.field.clear();
-                self.at += 1;
+                self.take_value(value);
                 Ok(None)
             }
             Err(NoMemory) => Err(FileFeed::NoMemory),
         }
+    }
+
+    // A whole key or value. If it ends an entry, it needs memory.
+    pub(super) fn take_contents(
+        &mut self,
+        field: BytesField,
+        all: Blob,
+    ) -> Result<Option<()>, FileFeed>
+        requires due { self.old.due ≡ Dues.Bytes field }
+        requires empty { self.old.payload ≡ [] }
+        requires room { self.old.at < journal_limit }
+        ensures value { Takes (after_bytes field self.old all) self.old self.new result }
+    {
+        match field {
+            BytesField::Key => self.take_key(all),
+            BytesField::Value => self.take_value(all),
+            BytesField::FoundValue => {
+                return self.end_entry(CallReply::Hit {
+                    flags: self.draft.found_flags,
+                    unique: self.draft.found_unique,
+                    value: all,
+                });
+            }
+        }
+        Ok(None)
+    }
+
+    // A whole key.
+    fn take_key(&mut self, key: Blob)
+        requires due { self.old.due ≡ Dues.Bytes Contents.Key }
+        requires empty { self.old.payload ≡ [] }
+        requires room { self.old.at < journal_limit }
+        ensures value { self.new ≡ (after_bytes Contents.Key self.old key).next }
+    {
+        self.draft.key = key;
+        self.draft.size = 0;
+        self.due = at_flags(self.draft.kind.fields());
+        self.field.clear();
+        self.at += 1;
+    }
+
+    // A whole value that a call stores.
+    fn take_value(&mut self, value: Blob)
+        requires due { self.old.due ≡ Dues.Bytes Contents.Value }
+        requires empty { self.old.payload ≡ [] }
+        requires room { self.old.at < journal_limit }
+        ensures value { self.new ≡ (after_bytes Contents.Value self.old value).next }
+    {
+        self.draft.value = value;
+        self.draft.size = 0;
+        self.due = Due::Byte(ByteField::ReplyCode);
+        self.field.clear();
+        self.at += 1;
     }
 }
 

@@ -10,14 +10,14 @@ use super::{JOURNAL_LIMIT, JournalReader};
 use crate::due::{BytesField, Due};
 
 impl JournalReader {
-    // Takes whole numbers, and then expected bytes, from some place on, but not the last byte of
+    // Takes whole fields, and then expected bytes, from some place on, but not the last byte of
     // the piece. Returns their number.
     pub(super) fn feed_run(&mut self, bytes: &[u8], at: usize) -> usize
         requires place { at < length bytes.now }
         ensures within { at + result < length bytes.now }
         ensures fed { Feeds journals self.old self.new (take result (drop at bytes.now)) [] }
     {
-        let run = self.take_numbers(bytes, at);
+        let run = self.take_fields(bytes, at);
         run + self.feed_part(bytes, at + run)
     }
 

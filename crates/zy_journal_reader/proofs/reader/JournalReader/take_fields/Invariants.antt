@@ -1,9 +1,9 @@
 use Rattle.std.proofs.Common.{◌≡◌, ◌+◌, ◌<◌, ◌-◌, [], length, take, drop}
 use Rattle.zy_read.specs.Standing.{Feeds}
 use Rattle.zy_journal_reader.specs.Verdict.{journals}
-use Rattle.zy_journal_reader.proofs.reader.JournalReader.take_numbers.Given as goal
+use Rattle.zy_journal_reader.proofs.reader.JournalReader.take_fields.Given as goal
 
--- whole numbers were fed
+-- whole fields were fed
 abbrev pub invariant-loop-at : goal.invariant-loop-at
 invariant-loop-at l = record {
   within : l.at + l.run < length l.bytes;
