@@ -48,7 +48,11 @@ impl JournalReader {
     }
 
     // A lawful number.
-    pub(super) fn take_long(&mut self, field: LongField, number: u64) -> Result<Option<()>, FileFeed>
+    pub(super) fn take_long(
+        &mut self,
+        field: LongField,
+        number: u64,
+    ) -> Result<Option<()>, FileFeed>
         requires due { self.old.due ≡ Dues.Long field }
         requires room { self.old.at < journal_limit }
         ensures value { Takes (after_eight field self.old number) self.old self.new result }

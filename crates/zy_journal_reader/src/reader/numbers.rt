@@ -57,7 +57,11 @@ impl JournalReader {
     }
 
     // A lawful number.
-    pub(super) fn take_number(&mut self, field: NumberField, number: u32) -> Result<Option<()>, FileFeed>
+    pub(super) fn take_number(
+        &mut self,
+        field: NumberField,
+        number: u32,
+    ) -> Result<Option<()>, FileFeed>
         requires due { self.old.due ≡ Dues.Number field }
         requires room { self.old.at < journal_limit }
         ensures value { Takes (after_four field self.old number) self.old self.new result }

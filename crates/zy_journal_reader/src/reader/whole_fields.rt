@@ -112,13 +112,20 @@ impl JournalReader {
     {
         let size = self.draft.size;
         let whole = size as usize;
-        if self.payload.len() > 0 || bytes.len() <= whole || self.at > JOURNAL_LIMIT - u64::from(size) {
+        if self.payload.len() > 0
+            || bytes.len() <= whole
+            || self.at > JOURNAL_LIMIT - u64::from(size)
+        {
             return 0;
         }
         let Ok(all) = Blob::copy_of(self.alloc, &bytes[..whole]) else {
             return 0;
         };
-        if self.take_at_once(field, all, size) { whole } else { 0 }
+        if self.take_at_once(field, all, size) {
+            whole
+        } else {
+            0
+        }
     }
 
     #[tactic(auto, using(crate::proofs::RunLemmas::bytes_fed))]
