@@ -1,6 +1,6 @@
 -- Bytes of a key, a value or a number that are fed at once.
 use Rattle.std.proofs.Common.{◌≡◌, ℕ, ◌+◌, ◌-◌, ◌<◌, ◌≤◌, List, [], ◌∷◌, ◌++◌, length, take, drop, get_or, get_or-drop, refl, sym, ◌∙◌, ap, subst, arith, append_assoc, length-append}
-use Rattle.std.specs.Prelude.{option_to_list, Option, None, true, ⊤, ◌==◌}
+use Rattle.std.specs.Prelude.{option_to_list, None, true, ◌==◌}
 use Rattle.std.specs.Int.{from_be_bytes, w32, w64}
 use Rattle.std.proofs.lemmas.List.{append-nil, length-drop, length-take-le, take_all, take_more, drop-drop}
 use Rattle.std.proofs.lemmas.Bool.Decides.{nat_tests}
@@ -223,8 +223,10 @@ bytes_fed p q field l due empty size some room leads =
     let there : step h byte ≡ after_bytes field h l =
     subst (λ (k : List ℕ). step h byte ≡ after_bytes field h k) same (bytes_there h field byte due (let here = ap (λ (k : List ℕ). length k) front in omega (arith, here, few, some)) (omega (arith, few, some, room))) in
     let places : h.at ≡ p.at + most = ap (λ (k : ℕ). p.at + k) few in
-    let done : after_bytes field h l ≡ record { next = q; gave = None } = bytes_done field p h.payload h.at l ∙ ap (λ (k : ℕ). record { next = (after_bytes field (record p { at = k }) l).next; gave = None }) places ∙ ap (λ (r : Progress). record { next = r; gave = None }) (sym leads) in
-    let second : Feeds journals h q (byte ∷ []) [] = subst (λ (s : Step). Feeds journals h s.next (byte ∷ []) (option_to_list s.gave)) (there ∙ done) (fed_step journals h byte) in
+    let cleared : after_bytes field h l ≡ record { next = (after_bytes field (record p { at = p.at + most }) l).next; gave = None } =
+    subst (λ (k : ℕ). after_bytes field h l ≡ record { next = (after_bytes field (record p { at = k }) l).next; gave = None }) places (bytes_done field p h.payload h.at l) in
+    let done : step h byte ≡ record { next = q; gave = None } = subst (λ (r : Progress). step h byte ≡ record { next = r; gave = None }) (sym leads) (there ∙ cleared) in
+    let second : Feeds journals h q (byte ∷ []) [] = subst (λ (s : Step). Feeds journals h s.next (byte ∷ []) (option_to_list s.gave)) done (fed_step journals h byte) in
     subst (λ (k : List ℕ). Feeds journals p q k []) (sym whole) (fed_on journals p h q f (byte ∷ []) [] [] first second)
 
 -- ---- bytes taken after bytes

@@ -1,4 +1,4 @@
-use Rattle.std.proofs.Common.{◌≡◌, ◌+◌, ◌<◌, ◌-◌, [], length, take, drop}
+use Rattle.std.proofs.Common.{◌+◌, ◌<◌, ◌-◌, [], length, take, drop}
 use Rattle.zy_read.specs.Standing.{Feeds}
 use Rattle.zy_journal_reader.specs.Verdict.{journals}
 use Rattle.zy_journal_reader.proofs.reader.JournalReader.take_fields.Given as goal
