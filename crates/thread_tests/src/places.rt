@@ -7,7 +7,7 @@ use crate::judging::no_memory;
 use std::alloc::Global;
 use std::marker::Brand;
 use std::process::Abort;
-use zy_shuffle::{HomePass, Marked, Ring, WasIdle};
+use zy_shuffle::{HomePass, Marked, Ring};
 
 /// A block that is the number of its place.
 #[derive(Drop)]
@@ -54,6 +54,6 @@ pub(crate) fn publish_below(ring: &Ring<Block>, home: &mut HomePass<Block>, plac
 {
     for k in 0..places {
         let number = places - 1 - k;
-        ring.publish::<WasIdle>(home, number, Block { number });
+        ring.publish(home, number, Block { number });
     }
 }

@@ -12,7 +12,7 @@ use std::sync::Wait;
 use std::sync::atomic::{AtomicBool, Ordering};
 use std::thread;
 use std::thread::Threads;
-use zy_shuffle::{Claim, HomePass, Ring, WasHeld};
+use zy_shuffle::{Claim, HomePass, Ring};
 use zy_steal::{Passes, Rings, Stolen, Victims};
 
 const PLACES: u32 = 4;
@@ -107,7 +107,7 @@ fn tend<R: Wait>(
         }
         match ring.collect(&mut home) {
             Some((place, block)) => {
-                ring.publish::<WasHeld>(&mut home, place, block);
+                ring.publish(&mut home, place, block);
                 rounds += 1;
             }
             None => thread::yield_now(),

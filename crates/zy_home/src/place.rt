@@ -84,7 +84,7 @@ pub(crate) fn settle_at<B: Publishing>(
     let mut block = block;
     match link.settle(&mut block) {
         Ok(true) => {
-            ring.publish::<B>(pass, place, block);
+            ring.publish_as::<B>(pass, place, block);
             put(slot, None);
             Ok(())
         }

@@ -5,7 +5,7 @@ ghost use Rattle.zy_shuffle.specs.Hand.{emptied, marked};
 ghost use Rattle.zy_shuffle.specs.HomeRole.{IsActive};
 ghost use Rattle.zy_shuffle.specs.Pass.{Claimed, IfTook, after_publish, after_give_back};
 ghost use Rattle.zy_shuffle.specs.Pass.{PublishMakes, ClaimMakes};
-ghost use Rattle.zy_shuffle.specs.Run.{Makes, give_back_of};
+ghost use Rattle.zy_shuffle.specs.Run.{Makes, give_back_of, was_held};
 ghost use Rattle.zy_shuffle.specs.PassSeat.{Within, IsCorePass, IsBrought};
 ghost use Rattle.zy_shuffle.specs.PassSeat.{ClaimedBy, ClaimKeepsMark};
 
@@ -15,14 +15,27 @@ use super::plays::{
 use super::view::View;
 use super::{CELLS, CorePass, HEAD, HomePass, Ring, TAIL};
 use crate::claim::Claim;
-use crate::marked::{Marked, Publishing};
+use crate::marked::{Marked, Publishing, WasHeld};
 use atomic_table::Seat;
 use std::marker::Brand;
 
 impl<T: Marked> Ring<T> {
-    /// Puts the place, with its block, at the end of the queue. It cannot fail. `B` says for
-    /// contracts what the connection was before: `WasIdle` or `WasHeld`.
-    pub fn publish<B: Publishing>(&self, home: &mut HomePass<T>, place: u32, block: T)
+    /// Puts the place, with its block, at the end of the queue. It cannot fail. The run of the
+    /// ownership machine has the connection as one that was held: this settles it, or is its first
+    /// arrival.
+    pub fn publish(&self, home: &mut HomePass<T>, place: u32, block: T)
+        requires within { home.old.table ≡ self.now.id }
+        requires hand { is_in place home.old.hand ≡ true }
+        requires few { home.old.count < 2 ^ 63 }
+        requires label { T.label block ≡ home.old.label }
+        ensures value { home.new ≡ after_publish place block home.old home.new.trace }
+        ensures event { PublishMakes was_held T.mark place home.old home.new }
+    {
+        self.publish_as::<WasHeld>(home, place, block);
+    }
+
+    /// The same. `B` says for contracts what the connection was before: `WasIdle` or `WasHeld`.
+    pub fn publish_as<B: Publishing>(&self, home: &mut HomePass<T>, place: u32, block: T)
         requires within { home.old.table ≡ self.now.id }
         requires hand { is_in place home.old.hand ≡ true }
         requires few { home.old.count < 2 ^ 63 }

@@ -10,7 +10,7 @@ use std::sync::atomic::{AtomicBool, Ordering};
 use std::thread;
 use std::thread::Threads;
 use zy_base::NoMemory;
-use zy_shuffle::{Claim, CorePass, HomePass, Marked, Ring, WasHeld, WasIdle};
+use zy_shuffle::{Claim, CorePass, HomePass, Marked, Ring};
 
 const PLACES: u32 = 64;
 
@@ -52,7 +52,7 @@ fn publish_and_claim(ring: &Ring<Block>, home: &mut HomePass<Block>, rounds: u64
     let mut place = 0;
     let mut block = Block { number: 0 };
     for _ in 0..rounds {
-        ring.publish::<WasHeld>(home, place, block);
+        ring.publish(home, place, block);
         let Claim::Took { place: p, block: b } = ring.claim_home(home) else {
             return;
         };
@@ -123,7 +123,7 @@ fn publish_all(ring: &Ring<Block>, home: &mut HomePass<Block>)
     ensures count { home.new.count ≤ 64 }
 {
     for number in 0..PLACES {
-        ring.publish::<WasIdle>(home, number, Block { number });
+        ring.publish(home, number, Block { number });
     }
 }
 
@@ -145,7 +145,7 @@ fn tend<R: Wait>(
         }
         match ring.collect(&mut home) {
             Some((place, block)) => {
-                ring.publish::<WasHeld>(&mut home, place, block);
+                ring.publish(&mut home, place, block);
                 done += 1;
             }
             None => thread::yield_now(),

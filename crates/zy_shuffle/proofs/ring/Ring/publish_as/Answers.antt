@@ -2,7 +2,7 @@ use Rattle.std.proofs.Common.{◌+◌, ◌%◌, rules, sym, ap, ◌∙◌, arith
 use Rattle.zy_shuffle.proofs.GiveLemmas.{stores_cell_as, stores_tail_as}
 use Rattle.zy_shuffle.proofs.PassLemmas.{home_published}
 use Rattle.zy_table.specs.Member.{is_in}
-use Rattle.zy_shuffle.proofs.ring.Ring.publish.Goals as goal
+use Rattle.zy_shuffle.proofs.ring.Ring.publish_as.Goals as goal
 
 pub nonzero_rem-at : goal.nonzero_rem-at
 nonzero_rem-at g c =
