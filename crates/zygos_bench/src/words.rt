@@ -63,63 +63,21 @@ pub(crate) fn read_load<R: Env>(rt: &R) -> Load {
     }
 }
 
-// A word, and what it names.
-struct Name {
-    word: &'static [u8],
-    what: What,
-}
-
-const NAMES: [Name; 10] = [
-    Name {
-        word: b"shard",
-        what: What::Shard,
-    },
-    Name {
-        word: b"frames",
-        what: What::Frames,
-    },
-    Name {
-        word: b"parse",
-        what: What::Parse,
-    },
-    Name {
-        word: b"capture",
-        what: What::Capture,
-    },
-    Name {
-        word: b"journal",
-        what: What::Journal,
-    },
-    Name {
-        word: b"pcap",
-        what: What::Pcap,
-    },
-    Name {
-        word: b"store",
-        what: What::Store,
-    },
-    Name {
-        word: b"shuffle",
-        what: What::Shuffle,
-    },
-    Name {
-        word: b"conn",
-        what: What::Conn,
-    },
-    Name {
-        word: b"tail",
-        what: What::Tail,
-    },
-];
-
 // What a word names.
 fn what_named(word: &[u8]) -> Option<What> {
-    for name in &NAMES {
-        if word == name.word {
-            return Some(name.what);
-        }
+    match word {
+        b"shard" => Some(What::Shard),
+        b"frames" => Some(What::Frames),
+        b"parse" => Some(What::Parse),
+        b"capture" => Some(What::Capture),
+        b"journal" => Some(What::Journal),
+        b"pcap" => Some(What::Pcap),
+        b"store" => Some(What::Store),
+        b"shuffle" => Some(What::Shuffle),
+        b"conn" => Some(What::Conn),
+        b"tail" => Some(What::Tail),
+        _ => None,
     }
-    None
 }
 
 // The number that a word of the command line spells, and 0 where it spells none.

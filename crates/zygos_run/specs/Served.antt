@@ -24,8 +24,8 @@ CheckHolds request call verdict = CarriesOut request (Checked verdict) (OfTold c
 
 -- what was asked for was made of all bytes that the source reported, and written: the report on a journal, or the
 -- capture of recorded packets; or that of traffic
-abbrev pub ReportHolds : Option Request → Seen → Type 0
-ReportHolds request call = CarriesOut request Made (OfTold call.source) (Takes call.sink)
+abbrev pub MadeHolds : Option Request → Seen → Type 0
+MadeHolds request call = CarriesOut request Made (OfTold call.source) (Takes call.sink)
 
 -- ---- answers that must come
 

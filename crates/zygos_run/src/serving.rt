@@ -6,7 +6,7 @@ ghost use Rattle.zygos_run.specs.Lines.{line_of};
 ghost use Rattle.zy_serving.specs.Seen.{side, seen, NoneRose};
 ghost use Rattle.zygos_run.specs.Ends.{HasServed, HasChecked, HasMade, HasTested, HasPart};
 ghost use Rattle.zygos_run.specs.Ends.{IsFaultOf, ReadsInput, ReadsNothing, LeavesSink};
-ghost use Rattle.zygos_run.specs.Served.{HeadlineHolds, CheckHolds, ReportHolds, IsToldGood, IsToldBad};
+ghost use Rattle.zygos_run.specs.Served.{HeadlineHolds, CheckHolds, MadeHolds, IsToldGood, IsToldBad};
 ghost use Rattle.zygos_run.specs.Served.{IsDoneOr, IsRefusedOr, IsUsageOr};
 ghost use Rattle.zygos_run.specs.Finish.{FinishesOnce};
 ghost use Rattle.zygos_run.specs.Said.{Said};
@@ -56,7 +56,7 @@ pub fn serve<R: Threads + Wait + Sync, S: Source, K: Sink, E: Sink, G: Gate + Sy
         (seen (side S.rest S.faults source.old source.new) (side K.holds K.faults sink.old sink.new)) v }
     ensures made { result ≡ Answer.Made → HasMade (request_of words.now)
         (seen (side S.rest S.faults source.old source.new) (side K.holds K.faults sink.old sink.new)) }
-    ensures reported { result ≡ Answer.Made → ReportHolds (request_of words.now)
+    ensures reported { result ≡ Answer.Made → MadeHolds (request_of words.now)
         (seen (side S.rest S.faults source.old source.new) (side K.holds K.faults sink.old sink.new)) }
     ensures tested { (j m : _) → result ≡ Answer.Tested j m → HasTested (request_of words.now)
         (seen (side S.rest S.faults source.old source.new) (side K.holds K.faults sink.old sink.new)) j m }
