@@ -269,6 +269,7 @@ def server_restarts():
 
 def signals():
     """Ctrl-C, a termination and a closed terminal: answers that come later are kept."""
+    signal.signal(signal.SIGHUP, signal.SIG_DFL)  # where the tests run under nohup, the recorder would ignore it
     with Server() as server:
         for number in (signal.SIGINT, signal.SIGTERM, signal.SIGHUP):
             recorder = Recorder(server.place)
