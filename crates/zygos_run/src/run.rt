@@ -61,8 +61,10 @@ fn write_all<K: Sink>(sink: &mut K, out: Out, done: &Finished) -> Result<(), Fai
     ensures writes { WritesLast K.holds K.faults K.finishes K.is_finished sink.old sink.new result
         (written out done.now.journal done.now.outputs) }
 {
-    write_front(sink, out, &done.journal)?;
-    write_back(sink, &done.outputs)
+    match write_front(sink, out, &done.journal) {
+        Ok(()) => write_back(sink, &done.outputs),
+        Err(failed) => Err(failed),
+    }
 }
 
 // Writes the replies, and finishes.
