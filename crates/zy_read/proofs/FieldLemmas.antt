@@ -76,6 +76,21 @@ read_rest {S} {G} {F} fields s (byte ∷ next ∷ rest) seen at some size room =
           ∙ ap (λ (j : Judged S G F). goes_on fields (moved on.last j) more) same;
     }
 
+-- bytes of a field, and not its last one
+pub grows_read : {S G F : Type 0} (fields : Fields S G F) (bytes : List ℕ) (s : S) (seen : List ℕ) (at : ℕ) (more : List ℕ) → length seen + length bytes < fields.width s → HasRoom fields s (at + length bytes)
+    → read_on (step fields) (within s seen at) (bytes ++ more) ≡ read_on (step fields) (grown_by (within s seen at) bytes) more
+unfolding read_on
+grows_read {S} {G} {F} fields [] s seen at more short room =
+    let same : at + 0 ≡ at = omega arith in
+    rw (append-nil seen, same) refl
+grows_read {S} {G} {F} fields (byte ∷ bytes) s seen at more short room =
+    let longer : length (seen ++ byte ∷ []) ≡ length seen + 1 = omega (arith, length-append seen (byte ∷ [])) in
+    let places : at + 1 + length bytes ≡ at + length (byte ∷ bytes) = omega arith in
+    let there : grown_by (within s (seen ++ byte ∷ []) (at + 1)) bytes ≡ grown_by (within s seen at) (byte ∷ bytes) = rw (append_assoc seen (byte ∷ []) bytes, places) refl in
+    ap (λ (k : Step (Place S F) G). goes_on fields k (bytes ++ more)) (byte_grows fields s seen at byte (room_less fields s (at + length (byte ∷ bytes)) (at + 1) (omega arith) room) (omega (arith, short)))
+    ∙ grows_read fields bytes s (seen ++ byte ∷ []) (at + 1) more (omega (arith, longer, short)) (subst (λ (n : ℕ). HasRoom fields s n) (sym places) room)
+    ∙ ap (λ (p : Place S F). read_on (step fields) p more) there
+
 -- ---- whole fields
 
 -- records in front of what is read

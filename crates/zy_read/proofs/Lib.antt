@@ -6,3 +6,4 @@ pub mod OutcomeLemmas
 pub mod PieceLemmas
 pub mod RunLemmas
 pub mod SourceLemmas
+pub mod VerdictLemmas
