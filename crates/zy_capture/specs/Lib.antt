@@ -13,4 +13,3 @@ pub mod Faults
 pub mod RepliesFaults
 pub mod Worked
 pub mod Lasting
-pub mod RepliesLasting

@@ -6,6 +6,7 @@ use Rattle.zy_capture.specs.declared.record.Record.TheVariants as Kinds
 use Rattle.zy_capture.specs.declared.capture_fault.CaptureFault.{CaptureFault}
 use Rattle.zy_capture.specs.declared.due.Due.TheVariants as Dues
 use Rattle.zy_capture.specs.declared.replies_due.RepliesDue.TheVariants as RepliesDues
+use Rattle.zy_read.specs.Fields.{at_state}
 use Rattle.zy_capture.specs.Verdict as Captures
 use Rattle.zy_capture.specs.RepliesVerdict as Replies
 use Rattle.zy_capture.specs.Outputs.{AllOutputs}
@@ -75,12 +76,9 @@ session_outputs_text =
 -- record is expected
 abbrev pub met_behind_replies : ℕ → List ℕ → Option FileFault
 met_behind_replies at text =
-    Replies.fault_in (Replies.read_from (record {
+    (Replies.read_from (at_state (record {
       due = RepliesDues.Tag;
-      field = [];
-      payload = [];
       version = 1;
       connections = 0;
       sessions = 0;
-      at = at;
-    }) text).last.due
+    }) at) text).last.fault

@@ -14,11 +14,11 @@ abbrev pub width_of : Shape → ℕ
 width_of Byte = 1
 width_of Four = 4
 width_of Eight = 8
-width_of (Run size) = size
+width_of (Run others) = others + 1
 
 -- the byte is one of a run, and the text may have it
 abbrev pub IsOfRun : {S G F : Type 0} → Fields S G F → (S → Shape) → Place S F → ℕ → Type 0
-IsOfRun fields shape p byte = ((size : ℕ) × (shape p.state ≡ Run size)) × (is_full fields p ≡ false)
+IsOfRun fields shape p byte = ((others : ℕ) × (shape p.state ≡ Run others)) × (is_full fields p ≡ false)
 
 -- an answer and a new state, which may be that at the place after the field, are what the field does
 abbrev pub Judges : {S G F : Type 0} → (S → ℕ → Type 0) → Judged S G F → ℕ → S → S → Result (Option G) F → Type 0
@@ -43,7 +43,7 @@ abbrev pub IsPart : Shape → List ℕ → List ℕ → Type 0
 IsPart Byte field payload = (field ≡ []) × (payload ≡ [])
 IsPart Four field payload = (length field < 4) × (payload ≡ [])
 IsPart Eight field payload = payload ≡ []
-IsPart (Run size) field payload = (field ≡ []) × (length payload < size)
+IsPart (Run others) field payload = (field ≡ []) × (length payload ≤ others)
 
 -- where no fault was met, the state may be that at the place of the field
 abbrev pub IsPlaced : {S F : Type 0} → (S → ℕ → Type 0) → Option F → S → ℕ → Type 0

@@ -9,6 +9,6 @@ pub enum Shape {
     Four,
     /// Eight, mostly a number.
     Eight,
-    /// So many, which is not none. They may need memory.
+    /// One and so many others. They may need memory.
     Run(u64),
 }

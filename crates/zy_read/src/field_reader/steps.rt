@@ -39,7 +39,7 @@ impl<S: FieldFormat> Reads for FieldReader<S> {
             Shape::Byte => self.take_byte(byte),
             Shape::Four => self.take_four(byte),
             Shape::Eight => self.take_eight(byte),
-            Shape::Run(size) => self.take_payload(size, byte),
+            Shape::Run(others) => self.take_payload(others, byte),
         }
     }
 
@@ -51,11 +51,11 @@ impl<S: FieldFormat> Reads for FieldReader<S> {
         }
         let limit = self.state.limit();
         match self.state.shape() {
-            Shape::Run(size) if self.at < limit => {
-                let left = size - self.payload.len() as u64 - 1;
+            Shape::Run(others) if self.at < limit => {
+                let left = others - self.payload.len() as u64;
                 let room = limit - self.at;
                 let run = left.min(room).min((bytes.len() - at - 1) as u64) as usize;
-                if self.append(size, &bytes[at..at + run]) {
+                if self.append(others, &bytes[at..at + run]) {
                     run
                 } else {
                     0
@@ -70,9 +70,9 @@ impl<S: FieldFormat> Reads for FieldReader<S> {
 
 impl<S: FieldFormat> FieldReader<S> {
     // Takes bytes of a run, but not its last one, where there is memory.
-    fn append(&mut self, size: u64, bytes: &[u8]) -> bool
-        requires shape { S.shape_of self.old.state ≡ Kinds.Run size }
-        requires fits { length self.old.seen + length bytes.now < size }
+    fn append(&mut self, others: u64, bytes: &[u8]) -> bool
+        requires shape { S.shape_of self.old.state ≡ Kinds.Run others }
+        requires fits { length self.old.seen + length bytes.now ≤ others }
         requires room { self.old.at + length bytes.now ≤ S.fields.limit }
         ensures ok { result ≡ true → self.new ≡ grown_by self.old bytes.now }
         ensures kept { result ≡ false → self.new ≡ self.old }
@@ -159,8 +159,12 @@ impl<S: FieldFormat> FieldReader<S> {
     }
 
     // A byte of a run. It needs memory.
-    fn take_payload(&mut self, size: u64, byte: u8) -> Result<Option<S::Gives>, NotTaken<S::Fault>>
-        requires shape { S.shape_of self.old.state ≡ Kinds.Run size }
+    fn take_payload(
+        &mut self,
+        others: u64,
+        byte: u8,
+    ) -> Result<Option<S::Gives>, NotTaken<S::Fault>>
+        requires shape { S.shape_of self.old.state ≡ Kinds.Run others }
         requires open { self.old.fault ≡ None }
         requires room { is_full S.fields self.old ≡ false }
         ensures value { TakesField S.fields S.good S.bad S.shape_of
@@ -169,12 +173,12 @@ impl<S: FieldFormat> FieldReader<S> {
         if self.payload.push(byte).is_err() {
             return Err(NotTaken::NoMemory);
         }
-        if (self.payload.len() as u64) < size {
+        if self.payload.len() as u64 <= others {
             self.at += 1;
             return Ok(None);
         }
         let bytes = mem::replace(&mut self.payload, Vec::new(self.alloc));
-        match self.state.judge_run(self.at - (size - 1), bytes) {
+        match self.state.judge_run(self.at - others, bytes) {
             Ok(gave) => {
                 self.at += 1;
                 Ok(gave)
