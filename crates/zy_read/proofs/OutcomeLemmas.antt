@@ -59,16 +59,19 @@ fault_on fields text s fault more (inl has) = inl (record {
   room = has.room;
   wrong = has.wrong;
 })
-fault_on fields text s fault more (inr has) = inr (record {
-  given = has.0.given;
-  seen = has.0.seen;
-  byte = has.0.byte;
-  rest = has.0.rest ++ more;
-  begins = begins_on fields text s has.0.given (has.0.seen ++ has.0.byte ∷ has.0.rest) more (has.0.seen ++ has.0.byte ∷ (has.0.rest ++ more)) (append_assoc has.0.seen (has.0.byte ∷ has.0.rest) more) has.0.begins;
-  no_end = has.0.no_end;
-  part = has.0.part;
-  most = has.0.most;
-}, has.1)
+fault_on fields text s fault more (inr has) = inr (
+  record {
+    given = has.0.given;
+    seen = has.0.seen;
+    byte = has.0.byte;
+    rest = has.0.rest ++ more;
+    begins = begins_on fields text s has.0.given (has.0.seen ++ has.0.byte ∷ has.0.rest) more (has.0.seen ++ has.0.byte ∷ (has.0.rest ++ more)) (append_assoc has.0.seen (has.0.byte ∷ has.0.rest) more) has.0.begins;
+    no_end = has.0.no_end;
+    part = has.0.part;
+    most = has.0.most;
+  },
+  has.1,
+)
 
 -- the number of bytes before and within a field
 sized : {S G F : Type 0} (fields : Fields S G F) (p : Place S F) (given : List G) (text : List ℕ) (read : IsReadTo fields p given text) → p.at ≡ length (concat read.begins.parts) + length p.seen
@@ -79,16 +82,19 @@ byte_full : {S G F : Type 0} (fields : Fields S G F) (p : Place S F) (given : Li
 byte_full fields p given text byte full read =
     let all = sized fields p given text read in
     let most : p.at ≡ fields.limit = (let short = read.short in grind (arith, nat_tests)) in
-    inr (record {
-      given = given;
-      seen = p.seen;
-      byte = byte;
-      rest = [];
-      begins = begins_on fields text p.state given p.seen (byte ∷ []) (p.seen ++ byte ∷ []) refl read.begins;
-      no_end = elim (fields.is_end p.state) as (λ b. (not b && nat_le fields.limit p.at) ≡ true → b ≡ false) [ true ↦ λ no. cc | false ↦ λ yes. refl ] full;
-      part = read.part;
-      most = sym all ∙ most;
-    }, refl)
+    inr (
+      record {
+        given = given;
+        seen = p.seen;
+        byte = byte;
+        rest = [];
+        begins = begins_on fields text p.state given p.seen (byte ∷ []) (p.seen ++ byte ∷ []) refl read.begins;
+        no_end = elim (fields.is_end p.state) as (λ b. (not b && nat_le fields.limit p.at) ≡ true → b ≡ false) [ true ↦ λ no. cc | false ↦ λ yes. refl ] full;
+        part = read.part;
+        most = sym all ∙ most;
+      },
+      refl,
+    )
 
 -- the text up to the last byte of a field
 field_text : {S G F : Type 0} (fields : Fields S G F) (p : Place S F) (given : List G) (text : List ℕ) (byte : ℕ) (read : IsReadTo fields p given text) → text ++ byte ∷ [] ≡ concat read.begins.parts ++ (p.seen ++ byte ∷ [])

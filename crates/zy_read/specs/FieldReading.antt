@@ -6,6 +6,7 @@ use Rattle.zy_read.specs.Standing.{Follows}
 use Rattle.zy_read.specs.Fields.{Judged, Fields, Place, is_full, format_of}
 use Rattle.zy_read.specs.Fields.Judged.{Then, Gives, Wrong}
 use Rattle.zy_read.specs.declared.not_taken.NotTaken.{NotTaken}
+use Rattle.zy_read.specs.declared.not_taken.NotTaken.TheVariants.{Fault, NoMemory}
 use Rattle.zy_read.specs.declared.shape.Shape.{Shape}
 use Rattle.zy_read.specs.declared.shape.Shape.TheVariants.{Byte, Four, Eight, Run}
 
@@ -16,15 +17,23 @@ width_of Four = 4
 width_of Eight = 8
 width_of (Run others) = others + 1
 
--- the byte is one of a run, and the text may have it
-abbrev pub IsOfRun : {S G F : Type 0} → Fields S G F → (S → Shape) → Place S F → ℕ → Type 0
-IsOfRun fields shape p byte = ((others : ℕ) × (shape p.state ≡ Run others)) × (is_full fields p ≡ false)
+-- the reader may need memory for the byte: its field may, and the text may have it
+abbrev pub MayNeed : {S G F : Type 0} → Fields S G F → (S → Type 0) → Place S F → ℕ → Type 0
+MayNeed fields Wants p byte = Wants p.state × (is_full fields p ≡ false)
 
--- an answer and a new state, which may be that at the place after the field, are what the field does
-abbrev pub Judges : {S G F : Type 0} → (S → ℕ → Type 0) → Judged S G F → ℕ → S → S → Result (Option G) F → Type 0
-Judges Fits judged after old new (Ok None) = (judged ≡ Then new) × Fits new after
-Judges Fits judged after old new (Ok (Some item)) = (judged ≡ Gives new item) × Fits new after
-Judges Fits judged after old new (Err fault) = (judged ≡ Wrong fault) × (new ≡ old)
+-- an answer and a new state, which may be that at the place after the field, are what the field does; `NoMemory`
+-- changes nothing, and is answered only where the state may want memory
+abbrev pub Judges : {S G F : Type 0} → (S → ℕ → Type 0) → (S → Type 0) → Judged S G F → ℕ → S → S
+    → Result (Option G) (NotTaken F) → Type 0
+Judges Fits Wants judged after old new (Ok None) = (judged ≡ Then new) × Fits new after
+Judges Fits Wants judged after old new (Ok (Some item)) = (judged ≡ Gives new item) × Fits new after
+Judges Fits Wants judged after old new (Err (Fault fault)) = (judged ≡ Wrong fault) × (new ≡ old)
+Judges Fits Wants judged after old new (Err NoMemory) = (new ≡ old) × Wants old
+
+-- the field gives no record
+abbrev pub IsQuiet : {S G F : Type 0} → Judged S G F → Type 0
+IsQuiet (Gives next item) = ⊥
+IsQuiet judged = ⊤
 
 -- this is the fault that was met, or that of a text that ends too early
 abbrev pub EndsWith : {S G F : Type 0} → Fields S G F → Option F → Place S F → F → Type 0
@@ -60,7 +69,7 @@ pub record IsReader {S F : Type 0} (shape : S → Shape) (limit : ℕ) (Fits : S
   pub few : limit < 2 ^ 64 - 1
 
 -- an answer and a new place are those of a step
-abbrev pub TakesField : {S G F V : Type 0} → Fields S G F → (S → List G → V) → (F → V) → (S → Shape) → Step (Place S F) G
+abbrev pub TakesField : {S G F V : Type 0} → Fields S G F → (S → List G → V) → (F → V) → (S → Type 0) → Step (Place S F) G
     → Place S F → Place S F → ℕ → Result (Option G) (NotTaken F) → Type 0
-TakesField fields good bad shape step old new byte answer =
-    Follows (format_of fields good bad) (IsOfRun fields shape) step old new byte answer
+TakesField fields good bad Wants step old new byte answer =
+    Follows (format_of fields good bad) (MayNeed fields Wants) step old new byte answer

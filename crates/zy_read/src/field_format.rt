@@ -1,15 +1,17 @@
 //! A format whose texts are fields, one after another.
-ghost use Rattle.std.specs.Prelude.{◌≡◌, ◌+◌, ◌-◌, ◌<◌, ◌^◌, ◌∷◌, [], ℕ, List, length};
+ghost use Rattle.std.specs.Prelude.{◌≡◌, ◌+◌, ◌-◌, ◌<◌, ◌^◌, ◌∷◌, [], ℕ, List, length, Err, true};
+ghost use Rattle.zy_read.specs.declared.not_taken.NotTaken.TheVariants.{NoMemory};
 ghost use Rattle.zy_read.specs.Fields.{Fields, IsLawful};
-ghost use Rattle.zy_read.specs.FieldReading.{width_of, Judges};
+ghost use Rattle.zy_read.specs.FieldReading.{width_of, Judges, IsQuiet};
 ghost use Rattle.zy_read.specs.declared.shape.Shape.{Shape as Shapes};
 ghost use Rattle.zy_read.specs.declared.shape.Shape.TheVariants as Kinds;
 
+use crate::not_taken::NotTaken;
 use crate::shape::Shape;
 use std::alloc::Global;
 
 /// The state of a format of fields: what its next field is, and how it is judged when it is whole.
-/// A state stays as it was at a field that is wrong.
+/// A state stays as it was at a field that is wrong, or for which memory is refused.
 pub trait FieldFormat: Drop {
     /// The record that a field ends.
     type Gives: Drop;
@@ -35,6 +37,9 @@ pub trait FieldFormat: Drop {
     /// The state may be that at this place.
     ghost Fits: { Self → ℕ → Type 0 };
 
+    /// The next field may need memory.
+    ghost Wants: { Self → Type 0 };
+
     /// The shape of the next field.
     fn shape(&self) -> Shape
         ensures value { result ≡ shape_of self.now };
@@ -42,6 +47,11 @@ pub trait FieldFormat: Drop {
     /// Whether a text may end here.
     fn is_end(&self) -> bool
         ensures value { result ≡ fields.is_end self.now };
+
+    /// Whether it is known that the next field gives no record.
+    fn is_quiet(&self) -> bool
+        ensures value { result ≡ true
+            → (at : ℕ) (field : List ℕ) → IsQuiet (fields.judge self.now at field) };
 
     /// The most bytes of a text.
     fn limit(&self) -> u64
@@ -61,10 +71,10 @@ pub trait FieldFormat: Drop {
         alloc: Global,
         at: u64,
         byte: u8,
-    ) -> Result<Option<Self::Gives>, Self::Fault>
+    ) -> Result<Option<Self::Gives>, NotTaken<Self::Fault>>
         requires shape { shape_of self.old ≡ Kinds.Byte }
         requires fits { Fits self.old at }
-        ensures value { Judges Fits (fields.judge self.old at (byte ∷ [])) (at + 1)
+        ensures value { Judges Fits Wants (fields.judge self.old at (byte ∷ [])) (at + 1)
             self.old self.new result };
 
     /// What four bytes from this place on do.
@@ -73,10 +83,10 @@ pub trait FieldFormat: Drop {
         alloc: Global,
         at: u64,
         bytes: [u8; 4],
-    ) -> Result<Option<Self::Gives>, Self::Fault>
+    ) -> Result<Option<Self::Gives>, NotTaken<Self::Fault>>
         requires shape { shape_of self.old ≡ Kinds.Four }
         requires fits { Fits self.old at }
-        ensures value { Judges Fits (fields.judge self.old at bytes) (at + 4)
+        ensures value { Judges Fits Wants (fields.judge self.old at bytes) (at + 4)
             self.old self.new result };
 
     /// What eight bytes from this place on do.
@@ -85,27 +95,32 @@ pub trait FieldFormat: Drop {
         alloc: Global,
         at: u64,
         bytes: [u8; 8],
-    ) -> Result<Option<Self::Gives>, Self::Fault>
+    ) -> Result<Option<Self::Gives>, NotTaken<Self::Fault>>
         requires shape { shape_of self.old ≡ Kinds.Eight }
         requires fits { Fits self.old at }
-        ensures value { Judges Fits (fields.judge self.old at bytes) (at + 8)
+        ensures value { Judges Fits Wants (fields.judge self.old at bytes) (at + 8)
             self.old self.new result };
 
-    /// What a run of bytes from this place on does.
+    /// What a run of bytes from this place on does. It may take them out of their vector.
     fn judge_run(
         &mut self,
+        alloc: Global,
         at: u64,
-        bytes: Vec<u8>,
-    ) -> Result<Option<Self::Gives>, Self::Fault>
-        requires shape { (others : ℕ) → length bytes.items ≡ others + 1
+        bytes: &mut Vec<u8>,
+    ) -> Result<Option<Self::Gives>, NotTaken<Self::Fault>>
+        requires shape { (others : ℕ) → length bytes.old.items ≡ others + 1
             → shape_of self.old ≡ Kinds.Run others }
-        requires some { 0 < length bytes.items }
+        requires some { 0 < length bytes.old.items }
         requires fits { Fits self.old at }
-        ensures value { Judges Fits (fields.judge self.old at bytes.items)
-            (at + length bytes.items) self.old self.new result };
+        ensures value { Judges Fits Wants (fields.judge self.old at bytes.old.items)
+            (at + length bytes.old.items) self.old self.new result }
+        ensures kept { result ≡ Err NoMemory → bytes.new.items ≡ bytes.old.items };
 
     /// A field has as many bytes as its shape says.
     ghost widths: { (s : Self) → fields.width s ≡ width_of (shape_of s) };
+
+    /// A run may need memory.
+    ghost runs: { (s : Self) (others : ℕ) → shape_of s ≡ Kinds.Run others → Wants s };
 
     /// A field has a byte; after the end each byte is wrong.
     ghost lawful: { IsLawful fields };

@@ -1,11 +1,12 @@
 //! The reader of a format of fields.
 ghost use Rattle.std.specs.Prelude.{◌≡◌, ◌+◌, ◌-◌, ◌<◌, ◌≤◌, ◌++◌, ◌∷◌, [], List, length, None, Some, true, false};
 ghost use Rattle.zy_read.specs.Fields.{Place, at_state, is_full, field_step, grown_by, format_of, refused};
-ghost use Rattle.zy_read.specs.FieldReading.{IsOfRun, EndsAt, TakesField};
+ghost use Rattle.zy_read.specs.FieldReading.{EndsAt};
 ghost use Rattle.zy_read.specs.Standing.{Follows};
 ghost use Rattle.zy_read.specs.declared.shape.Shape.TheVariants as Kinds;
 ghost use Rattle.zy_read.specs.FieldsLasting.{lasting};
 
+mod runs;
 mod steps;
 
 use crate::field::Field;
@@ -67,6 +68,13 @@ impl<S: FieldFormat> FieldReader<S> {
         ensures value { result.now ≡ self.now.state }
     {
         &self.state
+    }
+
+    /// Gives the state.
+    pub fn into_state(self) -> S
+        ensures value { result ≡ self.state }
+    {
+        self.state
     }
 
     /// The fault that was met.

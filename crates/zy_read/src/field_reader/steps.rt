@@ -1,8 +1,8 @@
 //! The step of the reader of a format of fields at each byte, by the shape of the field.
 ghost use Rattle.std.specs.Prelude.{◌≡◌, ◌+◌, ◌-◌, ◌<◌, ◌≤◌, ◌++◌, ◌∷◌, [], List, length, None, Some, true, false};
 ghost use Rattle.zy_read.specs.Fields.{Place, is_full, field_step, grown_by, format_of, refused};
-ghost use Rattle.zy_read.specs.FieldReading.{IsOfRun, TakesField};
-ghost use Rattle.zy_read.specs.Standing.{Follows};
+ghost use Rattle.zy_read.specs.FieldReading.{MayNeed, TakesField};
+ghost use Rattle.zy_read.specs.Standing.{Follows, Feeds};
 ghost use Rattle.zy_read.specs.declared.shape.Shape.TheVariants as Kinds;
 ghost use Rattle.zy_read.specs.FieldsLasting.{lasting};
 
@@ -11,7 +11,6 @@ use crate::field_format::FieldFormat;
 use crate::not_taken::NotTaken;
 use crate::reads::Reads;
 use crate::shape::Shape;
-use std::mem;
 
 impl<S: FieldFormat> Reads for FieldReader<S> {
     type Gives = S::Gives;
@@ -22,7 +21,7 @@ impl<S: FieldFormat> Reads for FieldReader<S> {
 
     ghost format = { format_of S.fields S.good S.bad };
 
-    ghost wants = { IsOfRun S.fields S.shape_of };
+    ghost wants = { MayNeed S.fields S.Wants };
 
     fn step(&mut self, byte: u8) -> Result<Option<S::Gives>, NotTaken<S::Fault>> {
         if let Some(fault) = self.fault {
@@ -43,53 +42,22 @@ impl<S: FieldFormat> Reads for FieldReader<S> {
         }
     }
 
-    // Takes bytes of a run, but not its last one; where memory is wanted for them, none.
-    #[tactic(auto, using(crate::proofs::FieldLemmas::run_fed, crate::proofs::Feeding::fed_none))]
+    // Takes whole fields, and then bytes of a run, but not its last one.
     fn take_run(&mut self, bytes: &[u8], at: usize) -> usize {
-        if self.fault.is_some() {
-            return 0;
-        }
-        let limit = self.state.limit();
-        match self.state.shape() {
-            Shape::Run(others) if self.at < limit => {
-                let left = others - self.payload.len() as u64;
-                let room = limit - self.at;
-                let run = left.min(room).min((bytes.len() - at - 1) as u64) as usize;
-                if self.append(others, &bytes[at..at + run]) {
-                    run
-                } else {
-                    0
-                }
-            }
-            _ => 0,
-        }
+        let run = self.take_fields(bytes, at);
+        run + self.take_part(bytes, at + run)
     }
 
     ghost lasting = { lasting S.fields S.good S.bad };
 }
 
 impl<S: FieldFormat> FieldReader<S> {
-    // Takes bytes of a run, but not its last one, where there is memory.
-    fn append(&mut self, others: u64, bytes: &[u8]) -> bool
-        requires shape { S.shape_of self.old.state ≡ Kinds.Run others }
-        requires fits { length self.old.seen + length bytes.now ≤ others }
-        requires room { self.old.at + length bytes.now ≤ S.fields.limit }
-        ensures ok { result ≡ true → self.new ≡ grown_by self.old bytes.now }
-        ensures kept { result ≡ false → self.new ≡ self.old }
-    {
-        if self.payload.extend_from_slice(bytes).is_err() {
-            return false;
-        }
-        self.at += bytes.len() as u64;
-        true
-    }
-
     // A field of one byte.
     fn take_byte(&mut self, byte: u8) -> Result<Option<S::Gives>, NotTaken<S::Fault>>
         requires shape { S.shape_of self.old.state ≡ Kinds.Byte }
         requires open { self.old.fault ≡ None }
         requires room { is_full S.fields self.old ≡ false }
-        ensures value { TakesField S.fields S.good S.bad S.shape_of
+        ensures value { TakesField S.fields S.good S.bad S.Wants
             (field_step S.fields self.old byte) self.old self.new byte result }
     {
         match self.state.judge_byte(self.alloc, self.at, byte) {
@@ -97,10 +65,11 @@ impl<S: FieldFormat> FieldReader<S> {
                 self.at += 1;
                 Ok(gave)
             }
-            Err(fault) => {
+            Err(NotTaken::Fault(fault)) => {
                 self.fault = Some(fault);
                 Err(NotTaken::Fault(fault))
             }
+            Err(NotTaken::NoMemory) => Err(NotTaken::NoMemory),
         }
     }
 
@@ -109,7 +78,7 @@ impl<S: FieldFormat> FieldReader<S> {
         requires shape { S.shape_of self.old.state ≡ Kinds.Four }
         requires open { self.old.fault ≡ None }
         requires room { is_full S.fields self.old ≡ false }
-        ensures value { TakesField S.fields S.good S.bad S.shape_of
+        ensures value { TakesField S.fields S.good S.bad S.Wants
             (field_step S.fields self.old byte) self.old self.new byte result }
     {
         if self.field.len() < 3 {
@@ -118,16 +87,18 @@ impl<S: FieldFormat> FieldReader<S> {
             return Ok(None);
         }
         let bytes = self.field.four(byte);
-        self.field.clear();
         match self.state.judge_four(self.alloc, self.at - 3, bytes) {
             Ok(gave) => {
+                self.field.clear();
                 self.at += 1;
                 Ok(gave)
             }
-            Err(fault) => {
+            Err(NotTaken::Fault(fault)) => {
+                self.field.clear();
                 self.fault = Some(fault);
                 Err(NotTaken::Fault(fault))
             }
+            Err(NotTaken::NoMemory) => Err(NotTaken::NoMemory),
         }
     }
 
@@ -136,7 +107,7 @@ impl<S: FieldFormat> FieldReader<S> {
         requires shape { S.shape_of self.old.state ≡ Kinds.Eight }
         requires open { self.old.fault ≡ None }
         requires room { is_full S.fields self.old ≡ false }
-        ensures value { TakesField S.fields S.good S.bad S.shape_of
+        ensures value { TakesField S.fields S.good S.bad S.Wants
             (field_step S.fields self.old byte) self.old self.new byte result }
     {
         if self.field.len() < 7 {
@@ -145,16 +116,18 @@ impl<S: FieldFormat> FieldReader<S> {
             return Ok(None);
         }
         let bytes = self.field.eight(byte);
-        self.field.clear();
         match self.state.judge_eight(self.alloc, self.at - 7, bytes) {
             Ok(gave) => {
+                self.field.clear();
                 self.at += 1;
                 Ok(gave)
             }
-            Err(fault) => {
+            Err(NotTaken::Fault(fault)) => {
+                self.field.clear();
                 self.fault = Some(fault);
                 Err(NotTaken::Fault(fault))
             }
+            Err(NotTaken::NoMemory) => Err(NotTaken::NoMemory),
         }
     }
 
@@ -167,7 +140,7 @@ impl<S: FieldFormat> FieldReader<S> {
         requires shape { S.shape_of self.old.state ≡ Kinds.Run others }
         requires open { self.old.fault ≡ None }
         requires room { is_full S.fields self.old ≡ false }
-        ensures value { TakesField S.fields S.good S.bad S.shape_of
+        ensures value { TakesField S.fields S.good S.bad S.Wants
             (field_step S.fields self.old byte) self.old self.new byte result }
     {
         if self.payload.push(byte).is_err() {
@@ -177,15 +150,23 @@ impl<S: FieldFormat> FieldReader<S> {
             self.at += 1;
             return Ok(None);
         }
-        let bytes = mem::replace(&mut self.payload, Vec::new(self.alloc));
-        match self.state.judge_run(self.at - others, bytes) {
+        match self
+            .state
+            .judge_run(self.alloc, self.at - others, &mut self.payload)
+        {
             Ok(gave) => {
+                self.payload.clear();
                 self.at += 1;
                 Ok(gave)
             }
-            Err(fault) => {
+            Err(NotTaken::Fault(fault)) => {
+                self.payload.clear();
                 self.fault = Some(fault);
                 Err(NotTaken::Fault(fault))
+            }
+            Err(NotTaken::NoMemory) => {
+                let _ = self.payload.pop();
+                Err(NotTaken::NoMemory)
             }
         }
     }
