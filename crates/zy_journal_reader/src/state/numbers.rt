@@ -1,40 +1,21 @@
 //! Numbers of four bytes.
-ghost use Rattle.std.specs.Prelude.{◌≡◌, ◌<◌};
+ghost use Rattle.std.specs.Prelude.{◌≡◌, ℕ};
+ghost use Rattle.zy_read.specs.Fields.Judged.{Then};
 ghost use Rattle.zy_journal_reader.specs.declared.due.Due.TheVariants as Dues;
 ghost use Rattle.zy_journal_reader.specs.declared.due.NumberField.TheVariants as Numbers;
-ghost use Rattle.zy_journal_reader.specs.Steps.{taken, lawful_number, after_four, journal_limit};
+ghost use Rattle.zy_journal_reader.specs.Steps.{lawful_number, after_four};
 ghost use Rattle.zy_journal_reader.specs.Standing.{Takes};
 
-use super::JournalReader;
+use super::JournalState;
 use crate::call_fields::at_number;
 use crate::due::{ByteField, BytesField, Due, LongField, NumberField};
+use std::alloc::Global;
 use zy_base::{
-    Blob, CONNECTION_LIMIT, CORE_LIMIT, CallReply, FileFault, HOLD_LIMIT, SHARD_LIMIT, VALUE_LIMIT,
+    Blob, CONNECTION_LIMIT, CORE_LIMIT, CallReply, HOLD_LIMIT, SHARD_LIMIT, VALUE_LIMIT,
 };
 use zy_read::FileFeed;
 
-impl JournalReader {
-    // A byte of a number of four bytes.
-    pub(super) fn feed_number(
-        &mut self,
-        field: NumberField,
-        byte: u8,
-    ) -> Result<Option<()>, FileFeed>
-        requires due { self.old.due ≡ Dues.Number field }
-        requires room { self.old.at < journal_limit }
-        ensures value { Takes (taken (Dues.Number field) self.old byte) self.old self.new result }
-    {
-        if self.field.len() < 3 {
-            self.keep(byte);
-            return Ok(None);
-        }
-        let number = self.field.number(byte);
-        if !self.is_lawful_number(field, number) {
-            return self.refuse(FileFault::Form { at: self.at - 3 });
-        }
-        self.take_number(field, number)
-    }
-
+impl JournalState {
     // Whether the number is allowed there.
     pub(super) fn is_lawful_number(&self, field: NumberField, number: u32) -> bool
         ensures value { result ≡ lawful_number field self.now number }
@@ -59,75 +40,72 @@ impl JournalReader {
     // A lawful number.
     pub(super) fn take_number(
         &mut self,
+        alloc: Global,
         field: NumberField,
         number: u32,
     ) -> Result<Option<()>, FileFeed>
         requires due { self.old.due ≡ Dues.Number field }
-        requires room { self.old.at < journal_limit }
         ensures value { Takes (after_four field self.old number) self.old self.new result }
     {
         match field {
             NumberField::Shard => {
                 self.draft.shard = number;
-                self.go_on(Due::Number(NumberField::Connection));
+                self.due = Due::Number(NumberField::Connection);
             }
             NumberField::Connection => {
                 self.draft.conn = number;
-                self.go_on(Due::Long(LongField::Index));
+                self.due = Due::Long(LongField::Index);
             }
             NumberField::Part => {
                 self.draft.part = number;
-                self.go_on(Due::Byte(ByteField::CallCode));
+                self.due = Due::Byte(ByteField::CallCode);
             }
             NumberField::Flags => {
                 self.draft.flags = number;
-                self.go_on(at_number(self.draft.kind.fields()));
+                self.due = at_number(self.draft.kind.fields());
             }
-            NumberField::ValueLength => self.begin_value(number),
+            NumberField::ValueLength => self.begin_value(alloc, number),
             NumberField::FoundFlags => {
                 self.draft.found_flags = number;
-                self.go_on(Due::Long(LongField::FoundUnique));
+                self.due = Due::Long(LongField::FoundUnique);
             }
-            NumberField::FoundLength => return self.begin_found(number),
+            NumberField::FoundLength => return self.begin_found(alloc, number),
             NumberField::HoldConnection => {
                 self.draft.conn = number;
-                self.go_on(Due::Number(NumberField::HoldCore));
+                self.due = Due::Number(NumberField::HoldCore);
             }
             NumberField::HoldCore => {
                 self.draft.core = number;
-                self.go_on(Due::Number(NumberField::HoldCount));
+                self.due = Due::Number(NumberField::HoldCount);
             }
-            NumberField::HoldCount => return self.end_hold(number),
+            NumberField::HoldCount => return self.end_hold(alloc, number),
         }
         Ok(None)
     }
 
     // The length of the value that a call stores.
-    fn begin_value(&mut self, size: u32)
+    fn begin_value(&mut self, alloc: Global, size: u32)
         requires due { self.old.due ≡ Dues.Number Numbers.ValueLength }
-        requires room { self.old.at < journal_limit }
-        ensures value { self.new ≡ (after_four Numbers.ValueLength self.old size).next }
+        ensures value { after_four Numbers.ValueLength self.old size ≡ Then self.new }
     {
         if size == 0 {
-            self.draft.value = Blob::new(self.alloc);
-            self.go_on(Due::Byte(ByteField::ReplyCode));
+            self.draft.value = Blob::new(alloc);
+            self.due = Due::Byte(ByteField::ReplyCode);
         } else {
             self.begin_bytes(BytesField::Value, size);
         }
     }
 
     // The length of the value that a get found.
-    fn begin_found(&mut self, size: u32) -> Result<Option<()>, FileFeed>
+    fn begin_found(&mut self, alloc: Global, size: u32) -> Result<Option<()>, FileFeed>
         requires due { self.old.due ≡ Dues.Number Numbers.FoundLength }
-        requires room { self.old.at < journal_limit }
-        ensures value { Takes (after_four Numbers.FoundLength self.old size)
-            self.old self.new result }
+        ensures value { Takes (after_four Numbers.FoundLength self.old size) self.old self.new result }
     {
         if size == 0 {
-            return self.end_entry(CallReply::Hit {
+            return self.end_entry(alloc, CallReply::Hit {
                 flags: self.draft.found_flags,
                 unique: self.draft.found_unique,
-                value: Blob::new(self.alloc),
+                value: Blob::new(alloc),
             });
         }
         self.begin_bytes(BytesField::FoundValue, size);
