@@ -1,18 +1,18 @@
 -- A text is bad with a fault exactly where it has it, as a journal; that it ends too early, or is too long, is said by
 -- its bytes.
-use Rattle.std.proofs.Common.{◌≡◌, ◌⊎◌, inl, inr, ℕ, ◌+◌, ◌≤◌, List, [], ◌∷◌, ◌++◌, length, refl, sym, ◌∙◌, ap, subst, arith}
+use Rattle.std.proofs.Common.{◌≡◌, inl, inr, ℕ, List, ◌∷◌, ◌++◌, length, refl, sym, ◌∙◌, ap, subst, arith}
 use Rattle.std.specs.List.{concat}
 use Rattle.zy_base.specs.declared.file_fault.FileFault.{FileFault}
 use Rattle.zy_base.specs.declared.file_fault.FileFault.TheVariants.{Form, Truncated, TooLong}
 use Rattle.zy_read.specs.Bytes.{AreBytes}
 use Rattle.zy_read.proofs.ByteLemmas.{bytes_front}
-use Rattle.zy_read.specs.Runs.{IsCut, IsOverlong, IsOutcome}
+use Rattle.zy_read.specs.Runs.{IsCut, IsOutcome}
 use Rattle.zy_read.specs.Runs.{HasFault as HasFieldFault}
 use Rattle.zy_read.proofs.VerdictLemmas.{outcome, cut_bad, cut_overlong, fault_bad, overlong_cut, overlong_text, overlong_most, overlong_long}
-use Rattle.zy_journal_reader.specs.Steps.{State, journal_fields, journal_limit}
+use Rattle.zy_journal_reader.specs.Steps.{State, journal_fields}
 use Rattle.zy_journal_reader.specs.Verdict.{Verdict, good, verdict}
-use Rattle.zy_journal_reader.specs.Verdict.Verdict.{Good, Bad}
-use Rattle.zy_journal_reader.specs.Faults.{IsBegun, IsTruncated, IsTooLong, HasFault}
+use Rattle.zy_journal_reader.specs.Verdict.Verdict.{Bad}
+use Rattle.zy_journal_reader.specs.Faults.{IsBegun, HasFault}
 use Rattle.zy_journal_reader.specs.Laws.{lawful}
 use Rattle.zy_journal_reader.proofs.WholeLemmas.{good_spells}
 use Rattle.zy_journal_reader.proofs.SpelledLemmas.{spells_good}

@@ -11,7 +11,7 @@ use Rattle.zy_journal_reader.specs.declared.due.BytesField.{BytesField}
 use Rattle.zy_journal_reader.specs.declared.due.BytesField.TheVariants.{Key, Value, FoundValue}
 use Rattle.zy_journal_reader.specs.Steps.{State, after_bytes}
 use Rattle.zy_journal_reader.proofs.CallLemmas.{fields_in, call_in, to_value, its_bytes, its_field}
-use Rattle.zy_journal_reader.proofs.SoFar.{front, head, IsReadTo, Leads}
+use Rattle.zy_journal_reader.proofs.SoFar.{front, head, Leads}
 use Rattle.zy_journal_reader.proofs.ComingLemmas.{flags_come, reply_comes}
 use Rattle.zy_journal_reader.proofs.EndLemmas.{Ends, entry_on}
 use Rattle.zy_journal_reader.proofs.NumberLemmas.{value_spelled}

@@ -1,5 +1,5 @@
 -- A byte that ends an entry, a hold or a field of one byte.
-use Rattle.std.proofs.Common.{◌≡◌, ℕ, ◌+◌, ◌<◌, ◌≤◌, true, List, [], ◌∷◌, ◌++◌, length, refl, sym, ◌∙◌, ap, arith, append_assoc}
+use Rattle.std.proofs.Common.{◌≡◌, ℕ, ◌≤◌, true, List, [], ◌∷◌, ◌++◌, length, sym, ◌∙◌, ap, arith, append_assoc}
 use Rattle.std.specs.Prelude.{◌==◌}
 use Rattle.std.specs.Int.{to_be_bytes, w32}
 use Rattle.std.proofs.lemmas.List.{append-nil}
@@ -11,14 +11,13 @@ use Rattle.zy_base.specs.Code.{code_of, kind_of, hit_code, number_code, tally_co
 use Rattle.zy_base.specs.Bounds.{IsReply, FitsReply}
 use Rattle.zy_journal.specs.Journal.{call_text, reply_text, entry_head, entry_text, hold_text}
 use Rattle.zy_journal_reader.specs.declared.due.Due.{Due}
-use Rattle.zy_journal_reader.specs.declared.due.Due.TheVariants.{Byte, Number, Bytes}
+use Rattle.zy_journal_reader.specs.declared.due.Due.TheVariants.{Byte, Number}
 use Rattle.zy_journal_reader.specs.declared.due.ByteField.TheVariants.{Tag, CallCode, KeyLength, ReplyCode}
 use Rattle.zy_journal_reader.specs.declared.due.NumberField.TheVariants.{HoldCount}
-use Rattle.zy_journal_reader.specs.declared.due.BytesField.TheVariants.{Key}
 use Rattle.zy_journal_reader.specs.Fields.{entry_of, hold_of}
 use Rattle.zy_journal_reader.specs.Steps.{State, Done, ends_entry, ends_hold, lawful_byte, after_byte}
 use Rattle.zy_journal_reader.proofs.CallLemmas.{call_in, plain_text, plain_within, plain_fits}
-use Rattle.zy_journal_reader.proofs.SoFar.{front, head, before, Kept, StampKnown, HeadKnown, CallKnown, Known, IsReadTo, Leads}
+use Rattle.zy_journal_reader.proofs.SoFar.{front, head, before, Kept, StampKnown, HeadKnown, CallKnown, Known, Leads}
 use Rattle.zy_journal_reader.proofs.TestLemmas.{between_true, tag_true, chosen, no_items, kept_entry, kept_hold, front_entry, front_hold, joined}
 use Rattle.zy_journal_reader.proofs.ComingLemmas.{key_comes}
 

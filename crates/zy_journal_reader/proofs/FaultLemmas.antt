@@ -1,6 +1,6 @@
 -- A field of a journal that is wrong is a fault of its text.
-use Rattle.std.proofs.Common.{◌≡◌, ◌⊎◌, inl, inr, ℕ, zero, suc, ◌+◌, ◌-◌, ◌<◌, ◌≤◌, ◌^◌, true, false, List, [], ◌∷◌, ◌++◌, length, take, drop, get_or, refl, sym, ◌∙◌, ap, subst, arith, append_assoc, length-append}
-use Rattle.std.specs.Prelude.{◌==◌, ◌&&◌, ◌||◌, nat_lt, nat_le, Option, None, Some, flat_map, ⊤}
+use Rattle.std.proofs.Common.{◌≡◌, inl, inr, ℕ, zero, suc, ◌+◌, ◌<◌, ◌≤◌, ◌^◌, true, false, List, [], ◌∷◌, ◌++◌, length, take, drop, get_or, refl, sym, ◌∙◌, ap, subst, arith, append_assoc, length-append}
+use Rattle.std.specs.Prelude.{◌==◌, ◌&&◌, ◌||◌, None}
 use Rattle.std.specs.List.{slice_index, concat}
 use Rattle.std.specs.Int.{to_be_bytes, from_be_bytes, w32, w64}
 use Rattle.std.proofs.lemmas.List.{append-nil}
@@ -12,7 +12,7 @@ use Rattle.zy_base.specs.declared.call_reply.CallReply.TheVariants as Replies
 use Rattle.zy_base.specs.declared.entry.Entry.{Entry}
 use Rattle.zy_base.specs.declared.hold.Hold.{Hold}
 use Rattle.zy_base.specs.declared.file_fault.FileFault.{FileFault}
-use Rattle.zy_base.specs.declared.file_fault.FileFault.TheVariants.{Form, Truncated, TooLong}
+use Rattle.zy_base.specs.declared.file_fault.FileFault.TheVariants.{Form}
 use Rattle.zy_base.specs.Call.{key_of}
 use Rattle.zy_base.specs.Code.{code_of, call_of, call_code, call_flags, call_number, call_value, hit_code, last_call_code, last_reply_code}
 use Rattle.zy_base.specs.Bounds.{IsKey, IsValue}
@@ -20,9 +20,9 @@ use Rattle.zy_base.specs.Shard.{value_limit}
 use Rattle.zy_base.proofs.CodeLemmas.{call_has}
 use Rattle.zy_read.specs.Fields.Judged.{Then, Gives, Wrong}
 use Rattle.zy_read.specs.FieldReading.{width_of}
-use Rattle.zy_read.specs.Runs.{Begins, HasRoom, IsMisjudged}
+use Rattle.zy_read.specs.Runs.{HasRoom, IsMisjudged}
 use Rattle.zy_read.proofs.ByteLemmas.{byte_at, bytes_front, bytes_back}
-use Rattle.zy_journal.specs.Journal.{magic, key_text, field_text, fields_text, call_text, entry_head, entry_text, hold_text, journal_bytes}
+use Rattle.zy_journal.specs.Journal.{magic, key_text, field_text, fields_text, call_text, entry_head}
 use Rattle.zy_journal_reader.specs.declared.draft.Draft.{Draft}
 use Rattle.zy_journal_reader.specs.declared.due.Due.{Due}
 use Rattle.zy_journal_reader.specs.declared.due.Due.TheVariants.{Byte, Number, Long, Bytes, Nothing}
@@ -32,12 +32,11 @@ use Rattle.zy_journal_reader.specs.declared.due.NumberField.{NumberField}
 use Rattle.zy_journal_reader.specs.declared.due.NumberField.TheVariants as N
 use Rattle.zy_journal_reader.specs.declared.due.LongField.{LongField}
 use Rattle.zy_journal_reader.specs.declared.due.LongField.TheVariants as L
-use Rattle.zy_journal_reader.specs.declared.due.BytesField.{BytesField}
 use Rattle.zy_journal_reader.specs.Steps.{State, Done, shape, lawful_byte, lawful_number, lawful_long, after_byte, after_four, after_eight, after_bytes, one, four, eight, judged, is_nothing, journal_fields, journal_limit}
 use Rattle.zy_journal_reader.specs.Verdict.{journal_in, IsReadable}
 use Rattle.zy_read.specs.Bytes.{AreBytes}
 use Rattle.zy_journal_reader.specs.LawfulFields.{last_one, number_text, range, EntryField, shape_of, before, IsLawful, IsLawfulUpTo, HoldField, before_in_hold, IsLawfulInHold, IsHoldUpTo}
-use Rattle.zy_journal_reader.specs.Faults.{IsBadMagic, IsBadEntry, IsBadHold, IsWrong}
+use Rattle.zy_journal_reader.specs.Faults.{IsBadMagic, IsWrong}
 use Rattle.zy_journal_reader.specs.LawfulFields.{EntryField as E}
 use Rattle.zy_journal_reader.specs.LawfulFields.{HoldField as H}
 use Rattle.zy_journal_reader.proofs.CallLemmas.{fields_in, call_in, key_bytes, flags_bytes, number_bytes, call_is}

@@ -1,32 +1,27 @@
 -- A text that has a fault is bad with it, as a journal.
-use Rattle.std.proofs.Common.{◌≡◌, inl, inr, ℕ, zero, suc, ◌+◌, ◌-◌, ◌/◌, ◌%◌, ◌<◌, ◌≤◌, ◌^◌, Bool, true, false, List, [], ◌∷◌, ◌++◌, length, take, refl, sym, ◌∙◌, ap, subst, arith, append_assoc, length-append}
-use Rattle.std.specs.Prelude.{◌==◌, ◌&&◌, ◌||◌, nat_lt, nat_le, if◌then◌else◌, Option, None, Some, option_to_list, flat_map, ⊤}
+use Rattle.std.proofs.Common.{◌≡◌, inl, inr, ℕ, zero, suc, ◌+◌, ◌<◌, ◌≤◌, ◌^◌, Bool, true, false, List, [], ◌∷◌, ◌++◌, length, take, refl, sym, ◌∙◌, ap, arith, append_assoc, length-append}
+use Rattle.std.specs.Prelude.{◌==◌, ◌&&◌, ◌||◌, nat_lt, nat_le, Option, None, Some}
 use Rattle.std.specs.List.{slice_index}
-use Rattle.std.specs.Int.{to_be_bytes, w32, w64}
+use Rattle.std.specs.Int.{to_be_bytes, w32}
 use Rattle.std.proofs.lemmas.List.{take_at}
 use Rattle.std.proofs.lemmas.Bool.{eqb-true}
 use Rattle.std.proofs.lemmas.Bool.Decides.{nat_tests}
 use Rattle.zy_base.specs.declared.entry.Entry.{Entry}
 use Rattle.zy_base.specs.declared.hold.Hold.{Hold}
-use Rattle.zy_base.specs.declared.file_fault.FileFault.{FileFault}
-use Rattle.zy_base.specs.declared.file_fault.FileFault.TheVariants.{Form, Truncated, TooLong}
+use Rattle.zy_base.specs.declared.file_fault.FileFault.TheVariants.{Form}
 use Rattle.zy_base.specs.Code.{call_code, last_call_code, last_reply_code}
 use Rattle.zy_base.specs.Shard.{value_limit}
-use Rattle.zy_read.specs.Fields.Judged.{Then, Gives, Wrong}
+use Rattle.zy_read.specs.Fields.Judged.{Wrong}
 use Rattle.zy_read.specs.FieldReading.{width_of}
 use Rattle.zy_read.proofs.OverLemmas.{over_join, over_misjudged}
 use Rattle.zy_read.proofs.VerdictLemmas.{fault_bad}
 use Rattle.zy_journal.specs.declared.journal.Journal.{Journal}
-use Rattle.zy_journal.specs.Journal.{magic, call_text, entry_text, hold_text, journal_bytes, AreByConnection}
-use Rattle.zy_journal_reader.specs.declared.draft.Draft.{Draft}
+use Rattle.zy_journal.specs.Journal.{magic, call_text, journal_bytes}
 use Rattle.zy_journal_reader.specs.declared.due.Due.{Due}
-use Rattle.zy_journal_reader.specs.declared.due.Due.TheVariants.{Byte, Number, Long, Nothing}
-use Rattle.zy_journal_reader.specs.declared.due.ByteField.{ByteField}
+use Rattle.zy_journal_reader.specs.declared.due.Due.TheVariants.{Byte, Number, Long}
 use Rattle.zy_journal_reader.specs.Fields.{fresh}
 use Rattle.zy_journal_reader.specs.declared.due.ByteField.TheVariants as B
-use Rattle.zy_journal_reader.specs.declared.due.NumberField.{NumberField}
 use Rattle.zy_journal_reader.specs.declared.due.NumberField.TheVariants as N
-use Rattle.zy_journal_reader.specs.declared.due.LongField.{LongField}
 use Rattle.zy_journal_reader.specs.declared.due.LongField.TheVariants as L
 use Rattle.zy_journal_reader.specs.Steps.{State, start, shape, judged, journal_fields, journal_limit}
 use Rattle.zy_journal_reader.specs.Verdict.{good, verdict, IsReadable}
@@ -39,7 +34,7 @@ use Rattle.zy_journal_reader.specs.LawfulFields.{HoldField as H}
 use Rattle.zy_journal_reader.proofs.SoFar.{stamp_of, shard_of, conn_of, ComesAfter}
 use Rattle.zy_journal_reader.proofs.PlaceLemmas.{Over, place, Goes, both, stays, one_byte, four_bytes, one_wrong, four_wrong, eight_wrong}
 use Rattle.zy_journal_reader.proofs.GoesLemmas.{below_is, conn_is}
-use Rattle.zy_journal_reader.proofs.SpelledLemmas.{with_entry, with_entries, entries_go, entries_keep, holds_read, entries_past, with_hold, with_holds, holds_go, head_of, head_goes, after_records, front_over, at_end, whole_over}
+use Rattle.zy_journal_reader.proofs.SpelledLemmas.{with_entry, with_entries, entries_keep, holds_read, entries_past, with_hold, with_holds, head_of, head_goes, after_records, front_over, at_end, whole_over}
 use Rattle.zy_journal_reader.proofs.TestLemmas.{between_true, below_true, most_true, stamp_true, shard_true, conn_true, no_items}
 use Rattle.zy_journal_reader.proofs.LawfulLemmas.{comes_behind, behind_comes, not_below, above_is, not_falling, rises}
 use Rattle.zy_journal_reader.proofs.LeadsLemmas.{Leads, tag_goes, shard_goes, connection_goes, command_goes, to_value, to_found, after_code, before_value, before_reply, before_found, after_head}

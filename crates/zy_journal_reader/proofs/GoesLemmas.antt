@@ -25,7 +25,7 @@ use Rattle.zy_journal_reader.specs.declared.due.BytesField.TheVariants.{Key, Val
 use Rattle.zy_journal_reader.specs.Fields.{fresh, at_key, at_flags, at_number, at_value, entry_of}
 use Rattle.zy_journal_reader.specs.Steps.{State}
 use Rattle.zy_journal_reader.proofs.CallLemmas.{plain_text}
-use Rattle.zy_journal_reader.proofs.PlaceLemmas.{place, Goes, both, to, stays, one_byte, four_bytes, eight_bytes, all_bytes}
+use Rattle.zy_journal_reader.proofs.PlaceLemmas.{Goes, both, to, stays, one_byte, four_bytes, eight_bytes, all_bytes}
 
 -- ---- tests
 

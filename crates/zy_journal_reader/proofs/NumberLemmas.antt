@@ -17,7 +17,7 @@ use Rattle.zy_journal_reader.specs.declared.due.LongField.{LongField}
 use Rattle.zy_journal_reader.specs.declared.due.LongField.TheVariants.{Stamp, Index, CallNumber, FoundUnique, ReplyNumber, Gets, Sets, Hits, Misses, Items}
 use Rattle.zy_journal_reader.specs.Steps.{State, Done, lawful_number, lawful_long, after_four, after_eight}
 use Rattle.zy_journal_reader.proofs.CallLemmas.{fields_in, call_in, key_bytes, flags_bytes, to_flags, to_number, to_value, its_bytes, its_field, call_text_is}
-use Rattle.zy_journal_reader.proofs.SoFar.{front, head, IsReadTo, Leads}
+use Rattle.zy_journal_reader.proofs.SoFar.{front, head, Leads}
 use Rattle.zy_journal_reader.proofs.TestLemmas.{between_true, below_true, most_true, stamp_true, shard_true, conn_true, positive, chosen}
 use Rattle.zy_journal_reader.proofs.ComingLemmas.{reply_comes, value_comes, number_comes}
 use Rattle.zy_journal_reader.proofs.EndLemmas.{Ends, ended_by, entry_on, hold_on}

@@ -1,8 +1,7 @@
 -- A lawful field of a journal leads to a state; no field but a tag gives a record.
-use Rattle.std.proofs.Common.{◌≡◌, ◌≢◌, ℕ, true, false, List, get_or, refl}
+use Rattle.std.proofs.Common.{◌≢◌, ℕ, List, get_or, refl}
 use Rattle.std.specs.Prelude.{◌==◌, ⊤}
 use Rattle.std.specs.Int.{from_be_bytes, w32, w64}
-use Rattle.zy_base.specs.declared.file_fault.FileFault.{FileFault}
 use Rattle.zy_base.specs.Code.{hit_code, number_code, tally_code}
 use Rattle.zy_read.specs.Fields.Judged.{Then, Gives, Wrong}
 use Rattle.zy_read.specs.FieldReading.{IsQuiet}

@@ -1,8 +1,8 @@
 -- A journal text without a fault is the bytes that spell what was read of it.
-use Rattle.std.proofs.Common.{◌≡◌, ◌⊎◌, inl, inr, ℕ, ◌+◌, ◌-◌, ◌<◌, ◌≤◌, true, false, List, [], ◌∷◌, ◌++◌, length, take, get_or, refl, sym, ◌∙◌, ap, subst, arith, append_assoc, length-append}
+use Rattle.std.proofs.Common.{◌≡◌, inl, inr, ℕ, ◌+◌, ◌<◌, ◌≤◌, true, List, [], ◌∷◌, ◌++◌, length, take, get_or, refl, sym, ◌∙◌, ap, subst, arith, append_assoc, length-append}
 use Rattle.std.specs.Prelude.{◌==◌, flat_map, ⊤}
 use Rattle.std.specs.List.{slice_index, concat}
-use Rattle.std.specs.Int.{to_be_bytes, from_be_bytes, w32, w64}
+use Rattle.std.specs.Int.{from_be_bytes, w32, w64}
 use Rattle.std.proofs.lemmas.List.{append-nil}
 use Rattle.std.proofs.lemmas.Bool.{eqb-true}
 use Rattle.std.proofs.lemmas.Grind.{common_steps}
@@ -25,12 +25,11 @@ use Rattle.zy_journal_reader.specs.declared.due.ByteField.{ByteField}
 use Rattle.zy_journal_reader.specs.declared.due.ByteField.TheVariants.{Magic, Tag, CallCode, KeyLength, ReplyCode}
 use Rattle.zy_journal_reader.specs.declared.due.NumberField.{NumberField}
 use Rattle.zy_journal_reader.specs.declared.due.LongField.{LongField}
-use Rattle.zy_journal_reader.specs.declared.due.BytesField.{BytesField}
-use Rattle.zy_journal_reader.specs.Steps.{State, Done, start, shape, lawful_byte, lawful_number, lawful_long, after_byte, after_bytes, one, four, eight, judged, is_nothing, journal_fields, journal_limit}
+use Rattle.zy_journal_reader.specs.Steps.{State, Done, start, shape, lawful_byte, lawful_number, lawful_long, after_byte, one, four, eight, judged, is_nothing, journal_fields, journal_limit}
 use Rattle.zy_journal_reader.specs.Verdict.{Verdict, good, verdict, journal_in, SpellsJournal}
 use Rattle.zy_journal_reader.specs.Verdict.Verdict.{Good, Bad}
 use Rattle.zy_journal_reader.specs.Laws.{lawful}
-use Rattle.zy_journal_reader.proofs.SoFar.{front, head, before, Kept, IsReadTo, LeadTo, Leads}
+use Rattle.zy_journal_reader.proofs.SoFar.{front, before, Kept, IsReadTo, LeadTo, Leads}
 use Rattle.zy_journal_reader.proofs.TestLemmas.{between_true, not_last, chosen, four_is, eight_is, four_small, eight_small, further, one_byte}
 use Rattle.zy_journal_reader.proofs.EndLemmas.{Ends, tag_on, code_on, key_length_on, reply_code_on}
 use Rattle.zy_journal_reader.proofs.NumberLemmas.{four_on, eight_on}

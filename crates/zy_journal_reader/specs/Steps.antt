@@ -1,5 +1,5 @@
 -- The fields of a journal, and what a whole one does, by what is expected: the tables of docs/FORMATS.md, "Journal".
-use Rattle.std.specs.Prelude.{ℕ, ◌+◌, ◌-◌, ◌^◌, ◌==◌, ◌&&◌, ◌||◌, nat_lt, nat_le, if◌then◌else◌, Bool, true, false}
+use Rattle.std.specs.Prelude.{ℕ, ◌-◌, ◌^◌, ◌==◌, ◌&&◌, ◌||◌, nat_lt, nat_le, if◌then◌else◌, Bool, true, false}
 use Rattle.std.specs.Prelude.{List, [], ◌∷◌, ◌++◌, length, get_or, ⊤}
 use Rattle.std.specs.List.{slice_index}
 use Rattle.std.specs.Int.{from_be_bytes, w32, w64}

@@ -69,10 +69,7 @@ impl JournalState {
     pub(crate) fn into_journal(self) -> Journal
         ensures value { result ≡ journal_in self }
     {
-        Journal::new(
-            Entries::from_vec(self.entries),
-            Holds::from_vec(self.holds),
-        )
+        Journal::new(Entries::from_vec(self.entries), Holds::from_vec(self.holds))
     }
 }
 
@@ -126,12 +123,7 @@ impl FieldFormat for JournalState {
         FileFault::Truncated { at }
     }
 
-    fn judge_byte(
-        &mut self,
-        alloc: Global,
-        at: u64,
-        byte: u8,
-    ) -> Result<Option<()>, FileFeed> {
+    fn judge_byte(&mut self, alloc: Global, at: u64, byte: u8) -> Result<Option<()>, FileFeed> {
         match self.due {
             Due::Byte(field) if self.is_lawful_byte(field, at, byte) => {
                 self.take_byte(alloc, field, at, byte)

@@ -12,8 +12,8 @@ use crate::call_fields::at_key;
 use crate::due::{ByteField, BytesField, Due, LongField, NumberField};
 use std::alloc::Global;
 use zy_base::{
-    CallKind, CallReply, HIT_CODE, KEY_LIMIT, LAST_CALL_CODE, LAST_REPLY_CODE,
-    NUMBER_CODE, TALLY_CODE,
+    CallKind, CallReply, HIT_CODE, KEY_LIMIT, LAST_CALL_CODE, LAST_REPLY_CODE, NUMBER_CODE,
+    TALLY_CODE,
 };
 use zy_read::FileFeed;
 

@@ -102,11 +102,14 @@ impl JournalState {
         ensures value { Takes (after_four Numbers.FoundLength self.old size) self.old self.new result }
     {
         if size == 0 {
-            return self.end_entry(alloc, CallReply::Hit {
-                flags: self.draft.found_flags,
-                unique: self.draft.found_unique,
-                value: Blob::new(alloc),
-            });
+            return self.end_entry(
+                alloc,
+                CallReply::Hit {
+                    flags: self.draft.found_flags,
+                    unique: self.draft.found_unique,
+                    value: Blob::new(alloc),
+                },
+            );
         }
         self.begin_bytes(BytesField::FoundValue, size);
         Ok(None)
