@@ -3,6 +3,7 @@ pub mod Feeding
 pub mod FieldLemmas
 pub mod MagicLemmas
 pub mod OutcomeLemmas
+pub mod OverLemmas
 pub mod PieceLemmas
 pub mod RunLemmas
 pub mod SourceLemmas

@@ -97,8 +97,7 @@ pub trait FieldFormat: Drop {
         at: u64,
         bytes: Vec<u8>,
     ) -> Result<Option<Self::Gives>, Self::Fault>
-        requires shape { (others : ℕ) → length bytes.items ≡ others + 1
-            → shape_of self.old ≡ Kinds.Run others }
+        requires shape { shape_of self.old ≡ Kinds.Run (length bytes.items - 1) }
         requires some { 0 < length bytes.items }
         requires fits { Fits self.old at }
         ensures value { Judges Fits (fields.judge self.old at bytes.items)
