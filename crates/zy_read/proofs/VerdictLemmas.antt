@@ -1,14 +1,14 @@
 -- The verdict on a text of fields: it is good exactly where whole fields lead to an end, bad with a fault exactly where
 -- it has that fault, and truncated exactly where it is cut.
-use Rattle.std.proofs.Common.{◌≡◌, ◌⊎◌, inl, inr, ℕ, ◌+◌, ◌-◌, ◌<◌, ◌≤◌, Bool, true, false, List, [], ◌∷◌, ◌++◌, length, refl, sym, ◌∙◌, ap, subst, arith, append_assoc, length-append}
-use Rattle.std.specs.Prelude.{◌&&◌, not, nat_lt, nat_le, if◌then◌else◌, Option, None, Some, option_to_list, ⊤}
+use Rattle.std.proofs.Common.{◌≡◌, inl, inr, ℕ, ◌+◌, ◌-◌, ◌<◌, ◌≤◌, Bool, true, false, List, [], ◌∷◌, ◌++◌, length, refl, sym, ◌∙◌, ap, subst, arith, append_assoc, length-append}
+use Rattle.std.specs.Prelude.{◌&&◌, not, nat_lt, nat_le, if◌then◌else◌, Option, None, Some, ⊤}
 use Rattle.std.specs.List.{concat}
 use Rattle.std.proofs.lemmas.List.{append-nil}
 use Rattle.std.proofs.lemmas.Bool.Decides.{nat_tests}
-use Rattle.zy_read.specs.Format.{Format, Step, Reading, with_front, read_on, reading_of, verdict_on, fault_met}
-use Rattle.zy_read.specs.Fields.{Judged, Fields, IsLawful, Place, at_state, refused, grown_by, moved, judged_at, is_full, step_by, step, whole_or_cut, ended_by, format_of}
+use Rattle.zy_read.specs.Format.{Step, Reading, read_on, reading_of, verdict_on}
+use Rattle.zy_read.specs.Fields.{Judged, Fields, IsLawful, Place, at_state, refused, grown_by, moved, judged_at, is_full, step_by, step, ended_by, format_of}
 use Rattle.zy_read.specs.Fields.Judged.{Then, Gives, Wrong}
-use Rattle.zy_read.specs.Runs.{Runs, Begins, HasRoom, IsWhole, IsCut, IsMisjudged, IsOverlong, HasFault, IsOutcome}
+use Rattle.zy_read.specs.Runs.{Begins, IsWhole, IsCut, IsMisjudged, IsOverlong, HasFault, IsOutcome}
 use Rattle.zy_read.specs.FieldsLasting.{lasting}
 use Rattle.zy_read.proofs.Feeding.{read_broken}
 use Rattle.zy_read.proofs.FieldLemmas.{goes_on, within, read_rest, grows_read, with_given, runs_read}
@@ -26,8 +26,10 @@ read_outcome {S} {G} {F} fields lawful good bad p given text true is read =
     let none : p.seen ≡ [] = no_bytes p.seen (let one = lawful.one p.state is in omega (arith, one, read.part)) in
     inl (p.state, (given, record { begins = subst (λ (l : List ℕ). Begins fields text p.state given l) none read.begins; end_is = is }, refl))
 read_outcome {S} {G} {F} {V} fields lawful good bad p given text false is read =
-    inr (inl (record { s = p.state; given = given; seen = p.seen; begins = read.begins; no_end = is; part = read.part; within = omega (arith, read.count, read.short) },
-    ap (λ (n : ℕ). bad (fields.truncated n)) read.count))
+    inr (inl (
+      record { s = p.state; given = given; seen = p.seen; begins = read.begins; no_end = is; part = read.part; within = omega (arith, read.count, read.short) },
+      ap (λ (n : ℕ). bad (fields.truncated n)) read.count,
+    ))
 
 outcome_of : {S G F V : Type 0} (fields : Fields S G F) (lawful : IsLawful fields) (good : S → List G → V) (bad : F → V) (p : Place S F) (given : List G) (text : List ℕ) (fault : Option F) → IsRead fields fault p given text → IsOutcome fields good bad text (ended_by fault fields good bad p given)
 outcome_of fields lawful good bad p given text None read = read_outcome fields lawful good bad p given text (fields.is_end p.state) refl read
