@@ -1,5 +1,5 @@
 -- A text is bad with a fault exactly where it has it, as a replies file.
-use Rattle.std.proofs.Common.{◌≡◌, inl, inr, ℕ, ◌+◌, ◌≤◌, List, ◌∷◌, ◌++◌, length, refl, sym, ◌∙◌, ap, subst, arith}
+use Rattle.std.proofs.Common.{◌≡◌, inl, inr, ℕ, List, ◌∷◌, ◌++◌, length, refl, sym, ◌∙◌, ap, subst, arith}
 use Rattle.std.specs.List.{concat}
 use Rattle.zy_base.specs.declared.file_fault.FileFault.{FileFault}
 use Rattle.zy_base.specs.declared.file_fault.FileFault.TheVariants.{Form, Truncated, TooLong}
@@ -7,13 +7,11 @@ use Rattle.zy_read.specs.Bytes.{AreBytes}
 use Rattle.zy_read.specs.Runs.{IsCut, IsOverlong, HasFault as HasFieldFault, IsOutcome}
 use Rattle.zy_read.proofs.ByteLemmas.{bytes_front}
 use Rattle.zy_read.proofs.VerdictLemmas.{outcome, fault_bad, cut_bad, cut_overlong, overlong_cut, overlong_text, overlong_most, overlong_long}
-use Rattle.zy_capture.specs.declared.session_bytes.SessionBytes.{SessionBytes}
 use Rattle.zy_capture.specs.declared.replies_state.RepliesState.{RepliesState}
-use Rattle.zy_capture.specs.Replies.{replies_limit}
 use Rattle.zy_capture.specs.RepliesFaults.{IsWrong, IsBegun, HasFault}
 use Rattle.zy_capture.specs.RepliesSteps.{replies_fields}
 use Rattle.zy_capture.specs.RepliesVerdict.{Verdict, good, verdict}
-use Rattle.zy_capture.specs.RepliesVerdict.Verdict.{Good, Bad}
+use Rattle.zy_capture.specs.RepliesVerdict.Verdict.{Bad}
 use Rattle.zy_capture.specs.RepliesLaws.{lawful}
 use Rattle.zy_capture.proofs.RepliesWholeLemmas.{whole_spells}
 use Rattle.zy_capture.proofs.RepliesSpelledLemmas.{spells_good}

@@ -1,22 +1,20 @@
 -- A field of a replies file that is wrong is a wrong byte or number of specs/RepliesFaults.antt.
-use Rattle.std.proofs.Common.{◌≡◌, ◌⊎◌, inl, inr, ℕ, zero, suc, ◌+◌, ◌-◌, ◌<◌, ◌≤◌, ◌^◌, true, false, List, [], ◌∷◌, ◌++◌, length, take, drop, get_or, refl, sym, ◌∙◌, ap, subst, arith, append_assoc, length-append, take-append-drop}
+use Rattle.std.proofs.Common.{◌≡◌, ◌⊎◌, inl, inr, ℕ, ◌+◌, ◌<◌, ◌≤◌, ◌^◌, true, false, List, [], ◌∷◌, ◌++◌, length, get_or, refl, sym, ◌∙◌, ap, subst, arith, append_assoc, length-append}
 use Rattle.std.specs.Prelude.{◌==◌, ◌&&◌, ◌||◌, nat_lt, if◌then◌else◌, flat_map, ⊤}
-use Rattle.std.specs.List.{slice_index, concat}
+use Rattle.std.specs.List.{concat}
 use Rattle.std.specs.Int.{to_be_bytes, from_be_bytes, w32, w64}
 use Rattle.std.proofs.lemmas.Bool.Decides.{nat_tests}
 use Rattle.zy_base.specs.declared.file_fault.FileFault.{FileFault}
 use Rattle.zy_base.specs.declared.file_fault.FileFault.TheVariants.{Form}
-use Rattle.zy_read.specs.declared.magic.MagicPart.{MagicPart}
-use Rattle.zy_read.specs.declared.magic.MagicPart.TheVariants.{Letters, Digit, LineFeed}
 use Rattle.zy_read.specs.declared.magic.MagicStep.{MagicStep}
 use Rattle.zy_read.specs.declared.magic.MagicStep.TheVariants as Steps
-use Rattle.zy_read.specs.Magic.{letter, digit, line_feed, magic_step, IsInMagic, magic_before}
+use Rattle.zy_read.specs.Magic.{magic_step, IsBadMagic}
 use Rattle.zy_read.specs.Bytes.{AreBytes}
 use Rattle.zy_read.specs.Fields.{Judged}
 use Rattle.zy_read.specs.Fields.Judged.{Wrong}
 use Rattle.zy_read.specs.FieldReading.{width_of}
-use Rattle.zy_read.specs.Runs.{Begins, IsMisjudged}
-use Rattle.zy_read.proofs.MagicLemmas.{IsVersion, IsKnown}
+use Rattle.zy_read.specs.Runs.{IsMisjudged}
+use Rattle.zy_read.proofs.MagicFieldLemmas.{one_byte, bad_magic}
 use Rattle.zy_read.proofs.ByteLemmas.{byte_at, bytes_front, bytes_back}
 use Rattle.zy_capture.specs.declared.session_bytes.SessionBytes.{SessionBytes}
 use Rattle.zy_capture.specs.declared.replies_due.RepliesDue.{RepliesDue}
@@ -24,50 +22,10 @@ use Rattle.zy_capture.specs.declared.replies_due.RepliesDue.TheVariants.{Magic, 
 use Rattle.zy_capture.specs.declared.replies_state.RepliesState.{RepliesState}
 use Rattle.zy_capture.specs.Capture.{connection_limit}
 use Rattle.zy_capture.specs.Replies.{letters, magic, spelled, spelling, IsNext, IsRepliesFile, replies_limit}
-use Rattle.zy_capture.specs.RepliesFaults.{BeginsMagic, front_text, connections_after, sessions_after, IsWrong}
-use Rattle.zy_capture.specs.RepliesSteps.{shape, after_magic, tag, may_come, due_session, connection, session, size_read, judged, is_nothing, replies_fields}
+use Rattle.zy_capture.specs.RepliesFaults.{front_text, connections_after, sessions_after, IsWrong}
+use Rattle.zy_capture.specs.RepliesSteps.{shape, after_magic, tag, may_come, due_session, connection, session, judged, is_nothing, replies_fields}
 use Rattle.zy_capture.proofs.ByteLemmas.{chosen}
-use Rattle.zy_capture.proofs.RepliesWholeLemmas.{IsReadTo, AreSoFar, one_byte, four_is, reached}
-
--- ---- beginnings of a magic
-
-pub begins_letters : (at : ℕ) → BeginsMagic (take at letters)
-begins_letters at = record {
-  version = 1;
-  rest = drop at letters ++ 49 ∷ 10 ∷ [];
-  known = inl refl;
-  whole = sym (append_assoc (take at letters) (drop at letters) (49 ∷ 10 ∷ [])) ∙ ap (λ (l : List ℕ). l ++ 49 ∷ 10 ∷ []) (take-append-drop at letters);
-}
-
-pub begins_digit : (version : ℕ) → IsVersion version → BeginsMagic (letters ++ (48 + version) ∷ [])
-begins_digit version known = record { version = version; rest = 10 ∷ []; known = known; whole = refl }
-
-letter_is : (at byte version : ℕ) (rest : List ℕ) → at < 6 → (take at letters ++ byte ∷ []) ++ rest ≡ magic version → byte ≡ slice_index letters at
-letter_is zero byte version rest within is = ap (λ (l : List ℕ). get_or l 0 0) is
-letter_is (suc zero) byte version rest within is = ap (λ (l : List ℕ). get_or l 1 0) is
-letter_is (suc (suc zero)) byte version rest within is = ap (λ (l : List ℕ). get_or l 2 0) is
-letter_is (suc (suc (suc zero))) byte version rest within is = ap (λ (l : List ℕ). get_or l 3 0) is
-letter_is (suc (suc (suc (suc zero)))) byte version rest within is = ap (λ (l : List ℕ). get_or l 4 0) is
-letter_is (suc (suc (suc (suc (suc zero))))) byte version rest within is = ap (λ (l : List ℕ). get_or l 5 0) is
-letter_is (suc (suc (suc (suc (suc (suc at)))))) byte version rest within is = absurd (omega (arith, within))
-
-differs_letter : (at byte : ℕ) → at < 6 → (byte == slice_index letters at) ≡ false → BeginsMagic (take at letters ++ byte ∷ []) → ⊥
-differs_letter at byte within differs begins =
-    let same : byte ≡ slice_index letters at = letter_is at byte begins.version begins.rest within begins.whole in
-    grind (arith, nat_tests)
-
-differs_digit : (byte : ℕ) → (byte == 49) ≡ false → (byte == 50) ≡ false → BeginsMagic (letters ++ byte ∷ []) → ⊥
-differs_digit byte one two begins =
-    let same : byte ≡ 48 + begins.version = ap (λ (l : List ℕ). get_or l 6 0) begins.whole in
-    elim begins.known [
-      | inl first ↦ let is : byte ≡ 49 = omega (arith, same, first) in grind (arith, nat_tests)
-      | inr second ↦ let is : byte ≡ 50 = omega (arith, same, second) in grind (arith, nat_tests)
-    ]
-
-differs_line_feed : (version byte : ℕ) → (byte == 10) ≡ false → BeginsMagic ((letters ++ (48 + version) ∷ []) ++ byte ∷ []) → ⊥
-differs_line_feed version byte differs begins =
-    let same : byte ≡ 10 = ap (λ (l : List ℕ). get_or l 7 0) begins.whole in
-    grind (arith, nat_tests)
+use Rattle.zy_capture.proofs.RepliesWholeLemmas.{IsReadTo, AreSoFar, four_is, reached}
 
 -- ---- tests
 
@@ -99,27 +57,10 @@ Faults text (Wrong fault) = IsForm text fault
 Faults text judged = ⊤
 
 -- a byte of the magic
-bad_magic : (text front rest : List ℕ) (byte : ℕ) → text ≡ front ++ byte ∷ rest → length front < 8 → BeginsMagic front → (BeginsMagic (front ++ byte ∷ []) → ⊥) → IsWrong text (length front)
-bad_magic text front rest byte whole within begins differs = inl (record { front = front; byte = byte; rest = rest; whole = whole; place = refl; within = within; begins = begins; differs = differs })
-
-from_magic : (part : MagicPart) (s : RepliesState) (text front rest : List ℕ) (byte : ℕ) → text ≡ front ++ byte ∷ rest → front ≡ magic_before part letters (length front) → IsInMagic part (length front) → IsKnown part → Faults text (after_magic s (length front) (magic_step part letters (length front) byte))
-from_magic Letters s text front rest byte whole is within known =
-    let M : MagicStep → Type 0 = λ step. Faults text (after_magic s (length front) step) in
-    chosen M (byte == slice_index letters (length front)) _ Steps.Wrong
-    (λ same. chosen M (length front == 5) (Steps.Next Digit) (Steps.Next Letters) (λ last. tt) (λ more. tt))
-    (λ differs. bad_magic text front rest byte whole (omega (arith, within)) (subst BeginsMagic (sym is) (begins_letters (length front)))
-    (λ begins. differs_letter (length front) byte within differs (subst (λ (l : List ℕ). BeginsMagic (l ++ byte ∷ [])) is begins)))
-from_magic Digit s text front rest byte whole is within known =
-    let M : MagicStep → Type 0 = λ step. Faults text (after_magic s (length front) step) in
-    chosen M (byte == 49) (Steps.Next (LineFeed 1)) _ (λ one. tt)
-    (λ not_one. chosen M (byte == 50) (Steps.Next (LineFeed 2)) Steps.Wrong (λ two. tt)
-    (λ not_two. bad_magic text front rest byte whole (omega (arith, ap (λ (l : List ℕ). length l) is)) (subst BeginsMagic (sym is) (begins_letters 6))
-    (λ begins. differs_digit byte not_one not_two (subst (λ (l : List ℕ). BeginsMagic (l ++ byte ∷ [])) is begins))))
-from_magic (LineFeed version) s text front rest byte whole is within known =
-    let M : MagicStep → Type 0 = λ step. Faults text (after_magic s (length front) step) in
-    chosen M (byte == 10) (Steps.Whole version) Steps.Wrong (λ same. tt)
-    (λ differs. bad_magic text front rest byte whole (omega (arith, ap (λ (l : List ℕ). length l) is)) (subst BeginsMagic (sym is) (begins_digit version known))
-    (λ begins. differs_line_feed version byte differs (subst (λ (l : List ℕ). BeginsMagic (l ++ byte ∷ [])) is begins)))
+from_magic : (s : RepliesState) (text : List ℕ) (at : ℕ) (step : MagicStep) → (step ≡ Steps.Wrong → IsBadMagic letters text at) → Faults text (after_magic s at step)
+from_magic s text at (Steps.Next part) bad = tt
+from_magic s text at (Steps.Whole version) bad = tt
+from_magic s text at Steps.Wrong bad = inl (bad refl)
 
 -- the records so far are those of a replies file
 file_of : (s : RepliesState) (given : List SessionBytes) → AreSoFar s given → IsRepliesFile s.version given
@@ -211,7 +152,8 @@ few due count before (inr short) = short
 from_field : (due : RepliesDue) (s : RepliesState) (text front field rest : List ℕ) (given : List SessionBytes) → text ≡ front ++ (field ++ rest) → AreBytes field → length field ≡ width_of (shape due) → length front ≤ replies_limit → (is_nothing due ≡ true) ⊎ (length front + length field ≤ replies_limit) → IsReadTo due s front given
     → Faults text (judged due s (length front) field)
 from_field (Magic part) s text front field rest given whole all size short room read =
-    from_magic part s text front rest (get_or field 0 0) (whole ∙ ap (λ (l : List ℕ). front ++ (l ++ rest)) (one_byte field size)) read.bytes read.valid.1 read.valid.2
+    from_magic s text (length front) (magic_step part letters (length front) (get_or field 0 0))
+    (bad_magic part letters text front rest (get_or field 0 0) refl (whole ∙ ap (λ (l : List ℕ). front ++ (l ++ rest)) (one_byte field size)) read.bytes read.valid.1 read.valid.2)
 from_field Tag s text front field rest given whole all size short room read =
     from_tag s text front rest given (get_or field 0 0) (whole ∙ ap (λ (l : List ℕ). front ++ (l ++ rest)) (one_byte field size)) (let fits = few Tag (length front + length field) refl room in omega (arith, size, fits)) read
 from_field Connection s text front field rest given whole all size short room read = from_connection s text front field rest given whole all size (few Connection (length front + length field) refl room) read

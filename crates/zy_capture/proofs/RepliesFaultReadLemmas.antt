@@ -1,89 +1,33 @@
 -- A text that has a wrong byte or number of specs/RepliesFaults.antt is bad with it, as a replies file.
-use Rattle.std.proofs.Common.{◌≡◌, ◌⊎◌, inl, inr, ℕ, zero, suc, ◌+◌, ◌<◌, ◌≤◌, ◌^◌, true, false, List, [], ◌∷◌, ◌++◌, length, take, refl, sym, ◌∙◌, ap, subst, arith, append_assoc, length-append}
+use Rattle.std.proofs.Common.{◌≡◌, ◌⊎◌, inl, inr, ℕ, ◌+◌, ◌<◌, ◌≤◌, ◌^◌, true, false, List, [], ◌∷◌, ◌++◌, length, refl, sym, ◌∙◌, ap, subst, arith, append_assoc, length-append}
 use Rattle.std.specs.Prelude.{◌==◌, ◌&&◌, ◌||◌, nat_lt, if◌then◌else◌}
-use Rattle.std.specs.List.{slice_index}
-use Rattle.std.specs.Int.{to_be_bytes, from_be_bytes, w32}
-use Rattle.std.proofs.lemmas.List.{append-nil, take_at}
+use Rattle.std.specs.Int.{to_be_bytes, w32}
+use Rattle.std.proofs.lemmas.List.{append-nil}
 use Rattle.std.proofs.lemmas.Bool.Decides.{nat_tests}
 use Rattle.std.proofs.lemmas.Nat.{from_be_bytes-to_be_bytes_4}
 use Rattle.zy_base.specs.declared.file_fault.FileFault.TheVariants.{Form}
-use Rattle.zy_read.specs.declared.magic.MagicPart.TheVariants.{Letters, Digit, LineFeed}
+use Rattle.zy_read.specs.Magic.{IsBadMagic}
 use Rattle.zy_read.specs.Fields.Judged.{Wrong}
 use Rattle.zy_read.specs.Runs.{HasRoom}
-use Rattle.zy_read.proofs.MagicLemmas.{IsVersion, letters_on}
-use Rattle.zy_read.proofs.OverLemmas.{over_none, over_join, over_misjudged}
+use Rattle.zy_read.proofs.MagicFieldLemmas.{begins_before, magic_misjudged}
+use Rattle.zy_read.proofs.OverLemmas.{over_join, over_misjudged}
 use Rattle.zy_read.proofs.VerdictLemmas.{fault_bad}
 use Rattle.zy_capture.specs.declared.session_bytes.SessionBytes.{SessionBytes}
-use Rattle.zy_capture.specs.declared.replies_due.RepliesDue.TheVariants.{Magic, Tag, Connection, Session, Length, Output, Nothing}
+use Rattle.zy_capture.specs.declared.replies_due.RepliesDue.TheVariants.{Connection, Session}
 use Rattle.zy_capture.specs.declared.replies_state.RepliesState.{RepliesState}
 use Rattle.zy_capture.specs.Capture.{connection_limit}
-use Rattle.zy_capture.specs.Replies.{letters, magic, spelling, IsNext, replies_limit}
-use Rattle.zy_capture.specs.RepliesFaults.{BeginsMagic, front_text, connections_after, sessions_after, GoesOn, IsBadMagic, IsBadTag, IsBadConnection, IsBadSession, IsTrailing, IsWrong}
+use Rattle.zy_capture.specs.Replies.{letters, spelling, IsNext, replies_limit}
+use Rattle.zy_capture.specs.RepliesFaults.{front_text, connections_after, sessions_after, GoesOn, IsBadTag, IsBadConnection, IsBadSession, IsTrailing, IsWrong}
 use Rattle.zy_capture.specs.RepliesSteps.{start, goes, tag, connection, session, replies_fields}
 use Rattle.zy_capture.specs.RepliesVerdict.{good, verdict}
 use Rattle.zy_capture.specs.RepliesVerdict.Verdict.{Bad}
 use Rattle.zy_capture.specs.RepliesLaws.{lawful}
-use Rattle.zy_capture.proofs.RepliesSpelledLemmas.{Over, in_state, letters_over, digit_over, tag_over, connection_over, connection_two, front_over, after_items, end_state, spelling_over}
-use Rattle.zy_capture.proofs.RepliesFaultLemmas.{begins_letters, begins_digit}
+use Rattle.zy_capture.proofs.RepliesSpelledLemmas.{Over, in_state, part_state, after_state, reads_magic, tag_over, connection_over, front_over, after_items, end_state, spelling_over}
 
 -- a wrong field after whole ones
 wrong_bad : (text : List ℕ) (s : RepliesState) (x field rest : List ℕ) (given : List SessionBytes) (at : ℕ) → Over start 0 x s given → length x ≤ replies_limit → text ≡ x ++ (field ++ rest) → length field ≡ replies_fields.width s → HasRoom replies_fields s (length x + length field) → replies_fields.judge s (length x) field ≡ Wrong (Form at) → verdict text ≡ Bad (Form at)
 wrong_bad text s x field rest given at over short whole size room wrong =
     fault_bad replies_fields lawful good Bad text s (Form at) (inl (over_misjudged replies_fields text s (Form at) x field rest given over short whole size room wrong))
-
--- ---- the magic
-
--- the state after some letters
-abbrev letters_state : RepliesState
-letters_state = in_state (Magic Letters) 0 0 0
-
-letters_read : (at : ℕ) → at < 6 → Over start 0 (take at letters) letters_state []
-letters_read zero within = record { parts = []; runs = (refl, refl); text_is = refl }
-letters_read (suc zero) within = record { parts = (90 ∷ []) ∷ []; runs = (refl, (refl, refl)); text_is = refl }
-letters_read (suc (suc zero)) within = record { parts = (90 ∷ []) ∷ (89 ∷ []) ∷ []; runs = (refl, (refl, (refl, refl))); text_is = refl }
-letters_read (suc (suc (suc zero))) within = record { parts = (90 ∷ []) ∷ (89 ∷ []) ∷ (71 ∷ []) ∷ []; runs = (refl, (refl, (refl, (refl, refl)))); text_is = refl }
-letters_read (suc (suc (suc (suc zero)))) within = record { parts = (90 ∷ []) ∷ (89 ∷ []) ∷ (71 ∷ []) ∷ (82 ∷ []) ∷ []; runs = (refl, (refl, (refl, (refl, (refl, refl))))); text_is = refl }
-letters_read (suc (suc (suc (suc (suc zero))))) within = record { parts = (90 ∷ []) ∷ (89 ∷ []) ∷ (71 ∷ []) ∷ (82 ∷ []) ∷ (69 ∷ []) ∷ []; runs = (refl, (refl, (refl, (refl, (refl, (refl, refl)))))); text_is = refl }
-letters_read (suc (suc (suc (suc (suc (suc at)))))) within = absurd (omega (arith, within))
-
-letters_bad : (at byte : ℕ) (rest : List ℕ) → at < 6 → length (take at letters) ≡ at → (BeginsMagic (take at letters ++ byte ∷ []) → ⊥) → verdict (take at letters ++ byte ∷ rest) ≡ Bad (Form at)
-letters_bad at byte rest within size differs =
-    let other : byte ≡ slice_index letters at → ⊥ = λ same. differs (subst BeginsMagic (sym (letters_on letters at byte within same)) (begins_letters (at + 1))) in
-    let test : (byte == slice_index letters at) ≡ false = grind (arith, nat_tests) in
-    wrong_bad (take at letters ++ byte ∷ rest) letters_state (take at letters) (byte ∷ []) rest [] at (letters_read at within) (omega (arith, size, within)) refl refl (inr (omega (arith, size, within)))
-    (rw (size, test) refl)
-
-digit_bad : (byte : ℕ) (rest : List ℕ) → (BeginsMagic (letters ++ byte ∷ []) → ⊥) → verdict (letters ++ byte ∷ rest) ≡ Bad (Form 6)
-digit_bad byte rest differs =
-    let not_one : byte ≡ 49 → ⊥ = λ same. differs (subst (λ (b : ℕ). BeginsMagic (letters ++ b ∷ [])) (sym same) (begins_digit 1 (inl refl))) in
-    let not_two : byte ≡ 50 → ⊥ = λ same. differs (subst (λ (b : ℕ). BeginsMagic (letters ++ b ∷ [])) (sym same) (begins_digit 2 (inr refl))) in
-    let one : (byte == 49) ≡ false = grind (arith, nat_tests) in
-    let two : (byte == 50) ≡ false = grind (arith, nat_tests) in
-    wrong_bad (letters ++ byte ∷ rest) (in_state (Magic Digit) 0 0 0) letters (byte ∷ []) rest [] 6 letters_over (omega arith) refl refl (inr (omega arith)) (rw (one, two) refl)
-
-line_bad : (version byte : ℕ) (rest : List ℕ) → IsVersion version → (BeginsMagic ((letters ++ (48 + version) ∷ []) ++ byte ∷ []) → ⊥) → verdict ((letters ++ (48 + version) ∷ []) ++ byte ∷ rest) ≡ Bad (Form 7)
-line_bad version byte rest known differs =
-    let whole : BeginsMagic ((letters ++ (48 + version) ∷ []) ++ 10 ∷ []) = record { version = version; rest = []; known = known; whole = refl } in
-    let other : byte ≡ 10 → ⊥ = λ same. differs (subst (λ (b : ℕ). BeginsMagic ((letters ++ (48 + version) ∷ []) ++ b ∷ [])) (sym same) whole) in
-    let test : (byte == 10) ≡ false = grind (arith, nat_tests) in
-    wrong_bad ((letters ++ (48 + version) ∷ []) ++ byte ∷ rest) (in_state (Magic (LineFeed version)) 0 0 0) (letters ++ (48 + version) ∷ []) (byte ∷ []) rest [] 7 (digit_over version known) (omega arith) refl refl (inr (omega arith)) (rw test refl)
-
-magic_bad : (at version byte : ℕ) (rest : List ℕ) → IsVersion version → at < 8 → (BeginsMagic (take at (magic version) ++ byte ∷ []) → ⊥) → verdict (take at (magic version) ++ byte ∷ rest) ≡ Bad (Form at)
-magic_bad zero version byte rest known within differs = letters_bad 0 byte rest (omega arith) refl differs
-magic_bad (suc zero) version byte rest known within differs = letters_bad 1 byte rest (omega arith) refl differs
-magic_bad (suc (suc zero)) version byte rest known within differs = letters_bad 2 byte rest (omega arith) refl differs
-magic_bad (suc (suc (suc zero))) version byte rest known within differs = letters_bad 3 byte rest (omega arith) refl differs
-magic_bad (suc (suc (suc (suc zero)))) version byte rest known within differs = letters_bad 4 byte rest (omega arith) refl differs
-magic_bad (suc (suc (suc (suc (suc zero))))) version byte rest known within differs = letters_bad 5 byte rest (omega arith) refl differs
-magic_bad (suc (suc (suc (suc (suc (suc zero)))))) version byte rest known within differs = digit_bad byte rest differs
-magic_bad (suc (suc (suc (suc (suc (suc (suc zero))))))) version byte rest known within differs = line_bad version byte rest known differs
-magic_bad (suc (suc (suc (suc (suc (suc (suc (suc at)))))))) version byte rest known within differs = absurd (omega (arith, within))
-
-bad_magic_bad : (text : List ℕ) (at : ℕ) → IsBadMagic text at → verdict text ≡ Bad (Form at)
-bad_magic_bad text at has =
-    let front_is : has.front ≡ take at (magic has.begins.version) = sym (take_at has.front has.begins.rest at (sym has.place)) ∙ ap (λ (l : List ℕ). take at l) has.begins.whole in
-    ap verdict (has.whole ∙ ap (λ (l : List ℕ). l ++ has.byte ∷ has.rest) front_is)
-    ∙ magic_bad at has.begins.version has.byte has.rest has.begins.known has.within (λ begins. has.differs (subst (λ (l : List ℕ). BeginsMagic (l ++ has.byte ∷ [])) (sym front_is) begins))
 
 -- ---- tests
 
@@ -106,6 +50,10 @@ not_due : (version connections sessions conn number : ℕ) → version ≡ 2 →
 not_due version connections sessions conn number two follows wrong = grind (arith, nat_tests)
 
 -- ---- each fault
+
+bad_magic_bad : (text : List ℕ) (at : ℕ) → IsBadMagic letters text at → verdict text ≡ Bad (Form at)
+bad_magic_bad text at has =
+    fault_bad replies_fields lawful good Bad text (part_state (begins_before letters has.front at reads_magic.six has.place has.within has.begins).part) (Form at) (inl (magic_misjudged replies_fields letters part_state after_state Form reads_magic text at has))
 
 bad_tag_bad : (text : List ℕ) (at : ℕ) → IsBadTag text at → verdict text ≡ Bad (Form at)
 bad_tag_bad text at has =

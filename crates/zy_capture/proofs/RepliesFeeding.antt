@@ -2,9 +2,7 @@
 use Rattle.std.proofs.Common.{◌≡◌, ℕ, ◌<◌, List, false, refl, ap, arith}
 use Rattle.std.specs.Prelude.{◌&&◌, not, nat_le}
 use Rattle.std.proofs.lemmas.Bool.Decides.{nat_tests}
-use Rattle.zy_base.specs.declared.file_fault.FileFault.{FileFault}
 use Rattle.zy_read.specs.Format.{Reading}
-use Rattle.zy_read.specs.Fields.{is_full}
 use Rattle.zy_read.specs.FieldReading.{IsOfRun}
 use Rattle.zy_read.specs.Standing.{StandsAs}
 use Rattle.zy_read.specs.declared.shape.Shape.TheVariants.{Run}

@@ -1,5 +1,5 @@
 -- The version and the outputs that are read of a good replies file, and of a text without a fault so far.
-use Rattle.std.proofs.Common.{◌≡◌, ◌≢◌, ℕ, Bool, true, false, List, [], ◌++◌, refl, sym, ◌∙◌, ap, subst}
+use Rattle.std.proofs.Common.{◌≡◌, ◌≢◌, ℕ, Bool, true, false, List, [], ◌∙◌, ap, subst}
 use Rattle.std.specs.Prelude.{Option, None, Some, if◌then◌else◌}
 use Rattle.std.specs.List.{concat}
 use Rattle.zy_base.specs.declared.file_fault.FileFault.{FileFault}
@@ -7,7 +7,6 @@ use Rattle.zy_base.specs.declared.file_fault.FileFault.TheVariants.{Truncated}
 use Rattle.zy_read.specs.Bytes.{AreBytes}
 use Rattle.zy_read.specs.Format.{Reading, reading_of, verdict_on, fault_met, given_by}
 use Rattle.zy_read.specs.Fields.{at_state, ended_by}
-use Rattle.zy_read.specs.Runs.{Begins}
 use Rattle.zy_read.proofs.MagicLemmas.{IsVersion}
 use Rattle.zy_read.proofs.OutcomeLemmas.{IsRead, text_read}
 use Rattle.zy_capture.specs.declared.session_bytes.SessionBytes.{SessionBytes}

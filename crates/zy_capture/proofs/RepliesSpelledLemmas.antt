@@ -1,12 +1,15 @@
 -- A spelling of outputs that is not too long is the fields of a replies file, so it is read as what it spells.
-use Rattle.std.proofs.Common.{◌≡◌, ◌⊎◌, inl, inr, ℕ, ◌+◌, ◌-◌, ◌<◌, ◌≤◌, ◌^◌, true, false, List, [], ◌∷◌, ◌++◌, length, refl, sym, ◌∙◌, ap, subst, arith, append_assoc, length-append}
+use Rattle.std.proofs.Common.{◌≡◌, inl, inr, ℕ, ◌+◌, ◌-◌, ◌<◌, ◌≤◌, ◌^◌, true, false, List, [], ◌∷◌, ◌++◌, length, refl, sym, ◌∙◌, ap, subst, arith, append_assoc, length-append}
 use Rattle.std.specs.Prelude.{◌==◌, ◌&&◌, ◌||◌, nat_lt, if◌then◌else◌, flat_map}
-use Rattle.std.specs.Int.{to_be_bytes, from_be_bytes, w32, w64}
+use Rattle.std.specs.Int.{to_be_bytes, w32, w64}
 use Rattle.std.proofs.lemmas.List.{append-nil}
 use Rattle.std.proofs.lemmas.Bool.Decides.{nat_tests}
 use Rattle.std.proofs.lemmas.Nat.{from_be_bytes-to_be_bytes_4, from_be_bytes-to_be_bytes_8}
-use Rattle.zy_read.specs.declared.magic.MagicPart.TheVariants.{Letters, Digit, LineFeed}
+use Rattle.zy_base.specs.declared.file_fault.FileFault.TheVariants.{Form}
+use Rattle.zy_read.specs.declared.magic.MagicPart.{MagicPart}
+use Rattle.zy_read.specs.Magic.{ReadsMagic}
 use Rattle.zy_read.proofs.MagicLemmas.{IsVersion}
+use Rattle.zy_read.proofs.MagicFieldLemmas.{magic_over}
 use Rattle.zy_read.proofs.OverLemmas.{RunsOver, over_none, over_then, over_gives, over_join, over_begins}
 use Rattle.zy_read.proofs.VerdictLemmas.{whole_good}
 use Rattle.zy_capture.specs.declared.session_bytes.SessionBytes.{SessionBytes}
@@ -16,7 +19,7 @@ use Rattle.zy_capture.specs.declared.replies_state.RepliesState.{RepliesState}
 use Rattle.zy_capture.specs.Capture.{connection_limit}
 use Rattle.zy_capture.specs.Replies.{letters, magic, session_text, spelled, spelling, IsNext, AreNumbers, AreInOrder, IsRepliesFile, SpellsReplies, replies_limit}
 use Rattle.zy_capture.specs.RepliesFaults.{front_text, connections_after, sessions_after}
-use Rattle.zy_capture.specs.RepliesSteps.{start, goes, gives, connection, session, size_read, replies_fields}
+use Rattle.zy_capture.specs.RepliesSteps.{start, goes, connection, session, size_read, replies_fields}
 use Rattle.zy_capture.specs.RepliesVerdict.{good, verdict}
 use Rattle.zy_capture.specs.RepliesVerdict.Verdict.{Good, Bad}
 use Rattle.zy_capture.specs.RepliesLaws.{lawful}
@@ -31,22 +34,17 @@ in_state due version connections sessions = record { due = due; version = versio
 
 -- ---- the magic
 
-pub letters_over : Over start 0 letters (in_state (Magic Digit) 0 0 0) []
-letters_over = record {
-  parts = (90 ∷ []) ∷ (89 ∷ []) ∷ (71 ∷ []) ∷ (82 ∷ []) ∷ (69 ∷ []) ∷ (80 ∷ []) ∷ [];
-  runs = (refl, (refl, (refl, (refl, (refl, (refl, (refl, refl)))))));
-  text_is = refl;
-}
+-- the state before a part of the magic
+abbrev pub part_state : MagicPart → RepliesState
+part_state part = in_state (Magic part) 0 0 0
 
-pub digit_over : (version : ℕ) → IsVersion version → Over start 0 (letters ++ (48 + version) ∷ []) (in_state (Magic (LineFeed version)) 0 0 0) []
-digit_over version (inl one) = rw one (over_join replies_fields start (in_state (Magic Digit) 0 0 0) (in_state (Magic (LineFeed 1)) 0 0 0) 0 letters (49 ∷ []) [] [] letters_over (over_then replies_fields (in_state (Magic Digit) 0 0 0) (in_state (Magic (LineFeed 1)) 0 0 0) 6 (49 ∷ []) refl refl))
-digit_over version (inr two) = rw two (over_join replies_fields start (in_state (Magic Digit) 0 0 0) (in_state (Magic (LineFeed 2)) 0 0 0) 0 letters (50 ∷ []) [] [] letters_over (over_then replies_fields (in_state (Magic Digit) 0 0 0) (in_state (Magic (LineFeed 2)) 0 0 0) 6 (50 ∷ []) refl refl))
+-- the state after a magic
+abbrev pub after_state : ℕ → RepliesState
+after_state version = in_state Tag version 0 0
 
-pub magic_over : (version : ℕ) → IsVersion version → Over start 0 (magic version) (in_state Tag version 0 0) []
-magic_over version known =
-    let s : RepliesState = in_state (Magic (LineFeed version)) 0 0 0 in
-    let t : RepliesState = in_state Tag version 0 0 in
-    over_join replies_fields start s t 0 (letters ++ (48 + version) ∷ []) (10 ∷ []) [] [] (digit_over version known) (over_then replies_fields s t 7 (10 ∷ []) refl refl)
+-- the first fields are those of the magic
+pub reads_magic : ReadsMagic replies_fields letters part_state after_state Form
+reads_magic = record { six = refl; start_is = refl; widths = λ part. refl; judges = λ part at byte. refl; room = omega arith }
 
 -- ---- tests
 
@@ -166,7 +164,7 @@ after_items version items = in_state Tag version (connections_after 0 items) (se
 pub front_over : (version : ℕ) (items : List SessionBytes) → IsRepliesFile version items → length (front_text version items) ≤ replies_limit → Over start 0 (front_text version items) (after_items version items) items
 front_over version items valid short =
     let sizes : length (front_text version items) ≡ length (magic version) + length (flat_map (spelled version) items) = length-append (magic version) (flat_map (spelled version) items) in
-    over_join replies_fields start (in_state Tag version 0 0) (after_items version items) 0 (magic version) (flat_map (spelled version) items) [] items (magic_over version valid.known)
+    over_join replies_fields start (in_state Tag version 0 0) (after_items version items) 0 (magic version) (flat_map (spelled version) items) [] items (magic_over replies_fields letters part_state after_state Form reads_magic version valid.known)
     (records_over items version 0 0 8 valid.known valid.ordered (omega (arith, short, sizes)))
 
 -- ---- the whole

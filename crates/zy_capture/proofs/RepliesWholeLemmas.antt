@@ -1,6 +1,6 @@
 -- A replies text without a fault is the bytes that spell what was read of it.
-use Rattle.std.proofs.Common.{◌≡◌, ◌⊎◌, inl, inr, ℕ, ◌+◌, ◌-◌, ◌<◌, ◌≤◌, ◌^◌, Bool, true, false, List, [], ◌∷◌, ◌++◌, length, get_or, refl, sym, ◌∙◌, ap, subst, arith, append_assoc, length-append}
-use Rattle.std.specs.Prelude.{◌==◌, ◌&&◌, ◌||◌, nat_lt, if◌then◌else◌, flat_map, ⊤}
+use Rattle.std.proofs.Common.{◌≡◌, ◌⊎◌, inl, inr, ℕ, ◌+◌, ◌-◌, ◌<◌, ◌^◌, Bool, true, false, List, [], ◌∷◌, ◌++◌, length, get_or, refl, sym, ◌∙◌, ap, subst, arith, append_assoc, length-append}
+use Rattle.std.specs.Prelude.{◌==◌, ◌&&◌, ◌||◌, nat_lt, if◌then◌else◌, flat_map}
 use Rattle.std.specs.List.{concat}
 use Rattle.std.specs.Int.{to_be_bytes, from_be_bytes, w32, w64}
 use Rattle.std.proofs.lemmas.List.{append-nil}
@@ -10,7 +10,6 @@ use Rattle.std.proofs.lemmas.Nat.{be_bytes_4, be_bytes_8}
 use Rattle.std.proofs.lemmas.Grind.{flat_map-append}
 use Rattle.zy_base.specs.declared.file_fault.FileFault.{FileFault}
 use Rattle.zy_read.specs.declared.magic.MagicPart.{MagicPart}
-use Rattle.zy_read.specs.declared.magic.MagicPart.TheVariants.{Letters}
 use Rattle.zy_read.specs.declared.magic.MagicStep.{MagicStep}
 use Rattle.zy_read.specs.declared.magic.MagicStep.TheVariants as Steps
 use Rattle.zy_read.specs.Magic.{magic_step, IsInMagic, magic_before}
@@ -18,6 +17,7 @@ use Rattle.zy_read.specs.Bytes.{AreBytes}
 use Rattle.zy_read.specs.Fields.{Judged}
 use Rattle.zy_read.specs.FieldReading.{width_of}
 use Rattle.zy_read.specs.Runs.{Begins, IsWhole, IsOutcome}
+use Rattle.zy_read.proofs.MagicFieldLemmas.{one_byte}
 use Rattle.zy_read.proofs.MagicLemmas.{IsVersion, IsKnown, LeadsTo, leads}
 use Rattle.zy_read.proofs.ByteLemmas.{byte_at, bytes_front}
 use Rattle.zy_read.proofs.RunLemmas.{After, Keeps, runs_keep, byte_parts}
@@ -176,12 +176,6 @@ kept_on s given item keeps due =
     }
 
 -- ---- fields
-
--- a field of one byte
-pub one_byte : (field : List ℕ) → length field ≡ 1 → field ≡ get_or field 0 0 ∷ []
-one_byte [] is = absurd (omega (arith, is))
-one_byte (byte ∷ []) is = refl
-one_byte (byte ∷ next ∷ field) is = absurd (omega (arith, is))
 
 -- numbers
 pub four_is : (field : List ℕ) → AreBytes field → length field ≡ 4 → to_be_bytes w32 (from_be_bytes w32 field) ≡ field
