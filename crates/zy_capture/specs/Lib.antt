@@ -6,6 +6,7 @@ pub mod Standing
 pub mod Streams
 pub mod Outputs
 pub mod Replies
+pub mod RepliesLaws
 pub mod RepliesSteps
 pub mod RepliesVerdict
 pub mod RepliesStanding

@@ -1,6 +1,6 @@
 -- The fields of a replies file, and what a whole one does, by what is expected: the table of docs/FORMATS.md, "Replies".
 use Rattle.std.specs.Prelude.{ℕ, ◌+◌, ◌-◌, ◌^◌, ◌==◌, ◌&&◌, ◌||◌, nat_lt, if◌then◌else◌, Bool, true, false}
-use Rattle.std.specs.Prelude.{List, [], ◌∷◌, get_or}
+use Rattle.std.specs.Prelude.{List, [], get_or}
 use Rattle.std.specs.Int.{from_be_bytes, w32, w64}
 use Rattle.zy_base.specs.declared.file_fault.FileFault.{FileFault}
 use Rattle.zy_base.specs.declared.file_fault.FileFault.TheVariants.{Form, Truncated, TooLong}
@@ -11,8 +11,7 @@ use Rattle.zy_read.specs.declared.shape.Shape.{Shape}
 use Rattle.zy_read.specs.declared.shape.Shape.TheVariants as Shapes
 use Rattle.zy_read.specs.declared.magic.MagicPart.TheVariants.{Letters}
 use Rattle.zy_read.specs.declared.magic.MagicStep.{MagicStep}
-use Rattle.zy_read.specs.declared.magic.MagicStep.TheVariants as Steps
-use Rattle.zy_read.specs.Magic.{magic_step}
+use Rattle.zy_read.specs.Magic.{magic_step, magic_judged}
 use Rattle.zy_capture.specs.declared.session_bytes.SessionBytes.{SessionBytes}
 use Rattle.zy_capture.specs.declared.replies_due.RepliesDue.{RepliesDue}
 use Rattle.zy_capture.specs.declared.replies_due.RepliesDue.TheVariants.{Magic, Tag, Connection, Session, Length}
@@ -48,9 +47,9 @@ gives s conn session bytes =
 
 -- where a byte of the magic leads
 abbrev pub after_magic : RepliesState → ℕ → MagicStep → Judged RepliesState SessionBytes FileFault
-after_magic s at (Steps.Next part) = goes s (Magic part)
-after_magic s at (Steps.Whole version) = goes (record s { version = version }) Tag
-after_magic s at Steps.Wrong = Wrong (Form at)
+after_magic s at step =
+    magic_judged (λ part. record s { due = Magic part }) (λ version. record s { due = Tag; version = version }) (Form at)
+    step
 
 -- the tag of a record, or the end
 abbrev pub tag : RepliesState → ℕ → ℕ → Judged RepliesState SessionBytes FileFault
@@ -102,9 +101,9 @@ shape (Output conn number others) = Shapes.Run others
 shape due = Shapes.Byte
 
 -- the end was read
-abbrev pub is_nothing : RepliesDue → Bool
-is_nothing Nothing = true
-is_nothing due = false
+abbrev pub is_last : RepliesDue → Bool
+is_last Nothing = true
+is_last due = false
 
 -- the fields of a replies file
 abbrev pub replies_fields : Fields RepliesState SessionBytes FileFault
@@ -112,7 +111,7 @@ replies_fields = record {
   start = start;
   width = λ s. width_of (shape s.due);
   judge = λ s at field. judged s.due s at field;
-  is_end = λ s. is_nothing s.due;
+  is_end = λ s. is_last s.due;
   limit = replies_limit;
   too_long = TooLong;
   truncated = Truncated;

@@ -1,6 +1,7 @@
 pub mod ByteLemmas
 pub mod Feeding
 pub mod FieldLemmas
+pub mod MagicFieldLemmas
 pub mod MagicLemmas
 pub mod OutcomeLemmas
 pub mod OverLemmas

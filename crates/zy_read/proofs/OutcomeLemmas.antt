@@ -1,19 +1,17 @@
 -- What a text of fields is: its verdict is good exactly where whole fields lead to an end, and a fault exactly where it
 -- has that fault.
-use Rattle.std.proofs.Common.{◌≡◌, ◌⊎◌, inl, inr, ℕ, ◌+◌, ◌-◌, ◌<◌, ◌≤◌, Bool, true, false, List, [], ◌∷◌, ◌++◌, length, refl, sym, ◌∙◌, ap, subst, arith, append_assoc, length-append}
-use Rattle.std.specs.Prelude.{◌&&◌, not, nat_lt, nat_le, if◌then◌else◌, Option, None, Some, option_to_list, ⊤}
+use Rattle.std.proofs.Common.{◌≡◌, inl, inr, ℕ, ◌+◌, ◌-◌, ◌<◌, ◌≤◌, Bool, true, false, List, [], ◌∷◌, ◌++◌, length, refl, sym, ◌∙◌, ap, subst, arith, append_assoc, length-append}
+use Rattle.std.specs.Prelude.{◌&&◌, not, nat_lt, nat_le, if◌then◌else◌, Option, None, Some, option_to_list}
 use Rattle.std.specs.List.{concat}
 use Rattle.std.proofs.lemmas.List.{append-nil}
 use Rattle.std.proofs.lemmas.Bool.{ltb-true, ltb-false}
 use Rattle.std.proofs.lemmas.Bool.Decides.{nat_tests}
-use Rattle.zy_read.specs.Format.{Format, Step, Reading, with_front, read_on, reading_of, verdict_on, fault_met}
-use Rattle.zy_read.specs.Standing.{StandsAs}
-use Rattle.zy_read.specs.Fields.{Judged, Fields, IsWrong, IsLawful, Place, at_state, refused, grown_by, moved, judged_at, field_step, is_full, open_step, step_by, step, whole_or_cut, ended_by, format_of}
+use Rattle.zy_read.specs.Format.{Step, Reading, read_on}
+use Rattle.zy_read.specs.Fields.{Judged, Fields, IsWrong, IsLawful, Place, at_state, grown_by, moved, judged_at, field_step, is_full, step_by, step}
 use Rattle.zy_read.specs.Fields.Judged.{Then, Gives, Wrong}
-use Rattle.zy_read.specs.Runs.{GoesOn, Runs, Begins, HasRoom, IsWhole, IsCut, IsMisjudged, IsOverlong, HasFault, IsOutcome}
-use Rattle.zy_read.proofs.Feeding.{read_broken, read_append, fault_here, verdict_here}
+use Rattle.zy_read.specs.Runs.{GoesOn, Begins, HasRoom, HasFault}
 use Rattle.zy_read.proofs.RunLemmas.{concat_append, concat_one, runs_join}
-use Rattle.zy_read.proofs.FieldLemmas.{goes_on, within, room_less, byte_grows, byte_ends, read_rest, with_given, runs_read}
+use Rattle.zy_read.proofs.FieldLemmas.{room_less}
 
 -- ---- what was read
 

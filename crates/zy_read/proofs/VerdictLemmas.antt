@@ -1,14 +1,14 @@
 -- The verdict on a text of fields: it is good exactly where whole fields lead to an end, bad with a fault exactly where
 -- it has that fault, and truncated exactly where it is cut.
-use Rattle.std.proofs.Common.{◌≡◌, ◌⊎◌, inl, inr, ℕ, ◌+◌, ◌-◌, ◌<◌, ◌≤◌, Bool, true, false, List, [], ◌∷◌, ◌++◌, length, refl, sym, ◌∙◌, ap, subst, arith, append_assoc, length-append}
-use Rattle.std.specs.Prelude.{◌&&◌, not, nat_lt, nat_le, if◌then◌else◌, Option, None, Some, option_to_list, ⊤}
+use Rattle.std.proofs.Common.{◌≡◌, inl, inr, ℕ, ◌+◌, ◌-◌, ◌<◌, ◌≤◌, Bool, true, false, List, [], ◌∷◌, ◌++◌, length, refl, sym, ◌∙◌, ap, subst, arith, append_assoc, length-append}
+use Rattle.std.specs.Prelude.{◌&&◌, not, nat_lt, nat_le, if◌then◌else◌, Option, None, Some, ⊤}
 use Rattle.std.specs.List.{concat}
 use Rattle.std.proofs.lemmas.List.{append-nil}
 use Rattle.std.proofs.lemmas.Bool.Decides.{nat_tests}
-use Rattle.zy_read.specs.Format.{Format, Step, Reading, with_front, read_on, reading_of, verdict_on, fault_met}
-use Rattle.zy_read.specs.Fields.{Judged, Fields, IsLawful, Place, at_state, refused, grown_by, moved, judged_at, is_full, step_by, step, whole_or_cut, ended_by, format_of}
+use Rattle.zy_read.specs.Format.{Step, Reading, read_on, reading_of, verdict_on}
+use Rattle.zy_read.specs.Fields.{Judged, Fields, IsLawful, Place, at_state, refused, grown_by, moved, judged_at, is_full, step_by, step, ended_by, format_of}
 use Rattle.zy_read.specs.Fields.Judged.{Then, Gives, Wrong}
-use Rattle.zy_read.specs.Runs.{Runs, Begins, HasRoom, IsWhole, IsCut, IsMisjudged, IsOverlong, HasFault, IsOutcome}
+use Rattle.zy_read.specs.Runs.{Begins, IsWhole, IsCut, IsMisjudged, IsOverlong, HasFault, IsOutcome}
 use Rattle.zy_read.specs.FieldsLasting.{lasting}
 use Rattle.zy_read.proofs.Feeding.{read_broken}
 use Rattle.zy_read.proofs.FieldLemmas.{goes_on, within, read_rest, grows_read, with_given, runs_read}

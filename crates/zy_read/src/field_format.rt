@@ -108,8 +108,7 @@ pub trait FieldFormat: Drop {
         at: u64,
         bytes: &mut Vec<u8>,
     ) -> Result<Option<Self::Gives>, NotTaken<Self::Fault>>
-        requires shape { (others : ℕ) → length bytes.old.items ≡ others + 1
-            → shape_of self.old ≡ Kinds.Run others }
+        requires shape { shape_of self.old ≡ Kinds.Run (length bytes.old.items - 1) }
         requires some { 0 < length bytes.old.items }
         requires fits { Fits self.old at }
         ensures value { Judges Fits Wants (fields.judge self.old at bytes.old.items)
