@@ -1,4 +1,12 @@
 pub mod Bounds
+pub mod PlaceLemmas
+pub mod PartLemmas
+pub mod GoodLemmas
+pub mod WrongLemmas
+pub mod BadLemmas
+pub mod EachFaultLemmas
+pub mod PrefixLemmas
+pub mod RecordsLemmas
 pub mod Feeding
 pub mod RunLemmas
 pub mod HeadLemmas

@@ -1,6 +1,8 @@
 pub mod Capture
+pub mod CaptureFields
 pub mod Steps
 pub mod Verdict
+pub mod FieldVerdict
 pub mod SoFar
 pub mod Standing
 pub mod Streams

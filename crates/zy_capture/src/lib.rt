@@ -2,6 +2,8 @@
 #![tactic(auto)]
 
 mod capture_fault;
+mod capture_field;
+mod capture_state;
 mod due;
 mod laws;
 mod outputs;

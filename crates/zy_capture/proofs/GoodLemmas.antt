@@ -1,0 +1,103 @@
+-- A text is good exactly where it is the spelling of a capture.
+use Rattle.std.proofs.Common.{◌≡◌, ◌⊎◌, inl, inr, ℕ, ◌+◌, ◌<◌, ◌≤◌, true, List, [], ◌∷◌, ◌++◌, length, refl, sym, ◌∙◌, ap, subst, arith, append_assoc, length-append}
+use Rattle.std.specs.Prelude.{flat_map}
+use Rattle.std.specs.List.{concat}
+use Rattle.std.specs.Int.{to_be_bytes, w32}
+use Rattle.std.proofs.lemmas.List.{append-nil}
+use Rattle.zy_read.specs.Bytes.{AreBytes}
+use Rattle.zy_read.specs.Fields.{IsWrong, IsLawful}
+use Rattle.zy_read.specs.Runs.{Begins, IsWhole, IsOutcome}
+use Rattle.zy_read.proofs.ByteLemmas.{bytes_front}
+use Rattle.zy_read.proofs.RunLemmas.{runs_keep, byte_parts}
+use Rattle.zy_read.proofs.VerdictLemmas.{outcome, whole_good}
+use Rattle.zy_capture.specs.declared.record.Record.{Record}
+use Rattle.zy_capture.specs.declared.capture_fault.CaptureFault.{CaptureFault}
+use Rattle.zy_capture.specs.declared.capture_field.CaptureField.{CaptureField}
+use Rattle.zy_capture.specs.declared.capture_field.CaptureField.TheVariants.{Magic, Count, Tag, Connection, Length, Payload, Closed, Nothing}
+use Rattle.zy_capture.specs.declared.capture_state.CaptureState.{CaptureState}
+use Rattle.zy_capture.specs.Capture.{magic, spelled, spelling, Spells, capture_limit}
+use Rattle.zy_capture.specs.Faults.{front_text}
+use Rattle.zy_capture.specs.CaptureFields.{state, start, width, is_end, judge, fields}
+use Rattle.zy_capture.specs.Verdict.{Verdict}
+use Rattle.zy_capture.specs.Verdict.Verdict.{Good, Bad}
+use Rattle.zy_capture.specs.FieldVerdict.{good, verdict}
+use Rattle.zy_capture.proofs.ByteLemmas.{assoc_twice}
+use Rattle.zy_capture.proofs.PlaceLemmas.{IsAt, Stands, keeps}
+use Rattle.zy_capture.proofs.PartLemmas.{begins_with}
+
+-- ---- the fields are lawful
+
+width_some : (next : CaptureField) → 0 < width next
+width_some (Magic part) = omega arith
+width_some Count = omega arith
+width_some Tag = omega arith
+width_some Connection = omega arith
+width_some (Length conn) = omega arith
+width_some (Payload conn more) = omega arith
+width_some Closed = omega arith
+width_some Nothing = omega arith
+
+width_one : (next : CaptureField) → is_end next ≡ true → width next ≡ 1
+width_one Nothing is = refl
+width_one next is = cc
+
+end_wrong : (next : CaptureField) (s : CaptureState) (at : ℕ) (field : List ℕ) → is_end next ≡ true → IsWrong (judge next s at field)
+end_wrong Nothing s at field is = tt
+end_wrong next s at field is = cc
+
+pub lawful : IsLawful fields
+lawful = record {
+  some = λ s. width_some s.next;
+  one = λ s is. width_one s.next is;
+  ends = λ s at field is. end_wrong s.next s at field is;
+}
+
+-- ---- good texts
+
+-- the fields with which a text begins lead to their state
+pub stands_there : (text : List ℕ) (s : CaptureState) (given : List Record) (rest : List ℕ) → AreBytes text → (begins : Begins fields text s given rest) → Stands s (concat begins.parts) given
+stands_there text s given rest all begins =
+    runs_keep fields AreBytes Stands keeps begins.parts start s [] 0 [] given refl
+    (byte_parts begins.parts (bytes_front (concat begins.parts) rest (subst AreBytes begins.text_is all))) (omega arith, tt, refl, refl) begins.runs
+
+pub ends_spelling : (version count : ℕ) (items : List Record) → front_text version count items ++ 69 ∷ [] ≡ spelling version count items
+unfolding spelling
+ends_spelling version count items = assoc_twice (magic version) (to_be_bytes w32 count) (flat_map spelled items) (69 ∷ [])
+
+spells_at : (next : CaptureField) (s : CaptureState) (text : List ℕ) (given : List Record) → is_end next ≡ true → IsAt next s text given → length text ≤ capture_limit → Spells text s.version s.count given
+spells_at Nothing s text given ends is short = record { valid = is.valid; spelled = is.whole ∙ ends_spelling s.version s.count given; short = short }
+spells_at next s text given ends is short = cc
+
+pub whole_spells : (text : List ℕ) (s : CaptureState) (given : List Record) → AreBytes text → IsWhole fields text s given → Spells text s.version s.count given
+whole_spells text s given all whole =
+    let parts : List (List ℕ) = whole.begins.parts in
+    let is : text ≡ concat parts = whole.begins.text_is ∙ append-nil (concat parts) in
+    subst (λ (l : List ℕ). Spells l s.version s.count given) (sym is) (spells_at s.next s (concat parts) given whole.end_is (stands_there text s given [] all whole.begins) whole.begins.short)
+
+good_by : (text : List ℕ) (version count : ℕ) (items : List Record) (found : Verdict) → AreBytes text → IsOutcome fields good Bad text found → found ≡ Good version count items → Spells text version count items
+good_by text version count items found all (inl whole) is =
+    let s : CaptureState = whole.0 in
+    let given : List Record = whole.1.0 in
+    let same : Good s.version s.count given ≡ Good version count items = sym whole.1.2 ∙ is in
+    let version_is : s.version ≡ version = cc in
+    let count_is : s.count ≡ count = cc in
+    let items_are : given ≡ items = cc in
+    rw (sym version_is, sym count_is, sym items_are) (whole_spells text s given all whole.1.1)
+good_by text version count items found all (inr (inl cut)) is = let none = cut.1 in cc
+good_by text version count items found all (inr (inr faulty)) is = let none = faulty.1.2 in cc
+
+pub good_spells : (text : List ℕ) (version count : ℕ) (items : List Record) → AreBytes text → verdict text ≡ Good version count items → Spells text version count items
+good_spells text version count items all is = good_by text version count items (verdict text) all (outcome fields lawful good Bad text) is
+
+-- a spelling is a run to the end
+pub spells_whole : (text : List ℕ) (version count : ℕ) (items : List Record) → Spells text version count items → IsWhole fields text (state Nothing version count) items
+spells_whole text version count items spells =
+    let whole : text ≡ front_text version count items ++ 69 ∷ [] = spells.spelled ∙ sym (ends_spelling version count items) in
+    record {
+      begins = begins_with text [] version count items ((69 ∷ []) ∷ []) (state Nothing version count) (69 ∷ []) spells.valid refl (refl, refl, refl) whole
+          (omega (arith, ap (λ (l : List ℕ). length l) whole, length-append (front_text version count items) (69 ∷ []), spells.short));
+      end_is = refl;
+    }
+
+pub spells_good : (text : List ℕ) (version count : ℕ) (items : List Record) → Spells text version count items → verdict text ≡ Good version count items
+spells_good text version count items spells = whole_good fields lawful good Bad text (state Nothing version count) items (spells_whole text version count items spells)

@@ -1,0 +1,124 @@
+-- The fields of a capture, docs/FORMATS.md, "Capture": how many bytes each has, and what a whole one does.
+use Rattle.std.specs.Prelude.{ℕ, ◌+◌, ◌-◌, ◌==◌, ◌&&◌, nat_lt, if◌then◌else◌, Bool, true, false, List, [], get_or}
+use Rattle.std.specs.Int.{from_be_bytes, w32}
+use Rattle.zy_read.specs.declared.magic.MagicPart.TheVariants.{Letters}
+use Rattle.zy_read.specs.declared.magic.MagicStep.{MagicStep}
+use Rattle.zy_read.specs.declared.magic.MagicStep.TheVariants as Steps
+use Rattle.zy_read.specs.Magic.{magic_step}
+use Rattle.zy_read.specs.Fields.{Judged, Fields}
+use Rattle.zy_read.specs.Fields.Judged.{Then, Gives, Wrong}
+use Rattle.zy_capture.specs.declared.record.Record.{Record}
+use Rattle.zy_capture.specs.declared.record.Record.TheVariants as Kinds
+use Rattle.zy_capture.specs.declared.capture_fault.CaptureFault.{CaptureFault}
+use Rattle.zy_capture.specs.declared.capture_fault.CaptureFault.TheVariants.{BadMagic, ConnCount, BadTag, ConnRange}
+use Rattle.zy_capture.specs.declared.capture_fault.CaptureFault.TheVariants.{SegmentLength, Truncated, Trailing, TooLong}
+use Rattle.zy_capture.specs.declared.capture_field.CaptureField.{CaptureField}
+use Rattle.zy_capture.specs.declared.capture_field.CaptureField.TheVariants.{Magic, Count, Tag, Connection, Length}
+use Rattle.zy_capture.specs.declared.capture_field.CaptureField.TheVariants.{Payload, Closed, Nothing}
+use Rattle.zy_capture.specs.declared.capture_state.CaptureState.{CaptureState}
+use Rattle.zy_capture.specs.Capture.{letters, connection_limit, segment_limit, capture_limit}
+
+-- ---- the state
+
+-- the state of a capture of this version and with this count, where this is the next field
+abbrev pub state : CaptureField → ℕ → ℕ → CaptureState
+state next version count = record { next = next; version = version; count = count }
+
+-- the state before the first field
+abbrev pub start : CaptureState
+start = state (Magic Letters) 0 0
+
+-- this is the next field of the same capture
+abbrev pub to : CaptureState → CaptureField → CaptureState
+to s next = state next s.version s.count
+
+-- how many bytes a field has
+abbrev pub width : CaptureField → ℕ
+width Count = 4
+width Connection = 4
+width (Length conn) = 4
+width Closed = 4
+width (Payload conn more) = more + 1
+width next = 1
+
+-- the end was read
+abbrev pub is_end : CaptureField → Bool
+is_end Nothing = true
+is_end next = false
+
+-- ---- what a whole field does
+
+-- what the fields of a capture do
+abbrev pub Judgement : Type 0
+Judgement = Judged CaptureState Record CaptureFault
+
+-- the number of four bytes
+abbrev pub number : List ℕ → ℕ
+number field = from_be_bytes w32 field
+
+-- the byte of one
+abbrev pub byte : List ℕ → ℕ
+byte field = get_or field 0 0
+
+-- a segment of this connection
+abbrev pub segment : ℕ → List ℕ → Record
+segment conn bytes = Kinds.Segment (record { conn = conn; bytes = bytes })
+
+-- a byte of the magic
+abbrev pub judge_magic : CaptureState → ℕ → MagicStep → Judgement
+judge_magic s at (Steps.Next part) = Then (to s (Magic part))
+judge_magic s at (Steps.Whole version) = Then (state Count version s.count)
+judge_magic s at Steps.Wrong = Wrong (BadMagic at)
+
+-- the connection count
+abbrev pub judge_count : CaptureState → ℕ → Judgement
+judge_count s count =
+    if nat_lt connection_limit count then Wrong (ConnCount count) else Then (state Tag s.version count)
+
+-- the tag of a record, or the end
+abbrev pub judge_tag : CaptureState → ℕ → ℕ → Judgement
+judge_tag s at tag =
+    if tag == 83 then Then (to s Connection)
+    else if tag == 69 then Then (to s Nothing)
+    else if tag == 67 && s.version == 2 then Then (to s Closed)
+    else Wrong (BadTag at tag)
+
+-- the connection of a segment
+abbrev pub judge_connection : CaptureState → ℕ → ℕ → Judgement
+judge_connection s at conn =
+    if nat_lt conn s.count then Then (to s (Length conn)) else Wrong (ConnRange at conn)
+
+-- the length of a segment of this connection; one of length zero is whole
+abbrev pub judge_length : CaptureState → ℕ → ℕ → ℕ → Judgement
+judge_length s conn at size =
+    if nat_lt segment_limit size then Wrong (SegmentLength at size)
+    else if size == 0 then Gives (to s Tag) (segment conn [])
+    else Then (to s (Payload conn (size - 1)))
+
+-- the connection of a close record
+abbrev pub judge_closed : CaptureState → ℕ → ℕ → Judgement
+judge_closed s at conn =
+    if nat_lt conn s.count then Gives (to s Tag) (Kinds.Close conn) else Wrong (ConnRange at conn)
+
+-- a whole field that begins at this place
+abbrev pub judge : CaptureField → CaptureState → ℕ → List ℕ → Judgement
+judge (Magic part) s at field = judge_magic s at (magic_step part letters at (byte field))
+judge Count s at field = judge_count s (number field)
+judge Tag s at field = judge_tag s at (byte field)
+judge Connection s at field = judge_connection s at (number field)
+judge (Length conn) s at field = judge_length s conn at (number field)
+judge (Payload conn more) s at field = Gives (to s Tag) (segment conn field)
+judge Closed s at field = judge_closed s at (number field)
+judge Nothing s at field = Wrong (Trailing at)
+
+-- the fields of a capture
+abbrev pub fields : Fields CaptureState Record CaptureFault
+fields = record {
+  start = start;
+  width = λ s. width s.next;
+  judge = λ s. judge s.next s;
+  is_end = λ s. is_end s.next;
+  limit = capture_limit;
+  too_long = TooLong;
+  truncated = Truncated;
+}
