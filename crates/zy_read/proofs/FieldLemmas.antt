@@ -8,18 +8,9 @@ use Rattle.std.proofs.lemmas.Bool.Decides.{nat_tests}
 use Rattle.zy_read.specs.Format.{Format, IsLasting, Step, Reading, with_front, read_on, reading_of, verdict_on}
 use Rattle.zy_read.specs.Fields.{Judged, Fields, IsWrong, IsLawful, Place, at_state, refused, grown_by, moved, judged_at, field_step, is_full, open_step, step_by, step, whole_or_cut, ended_by, format_of}
 use Rattle.zy_read.specs.Fields.Judged.{Then, Gives, Wrong}
+use Rattle.zy_read.specs.Standing.{Feeds}
+use Rattle.zy_read.proofs.Feeding.{fed_by}
 use Rattle.zy_read.specs.Runs.{GoesOn, Runs, Begins, HasRoom}
-
--- ---- the first fault counts
-
-still : {S G F : Type 0} (fields : Fields S G F) (p : Place S F) (byte : ℕ) (fault : F) → p.fault ≡ Some fault → step fields p byte ≡ record { next = p; gave = None }
-still fields p byte fault is = rw is refl
-
-pub lasting : {S G F V : Type 0} (fields : Fields S G F) (good : S → List G → V) (bad : F → V) → IsLasting (format_of fields good bad)
-lasting {S} {G} {F} fields good bad = record {
-  still = still fields;
-  counts = λ p given fault is. ap (λ (o : Option F). ended_by o fields good bad p given) is;
-}
 
 -- ---- a field
 
@@ -122,3 +113,20 @@ runs_read {S} {G} {F} fields lawful (field ∷ parts) s last at stop given more 
     ∙ goes_read fields (fields.judge s at field) (λ next rest. Runs fields next (at + length field) parts last rest) one.last (at + length field) given (concat parts ++ more) (read_on (step fields) (at_state last stop) more) one.place
     (λ next others run. runs_read fields lawful parts next last (at + length field) stop others more (omega (arith, stops, sizes)) short run)
     runs.1
+
+-- ---- bytes that are fed at once
+
+here : {S F : Type 0} (p : Place S F) → p.fault ≡ None → p ≡ within p.state p.seen p.at
+here {S} {F} p none = ap (λ (o : Option F). record { state = p.state; seen = p.seen; at = p.at; fault = o }) none
+
+-- bytes of a field, and not its last one, are fed
+pub run_fed : {S G F V : Type 0} (fields : Fields S G F) (good : S → List G → V) (bad : F → V) (p q : Place S F) (bytes : List ℕ) → p.fault ≡ None → length p.seen + length bytes < fields.width p.state → p.at + length bytes ≤ fields.limit → q ≡ grown_by p bytes
+    → Feeds (format_of fields good bad) p q bytes []
+unfolding read_on
+run_fed {S} {G} {F} fields good bad p q bytes none short room same =
+    fed_by (format_of fields good bad) p q bytes []
+    (ap (λ (x : Place S F). read_on (step fields) x bytes) (here p none)
+    ∙ ap (λ (l : List ℕ). read_on (step fields) (within p.state p.seen p.at) l) (sym (append-nil bytes))
+    ∙ grows_read fields bytes p.state p.seen p.at [] short (inr room)
+    ∙ ap (λ (x : Place S F). record { given = []; last = grown_by x bytes }) (sym (here p none))
+    ∙ ap (λ (x : Place S F). record { given = []; last = x }) (sym same))

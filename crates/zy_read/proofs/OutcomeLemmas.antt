@@ -13,7 +13,7 @@ use Rattle.zy_read.specs.Fields.Judged.{Then, Gives, Wrong}
 use Rattle.zy_read.specs.Runs.{GoesOn, Runs, Begins, HasRoom, IsWhole, IsCut, IsMisjudged, IsOverlong, HasFault, IsOutcome}
 use Rattle.zy_read.proofs.Feeding.{read_broken, read_append, fault_here, verdict_here}
 use Rattle.zy_read.proofs.RunLemmas.{concat_append, concat_one, runs_join}
-use Rattle.zy_read.proofs.FieldLemmas.{lasting, goes_on, within, room_less, byte_grows, byte_ends, read_rest, with_given, runs_read}
+use Rattle.zy_read.proofs.FieldLemmas.{goes_on, within, room_less, byte_grows, byte_ends, read_rest, with_given, runs_read}
 
 -- ---- what was read
 

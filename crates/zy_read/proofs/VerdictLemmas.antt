@@ -9,8 +9,9 @@ use Rattle.zy_read.specs.Format.{Format, Step, Reading, with_front, read_on, rea
 use Rattle.zy_read.specs.Fields.{Judged, Fields, IsLawful, Place, at_state, refused, grown_by, moved, judged_at, is_full, step_by, step, whole_or_cut, ended_by, format_of}
 use Rattle.zy_read.specs.Fields.Judged.{Then, Gives, Wrong}
 use Rattle.zy_read.specs.Runs.{Runs, Begins, HasRoom, IsWhole, IsCut, IsMisjudged, IsOverlong, HasFault, IsOutcome}
+use Rattle.zy_read.specs.FieldsLasting.{lasting}
 use Rattle.zy_read.proofs.Feeding.{read_broken}
-use Rattle.zy_read.proofs.FieldLemmas.{lasting, goes_on, within, read_rest, grows_read, with_given, runs_read}
+use Rattle.zy_read.proofs.FieldLemmas.{goes_on, within, read_rest, grows_read, with_given, runs_read}
 use Rattle.zy_read.proofs.OutcomeLemmas.{IsReadTo, IsRead, text_read}
 
 -- ---- what a text is
@@ -53,9 +54,9 @@ unfolding verdict_on reading_of
 verdict_by {S} {G} {F} fields good bad text r is = ap (λ (q : Reading (Place S F) G). ended_by q.last.fault fields good bad q.last q.given) is
 
 -- nothing is read after a fault
-broken_read : {S G F : Type 0} (fields : Fields S G F) (p : Place S F) (fault : F) (rest : List ℕ) → goes_on fields (refused p fault) rest ≡ record { given = []; last = record p { fault = Some fault } }
+broken_read : {S G F : Type 0} (fields : Fields S G F) (p : Place S F) (fault : F) (rest : List ℕ) → goes_on fields (refused p fault) rest ≡ record { given = []; last = record p { seen = []; fault = Some fault } }
 broken_read {S} {G} {F} fields p fault rest =
-    read_broken (format_of fields (λ s given. None) (λ f. Some f)) (lasting fields (λ s given. None) (λ f. Some f)) (record p { fault = Some fault }) fault rest refl
+    read_broken (format_of fields (λ s given. None) (λ f. Some f)) (lasting fields (λ s given. None) (λ f. Some f)) (record p { seen = []; fault = Some fault }) fault rest refl
 
 -- ---- the verdict
 
@@ -72,7 +73,7 @@ misjudged_bad {S} {G} {F} fields lawful good bad text s fault has =
     let at : ℕ = length (concat has.begins.parts) in
     let one = read_rest fields s has.field [] at (omega (arith, has.size, lawful.some s)) (omega (arith, has.size)) has.room in
     let judged : fields.judge s (at - 0) has.field ≡ Wrong fault = (let same : at - 0 ≡ at = omega arith in rw same has.wrong) in
-    verdict_by fields good bad text (with_given has.given (record { given = []; last = record (one.last) { fault = Some fault } }))
+    verdict_by fields good bad text (with_given has.given (record { given = []; last = record (one.last) { seen = []; fault = Some fault } }))
     (begins_read fields lawful text s has.given (has.field ++ has.rest) has.begins
     ∙ ap (λ (r : Reading (Place S F) G). with_given has.given r) (one.reads has.rest ∙ ap (λ (j : Judged S G F). goes_on fields (moved one.last j) has.rest) judged ∙ broken_read fields one.last fault has.rest))
 
@@ -84,7 +85,7 @@ overlong_bad {S} {G} {F} fields lawful good bad text s has =
     let p : Place S F = grown_by (within s [] at) has.seen in
     let full : (not (fields.is_end s) && nat_le fields.limit (at + length has.seen)) ≡ true = (let no_end = has.no_end in let most = has.most in grind (arith, nat_tests)) in
     let refusal : step fields p has.byte ≡ refused p fields.too_long = rw full refl in
-    verdict_by fields good bad text (with_given has.given (record { given = []; last = record p { fault = Some fields.too_long } }))
+    verdict_by fields good bad text (with_given has.given (record { given = []; last = record p { seen = []; fault = Some fields.too_long } }))
     (begins_read fields lawful text s has.given (has.seen ++ has.byte ∷ has.rest) has.begins
     ∙ ap (λ (r : Reading (Place S F) G). with_given has.given r) (grows_read fields has.seen s [] at (has.byte ∷ has.rest) (omega (arith, has.part)) (inr (omega (arith, has.most)))
     ∙ ap (λ (k : Step (Place S F) G). goes_on fields k has.rest) refusal ∙ broken_read fields p fields.too_long has.rest))

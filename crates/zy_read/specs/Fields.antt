@@ -51,7 +51,7 @@ at_state s at = record { state = s; seen = []; at = at; fault = None }
 
 -- the byte is a fault, and nothing after it is read
 abbrev pub refused : {S G F : Type 0} → Place S F → F → Step (Place S F) G
-refused p fault = record { next = record p { fault = Some fault }; gave = None }
+refused p fault = record { next = record p { seen = []; fault = Some fault }; gave = None }
 
 -- the place after bytes of a field, none of which is its last
 abbrev pub grown_by : {S F : Type 0} → Place S F → List ℕ → Place S F

@@ -1,5 +1,7 @@
 pub mod Bytes
+pub mod FieldReading
 pub mod Fields
+pub mod FieldsLasting
 pub mod Format
 pub mod Lasting
 pub mod Magic

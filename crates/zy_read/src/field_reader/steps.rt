@@ -1,0 +1,192 @@
+//! The step of the reader of a format of fields at each byte, by the shape of the field.
+ghost use Rattle.std.specs.Prelude.{◌≡◌, ◌+◌, ◌-◌, ◌<◌, ◌≤◌, ◌++◌, ◌∷◌, [], List, length, None, Some, true, false};
+ghost use Rattle.zy_read.specs.Fields.{Place, is_full, field_step, grown_by, format_of, refused};
+ghost use Rattle.zy_read.specs.FieldReading.{IsOfRun, TakesField};
+ghost use Rattle.zy_read.specs.Standing.{Follows};
+ghost use Rattle.zy_read.specs.declared.shape.Shape.TheVariants as Kinds;
+ghost use Rattle.zy_read.specs.FieldsLasting.{lasting};
+
+use super::FieldReader;
+use crate::field_format::FieldFormat;
+use crate::not_taken::NotTaken;
+use crate::reads::Reads;
+use crate::shape::Shape;
+use std::mem;
+
+impl<S: FieldFormat> Reads for FieldReader<S> {
+    type Gives = S::Gives;
+
+    type Fault = S::Fault;
+
+    ghost Verdict = { S.Verdict };
+
+    ghost format = { format_of S.fields S.good S.bad };
+
+    ghost wants = { IsOfRun S.fields S.shape_of };
+
+    fn step(&mut self, byte: u8) -> Result<Option<S::Gives>, NotTaken<S::Fault>> {
+        if let Some(fault) = self.fault {
+            return Err(NotTaken::Fault(fault));
+        }
+        if self.is_full() {
+            let fault = self.state.too_long();
+            self.field.clear();
+            self.payload.clear();
+            self.fault = Some(fault);
+            return Err(NotTaken::Fault(fault));
+        }
+        match self.state.shape() {
+            Shape::Byte => self.take_byte(byte),
+            Shape::Four => self.take_four(byte),
+            Shape::Eight => self.take_eight(byte),
+            Shape::Run(others) => self.take_payload(others, byte),
+        }
+    }
+
+    // Takes bytes of a run, but not its last one; where memory is wanted for them, none.
+    #[tactic(auto, using(crate::proofs::FieldLemmas::run_fed, crate::proofs::Feeding::fed_none))]
+    fn take_run(&mut self, bytes: &[u8], at: usize) -> usize {
+        if self.fault.is_some() {
+            return 0;
+        }
+        let limit = self.state.limit();
+        match self.state.shape() {
+            Shape::Run(others) if self.at < limit => {
+                let left = others - self.payload.len() as u64;
+                let room = limit - self.at;
+                let run = left.min(room).min((bytes.len() - at - 1) as u64) as usize;
+                if self.append(others, &bytes[at..at + run]) {
+                    run
+                } else {
+                    0
+                }
+            }
+            _ => 0,
+        }
+    }
+
+    ghost lasting = { lasting S.fields S.good S.bad };
+}
+
+impl<S: FieldFormat> FieldReader<S> {
+    // Takes bytes of a run, but not its last one, where there is memory.
+    fn append(&mut self, others: u64, bytes: &[u8]) -> bool
+        requires shape { S.shape_of self.old.state ≡ Kinds.Run others }
+        requires fits { length self.old.seen + length bytes.now ≤ others }
+        requires room { self.old.at + length bytes.now ≤ S.fields.limit }
+        ensures ok { result ≡ true → self.new ≡ grown_by self.old bytes.now }
+        ensures kept { result ≡ false → self.new ≡ self.old }
+    {
+        if self.payload.extend_from_slice(bytes).is_err() {
+            return false;
+        }
+        self.at += bytes.len() as u64;
+        true
+    }
+
+    // A field of one byte.
+    fn take_byte(&mut self, byte: u8) -> Result<Option<S::Gives>, NotTaken<S::Fault>>
+        requires shape { S.shape_of self.old.state ≡ Kinds.Byte }
+        requires open { self.old.fault ≡ None }
+        requires room { is_full S.fields self.old ≡ false }
+        ensures value { TakesField S.fields S.good S.bad S.shape_of
+            (field_step S.fields self.old byte) self.old self.new byte result }
+    {
+        match self.state.judge_byte(self.alloc, self.at, byte) {
+            Ok(gave) => {
+                self.at += 1;
+                Ok(gave)
+            }
+            Err(fault) => {
+                self.fault = Some(fault);
+                Err(NotTaken::Fault(fault))
+            }
+        }
+    }
+
+    // A byte of a field of four.
+    fn take_four(&mut self, byte: u8) -> Result<Option<S::Gives>, NotTaken<S::Fault>>
+        requires shape { S.shape_of self.old.state ≡ Kinds.Four }
+        requires open { self.old.fault ≡ None }
+        requires room { is_full S.fields self.old ≡ false }
+        ensures value { TakesField S.fields S.good S.bad S.shape_of
+            (field_step S.fields self.old byte) self.old self.new byte result }
+    {
+        if self.field.len() < 3 {
+            self.field.push(byte);
+            self.at += 1;
+            return Ok(None);
+        }
+        let bytes = self.field.four(byte);
+        self.field.clear();
+        match self.state.judge_four(self.alloc, self.at - 3, bytes) {
+            Ok(gave) => {
+                self.at += 1;
+                Ok(gave)
+            }
+            Err(fault) => {
+                self.fault = Some(fault);
+                Err(NotTaken::Fault(fault))
+            }
+        }
+    }
+
+    // A byte of a field of eight.
+    fn take_eight(&mut self, byte: u8) -> Result<Option<S::Gives>, NotTaken<S::Fault>>
+        requires shape { S.shape_of self.old.state ≡ Kinds.Eight }
+        requires open { self.old.fault ≡ None }
+        requires room { is_full S.fields self.old ≡ false }
+        ensures value { TakesField S.fields S.good S.bad S.shape_of
+            (field_step S.fields self.old byte) self.old self.new byte result }
+    {
+        if self.field.len() < 7 {
+            self.field.push(byte);
+            self.at += 1;
+            return Ok(None);
+        }
+        let bytes = self.field.eight(byte);
+        self.field.clear();
+        match self.state.judge_eight(self.alloc, self.at - 7, bytes) {
+            Ok(gave) => {
+                self.at += 1;
+                Ok(gave)
+            }
+            Err(fault) => {
+                self.fault = Some(fault);
+                Err(NotTaken::Fault(fault))
+            }
+        }
+    }
+
+    // A byte of a run. It needs memory.
+    fn take_payload(
+        &mut self,
+        others: u64,
+        byte: u8,
+    ) -> Result<Option<S::Gives>, NotTaken<S::Fault>>
+        requires shape { S.shape_of self.old.state ≡ Kinds.Run others }
+        requires open { self.old.fault ≡ None }
+        requires room { is_full S.fields self.old ≡ false }
+        ensures value { TakesField S.fields S.good S.bad S.shape_of
+            (field_step S.fields self.old byte) self.old self.new byte result }
+    {
+        if self.payload.push(byte).is_err() {
+            return Err(NotTaken::NoMemory);
+        }
+        if self.payload.len() as u64 <= others {
+            self.at += 1;
+            return Ok(None);
+        }
+        let bytes = mem::replace(&mut self.payload, Vec::new(self.alloc));
+        match self.state.judge_run(self.at - others, bytes) {
+            Ok(gave) => {
+                self.at += 1;
+                Ok(gave)
+            }
+            Err(fault) => {
+                self.fault = Some(fault);
+                Err(NotTaken::Fault(fault))
+            }
+        }
+    }
+}
