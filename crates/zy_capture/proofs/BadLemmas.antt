@@ -23,7 +23,7 @@ use Rattle.zy_capture.specs.Faults.{BeginsMagic, front_text, IsBadMagic, IsCount
 use Rattle.zy_capture.specs.CaptureFields.{state, start, to, width, judge_magic, judge_count, judge_tag, judge_connection, judge_length, judge_closed, judge, fields}
 use Rattle.zy_capture.specs.Verdict.Verdict.{Bad}
 use Rattle.zy_capture.specs.FieldVerdict.{good, verdict}
-use Rattle.zy_capture.proofs.PartLemmas.{Leads, then_leads, number_is, connection_judged, singles, singles_whole, magic_parts, magic_leads, front_parts, begins_with, begins_size}
+use Rattle.zy_capture.proofs.PartLemmas.{Leads, then_leads, number_is, connection_judged, singles, singles_whole, magic_parts, magic_leads, begins_with}
 use Rattle.zy_capture.proofs.GoodLemmas.{lawful, ends_spelling}
 use Rattle.zy_capture.proofs.WrongLemmas.{begins_letters, begins_digit}
 
@@ -48,9 +48,11 @@ after_bad : (text : List ℕ) (version count : ℕ) (items : List Record) (parts
     → Leads (state Tag version count) (length (front_text version count items)) parts s [] → text ≡ front_text version count items ++ (middle ++ (field ++ rest)) → at ≡ length (front_text version count items) + length middle → at ≤ capture_limit
     → length field ≡ width s.next → HasRoom fields s (at + length field) → judge s.next s at field ≡ Wrong fault → verdict text ≡ Bad fault
 after_bad text version count items parts s middle field rest at fault valid parts_are leads whole place short size room is =
-    begun_bad text s items field rest at fault
-    (begins_with text (field ++ rest) version count items parts s middle valid parts_are leads whole (omega (arith, place, short)))
-    (begins_size version count items parts ∙ ap (λ (l : List ℕ). length (front_text version count items) + length l) parts_are ∙ sym place) size room is
+    let front : List ℕ = front_text version count items in
+    let begins = begins_with text (field ++ rest) version count items parts s middle valid parts_are leads whole (omega (arith, place, short)) in
+    let same : length (concat begins.parts) ≡ at =
+    omega (arith, place, ap (λ (l : List ℕ). length l) (sym begins.text_is ∙ whole), length-append (concat begins.parts) (field ++ rest), length-append front (middle ++ (field ++ rest)), length-append middle (field ++ rest)) in
+    begun_bad text s items field rest at fault begins same size room is
 
 -- ---- the magic
 
@@ -64,14 +66,14 @@ magic_state at version = state (Magic (part_at at version)) 0 0
 
 front_leads : (at version : ℕ) → at < 8 → IsVersion version → Leads start 0 (singles (take at (magic version))) (magic_state at version) []
 front_leads zero version within known = (refl, refl)
-front_leads (suc zero) version within known = (refl, refl, refl)
-front_leads (suc (suc zero)) version within known = (refl, refl, refl, refl)
-front_leads (suc (suc (suc zero))) version within known = (refl, refl, refl, refl, refl)
-front_leads (suc (suc (suc (suc zero)))) version within known = (refl, refl, refl, refl, refl, refl)
-front_leads (suc (suc (suc (suc (suc zero))))) version within known = (refl, refl, refl, refl, refl, refl, refl)
-front_leads (suc (suc (suc (suc (suc (suc zero)))))) version within known = (refl, refl, refl, refl, refl, refl, refl, refl)
-front_leads (suc (suc (suc (suc (suc (suc (suc zero))))))) version within (inl one) = rw one (refl, refl, refl, refl, refl, refl, refl, refl, refl)
-front_leads (suc (suc (suc (suc (suc (suc (suc zero))))))) version within (inr two) = rw two (refl, refl, refl, refl, refl, refl, refl, refl, refl)
+front_leads (suc zero) version within known = (refl, (refl, refl))
+front_leads (suc (suc zero)) version within known = (refl, (refl, (refl, refl)))
+front_leads (suc (suc (suc zero))) version within known = (refl, (refl, (refl, (refl, refl))))
+front_leads (suc (suc (suc (suc zero)))) version within known = (refl, (refl, (refl, (refl, (refl, refl)))))
+front_leads (suc (suc (suc (suc (suc zero))))) version within known = (refl, (refl, (refl, (refl, (refl, (refl, refl))))))
+front_leads (suc (suc (suc (suc (suc (suc zero)))))) version within known = (refl, (refl, (refl, (refl, (refl, (refl, (refl, refl)))))))
+front_leads (suc (suc (suc (suc (suc (suc (suc zero))))))) version within (inl one) = rw one (refl, (refl, (refl, (refl, (refl, (refl, (refl, (refl, refl))))))))
+front_leads (suc (suc (suc (suc (suc (suc (suc zero))))))) version within (inr two) = rw two (refl, (refl, (refl, (refl, (refl, (refl, (refl, (refl, refl))))))))
 front_leads (suc (suc (suc (suc (suc (suc (suc (suc at)))))))) version within known = absurd (omega (arith, within))
 
 letter_not : (at b : ℕ) → at < 6 → (BeginsMagic (take at letters ++ b ∷ []) → ⊥) → (b == slice_index letters at) ≡ false
@@ -180,7 +182,7 @@ trailing_bad text at has =
     let front : List ℕ = front_text has.version has.count has.items in
     let ends : front ++ 69 ∷ [] ≡ spelling has.version has.count has.items = ends_spelling has.version has.count has.items in
     let place : at ≡ length front + 1 = has.place ∙ ap (λ (l : List ℕ). length l) (sym ends) ∙ length-append front (69 ∷ []) in
-    after_bad text has.version has.count has.items ((69 ∷ []) ∷ []) (state Nothing has.version has.count) (69 ∷ []) (has.byte ∷ []) has.rest at (Trailing at) has.valid refl (refl, refl, refl)
+    after_bad text has.version has.count has.items ((69 ∷ []) ∷ []) (state Nothing has.version has.count) (69 ∷ []) (has.byte ∷ []) has.rest at (Trailing at) has.valid refl (refl, (refl, refl))
     (has.whole ∙ ap (λ (l : List ℕ). l ++ has.byte ∷ has.rest) (sym ends) ∙ append_assoc front (69 ∷ []) (has.byte ∷ has.rest)) place has.within refl (inl refl) refl
 
 -- a text with a wrong byte or number is bad with that fault

@@ -30,8 +30,8 @@ over_long text s has =
 cut_by : (text : List ℕ) (found : Verdict) → AreBytes text → IsBegun text → IsOutcome fields good Bad text found → IsCut fields text
 cut_by text found all begun (inl whole) = absurd (begun.no_capture whole.0.version whole.0.count whole.1.0 (whole_spells text whole.0 whole.1.0 all whole.1.1))
 cut_by text found all begun (inr (inl cut)) = cut.0
-cut_by text found all begun (inr (inr (s, (fault, (inl has, is))))) = absurd (begun.none_wrong fault (misjudged_wrong text s fault all has))
-cut_by text found all begun (inr (inr (s, (fault, (inr has, is))))) = absurd (omega (arith, over_long text s has.0, begun.short))
+cut_by text found all begun (inr (inr (s, (fault, inl has, is)))) = absurd (begun.none_wrong fault (misjudged_wrong text s fault all has))
+cut_by text found all begun (inr (inr (s, (fault, inr has, is)))) = absurd (omega (arith, over_long text s has.0, begun.short))
 
 -- a text that is begun is cut
 begun_cut : (text : List ℕ) → AreBytes text → IsBegun text → IsCut fields text
@@ -98,10 +98,10 @@ had_by text fault found all (inr (inl cut)) is =
     let told = cut.1 in
     let same : Truncated (length text) ≡ fault = cc in
     subst (λ (f : CaptureFault). Faults.HasFault text f) same (record { place = refl; begun = cut_begun text cut.0 })
-had_by text fault found all (inr (inr (s, (other, (inl has, told))))) is =
+had_by text fault found all (inr (inr (s, (other, inl has, told)))) is =
     let same : other ≡ fault = cc in
     subst (λ (f : CaptureFault). Faults.HasFault text f) same (wrong_has text other (misjudged_wrong text s other all has))
-had_by text fault found all (inr (inr (s, (other, (inr has, told))))) is =
+had_by text fault found all (inr (inr (s, (other, inr has, told)))) is =
     let long_is = has.1 in
     let same : TooLong ≡ fault = cc in
     subst (λ (f : CaptureFault). Faults.HasFault text f) same (too_long text s has.0)

@@ -94,7 +94,7 @@ pub spells_whole : (text : List ℕ) (version count : ℕ) (items : List Record)
 spells_whole text version count items spells =
     let whole : text ≡ front_text version count items ++ 69 ∷ [] = spells.spelled ∙ sym (ends_spelling version count items) in
     record {
-      begins = begins_with text [] version count items ((69 ∷ []) ∷ []) (state Nothing version count) (69 ∷ []) spells.valid refl (refl, refl, refl) whole
+      begins = begins_with text [] version count items ((69 ∷ []) ∷ []) (state Nothing version count) (69 ∷ []) spells.valid refl (refl, (refl, refl)) whole
           (omega (arith, ap (λ (l : List ℕ). length l) whole, length-append (front_text version count items) (69 ∷ []), spells.short));
       end_is = refl;
     }

@@ -117,8 +117,8 @@ abbrev pub magic_parts : ℕ → List (List ℕ)
 magic_parts version = singles (magic version)
 
 pub magic_leads : (version : ℕ) → IsVersion version → Leads start 0 (magic_parts version) (state Count version 0) []
-magic_leads version (inl one) = rw one (refl, refl, refl, refl, refl, refl, refl, refl, refl, refl)
-magic_leads version (inr two) = rw two (refl, refl, refl, refl, refl, refl, refl, refl, refl, refl)
+magic_leads version (inl one) = rw one (refl, (refl, (refl, (refl, (refl, (refl, (refl, (refl, (refl, refl)))))))))
+magic_leads version (inr two) = rw two (refl, (refl, (refl, (refl, (refl, (refl, (refl, (refl, (refl, refl)))))))))
 
 pub count_judged : (s : CaptureState) (at count : ℕ) → count ≤ connection_limit → judge Count s at (to_be_bytes w32 count) ≡ Then (state Tag s.version count)
 count_judged s at count few = ap (λ (n : ℕ). judge_count s n) (number_is count (omega (arith, few))) ∙ rw (le-ltb connection_limit count few) refl
@@ -151,13 +151,7 @@ begins_with text rest version count items parts last middle valid parts_are lead
     record {
       parts = front ++ parts;
       runs = subst (λ (l : List Record). Leads start 0 (front ++ parts) last l) (append-nil items)
-          (runs_join fields front parts start (state Tag version count) last 0 (length (front_text version count items)) items [] (sym (ap (λ (l : List ℕ). length l) (front_whole version count items))) (front_leads version count items valid) leads);
+          (runs_join fields front parts start (state Tag version count) last 0 (length (front_text version count items)) items [] (omega (arith, ap (λ (l : List ℕ). length l) (front_whole version count items))) (front_leads version count items valid) leads);
       text_is = whole ∙ sym (append_assoc (front_text version count items) middle rest) ∙ ap (λ (l : List ℕ). l ++ rest) (sym same);
       short = omega (arith, ap (λ (l : List ℕ). length l) same, length-append (front_text version count items) middle, short);
     }
-
--- how many bytes those fields have
-pub begins_size : (version count : ℕ) (items : List Record) (parts : List (List ℕ)) → length (concat (front_parts version count items ++ parts)) ≡ length (front_text version count items) + length (concat parts)
-begins_size version count items parts =
-    ap (λ (l : List ℕ). length l) (concat_append (front_parts version count items) parts ∙ ap (λ (l : List ℕ). l ++ concat parts) (front_whole version count items))
-    ∙ length-append (front_text version count items) (concat parts)

@@ -100,11 +100,11 @@ magic_goes s at text given (Steps.Next part) long none on =
 magic_goes s at text given (Steps.Whole version) long none on = (on.0, none, on.1)
 magic_goes s at text given Steps.Wrong long none on = tt
 
-from_magic : (part : MagicPart) (s : CaptureState) (text field : List ℕ) (given : List Record) → IsAt (Magic part) s text given → length field ≡ 1 → Goes (text ++ field) given (judge (Magic part) s (length text) field)
+pub from_magic : (part : MagicPart) (s : CaptureState) (text field : List ℕ) (given : List Record) → IsAt (Magic part) s text given → length field ≡ 1 → Goes (text ++ field) given (judge (Magic part) s (length text) field)
 from_magic part s text field given is one =
     let at : ℕ = length text in
-    let grown : magic_before part letters at ++ byte field ∷ [] ≡ text ++ field = ap (λ (l : List ℕ). l ++ byte field ∷ []) (sym is.2.1) ∙ ap (λ (l : List ℕ). text ++ l) (sym (one_byte field one)) in
-    magic_goes s at (text ++ field) given (magic_step part letters at (byte field)) (omega (arith, length-append text field, one)) is.2.0
+    let grown : magic_before part letters at ++ byte field ∷ [] ≡ text ++ field = ap (λ (l : List ℕ). l ++ byte field ∷ []) (sym is.3) ∙ ap (λ (l : List ℕ). text ++ l) (sym (one_byte field one)) in
+    magic_goes s at (text ++ field) given (magic_step part letters at (byte field)) (omega (arith, length-append text field, one)) is.2
     (subst (λ (l : List ℕ). LeadsTo letters (at + 1) l (magic_step part letters at (byte field))) grown (leads part letters at (byte field) refl is.0 is.1))
 
 from_count : (s : CaptureState) (text field : List ℕ) (given : List Record) → AreBytes field → IsAt Count s text given → length field ≡ 4 → Goes (text ++ field) given (judge Count s (length text) field)

@@ -82,7 +82,7 @@ made s given front more text some whole short version_is count_is records_are =
     }
 
 so_far : (next : CaptureField) (s : CaptureState) (given : List Record) (front more text : List ℕ) → IsAt next s front given → text ≡ front ++ more → length text ≤ capture_limit → version_of text ≡ version_in next s.version → count_of text ≡ count_in next s.count → records_of text ≡ given → given ≢ [] → IsCaptureSoFar text
-so_far (Magic part) s given front more text is whole short version_is count_is records_are some = absurd (some is.2.0)
+so_far (Magic part) s given front more text is whole short version_is count_is records_are some = absurd (some is.2)
 so_far Count s given front more text is whole short version_is count_is records_are some = absurd (some is.1)
 so_far next s given front more text is whole short version_is count_is records_are some =
     made s given front more text (after_some next s front given tt is) whole short version_is count_is records_are

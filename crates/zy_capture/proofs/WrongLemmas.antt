@@ -101,19 +101,19 @@ magic_wrong Letters s front rest given b fault is =
     let P : MagicStep → Type 0 = MagicFaults s at (front ++ b ∷ rest) fault in
     chosen P (b == slice_index letters at) _ Steps.Wrong
     (λ same. chosen P (at == 5) (Steps.Next Digit) (Steps.Next Letters) (λ last none. cc) (λ more none. cc))
-    (λ differs. no_magic s front (take at letters) rest b fault is.2.1 (omega (arith, within)) (begins_letters at) (differs_letter at b within differs))
+    (λ differs. no_magic s front (take at letters) rest b fault is.3 (omega (arith, within)) (begins_letters at) (differs_letter at b within differs))
 magic_wrong Digit s front rest given b fault is =
     let at : ℕ = length front in
-    let six : at ≡ 6 = ap (λ (l : List ℕ). length l) is.2.1 in
+    let six : at ≡ 6 = ap (λ (l : List ℕ). length l) is.3 in
     let P : MagicStep → Type 0 = MagicFaults s at (front ++ b ∷ rest) fault in
     chosen P (b == 49) (Steps.Next (LineFeed 1)) _ (λ one none. cc)
     (λ not_one. chosen P (b == 50) (Steps.Next (LineFeed 2)) Steps.Wrong (λ two none. cc)
-    (λ not_two. no_magic s front letters rest b fault is.2.1 (omega (arith, six)) (begins_letters 6) (differs_digit b not_one not_two)))
+    (λ not_two. no_magic s front letters rest b fault is.3 (omega (arith, six)) (begins_letters 6) (differs_digit b not_one not_two)))
 magic_wrong (LineFeed version) s front rest given b fault is =
     let at : ℕ = length front in
-    let seven : at ≡ 7 = ap (λ (l : List ℕ). length l) is.2.1 in
+    let seven : at ≡ 7 = ap (λ (l : List ℕ). length l) is.3 in
     chosen (MagicFaults s at (front ++ b ∷ rest) fault) (b == 10) (Steps.Whole version) Steps.Wrong (λ same none. cc)
-    (λ differs. no_magic s front (letters ++ (48 + version) ∷ []) rest b fault is.2.1 (omega (arith, seven)) (begins_digit version is.1) (differs_line_feed version b differs))
+    (λ differs. no_magic s front (letters ++ (48 + version) ∷ []) rest b fault is.3 (omega (arith, seven)) (begins_digit version is.1) (differs_line_feed version b differs))
 
 count_wrong : (s : CaptureState) (front field rest : List ℕ) (given : List Record) (fault : CaptureFault) → AreBytes field → IsAt Count s front given → length field ≡ 4 → Faults (front ++ (field ++ rest)) fault (judge Count s (length front) field)
 count_wrong s front field rest given fault all is four =
@@ -238,8 +238,8 @@ end_wrong s front rest given b fault is short =
 
 -- there is room for a field that is not the end
 room_for : (next : CaptureField) (count size : ℕ) → is_end next ≡ false → (is_end next ≡ true) ⊎ (count ≤ capture_limit) → count ≡ size → size ≤ capture_limit
-room_for next count size open (inl end_is) same = cc
-room_for next count size open (inr few) same = omega (arith, few, same)
+room_for next count size still (inl end_is) same = cc
+room_for next count size still (inr few) same = omega (arith, few, same)
 
 -- a field of one byte, in front of the rest
 one_text : (front field rest : List ℕ) → length field ≡ 1 → front ++ byte field ∷ rest ≡ front ++ (field ++ rest)
