@@ -1,17 +1,9 @@
 pub mod Bounds
 pub mod PlaceLemmas
 pub mod PartLemmas
-pub mod GoodLemmas
-pub mod WrongLemmas
-pub mod BadLemmas
-pub mod EachFaultLemmas
-pub mod PrefixLemmas
-pub mod RecordsLemmas
 pub mod Feeding
-pub mod RunLemmas
 pub mod HeadLemmas
 pub mod WholeLemmas
-pub mod SpelledLemmas
 pub mod StreamLemmas
 pub mod NumberedLemmas
 pub mod RepliesFeeding
@@ -20,7 +12,6 @@ pub mod ByteLemmas
 pub mod RepliesWholeLemmas
 pub mod RepliesSpelledLemmas
 pub mod AgainLemmas
-pub mod FaultWords
 pub mod FaultLemmas
 pub mod FaultReadLemmas
 pub mod BegunLemmas

@@ -13,11 +13,11 @@ use Rattle.zy_read.proofs.MagicLemmas.{IsVersion}
 use Rattle.zy_read.proofs.RunLemmas.{concat_append, runs_join}
 use Rattle.zy_capture.specs.declared.record.Record.{Record}
 use Rattle.zy_capture.specs.declared.record.Record.TheVariants as Kinds
-use Rattle.zy_capture.specs.declared.capture_field.CaptureField.TheVariants.{Magic, Count, Tag, Connection, Length, Payload, Closed, Nothing}
+use Rattle.zy_capture.specs.declared.due.Due.TheVariants.{Magic, Count, Tag, Connection, Length, Payload, Closed, Nothing}
 use Rattle.zy_capture.specs.declared.capture_state.CaptureState.{CaptureState}
 use Rattle.zy_capture.specs.Capture.{letters, magic, spelled, IsRecordOf, IsCapture, connection_limit, segment_limit, capture_limit}
 use Rattle.zy_capture.specs.Faults.{front_text}
-use Rattle.zy_capture.specs.CaptureFields.{state, start, to, width, Judgement, number, segment, judge_count, judge_connection, judge_length, judge_closed, judge, fields}
+use Rattle.zy_capture.specs.Steps.{state, start, to, width, Judgement, number, segment, judge_count, judge_connection, judge_length, judge_closed, judge, fields}
 
 -- ---- one field
 
@@ -26,11 +26,11 @@ abbrev pub Leads : CaptureState → ℕ → List (List ℕ) → CaptureState →
 Leads s at parts last given = Runs fields s at parts last given
 
 -- a field, and then others
-pub then_leads : (s next last : CaptureState) (at : ℕ) (field : List ℕ) (parts : List (List ℕ)) (given : List Record) → length field ≡ width s.next → judge s.next s at field ≡ Then next → Leads next (at + length field) parts last given → Leads s at (field ∷ parts) last given
+pub then_leads : (s next last : CaptureState) (at : ℕ) (field : List ℕ) (parts : List (List ℕ)) (given : List Record) → length field ≡ width s.due → judge s.due s at field ≡ Then next → Leads next (at + length field) parts last given → Leads s at (field ∷ parts) last given
 then_leads s next last at field parts given size is on =
     (size, subst (λ (j : Judgement). GoesOn j (λ n rest. Leads n (at + length field) parts last rest) given) (sym is) on)
 
-gives_leads : (s next last : CaptureState) (at : ℕ) (field : List ℕ) (parts : List (List ℕ)) (item : Record) (given : List Record) → length field ≡ width s.next → judge s.next s at field ≡ Gives next item → Leads next (at + length field) parts last given → Leads s at (field ∷ parts) last (item ∷ given)
+gives_leads : (s next last : CaptureState) (at : ℕ) (field : List ℕ) (parts : List (List ℕ)) (item : Record) (given : List Record) → length field ≡ width s.due → judge s.due s at field ≡ Gives next item → Leads next (at + length field) parts last given → Leads s at (field ∷ parts) last (item ∷ given)
 gives_leads s next last at field parts item given size is on =
     (size, subst (λ (j : Judgement). GoesOn j (λ n rest. Leads n (at + length field) parts last rest) (item ∷ given)) (sym is) (given, refl, on))
 

@@ -18,12 +18,12 @@ use Rattle.zy_read.proofs.MagicLemmas.{IsVersion, IsKnown, LeadsTo, leads}
 use Rattle.zy_read.proofs.RunLemmas.{After, Keeps}
 use Rattle.zy_capture.specs.declared.record.Record.{Record}
 use Rattle.zy_capture.specs.declared.record.Record.TheVariants as Kinds
-use Rattle.zy_capture.specs.declared.capture_field.CaptureField.{CaptureField}
-use Rattle.zy_capture.specs.declared.capture_field.CaptureField.TheVariants.{Magic, Count, Tag, Connection, Length, Payload, Closed, Nothing}
+use Rattle.zy_capture.specs.declared.due.Due.{Due}
+use Rattle.zy_capture.specs.declared.due.Due.TheVariants.{Magic, Count, Tag, Connection, Length, Payload, Closed, Nothing}
 use Rattle.zy_capture.specs.declared.capture_state.CaptureState.{CaptureState}
 use Rattle.zy_capture.specs.Capture.{letters, magic, spelled, IsRecordOf, IsCapture, connection_limit, segment_limit}
 use Rattle.zy_capture.specs.Faults.{front_text}
-use Rattle.zy_capture.specs.CaptureFields.{state, to, width, Judgement, number, byte, segment, judge_magic, judge_count, judge_tag, judge_connection, judge_length, judge_closed, judge, fields}
+use Rattle.zy_capture.specs.Steps.{state, to, width, Judgement, number, byte, segment, judge_magic, judge_count, judge_tag, judge_connection, judge_length, judge_closed, judge, fields}
 use Rattle.zy_capture.proofs.ByteLemmas.{both_true, positive, chosen, assoc_twice}
 
 -- ---- what leads to a field
@@ -34,22 +34,22 @@ pub record IsAfter (version count : ℕ) (given : List Record) (tail text : List
   pub whole : text ≡ front_text version count given ++ tail
 
 -- the text leads to this field of a capture
-abbrev pub IsAt : CaptureField → CaptureState → List ℕ → List Record → Type 0
+abbrev pub IsAt : Due → CaptureState → List ℕ → List Record → Type 0
 IsAt (Magic part) s text given =
     IsInMagic part (length text) × IsKnown part × (given ≡ []) × (text ≡ magic_before part letters (length text))
 IsAt Count s text given = IsVersion s.version × (given ≡ []) × (text ≡ magic s.version)
 IsAt Tag s text given = IsAfter s.version s.count given [] text
 IsAt Connection s text given = IsAfter s.version s.count given (83 ∷ []) text
 IsAt (Length conn) s text given = IsAfter s.version s.count given (83 ∷ to_be_bytes w32 conn) text × (conn < s.count)
-IsAt (Payload conn more) s text given =
-    IsAfter s.version s.count given (83 ∷ (to_be_bytes w32 conn ++ to_be_bytes w32 (more + 1))) text
-    × (conn < s.count) × (more + 1 ≤ segment_limit)
+IsAt (Payload conn others) s text given =
+    IsAfter s.version s.count given (83 ∷ (to_be_bytes w32 conn ++ to_be_bytes w32 (others + 1))) text
+    × (conn < s.count) × (others + 1 ≤ segment_limit)
 IsAt Closed s text given = IsAfter s.version s.count given (67 ∷ []) text × (s.version ≡ 2)
 IsAt Nothing s text given = IsAfter s.version s.count given (69 ∷ []) text
 
 -- the same, of a state
 abbrev pub Stands : CaptureState → List ℕ → List Record → Type 0
-Stands s text given = IsAt s.next s text given
+Stands s text given = IsAt s.due s text given
 
 -- the text leads on by what a field does
 abbrev Goes : List ℕ → List Record → Judgement → Type 0
@@ -147,11 +147,11 @@ from_length conn s text field given all is four =
     let whole : size - 1 + 1 ≡ size = omega (arith, positive size some) in
     (after_on s.version s.count given tail text field (tail ++ to_be_bytes w32 (size - 1 + 1)) (grown ∙ ap (λ (n : ℕ). tail ++ to_be_bytes w32 n) (sym whole)) is.0, is.1, omega (arith, whole, ltb-false segment_limit size few))))
 
-from_payload : (conn more : ℕ) (s : CaptureState) (text field : List ℕ) (given : List Record) → IsAt (Payload conn more) s text given → length field ≡ more + 1 → Goes (text ++ field) given (judge (Payload conn more) s (length text) field)
-from_payload conn more s text field given is size =
-    let tail : List ℕ = 83 ∷ (to_be_bytes w32 conn ++ to_be_bytes w32 (more + 1)) in
+from_payload : (conn others : ℕ) (s : CaptureState) (text field : List ℕ) (given : List Record) → IsAt (Payload conn others) s text given → length field ≡ others + 1 → Goes (text ++ field) given (judge (Payload conn others) s (length text) field)
+from_payload conn others s text field given is size =
+    let tail : List ℕ = 83 ∷ (to_be_bytes w32 conn ++ to_be_bytes w32 (others + 1)) in
     record_on s.version s.count given (segment conn field) tail text field (is.1, omega (arith, size, is.2))
-    (ap (λ (l : List ℕ). 83 ∷ l) (append_assoc (to_be_bytes w32 conn) (to_be_bytes w32 (more + 1)) field) ∙ ap (λ (n : ℕ). 83 ∷ (to_be_bytes w32 conn ++ (to_be_bytes w32 n ++ field))) (sym size)) is.0
+    (ap (λ (l : List ℕ). 83 ∷ l) (append_assoc (to_be_bytes w32 conn) (to_be_bytes w32 (others + 1)) field) ∙ ap (λ (n : ℕ). 83 ∷ (to_be_bytes w32 conn ++ (to_be_bytes w32 n ++ field))) (sym size)) is.0
 
 from_closed : (s : CaptureState) (text field : List ℕ) (given : List Record) → AreBytes field → IsAt Closed s text given → length field ≡ 4 → Goes (text ++ field) given (judge Closed s (length text) field)
 from_closed s text field given all is four =
@@ -160,16 +160,16 @@ from_closed s text field given all is four =
     (λ below. record_on s.version s.count given (Kinds.Close conn) (67 ∷ []) text field (is.1, ltb-true conn s.count below) (ap (λ (l : List ℕ). 67 ∷ l) (sym (four_bytes field all four))) is.0)
     (λ over. tt)
 
-field_keeps : (next : CaptureField) (s : CaptureState) (text field : List ℕ) (given : List Record) → AreBytes field → IsAt next s text given → length field ≡ width next → Goes (text ++ field) given (judge next s (length text) field)
+field_keeps : (next : Due) (s : CaptureState) (text field : List ℕ) (given : List Record) → AreBytes field → IsAt next s text given → length field ≡ width next → Goes (text ++ field) given (judge next s (length text) field)
 field_keeps (Magic part) s text field given all is size = from_magic part s text field given is size
 field_keeps Count s text field given all is size = from_count s text field given all is size
 field_keeps Tag s text field given all is size = from_tag s text field given is size
 field_keeps Connection s text field given all is size = from_connection s text field given all is size
 field_keeps (Length conn) s text field given all is size = from_length conn s text field given all is size
-field_keeps (Payload conn more) s text field given all is size = from_payload conn more s text field given is size
+field_keeps (Payload conn others) s text field given all is size = from_payload conn others s text field given is size
 field_keeps Closed s text field given all is size = from_closed s text field given all is size
 field_keeps Nothing s text field given all is size = tt
 
 -- each whole field leads on
 pub keeps : Keeps fields AreBytes Stands
-keeps s text field given all is size = field_keeps s.next s text field given all is size
+keeps s text field given all is size = field_keeps s.due s text field given all is size

@@ -1,8 +1,6 @@
 pub mod Capture
-pub mod CaptureFields
 pub mod Steps
 pub mod Verdict
-pub mod FieldVerdict
 pub mod SoFar
 pub mod Standing
 pub mod Streams
@@ -14,5 +12,4 @@ pub mod RepliesStanding
 pub mod Faults
 pub mod RepliesFaults
 pub mod Worked
-pub mod Lasting
 pub mod RepliesLasting

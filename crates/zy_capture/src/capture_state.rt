@@ -1,14 +1,12 @@
-//! What was read of a capture up to a field.
+//! The state of a capture.
 
-use crate::capture_field::CaptureField;
+use crate::due::Due;
 
-/// What is known of a capture where its fields were read up to some field.
+/// What is expected next, the version, or 0 before the magic was read, and the connection count, or
+/// 0 before it was read.
 #[derive(Clone, Copy)]
 pub(crate) struct CaptureState {
-    /// The next field.
-    pub(crate) next: CaptureField,
-    /// The version, or 0 before the magic was read.
+    pub(crate) due: Due,
     pub(crate) version: u32,
-    /// The connection count, or 0 before it was read.
     pub(crate) count: u32,
 }

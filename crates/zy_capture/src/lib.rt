@@ -2,7 +2,6 @@
 #![tactic(auto)]
 
 mod capture_fault;
-mod capture_field;
 mod capture_state;
 mod due;
 mod laws;
