@@ -7,3 +7,4 @@ pub mod PieceLemmas
 pub mod RunLemmas
 pub mod SourceLemmas
 pub mod VerdictLemmas
+pub mod StepLemmas
