@@ -1,11 +1,10 @@
 -- A text is bad with a fault exactly where it has that fault.
-use Rattle.std.proofs.Common.{◌≡◌, ◌⊎◌, inl, inr, ℕ, ◌+◌, ◌≤◌, List, [], ◌∷◌, ◌++◌, length, refl, sym, ◌∙◌, ap, subst, arith, append_assoc, length-append}
+use Rattle.std.proofs.Common.{◌≡◌, inl, inr, ℕ, ◌+◌, ◌≤◌, List, ◌∷◌, ◌++◌, length, refl, sym, ◌∙◌, ap, subst, arith, append_assoc, length-append}
 use Rattle.std.specs.List.{concat}
 use Rattle.zy_read.specs.Bytes.{AreBytes}
-use Rattle.zy_read.specs.Runs.{IsCut, IsMisjudged, IsOverlong, HasFault, IsOutcome}
+use Rattle.zy_read.specs.Runs.{IsCut, IsOverlong, IsOutcome}
 use Rattle.zy_read.proofs.ByteLemmas.{bytes_front}
 use Rattle.zy_read.proofs.VerdictLemmas.{outcome, fault_bad, cut_bad, cut_overlong}
-use Rattle.zy_capture.specs.declared.record.Record.{Record}
 use Rattle.zy_capture.specs.declared.capture_fault.CaptureFault.{CaptureFault}
 use Rattle.zy_capture.specs.declared.capture_fault.CaptureFault.TheVariants.{BadMagic, ConnCount, BadTag, ConnRange, SegmentLength, Truncated, Trailing, TooLong}
 use Rattle.zy_capture.specs.declared.capture_state.CaptureState.{CaptureState}
@@ -13,7 +12,7 @@ use Rattle.zy_capture.specs.Capture.{capture_limit}
 use Rattle.zy_capture.specs.Faults.{IsWrong, IsBegun, IsTooLong} 
 use Rattle.zy_capture.specs.Faults as Faults
 use Rattle.zy_capture.specs.Steps.{fields}
-use Rattle.zy_capture.specs.Verdict.Verdict.{Good, Bad}
+use Rattle.zy_capture.specs.Verdict.Verdict.{Bad}
 use Rattle.zy_capture.specs.Verdict.{Verdict, good, verdict}
 use Rattle.zy_capture.proofs.WholeLemmas.{lawful, whole_spells, spells_good}
 use Rattle.zy_capture.proofs.FaultLemmas.{misjudged_wrong}

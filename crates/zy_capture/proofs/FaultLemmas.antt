@@ -1,6 +1,6 @@
 -- A field that is wrong is a fault of the text.
-use Rattle.std.proofs.Common.{◌≡◌, ◌⊎◌, inl, inr, ℕ, zero, suc, ◌+◌, ◌-◌, ◌<◌, ◌≤◌, ◌^◌, true, false, List, [], ◌∷◌, ◌++◌, length, take, drop, get_or, refl, sym, ◌∙◌, ap, subst, arith, append_assoc, length-append, take-append-drop}
-use Rattle.std.specs.Prelude.{◌==◌, ◌&&◌, nat_lt, flat_map}
+use Rattle.std.proofs.Common.{◌≡◌, ◌⊎◌, inl, inr, ℕ, zero, suc, ◌+◌, ◌<◌, ◌≤◌, true, false, List, [], ◌∷◌, ◌++◌, length, take, drop, get_or, refl, sym, ◌∙◌, ap, subst, arith, append_assoc, length-append, take-append-drop}
+use Rattle.std.specs.Prelude.{◌==◌, ◌&&◌, nat_lt}
 use Rattle.std.specs.List.{slice_index, concat}
 use Rattle.std.specs.Int.{to_be_bytes, w32}
 use Rattle.std.proofs.lemmas.Bool.{ltb-false, ltb-true}
@@ -10,19 +10,19 @@ use Rattle.zy_read.specs.declared.magic.MagicPart.{MagicPart}
 use Rattle.zy_read.specs.declared.magic.MagicPart.TheVariants.{Letters, Digit, LineFeed}
 use Rattle.zy_read.specs.declared.magic.MagicStep.{MagicStep}
 use Rattle.zy_read.specs.declared.magic.MagicStep.TheVariants as Steps
-use Rattle.zy_read.specs.Magic.{letter, digit, line_feed, magic_step}
-use Rattle.zy_read.specs.Fields.Judged.{Then, Gives, Wrong}
-use Rattle.zy_read.specs.Runs.{HasRoom, IsMisjudged}
+use Rattle.zy_read.specs.Magic.{magic_step}
+use Rattle.zy_read.specs.Fields.Judged.{Wrong}
+use Rattle.zy_read.specs.Runs.{IsMisjudged}
 use Rattle.zy_read.proofs.ByteLemmas.{bytes_front, bytes_back}
 use Rattle.zy_capture.specs.declared.record.Record.{Record}
 use Rattle.zy_capture.specs.declared.capture_fault.CaptureFault.{CaptureFault}
-use Rattle.zy_capture.specs.declared.capture_fault.CaptureFault.TheVariants.{BadMagic, ConnCount, BadTag, ConnRange, SegmentLength, Truncated, Trailing, TooLong}
+use Rattle.zy_capture.specs.declared.capture_fault.CaptureFault.TheVariants.{BadMagic, ConnCount, BadTag, ConnRange, SegmentLength, Trailing}
 use Rattle.zy_capture.specs.declared.due.Due.{Due}
 use Rattle.zy_capture.specs.declared.due.Due.TheVariants.{Magic, Count, Tag, Connection, Length, Payload, Closed, Nothing}
 use Rattle.zy_capture.specs.declared.capture_state.CaptureState.{CaptureState}
 use Rattle.zy_capture.specs.Capture.{letters, magic, spelling, capture_limit, connection_limit, segment_limit}
 use Rattle.zy_capture.specs.Faults.{BeginsMagic, front_text, GoesOn, IsConnectionOver, IsWrong}
-use Rattle.zy_capture.specs.Steps.{width, is_end, Judgement, number, byte, judge_magic, judge_count, judge_tag, judge_connection, judge_length, judge_closed, judge, fields}
+use Rattle.zy_capture.specs.Steps.{width, is_end, Judgement, number, byte, judge_magic, judge_tag, judge, fields}
 use Rattle.zy_capture.proofs.ByteLemmas.{chosen}
 use Rattle.zy_capture.proofs.PlaceLemmas.{IsAfter, IsAt, one_byte, four_bytes, small_number}
 use Rattle.zy_capture.proofs.WholeLemmas.{stands_there, ends_spelling}

@@ -1,5 +1,5 @@
 -- A text that has a fault is bad with it.
-use Rattle.std.proofs.Common.{◌≡◌, ◌⊎◌, inl, inr, ℕ, zero, suc, ◌+◌, ◌-◌, ◌<◌, ◌≤◌, ◌^◌, true, false, List, [], ◌∷◌, ◌++◌, length, take, refl, sym, ◌∙◌, ap, subst, arith, append_assoc, length-append}
+use Rattle.std.proofs.Common.{◌≡◌, inl, inr, ℕ, zero, suc, ◌+◌, ◌<◌, ◌≤◌, ◌^◌, false, List, [], ◌∷◌, ◌++◌, length, take, refl, sym, ◌∙◌, ap, subst, arith, append_assoc, length-append}
 use Rattle.std.specs.Prelude.{◌==◌, ◌&&◌, nat_lt, if◌then◌else◌}
 use Rattle.std.specs.List.{slice_index, concat}
 use Rattle.std.specs.Int.{to_be_bytes, w32}
@@ -8,7 +8,6 @@ use Rattle.std.proofs.lemmas.Bool.{lt-ltb, le-ltb}
 use Rattle.std.proofs.lemmas.Bool.Decides.{nat_tests}
 use Rattle.zy_read.specs.declared.magic.MagicPart.{MagicPart}
 use Rattle.zy_read.specs.declared.magic.MagicPart.TheVariants.{Letters, Digit, LineFeed}
-use Rattle.zy_read.specs.Magic.{magic_step}
 use Rattle.zy_read.specs.Fields.Judged.{Wrong}
 use Rattle.zy_read.specs.Runs.{Begins, HasRoom}
 use Rattle.zy_read.proofs.MagicLemmas.{IsVersion, letters_on}
@@ -20,7 +19,7 @@ use Rattle.zy_capture.specs.declared.due.Due.TheVariants.{Magic, Count, Tag, Con
 use Rattle.zy_capture.specs.declared.capture_state.CaptureState.{CaptureState}
 use Rattle.zy_capture.specs.Capture.{letters, magic, spelling, IsCapture, capture_limit, connection_limit, segment_limit}
 use Rattle.zy_capture.specs.Faults.{BeginsMagic, front_text, IsBadMagic, IsCountOver, IsBadTag, IsConnectionOver, IsLengthOver, IsTrailing, IsWrong}
-use Rattle.zy_capture.specs.Steps.{state, start, to, width, judge_magic, judge_count, judge_tag, judge_connection, judge_length, judge_closed, judge, fields}
+use Rattle.zy_capture.specs.Steps.{state, start, width, judge_count, judge_tag, judge_connection, judge_length, judge_closed, judge, fields}
 use Rattle.zy_capture.specs.Verdict.Verdict.{Bad}
 use Rattle.zy_capture.specs.Verdict.{good, verdict}
 use Rattle.zy_capture.proofs.PartLemmas.{Leads, then_leads, number_is, connection_judged, singles, singles_whole, magic_parts, magic_leads, begins_with}

@@ -1,13 +1,12 @@
 -- What a segment begins with, up to the last byte of its length, fed at once.
-use Rattle.std.proofs.Common.{◌≡◌, ℕ, ◌+◌, ◌<◌, ◌≤◌, List, [], ◌∷◌, ◌++◌, length, get_or, refl, sym, ◌∙◌, ap, subst, arith}
-use Rattle.std.specs.Prelude.{None, Option}
+use Rattle.std.proofs.Common.{◌≡◌, ℕ, ◌+◌, ◌<◌, ◌≤◌, List, [], ◌∷◌, length, get_or, refl, sym, ◌∙◌, ap, subst, arith}
+use Rattle.std.specs.Prelude.{None}
 use Rattle.std.proofs.lemmas.Bool.{lt-ltb}
-use Rattle.zy_read.specs.Format.{Reading, read_on}
+use Rattle.zy_read.specs.Format.{read_on}
 use Rattle.zy_read.specs.Standing.{Feeds}
 use Rattle.zy_read.specs.Fields.{at_state, step}
 use Rattle.zy_read.proofs.Feeding.{fed_by, fed_on}
 use Rattle.zy_read.proofs.FieldLemmas.{runs_read, run_fed}
-use Rattle.zy_capture.specs.declared.record.Record.{Record}
 use Rattle.zy_capture.specs.declared.due.Due.TheVariants.{Tag, Connection, Length}
 use Rattle.zy_capture.specs.declared.capture_state.CaptureState.{CaptureState}
 use Rattle.zy_capture.specs.Capture.{capture_limit}

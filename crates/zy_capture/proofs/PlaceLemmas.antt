@@ -1,8 +1,8 @@
 -- The bytes up to each field of a capture: what whole fields spell that lead to it.
-use Rattle.std.proofs.Common.{◌≡◌, ℕ, ◌+◌, ◌-◌, ◌<◌, ◌≤◌, ◌^◌, true, false, List, [], ◌∷◌, ◌++◌, length, refl, sym, ◌∙◌, ap, subst, arith, append_assoc, length-append}
-use Rattle.std.specs.Prelude.{◌==◌, ◌&&◌, nat_lt, flat_map, ⊤, get_or}
+use Rattle.std.proofs.Common.{◌≡◌, ℕ, ◌+◌, ◌-◌, ◌<◌, ◌≤◌, ◌^◌, List, [], ◌∷◌, ◌++◌, length, refl, sym, ◌∙◌, ap, subst, arith, append_assoc, length-append}
+use Rattle.std.specs.Prelude.{◌==◌, ◌&&◌, nat_lt, flat_map}
 use Rattle.std.specs.List.{AllByRecursion}
-use Rattle.std.specs.Int.{to_be_bytes, from_be_bytes, w32}
+use Rattle.std.specs.Int.{to_be_bytes, w32}
 use Rattle.std.proofs.lemmas.List.{append-nil}
 use Rattle.std.proofs.lemmas.Bool.{eqb-true, ltb-false, ltb-true}
 use Rattle.std.proofs.lemmas.Nat.{be_bytes_4}
@@ -12,7 +12,6 @@ use Rattle.zy_read.specs.declared.magic.MagicPart.{MagicPart}
 use Rattle.zy_read.specs.declared.magic.MagicStep.{MagicStep}
 use Rattle.zy_read.specs.declared.magic.MagicStep.TheVariants as Steps
 use Rattle.zy_read.specs.Magic.{magic_step, IsInMagic, magic_before}
-use Rattle.zy_read.specs.Fields.{Judged}
 use Rattle.zy_read.proofs.ByteLemmas.{byte_at}
 use Rattle.zy_read.proofs.MagicLemmas.{IsVersion, IsKnown, LeadsTo, leads}
 use Rattle.zy_read.proofs.RunLemmas.{After, Keeps}
@@ -23,7 +22,7 @@ use Rattle.zy_capture.specs.declared.due.Due.TheVariants.{Magic, Count, Tag, Con
 use Rattle.zy_capture.specs.declared.capture_state.CaptureState.{CaptureState}
 use Rattle.zy_capture.specs.Capture.{letters, magic, spelled, IsRecordOf, IsCapture, connection_limit, segment_limit}
 use Rattle.zy_capture.specs.Faults.{front_text}
-use Rattle.zy_capture.specs.Steps.{state, to, width, Judgement, number, byte, segment, judge_magic, judge_count, judge_tag, judge_connection, judge_length, judge_closed, judge, fields}
+use Rattle.zy_capture.specs.Steps.{width, Judgement, number, byte, segment, judge_magic, judge, fields}
 use Rattle.zy_capture.proofs.ByteLemmas.{both_true, positive, chosen, assoc_twice}
 
 -- ---- what leads to a field

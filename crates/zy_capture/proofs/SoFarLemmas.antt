@@ -1,32 +1,32 @@
 -- The records of a text without a fault so far are those of a capture whose version and count were
 -- read.
-use Rattle.std.proofs.Common.{◌≡◌, ◌≢◌, ◌⊎◌, inl, inr, ℕ, ◌+◌, ◌*◌, ◌^◌, ◌<◌, ◌≤◌, List, [], ◌∷◌, ◌++◌, length, refl, sym, ◌∙◌, ap, subst, arith, append_assoc, length-append}
+use Rattle.std.proofs.Common.{◌≡◌, ◌≢◌, ℕ, ◌+◌, ◌*◌, ◌^◌, ◌<◌, ◌≤◌, List, [], ◌∷◌, ◌++◌, length, refl, sym, ◌∙◌, ap, subst, arith, append_assoc, length-append}
 use Rattle.std.specs.Prelude.{Option, None, Some, flat_map, ◌==◌}
 use Rattle.std.specs.List.{concat}
 use Rattle.std.specs.Int.{to_be_bytes, w32}
 use Rattle.std.proofs.lemmas.List.{append-nil}
 use Rattle.zy_read.specs.Bytes.{AreBytes}
-use Rattle.zy_read.specs.Format.{Reading, read_on, reading_of, verdict_on, fault_met, given_by}
+use Rattle.zy_read.specs.Format.{Reading, read_on, reading_of, fault_met, given_by}
 use Rattle.zy_read.specs.Fields.{at_state, step}
-use Rattle.zy_read.proofs.OutcomeLemmas.{IsReadTo, IsRead, text_read}
+use Rattle.zy_read.proofs.OutcomeLemmas.{IsRead, text_read}
 use Rattle.zy_read.proofs.VerdictLemmas.{begins_read}
 use Rattle.zy_capture.specs.declared.record.Record.{Record}
 use Rattle.zy_capture.specs.declared.record.Record.TheVariants as Kinds
 use Rattle.zy_capture.specs.declared.capture_fault.CaptureFault.{CaptureFault}
 use Rattle.zy_capture.specs.declared.due.Due.{Due}
-use Rattle.zy_capture.specs.declared.due.Due.TheVariants.{Magic, Count, Tag, Connection, Length, Payload, Closed, Nothing}
+use Rattle.zy_capture.specs.declared.due.Due.TheVariants.{Magic, Count, Nothing}
 use Rattle.zy_capture.specs.declared.capture_state.CaptureState.{CaptureState}
 use Rattle.zy_capture.specs.Capture.{IsCapture, Spells, magic, spelled, capture_limit}
 use Rattle.zy_capture.specs.Faults.{front_text}
 use Rattle.zy_capture.specs.Streams.{closes}
 use Rattle.zy_capture.specs.Steps.{Progress, state, fields}
 use Rattle.zy_capture.specs.Verdict.Verdict.{Good}
-use Rattle.zy_capture.specs.Verdict.{captures, verdict, fault_of, version_in, version_of, count_in, count_of, records_of}
+use Rattle.zy_capture.specs.Verdict.{verdict, fault_of, version_in, version_of, count_in, count_of, records_of}
 use Rattle.zy_capture.specs.SoFar.{IsCaptureSoFar}
 use Rattle.zy_capture.proofs.ByteLemmas.{chosen}
 use Rattle.zy_capture.proofs.PlaceLemmas.{IsAt}
 use Rattle.zy_capture.proofs.WholeLemmas.{lawful, stands_there, good_spells, spells_whole}
-use Rattle.zy_capture.proofs.TellLemmas.{IsPastCount, IsAfterSome, after_some}
+use Rattle.zy_capture.proofs.TellLemmas.{IsAfterSome, after_some}
 
 -- ---- a whole capture
 
@@ -99,14 +99,3 @@ unfolding fault_met given_by reading_of version_of count_of
 records_so_far text all none some =
     let r : Reading Progress Record = read_on (step fields) (at_state fields.start 0) text in
     read_so_far text r.last r.given r.last.fault all none (text_read fields lawful text) refl refl refl some
-
--- a text without a fault that was not read to its end has at most the bytes of a capture
-clean_by : (text : List ℕ) (p : Progress) (given : List Record) (fault : Option CaptureFault) → fault ≡ None → IsRead fields fault p given text → length text ≤ capture_limit
-clean_by text p given None none read = omega (arith, read.count, read.short)
-clean_by text p given (Some fault) none read = cc
-
-pub clean_short : (text : List ℕ) → fault_of text ≡ None → length text ≤ capture_limit
-unfolding fault_met reading_of
-clean_short text none =
-    let r : Reading Progress Record = read_on (step fields) (at_state fields.start 0) text in
-    clean_by text r.last r.given r.last.fault none (text_read fields lawful text)

@@ -1,5 +1,5 @@
 -- The version and the count that are read of a text are those with which it begins.
-use Rattle.std.proofs.Common.{◌≡◌, ◌⊎◌, inl, inr, ℕ, ◌+◌, ◌≤◌, true, false, List, [], ◌∷◌, ◌++◌, length, refl, sym, ◌∙◌, ap, subst, arith, append_assoc, length-append}
+use Rattle.std.proofs.Common.{◌≡◌, inl, inr, ℕ, ◌+◌, List, [], ◌∷◌, ◌++◌, length, refl, sym, ◌∙◌, ap, subst, arith, append_assoc}
 use Rattle.std.specs.Prelude.{◌==◌, ◌&&◌, nat_lt, Option, None, Some, flat_map, ⊤}
 use Rattle.std.specs.List.{concat}
 use Rattle.std.specs.Int.{to_be_bytes, w32}
@@ -10,19 +10,18 @@ use Rattle.zy_read.specs.Format.{Reading, read_on, reading_of}
 use Rattle.zy_read.specs.declared.magic.MagicStep.{MagicStep}
 use Rattle.zy_read.specs.declared.magic.MagicStep.TheVariants as Steps
 use Rattle.zy_read.specs.Magic.{magic_step}
-use Rattle.zy_read.specs.Fields.{Place, at_state, step}
+use Rattle.zy_read.specs.Fields.{at_state, step}
 use Rattle.zy_read.specs.Fields.Judged.{Then, Gives, Wrong}
 use Rattle.zy_read.specs.Runs.{Begins}
-use Rattle.zy_read.proofs.RunLemmas.{After, Keeps, any_parts, runs_keep}
+use Rattle.zy_read.proofs.RunLemmas.{After, any_parts, runs_keep}
 use Rattle.zy_read.proofs.OutcomeLemmas.{IsRead, text_read}
 use Rattle.zy_read.proofs.VerdictLemmas.{Leaves, begins_read, state_kept}
 use Rattle.zy_capture.specs.declared.record.Record.{Record}
-use Rattle.zy_capture.specs.declared.record.Record.TheVariants as Kinds
 use Rattle.zy_capture.specs.declared.capture_fault.CaptureFault.{CaptureFault}
 use Rattle.zy_capture.specs.declared.due.Due.{Due}
 use Rattle.zy_capture.specs.declared.due.Due.TheVariants.{Magic, Count, Tag, Connection, Length, Payload, Closed, Nothing}
 use Rattle.zy_capture.specs.declared.capture_state.CaptureState.{CaptureState}
-use Rattle.zy_capture.specs.Capture.{letters, magic, spelled, connection_limit, segment_limit, capture_limit}
+use Rattle.zy_capture.specs.Capture.{letters, magic, spelled, connection_limit, segment_limit}
 use Rattle.zy_capture.specs.Faults.{front_text}
 use Rattle.zy_capture.specs.Steps.{Progress, state, start, width, Judgement, number, byte, judge_magic, judge, fields}
 use Rattle.zy_capture.specs.Verdict.{captures, version_in, version_of, count_in, count_of}
@@ -179,9 +178,9 @@ versions_keep (Magic part) s text field given is size =
 versions_keep next s text field given is size =
     left_versions s.version (text ++ field) given (judge next s (length text) field) (begins_on text field s.version is) (version_left s.version next s (length text) field tt refl)
 
-version_read : (next : Due) (s : CaptureState) (text : List ℕ) (given : List Record) (version : ℕ) → version_in next s.version ≡ Some version → VersionAt next s text given → BeginsWithMagic text version
-version_read (Magic part) s text given version told is = absurd (none_met version told)
-version_read next s text given version told is = let same : s.version ≡ version = cc in subst (BeginsWithMagic text) same is
+version_at : (next : Due) (s : CaptureState) (text : List ℕ) (given : List Record) (version : ℕ) → version_in next s.version ≡ Some version → VersionAt next s text given → BeginsWithMagic text version
+version_at (Magic part) s text given version told is = absurd (none_met version told)
+version_at next s text given version told is = let same : s.version ≡ version = cc in subst (BeginsWithMagic text) same is
 
 pub told_magic : (text : List ℕ) (version : ℕ) → version_of text ≡ Some version → BeginsWithMagic text version
 unfolding version_of
@@ -191,7 +190,7 @@ told_magic text version told =
     let front : List ℕ = concat read.begins.parts in
     let at : Versions s front read.given =
     runs_keep fields (λ part. ⊤) Versions (λ t before field given any is size. versions_keep t.due t before field given is size) read.begins.parts start s [] 0 [] read.given refl (any_parts read.begins.parts) (omega arith, tt, refl, refl) read.begins.runs in
-    subst (λ (l : List ℕ). BeginsWithMagic l version) (sym read.begins.text_is) (begins_on front read.rest version (version_read s.due s front read.given version told at))
+    subst (λ (l : List ℕ). BeginsWithMagic l version) (sym read.begins.text_is) (begins_on front read.rest version (version_at s.due s front read.given version told at))
 
 -- a text that leads to a field after the count has the records of a capture, and then some bytes
 pub record IsAfterSome (s : CaptureState) (text : List ℕ) (given : List Record) : Type 0 where
@@ -252,7 +251,7 @@ count_stays text more count small is =
     })
 
 -- where the count was read, the version was
-pub version_told : (text : List ℕ) (count : ℕ) (small : AreBytes text) (is : count_of text ≡ Some count) → version_of text ≡ Some (told_count text count small is).version
-version_told text count small is =
+pub version_read : (text : List ℕ) (count : ℕ) (small : AreBytes text) (is : count_of text ≡ Some count) → version_of text ≡ Some (told_count text count small is).version
+version_read text count small is =
     let begins = told_count text count small is in
     magic_told text begins.version (record { rest = to_be_bytes w32 count ++ begins.rest; known = begins.known; whole = begins.whole })

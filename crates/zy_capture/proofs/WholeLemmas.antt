@@ -1,14 +1,16 @@
 -- A text is good exactly where it is the spelling of a capture.
-use Rattle.std.proofs.Common.{◌≡◌, ◌⊎◌, inl, inr, ℕ, ◌+◌, ◌<◌, ◌≤◌, true, List, [], ◌∷◌, ◌++◌, length, refl, sym, ◌∙◌, ap, subst, arith, append_assoc, length-append}
-use Rattle.std.specs.Prelude.{flat_map}
+use Rattle.std.proofs.Common.{◌≡◌, inl, inr, ℕ, ◌<◌, ◌≤◌, true, List, [], ◌∷◌, ◌++◌, length, refl, sym, ◌∙◌, ap, subst, arith, length-append}
+use Rattle.std.specs.Prelude.{Option, None, Some, flat_map}
 use Rattle.std.specs.List.{concat}
 use Rattle.std.specs.Int.{to_be_bytes, w32}
 use Rattle.std.proofs.lemmas.List.{append-nil}
 use Rattle.zy_read.specs.Bytes.{AreBytes}
-use Rattle.zy_read.specs.Fields.{IsWrong, IsLawful}
+use Rattle.zy_read.specs.Format.{Reading, read_on, reading_of, fault_met}
+use Rattle.zy_read.specs.Fields.{IsWrong, IsLawful, at_state, step}
 use Rattle.zy_read.specs.Runs.{Begins, IsWhole, IsOutcome}
 use Rattle.zy_read.proofs.ByteLemmas.{bytes_front}
 use Rattle.zy_read.proofs.RunLemmas.{runs_keep, byte_parts}
+use Rattle.zy_read.proofs.OutcomeLemmas.{IsRead, text_read}
 use Rattle.zy_read.proofs.VerdictLemmas.{outcome, whole_good}
 use Rattle.zy_capture.specs.declared.record.Record.{Record}
 use Rattle.zy_capture.specs.declared.capture_fault.CaptureFault.{CaptureFault}
@@ -17,9 +19,9 @@ use Rattle.zy_capture.specs.declared.due.Due.TheVariants.{Magic, Count, Tag, Con
 use Rattle.zy_capture.specs.declared.capture_state.CaptureState.{CaptureState}
 use Rattle.zy_capture.specs.Capture.{magic, spelled, spelling, Spells, capture_limit}
 use Rattle.zy_capture.specs.Faults.{front_text}
-use Rattle.zy_capture.specs.Steps.{state, start, width, is_end, judge, fields}
+use Rattle.zy_capture.specs.Steps.{Progress, state, start, width, is_end, judge, fields}
 use Rattle.zy_capture.specs.Verdict.Verdict.{Good, Bad}
-use Rattle.zy_capture.specs.Verdict.{Verdict, good, verdict}
+use Rattle.zy_capture.specs.Verdict.{Verdict, good, verdict, fault_of}
 use Rattle.zy_capture.proofs.ByteLemmas.{assoc_twice}
 use Rattle.zy_capture.proofs.PlaceLemmas.{IsAt, Stands, keeps}
 use Rattle.zy_capture.proofs.PartLemmas.{begins_with}
@@ -100,3 +102,16 @@ spells_whole text version count items spells =
 
 pub spells_good : (text : List ℕ) (version count : ℕ) (items : List Record) → Spells text version count items → verdict text ≡ Good version count items
 spells_good text version count items spells = whole_good fields lawful good Bad text (state Nothing version count) items (spells_whole text version count items spells)
+
+-- ---- texts without a fault
+
+-- such a text has at most the bytes of a capture
+clean_by : (text : List ℕ) (p : Progress) (given : List Record) (fault : Option CaptureFault) → fault ≡ None → IsRead fields fault p given text → length text ≤ capture_limit
+clean_by text p given None none read = omega (arith, read.count, read.short)
+clean_by text p given (Some fault) none read = cc
+
+pub clean_short : (text : List ℕ) → fault_of text ≡ None → length text ≤ capture_limit
+unfolding fault_met reading_of
+clean_short text none =
+    let r : Reading Progress Record = read_on (step fields) (at_state fields.start 0) text in
+    clean_by text r.last r.given r.last.fault none (text_read fields lawful text)
