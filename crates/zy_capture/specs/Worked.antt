@@ -70,12 +70,9 @@ session_outputs_text =
 -- record is expected
 abbrev pub met_behind_replies : ℕ → List ℕ → Option FileFault
 met_behind_replies at text =
-    Replies.fault_in (Replies.read_from (record {
+    (Replies.read_from (at_state (record {
       due = RepliesDues.Tag;
-      field = [];
-      payload = [];
       version = 1;
       connections = 0;
       sessions = 0;
-      at = at;
-    }) text).last.due
+    }) at) text).last.fault

@@ -10,6 +10,7 @@ mod reader;
 mod record;
 mod replies_due;
 mod replies_reader;
+mod replies_state;
 mod session_bytes;
 mod sessions;
 mod streams;

@@ -1,16 +1,16 @@
 -- What is read of a text of fields: after whole fields, a whole field and a fault, and the other way round.
-use Rattle.std.proofs.Common.{◌≡◌, ◌⊎◌, inl, inr, ℕ, zero, suc, ◌+◌, ◌-◌, ◌<◌, ◌≤◌, Bool, true, false, List, [], ◌∷◌, ◌++◌, length, refl, sym, ◌∙◌, ap, subst, arith, append_assoc, length-append}
-use Rattle.std.specs.Prelude.{◌&&◌, not, nat_lt, nat_le, if◌then◌else◌, Option, None, Some, option_to_list, ⊤}
+use Rattle.std.proofs.Common.{◌≡◌, inl, inr, ℕ, ◌+◌, ◌-◌, ◌<◌, ◌≤◌, false, List, [], ◌∷◌, ◌++◌, length, refl, sym, ◌∙◌, ap, subst, arith, append_assoc, length-append}
+use Rattle.std.specs.Prelude.{◌&&◌, not, nat_le, Option, None, Some}
 use Rattle.std.specs.List.{concat}
 use Rattle.std.proofs.lemmas.List.{append-nil}
-use Rattle.std.proofs.lemmas.Bool.{ltb-true, ltb-false, lt-ltb, le-ltb}
+use Rattle.std.proofs.lemmas.Bool.{lt-ltb, le-ltb}
 use Rattle.std.proofs.lemmas.Bool.Decides.{nat_tests}
-use Rattle.zy_read.specs.Format.{Format, IsLasting, Step, Reading, with_front, read_on, reading_of, verdict_on}
-use Rattle.zy_read.specs.Fields.{Judged, Fields, IsWrong, IsLawful, Place, at_state, refused, grown_by, moved, judged_at, field_step, is_full, open_step, step_by, step, whole_or_cut, ended_by, format_of}
+use Rattle.zy_read.specs.Format.{Step, Reading, with_front, read_on}
+use Rattle.zy_read.specs.Fields.{Judged, Fields, IsLawful, Place, at_state, grown_by, moved, judged_at, step, format_of}
 use Rattle.zy_read.specs.Fields.Judged.{Then, Gives, Wrong}
 use Rattle.zy_read.specs.Standing.{Feeds}
 use Rattle.zy_read.proofs.Feeding.{fed_by}
-use Rattle.zy_read.specs.Runs.{GoesOn, Runs, Begins, HasRoom}
+use Rattle.zy_read.specs.Runs.{GoesOn, Runs, HasRoom}
 
 -- ---- a field
 

@@ -1,8 +1,10 @@
 pub mod ByteLemmas
 pub mod Feeding
 pub mod FieldLemmas
+pub mod MagicFieldLemmas
 pub mod MagicLemmas
 pub mod OutcomeLemmas
+pub mod OverLemmas
 pub mod PieceLemmas
 pub mod RunLemmas
 pub mod SourceLemmas

@@ -1,19 +1,17 @@
 -- What a text of fields is: its verdict is good exactly where whole fields lead to an end, and a fault exactly where it
 -- has that fault.
-use Rattle.std.proofs.Common.{◌≡◌, ◌⊎◌, inl, inr, ℕ, ◌+◌, ◌-◌, ◌<◌, ◌≤◌, Bool, true, false, List, [], ◌∷◌, ◌++◌, length, refl, sym, ◌∙◌, ap, subst, arith, append_assoc, length-append}
-use Rattle.std.specs.Prelude.{◌&&◌, not, nat_lt, nat_le, if◌then◌else◌, Option, None, Some, option_to_list, ⊤}
+use Rattle.std.proofs.Common.{◌≡◌, inl, inr, ℕ, ◌+◌, ◌-◌, ◌<◌, ◌≤◌, Bool, true, false, List, [], ◌∷◌, ◌++◌, length, refl, sym, ◌∙◌, ap, subst, arith, append_assoc, length-append}
+use Rattle.std.specs.Prelude.{◌&&◌, not, nat_lt, nat_le, if◌then◌else◌, Option, None, Some, option_to_list}
 use Rattle.std.specs.List.{concat}
 use Rattle.std.proofs.lemmas.List.{append-nil}
 use Rattle.std.proofs.lemmas.Bool.{ltb-true, ltb-false}
 use Rattle.std.proofs.lemmas.Bool.Decides.{nat_tests}
-use Rattle.zy_read.specs.Format.{Format, Step, Reading, with_front, read_on, reading_of, verdict_on, fault_met}
-use Rattle.zy_read.specs.Standing.{StandsAs}
-use Rattle.zy_read.specs.Fields.{Judged, Fields, IsWrong, IsLawful, Place, at_state, refused, grown_by, moved, judged_at, field_step, is_full, open_step, step_by, step, whole_or_cut, ended_by, format_of}
+use Rattle.zy_read.specs.Format.{Step, Reading, read_on}
+use Rattle.zy_read.specs.Fields.{Judged, Fields, IsWrong, IsLawful, Place, at_state, grown_by, moved, judged_at, field_step, is_full, step_by, step}
 use Rattle.zy_read.specs.Fields.Judged.{Then, Gives, Wrong}
-use Rattle.zy_read.specs.Runs.{GoesOn, Runs, Begins, HasRoom, IsWhole, IsCut, IsMisjudged, IsOverlong, HasFault, IsOutcome}
-use Rattle.zy_read.proofs.Feeding.{read_broken, read_append, fault_here, verdict_here}
+use Rattle.zy_read.specs.Runs.{GoesOn, Begins, HasRoom, HasFault}
 use Rattle.zy_read.proofs.RunLemmas.{concat_append, concat_one, runs_join}
-use Rattle.zy_read.proofs.FieldLemmas.{goes_on, within, room_less, byte_grows, byte_ends, read_rest, with_given, runs_read}
+use Rattle.zy_read.proofs.FieldLemmas.{room_less}
 
 -- ---- what was read
 
@@ -59,16 +57,19 @@ fault_on fields text s fault more (inl has) = inl (record {
   room = has.room;
   wrong = has.wrong;
 })
-fault_on fields text s fault more (inr has) = inr (record {
-  given = has.0.given;
-  seen = has.0.seen;
-  byte = has.0.byte;
-  rest = has.0.rest ++ more;
-  begins = begins_on fields text s has.0.given (has.0.seen ++ has.0.byte ∷ has.0.rest) more (has.0.seen ++ has.0.byte ∷ (has.0.rest ++ more)) (append_assoc has.0.seen (has.0.byte ∷ has.0.rest) more) has.0.begins;
-  no_end = has.0.no_end;
-  part = has.0.part;
-  most = has.0.most;
-}, has.1)
+fault_on fields text s fault more (inr has) = inr (
+  record {
+    given = has.0.given;
+    seen = has.0.seen;
+    byte = has.0.byte;
+    rest = has.0.rest ++ more;
+    begins = begins_on fields text s has.0.given (has.0.seen ++ has.0.byte ∷ has.0.rest) more (has.0.seen ++ has.0.byte ∷ (has.0.rest ++ more)) (append_assoc has.0.seen (has.0.byte ∷ has.0.rest) more) has.0.begins;
+    no_end = has.0.no_end;
+    part = has.0.part;
+    most = has.0.most;
+  },
+  has.1,
+)
 
 -- the number of bytes before and within a field
 sized : {S G F : Type 0} (fields : Fields S G F) (p : Place S F) (given : List G) (text : List ℕ) (read : IsReadTo fields p given text) → p.at ≡ length (concat read.begins.parts) + length p.seen
@@ -79,16 +80,19 @@ byte_full : {S G F : Type 0} (fields : Fields S G F) (p : Place S F) (given : Li
 byte_full fields p given text byte full read =
     let all = sized fields p given text read in
     let most : p.at ≡ fields.limit = (let short = read.short in grind (arith, nat_tests)) in
-    inr (record {
-      given = given;
-      seen = p.seen;
-      byte = byte;
-      rest = [];
-      begins = begins_on fields text p.state given p.seen (byte ∷ []) (p.seen ++ byte ∷ []) refl read.begins;
-      no_end = elim (fields.is_end p.state) as (λ b. (not b && nat_le fields.limit p.at) ≡ true → b ≡ false) [ true ↦ λ no. cc | false ↦ λ yes. refl ] full;
-      part = read.part;
-      most = sym all ∙ most;
-    }, refl)
+    inr (
+      record {
+        given = given;
+        seen = p.seen;
+        byte = byte;
+        rest = [];
+        begins = begins_on fields text p.state given p.seen (byte ∷ []) (p.seen ++ byte ∷ []) refl read.begins;
+        no_end = elim (fields.is_end p.state) as (λ b. (not b && nat_le fields.limit p.at) ≡ true → b ≡ false) [ true ↦ λ no. cc | false ↦ λ yes. refl ] full;
+        part = read.part;
+        most = sym all ∙ most;
+      },
+      refl,
+    )
 
 -- the text up to the last byte of a field
 field_text : {S G F : Type 0} (fields : Fields S G F) (p : Place S F) (given : List G) (text : List ℕ) (byte : ℕ) (read : IsReadTo fields p given text) → text ++ byte ∷ [] ≡ concat read.begins.parts ++ (p.seen ++ byte ∷ [])

@@ -1,5 +1,5 @@
 -- Whole fields, one after another: their runs joined, and facts that they keep.
-use Rattle.std.proofs.Common.{◌≡◌, ℕ, zero, suc, ◌+◌, ◌<◌, ◌≤◌, List, [], ◌∷◌, ◌++◌, length, refl, sym, ◌∙◌, ap, subst, arith, append_assoc, length-append}
+use Rattle.std.proofs.Common.{◌≡◌, ℕ, ◌+◌, List, [], ◌∷◌, ◌++◌, length, refl, sym, ◌∙◌, ap, subst, arith, append_assoc, length-append}
 use Rattle.std.specs.Prelude.{⊤}
 use Rattle.std.specs.List.{concat}
 use Rattle.std.proofs.lemmas.List.{append-nil}
@@ -30,10 +30,12 @@ pub runs_join : {S G F : Type 0} (fields : Fields S G F) (parts others : List (L
 runs_join {S} {G} fields [] others s t u at middle given more there first second =
     let here : at ≡ middle = omega (arith, there) in
     rw (sym first.0, first.1, here) second
-runs_join {S} {G} fields (field ∷ parts) others s t u at middle given more there first second =
-    (first.0, goes_join (fields.judge s at field) (λ next rest. Runs fields next (at + length field) parts t rest) (λ next rest. Runs fields next (at + length field) (parts ++ others) u rest) given more
-    (λ next rest run. runs_join fields parts others next t u (at + length field) middle rest more (there ∙ omega (arith, length-append field (concat parts))) run second)
-    first.1)
+runs_join {S} {G} fields (field ∷ parts) others s t u at middle given more there first second = (
+  first.0,
+  goes_join (fields.judge s at field) (λ next rest. Runs fields next (at + length field) parts t rest) (λ next rest. Runs fields next (at + length field) (parts ++ others) u rest) given more
+      (λ next rest run. runs_join fields parts others next t u (at + length field) middle rest more (there ∙ omega (arith, length-append field (concat parts))) run second)
+      first.1,
+)
 
 -- ---- facts that whole fields keep
 

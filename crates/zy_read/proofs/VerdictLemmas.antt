@@ -1,14 +1,14 @@
 -- The verdict on a text of fields: it is good exactly where whole fields lead to an end, bad with a fault exactly where
 -- it has that fault, and truncated exactly where it is cut.
-use Rattle.std.proofs.Common.{◌≡◌, ◌⊎◌, inl, inr, ℕ, ◌+◌, ◌-◌, ◌<◌, ◌≤◌, Bool, true, false, List, [], ◌∷◌, ◌++◌, length, refl, sym, ◌∙◌, ap, subst, arith, append_assoc, length-append}
-use Rattle.std.specs.Prelude.{◌&&◌, not, nat_lt, nat_le, if◌then◌else◌, Option, None, Some, option_to_list, ⊤}
+use Rattle.std.proofs.Common.{◌≡◌, inl, inr, ℕ, ◌+◌, ◌-◌, ◌<◌, ◌≤◌, Bool, true, false, List, [], ◌∷◌, ◌++◌, length, refl, sym, ◌∙◌, ap, subst, arith, append_assoc, length-append}
+use Rattle.std.specs.Prelude.{◌&&◌, not, nat_lt, nat_le, if◌then◌else◌, Option, None, Some, ⊤}
 use Rattle.std.specs.List.{concat}
 use Rattle.std.proofs.lemmas.List.{append-nil}
 use Rattle.std.proofs.lemmas.Bool.Decides.{nat_tests}
-use Rattle.zy_read.specs.Format.{Format, Step, Reading, with_front, read_on, reading_of, verdict_on, fault_met}
-use Rattle.zy_read.specs.Fields.{Judged, Fields, IsLawful, Place, at_state, refused, grown_by, moved, judged_at, is_full, step_by, step, whole_or_cut, ended_by, format_of}
+use Rattle.zy_read.specs.Format.{Step, Reading, read_on, reading_of, verdict_on}
+use Rattle.zy_read.specs.Fields.{Judged, Fields, IsLawful, Place, at_state, refused, grown_by, moved, judged_at, is_full, step_by, step, ended_by, format_of}
 use Rattle.zy_read.specs.Fields.Judged.{Then, Gives, Wrong}
-use Rattle.zy_read.specs.Runs.{Runs, Begins, HasRoom, IsWhole, IsCut, IsMisjudged, IsOverlong, HasFault, IsOutcome}
+use Rattle.zy_read.specs.Runs.{Begins, IsWhole, IsCut, IsMisjudged, IsOverlong, HasFault, IsOutcome}
 use Rattle.zy_read.specs.FieldsLasting.{lasting}
 use Rattle.zy_read.proofs.Feeding.{read_broken}
 use Rattle.zy_read.proofs.FieldLemmas.{goes_on, within, read_rest, grows_read, with_given, runs_read}
@@ -26,8 +26,10 @@ read_outcome {S} {G} {F} fields lawful good bad p given text true is read =
     let none : p.seen ≡ [] = no_bytes p.seen (let one = lawful.one p.state is in omega (arith, one, read.part)) in
     inl (p.state, (given, record { begins = subst (λ (l : List ℕ). Begins fields text p.state given l) none read.begins; end_is = is }, refl))
 read_outcome {S} {G} {F} {V} fields lawful good bad p given text false is read =
-    inr (inl (record { s = p.state; given = given; seen = p.seen; begins = read.begins; no_end = is; part = read.part; within = omega (arith, read.count, read.short) },
-    ap (λ (n : ℕ). bad (fields.truncated n)) read.count))
+    inr (inl (
+      record { s = p.state; given = given; seen = p.seen; begins = read.begins; no_end = is; part = read.part; within = omega (arith, read.count, read.short) },
+      ap (λ (n : ℕ). bad (fields.truncated n)) read.count,
+    ))
 
 outcome_of : {S G F V : Type 0} (fields : Fields S G F) (lawful : IsLawful fields) (good : S → List G → V) (bad : F → V) (p : Place S F) (given : List G) (text : List ℕ) (fault : Option F) → IsRead fields fault p given text → IsOutcome fields good bad text (ended_by fault fields good bad p given)
 outcome_of fields lawful good bad p given text None read = read_outcome fields lawful good bad p given text (fields.is_end p.state) refl read
@@ -154,3 +156,50 @@ pub state_kept : {S G F : Type 0} (fields : Fields S G F) (Holds : S → Type 0)
 unfolding read_on
 state_kept fields Holds keeps [] p holds = holds
 state_kept fields Holds keeps (byte ∷ text) p holds = state_kept fields Holds keeps text (step fields p byte).next (step_leaves fields Holds keeps p p.fault byte holds)
+
+-- ---- what was read is what a text begins with
+
+-- what a text begins with, up to where it was read
+pub record Reaches {S G F : Type 0} (fields : Fields S G F) (text : List ℕ) (s : S) : Type 0 where
+  pub given : List G
+  pub rest : List ℕ
+  pub begins : Begins fields text s given rest
+
+fault_reaches : {S G F : Type 0} (fields : Fields S G F) (text : List ℕ) (s : S) (fault : F) → HasFault fields text s fault → Reaches fields text s
+fault_reaches fields text s fault (inl has) = record { given = has.given; rest = has.field ++ has.rest; begins = has.begins }
+fault_reaches fields text s fault (inr has) = record { given = has.0.given; rest = has.0.seen ++ has.0.byte ∷ has.0.rest; begins = has.0.begins }
+
+read_reaches : {S G F : Type 0} (fields : Fields S G F) (text : List ℕ) (p : Place S F) (given : List G) (fault : Option F) → IsRead fields fault p given text → Reaches fields text p.state
+read_reaches fields text p given None read = record { given = given; rest = p.seen; begins = read.begins }
+read_reaches fields text p given (Some fault) has = fault_reaches fields text p.state fault has
+
+-- whole fields at its beginning lead to the last state of a text
+pub text_reaches : {S G F : Type 0} (fields : Fields S G F) (lawful : IsLawful fields) (text : List ℕ) → Reaches fields text (read_on (step fields) (at_state fields.start 0) text).last.state
+text_reaches {S} {G} {F} fields lawful text =
+    let r : Reading (Place S F) G = read_on (step fields) (at_state fields.start 0) text in
+    read_reaches fields text r.last r.given r.last.fault (text_read fields lawful text)
+
+-- ---- texts that are too long
+
+-- the most bytes of a text that is too long are cut
+pub overlong_cut : {S G F : Type 0} (fields : Fields S G F) (text : List ℕ) (s : S) (long : IsOverlong fields text s) → IsCut fields (concat long.begins.parts ++ long.seen)
+overlong_cut fields text s long = record {
+  s = s;
+  given = long.given;
+  seen = long.seen;
+  begins = record { parts = long.begins.parts; runs = long.begins.runs; text_is = refl; short = long.begins.short };
+  no_end = long.no_end;
+  part = long.part;
+  within = omega (arith, length-append (concat long.begins.parts) long.seen, long.most);
+}
+
+-- a further byte follows them
+pub overlong_text : {S G F : Type 0} (fields : Fields S G F) (text : List ℕ) (s : S) (long : IsOverlong fields text s) → text ≡ (concat long.begins.parts ++ long.seen) ++ long.byte ∷ long.rest
+overlong_text fields text s long = long.begins.text_is ∙ sym (append_assoc (concat long.begins.parts) long.seen (long.byte ∷ long.rest))
+
+pub overlong_most : {S G F : Type 0} (fields : Fields S G F) (text : List ℕ) (s : S) (long : IsOverlong fields text s) → length (concat long.begins.parts ++ long.seen) ≡ fields.limit
+overlong_most fields text s long = length-append (concat long.begins.parts) long.seen ∙ long.most
+
+pub overlong_long : {S G F : Type 0} (fields : Fields S G F) (text : List ℕ) (s : S) → IsOverlong fields text s → fields.limit + 1 ≤ length text
+overlong_long fields text s long =
+    omega (arith, ap (λ (l : List ℕ). length l) (overlong_text fields text s long), length-append (concat long.begins.parts ++ long.seen) (long.byte ∷ long.rest), overlong_most fields text s long)

@@ -14,4 +14,3 @@ lasting {S} {G} {F} fields good bad = record {
   still = still fields;
   counts = λ p given fault is. ap (λ (o : Option F). ended_by o fields good bad p given) is;
 }
-

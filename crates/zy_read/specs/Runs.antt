@@ -1,7 +1,7 @@
 -- What whole fields spell, one after another: the texts that a format of fields takes, and those that have a fault.
-use Rattle.std.specs.Prelude.{◌≡◌, ◌⊎◌, ℕ, ◌+◌, ◌<◌, ◌≤◌, true, false, List, [], ◌∷◌, ◌++◌, length, Option, None, Some, ⊤}
+use Rattle.std.specs.Prelude.{◌≡◌, ◌⊎◌, ℕ, ◌+◌, ◌<◌, ◌≤◌, true, false, List, [], ◌∷◌, ◌++◌, length}
 use Rattle.std.specs.List.{concat}
-use Rattle.zy_read.specs.Fields.{Judged, Fields, Place}
+use Rattle.zy_read.specs.Fields.{Judged, Fields}
 use Rattle.zy_read.specs.Fields.Judged.{Then, Gives, Wrong}
 
 -- ---- whole fields

@@ -92,13 +92,8 @@ pub trait FieldFormat: Drop {
             self.old self.new result };
 
     /// What a run of bytes from this place on does.
-    fn judge_run(
-        &mut self,
-        at: u64,
-        bytes: Vec<u8>,
-    ) -> Result<Option<Self::Gives>, Self::Fault>
-        requires shape { (others : ℕ) → length bytes.items ≡ others + 1
-            → shape_of self.old ≡ Kinds.Run others }
+    fn judge_run(&mut self, at: u64, bytes: Vec<u8>) -> Result<Option<Self::Gives>, Self::Fault>
+        requires shape { shape_of self.old ≡ Kinds.Run (length bytes.items - 1) }
         requires some { 0 < length bytes.items }
         requires fits { Fits self.old at }
         ensures value { Judges Fits (fields.judge self.old at bytes.items)
