@@ -1,15 +1,14 @@
 pub mod Bounds
+pub mod PlaceLemmas
+pub mod PartLemmas
 pub mod Feeding
-pub mod RunLemmas
 pub mod HeadLemmas
 pub mod WholeLemmas
-pub mod SpelledLemmas
 pub mod StreamLemmas
 pub mod NumberedLemmas
 pub mod RepliesFeeding
 pub mod ByteLemmas
 pub mod AgainLemmas
-pub mod FaultWords
 pub mod FaultLemmas
 pub mod FaultReadLemmas
 pub mod BegunLemmas

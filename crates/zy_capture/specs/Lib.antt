@@ -13,4 +13,3 @@ pub mod RepliesStanding
 pub mod Faults
 pub mod RepliesFaults
 pub mod Worked
-pub mod Lasting

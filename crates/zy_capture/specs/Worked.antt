@@ -6,8 +6,9 @@ use Rattle.zy_capture.specs.declared.record.Record.TheVariants as Kinds
 use Rattle.zy_capture.specs.declared.capture_fault.CaptureFault.{CaptureFault}
 use Rattle.zy_capture.specs.declared.due.Due.TheVariants as Dues
 use Rattle.zy_capture.specs.declared.replies_due.RepliesDue.TheVariants as RepliesDues
-use Rattle.zy_read.specs.Fields.{at_state}
-use Rattle.zy_capture.specs.Verdict as Captures
+use Rattle.zy_read.specs.Format.{read_on}
+use Rattle.zy_read.specs.Fields.{at_state, step}
+use Rattle.zy_capture.specs.Steps.{state, fields}
 use Rattle.zy_capture.specs.RepliesVerdict as Replies
 use Rattle.zy_capture.specs.Outputs.{AllOutputs}
 
@@ -43,14 +44,7 @@ sessions_text = codes "ZYGCAP2\n\0\0\0\u{2}S\0\0\0\0\0\0\0\u{2}abC\0\0\0\0C\0\0\
 -- connection, where a record is expected
 abbrev pub met_behind : ℕ → List ℕ → Option CaptureFault
 met_behind at text =
-    Captures.fault_in (Captures.read_from (record {
-      due = Dues.Tag;
-      field = [];
-      payload = [];
-      version = 2;
-      count = 1;
-      at = at;
-    }) text).last.due
+    (read_on (step fields) (at_state (state Dues.Tag 2 1) at) text).last.fault
 
 -- ---- replies files
 

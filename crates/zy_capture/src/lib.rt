@@ -2,6 +2,7 @@
 #![tactic(auto)]
 
 mod capture_fault;
+mod capture_state;
 mod due;
 mod laws;
 mod outputs;

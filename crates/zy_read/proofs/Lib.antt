@@ -10,3 +10,4 @@ pub mod RunLemmas
 pub mod SourceLemmas
 pub mod TakenLemmas
 pub mod VerdictLemmas
+pub mod StepLemmas
