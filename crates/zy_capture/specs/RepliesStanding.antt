@@ -6,9 +6,11 @@ use Rattle.zy_read.specs.Magic.{IsInMagic}
 use Rattle.zy_capture.specs.declared.session_bytes.SessionBytes.{SessionBytes}
 use Rattle.zy_capture.specs.declared.replies_due.RepliesDue.{RepliesDue}
 use Rattle.zy_capture.specs.declared.replies_due.RepliesDue.TheVariants.{Magic, Session, Length, Output}
+use Rattle.zy_read.specs.declared.shape.Shape.TheVariants.{Run}
+use Rattle.zy_capture.specs.declared.replies_state.RepliesState.{RepliesState}
 use Rattle.zy_capture.specs.Capture.{connection_limit}
 use Rattle.zy_capture.specs.Replies.{AreNumbers, replies_limit}
-use Rattle.zy_capture.specs.RepliesSteps.{Progress}
+use Rattle.zy_capture.specs.RepliesSteps.{Progress, shape}
 use Rattle.zy_capture.specs.RepliesVerdict.{Verdict, replies, verdict}
 use Rattle.zy_capture.specs.RepliesVerdict.Verdict.{Good, Bad}
 
@@ -40,3 +42,7 @@ IsWithin (Session conn) at = conn < connection_limit
 IsWithin (Length conn session) at = AreNumbers conn session
 IsWithin (Output conn session others) at = AreNumbers conn session
 IsWithin due at = ⊤
+
+-- an output is expected, for which memory is wanted
+abbrev pub IsRun : RepliesState → Type 0
+IsRun s = (others : ℕ) × (shape s.due ≡ Run others)

@@ -5,14 +5,15 @@ ghost use Rattle.zy_capture.specs.RepliesSteps.{replies_fields, shape, start, ma
 ghost use Rattle.zy_capture.specs.Replies.{AreNumbers};
 ghost use Rattle.zy_capture.specs.RepliesVerdict.{Verdict, good};
 ghost use Rattle.zy_capture.specs.RepliesVerdict.Verdict.{Bad};
-ghost use Rattle.zy_capture.specs.RepliesStanding.{IsWithin};
-ghost use Rattle.zy_capture.specs.RepliesLaws.{widths, lawful, few, begins};
+ghost use Rattle.zy_capture.specs.RepliesStanding.{IsWithin, IsRun};
+ghost use Rattle.zy_capture.specs.RepliesLaws.{widths, runs, lawful, few, begins};
 
 use crate::replies_due::RepliesDue;
 use crate::session_bytes::SessionBytes;
 use std::alloc::Global;
+use std::mem;
 use zy_base::{Blob, CONNECTION_LIMIT, FileFault};
-use zy_read::{FieldFormat, MagicPart, MagicStep, Shape};
+use zy_read::{FieldFormat, FileFeed, MagicPart, MagicStep, NotTaken, Shape};
 
 const REPLIES_LIMIT: u64 = 9_223_372_036_854_775_807;
 
@@ -96,6 +97,8 @@ impl FieldFormat for RepliesState {
 
     ghost Fits = { λ s at. IsWithin s.due at };
 
+    ghost Wants = { IsRun };
+
     fn shape(&self) -> Shape {
         match self.due {
             RepliesDue::Connection | RepliesDue::Session { .. } => Shape::Four,
@@ -107,6 +110,15 @@ impl FieldFormat for RepliesState {
 
     fn is_end(&self) -> bool {
         matches!(self.due, RepliesDue::Nothing)
+    }
+
+    // An output ends a record, and so does a length of 0.
+    #[tactic(auto, using(crate::proofs::RepliesFeeding::quiet))]
+    fn is_quiet(&self) -> bool {
+        !matches!(
+            self.due,
+            RepliesDue::Length { .. } | RepliesDue::Output { .. }
+        )
     }
 
     fn limit(&self) -> u64 {
@@ -127,7 +139,7 @@ impl FieldFormat for RepliesState {
         alloc: Global,
         at: u64,
         byte: u8,
-    ) -> Result<Option<SessionBytes>, FileFault> {
+    ) -> Result<Option<SessionBytes>, FileFeed> {
         self.due = match (self.due, byte) {
             (RepliesDue::Magic(part), _) => match part.step(LETTERS, at, byte) {
                 MagicStep::Next(next) => RepliesDue::Magic(next),
@@ -135,11 +147,11 @@ impl FieldFormat for RepliesState {
                     self.version = version;
                     RepliesDue::Tag
                 }
-                MagicStep::Wrong => return Err(FileFault::Form { at }),
+                MagicStep::Wrong => return Err(NotTaken::Fault(FileFault::Form { at })),
             },
             (RepliesDue::Tag, b'R') => RepliesDue::Connection,
             (RepliesDue::Tag, b'E') => RepliesDue::Nothing,
-            _ => return Err(FileFault::Form { at }),
+            _ => return Err(NotTaken::Fault(FileFault::Form { at })),
         };
         Ok(None)
     }
@@ -150,7 +162,7 @@ impl FieldFormat for RepliesState {
         alloc: Global,
         at: u64,
         bytes: [u8; 4],
-    ) -> Result<Option<SessionBytes>, FileFault> {
+    ) -> Result<Option<SessionBytes>, FileFeed> {
         let number = u32::from_be_bytes(bytes);
         self.due = match self.due {
             RepliesDue::Connection if self.may_come(number) => {
@@ -170,7 +182,7 @@ impl FieldFormat for RepliesState {
                     session: number,
                 }
             }
-            _ => return Err(FileFault::Form { at }),
+            _ => return Err(NotTaken::Fault(FileFault::Form { at })),
         };
         Ok(None)
     }
@@ -181,7 +193,7 @@ impl FieldFormat for RepliesState {
         alloc: Global,
         at: u64,
         bytes: [u8; 8],
-    ) -> Result<Option<SessionBytes>, FileFault> {
+    ) -> Result<Option<SessionBytes>, FileFeed> {
         let length = u64::from_be_bytes(bytes);
         match self.due {
             RepliesDue::Length { conn, session } if length == 0 => {
@@ -200,16 +212,24 @@ impl FieldFormat for RepliesState {
     }
 
     // A whole output.
-    fn judge_run(&mut self, at: u64, bytes: Vec<u8>) -> Result<Option<SessionBytes>, FileFault> {
+    fn judge_run(
+        &mut self,
+        alloc: Global,
+        at: u64,
+        bytes: &mut Vec<u8>,
+    ) -> Result<Option<SessionBytes>, FileFeed> {
         match self.due {
             RepliesDue::Output { conn, session, .. } => {
-                Ok(Some(self.end_output(conn, session, Blob::from_vec(bytes))))
+                let output = mem::replace(bytes, Vec::new(alloc));
+                Ok(Some(self.end_output(conn, session, Blob::from_vec(output))))
             }
             _ => unreachable!(),
         }
     }
 
     ghost widths = { widths };
+
+    ghost runs = { runs };
 
     ghost lawful = { lawful };
 
