@@ -18,7 +18,7 @@ use Rattle.zy_capture.specs.Replies.{letters, replies_limit}
 use Rattle.zy_capture.proofs.ByteLemmas.{chosen}
 use Rattle.zy_capture.specs.RepliesSteps.{Progress, shape, after_magic, may_come, due_session, judged, is_last, replies_fields}
 use Rattle.zy_capture.specs.RepliesVerdict.{version_of, version_in}
-use Rattle.zy_capture.specs.RepliesStanding.{StandsForReplies, IsOfOutput, IsRun}
+use Rattle.zy_capture.specs.RepliesStanding.{StandsForReplies, IsOfOutput, IsOutputDue}
 
 pub version_here : (p : Progress) (given : List SessionBytes) (b : List ℕ) → StandsForReplies p given b → version_of b ≡ version_in p.state.version
 unfolding version_of StandsAs
@@ -29,7 +29,7 @@ output_due (Output conn session more) others at run room = ((conn, session, more
 output_due due others at run room = cc
 
 -- a byte of a run is one of an output
-pub of_output : (p : Progress) (byte : ℕ) → MayNeed replies_fields IsRun p byte → IsOfOutput p byte
+pub of_output : (p : Progress) (byte : ℕ) → MayNeed replies_fields IsOutputDue p byte → IsOfOutput p byte
 of_output p byte is = output_due p.state.due is.0.0 p.at is.0.1 is.1
 
 magic_quiet : (s : RepliesState) (at : ℕ) (step : MagicStep) → IsQuiet (after_magic s at step)

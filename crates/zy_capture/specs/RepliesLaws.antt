@@ -7,7 +7,7 @@ use Rattle.zy_read.specs.declared.shape.Shape.TheVariants.{Byte, Four, Eight, Ru
 use Rattle.zy_capture.specs.declared.replies_due.RepliesDue.{RepliesDue}
 use Rattle.zy_capture.specs.declared.replies_due.RepliesDue.TheVariants.{Nothing}
 use Rattle.zy_capture.specs.declared.replies_state.RepliesState.{RepliesState}
-use Rattle.zy_capture.specs.RepliesStanding.{IsWithin, IsRun}
+use Rattle.zy_capture.specs.RepliesStanding.{IsWithin, IsOutputDue}
 use Rattle.zy_capture.specs.RepliesSteps.{shape, is_last, judged, replies_fields}
 
 some : (kind : Shape) → 0 < width_of kind
@@ -36,7 +36,7 @@ pub widths : (s : RepliesState) → replies_fields.width s ≡ width_of (shape s
 widths s = refl
 
 -- an output may need memory
-pub runs : (s : RepliesState) (others : ℕ) → shape s.due ≡ Run others → IsRun s
+pub runs : (s : RepliesState) (others : ℕ) → shape s.due ≡ Run others → IsOutputDue s
 runs s others is = (others, is)
 
 pub few : replies_fields.limit < 2 ^ 64 - 1

@@ -44,5 +44,5 @@ IsWithin (Output conn session others) at = AreNumbers conn session
 IsWithin due at = ⊤
 
 -- an output is expected, for which memory is wanted
-abbrev pub IsRun : RepliesState → Type 0
-IsRun s = (others : ℕ) × (shape s.due ≡ Run others)
+abbrev pub IsOutputDue : RepliesState → Type 0
+IsOutputDue s = (others : ℕ) × (shape s.due ≡ Run others)

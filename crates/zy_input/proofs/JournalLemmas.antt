@@ -27,7 +27,7 @@ use Rattle.zy_journal_reader.specs.declared.due.LongField.TheVariants.{Stamp, In
 use Rattle.zy_journal_reader.specs.declared.due.BytesField.{BytesField}
 use Rattle.zy_journal_reader.specs.declared.due.BytesField.TheVariants.{Key, Value, FoundValue}
 use Rattle.zy_journal_reader.specs.Fields.{at_key, at_flags, at_number, at_value}
-use Rattle.zy_journal_reader.specs.Steps.{State, Progress, Done, lawful_byte, after_byte, lawful_number, after_four, lawful_long, after_eight, after_bytes, judged, is_nothing, journal_fields}
+use Rattle.zy_journal_reader.specs.Steps.{ReadState, Progress, Done, lawful_byte, after_byte, lawful_number, after_four, lawful_long, after_eight, after_bytes, judged, is_last, journal_fields}
 use Rattle.zy_journal_reader.specs.Laws.{lawful}
 use Rattle.zy_journal_reader.specs.Standing.{StandsForJournal}
 use Rattle.zy_journal_reader.specs.Verdict.{journals, journal_in, good, is_good}
@@ -44,14 +44,14 @@ use Rattle.zy_input.proofs.FormatLemmas.{EndsOnce, StaysOpen, answer_fault, once
 -- the end was read where a journal is whole
 record EndRead (p : Progress) : Type 0 where
   pub none : p.fault ≡ None
-  pub ends : is_nothing p.state.due ≡ true
+  pub ends : is_last p.state.due ≡ true
 
 at_end : (is_end : Bool) (p : Progress) → is_good (if is_end then Good (journal_in p.state) else Bad (Truncated p.at)) ≡ true → is_end ≡ true
 at_end true p is = refl
 at_end false p is = cc
 
 read_by : (found : Option FileFault) (p : Progress) (given : List ⊤) → p.fault ≡ found → is_good (ended_by found journal_fields good Bad p given) ≡ true → EndRead p
-read_by None p given none is = record { none = none; ends = at_end (is_nothing p.state.due) p is }
+read_by None p given none is = record { none = none; ends = at_end (is_last p.state.due) p is }
 read_by (Some fault) p given met is = cc
 
 end_read : (p : Progress) (given : List ⊤) → is_good (journals.ended p given) ≡ true → EndRead p
@@ -72,7 +72,7 @@ once = record { lasting = first_counts; closes = closes; bad = λ fault. refl }
 
 -- a due that goes on
 abbrev GoesOnAt : Due → Type 0
-GoesOnAt due = is_nothing due ≡ false
+GoesOnAt due = is_last due ≡ false
 
 -- a field that ends no journal doesn't lead to its end
 abbrev EndsNothing : Done → Type 0
@@ -91,7 +91,7 @@ flags_go fields = either GoesOnAt fields.flags (Number Flags) (at_number fields)
 key_goes : (fields : CallFields) → GoesOnAt (at_key fields)
 key_goes fields = either GoesOnAt fields.key (Byte KeyLength) (at_flags fields) refl (flags_go fields)
 
-byte_ends : (field : ByteField) (s : State) (at byte : ℕ) → EndsNothing (after_byte field s at byte)
+byte_ends : (field : ByteField) (s : ReadState) (at byte : ℕ) → EndsNothing (after_byte field s at byte)
 byte_ends Magic s at byte = either EndsNothing (at == 7) _ _ refl refl
 byte_ends Tag s at byte = either EndsNothing (byte == 69) _ _ tt (either EndsNothing (byte == 72) _ _ refl refl)
 byte_ends CallCode s at byte = key_goes (fields_of (kind_of byte))
@@ -99,7 +99,7 @@ byte_ends KeyLength s at byte = refl
 byte_ends ReplyCode s at byte =
     either EndsNothing (byte == hit_code) _ _ refl (either EndsNothing (byte == number_code) _ _ refl (either EndsNothing (byte == tally_code) _ _ refl refl))
 
-four_ends : (field : NumberField) (s : State) (n : ℕ) → EndsNothing (after_four field s n)
+four_ends : (field : NumberField) (s : ReadState) (n : ℕ) → EndsNothing (after_four field s n)
 four_ends Flags s n = number_goes (fields_of s.draft.kind)
 four_ends ValueLength s n = either EndsNothing (n == 0) _ _ refl refl
 four_ends FoundLength s n = either EndsNothing (n == 0) _ _ refl refl
@@ -111,7 +111,7 @@ four_ends HoldConnection s n = refl
 four_ends HoldCore s n = refl
 four_ends HoldCount s n = refl
 
-eight_ends : (field : LongField) (s : State) (n : ℕ) → EndsNothing (after_eight field s n)
+eight_ends : (field : LongField) (s : ReadState) (n : ℕ) → EndsNothing (after_eight field s n)
 eight_ends Stamp s n = refl
 eight_ends Index s n = refl
 eight_ends CallNumber s n = value_goes (fields_of s.draft.kind)
@@ -123,12 +123,12 @@ eight_ends Hits s n = refl
 eight_ends Misses s n = refl
 eight_ends Items s n = refl
 
-bytes_end : (field : BytesField) (s : State) (bytes : List ℕ) → EndsNothing (after_bytes field s bytes)
+bytes_end : (field : BytesField) (s : ReadState) (bytes : List ℕ) → EndsNothing (after_bytes field s bytes)
 bytes_end Key s bytes = flags_go (fields_of s.draft.kind)
 bytes_end Value s bytes = refl
 bytes_end FoundValue s bytes = refl
 
-judged_ends : (due : Due) (s : State) (at : ℕ) (field : List ℕ) → EndsNothing (judged due s at field)
+judged_ends : (due : Due) (s : ReadState) (at : ℕ) (field : List ℕ) → EndsNothing (judged due s at field)
 judged_ends (Byte code) s at field =
     let byte : ℕ = get_or field 0 0 in
     either EndsNothing (lawful_byte code s at byte) _ _ (byte_ends code s at byte) tt
@@ -167,14 +167,14 @@ stays = record {
 }
 
 -- while a journal goes on, its end was not read
-not_ended : (p : Progress) (given : List ⊤) (is_end : Bool) → p.fault ≡ None → is_nothing p.state.due ≡ is_end → is_good (journals.ended p given) ≡ false → is_end ≡ false
+not_ended : (p : Progress) (given : List ⊤) (is_end : Bool) → p.fault ≡ None → is_last p.state.due ≡ is_end → is_good (journals.ended p given) ≡ false → is_end ≡ false
 not_ended p given false none is not_good = refl
 not_ended p given true none is not_good =
     let whole : is_good (journals.ended p given) ≡ true = rw (none, is) refl in absurd (true≢false (sym whole ∙ not_good))
 
 pub open_here : (p : Progress) (given : List ⊤) (text : List ℕ) → StandsForJournal p given text → GoesOn journals is_good text → IsOpen p
 open_here p given text stands goes_on =
-    not_ended p given (is_nothing p.state.due) (sym (fault_here journals p given text stands) ∙ goes_on.0) refl (ap is_good (sym (verdict_here journals p given text stands)) ∙ goes_on.1)
+    not_ended p given (is_last p.state.due) (sym (fault_here journals p given text stands) ∙ goes_on.0) refl (ap is_good (sym (verdict_here journals p given text stands)) ∙ goes_on.1)
 
 -- ---- where the journal ends
 

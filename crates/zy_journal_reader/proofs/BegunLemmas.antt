@@ -9,7 +9,7 @@ use Rattle.zy_read.proofs.ByteLemmas.{bytes_front}
 use Rattle.zy_read.specs.Runs.{IsCut, IsOutcome}
 use Rattle.zy_read.specs.Runs.{HasFault as HasFieldFault}
 use Rattle.zy_read.proofs.VerdictLemmas.{outcome, cut_bad, cut_overlong, fault_bad, overlong_cut, overlong_text, overlong_most, overlong_long}
-use Rattle.zy_journal_reader.specs.Steps.{State, journal_fields}
+use Rattle.zy_journal_reader.specs.Steps.{ReadState, journal_fields}
 use Rattle.zy_journal_reader.specs.Verdict.{Verdict, good, verdict}
 use Rattle.zy_journal_reader.specs.Verdict.Verdict.{Bad}
 use Rattle.zy_journal_reader.specs.Faults.{IsBegun, HasFault}
@@ -45,7 +45,7 @@ begun_cut text all begun = begun_of text (verdict text) all begun refl (outcome 
 -- ---- all faults
 
 -- a fault of the fields is one of the text
-field_fault : (text : List ℕ) (s : State) (found fault : FileFault) → AreBytes text → Bad found ≡ Bad fault → HasFieldFault journal_fields text s found → HasFault text fault
+field_fault : (text : List ℕ) (s : ReadState) (found fault : FileFault) → AreBytes text → Bad found ≡ Bad fault → HasFieldFault journal_fields text s found → HasFault text fault
 field_fault text s found fault all same (inl misjudged) =
     let has : HasWrong text found = misjudged_wrong text s found all misjudged in
     let is : Form has.at ≡ fault = (let told = has.is in cc) in

@@ -9,14 +9,14 @@ use Rattle.zy_journal_reader.specs.declared.draft.Draft.{Draft}
 use Rattle.zy_journal_reader.specs.declared.due.Due.TheVariants.{Bytes}
 use Rattle.zy_journal_reader.specs.declared.due.BytesField.{BytesField}
 use Rattle.zy_journal_reader.specs.declared.due.BytesField.TheVariants.{Key, Value, FoundValue}
-use Rattle.zy_journal_reader.specs.Steps.{State, after_bytes}
+use Rattle.zy_journal_reader.specs.Steps.{ReadState, after_bytes}
 use Rattle.zy_journal_reader.proofs.CallLemmas.{fields_in, call_in, to_value, its_bytes, its_field}
 use Rattle.zy_journal_reader.proofs.SoFar.{front, head, Leads}
 use Rattle.zy_journal_reader.proofs.ComingLemmas.{flags_come, reply_comes}
 use Rattle.zy_journal_reader.proofs.EndLemmas.{Ends, entry_on}
 use Rattle.zy_journal_reader.proofs.NumberLemmas.{value_spelled}
 
-pub content_on : (field : BytesField) (p : State) (whole text : List ℕ) → Ends (Bytes field) p whole text → p.draft.size ≡ length whole → 0 < length whole → Leads text (after_bytes field p whole)
+pub content_on : (field : BytesField) (p : ReadState) (whole text : List ℕ) → Ends (Bytes field) p whole text → p.draft.size ≡ length whole → 0 < length whole → Leads text (after_bytes field p whole)
 unfolding reply_text
 content_on Key p whole text ends size some =
     let d : Draft = record p.draft { key = whole; size = 0 } in

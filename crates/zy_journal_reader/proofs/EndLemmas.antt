@@ -15,7 +15,7 @@ use Rattle.zy_journal_reader.specs.declared.due.Due.TheVariants.{Byte, Number}
 use Rattle.zy_journal_reader.specs.declared.due.ByteField.TheVariants.{Tag, CallCode, KeyLength, ReplyCode}
 use Rattle.zy_journal_reader.specs.declared.due.NumberField.TheVariants.{HoldCount}
 use Rattle.zy_journal_reader.specs.Fields.{entry_of, hold_of}
-use Rattle.zy_journal_reader.specs.Steps.{State, Done, ends_entry, ends_hold, lawful_byte, after_byte}
+use Rattle.zy_journal_reader.specs.Steps.{ReadState, Done, ends_entry, ends_hold, lawful_byte, after_byte}
 use Rattle.zy_journal_reader.proofs.CallLemmas.{call_in, plain_text, plain_within, plain_fits}
 use Rattle.zy_journal_reader.proofs.SoFar.{front, head, before, Kept, StampKnown, HeadKnown, CallKnown, Known, Leads}
 use Rattle.zy_journal_reader.proofs.TestLemmas.{between_true, tag_true, chosen, no_items, kept_entry, kept_hold, front_entry, front_hold, joined}
@@ -24,17 +24,17 @@ use Rattle.zy_journal_reader.proofs.ComingLemmas.{key_comes}
 -- ---- the ends of records
 
 -- what a byte that ends a field is added to
-pub record Ends (due : Due) (p : State) (t text : List ℕ) : Type 0 where
+pub record Ends (due : Due) (p : ReadState) (t text : List ℕ) : Type 0 where
   pub bytes : text ≡ front p.entries p.holds ++ (before due p.draft ++ t)
   pub kept : Kept p.entries p.holds p.past
   pub known : Known due p.past p.draft p.holds
 
 -- a field whose last byte was read
-pub ended_by : {due : Due} {p : State} {t text c : List ℕ} → Ends due p t text → before due p.draft ++ t ≡ c → text ≡ front p.entries p.holds ++ c
+pub ended_by : {due : Due} {p : ReadState} {t text c : List ℕ} → Ends due p t text → before due p.draft ++ t ≡ c → text ≡ front p.entries p.holds ++ c
 ended_by {due} {p} {t} {text} {c} ends same = joined text (front p.entries p.holds) (before due p.draft) t c ends.bytes same
 
 -- an entry whose reply has this text
-pub entry_on : (p : State) (reply : CallReply) (text : List ℕ) → text ≡ front p.entries p.holds ++ ((head p.draft ++ call_text (call_in p.draft)) ++ reply_text reply)
+pub entry_on : (p : ReadState) (reply : CallReply) (text : List ℕ) → text ≡ front p.entries p.holds ++ ((head p.draft ++ call_text (call_in p.draft)) ++ reply_text reply)
     → Kept p.entries p.holds p.past → CallKnown p.past p.draft p.holds → IsReply reply → FitsReply reply → Leads text (ends_entry p reply)
 unfolding entry_text entry_head
 entry_on p reply text is kept known within fits =
@@ -58,7 +58,7 @@ entry_on p reply text is kept known within fits =
       known = tt;
     }
 
-pub hold_on : (p : State) (count : ℕ) (text : List ℕ) → Ends (Number HoldCount) p (to_be_bytes w32 count) text → 1 ≤ count → count ≤ 64 → Leads text (ends_hold p count)
+pub hold_on : (p : ReadState) (count : ℕ) (text : List ℕ) → Ends (Number HoldCount) p (to_be_bytes w32 count) text → 1 ≤ count → count ≤ 64 → Leads text (ends_hold p count)
 unfolding hold_text
 hold_on p count text ends some few =
     let h : Hold = hold_of p.draft count in
@@ -73,7 +73,7 @@ hold_on p count text ends some few =
 
 -- ---- fields of one byte
 
-pub tag_on : (p : State) (at byte : ℕ) (text : List ℕ) → Ends (Byte Tag) p (byte ∷ []) text → lawful_byte Tag p at byte ≡ true → Leads text (after_byte Tag p at byte)
+pub tag_on : (p : ReadState) (at byte : ℕ) (text : List ℕ) → Ends (Byte Tag) p (byte ∷ []) text → lawful_byte Tag p at byte ≡ true → Leads text (after_byte Tag p at byte)
 tag_on p at byte text ends lawful =
     let f : List ℕ = front p.entries p.holds in
     let P : Done → Type 0 = λ (j : Done). Leads text j in
@@ -87,7 +87,7 @@ tag_on p at byte text ends lawful =
     record { bytes = becomes 74 is.0; kept = ends.kept; field = tt; known = no_items p.holds is.1 }))
 
 -- after the code of a call
-pub code_on : (p : State) (at byte : ℕ) (text : List ℕ) → code_of (kind_of byte) ≡ byte → Ends (Byte CallCode) p (byte ∷ []) text → Leads text (after_byte CallCode p at byte)
+pub code_on : (p : ReadState) (at byte : ℕ) (text : List ℕ) → code_of (kind_of byte) ≡ byte → Ends (Byte CallCode) p (byte ∷ []) text → Leads text (after_byte CallCode p at byte)
 code_on p at byte text code ends =
     key_comes p (record p.draft { kind = kind_of byte }) text (record {
       bytes = ends.bytes ∙ ap (λ (b : ℕ). front p.entries p.holds ++ (head p.draft ++ b ∷ [])) (sym code);
@@ -95,7 +95,7 @@ code_on p at byte text code ends =
       known = ends.known;
     })
 
-pub key_length_on : (p : State) (at byte : ℕ) (text : List ℕ) → Ends (Byte KeyLength) p (byte ∷ []) text → lawful_byte KeyLength p at byte ≡ true → Leads text (after_byte KeyLength p at byte)
+pub key_length_on : (p : ReadState) (at byte : ℕ) (text : List ℕ) → Ends (Byte KeyLength) p (byte ∷ []) text → lawful_byte KeyLength p at byte ≡ true → Leads text (after_byte KeyLength p at byte)
 key_length_on p at byte text ends lawful =
     let is = between_true byte 1 250 lawful in
     record {
@@ -105,7 +105,7 @@ key_length_on p at byte text ends lawful =
       known = (ends.known.0, ends.known.1, is.1);
     }
 
-pub reply_code_on : (p : State) (at byte : ℕ) (text : List ℕ) → Ends (Byte ReplyCode) p (byte ∷ []) text → lawful_byte ReplyCode p at byte ≡ true → Leads text (after_byte ReplyCode p at byte)
+pub reply_code_on : (p : ReadState) (at byte : ℕ) (text : List ℕ) → Ends (Byte ReplyCode) p (byte ∷ []) text → lawful_byte ReplyCode p at byte ≡ true → Leads text (after_byte ReplyCode p at byte)
 reply_code_on p at byte text ends lawful =
     let P : Done → Type 0 = λ (j : Done). Leads text j in
     let is = between_true byte 1 last_reply_code lawful in

@@ -23,7 +23,7 @@ use Rattle.zy_journal_reader.specs.Fields.{fresh}
 use Rattle.zy_journal_reader.specs.declared.due.ByteField.TheVariants as B
 use Rattle.zy_journal_reader.specs.declared.due.NumberField.TheVariants as N
 use Rattle.zy_journal_reader.specs.declared.due.LongField.TheVariants as L
-use Rattle.zy_journal_reader.specs.Steps.{State, start, shape, judged, journal_fields, journal_limit}
+use Rattle.zy_journal_reader.specs.Steps.{ReadState, start, shape, judged, journal_fields, journal_limit}
 use Rattle.zy_journal_reader.specs.Verdict.{good, verdict, IsReadable}
 use Rattle.zy_journal_reader.specs.Verdict.Verdict.{Bad}
 use Rattle.zy_journal_reader.specs.Laws.{lawful}
@@ -42,7 +42,7 @@ use Rattle.zy_journal_reader.proofs.LeadsLemmas.{Leads, tag_goes, shard_goes, co
 -- ---- a field that is refused
 
 -- after these bytes of a record there is a field that is wrong
-record IsRefused (q : State) (text field : List ℕ) : Type 0 where
+record IsRefused (q : ReadState) (text field : List ℕ) : Type 0 where
   pub due : Due
   pub leads : Leads q fresh (Byte B.Tag) text due
   pub size : length field ≡ width_of (shape due leads.draft.size)
@@ -53,8 +53,8 @@ refused_bad : (text : List ℕ) (journal : Journal) (at : ℕ) (record_text fiel
     → IsRefused (after_records journal) record_text field → verdict text ≡ Bad (Form at)
 refused_bad text journal at record_text field rest readable whole place_is room refused =
     let x : List ℕ = front_text journal ++ record_text in
-    let q : State = after_records journal in
-    let s : State = place q refused.leads.draft refused.due in
+    let q : ReadState = after_records journal in
+    let s : ReadState = place q refused.leads.draft refused.due in
     let sizes : length x ≡ at = length-append (front_text journal) record_text ∙ sym place_is in
     let over : Over start 0 x s [] = over_join journal_fields start (place q fresh (Byte B.Tag)) s 0 (front_text journal) record_text [] [] (front_over journal readable) (refused.leads.there_goes.over (0 + length (front_text journal))) in
     let same : text ≡ x ++ (field ++ rest) = whole ∙ sym (append_assoc (front_text journal) record_text (field ++ rest)) in
@@ -65,23 +65,23 @@ refused_bad text journal at record_text field rest readable whole place_is room 
 -- ---- the records before
 
 -- what is kept of them
-entries_stamp : (es : List Entry) (p : State) (last : Option Entry) → p.past.stamp ≡ stamp_of last → (with_entries p es).past.stamp ≡ stamp_of (last_after last es)
+entries_stamp : (es : List Entry) (p : ReadState) (last : Option Entry) → p.past.stamp ≡ stamp_of last → (with_entries p es).past.stamp ≡ stamp_of (last_after last es)
 entries_stamp [] p last is = is
 entries_stamp (e ∷ es) p last is = entries_stamp es (with_entry p e) (Some e) refl
 
-entries_shard : (es : List Entry) (p : State) (last : Option Entry) → p.past.shard ≡ shard_of last → (with_entries p es).past.shard ≡ shard_of (last_after last es)
+entries_shard : (es : List Entry) (p : ReadState) (last : Option Entry) → p.past.shard ≡ shard_of last → (with_entries p es).past.shard ≡ shard_of (last_after last es)
 entries_shard [] p last is = is
 entries_shard (e ∷ es) p last is = entries_shard es (with_entry p e) (Some e) refl
 
-holds_conn : (hs : List Hold) (p : State) (last : Option Hold) → p.past.conn ≡ conn_of last → (with_holds p hs).past.conn ≡ conn_of (last_after last hs)
+holds_conn : (hs : List Hold) (p : ReadState) (last : Option Hold) → p.past.conn ≡ conn_of last → (with_holds p hs).past.conn ≡ conn_of (last_after last hs)
 holds_conn [] p last is = is
 holds_conn (h ∷ hs) p last is = holds_conn hs (with_hold p h) (Some h) refl
 
-holds_stamp : (hs : List Hold) (p : State) → (with_holds p hs).past.stamp ≡ p.past.stamp
+holds_stamp : (hs : List Hold) (p : ReadState) → (with_holds p hs).past.stamp ≡ p.past.stamp
 holds_stamp [] p = refl
 holds_stamp (h ∷ hs) p = holds_stamp hs (with_hold p h)
 
-holds_shard : (hs : List Hold) (p : State) → (with_holds p hs).past.shard ≡ p.past.shard
+holds_shard : (hs : List Hold) (p : ReadState) → (with_holds p hs).past.shard ≡ p.past.shard
 holds_shard [] p = refl
 holds_shard (h ∷ hs) p = holds_shard hs (with_hold p h)
 
@@ -105,54 +105,54 @@ false_of true never = absurd (never refl)
 false_of false never = refl
 
 -- a refusal after bytes that lead to a field
-refused_by : {q : State} {due : Due} {text field : List ℕ} (leads : Leads q fresh (Byte B.Tag) text due) → length field ≡ width_of (shape due leads.draft.size) → ((at : ℕ) → judged due (place q leads.draft due) at field ≡ Wrong (Form at)) → IsRefused q text field
+refused_by : {q : ReadState} {due : Due} {text field : List ℕ} (leads : Leads q fresh (Byte B.Tag) text due) → length field ≡ width_of (shape due leads.draft.size) → ((at : ℕ) → judged due (place q leads.draft due) at field ≡ Wrong (Form at)) → IsRefused q text field
 refused_by {q} {due} leads size wrong = record { due = due; leads = leads; size = size; wrong = wrong }
 
-entry_refused : (field : EntryField) (q : State) (last : Option Entry) (e : Entry) (n : ℕ) → q.holds ≡ [] → q.past.stamp ≡ stamp_of last → q.past.shard ≡ shard_of last → IsLawfulUpTo field last e → (IsLawful field last e n → ⊥) → n < range (shape_of field)
+entry_refused : (field : EntryField) (q : ReadState) (last : Option Entry) (e : Entry) (n : ℕ) → q.holds ≡ [] → q.past.stamp ≡ stamp_of last → q.past.shard ≡ shard_of last → IsLawfulUpTo field last e → (IsLawful field last e n → ⊥) → n < range (shape_of field)
     → IsRefused q (before field e) (number_text (shape_of field) n)
-entry_refused E.Stamp q last e n none stamp shard lawful wrong fits =
+entry_refused E.Stamp q last e n none stamp shard known wrong fits =
     refused_by (record { draft = fresh; there_goes = tag_goes q none }) refl
     (λ at. eight_wrong q fresh L.Stamp n at fits (false_of (nat_le 1 n && nat_lt n (2 ^ 60) && nat_le q.past.stamp n) (λ yes. let is = stamp_true n q.past.stamp yes in wrong (is.0, is.1, above_is last q.past.stamp n stamp is.2))))
-entry_refused E.Shard q last e n none stamp shard lawful wrong fits =
-    let above : q.past.stamp ≤ e.stamp = not_below last q.past.stamp e.stamp stamp lawful.2 in
-    refused_by (record { draft = record fresh { stamp = e.stamp }; there_goes = shard_goes q e none lawful.0 lawful.1 above }) refl
+entry_refused E.Shard q last e n none stamp shard known wrong fits =
+    let above : q.past.stamp ≤ e.stamp = not_below last q.past.stamp e.stamp stamp known.2 in
+    refused_by (record { draft = record fresh { stamp = e.stamp }; there_goes = shard_goes q e none known.0 known.1 above }) refl
     (λ at. four_wrong q (record fresh { stamp = e.stamp }) N.Shard n at fits (false_of (nat_lt n 256 && (nat_lt q.past.stamp e.stamp || nat_lt q.past.shard n)) (λ yes. let is = shard_true n q.past.shard e.stamp q.past.stamp yes above in wrong (is.0, comes_behind last q.past (record e { shard = n }) stamp shard is.1))))
-entry_refused E.Connection q last e n none stamp shard lawful wrong fits =
-    let comes : ComesAfter q.past e = behind_comes last q.past e stamp shard lawful.0.valid.some_stamp lawful.0.comes in
-    let leads : Leads q fresh (Byte B.Tag) (before E.Connection e) (Number N.Connection) = record { draft = record fresh { stamp = e.stamp; shard = e.shard }; there_goes = connection_goes q e none lawful.0.valid comes } in
+entry_refused E.Connection q last e n none stamp shard known wrong fits =
+    let comes : ComesAfter q.past e = behind_comes last q.past e stamp shard known.0.valid.some_stamp known.0.comes in
+    let leads : Leads q fresh (Byte B.Tag) (before E.Connection e) (Number N.Connection) = record { draft = record fresh { stamp = e.stamp; shard = e.shard }; there_goes = connection_goes q e none known.0.valid comes } in
     refused_by leads refl
     (λ at. four_wrong q leads.draft N.Connection n at fits (false_of (nat_lt n 4096) (λ yes. wrong (below_true n 4096 yes))))
-entry_refused E.Command q last e n none stamp shard lawful wrong fits =
-    let comes : ComesAfter q.past e = behind_comes last q.past e stamp shard lawful.0.valid.some_stamp lawful.0.comes in
-    let leads : Leads q fresh (Byte B.Tag) (before E.Command e) (Long L.Index) = record { draft = record fresh { stamp = e.stamp; shard = e.shard; conn = e.tag.conn }; there_goes = command_goes q e none lawful.0.valid comes } in
+entry_refused E.Command q last e n none stamp shard known wrong fits =
+    let comes : ComesAfter q.past e = behind_comes last q.past e stamp shard known.0.valid.some_stamp known.0.comes in
+    let leads : Leads q fresh (Byte B.Tag) (before E.Command e) (Long L.Index) = record { draft = record fresh { stamp = e.stamp; shard = e.shard; conn = e.tag.conn }; there_goes = command_goes q e none known.0.valid comes } in
     refused_by leads refl
     (λ at. eight_wrong q leads.draft L.Index n at fits (false_of (nat_lt n (2 ^ 40)) (λ yes. wrong (below_true n (2 ^ 40) yes))))
-entry_refused E.CallCode q last e n none stamp shard lawful wrong fits =
-    let comes : ComesAfter q.past e = behind_comes last q.past e stamp shard lawful.0.valid.some_stamp lawful.0.comes in
-    let leads : Leads q fresh (Byte B.Tag) (before E.CallCode e) (Byte B.CallCode) = record { draft = head_of e; there_goes = head_goes q e none lawful.0.valid lawful.0.fits comes } in
+entry_refused E.CallCode q last e n none stamp shard known wrong fits =
+    let comes : ComesAfter q.past e = behind_comes last q.past e stamp shard known.0.valid.some_stamp known.0.comes in
+    let leads : Leads q fresh (Byte B.Tag) (before E.CallCode e) (Byte B.CallCode) = record { draft = head_of e; there_goes = head_goes q e none known.0.valid known.0.fits comes } in
     refused_by leads refl
     (λ at. one_wrong q leads.draft B.CallCode n at (false_of (nat_le 1 n && nat_le n last_call_code) (λ yes. wrong (between_true n 1 last_call_code yes))))
-entry_refused E.KeyLength q last e n none stamp shard lawful wrong fits =
-    let comes : ComesAfter q.past e = behind_comes last q.past e stamp shard lawful.0.valid.some_stamp lawful.0.comes in
-    let leads : Leads q fresh (Byte B.Tag) (before E.KeyLength e) (Byte B.KeyLength) = after_head e (call_code e.call ∷ []) none lawful.0.valid lawful.0.fits comes (after_code q (head_of e) e.call lawful.1) in
+entry_refused E.KeyLength q last e n none stamp shard known wrong fits =
+    let comes : ComesAfter q.past e = behind_comes last q.past e stamp shard known.0.valid.some_stamp known.0.comes in
+    let leads : Leads q fresh (Byte B.Tag) (before E.KeyLength e) (Byte B.KeyLength) = after_head e (call_code e.call ∷ []) none known.0.valid known.0.fits comes (after_code q (head_of e) e.call known.1) in
     refused_by leads refl
     (λ at. one_wrong q leads.draft B.KeyLength n at (false_of (nat_le 1 n && nat_le n 250) (λ yes. wrong (between_true n 1 250 yes))))
-entry_refused E.ValueLength q last e n none stamp shard lawful wrong fits =
-    let comes : ComesAfter q.past e = behind_comes last q.past e stamp shard lawful.0.valid.some_stamp lawful.0.comes in
-    let leads : Leads q fresh (Byte B.Tag) (before E.ValueLength e) (Number N.ValueLength) = after_head e (to_value e.call) none lawful.0.valid lawful.0.fits comes (before_value q (head_of e) e.call lawful.0.valid.call lawful.0.fits.call lawful.1) in
+entry_refused E.ValueLength q last e n none stamp shard known wrong fits =
+    let comes : ComesAfter q.past e = behind_comes last q.past e stamp shard known.0.valid.some_stamp known.0.comes in
+    let leads : Leads q fresh (Byte B.Tag) (before E.ValueLength e) (Number N.ValueLength) = after_head e (to_value e.call) none known.0.valid known.0.fits comes (before_value q (head_of e) e.call known.0.valid.call known.0.fits.call known.1) in
     refused_by leads refl
     (λ at. four_wrong q leads.draft N.ValueLength n at fits (false_of (nat_le n value_limit) (λ yes. wrong (most_true n value_limit yes))))
-entry_refused E.ReplyCode q last e n none stamp shard lawful wrong fits =
-    let comes : ComesAfter q.past e = behind_comes last q.past e stamp shard lawful.0.valid.some_stamp lawful.0.comes in
-    let leads : Leads q fresh (Byte B.Tag) (before E.ReplyCode e) (Byte B.ReplyCode) = after_head e (call_text e.call) none lawful.0.valid lawful.0.fits comes (before_reply q (head_of e) e.call lawful.0.valid.call lawful.0.fits.call) in
+entry_refused E.ReplyCode q last e n none stamp shard known wrong fits =
+    let comes : ComesAfter q.past e = behind_comes last q.past e stamp shard known.0.valid.some_stamp known.0.comes in
+    let leads : Leads q fresh (Byte B.Tag) (before E.ReplyCode e) (Byte B.ReplyCode) = after_head e (call_text e.call) none known.0.valid known.0.fits comes (before_reply q (head_of e) e.call known.0.valid.call known.0.fits.call) in
     refused_by leads refl
     (λ at. one_wrong q leads.draft B.ReplyCode n at (false_of (nat_le 1 n && nat_le n last_reply_code) (λ yes. wrong (between_true n 1 last_reply_code yes))))
-entry_refused E.FoundLength q last e n none stamp shard lawful wrong fits =
-    let comes : ComesAfter q.past e = behind_comes last q.past e stamp shard lawful.0.valid.some_stamp lawful.0.comes in
-    let call = before_reply q (head_of e) e.call lawful.0.valid.call lawful.0.fits.call in
-    let reply = before_found q call.draft e.reply lawful.0.fits.reply lawful.1 in
+entry_refused E.FoundLength q last e n none stamp shard known wrong fits =
+    let comes : ComesAfter q.past e = behind_comes last q.past e stamp shard known.0.valid.some_stamp known.0.comes in
+    let call = before_reply q (head_of e) e.call known.0.valid.call known.0.fits.call in
+    let reply = before_found q call.draft e.reply known.0.fits.reply known.1 in
     let leads : Leads q fresh (Byte B.Tag) (before E.FoundLength e) (Number N.FoundLength) =
-    after_head e (call_text e.call ++ to_found e.reply) none lawful.0.valid lawful.0.fits comes (record { draft = reply.draft; there_goes = both (call_text e.call) (to_found e.reply) call.there_goes reply.there_goes }) in
+    after_head e (call_text e.call ++ to_found e.reply) none known.0.valid known.0.fits comes (record { draft = reply.draft; there_goes = both (call_text e.call) (to_found e.reply) call.there_goes reply.there_goes }) in
     refused_by leads refl
     (λ at. four_wrong q leads.draft N.FoundLength n at fits (false_of (nat_le n value_limit) (λ yes. wrong (most_true n value_limit yes))))
 
@@ -163,29 +163,29 @@ entry_bad text at has =
 
 -- ---- the fields of a hold
 
-hold_tag : (q : State) → Goes q fresh (Byte B.Tag) (72 ∷ []) q fresh (Number N.HoldConnection)
+hold_tag : (q : ReadState) → Goes q fresh (Byte B.Tag) (72 ∷ []) q fresh (Number N.HoldConnection)
 hold_tag q = one_byte q q fresh fresh B.Tag (Number N.HoldConnection) 72 (λ at. refl) (λ at. refl)
 
-core_goes : (q : State) (h : Hold) → q.past.conn ≤ h.conn → h.conn < 4096 → Goes q fresh (Byte B.Tag) (before_in_hold H.OfCore h) q (record fresh { conn = h.conn }) (Number N.HoldCore)
+core_goes : (q : ReadState) (h : Hold) → q.past.conn ≤ h.conn → h.conn < 4096 → Goes q fresh (Byte B.Tag) (before_in_hold H.OfCore h) q (record fresh { conn = h.conn }) (Number N.HoldCore)
 core_goes q h above few =
     both (72 ∷ []) (to_be_bytes w32 h.conn) (hold_tag q)
     (four_bytes q q fresh (record fresh { conn = h.conn }) N.HoldConnection (Number N.HoldCore) h.conn (omega (arith, few)) (conn_is h.conn q.past.conn above few) refl)
 
-count_goes : (q : State) (h : Hold) → q.past.conn ≤ h.conn → h.conn < 4096 → h.core < 64 → Goes q fresh (Byte B.Tag) (before_in_hold H.OfCount h) q (record fresh { conn = h.conn; core = h.core }) (Number N.HoldCount)
+count_goes : (q : ReadState) (h : Hold) → q.past.conn ≤ h.conn → h.conn < 4096 → h.core < 64 → Goes q fresh (Byte B.Tag) (before_in_hold H.OfCount h) q (record fresh { conn = h.conn; core = h.core }) (Number N.HoldCount)
 count_goes q h above few low =
     both (before_in_hold H.OfCore h) (to_be_bytes w32 h.core) (core_goes q h above few)
     (four_bytes q q (record fresh { conn = h.conn }) (record fresh { conn = h.conn; core = h.core }) N.HoldCore (Number N.HoldCount) h.core (omega (arith, low)) (below_is h.core 64 low) refl)
 
-hold_refused : (field : HoldField) (q : State) (last : Option Hold) (h : Hold) (n : ℕ) → q.past.conn ≡ conn_of last → IsHoldUpTo field last h → (IsLawfulInHold field last n → ⊥) → n < 2 ^ 32
+hold_refused : (field : HoldField) (q : ReadState) (last : Option Hold) (h : Hold) (n : ℕ) → q.past.conn ≡ conn_of last → IsHoldUpTo field last h → (IsLawfulInHold field last n → ⊥) → n < 2 ^ 32
     → IsRefused q (before_in_hold field h) (to_be_bytes w32 n)
-hold_refused H.OfConnection q last h n conn lawful wrong fits =
+hold_refused H.OfConnection q last h n conn known wrong fits =
     refused_by (record { draft = fresh; there_goes = hold_tag q }) refl
     (λ at. four_wrong q fresh N.HoldConnection n at fits (false_of (nat_le q.past.conn n && nat_lt n 4096) (λ yes. let is = conn_true n q.past.conn yes in wrong (is.1, rises last q.past.conn n conn is.0))))
-hold_refused H.OfCore q last h n conn lawful wrong fits =
-    refused_by (record { draft = record fresh { conn = h.conn }; there_goes = core_goes q h (not_falling last q.past.conn h.conn conn lawful.1) lawful.0 }) refl
+hold_refused H.OfCore q last h n conn known wrong fits =
+    refused_by (record { draft = record fresh { conn = h.conn }; there_goes = core_goes q h (not_falling last q.past.conn h.conn conn known.1) known.0 }) refl
     (λ at. four_wrong q (record fresh { conn = h.conn }) N.HoldCore n at fits (false_of (nat_lt n 64) (λ yes. wrong (below_true n 64 yes))))
-hold_refused H.OfCount q last h n conn lawful wrong fits =
-    refused_by (record { draft = record fresh { conn = h.conn; core = h.core }; there_goes = count_goes q h (not_falling last q.past.conn h.conn conn lawful.0.1) lawful.0.0 lawful.1 }) refl
+hold_refused H.OfCount q last h n conn known wrong fits =
+    refused_by (record { draft = record fresh { conn = h.conn; core = h.core }; there_goes = count_goes q h (not_falling last q.past.conn h.conn conn known.0.1) known.0.0 known.1 }) refl
     (λ at. four_wrong q (record fresh { conn = h.conn; core = h.core }) N.HoldCount n at fits (false_of (nat_le 1 n && nat_le n 64) (λ yes. wrong (between_true n 1 64 yes))))
 
 hold_bad : (text : List ℕ) (at : ℕ) → IsBadHold text at → verdict text ≡ Bad (Form at)
@@ -230,7 +230,7 @@ no_tag byte count no_end no_hold no_entry = grind (arith, nat_tests)
 
 tag_bad : (text : List ℕ) (at : ℕ) → IsBadTag text at → verdict text ≡ Bad (Form at)
 tag_bad text at has =
-    let q : State = after_records has.journal in
+    let q : ReadState = after_records has.journal in
     let none : Leads q fresh (Byte B.Tag) [] (Byte B.Tag) = record { draft = fresh; there_goes = stays q fresh (Byte B.Tag) } in
     refused_bad text has.journal at [] (has.byte ∷ []) has.rest has.front.readable has.front.whole (has.front.place ∙ omega arith) (omega (arith, has.within))
     (refused_by none refl
@@ -242,7 +242,7 @@ tag_bad text at has =
 trailing_bad : (text : List ℕ) (at : ℕ) → IsTrailing text at → verdict text ≡ Bad (Form at)
 trailing_bad text at has =
     let b : List ℕ = journal_bytes has.journal in
-    let s : State = at_end has.journal in
+    let s : ReadState = at_end has.journal in
     fault_bad journal_fields lawful good Bad text s (Form at)
     (inl (over_misjudged journal_fields text s (Form at) b (has.byte ∷ []) has.rest (tt ∷ []) (whole_over has.journal has.readable) (omega (arith, has.place, has.within)) has.whole refl (inl refl)
     (ap (λ (n : ℕ). Wrong (Form n)) (sym has.place))))

@@ -23,7 +23,7 @@ use Rattle.zy_journal_reader.specs.declared.due.NumberField.TheVariants.{Flags, 
 use Rattle.zy_journal_reader.specs.declared.due.LongField.TheVariants.{CallNumber, FoundUnique, ReplyNumber, Gets, Sets, Hits, Misses, Items}
 use Rattle.zy_journal_reader.specs.declared.due.BytesField.TheVariants.{Key, Value, FoundValue}
 use Rattle.zy_journal_reader.specs.Fields.{fresh, at_key, at_flags, at_number, at_value, entry_of}
-use Rattle.zy_journal_reader.specs.Steps.{State}
+use Rattle.zy_journal_reader.specs.Steps.{ReadState}
 use Rattle.zy_journal_reader.proofs.CallLemmas.{plain_text}
 use Rattle.zy_journal_reader.proofs.PlaceLemmas.{Goes, both, to, stays, one_byte, four_bytes, eight_bytes, all_bytes}
 
@@ -53,18 +53,18 @@ conn_is n past after few = grind (arith, nat_tests)
 -- ---- keys and values
 
 -- a key
-pub key_goes : (p : State) (d : Draft) (key : List ℕ) → IsKey key → Goes p d (Byte KeyLength) (key_text key) p (record d { key = key; size = 0 }) (at_flags (fields_of d.kind))
+pub key_goes : (p : ReadState) (d : Draft) (key : List ℕ) → IsKey key → Goes p d (Byte KeyLength) (key_text key) p (record d { key = key; size = 0 }) (at_flags (fields_of d.kind))
 key_goes p d key is =
     both (length key ∷ []) key
     (one_byte p p d (record d { size = length key }) KeyLength (Bytes Key) (length key) (λ at. between (length key) 1 250 is.0 is.1) (λ at. refl))
     (all_bytes p p (record d { size = length key }) (record d { key = key; size = 0 }) Key (at_flags (fields_of d.kind)) key refl is.0 refl)
 
 -- no further byte
-pub nothing_more : {p q : State} {d e : Draft} {due next : Due} (s : List ℕ) → Goes p d due s q e next → Goes p d due (s ++ []) q e next
+pub nothing_more : {p q : ReadState} {d e : Draft} {due next : Due} (s : List ℕ) → Goes p d due s q e next → Goes p d due (s ++ []) q e next
 nothing_more {p} {q} {d} {e} {due} {next} s goes = subst (λ (l : List ℕ). Goes p d due l q e next) (sym (append-nil s)) goes
 
 -- a value that a call stores
-pub value_goes : (p : State) (d : Draft) (value : List ℕ) → d.size ≡ 0 → IsValue value → Goes p d (Number ValueLength) (value_text value) p (record d { value = value; size = 0 }) (Byte ReplyCode)
+pub value_goes : (p : ReadState) (d : Draft) (value : List ℕ) → d.size ≡ 0 → IsValue value → Goes p d (Number ValueLength) (value_text value) p (record d { value = value; size = 0 }) (Byte ReplyCode)
 value_goes p d [] none is =
     nothing_more (to_be_bytes w32 0)
     (four_bytes p p d (record d { value = []; size = 0 }) ValueLength (Byte ReplyCode) 0 (omega arith) refl
@@ -94,34 +94,34 @@ abbrev pub plain : Draft → Draft
 plain d = record d { size = 0 }
 
 -- each field of a call, where it is there
-pub value_there : (b : Bool) (p : State) (d : Draft) (value : List ℕ) → IfSome (there b value) IsValue
+pub value_there : (b : Bool) (p : ReadState) (d : Draft) (value : List ℕ) → IfSome (there b value) IsValue
     → Goes p (plain d) (if b then Number ValueLength else Byte ReplyCode) (field_text value_text (there b value)) p (record (plain d) { value = either_of b value d.value }) (Byte ReplyCode)
 value_there true p d value is = value_goes p (plain d) value refl is
 value_there false p d value is = stays p (plain d) (Byte ReplyCode)
 
-pub number_there : (b : Bool) (p : State) (d : Draft) (n : ℕ) → IfSome (there b n) (λ m. m < 2 ^ 64)
+pub number_there : (b : Bool) (p : ReadState) (d : Draft) (n : ℕ) → IfSome (there b n) (λ m. m < 2 ^ 64)
     → Goes p d (if b then Long CallNumber else at_value (fields_of d.kind)) (field_text (to_be_bytes w64) (there b n)) p (record d { number = either_of b n d.number }) (at_value (fields_of d.kind))
 number_there true p d n small = eight_bytes p p d (record d { number = n }) CallNumber (at_value (fields_of d.kind)) n small refl refl
 number_there false p d n small = stays p d (at_value (fields_of d.kind))
 
-pub flags_there : (b : Bool) (p : State) (d : Draft) (n : ℕ) → IfSome (there b n) (λ m. m < 2 ^ 32)
+pub flags_there : (b : Bool) (p : ReadState) (d : Draft) (n : ℕ) → IfSome (there b n) (λ m. m < 2 ^ 32)
     → Goes p d (if b then Number Flags else at_number (fields_of d.kind)) (field_text (to_be_bytes w32) (there b n)) p (record d { flags = either_of b n d.flags }) (at_number (fields_of d.kind))
 flags_there true p d n small = four_bytes p p d (record d { flags = n }) Flags (at_number (fields_of d.kind)) n small refl refl
 flags_there false p d n small = stays p d (at_number (fields_of d.kind))
 
-pub key_there : (b : Bool) (p : State) (d : Draft) (key : List ℕ) → IfSome (there b key) IsKey
+pub key_there : (b : Bool) (p : ReadState) (d : Draft) (key : List ℕ) → IfSome (there b key) IsKey
     → Goes p (plain d) (if b then Byte KeyLength else at_flags (fields_of d.kind)) (field_text key_text (there b key)) p (record (plain d) { key = either_of b key d.key }) (at_flags (fields_of d.kind))
 key_there true p d key is = key_goes p (plain d) key is
 key_there false p d key is = stays p (plain d) (at_flags (fields_of d.kind))
 
 -- the code of a call
-pub code_goes : (p : State) (d : Draft) (kind : CallKind) → Goes p d (Byte CallCode) (code_of kind ∷ []) p (record d { kind = kind }) (at_key (fields_of kind))
+pub code_goes : (p : ReadState) (d : Draft) (kind : CallKind) → Goes p d (Byte CallCode) (code_of kind ∷ []) p (record d { kind = kind }) (at_key (fields_of kind))
 code_goes p d kind =
     one_byte p p d (record d { kind = kind }) CallCode (at_key (fields_of kind)) (code_of kind)
     (λ at. between (code_of kind) 1 last_call_code (code_within kind).0 (code_within kind).1)
     (λ at. ap (λ (k : CallKind). to p (record d { kind = k }) (at_key (fields_of k))) (kind_back kind))
 
-pub call_goes : (p : State) (d : Draft) (kind : CallKind) (key : List ℕ) (flags number : ℕ) (value : List ℕ) → IsCall (call_of kind key flags number value) → FitsCall (call_of kind key flags number value)
+pub call_goes : (p : ReadState) (d : Draft) (kind : CallKind) (key : List ℕ) (flags number : ℕ) (value : List ℕ) → IsCall (call_of kind key flags number value) → FitsCall (call_of kind key flags number value)
     → Goes p (plain d) (Byte CallCode) (call_text (call_of kind key flags number value)) p (known kind key flags number value (plain d)) (Byte ReplyCode)
 unfolding call_text
 call_goes p d kind key flags number value is fits =
@@ -146,18 +146,18 @@ call_goes p d kind key flags number value is fits =
 -- ---- replies
 
 -- the lists with the entry that was read
-abbrev pub after : State → Draft → CallReply → State
+abbrev pub after : ReadState → Draft → CallReply → ReadState
 after p d reply = record p { entries = p.entries ++ entry_of d reply ∷ []; past = record p.past { stamp = d.stamp; shard = d.shard } }
 
 -- a reply without fields
-pub plain_goes : (p : State) (d : Draft) (code : ℕ) → 1 ≤ code → code ≤ last_reply_code → (code == hit_code) ≡ false → (code == number_code) ≡ false → (code == tally_code) ≡ false
+pub plain_goes : (p : ReadState) (d : Draft) (code : ℕ) → 1 ≤ code → code ≤ last_reply_code → (code == hit_code) ≡ false → (code == number_code) ≡ false → (code == tally_code) ≡ false
     → Goes p d (Byte ReplyCode) (reply_text (plain_reply code)) (after p d (plain_reply code)) fresh (Byte Tag)
 plain_goes p d code some most no_hit no_number no_tally =
     subst (λ (l : List ℕ). Goes p d (Byte ReplyCode) l (after p d (plain_reply code)) fresh (Byte Tag)) (sym (plain_text code some most no_hit no_number no_tally))
     (one_byte p (after p d (plain_reply code)) d fresh ReplyCode (Byte Tag) code (λ at. between code 1 last_reply_code some most) (λ at. rw (no_hit, no_number, no_tally) refl))
 
 -- the value that a get found
-pub found_goes : (p : State) (d : Draft) (value : List ℕ) → IsValue value → Goes p d (Number FoundLength) (value_text value) (after p d (Hit d.found_flags d.found_unique value)) fresh (Byte Tag)
+pub found_goes : (p : ReadState) (d : Draft) (value : List ℕ) → IsValue value → Goes p d (Number FoundLength) (value_text value) (after p d (Hit d.found_flags d.found_unique value)) fresh (Byte Tag)
 found_goes p d [] is =
     nothing_more (to_be_bytes w32 0) (four_bytes p (after p d (Hit d.found_flags d.found_unique [])) d fresh FoundLength (Byte Tag) 0 (omega arith) refl refl)
 found_goes p d (byte ∷ rest) is =
@@ -168,7 +168,7 @@ found_goes p d (byte ∷ rest) is =
     (all_bytes p (after p d (Hit d.found_flags d.found_unique value)) (record d { size = n }) fresh FoundValue (Byte Tag) value refl (omega arith) refl)
 
 -- a hit
-pub hit_goes : (p : State) (d : Draft) (flags unique : ℕ) (value : List ℕ) → IsReply (Hit flags unique value) → FitsReply (Hit flags unique value)
+pub hit_goes : (p : ReadState) (d : Draft) (flags unique : ℕ) (value : List ℕ) → IsReply (Hit flags unique value) → FitsReply (Hit flags unique value)
     → Goes p d (Byte ReplyCode) (reply_text (Hit flags unique value)) (after p d (Hit flags unique value)) fresh (Byte Tag)
 unfolding reply_text
 hit_goes p d flags unique value is fits =
@@ -180,7 +180,7 @@ hit_goes p d flags unique value is fits =
     (found_goes p f value is)))
 
 -- a number
-pub number_goes : (p : State) (d : Draft) (number : ℕ) → FitsReply (Replies.Number number) → Goes p d (Byte ReplyCode) (reply_text (Replies.Number number)) (after p d (Replies.Number number)) fresh (Byte Tag)
+pub number_goes : (p : ReadState) (d : Draft) (number : ℕ) → FitsReply (Replies.Number number) → Goes p d (Byte ReplyCode) (reply_text (Replies.Number number)) (after p d (Replies.Number number)) fresh (Byte Tag)
 unfolding reply_text
 number_goes p d number fits =
     nothing_more (number_code ∷ to_be_bytes w64 number)
@@ -188,7 +188,7 @@ number_goes p d number fits =
     (eight_bytes p (after p d (Replies.Number number)) d fresh ReplyNumber (Byte Tag) number fits.0.1 refl refl))
 
 -- a tally
-pub tally_goes : (p : State) (d : Draft) (counts : Tallied) → FitsReply (tally counts) → Goes p d (Byte ReplyCode) (reply_text (tally counts)) (after p d (tally counts)) fresh (Byte Tag)
+pub tally_goes : (p : ReadState) (d : Draft) (counts : Tallied) → FitsReply (tally counts) → Goes p d (Byte ReplyCode) (reply_text (tally counts)) (after p d (tally counts)) fresh (Byte Tag)
 unfolding reply_text
 tally_goes p d counts fits =
     let g : List ℕ = to_be_bytes w64 counts.gets in
@@ -208,7 +208,7 @@ tally_goes p d counts fits =
     (both m i (eight_bytes p p d3 d4 Misses (Long Items) counts.misses fits.1.3 refl refl)
     (eight_bytes p (after p d (tally counts)) d4 fresh Items (Byte Tag) counts.items fits.1.4 refl refl))))))
 
-pub reply_goes : (p : State) (d : Draft) (reply : CallReply) → IsReply reply → FitsReply reply → Goes p d (Byte ReplyCode) (reply_text reply) (after p d reply) fresh (Byte Tag)
+pub reply_goes : (p : ReadState) (d : Draft) (reply : CallReply) → IsReply reply → FitsReply reply → Goes p d (Byte ReplyCode) (reply_text reply) (after p d reply) fresh (Byte Tag)
 reply_goes p d =
     of_forms (λ (reply : CallReply). IsReply reply → FitsReply reply → Goes p d (Byte ReplyCode) (reply_text reply) (after p d reply) fresh (Byte Tag))
     (λ flags unique value is fits. hit_goes p d flags unique value is fits)

@@ -15,7 +15,7 @@ use Rattle.zy_journal_reader.specs.declared.due.NumberField.{NumberField}
 use Rattle.zy_journal_reader.specs.declared.due.NumberField.TheVariants.{Shard, Connection, Part, Flags, ValueLength, FoundFlags, FoundLength, HoldConnection, HoldCore, HoldCount}
 use Rattle.zy_journal_reader.specs.declared.due.LongField.{LongField}
 use Rattle.zy_journal_reader.specs.declared.due.LongField.TheVariants.{Stamp, Index, CallNumber, FoundUnique, ReplyNumber, Gets, Sets, Hits, Misses, Items}
-use Rattle.zy_journal_reader.specs.Steps.{State, Done, lawful_number, lawful_long, after_four, after_eight}
+use Rattle.zy_journal_reader.specs.Steps.{ReadState, Done, lawful_number, lawful_long, after_four, after_eight}
 use Rattle.zy_journal_reader.proofs.CallLemmas.{fields_in, call_in, key_bytes, flags_bytes, to_flags, to_number, to_value, its_bytes, its_field, call_text_is}
 use Rattle.zy_journal_reader.proofs.SoFar.{front, head, Leads}
 use Rattle.zy_journal_reader.proofs.TestLemmas.{between_true, below_true, most_true, stamp_true, shard_true, conn_true, positive, chosen}
@@ -25,7 +25,7 @@ use Rattle.zy_journal_reader.proofs.EndLemmas.{Ends, ended_by, entry_on, hold_on
 -- ---- numbers of four bytes
 
 -- the flags of a call
-pub flags_on : (p : State) (n : ℕ) (text : List ℕ) → Ends (Number Flags) p (to_be_bytes w32 n) text → n < 2 ^ 32 → Leads text (after_four Flags p n)
+pub flags_on : (p : ReadState) (n : ℕ) (text : List ℕ) → Ends (Number Flags) p (to_be_bytes w32 n) text → n < 2 ^ 32 → Leads text (after_four Flags p n)
 flags_on p n text ends small =
     let d : Draft = record p.draft { flags = n } in
     number_comes p d text (record {
@@ -40,7 +40,7 @@ flags_on p n text ends small =
 pub value_spelled : (d : Draft) → (fields_in d).value ≡ true → to_value d ++ value_text d.value ≡ call_text (call_in d)
 value_spelled d has = ap (λ (l : List ℕ). to_value d ++ l) (its_bytes value_text (fields_in d).value d.value has) ∙ sym (call_text_is d)
 
-pub value_length_on : (p : State) (n : ℕ) (text : List ℕ) → Ends (Number ValueLength) p (to_be_bytes w32 n) text → lawful_number ValueLength p n ≡ true
+pub value_length_on : (p : ReadState) (n : ℕ) (text : List ℕ) → Ends (Number ValueLength) p (to_be_bytes w32 n) text → lawful_number ValueLength p n ≡ true
     → Leads text (after_four ValueLength p n)
 value_length_on p n text ends lawful =
     let P : Done → Type 0 = λ (j : Done). Leads text j in
@@ -65,7 +65,7 @@ value_length_on p n text ends lawful =
       known = (ends.known.0, ends.known.1, ends.known.2, ends.known.3, ends.known.4, few);
     })
 
-pub found_length_on : (p : State) (n : ℕ) (text : List ℕ) → Ends (Number FoundLength) p (to_be_bytes w32 n) text → lawful_number FoundLength p n ≡ true
+pub found_length_on : (p : ReadState) (n : ℕ) (text : List ℕ) → Ends (Number FoundLength) p (to_be_bytes w32 n) text → lawful_number FoundLength p n ≡ true
     → Leads text (after_four FoundLength p n)
 unfolding reply_text
 found_length_on p n text ends lawful =
@@ -91,7 +91,7 @@ found_length_on p n text ends lawful =
       known = (ends.known, few);
     })
 
-pub four_on : (field : NumberField) (p : State) (n : ℕ) (text : List ℕ) → Ends (Number field) p (to_be_bytes w32 n) text → n < 2 ^ 32 → lawful_number field p n ≡ true → Leads text (after_four field p n)
+pub four_on : (field : NumberField) (p : ReadState) (n : ℕ) (text : List ℕ) → Ends (Number field) p (to_be_bytes w32 n) text → n < 2 ^ 32 → lawful_number field p n ≡ true → Leads text (after_four field p n)
 four_on Shard p n text ends small lawful =
     let is = shard_true n p.past.shard p.draft.stamp p.past.stamp lawful ends.known.3 in
     record {
@@ -147,7 +147,7 @@ four_on HoldCount p n text ends small lawful = let is = between_true n 1 64 lawf
 -- ---- numbers of eight bytes
 
 -- the number of a call
-pub call_number_on : (p : State) (n : ℕ) (text : List ℕ) → Ends (Long CallNumber) p (to_be_bytes w64 n) text → n < 2 ^ 64 → Leads text (after_eight CallNumber p n)
+pub call_number_on : (p : ReadState) (n : ℕ) (text : List ℕ) → Ends (Long CallNumber) p (to_be_bytes w64 n) text → n < 2 ^ 64 → Leads text (after_eight CallNumber p n)
 call_number_on p n text ends small =
     let d : Draft = record p.draft { number = n } in
     value_comes p d text (record {
@@ -165,7 +165,7 @@ pub after_call : (start call before last : List ℕ) → (start ++ (call ++ befo
 after_call start call before last = append_assoc start (call ++ before) last ∙ ap (λ (l : List ℕ). start ++ l) (append_assoc call before last)
 
 -- the last number of a tally
-pub items_on : (p : State) (n : ℕ) (text : List ℕ) → Ends (Long Items) p (to_be_bytes w64 n) text → n < 2 ^ 64 → Leads text (after_eight Items p n)
+pub items_on : (p : ReadState) (n : ℕ) (text : List ℕ) → Ends (Long Items) p (to_be_bytes w64 n) text → n < 2 ^ 64 → Leads text (after_eight Items p n)
 unfolding reply_text
 items_on p n text ends small =
     let call : List ℕ = call_text (call_in p.draft) in
@@ -183,7 +183,7 @@ items_on p n text ends small =
     ∙ sym (append_assoc (head p.draft) call (tally_code ∷ ((g ++ (s ++ (h ++ (m ++ i)))) ++ [])))))
     ends.kept ends.known.0.0.0.0 tt ((tt, tt), (ends.known.0.0.0.1, ends.known.0.0.1, ends.known.0.1, ends.known.1, small))
 
-pub eight_on : (field : LongField) (p : State) (n : ℕ) (text : List ℕ) → Ends (Long field) p (to_be_bytes w64 n) text → n < 2 ^ 64 → lawful_long field p n ≡ true → Leads text (after_eight field p n)
+pub eight_on : (field : LongField) (p : ReadState) (n : ℕ) (text : List ℕ) → Ends (Long field) p (to_be_bytes w64 n) text → n < 2 ^ 64 → lawful_long field p n ≡ true → Leads text (after_eight field p n)
 unfolding reply_text
 eight_on Stamp p n text ends small lawful =
     let is = stamp_true n p.past.stamp lawful in

@@ -15,7 +15,7 @@ use Rattle.zy_journal_reader.specs.declared.due.LongField.{LongField}
 use Rattle.zy_journal_reader.specs.declared.due.LongField.TheVariants as L
 use Rattle.zy_journal_reader.specs.declared.due.BytesField.{BytesField}
 use Rattle.zy_journal_reader.specs.declared.due.BytesField.TheVariants as S
-use Rattle.zy_journal_reader.specs.Steps.{State, Done, lawful_byte, lawful_number, lawful_long, after_byte, after_four, after_eight, after_bytes, judged}
+use Rattle.zy_journal_reader.specs.Steps.{ReadState, Done, lawful_byte, lawful_number, lawful_long, after_byte, after_four, after_eight, after_bytes, judged}
 use Rattle.zy_journal_reader.proofs.CallLemmas.{either}
 
 -- ---- fields that are no faults
@@ -30,14 +30,14 @@ abbrev pub IsRight : Done → Type 0
 IsRight (Wrong fault) = ⊥
 IsRight done = ⊤
 
-byte_then : (field : ByteField) (p : State) (at byte : ℕ) → field ≢ B.Tag → IsThen (after_byte field p at byte)
+byte_then : (field : ByteField) (p : ReadState) (at byte : ℕ) → field ≢ B.Tag → IsThen (after_byte field p at byte)
 byte_then B.Magic p at byte no_tag = either IsThen (at == 7) _ _ tt tt
 byte_then B.Tag p at byte no_tag = absurd (no_tag refl)
 byte_then B.CallCode p at byte no_tag = tt
 byte_then B.KeyLength p at byte no_tag = tt
 byte_then B.ReplyCode p at byte no_tag = either IsThen (byte == hit_code) _ _ tt (either IsThen (byte == number_code) _ _ tt (either IsThen (byte == tally_code) _ _ tt tt))
 
-four_then : (field : NumberField) (p : State) (n : ℕ) → IsThen (after_four field p n)
+four_then : (field : NumberField) (p : ReadState) (n : ℕ) → IsThen (after_four field p n)
 four_then N.ValueLength p n = either IsThen (n == 0) _ _ tt tt
 four_then N.FoundLength p n = either IsThen (n == 0) _ _ tt tt
 four_then N.Shard p n = tt
@@ -49,7 +49,7 @@ four_then N.HoldConnection p n = tt
 four_then N.HoldCore p n = tt
 four_then N.HoldCount p n = tt
 
-eight_then : (field : LongField) (p : State) (n : ℕ) → IsThen (after_eight field p n)
+eight_then : (field : LongField) (p : ReadState) (n : ℕ) → IsThen (after_eight field p n)
 eight_then L.Stamp p n = tt
 eight_then L.Index p n = tt
 eight_then L.CallNumber p n = tt
@@ -61,7 +61,7 @@ eight_then L.Hits p n = tt
 eight_then L.Misses p n = tt
 eight_then L.Items p n = tt
 
-bytes_then : (field : BytesField) (p : State) (content : List ℕ) → IsThen (after_bytes field p content)
+bytes_then : (field : BytesField) (p : ReadState) (content : List ℕ) → IsThen (after_bytes field p content)
 bytes_then S.Key p content = tt
 bytes_then S.Value p content = tt
 bytes_then S.FoundValue p content = tt
@@ -73,20 +73,20 @@ then_right (Then next) is = tt
 then_right (Gives next item) is = absurd is
 then_right (Wrong fault) is = absurd is
 
-pub byte_right : (field : ByteField) (p : State) (at byte : ℕ) → IsRight (after_byte field p at byte)
+pub byte_right : (field : ByteField) (p : ReadState) (at byte : ℕ) → IsRight (after_byte field p at byte)
 byte_right B.Tag p at byte = either IsRight (byte == 69) _ _ tt (either IsRight (byte == 72) _ _ tt tt)
 byte_right B.Magic p at byte = then_right (after_byte B.Magic p at byte) (byte_then B.Magic p at byte (λ is. cc))
 byte_right B.CallCode p at byte = tt
 byte_right B.KeyLength p at byte = tt
 byte_right B.ReplyCode p at byte = then_right (after_byte B.ReplyCode p at byte) (byte_then B.ReplyCode p at byte (λ is. cc))
 
-pub four_right : (field : NumberField) (p : State) (n : ℕ) → IsRight (after_four field p n)
+pub four_right : (field : NumberField) (p : ReadState) (n : ℕ) → IsRight (after_four field p n)
 four_right field p n = then_right (after_four field p n) (four_then field p n)
 
-pub eight_right : (field : LongField) (p : State) (n : ℕ) → IsRight (after_eight field p n)
+pub eight_right : (field : LongField) (p : ReadState) (n : ℕ) → IsRight (after_eight field p n)
 eight_right field p n = then_right (after_eight field p n) (eight_then field p n)
 
-pub bytes_right : (field : BytesField) (p : State) (content : List ℕ) → IsRight (after_bytes field p content)
+pub bytes_right : (field : BytesField) (p : ReadState) (content : List ℕ) → IsRight (after_bytes field p content)
 bytes_right field p content = then_right (after_bytes field p content) (bytes_then field p content)
 
 -- ---- they give nothing
@@ -97,7 +97,7 @@ then_quiet (Gives next item) is = absurd is
 then_quiet (Wrong fault) is = absurd is
 
 -- no field but a tag gives a record
-pub quiet : (due : Due) (p : State) (at : ℕ) (field : List ℕ) → due ≢ Byte B.Tag → IsQuiet (judged due p at field)
+pub quiet : (due : Due) (p : ReadState) (at : ℕ) (field : List ℕ) → due ≢ Byte B.Tag → IsQuiet (judged due p at field)
 quiet (Byte code) p at field no_tag =
     let byte : ℕ = get_or field 0 0 in
     either IsQuiet (lawful_byte code p at byte) _ _ (then_quiet (after_byte code p at byte) (byte_then code p at byte (λ is. no_tag (rw is refl)))) tt

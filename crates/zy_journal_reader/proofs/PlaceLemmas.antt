@@ -13,34 +13,34 @@ use Rattle.zy_journal_reader.specs.declared.due.ByteField.{ByteField}
 use Rattle.zy_journal_reader.specs.declared.due.NumberField.{NumberField}
 use Rattle.zy_journal_reader.specs.declared.due.LongField.{LongField}
 use Rattle.zy_journal_reader.specs.declared.due.BytesField.{BytesField}
-use Rattle.zy_journal_reader.specs.Steps.{State, Done, lawful_byte, after_byte, lawful_number, after_four, lawful_long, after_eight, after_bytes, four, eight, judged, journal_fields}
+use Rattle.zy_journal_reader.specs.Steps.{ReadState, Done, lawful_byte, after_byte, lawful_number, after_four, lawful_long, after_eight, after_bytes, four, eight, judged, journal_fields}
 
 -- ---- places
 
 -- the lists of this state, this record and what is expected
-abbrev pub place : State → Draft → Due → State
+abbrev pub place : ReadState → Draft → Due → ReadState
 place p d due = record p { due = due; draft = d }
 
 -- whole fields of a text lead from one state to another, from any place on
-abbrev pub Over : State → ℕ → List ℕ → State → List ⊤ → Type 0
+abbrev pub Over : ReadState → ℕ → List ℕ → ReadState → List ⊤ → Type 0
 Over s at text last given = RunsOver journal_fields s at text last given
 
-pub record Goes (p : State) (d : Draft) (due : Due) (text : List ℕ) (q : State) (e : Draft) (next : Due) : Type 0 where
+pub record Goes (p : ReadState) (d : Draft) (due : Due) (text : List ℕ) (q : ReadState) (e : Draft) (next : Due) : Type 0 where
   pub over : (at : ℕ) → Over (place p d due) at text (place q e next) []
 
 -- this is expected after a field
-abbrev pub to : State → Draft → Due → Done
+abbrev pub to : ReadState → Draft → Due → Done
 to p d due = Then (place p d due)
 
 -- ---- texts one after another
 
-pub both : {p q r : State} {d e f : Draft} {due next last : Due} (s t : List ℕ) → Goes p d due s q e next → Goes q e next t r f last → Goes p d due (s ++ t) r f last
+pub both : {p q r : ReadState} {d e f : Draft} {due next last : Due} (s t : List ℕ) → Goes p d due s q e next → Goes q e next t r f last → Goes p d due (s ++ t) r f last
 both {p} {q} {r} {d} {e} {f} {due} {next} {last} s t first second = record {
   over = λ at. over_join journal_fields (place p d due) (place q e next) (place r f last) at s t [] [] (first.over at) (second.over (at + length s));
 }
 
 -- no text
-pub stays : (p : State) (d : Draft) (due : Due) → Goes p d due [] p d due
+pub stays : (p : ReadState) (d : Draft) (due : Due) → Goes p d due [] p d due
 stays p d due = record { over = λ at. over_none journal_fields (place p d due) at }
 
 -- ---- one field
@@ -50,7 +50,7 @@ decided : (test right : Bool) (done : Done) (at : ℕ) → test ≡ right → (i
 decided test right done at is = ap (λ (t : Bool). if t then done else Wrong (Form at)) is
 
 -- a lawful field of one byte
-pub one_byte : (p q : State) (d e : Draft) (field : ByteField) (next : Due) (byte : ℕ) → ((at : ℕ) → lawful_byte field (place p d (Byte field)) at byte ≡ true)
+pub one_byte : (p q : ReadState) (d e : Draft) (field : ByteField) (next : Due) (byte : ℕ) → ((at : ℕ) → lawful_byte field (place p d (Byte field)) at byte ≡ true)
     → ((at : ℕ) → after_byte field (place p d (Byte field)) at byte ≡ to q e next) → Goes p d (Byte field) (byte ∷ []) q e next
 one_byte p q d e field next byte right after = record {
   over = λ at. over_then journal_fields (place p d (Byte field)) (place q e next) at (byte ∷ []) refl
@@ -58,35 +58,35 @@ one_byte p q d e field next byte right after = record {
 }
 
 -- a field of one byte that is wrong
-pub one_wrong : (p : State) (d : Draft) (field : ByteField) (byte at : ℕ) → lawful_byte field (place p d (Byte field)) at byte ≡ false → judged (Byte field) (place p d (Byte field)) at (byte ∷ []) ≡ Wrong (Form at)
+pub one_wrong : (p : ReadState) (d : Draft) (field : ByteField) (byte at : ℕ) → lawful_byte field (place p d (Byte field)) at byte ≡ false → judged (Byte field) (place p d (Byte field)) at (byte ∷ []) ≡ Wrong (Form at)
 one_wrong p d field byte at wrong = decided (lawful_byte field (place p d (Byte field)) at byte) false (after_byte field (place p d (Byte field)) at byte) at wrong
 
 -- a number of four bytes
-four_judged : (s : State) (field : NumberField) (n at : ℕ) (right : Bool) → n < 2 ^ 32 → lawful_number field s n ≡ right → judged (Number field) s at (to_be_bytes w32 n) ≡ (if right then after_four field s n else Wrong (Form at))
+four_judged : (s : ReadState) (field : NumberField) (n at : ℕ) (right : Bool) → n < 2 ^ 32 → lawful_number field s n ≡ right → judged (Number field) s at (to_be_bytes w32 n) ≡ (if right then after_four field s n else Wrong (Form at))
 four_judged s field n at right small is = ap (λ (m : ℕ). four field s at m) (from_be_bytes-to_be_bytes_4 n small) ∙ decided (lawful_number field s n) right (after_four field s n) at is
 
-pub four_bytes : (p q : State) (d e : Draft) (field : NumberField) (next : Due) (n : ℕ) → n < 2 ^ 32 → lawful_number field (place p d (Number field)) n ≡ true → after_four field (place p d (Number field)) n ≡ to q e next → Goes p d (Number field) (to_be_bytes w32 n) q e next
+pub four_bytes : (p q : ReadState) (d e : Draft) (field : NumberField) (next : Due) (n : ℕ) → n < 2 ^ 32 → lawful_number field (place p d (Number field)) n ≡ true → after_four field (place p d (Number field)) n ≡ to q e next → Goes p d (Number field) (to_be_bytes w32 n) q e next
 four_bytes p q d e field next n small right after = record {
   over = λ at. over_then journal_fields (place p d (Number field)) (place q e next) at (to_be_bytes w32 n) refl (four_judged (place p d (Number field)) field n at true small right ∙ after);
 }
 
-pub four_wrong : (p : State) (d : Draft) (field : NumberField) (n at : ℕ) → n < 2 ^ 32 → lawful_number field (place p d (Number field)) n ≡ false → judged (Number field) (place p d (Number field)) at (to_be_bytes w32 n) ≡ Wrong (Form at)
+pub four_wrong : (p : ReadState) (d : Draft) (field : NumberField) (n at : ℕ) → n < 2 ^ 32 → lawful_number field (place p d (Number field)) n ≡ false → judged (Number field) (place p d (Number field)) at (to_be_bytes w32 n) ≡ Wrong (Form at)
 four_wrong p d field n at small wrong = four_judged (place p d (Number field)) field n at false small wrong
 
 -- a number of eight bytes
-eight_judged : (s : State) (field : LongField) (n at : ℕ) (right : Bool) → n < 2 ^ 64 → lawful_long field s n ≡ right → judged (Long field) s at (to_be_bytes w64 n) ≡ (if right then after_eight field s n else Wrong (Form at))
+eight_judged : (s : ReadState) (field : LongField) (n at : ℕ) (right : Bool) → n < 2 ^ 64 → lawful_long field s n ≡ right → judged (Long field) s at (to_be_bytes w64 n) ≡ (if right then after_eight field s n else Wrong (Form at))
 eight_judged s field n at right small is = ap (λ (m : ℕ). eight field s at m) (from_be_bytes-to_be_bytes_8 n small) ∙ decided (lawful_long field s n) right (after_eight field s n) at is
 
-pub eight_bytes : (p q : State) (d e : Draft) (field : LongField) (next : Due) (n : ℕ) → n < 2 ^ 64 → lawful_long field (place p d (Long field)) n ≡ true → after_eight field (place p d (Long field)) n ≡ to q e next → Goes p d (Long field) (to_be_bytes w64 n) q e next
+pub eight_bytes : (p q : ReadState) (d e : Draft) (field : LongField) (next : Due) (n : ℕ) → n < 2 ^ 64 → lawful_long field (place p d (Long field)) n ≡ true → after_eight field (place p d (Long field)) n ≡ to q e next → Goes p d (Long field) (to_be_bytes w64 n) q e next
 eight_bytes p q d e field next n small right after = record {
   over = λ at. over_then journal_fields (place p d (Long field)) (place q e next) at (to_be_bytes w64 n) refl (eight_judged (place p d (Long field)) field n at true small right ∙ after);
 }
 
-pub eight_wrong : (p : State) (d : Draft) (field : LongField) (n at : ℕ) → n < 2 ^ 64 → lawful_long field (place p d (Long field)) n ≡ false → judged (Long field) (place p d (Long field)) at (to_be_bytes w64 n) ≡ Wrong (Form at)
+pub eight_wrong : (p : ReadState) (d : Draft) (field : LongField) (n at : ℕ) → n < 2 ^ 64 → lawful_long field (place p d (Long field)) n ≡ false → judged (Long field) (place p d (Long field)) at (to_be_bytes w64 n) ≡ Wrong (Form at)
 eight_wrong p d field n at small wrong = eight_judged (place p d (Long field)) field n at false small wrong
 
 -- a whole key or value that is not empty
-pub all_bytes : (p q : State) (d e : Draft) (field : BytesField) (next : Due) (whole : List ℕ) → d.size ≡ length whole → 0 < length whole → after_bytes field (place p d (Bytes field)) whole ≡ to q e next → Goes p d (Bytes field) whole q e next
+pub all_bytes : (p q : ReadState) (d e : Draft) (field : BytesField) (next : Due) (whole : List ℕ) → d.size ≡ length whole → 0 < length whole → after_bytes field (place p d (Bytes field)) whole ≡ to q e next → Goes p d (Bytes field) whole q e next
 all_bytes p q d e field next whole size some after = record {
   over = λ at. over_then journal_fields (place p d (Bytes field)) (place q e next) at whole (omega (arith, size, some)) after;
 }

@@ -13,11 +13,11 @@ use Rattle.zy_journal_reader.specs.declared.due.Due.TheVariants.{Byte, Number, L
 use Rattle.zy_journal_reader.specs.declared.due.BytesField.{BytesField}
 use Rattle.zy_journal_reader.specs.Verdict.{journals, good, verdict}
 use Rattle.zy_journal_reader.specs.Verdict.Verdict.{Bad}
-use Rattle.zy_journal_reader.specs.Steps.{State, Progress, Done, shape, journal_fields}
-use Rattle.zy_journal_reader.specs.Standing.{StandsForJournal, Fits, Wants, Takes}
+use Rattle.zy_journal_reader.specs.Steps.{ReadState, Progress, Done, shape, journal_fields}
+use Rattle.zy_journal_reader.specs.Standing.{StandsForJournal, FitsPlace, Wants, Takes}
 
 -- a field after which this may be expected anywhere
-pub placed : (done : Done) (after : ℕ) (old new : State) (answer : Result (Option ⊤) (NotTaken FileFault)) → Takes done old new answer → Judges Fits Wants done after old new answer
+pub placed : (done : Done) (after : ℕ) (old new : ReadState) (answer : Result (Option ⊤) (NotTaken FileFault)) → Takes done old new answer → Judges FitsPlace Wants done after old new answer
 placed done after old new (Ok None) takes = (takes.0, takes.1 after)
 placed done after old new (Ok (Some item)) takes = (takes.0, takes.1 after)
 placed done after old new (Err (Fault fault)) takes = takes

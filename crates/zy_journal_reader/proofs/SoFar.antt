@@ -18,7 +18,7 @@ use Rattle.zy_journal_reader.specs.declared.due.ByteField.TheVariants.{Magic, Ca
 use Rattle.zy_journal_reader.specs.declared.due.NumberField.TheVariants.{Shard, Connection, Part, Flags, ValueLength, FoundFlags, FoundLength, HoldConnection, HoldCore, HoldCount}
 use Rattle.zy_journal_reader.specs.declared.due.LongField.TheVariants.{Stamp, Index, CallNumber, FoundUnique, ReplyNumber, Gets, Sets, Hits, Misses, Items}
 use Rattle.zy_journal_reader.specs.declared.due.BytesField.TheVariants.{Key, Value, FoundValue}
-use Rattle.zy_journal_reader.specs.Steps.{State, Done}
+use Rattle.zy_journal_reader.specs.Steps.{ReadState, Done}
 use Rattle.zy_read.proofs.RunLemmas.{After}
 use Rattle.zy_journal_reader.specs.LawfulFields.{last_one}
 use Rattle.zy_journal_reader.proofs.CallLemmas.{fields_in, call_in, to_flags, to_number, to_value, KeyKnown, FlagsKnown, NumberKnown}
@@ -63,7 +63,7 @@ before (Bytes FoundValue) d = head d ++ (call_text (call_in d) ++ hit_code ∷ (
 before due d = []
 
 -- the bytes up to the place where this is expected, which are so many
-abbrev pub bytes_of : Due → State → ℕ → List ℕ
+abbrev pub bytes_of : Due → ReadState → ℕ → List ℕ
 bytes_of (Byte Magic) s at = take at magic
 bytes_of Nothing s at = front s.entries s.holds ++ 69 ∷ []
 bytes_of due s at = front s.entries s.holds ++ before due s.draft
@@ -164,20 +164,20 @@ Known (Bytes FoundValue) past d hs = FoundKnown past d hs × (d.size ≤ value_l
 Known due past d hs = ⊤
 
 -- what is known of what is expected, before which there are so many bytes
-abbrev pub FieldKnown : Due → State → ℕ → Type 0
+abbrev pub FieldKnown : Due → ReadState → ℕ → Type 0
 FieldKnown (Byte Magic) s at = (at < 8) × (s.entries ≡ []) × (s.holds ≡ [])
 FieldKnown (Bytes field) s at = 0 < s.draft.size
 FieldKnown due s at = ⊤
 
 -- a text that leads to this without a fault
-pub record IsReadTo (due : Due) (s : State) (text : List ℕ) : Type 0 where
+pub record IsReadTo (due : Due) (s : ReadState) (text : List ℕ) : Type 0 where
   pub bytes : text ≡ bytes_of due s (length text)
   pub kept : Kept s.entries s.holds s.past
   pub field : FieldKnown due s (length text)
   pub known : Known due s.past s.draft s.holds
 
 -- the text leads to this state
-abbrev pub LeadTo : State → List ℕ → List ⊤ → Type 0
+abbrev pub LeadTo : ReadState → List ℕ → List ⊤ → Type 0
 LeadTo s text given = IsReadTo s.due s text
 
 -- where a whole field leads

@@ -25,7 +25,7 @@ use Rattle.zy_journal_reader.specs.declared.due.ByteField.TheVariants.{Tag, Call
 use Rattle.zy_journal_reader.specs.declared.due.NumberField.TheVariants.{Shard, Connection, Part, HoldConnection, HoldCore, HoldCount}
 use Rattle.zy_journal_reader.specs.declared.due.LongField.TheVariants.{Stamp, Index}
 use Rattle.zy_journal_reader.specs.Fields.{fresh}
-use Rattle.zy_journal_reader.specs.Steps.{State, start, journal_fields, journal_limit}
+use Rattle.zy_journal_reader.specs.Steps.{ReadState, start, journal_fields, journal_limit}
 use Rattle.zy_journal_reader.specs.Verdict.{good, verdict, journal_in, IsReadable, SpellsJournal}
 use Rattle.zy_journal_reader.specs.Verdict.Verdict.{Good, Bad}
 use Rattle.zy_journal_reader.specs.Laws.{lawful}
@@ -47,7 +47,7 @@ not_below past e (inr same) = omega (arith, same.0)
 abbrev pub head_of : Entry → Draft
 head_of e = record fresh { stamp = e.stamp; shard = e.shard; conn = e.tag.conn; index = e.tag.index; part = e.tag.part }
 
-pub head_goes : (p : State) (e : Entry) → p.holds ≡ [] → IsEntry e → FitsEntry e → ComesAfter p.past e → Goes p fresh (Byte Tag) (entry_head e) p (head_of e) (Byte CallCode)
+pub head_goes : (p : ReadState) (e : Entry) → p.holds ≡ [] → IsEntry e → FitsEntry e → ComesAfter p.past e → Goes p fresh (Byte Tag) (entry_head e) p (head_of e) (Byte CallCode)
 unfolding entry_head
 head_goes p e none is fits comes =
     let d1 : Draft = record fresh { stamp = e.stamp } in
@@ -67,7 +67,7 @@ head_goes p e none is fits comes =
     (four_bytes p p d4 (head_of e) Part (Byte CallCode) e.tag.part fits.part refl refl)))))
 
 -- the lists with one further entry
-abbrev pub with_entry : State → Entry → State
+abbrev pub with_entry : ReadState → Entry → ReadState
 with_entry p e = record p { entries = p.entries ++ e ∷ []; past = record p.past { stamp = e.stamp; shard = e.shard } }
 
 -- the entry of which this was read before its call
@@ -75,12 +75,12 @@ abbrev pub entry_with : Draft → Call → CallReply → Entry
 entry_with d call reply = record { tag = record { conn = d.conn; index = d.index; part = d.part }; shard = d.shard; call = call; reply = reply; stamp = d.stamp }
 
 -- what was read of an entry is the entry
-pub is_whole : (p : State) (d : Draft) (kind : CallKind) (key : List ℕ) (flags number : ℕ) (value : List ℕ) (reply : CallReply)
+pub is_whole : (p : ReadState) (d : Draft) (kind : CallKind) (key : List ℕ) (flags number : ℕ) (value : List ℕ) (reply : CallReply)
     → after p (known kind key flags number value (plain d)) reply ≡ with_entry p (entry_with d (call_of kind key flags number value) reply)
 is_whole p d kind key flags number value reply = ap (λ (call : Call). with_entry p (entry_with d call reply)) (call_same kind key flags number value d.key d.flags d.number d.value)
 
 -- the call of an entry and its reply
-pub call_and_reply : (p : State) (d : Draft) (reply : CallReply) → IsReply reply → FitsReply reply → (call : Call) → IsCall call → FitsCall call
+pub call_and_reply : (p : ReadState) (d : Draft) (reply : CallReply) → IsReply reply → FitsReply reply → (call : Call) → IsCall call → FitsCall call
     → Goes p (plain d) (Byte CallCode) (call_text call ++ reply_text reply) (with_entry p (entry_with d call reply)) fresh (Byte Tag)
 call_and_reply p d reply within fits =
     of_kinds (λ (call : Call). IsCall call → FitsCall call → Goes p (plain d) (Byte CallCode) (call_text call ++ reply_text reply) (with_entry p (entry_with d call reply)) fresh (Byte Tag))
@@ -88,19 +88,19 @@ call_and_reply p d reply within fits =
     let call : Call = call_of kind key flags number value in
     let e : Draft = known kind key flags number value (plain d) in
     both (call_text call) (reply_text reply) (call_goes p d kind key flags number value is small)
-    (subst (λ (q : State). Goes p e (Byte ReplyCode) (reply_text reply) q fresh (Byte Tag)) (is_whole p d kind key flags number value reply) (reply_goes p e reply within fits)))
+    (subst (λ (q : ReadState). Goes p e (Byte ReplyCode) (reply_text reply) q fresh (Byte Tag)) (is_whole p d kind key flags number value reply) (reply_goes p e reply within fits)))
 
-pub entry_goes : (p : State) (e : Entry) → p.holds ≡ [] → IsEntry e → FitsEntry e → ComesAfter p.past e → Goes p fresh (Byte Tag) (entry_text e) (with_entry p e) fresh (Byte Tag)
+pub entry_goes : (p : ReadState) (e : Entry) → p.holds ≡ [] → IsEntry e → FitsEntry e → ComesAfter p.past e → Goes p fresh (Byte Tag) (entry_text e) (with_entry p e) fresh (Byte Tag)
 unfolding entry_text
 entry_goes p e none is fits comes =
     both (entry_head e) (call_text e.call ++ reply_text e.reply) (head_goes p e none is fits comes) (call_and_reply p (head_of e) e.reply is.reply fits.reply e.call is.call fits.call)
 
 -- the lists with further entries
-abbrev pub with_entries : State → List Entry → State
+abbrev pub with_entries : ReadState → List Entry → ReadState
 with_entries p [] = p
 with_entries p (e ∷ es) = with_entries (with_entry p e) es
 
-pub entries_go : (es : List Entry) (p : State) (before : Option Entry) → p.holds ≡ [] → AllByRecursion IsEntry es → AllByRecursion FitsEntry es → IsOrdered before es
+pub entries_go : (es : List Entry) (p : ReadState) (before : Option Entry) → p.holds ≡ [] → AllByRecursion IsEntry es → AllByRecursion FitsEntry es → IsOrdered before es
     → ((e : Entry) → 0 < e.stamp → IsBehind before e → ComesAfter p.past e) → Goes p fresh (Byte Tag) (flat_map entry_text es) (with_entries p es) fresh (Byte Tag)
 entries_go [] p before none all fits ordered comes = stays p fresh (Byte Tag)
 entries_go (e ∷ es) p before none all fits ordered comes =
@@ -110,10 +110,10 @@ entries_go (e ∷ es) p before none all fits ordered comes =
 -- ---- holds
 
 -- the lists with one further hold
-abbrev pub with_hold : State → Hold → State
+abbrev pub with_hold : ReadState → Hold → ReadState
 with_hold p h = record p { holds = p.holds ++ h ∷ []; past = record p.past { conn = h.conn } }
 
-pub hold_goes : (p : State) (h : Hold) → IsHold h → p.past.conn ≤ h.conn → Goes p fresh (Byte Tag) (hold_text h) (with_hold p h) fresh (Byte Tag)
+pub hold_goes : (p : ReadState) (h : Hold) → IsHold h → p.past.conn ≤ h.conn → Goes p fresh (Byte Tag) (hold_text h) (with_hold p h) fresh (Byte Tag)
 unfolding hold_text
 hold_goes p h is after_last =
     let d1 : Draft = record fresh { conn = h.conn } in
@@ -127,39 +127,39 @@ hold_goes p h is after_last =
     (four_bytes p (with_hold p h) d2 fresh HoldCount (Byte Tag) h.count (omega (arith, is.few_commands)) (between h.count 1 64 is.some_commands is.few_commands) refl)))
 
 -- the lists with further holds
-abbrev pub with_holds : State → List Hold → State
+abbrev pub with_holds : ReadState → List Hold → ReadState
 with_holds p [] = p
 with_holds p (h ∷ hs) = with_holds (with_hold p h) hs
 
-pub holds_go : (hs : List Hold) (p : State) → AllByRecursion IsHold hs → AreByConnection p.past.conn hs → Goes p fresh (Byte Tag) (flat_map hold_text hs) (with_holds p hs) fresh (Byte Tag)
+pub holds_go : (hs : List Hold) (p : ReadState) → AllByRecursion IsHold hs → AreByConnection p.past.conn hs → Goes p fresh (Byte Tag) (flat_map hold_text hs) (with_holds p hs) fresh (Byte Tag)
 holds_go [] p all rising = stays p fresh (Byte Tag)
 holds_go (h ∷ hs) p all rising =
     both (hold_text h) (flat_map hold_text hs) (hold_goes p h all.0 rising.0) (holds_go hs (with_hold p h) all.1 rising.1)
 
 -- ---- the whole
 
-pub entries_read : (es : List Entry) (p : State) → (with_entries p es).entries ≡ p.entries ++ es
+pub entries_read : (es : List Entry) (p : ReadState) → (with_entries p es).entries ≡ p.entries ++ es
 entries_read [] p = sym (append-nil p.entries)
 entries_read (e ∷ es) p = entries_read es (with_entry p e) ∙ append_assoc p.entries (e ∷ []) es
 
-pub entries_keep : (es : List Entry) (p : State) → (with_entries p es).holds ≡ p.holds
+pub entries_keep : (es : List Entry) (p : ReadState) → (with_entries p es).holds ≡ p.holds
 entries_keep [] p = refl
 entries_keep (e ∷ es) p = entries_keep es (with_entry p e)
 
-pub entries_past : (es : List Entry) (p : State) → (with_entries p es).past.conn ≡ p.past.conn
+pub entries_past : (es : List Entry) (p : ReadState) → (with_entries p es).past.conn ≡ p.past.conn
 entries_past [] p = refl
 entries_past (e ∷ es) p = entries_past es (with_entry p e)
 
-pub holds_read : (hs : List Hold) (p : State) → (with_holds p hs).holds ≡ p.holds ++ hs
+pub holds_read : (hs : List Hold) (p : ReadState) → (with_holds p hs).holds ≡ p.holds ++ hs
 holds_read [] p = sym (append-nil p.holds)
 holds_read (h ∷ hs) p = holds_read hs (with_hold p h) ∙ append_assoc p.holds (h ∷ []) hs
 
-pub holds_keep : (hs : List Hold) (p : State) → (with_holds p hs).entries ≡ p.entries
+pub holds_keep : (hs : List Hold) (p : ReadState) → (with_holds p hs).entries ≡ p.entries
 holds_keep [] p = refl
 holds_keep (h ∷ hs) p = holds_keep hs (with_hold p h)
 
 -- the state after the records of a journal
-abbrev pub after_records : Journal → State
+abbrev pub after_records : Journal → ReadState
 after_records journal = with_holds (with_entries start journal.entries) journal.holds
 
 -- the magic
@@ -175,13 +175,13 @@ pub front_over : (journal : Journal) → IsReadable journal → Over start 0 (fr
 front_over journal readable =
     let entries : List ℕ = flat_map entry_text journal.entries in
     let holds : List ℕ = flat_map hold_text journal.holds in
-    let p : State = with_entries start journal.entries in
+    let p : ReadState = with_entries start journal.entries in
     let first = entries_go journal.entries start None refl readable.valid.entries readable.fits readable.valid.ordered (λ e some behind. inl some) in
     let second = holds_go journal.holds p readable.valid.holds (subst (λ (n : ℕ). AreByConnection n journal.holds) (sym (entries_past journal.entries start)) readable.valid.rising) in
     over_join journal_fields start (place start fresh (Byte Tag)) (place (after_records journal) fresh (Byte Tag)) 0 magic (entries ++ holds) [] [] magic_over ((both entries holds first second).over (0 + length magic))
 
 -- the state at the end
-abbrev pub at_end : Journal → State
+abbrev pub at_end : Journal → ReadState
 at_end journal = place (after_records journal) fresh Nothing
 
 pub front_end : (journal : Journal) → front_text journal ++ 69 ∷ [] ≡ journal_bytes journal
@@ -191,7 +191,7 @@ front_end journal =
 
 pub whole_over : (journal : Journal) → IsReadable journal → Over start 0 (journal_bytes journal) (at_end journal) (tt ∷ [])
 whole_over journal readable =
-    let s : State = place (after_records journal) fresh (Byte Tag) in
+    let s : ReadState = place (after_records journal) fresh (Byte Tag) in
     subst (λ (l : List ℕ). Over start 0 l (at_end journal) (tt ∷ [])) (front_end journal)
     (over_join journal_fields start s (at_end journal) 0 (front_text journal) (69 ∷ []) [] (tt ∷ []) (front_over journal readable)
     (over_gives journal_fields s (at_end journal) tt (0 + length (front_text journal)) (69 ∷ []) refl refl))
@@ -199,8 +199,8 @@ whole_over journal readable =
 -- what was read of it is the journal
 pub end_is : (journal : Journal) → journal_in (at_end journal) ≡ journal
 end_is journal =
-    let p : State = with_entries start journal.entries in
-    let q : State = with_holds p journal.holds in
+    let p : ReadState = with_entries start journal.entries in
+    let q : ReadState = with_holds p journal.holds in
     let entries_are : q.entries ≡ journal.entries = holds_keep journal.holds p ∙ entries_read journal.entries start in
     let holds_are : q.holds ≡ journal.holds = holds_read journal.holds p ∙ ap (λ (l : List Hold). l ++ journal.holds) (entries_keep journal.entries start) in
     ap (λ (l : List Entry). record { entries = l; holds = q.holds }) entries_are ∙ ap (λ (l : List Hold). record { entries = journal.entries; holds = l }) holds_are

@@ -25,7 +25,7 @@ use Rattle.zy_journal_reader.specs.declared.due.ByteField.{ByteField}
 use Rattle.zy_journal_reader.specs.declared.due.ByteField.TheVariants.{Magic, Tag, CallCode, KeyLength, ReplyCode}
 use Rattle.zy_journal_reader.specs.declared.due.NumberField.{NumberField}
 use Rattle.zy_journal_reader.specs.declared.due.LongField.{LongField}
-use Rattle.zy_journal_reader.specs.Steps.{State, Done, start, shape, lawful_byte, lawful_number, lawful_long, after_byte, one, four, eight, judged, is_nothing, journal_fields, journal_limit}
+use Rattle.zy_journal_reader.specs.Steps.{ReadState, Done, start, shape, lawful_byte, lawful_number, lawful_long, after_byte, one, four, eight, judged, is_last, journal_fields, journal_limit}
 use Rattle.zy_journal_reader.specs.Verdict.{Verdict, good, verdict, journal_in, SpellsJournal}
 use Rattle.zy_journal_reader.specs.Verdict.Verdict.{Good, Bad}
 use Rattle.zy_journal_reader.specs.Laws.{lawful}
@@ -38,13 +38,13 @@ use Rattle.zy_journal_reader.proofs.ContentLemmas.{content_on}
 -- ---- one field
 
 -- a field after the bytes that lead to it
-pub ends_on : (due : Due) (p : State) (t text : List ℕ) → text ≡ front p.entries p.holds ++ before due p.draft → IsReadTo due p text → Ends due p t (text ++ t)
+pub ends_on : (due : Due) (p : ReadState) (t text : List ℕ) → text ≡ front p.entries p.holds ++ before due p.draft → IsReadTo due p text → Ends due p t (text ++ t)
 ends_on due p t text is read = record { bytes = further text (front p.entries p.holds) (before due p.draft) t is; kept = read.kept; known = read.known }
 
 letters_on : (at byte : ℕ) → at < 8 → byte ≡ slice_index magic at → take at magic ++ byte ∷ [] ≡ take (at + 1) magic
 letters_on at byte within is = grind (arith, common_steps)
 
-from_magic : (p : State) (text : List ℕ) (byte : ℕ) → IsReadTo (Byte Magic) p text → lawful_byte Magic p (length text) byte ≡ true → Leads (text ++ byte ∷ []) (after_byte Magic p (length text) byte)
+from_magic : (p : ReadState) (text : List ℕ) (byte : ℕ) → IsReadTo (Byte Magic) p text → lawful_byte Magic p (length text) byte ≡ true → Leads (text ++ byte ∷ []) (after_byte Magic p (length text) byte)
 from_magic p text byte read right =
     let at : ℕ = length text in
     let grown : text ++ byte ∷ [] ≡ take (at + 1) magic = ap (λ (l : List ℕ). l ++ byte ∷ []) read.bytes ∙ letters_on at byte read.field.0 (eqb-true byte (slice_index magic at) right) in
@@ -55,7 +55,7 @@ from_magic p text byte read right =
     (λ last. record { bytes = grown ∙ ap (λ (n : ℕ). take (n + 1) magic) (eqb-true at 7 last) ∙ nothing; kept = read.kept; field = tt; known = tt })
     (λ more. record { bytes = grown ∙ ap (λ (n : ℕ). take n magic) (sym longer); kept = read.kept; field = (omega (arith, longer, not_last at read.field.0 more), read.field.1, read.field.2); known = tt })
 
-from_byte : (field : ByteField) (p : State) (text : List ℕ) (byte : ℕ) → IsReadTo (Byte field) p text → lawful_byte field p (length text) byte ≡ true → Leads (text ++ byte ∷ []) (after_byte field p (length text) byte)
+from_byte : (field : ByteField) (p : ReadState) (text : List ℕ) (byte : ℕ) → IsReadTo (Byte field) p text → lawful_byte field p (length text) byte ≡ true → Leads (text ++ byte ∷ []) (after_byte field p (length text) byte)
 from_byte Magic p text byte read right = from_magic p text byte read right
 from_byte Tag p text byte read right = tag_on p (length text) byte (text ++ byte ∷ []) (ends_on (Byte Tag) p (byte ∷ []) text read.bytes read) right
 from_byte CallCode p text byte read right =
@@ -64,14 +64,14 @@ from_byte CallCode p text byte read right =
 from_byte KeyLength p text byte read right = key_length_on p (length text) byte (text ++ byte ∷ []) (ends_on (Byte KeyLength) p (byte ∷ []) text read.bytes read) right
 from_byte ReplyCode p text byte read right = reply_code_on p (length text) byte (text ++ byte ∷ []) (ends_on (Byte ReplyCode) p (byte ∷ []) text read.bytes read) right
 
-from_number : (field : NumberField) (p : State) (text bytes : List ℕ) → AreBytes bytes → length bytes ≡ 4 → IsReadTo (Number field) p text → Leads (text ++ bytes) (four field p (length text) (from_be_bytes w32 bytes))
+from_number : (field : NumberField) (p : ReadState) (text bytes : List ℕ) → AreBytes bytes → length bytes ≡ 4 → IsReadTo (Number field) p text → Leads (text ++ bytes) (four field p (length text) (from_be_bytes w32 bytes))
 from_number field p text bytes all size read =
     let n : ℕ = from_be_bytes w32 bytes in
     chosen (Leads (text ++ bytes)) (lawful_number field p n) _ _
     (λ right. four_on field p n (text ++ bytes) (subst (λ (l : List ℕ). Ends (Number field) p l (text ++ bytes)) (sym (four_is bytes size all)) (ends_on (Number field) p bytes text read.bytes read)) (four_small bytes size all) right)
     (λ wrong. tt)
 
-from_long : (field : LongField) (p : State) (text bytes : List ℕ) → AreBytes bytes → length bytes ≡ 8 → IsReadTo (Long field) p text → Leads (text ++ bytes) (eight field p (length text) (from_be_bytes w64 bytes))
+from_long : (field : LongField) (p : ReadState) (text bytes : List ℕ) → AreBytes bytes → length bytes ≡ 8 → IsReadTo (Long field) p text → Leads (text ++ bytes) (eight field p (length text) (from_be_bytes w64 bytes))
 from_long field p text bytes all size read =
     let n : ℕ = from_be_bytes w64 bytes in
     chosen (Leads (text ++ bytes)) (lawful_long field p n) _ _
@@ -81,7 +81,7 @@ from_long field p text bytes all size read =
 -- ---- a whole text
 
 -- a whole field leads on
-keeps : (due : Due) (p : State) (text bytes : List ℕ) → AreBytes bytes → length bytes ≡ width_of (shape due p.draft.size) → IsReadTo due p text → Leads (text ++ bytes) (judged due p (length text) bytes)
+keeps : (due : Due) (p : ReadState) (text bytes : List ℕ) → AreBytes bytes → length bytes ≡ width_of (shape due p.draft.size) → IsReadTo due p text → Leads (text ++ bytes) (judged due p (length text) bytes)
 keeps (Byte field) p text bytes all size read =
     let byte : ℕ = get_or bytes 0 0 in
     subst (λ (l : List ℕ). Leads (text ++ l) (one field p (length text) byte)) (sym (one_byte bytes size))
@@ -102,7 +102,7 @@ nothing_kept : Kept [] [] (record { stamp = 0; shard = 0; conn = 0 })
 nothing_kept = record { ordered = tt; entries = tt; fits = tt; rising = tt; holds = tt; stamp_is = refl; shard_is = refl; conn_is = refl; next = λ e after. (tt, tt); next_hold = λ h after. (after, tt) }
 
 -- where the whole fields lead with which a text begins
-pub reached : (text : List ℕ) (p : State) (given : List ⊤) (rest : List ℕ) (begins : Begins journal_fields text p given rest) → AreBytes text → IsReadTo p.due p (concat begins.parts)
+pub reached : (text : List ℕ) (p : ReadState) (given : List ⊤) (rest : List ℕ) (begins : Begins journal_fields text p given rest) → AreBytes text → IsReadTo p.due p (concat begins.parts)
 reached text p given rest begins all =
     runs_keep journal_fields AreBytes LeadTo (λ s before bytes gave each holds size. any_given (before ++ bytes) gave (judged s.due s (length before) bytes) (keeps s.due s before bytes each size holds))
     begins.parts start p [] 0 [] given refl (byte_parts begins.parts (bytes_front (concat begins.parts) rest (subst AreBytes begins.text_is all)))
@@ -110,17 +110,17 @@ reached text p given rest begins all =
 
 -- ---- the end
 
-pub nothing_is : (due : Due) → is_nothing due ≡ true → due ≡ Nothing
+pub nothing_is : (due : Due) → is_last due ≡ true → due ≡ Nothing
 nothing_is Nothing is = refl
 nothing_is due is = cc
 
 -- the whole of a text that was read up to its end
-pub whole_bytes : (p : State) (text : List ℕ) → IsReadTo Nothing p text → text ≡ journal_bytes (journal_in p)
+pub whole_bytes : (p : ReadState) (text : List ℕ) → IsReadTo Nothing p text → text ≡ journal_bytes (journal_in p)
 unfolding journal_bytes
 whole_bytes p text read =
     read.bytes ∙ append_assoc magic (flat_map entry_text p.entries ++ flat_map hold_text p.holds) (69 ∷ []) ∙ ap (λ (l : List ℕ). magic ++ l) (append_assoc (flat_map entry_text p.entries) (flat_map hold_text p.holds) (69 ∷ []))
 
-spells : (p : State) (text : List ℕ) → length text ≤ journal_limit → IsReadTo Nothing p text → SpellsJournal text (journal_in p)
+spells : (p : ReadState) (text : List ℕ) → length text ≤ journal_limit → IsReadTo Nothing p text → SpellsJournal text (journal_in p)
 spells p text short read = record {
   readable = record { valid = record { ordered = read.kept.ordered; entries = read.kept.entries; rising = read.kept.rising; holds = read.kept.holds }; fits = read.kept.fits };
   spelled = whole_bytes p text read;
@@ -129,7 +129,7 @@ spells p text short read = record {
 
 good_of : (text : List ℕ) (journal : Journal) (found : Verdict) → AreBytes text → found ≡ Good journal → IsOutcome journal_fields good Bad text found → SpellsJournal text journal
 good_of text journal found all is (inl whole) =
-    let p : State = whole.0 in
+    let p : ReadState = whole.0 in
     let begins = whole.1.1.begins in
     let parts : List ℕ = concat begins.parts in
     let same : text ≡ parts = begins.text_is ∙ append-nil parts in

@@ -11,7 +11,7 @@ use Rattle.zy_journal_reader.specs.declared.due.ByteField.TheVariants.{ReplyCode
 use Rattle.zy_journal_reader.specs.declared.due.NumberField.TheVariants.{FoundLength, HoldCount}
 use Rattle.zy_journal_reader.specs.declared.due.LongField.TheVariants.{ReplyNumber, Items}
 use Rattle.zy_journal_reader.specs.Fields.{IsWithin, IsOpenAnywhere}
-use Rattle.zy_journal_reader.specs.Steps.{State, Progress, Done}
+use Rattle.zy_journal_reader.specs.Steps.{ReadState, Progress, Done}
 use Rattle.zy_journal_reader.specs.Verdict.{Verdict, journals, verdict}
 use Rattle.zy_journal_reader.specs.Verdict.Verdict.{Good, Bad}
 
@@ -46,13 +46,13 @@ MayWant p byte = takes_memory p.state.due ≡ true
 -- ---- for the reader alone
 
 -- the state may be that at this place
-abbrev pub Fits : State → ℕ → Type 0
-Fits s at = IsWithin s.due at
+abbrev pub FitsPlace : ReadState → ℕ → Type 0
+FitsPlace s at = IsWithin s.due at
 
 -- its field may need memory
-abbrev pub Wants : State → Type 0
+abbrev pub Wants : ReadState → Type 0
 Wants s = takes_memory s.due ≡ true
 
 -- an answer and a new state, at which no place is told by what is expected, are those of a whole field
-abbrev pub Takes : Done → State → State → Result (Option ⊤) (NotTaken FileFault) → Type 0
-Takes done old new result = Judges (λ (s : State) at. IsOpenAnywhere s.due) Wants done 0 old new result
+abbrev pub Takes : Done → ReadState → ReadState → Result (Option ⊤) (NotTaken FileFault) → Type 0
+Takes done old new result = Judges (λ (s : ReadState) at. IsOpenAnywhere s.due) Wants done 0 old new result

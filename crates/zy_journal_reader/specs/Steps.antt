@@ -39,7 +39,7 @@ use Rattle.zy_journal_reader.specs.Fields.{at_key, at_flags, at_number, at_value
 -- ---- how far a text was read
 
 -- what was read of a text up to some field
-pub record State : Type 0 where
+pub record ReadState : Type 0 where
   -- what is expected there
   pub due : Due
   -- what was read of the record
@@ -52,10 +52,10 @@ pub record State : Type 0 where
 
 -- where a text was read up to some byte
 abbrev pub Progress : Type 0
-Progress = Place State FileFault
+Progress = Place ReadState FileFault
 
 -- before the first field
-abbrev pub start : State
+abbrev pub start : ReadState
 start = record {
   due = Byte Magic;
   draft = fresh;
@@ -66,7 +66,7 @@ start = record {
 
 -- what a whole field does: where it leads, and whether it ends the journal
 abbrev pub Done : Type 0
-Done = Judged State ⊤ FileFault
+Done = Judged ReadState ⊤ FileFault
 
 -- the most bytes of a journal
 abbrev pub journal_limit : ℕ
@@ -75,19 +75,19 @@ journal_limit = 2 ^ 63 - 1
 -- ---- what a field may do
 
 -- this is expected after the field
-abbrev pub goes : State → Due → Done
+abbrev pub goes : ReadState → Due → Done
 goes s due = Then (record s { due = due })
 
 -- the same, with more known of the record
-abbrev pub knows : State → Draft → Due → Done
+abbrev pub knows : ReadState → Draft → Due → Done
 knows s draft due = goes (record s { draft = draft }) due
 
 -- the field is a length, and `size` bytes are expected after it
-abbrev pub begins : State → BytesField → ℕ → Done
+abbrev pub begins : ReadState → BytesField → ℕ → Done
 begins s field size = goes (record s { draft = record s.draft { size = size } }) (Bytes field)
 
 -- the state after an entry, which has this reply
-abbrev pub after_entry : State → CallReply → State
+abbrev pub after_entry : ReadState → CallReply → ReadState
 after_entry s reply = record s {
   due = Byte Tag;
   draft = fresh;
@@ -96,11 +96,11 @@ after_entry s reply = record s {
 }
 
 -- the field ends an entry, which has this reply
-abbrev pub ends_entry : State → CallReply → Done
+abbrev pub ends_entry : ReadState → CallReply → Done
 ends_entry s reply = Then (after_entry s reply)
 
 -- the state after a hold, which has this count
-abbrev pub after_hold : State → ℕ → State
+abbrev pub after_hold : ReadState → ℕ → ReadState
 after_hold s count = record s {
   due = Byte Tag;
   draft = fresh;
@@ -109,17 +109,17 @@ after_hold s count = record s {
 }
 
 -- the field ends a hold, which has this count
-abbrev pub ends_hold : State → ℕ → Done
+abbrev pub ends_hold : ReadState → ℕ → Done
 ends_hold s count = Then (after_hold s count)
 
 -- the field ends the journal
-abbrev pub ends : State → Done
+abbrev pub ends : ReadState → Done
 ends s = Gives (record s { due = Nothing }) tt
 
 -- ---- fields of one byte
 
 -- which bytes are lawful; no entry comes after a hold
-abbrev pub lawful_byte : ByteField → State → ℕ → ℕ → Bool
+abbrev pub lawful_byte : ByteField → ReadState → ℕ → ℕ → Bool
 lawful_byte Magic s at byte = byte == slice_index magic at
 lawful_byte Tag s at byte = byte == 69 || byte == 72 || (byte == 74 && length s.holds == 0)
 lawful_byte CallCode s at byte = nat_le 1 byte && nat_le byte last_call_code
@@ -127,7 +127,7 @@ lawful_byte KeyLength s at byte = nat_le 1 byte && nat_le byte key_limit
 lawful_byte ReplyCode s at byte = nat_le 1 byte && nat_le byte last_reply_code
 
 -- what a lawful one does
-abbrev pub after_byte : ByteField → State → ℕ → ℕ → Done
+abbrev pub after_byte : ByteField → ReadState → ℕ → ℕ → Done
 after_byte Magic s at byte = if at == 7 then goes s (Byte Tag) else goes s (Byte Magic)
 after_byte Tag s at byte =
     if byte == 69 then ends s else if byte == 72 then goes s (Number HoldConnection) else goes s (Long Stamp)
@@ -140,7 +140,7 @@ after_byte ReplyCode s at byte =
 -- ---- numbers of four bytes
 
 -- which numbers are lawful; where the stamp is that of the entry before, the shard is above that one's
-abbrev pub lawful_number : NumberField → State → ℕ → Bool
+abbrev pub lawful_number : NumberField → ReadState → ℕ → Bool
 lawful_number Shard s n = nat_lt n shard_limit && (nat_lt s.past.stamp s.draft.stamp || nat_lt s.past.shard n)
 lawful_number Connection s n = nat_lt n connection_limit
 lawful_number ValueLength s n = nat_le n value_limit
@@ -153,7 +153,7 @@ lawful_number Flags s n = true
 lawful_number FoundFlags s n = true
 
 -- what a lawful one does
-abbrev pub after_four : NumberField → State → ℕ → Done
+abbrev pub after_four : NumberField → ReadState → ℕ → Done
 after_four Shard s n = knows s (record s.draft { shard = n }) (Number Connection)
 after_four Connection s n = knows s (record s.draft { conn = n }) (Long Index)
 after_four Part s n = knows s (record s.draft { part = n }) (Byte CallCode)
@@ -170,7 +170,7 @@ after_four HoldCount s n = ends_hold s n
 -- ---- numbers of eight bytes
 
 -- which numbers are lawful; a stamp is not below that of the entry before
-abbrev pub lawful_long : LongField → State → ℕ → Bool
+abbrev pub lawful_long : LongField → ReadState → ℕ → Bool
 lawful_long Stamp s n = nat_le 1 n && nat_lt n stamp_limit && nat_le s.past.stamp n
 lawful_long Index s n = nat_lt n command_limit
 lawful_long CallNumber s n = true
@@ -183,7 +183,7 @@ lawful_long Misses s n = true
 lawful_long Items s n = true
 
 -- what a lawful one does
-abbrev pub after_eight : LongField → State → ℕ → Done
+abbrev pub after_eight : LongField → ReadState → ℕ → Done
 after_eight Stamp s n = knows s (record s.draft { stamp = n }) (Number Shard)
 after_eight Index s n = knows s (record s.draft { index = n }) (Number Part)
 after_eight CallNumber s n = knows s (record s.draft { number = n }) (at_value (fields_of s.draft.kind))
@@ -198,7 +198,7 @@ after_eight Items s n = ends_entry s (tally (record s.draft.counts { items = n }
 -- ---- keys and values
 
 -- what a whole key or value does
-abbrev pub after_bytes : BytesField → State → List ℕ → Done
+abbrev pub after_bytes : BytesField → ReadState → List ℕ → Done
 after_bytes Key s bytes =
     knows s (record s.draft { key = bytes; size = 0 })
     (at_flags (fields_of s.draft.kind))
@@ -210,19 +210,19 @@ after_bytes FoundValue s bytes =
 -- ---- a whole field, by what is expected
 
 -- a field of one byte
-abbrev pub one : ByteField → State → ℕ → ℕ → Done
+abbrev pub one : ByteField → ReadState → ℕ → ℕ → Done
 one field s at byte = if lawful_byte field s at byte then after_byte field s at byte else Wrong (Form at)
 
 -- a number of four bytes
-abbrev pub four : NumberField → State → ℕ → ℕ → Done
+abbrev pub four : NumberField → ReadState → ℕ → ℕ → Done
 four field s at n = if lawful_number field s n then after_four field s n else Wrong (Form at)
 
 -- a number of eight bytes
-abbrev pub eight : LongField → State → ℕ → ℕ → Done
+abbrev pub eight : LongField → ReadState → ℕ → ℕ → Done
 eight field s at n = if lawful_long field s n then after_eight field s n else Wrong (Form at)
 
 -- a whole field, where this is expected
-abbrev pub judged : Due → State → ℕ → List ℕ → Done
+abbrev pub judged : Due → ReadState → ℕ → List ℕ → Done
 judged (Byte field) s at bytes = one field s at (get_or bytes 0 0)
 judged (Number field) s at bytes = four field s at (from_be_bytes w32 bytes)
 judged (Long field) s at bytes = eight field s at (from_be_bytes w64 bytes)
@@ -239,17 +239,17 @@ shape (Bytes field) size = Shapes.Run (size - 1)
 shape due size = Shapes.Byte
 
 -- the end was read
-abbrev pub is_nothing : Due → Bool
-is_nothing Nothing = true
-is_nothing due = false
+abbrev pub is_last : Due → Bool
+is_last Nothing = true
+is_last due = false
 
 -- the fields of a journal
-abbrev pub journal_fields : Fields State ⊤ FileFault
+abbrev pub journal_fields : Fields ReadState ⊤ FileFault
 journal_fields = record {
   start = start;
   width = λ s. width_of (shape s.due s.draft.size);
   judge = λ s at field. judged s.due s at field;
-  is_end = λ s. is_nothing s.due;
+  is_end = λ s. is_last s.due;
   limit = journal_limit;
   too_long = TooLong;
   truncated = Truncated;

@@ -9,7 +9,7 @@ use Rattle.zy_read.specs.Format.{Format, Reading, read_on, fault_met, verdict_on
 use Rattle.zy_journal.specs.declared.journal.Journal.{Journal}
 use Rattle.zy_journal.specs.Journal.{IsJournal, journal_bytes}
 use Rattle.zy_read.specs.Fields.{step, format_of}
-use Rattle.zy_journal_reader.specs.Steps.{State, Progress, journal_fields, journal_limit}
+use Rattle.zy_journal_reader.specs.Steps.{ReadState, Progress, journal_fields, journal_limit}
 
 -- ---- a whole text
 
@@ -19,11 +19,11 @@ pub data Verdict : Type 0 where
   Bad : FileFault → Verdict
 
 -- the journal that was read
-abbrev pub journal_in : State → Journal
+abbrev pub journal_in : ReadState → Journal
 journal_in s = record { entries = s.entries; holds = s.holds }
 
 -- the verdict on a text that ends at its end
-abbrev pub good : State → List ⊤ → Verdict
+abbrev pub good : ReadState → List ⊤ → Verdict
 good s given = Good (journal_in s)
 
 -- the format of journals; what a text gives is that the journal ended

@@ -3,7 +3,7 @@ ghost use Rattle.std.specs.Prelude.{◌≡◌, ◌-◌, ◌+◌, ◌∷◌, [], 
 ghost use Rattle.zy_journal_reader.specs.Steps.{journal_fields, shape, start};
 ghost use Rattle.zy_journal_reader.specs.Verdict.{Verdict, good, journal_in};
 ghost use Rattle.zy_journal_reader.specs.Verdict.Verdict.{Bad};
-ghost use Rattle.zy_journal_reader.specs.Standing.{Fits, Wants};
+ghost use Rattle.zy_journal_reader.specs.Standing.{FitsPlace, Wants};
 ghost use Rattle.zy_journal_reader.specs.Laws.{widths, runs, lawful, few, begins};
 
 mod codes;
@@ -34,9 +34,9 @@ pub(crate) struct JournalState {
 }
 
 impl Model for JournalState {
-    ghost use Rattle.zy_journal_reader.specs.Steps.{State};
+    ghost use Rattle.zy_journal_reader.specs.Steps.{ReadState};
 
-    ghost Value = { State };
+    ghost Value = { ReadState };
 
     ghost view = { λ s. record {
       due = s.due;
@@ -88,7 +88,7 @@ impl FieldFormat for JournalState {
 
     ghost shape_of = { λ s. shape s.due s.draft.size };
 
-    ghost Fits = { Fits };
+    ghost Fits = { FitsPlace };
 
     ghost Wants = { Wants };
 

@@ -5,7 +5,7 @@ ghost use Rattle.zy_read.specs.FieldReading.{Judges};
 ghost use Rattle.zy_journal_reader.specs.declared.due.Due.TheVariants as Dues;
 ghost use Rattle.zy_journal_reader.specs.declared.due.ByteField.TheVariants as Codes;
 ghost use Rattle.zy_journal_reader.specs.Steps.{lawful_byte, after_byte, begins};
-ghost use Rattle.zy_journal_reader.specs.Standing.{Takes, Fits, Wants};
+ghost use Rattle.zy_journal_reader.specs.Standing.{Takes, FitsPlace, Wants};
 
 use super::JournalState;
 use crate::call_fields::at_key;
@@ -30,8 +30,8 @@ impl JournalState {
         byte: u8,
     ) -> Result<Option<()>, FileFeed>
         requires due { self.old.due ≡ Dues.Byte field }
-        requires fits { Fits self.old at }
-        ensures value { Judges Fits Wants (after_byte field self.old at byte) (at + 1)
+        requires fits { FitsPlace self.old at }
+        ensures value { Judges FitsPlace Wants (after_byte field self.old at byte) (at + 1)
             self.old self.new result }
     {
         match field {
@@ -57,7 +57,7 @@ impl JournalState {
     // Whether the byte is allowed there.
     pub(super) fn is_lawful_byte(&self, field: ByteField, at: u64, byte: u8) -> bool
         requires due { self.now.due ≡ Dues.Byte field }
-        requires fits { Fits self.now at }
+        requires fits { FitsPlace self.now at }
         ensures value { result ≡ lawful_byte field self.now at byte }
     {
         match field {
