@@ -1,35 +1,31 @@
--- A text whose verdict is a fault has that fault.
-use Rattle.std.proofs.Common.{◌≡◌, ◌⊎◌, inl, inr, ℕ, zero, suc, ◌+◌, ◌-◌, ◌<◌, ◌≤◌, ◌^◌, true, false, List, [], ◌∷◌, ◌++◌, length, take, drop, get_or, refl, sym, ◌∙◌, ap, subst, arith, append_assoc, length-append, take-append-drop}
-use Rattle.std.specs.Prelude.{◌==◌, ◌&&◌, nat_lt, nat_le, Option, None, Some, option_to_list, flat_map}
-use Rattle.std.specs.List.{slice_index}
-use Rattle.std.specs.Int.{to_be_bytes, from_be_bytes, w32}
+-- A field that is wrong is a fault of the text.
+use Rattle.std.proofs.Common.{◌≡◌, ◌⊎◌, inl, inr, ℕ, zero, suc, ◌+◌, ◌<◌, ◌≤◌, true, false, List, [], ◌∷◌, ◌++◌, length, take, drop, get_or, refl, sym, ◌∙◌, ap, subst, arith, append_assoc, length-append, take-append-drop}
+use Rattle.std.specs.Prelude.{◌==◌, ◌&&◌, nat_lt}
+use Rattle.std.specs.List.{slice_index, concat}
+use Rattle.std.specs.Int.{to_be_bytes, w32}
 use Rattle.std.proofs.lemmas.Bool.{ltb-false, ltb-true}
 use Rattle.std.proofs.lemmas.Bool.Decides.{nat_tests}
-use Rattle.zy_capture.specs.declared.record.Record.{Record}
-use Rattle.zy_capture.specs.declared.capture_fault.CaptureFault.{CaptureFault}
-use Rattle.zy_capture.specs.declared.capture_fault.CaptureFault.TheVariants.{BadMagic, ConnCount, BadTag, ConnRange, SegmentLength, Truncated, Trailing, TooLong}
-use Rattle.zy_capture.specs.declared.due.Due.{Due}
-use Rattle.zy_capture.specs.declared.due.Due.TheVariants.{Magic, Count, Tag, Connection, Length, Payload, Closed, Nothing, Broken}
-use Rattle.zy_capture.specs.Capture.{letters, magic, spelled, spelling, IsCapture, capture_limit, connection_limit, segment_limit}
 use Rattle.zy_read.specs.Bytes.{AreBytes}
-use Rattle.zy_capture.specs.Steps.{Progress, Step, start, refuses, after_magic, tag, number, segment, taken, is_open, is_full, step}
 use Rattle.zy_read.specs.declared.magic.MagicPart.{MagicPart}
 use Rattle.zy_read.specs.declared.magic.MagicPart.TheVariants.{Letters, Digit, LineFeed}
 use Rattle.zy_read.specs.declared.magic.MagicStep.{MagicStep}
-use Rattle.zy_read.specs.declared.magic.MagicStep.TheVariants.{Next, Whole, Wrong}
-use Rattle.zy_read.specs.Magic.{letter, digit, line_feed, magic_step}
-use Rattle.zy_read.specs.Format.{Reading, read_on, reading_of, verdict_on, fault_met}
-use Rattle.zy_read.specs.Standing.{StandsAs}
-use Rattle.zy_capture.specs.Verdict.{Verdict, read_from, ended, verdict, fault_in, is_good, captures}
-use Rattle.zy_capture.specs.Verdict.Verdict.{Bad}
-use Rattle.zy_capture.specs.Standing.{StandsFor}
-use Rattle.zy_capture.specs.Faults.{BeginsMagic, IsConnectionOver}
-use Rattle.zy_capture.proofs.FaultWords.{IsCut, IsFault}
-use Rattle.zy_capture.proofs.ByteLemmas.{chosen, assoc_twice}
-use Rattle.zy_read.proofs.Feeding.{fed_step, read_broken, verdict_here, starts}
-use Rattle.zy_read.proofs.ByteLemmas.{bytes_on, byte_at}
-use Rattle.zy_capture.specs.Lasting.{lasting, is_broken}
-use Rattle.zy_capture.proofs.WholeLemmas.{front, IsField, Parts, IsReadTo, number_is, from_step, read_whole}
+use Rattle.zy_read.specs.declared.magic.MagicStep.TheVariants as Steps
+use Rattle.zy_read.specs.Magic.{magic_step}
+use Rattle.zy_read.specs.Fields.Judged.{Wrong}
+use Rattle.zy_read.specs.Runs.{IsMisjudged}
+use Rattle.zy_read.proofs.ByteLemmas.{bytes_front, bytes_back}
+use Rattle.zy_capture.specs.declared.record.Record.{Record}
+use Rattle.zy_capture.specs.declared.capture_fault.CaptureFault.{CaptureFault}
+use Rattle.zy_capture.specs.declared.capture_fault.CaptureFault.TheVariants.{BadMagic, ConnCount, BadTag, ConnRange, SegmentLength, Trailing}
+use Rattle.zy_capture.specs.declared.due.Due.{Due}
+use Rattle.zy_capture.specs.declared.due.Due.TheVariants.{Magic, Count, Tag, Connection, Length, Payload, Closed, Nothing}
+use Rattle.zy_capture.specs.declared.capture_state.CaptureState.{CaptureState}
+use Rattle.zy_capture.specs.Capture.{letters, magic, spelling, capture_limit, connection_limit, segment_limit}
+use Rattle.zy_capture.specs.Faults.{BeginsMagic, front_text, GoesOn, IsConnectionOver, IsWrong}
+use Rattle.zy_capture.specs.Steps.{width, is_end, Judgement, number, byte, judge_magic, judge_tag, judge, fields}
+use Rattle.zy_capture.proofs.ByteLemmas.{chosen}
+use Rattle.zy_capture.proofs.PlaceLemmas.{IsAfter, IsAt, one_byte, four_bytes, small_number}
+use Rattle.zy_capture.proofs.WholeLemmas.{stands_there, ends_spelling}
 
 -- ---- beginnings of a magic
 
@@ -71,322 +67,205 @@ differs_line_feed version byte differs begins =
     let same : byte ≡ 10 = ap (λ (l : List ℕ). get_or l 7 0) begins.whole in
     grind (arith, nat_tests)
 
--- ---- the byte that is a fault
+-- ---- a field that is wrong
 
--- a step to a fault means that the text has it
-abbrev Faults : List ℕ → CaptureFault → Step → Type 0
-Faults text fault s = s.next.due ≡ Broken fault → IsFault text fault
+-- what a field does means that the text has the fault
+abbrev Faults : List ℕ → CaptureFault → Judgement → Type 0
+Faults text fault judged = judged ≡ Wrong fault → IsWrong text fault
 
--- a fault is that of the text
-told : (text : List ℕ) (p : Progress) (found fault : CaptureFault) → IsFault text found → Faults text fault (refuses p found)
-told text p found fault has is = let same : found ≡ fault = cc in subst (λ (f : CaptureFault). IsFault text f) same has
-
--- four bytes of a number
-small_number : (field : List ℕ) (byte : ℕ) → IsField field → byte < 256 → 3 ≤ length field → from_be_bytes w32 (field ++ byte ∷ []) < 2 ^ 32
-small_number field byte is small long =
-    let all = byte_at (field ++ byte ∷ []) (bytes_on field byte is.1 small) in
-    omega (arith, all 0, all 1, all 2, all 3)
-
--- what is before and after the last byte of a number
-number_text : (front field rest : List ℕ) (byte n : ℕ) → to_be_bytes w32 n ≡ field ++ byte ∷ [] → (front ++ field) ++ byte ∷ rest ≡ front ++ (to_be_bytes w32 n ++ rest)
-number_text front field rest byte n is =
-    append_assoc front field (byte ∷ rest) ∙ ap (λ (l : List ℕ). front ++ l) (sym (append_assoc field (byte ∷ []) rest) ∙ ap (λ (l : List ℕ). l ++ rest) (sym is))
+told : (text : List ℕ) (found fault : CaptureFault) → IsWrong text found → Faults text fault (Wrong found)
+told text found fault has is = let same : found ≡ fault = cc in subst (λ (f : CaptureFault). IsWrong text f) same has
 
 -- the same of a step in the magic
-abbrev MagicFaults : Progress → List ℕ → CaptureFault → MagicStep → Type 0
-MagicFaults p text fault s = Faults text fault (after_magic p s)
+abbrev MagicFaults : CaptureState → ℕ → List ℕ → CaptureFault → MagicStep → Type 0
+MagicFaults s at text fault m = Faults text fault (judge_magic s at m)
 
-from_letters : (p : Progress) (before rest : List ℕ) (given : List Record) (byte : ℕ) (fault : CaptureFault) → Parts (Magic Letters) p given before → MagicFaults p (before ++ byte ∷ rest) fault (letter letters p.at byte)
-from_letters p before rest given byte fault parts =
-    chosen (MagicFaults p (before ++ byte ∷ rest) fault) (byte == slice_index letters p.at) _ Wrong
-    (λ same. chosen (MagicFaults p (before ++ byte ∷ rest) fault) (p.at == 5) (Next Digit) (Next Letters) (λ last is. cc) (λ more is. cc))
-    (λ differs. told (before ++ byte ∷ rest) p (BadMagic p.at) fault (record {
-      front = take p.at letters;
-      byte = byte;
+-- a byte that is none of the magic
+no_magic : (s : CaptureState) (front begun rest : List ℕ) (b : ℕ) (fault : CaptureFault) → front ≡ begun → length front < 8 → BeginsMagic begun → (BeginsMagic (begun ++ b ∷ []) → ⊥) → MagicFaults s (length front) (front ++ b ∷ rest) fault Steps.Wrong
+no_magic s front begun rest b fault is within begins differs =
+    told (front ++ b ∷ rest) (BadMagic (length front)) fault (record {
+      front = front;
+      byte = b;
       rest = rest;
-      whole = ap (λ (l : List ℕ). l ++ byte ∷ rest) parts.bytes;
-      place = parts.count ∙ ap (λ (l : List ℕ). length l) parts.bytes;
-      within = omega (arith, parts.valid.0);
-      begins = begins_letters p.at;
-      differs = differs_letter p.at byte parts.valid.0 differs;
-    }))
+      whole = refl;
+      place = refl;
+      within = within;
+      begins = subst BeginsMagic (sym is) begins;
+      differs = λ one. differs (subst (λ (l : List ℕ). BeginsMagic (l ++ b ∷ [])) is one);
+    })
 
-from_digit : (p : Progress) (before rest : List ℕ) (given : List Record) (byte : ℕ) (fault : CaptureFault) → Parts (Magic Digit) p given before → MagicFaults p (before ++ byte ∷ rest) fault (digit byte)
-from_digit p before rest given byte fault parts =
-    chosen (MagicFaults p (before ++ byte ∷ rest) fault) (byte == 49) (Next (LineFeed 1)) _
-    (λ one is. cc)
-    (λ not_one. chosen (MagicFaults p (before ++ byte ∷ rest) fault) (byte == 50) (Next (LineFeed 2)) Wrong
-    (λ two is. cc)
-    (λ not_two. told (before ++ byte ∷ rest) p (BadMagic p.at) fault (record {
-      front = letters;
-      byte = byte;
+magic_wrong : (part : MagicPart) (s : CaptureState) (front rest : List ℕ) (given : List Record) (b : ℕ) (fault : CaptureFault) → IsAt (Magic part) s front given → MagicFaults s (length front) (front ++ b ∷ rest) fault (magic_step part letters (length front) b)
+magic_wrong Letters s front rest given b fault is =
+    let at : ℕ = length front in
+    let within : at < 6 = is.0 in
+    let P : MagicStep → Type 0 = MagicFaults s at (front ++ b ∷ rest) fault in
+    chosen P (b == slice_index letters at) _ Steps.Wrong
+    (λ same. chosen P (at == 5) (Steps.Next Digit) (Steps.Next Letters) (λ last none. cc) (λ more none. cc))
+    (λ differs. no_magic s front (take at letters) rest b fault is.3 (omega (arith, within)) (begins_letters at) (differs_letter at b within differs))
+magic_wrong Digit s front rest given b fault is =
+    let at : ℕ = length front in
+    let six : at ≡ 6 = ap (λ (l : List ℕ). length l) is.3 in
+    let P : MagicStep → Type 0 = MagicFaults s at (front ++ b ∷ rest) fault in
+    chosen P (b == 49) (Steps.Next (LineFeed 1)) _ (λ one none. cc)
+    (λ not_one. chosen P (b == 50) (Steps.Next (LineFeed 2)) Steps.Wrong (λ two none. cc)
+    (λ not_two. no_magic s front letters rest b fault is.3 (omega (arith, six)) (begins_letters 6) (differs_digit b not_one not_two)))
+magic_wrong (LineFeed version) s front rest given b fault is =
+    let at : ℕ = length front in
+    let seven : at ≡ 7 = ap (λ (l : List ℕ). length l) is.3 in
+    chosen (MagicFaults s at (front ++ b ∷ rest) fault) (b == 10) (Steps.Whole version) Steps.Wrong (λ same none. cc)
+    (λ differs. no_magic s front (letters ++ (48 + version) ∷ []) rest b fault is.3 (omega (arith, seven)) (begins_digit version is.1) (differs_line_feed version b differs))
+
+count_wrong : (s : CaptureState) (front field rest : List ℕ) (given : List Record) (fault : CaptureFault) → AreBytes field → IsAt Count s front given → length field ≡ 4 → Faults (front ++ (field ++ rest)) fault (judge Count s (length front) field)
+count_wrong s front field rest given fault all is four =
+    let n : ℕ = number field in
+    chosen (Faults (front ++ (field ++ rest)) fault) (nat_lt connection_limit n) _ _
+    (λ over. told (front ++ (field ++ rest)) (ConnCount n) fault (record {
+      version = s.version;
       rest = rest;
-      whole = ap (λ (l : List ℕ). l ++ byte ∷ rest) parts.bytes;
-      place = parts.count ∙ ap (λ (l : List ℕ). length l) parts.bytes;
-      within = omega (arith, parts.count, ap (λ (l : List ℕ). length l) parts.bytes);
-      begins = begins_letters 6;
-      differs = differs_digit byte not_one not_two;
-    })))
-
-from_line_feed : (version : ℕ) (p : Progress) (before rest : List ℕ) (given : List Record) (byte : ℕ) (fault : CaptureFault) → Parts (Magic (LineFeed version)) p given before → MagicFaults p (before ++ byte ∷ rest) fault (line_feed version byte)
-from_line_feed version p before rest given byte fault parts =
-    chosen (MagicFaults p (before ++ byte ∷ rest) fault) (byte == 10) (Whole version) Wrong
-    (λ same is. cc)
-    (λ differs. told (before ++ byte ∷ rest) p (BadMagic p.at) fault (record {
-      front = letters ++ (48 + version) ∷ [];
-      byte = byte;
-      rest = rest;
-      whole = ap (λ (l : List ℕ). l ++ byte ∷ rest) parts.bytes;
-      place = parts.count ∙ ap (λ (l : List ℕ). length l) parts.bytes;
-      within = omega (arith, parts.count, ap (λ (l : List ℕ). length l) parts.bytes);
-      begins = begins_digit version parts.valid.1;
-      differs = differs_line_feed version byte differs;
-    }))
-
-from_magic : (part : MagicPart) (p : Progress) (before rest : List ℕ) (given : List Record) (byte : ℕ) (fault : CaptureFault) → Parts (Magic part) p given before → MagicFaults p (before ++ byte ∷ rest) fault (magic_step part letters p.at byte)
-from_magic Letters p before rest given byte fault parts = from_letters p before rest given byte fault parts
-from_magic Digit p before rest given byte fault parts = from_digit p before rest given byte fault parts
-from_magic (LineFeed version) p before rest given byte fault parts = from_line_feed version p before rest given byte fault parts
-
-from_count : (p : Progress) (before rest : List ℕ) (given : List Record) (byte : ℕ) (fault : CaptureFault) → byte < 256 → Parts Count p given before → Faults (before ++ byte ∷ rest) fault (number Count p byte)
-from_count p before rest given byte fault small parts =
-    let n : ℕ = from_be_bytes w32 (p.field ++ byte ∷ []) in
-    chosen (Faults (before ++ byte ∷ rest) fault) (nat_lt (length p.field) 3) _ _
-    (λ short is. cc)
-    (λ long. chosen (Faults (before ++ byte ∷ rest) fault) (nat_lt connection_limit n) _ _
-    (λ over. told (before ++ byte ∷ rest) p (ConnCount n) fault (record {
-      version = p.version;
-      rest = rest;
-      known = parts.valid.0;
-      whole = ap (λ (l : List ℕ). l ++ byte ∷ rest) parts.bytes ∙ number_text (magic p.version) p.field rest byte n (number_is p.field byte parts.valid.2 small (ltb-false (length p.field) 3 long));
+      known = is.0;
+      whole = ap (λ (l : List ℕ). l ++ (field ++ rest)) is.2 ∙ ap (λ (l : List ℕ). magic s.version ++ (l ++ rest)) (sym (four_bytes field all four));
       over = ltb-true connection_limit n over;
-      fits = small_number p.field byte parts.valid.2 small (ltb-false (length p.field) 3 long);
+      fits = small_number field all;
     }))
-    (λ few is. cc))
+    (λ few none. cc)
 
-from_tag : (p : Progress) (before rest : List ℕ) (given : List Record) (byte : ℕ) (fault : CaptureFault) → p.at < capture_limit → Parts Tag p given before → Faults (before ++ byte ∷ rest) fault (tag p byte)
-from_tag p before rest given byte fault room parts =
-    chosen (Faults (before ++ byte ∷ rest) fault) (byte == 83) _ _
-    (λ yes_segment is. cc)
-    (λ segment_not. chosen (Faults (before ++ byte ∷ rest) fault) (byte == 69) _ _
-    (λ yes_end is. cc)
-    (λ end_not. chosen (Faults (before ++ byte ∷ rest) fault) (byte == 67 && p.version == 2) _ _
-    (λ yes_close is. cc)
-    (λ close_not. told (before ++ byte ∷ rest) p (BadTag p.at byte) fault (record {
-      version = p.version;
-      count = p.count;
+-- a text goes on after the records of a capture
+goes_on : (version count : ℕ) (given : List Record) (tail front after : List ℕ) → IsAfter version count given tail front → GoesOn (front ++ after) version count given (length (front_text version count given)) (tail ++ after)
+goes_on version count given tail front after is = record {
+  valid = is.valid;
+  whole = ap (λ (l : List ℕ). l ++ after) is.whole ∙ append_assoc (front_text version count given) tail after;
+  place = refl;
+}
+
+after_size : (version count : ℕ) (given : List Record) (tail front : List ℕ) → IsAfter version count given tail front → length front ≡ length (front_text version count given) + length tail
+after_size version count given tail front is = ap (λ (l : List ℕ). length l) is.whole ∙ length-append (front_text version count given) tail
+
+tag_wrong : (s : CaptureState) (front rest : List ℕ) (given : List Record) (b : ℕ) (fault : CaptureFault) → IsAt Tag s front given → length front + 1 ≤ capture_limit → Faults (front ++ b ∷ rest) fault (judge_tag s (length front) b)
+tag_wrong s front rest given b fault is room =
+    let size = after_size s.version s.count given [] front is in
+    chosen (Faults (front ++ b ∷ rest) fault) (b == 83) _ _ (λ yes none. cc)
+    (λ segment_not. chosen (Faults (front ++ b ∷ rest) fault) (b == 69) _ _ (λ yes none. cc)
+    (λ end_not. chosen (Faults (front ++ b ∷ rest) fault) (b == 67 && s.version == 2) _ _ (λ yes none. cc)
+    (λ close_not. told (front ++ b ∷ rest) (BadTag (length front) b) fault (record {
+      version = s.version;
+      count = s.count;
       items = given;
       rest = rest;
-      front = record { valid = parts.valid; whole = ap (λ (l : List ℕ). l ++ byte ∷ rest) parts.bytes; place = parts.count ∙ ap (λ (l : List ℕ). length l) parts.bytes };
+      front = record {
+        valid = is.valid;
+        whole = (goes_on s.version s.count given [] front (b ∷ rest) is).whole;
+        place = omega (arith, size);
+      };
       no_segment = λ e. grind (arith, nat_tests);
       no_end = λ e. grind (arith, nat_tests);
       no_close = λ e f. grind (arith, nat_tests);
-      within = room;
+      within = omega (arith, room);
     }))))
 
--- the place of a number's first byte, and that of the record's tag
-tag_place : (p : Progress) (given : List Record) (text : List ℕ) (tag_byte : ℕ) (middle : List ℕ) → p.at ≡ length text → text ≡ front p given ++ tag_byte ∷ (middle ++ p.field) → IsField p.field → 3 ≤ length p.field
-    → p.at ≡ length (front p given) + 1 + length middle + 3
-tag_place p given text tag_byte middle count bytes is long =
-    let sizes : length (front p given ++ tag_byte ∷ (middle ++ p.field)) ≡ length (front p given) + (1 + length (middle ++ p.field)) = omega (arith, length-append (front p given) (tag_byte ∷ (middle ++ p.field))) in
-    omega (arith, count, ap (λ (l : List ℕ). length l) bytes, sizes, length-append middle p.field, is.0, long)
-
-from_range : (p : Progress) (before rest : List ℕ) (given : List Record) (tag_byte byte : ℕ) → byte < 256 → p.at < capture_limit → p.at ≡ length before → before ≡ front p given ++ tag_byte ∷ p.field
-    → IsCapture p.version p.count given → IsField p.field → 3 ≤ length p.field → (tag_byte ≡ 83) ⊎ ((tag_byte ≡ 67) × (p.version ≡ 2)) → p.count ≤ from_be_bytes w32 (p.field ++ byte ∷ [])
-    → IsConnectionOver (before ++ byte ∷ rest) (p.at - 3) (from_be_bytes w32 (p.field ++ byte ∷ []))
-from_range p before rest given tag_byte byte small room count bytes valid is long known over =
-    let n : ℕ = from_be_bytes w32 (p.field ++ byte ∷ []) in
-    let place : p.at ≡ length (front p given) + 1 + 0 + 3 = tag_place p given before tag_byte [] count bytes is long in
+-- a connection that is not below the count
+range_wrong : (s : CaptureState) (front field rest : List ℕ) (given : List Record) (tag : ℕ) → AreBytes field → IsAfter s.version s.count given (tag ∷ []) front → length field ≡ 4 → (tag ≡ 83) ⊎ ((tag ≡ 67) × (s.version ≡ 2))
+    → length front + 4 ≤ capture_limit → s.count ≤ number field → IsConnectionOver (front ++ (field ++ rest)) (length front) (number field)
+range_wrong s front field rest given tag all is four known room over =
+    let size = after_size s.version s.count given (tag ∷ []) front is in
     record {
-      version = p.version;
-      count = p.count;
+      version = s.version;
+      count = s.count;
       items = given;
-      tag_at = length (front p given);
-      tag = tag_byte;
+      tag_at = length (front_text s.version s.count given);
+      tag = tag;
       rest = rest;
-      front = record {
-        valid = valid;
-        whole = ap (λ (l : List ℕ). l ++ byte ∷ rest) bytes ∙ ap (λ (l : List ℕ). l ++ byte ∷ rest) (sym (append_assoc (front p given) (tag_byte ∷ []) p.field))
-            ∙ number_text (front p given ++ tag_byte ∷ []) p.field rest byte n (number_is p.field byte is small long) ∙ append_assoc (front p given) (tag_byte ∷ []) (to_be_bytes w32 n ++ rest);
-        place = refl;
-      };
+      front = subst (λ (l : List ℕ). GoesOn (front ++ (field ++ rest)) s.version s.count given (length (front_text s.version s.count given)) (tag ∷ (l ++ rest))) (sym (four_bytes field all four))
+          (goes_on s.version s.count given (tag ∷ []) front (field ++ rest) is);
       known = known;
-      place = omega (arith, place);
+      place = size;
       over = over;
-      fits = small_number p.field byte is small long;
-      within = omega (arith, place, room);
+      fits = small_number field all;
+      within = omega (arith, room);
     }
 
-from_connection : (p : Progress) (before rest : List ℕ) (given : List Record) (byte : ℕ) (fault : CaptureFault) → byte < 256 → p.at < capture_limit → Parts Connection p given before → Faults (before ++ byte ∷ rest) fault (number Connection p byte)
-from_connection p before rest given byte fault small room parts =
-    let n : ℕ = from_be_bytes w32 (p.field ++ byte ∷ []) in
-    chosen (Faults (before ++ byte ∷ rest) fault) (nat_lt (length p.field) 3) _ _
-    (λ short is. cc)
-    (λ long. chosen (Faults (before ++ byte ∷ rest) fault) (nat_lt n p.count) _ _
-    (λ below is. cc)
-    (λ over. told (before ++ byte ∷ rest) p (ConnRange (p.at - 3) n) fault
-    (from_range p before rest given 83 byte small room parts.count parts.bytes parts.valid.0 parts.valid.1 (ltb-false (length p.field) 3 long) (inl refl) (ltb-false n p.count over))))
+connection_wrong : (s : CaptureState) (front field rest : List ℕ) (given : List Record) (fault : CaptureFault) → AreBytes field → IsAt Connection s front given → length field ≡ 4 → length front + 4 ≤ capture_limit → Faults (front ++ (field ++ rest)) fault (judge Connection s (length front) field)
+connection_wrong s front field rest given fault all is four room =
+    let n : ℕ = number field in
+    chosen (Faults (front ++ (field ++ rest)) fault) (nat_lt n s.count) _ _ (λ below none. cc)
+    (λ over. told (front ++ (field ++ rest)) (ConnRange (length front) n) fault (range_wrong s front field rest given 83 all is four (inl refl) room (ltb-false n s.count over)))
 
-from_closed : (p : Progress) (before rest : List ℕ) (given : List Record) (byte : ℕ) (fault : CaptureFault) → byte < 256 → p.at < capture_limit → Parts Closed p given before → Faults (before ++ byte ∷ rest) fault (number Closed p byte)
-from_closed p before rest given byte fault small room parts =
-    let n : ℕ = from_be_bytes w32 (p.field ++ byte ∷ []) in
-    chosen (Faults (before ++ byte ∷ rest) fault) (nat_lt (length p.field) 3) _ _
-    (λ short is. cc)
-    (λ long. chosen (Faults (before ++ byte ∷ rest) fault) (nat_lt n p.count) _ _
-    (λ below is. cc)
-    (λ over. told (before ++ byte ∷ rest) p (ConnRange (p.at - 3) n) fault
-    (from_range p before rest given 67 byte small room parts.count parts.bytes parts.valid.0 parts.valid.1 (ltb-false (length p.field) 3 long) (inr (refl, parts.valid.2)) (ltb-false n p.count over))))
+closed_wrong : (s : CaptureState) (front field rest : List ℕ) (given : List Record) (fault : CaptureFault) → AreBytes field → IsAt Closed s front given → length field ≡ 4 → length front + 4 ≤ capture_limit → Faults (front ++ (field ++ rest)) fault (judge Closed s (length front) field)
+closed_wrong s front field rest given fault all is four room =
+    let n : ℕ = number field in
+    chosen (Faults (front ++ (field ++ rest)) fault) (nat_lt n s.count) _ _ (λ below none. cc)
+    (λ over. told (front ++ (field ++ rest)) (ConnRange (length front) n) fault (range_wrong s front field rest given 67 all is.0 four (inr (refl, is.1)) room (ltb-false n s.count over)))
 
-from_length : (conn : ℕ) (p : Progress) (before rest : List ℕ) (given : List Record) (byte : ℕ) (fault : CaptureFault) → byte < 256 → p.at < capture_limit → Parts (Length conn) p given before → Faults (before ++ byte ∷ rest) fault (number (Length conn) p byte)
-from_length conn p before rest given byte fault small room parts =
-    let n : ℕ = from_be_bytes w32 (p.field ++ byte ∷ []) in
-    let middle : List ℕ = to_be_bytes w32 conn in
-    let head : List ℕ = front p given ++ 83 ∷ middle in
-    chosen (Faults (before ++ byte ∷ rest) fault) (nat_lt (length p.field) 3) _ _
-    (λ short is. cc)
-    (λ long. chosen (Faults (before ++ byte ∷ rest) fault) (nat_lt segment_limit n) _ _
-    (λ over.
-    let full : 3 ≤ length p.field = ltb-false (length p.field) 3 long in
-    let place : p.at ≡ length (front p given) + 1 + length middle + 3 = tag_place p given before 83 middle parts.count parts.bytes parts.valid.1 full in
-    told (before ++ byte ∷ rest) p (SegmentLength (p.at - 3) n) fault (record {
-      version = p.version;
-      count = p.count;
+length_wrong : (conn : ℕ) (s : CaptureState) (front field rest : List ℕ) (given : List Record) (fault : CaptureFault) → AreBytes field → IsAt (Length conn) s front given → length field ≡ 4 → length front + 4 ≤ capture_limit → Faults (front ++ (field ++ rest)) fault (judge (Length conn) s (length front) field)
+length_wrong conn s front field rest given fault all is four room =
+    let n : ℕ = number field in
+    let text : List ℕ = front ++ (field ++ rest) in
+    let size = after_size s.version s.count given (83 ∷ to_be_bytes w32 conn) front is.0 in
+    chosen (Faults text fault) (nat_lt segment_limit n) _ _
+    (λ over. told text (SegmentLength (length front) n) fault (record {
+      version = s.version;
+      count = s.count;
       items = given;
-      tag_at = length (front p given);
+      tag_at = length (front_text s.version s.count given);
       conn = conn;
       rest = rest;
-      front = record {
-        valid = parts.valid.0;
-        whole = ap (λ (l : List ℕ). l ++ byte ∷ rest) (parts.bytes ∙ sym (append_assoc (front p given) (83 ∷ middle) p.field))
-            ∙ number_text head p.field rest byte n (number_is p.field byte parts.valid.1 small full) ∙ append_assoc (front p given) (83 ∷ middle) (to_be_bytes w32 n ++ rest);
-        place = refl;
-      };
-      below = parts.valid.2;
-      place = omega (arith, place);
+      front = subst (λ (l : List ℕ). GoesOn text s.version s.count given (length (front_text s.version s.count given)) (83 ∷ (to_be_bytes w32 conn ++ (l ++ rest)))) (sym (four_bytes field all four))
+          (goes_on s.version s.count given (83 ∷ to_be_bytes w32 conn) front (field ++ rest) is.0);
+      below = is.1;
+      place = size;
       over = ltb-true segment_limit n over;
-      fits = small_number p.field byte parts.valid.1 small full;
-      within = omega (arith, place, room);
+      fits = small_number field all;
+      within = omega (arith, room);
     }))
-    (λ few. chosen (Faults (before ++ byte ∷ rest) fault) (n == 0) _ _ (λ empty is. cc) (λ some is. cc)))
+    (λ few. chosen (Faults text fault) (n == 0) _ _ (λ zero_is none. cc) (λ some none. cc))
 
-from_payload : (conn size : ℕ) (p : Progress) (before rest : List ℕ) (byte : ℕ) (fault : CaptureFault) → Faults (before ++ byte ∷ rest) fault (segment conn size p byte)
-from_payload conn size p before rest byte fault =
-    chosen (Faults (before ++ byte ∷ rest) fault) (nat_lt (length p.payload + 1) size) _ _ (λ short is. cc) (λ long is. cc)
-
-from_end : (p : Progress) (before rest : List ℕ) (given : List Record) (byte : ℕ) (fault : CaptureFault) → Parts Nothing p given before → Faults (before ++ byte ∷ rest) fault (refuses p (Trailing p.at))
-unfolding spelling
-from_end p before rest given byte fault parts =
-    let whole : before ≡ spelling p.version p.count given = parts.bytes ∙ assoc_twice (magic p.version) (to_be_bytes w32 p.count) (flat_map spelled given) (69 ∷ []) in
-    told (before ++ byte ∷ rest) p (Trailing p.at) fault (record {
-      version = p.version;
-      count = p.count;
+-- a byte after the end
+end_wrong : (s : CaptureState) (front rest : List ℕ) (given : List Record) (b : ℕ) (fault : CaptureFault) → IsAt Nothing s front given → length front ≤ capture_limit → Faults (front ++ b ∷ rest) fault (Wrong (Trailing (length front)))
+end_wrong s front rest given b fault is short =
+    let spelt : front ≡ spelling s.version s.count given = is.whole ∙ ends_spelling s.version s.count given in
+    told (front ++ b ∷ rest) (Trailing (length front)) fault (record {
+      version = s.version;
+      count = s.count;
       items = given;
-      byte = byte;
+      byte = b;
       rest = rest;
-      valid = parts.valid;
-      whole = ap (λ (l : List ℕ). l ++ byte ∷ rest) whole;
-      place = parts.count ∙ ap (λ (l : List ℕ). length l) whole;
-      within = parts.short;
+      valid = is.valid;
+      whole = ap (λ (l : List ℕ). l ++ b ∷ rest) spelt;
+      place = ap (λ (l : List ℕ). length l) spelt;
+      within = short;
     })
 
--- ---- the first fault
+-- ---- all fields
 
-from_taken : (due : Due) (p : Progress) (before rest : List ℕ) (given : List Record) (byte : ℕ) (fault : CaptureFault) → fault_in due ≡ None → byte < 256 → (is_open due ≡ true → p.at < capture_limit) → IsReadTo due p given before → Faults (before ++ byte ∷ rest) fault (taken due p byte)
-from_taken (Magic part) p before rest given byte fault none small room read = from_magic part p before rest given byte fault read
-from_taken Count p before rest given byte fault none small room read = from_count p before rest given byte fault small read
-from_taken Tag p before rest given byte fault none small room read = from_tag p before rest given byte fault (room refl) read
-from_taken Connection p before rest given byte fault none small room read = from_connection p before rest given byte fault small (room refl) read
-from_taken (Length conn) p before rest given byte fault none small room read = from_length conn p before rest given byte fault small (room refl) read
-from_taken (Payload conn size) p before rest given byte fault none small room read = from_payload conn size p before rest byte fault
-from_taken Closed p before rest given byte fault none small room read = from_closed p before rest given byte fault small (room refl) read
-from_taken Nothing p before rest given byte fault none small room read = from_end p before rest given byte fault read
-from_taken (Broken found) p before rest given byte fault none small room read = cc
+-- there is room for a field that is not the end
+room_for : (next : Due) (count size : ℕ) → is_end next ≡ false → (is_end next ≡ true) ⊎ (count ≤ capture_limit) → count ≡ size → size ≤ capture_limit
+room_for next count size still (inl end_is) same = cc
+room_for next count size still (inr few) same = omega (arith, few, same)
 
-has_room : (due : Due) (at : ℕ) → (is_open due && nat_le capture_limit at) ≡ false → is_open due ≡ true → at < capture_limit
-has_room due at full open_still = grind (arith, nat_tests)
+-- a field of one byte, in front of the rest
+one_text : (front field rest : List ℕ) → length field ≡ 1 → front ++ byte field ∷ rest ≡ front ++ (field ++ rest)
+one_text front field rest one = ap (λ (l : List ℕ). front ++ (l ++ rest)) (sym (one_byte field one))
 
-at_limit : (at : ℕ) → nat_le capture_limit at ≡ true → at ≤ capture_limit → at ≡ capture_limit
-at_limit at full short = grind (arith, nat_tests)
+field_wrong : (next : Due) (s : CaptureState) (front field rest : List ℕ) (given : List Record) (fault : CaptureFault) → AreBytes field → IsAt next s front given → length field ≡ width next → length front ≤ capture_limit
+    → (is_end next ≡ true) ⊎ (length front + length field ≤ capture_limit) → Faults (front ++ (field ++ rest)) fault (judge next s (length front) field)
+field_wrong (Magic part) s front field rest given fault all is size short room =
+    subst (λ (l : List ℕ). Faults l fault (judge (Magic part) s (length front) field)) (one_text front field rest size) (magic_wrong part s front rest given (byte field) fault is)
+field_wrong Count s front field rest given fault all is size short room = count_wrong s front field rest given fault all is size
+field_wrong Tag s front field rest given fault all is size short room =
+    subst (λ (l : List ℕ). Faults l fault (judge Tag s (length front) field)) (one_text front field rest size) (tag_wrong s front rest given (byte field) fault is (room_for Tag (length front + length field) (length front + 1) refl room (omega (arith, size))))
+field_wrong Connection s front field rest given fault all is size short room =
+    connection_wrong s front field rest given fault all is size (room_for Connection (length front + length field) (length front + 4) refl room (omega (arith, size)))
+field_wrong (Length conn) s front field rest given fault all is size short room =
+    length_wrong conn s front field rest given fault all is size (room_for (Length conn) (length front + length field) (length front + 4) refl room (omega (arith, size)))
+field_wrong (Payload conn more) s front field rest given fault all is size short room = λ none. cc
+field_wrong Closed s front field rest given fault all is size short room =
+    closed_wrong s front field rest given fault all is size (room_for Closed (length front + length field) (length front + 4) refl room (omega (arith, size)))
+field_wrong Nothing s front field rest given fault all is size short room =
+    subst (λ (l : List ℕ). Faults l fault (judge Nothing s (length front) field)) (one_text front field rest size) (end_wrong s front rest given (byte field) fault is short)
 
--- a full text that was read up to there is cut
-cut_there : (due : Due) (p : Progress) (given : List Record) (text : List ℕ) → p.due ≡ due → (is_open due && nat_le capture_limit p.at) ≡ true → IsReadTo due p given text → ended due p given ≡ Bad (Truncated capture_limit)
-cut_there Nothing p given text is full read = cc
-cut_there (Broken fault) p given text is full read = cc
-cut_there (Magic part) p given text is full read = ap (λ (n : ℕ). Bad (Truncated n)) (at_limit p.at full read.short)
-cut_there Count p given text is full read = ap (λ (n : ℕ). Bad (Truncated n)) (at_limit p.at full read.short)
-cut_there Tag p given text is full read = ap (λ (n : ℕ). Bad (Truncated n)) (at_limit p.at full read.short)
-cut_there Connection p given text is full read = ap (λ (n : ℕ). Bad (Truncated n)) (at_limit p.at full read.short)
-cut_there (Length conn) p given text is full read = ap (λ (n : ℕ). Bad (Truncated n)) (at_limit p.at full read.short)
-cut_there (Payload conn size) p given text is full read = ap (λ (n : ℕ). Bad (Truncated n)) (at_limit p.at full read.short)
-cut_there Closed p given text is full read = ap (λ (n : ℕ). Bad (Truncated n)) (at_limit p.at full read.short)
-
-from_step_fault : (p : Progress) (before rest : List ℕ) (given : List Record) (byte : ℕ) (fault : CaptureFault) → fault_in p.due ≡ None → byte < 256 → IsReadTo p.due p given before → StandsFor p given before → Faults (before ++ byte ∷ rest) fault (step p byte)
-from_step_fault p before rest given byte fault none small read stands =
-    chosen (Faults (before ++ byte ∷ rest) fault) (is_full p) _ _
-    (λ full. told (before ++ byte ∷ rest) p TooLong fault (record {
-      front = before;
-      byte = byte;
-      rest = rest;
-      whole = refl;
-      cut = verdict_here captures p given before stands ∙ cut_there p.due p given before refl full read;
-    }))
-    (λ room. from_taken p.due p before rest given byte fault none small (has_room p.due p.at room) read)
-
--- a text that was read up to a fault has it
-first : (more : List ℕ) (p : Progress) (given : List Record) (before : List ℕ) (fault : CaptureFault) → AreBytes more → fault_in p.due ≡ None → IsReadTo p.due p given before → StandsFor p given before
-    → fault_in (read_from p more).last.due ≡ Some fault → IsFault (before ++ more) fault
-unfolding read_on
-first [] p given before fault all none read stands is = cc
-first (byte ∷ more) p given before fault all none read stands is =
-    let s : Step = step p byte in
-    let on = from_step p given before byte all.0 read in
-    let next = fed_step captures p byte given before stands in
-    elim (fault_in s.next.due) as (λ (o : Option CaptureFault). fault_in s.next.due ≡ o → IsFault (before ++ byte ∷ more) fault) [
-      | None ↦ λ still. subst (λ (l : List ℕ). IsFault l fault) (append_assoc before (byte ∷ []) more)
-          (first more s.next (given ++ option_to_list s.gave) (before ++ byte ∷ []) fault all.1 still on next is)
-      | (Some found) ↦ λ met.
-          let broken : s.next.due ≡ Broken found = is_broken s.next.due found met in
-          let last : fault_in (read_from s.next more).last.due ≡ Some found = ap (λ (r : Reading Progress Record). fault_in r.last.due) (read_broken captures lasting s.next found more met) ∙ met in
-          let same : found ≡ fault = cc in
-          subst (λ (f : CaptureFault). IsFault (before ++ byte ∷ more) f) same (from_step_fault p before more given byte found none all.0 read stands broken)
-    ] refl
-
--- ---- each fault
-
--- a text that ends where neither the end nor a fault was met
-cut_fault : (p : Progress) (given : List Record) (text : List ℕ) (fault : CaptureFault) → p.at ≡ length text → StandsFor p given text → fault_in p.due ≡ None → is_good (ended p.due p given) ≡ false → Bad (Truncated p.at) ≡ Bad fault → IsFault text fault
-unfolding fault_met StandsAs
-cut_fault p given text fault count stands none not_good ends =
-    let cut : IsCut text p.at = record {
-      place = count;
-      no_fault = ap (λ (r : Reading Progress Record). fault_in r.last.due) stands ∙ none;
-      no_capture = ap (λ (v : Verdict). is_good v) (verdict_here captures p given text stands) ∙ not_good;
-    } in
-    let same : Truncated p.at ≡ fault = cc in
-    subst (λ (f : CaptureFault). IsFault text f) same cut
-
-cut_has : (due : Due) (p : Progress) (given : List Record) (text : List ℕ) (fault : CaptureFault) → fault_in due ≡ None → IsReadTo due p given text → p.due ≡ due → StandsFor p given text → ended due p given ≡ Bad fault → IsFault text fault
-unfolding fault_met StandsAs
-cut_has Nothing p given text fault none read is stands ends = cc
-cut_has (Broken found) p given text fault none read is stands ends = cc
-cut_has (Magic part) p given text fault none read is stands ends = cut_fault p given text fault read.count stands (rw is refl) (rw is refl) ends
-cut_has Count p given text fault none read is stands ends = cut_fault p given text fault read.count stands (rw is refl) (rw is refl) ends
-cut_has Tag p given text fault none read is stands ends = cut_fault p given text fault read.count stands (rw is refl) (rw is refl) ends
-cut_has Connection p given text fault none read is stands ends = cut_fault p given text fault read.count stands (rw is refl) (rw is refl) ends
-cut_has (Length conn) p given text fault none read is stands ends = cut_fault p given text fault read.count stands (rw is refl) (rw is refl) ends
-cut_has (Payload conn size) p given text fault none read is stands ends = cut_fault p given text fault read.count stands (rw is refl) (rw is refl) ends
-cut_has Closed p given text fault none read is stands ends = cut_fault p given text fault read.count stands (rw is refl) (rw is refl) ends
-
--- a bad text has its fault
-pub bad_has : (text : List ℕ) (fault : CaptureFault) → AreBytes text → verdict text ≡ Bad fault → IsFault text fault
-unfolding verdict_on reading_of StandsAs
-bad_has text fault all bad =
-    let r : Reading Progress Record = read_from start text in
-    let begun : Parts (Magic Letters) start [] [] = record { bytes = refl; count = refl; short = omega arith; valid = (omega arith, tt, refl) } in
-    elim (fault_in r.last.due) as (λ (o : Option CaptureFault). fault_in r.last.due ≡ o → IsFault text fault) [
-      | None ↦ λ none. cut_has r.last.due r.last r.given text fault none (read_whole start [] [] text all begun) refl refl bad
-      | (Some found) ↦ λ met.
-          let ends : Bad found ≡ Bad fault = sym (ap (λ (d : Due). ended d r.last r.given) (is_broken r.last.due found met)) ∙ bad in
-          let same : found ≡ fault = cc in
-          first text start [] [] fault all refl begun (starts captures) (met ∙ ap (λ (f : CaptureFault). Some f) same)
-    ] refl
+-- a text with a wrong field has its fault
+pub misjudged_wrong : (text : List ℕ) (s : CaptureState) (fault : CaptureFault) → AreBytes text → IsMisjudged fields text s fault → IsWrong text fault
+misjudged_wrong text s fault all has =
+    let front : List ℕ = concat has.begins.parts in
+    let bytes : AreBytes (has.field ++ has.rest) = bytes_back front (has.field ++ has.rest) (subst AreBytes has.begins.text_is all) in
+    subst (λ (l : List ℕ). IsWrong l fault) (sym has.begins.text_is)
+    (field_wrong s.due s front has.field has.rest has.given fault (bytes_front has.field has.rest bytes) (stands_there text s has.given (has.field ++ has.rest) all has.begins) has.size has.begins.short has.room has.wrong)

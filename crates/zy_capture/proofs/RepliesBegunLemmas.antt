@@ -1,70 +1,93 @@
--- A text is bad with a fault exactly where it has it, as a replies file; that it ends too early, or is too long, is said
--- by its bytes.
-use Rattle.std.proofs.Common.{◌≡◌, ℕ, ◌+◌, ◌≤◌, true, List, [], ◌∷◌, length, refl, sym, ◌∙◌, ap, subst, arith, length-append}
-use Rattle.zy_read.specs.Format.{Reading, reading_of, verdict_on, fault_met}
+-- A text is bad with a fault exactly where it has it, as a replies file.
+use Rattle.std.proofs.Common.{◌≡◌, inl, inr, ℕ, List, ◌∷◌, ◌++◌, length, refl, sym, ◌∙◌, ap, subst, arith}
+use Rattle.std.specs.List.{concat}
 use Rattle.zy_base.specs.declared.file_fault.FileFault.{FileFault}
 use Rattle.zy_base.specs.declared.file_fault.FileFault.TheVariants.{Form, Truncated, TooLong}
-use Rattle.zy_capture.specs.declared.session_bytes.SessionBytes.{SessionBytes}
-use Rattle.zy_capture.specs.declared.replies_due.RepliesDue.{RepliesDue}
-use Rattle.zy_capture.specs.declared.replies_due.RepliesDue.TheVariants.{Nothing, Broken}
 use Rattle.zy_read.specs.Bytes.{AreBytes}
+use Rattle.zy_read.specs.Runs.{IsCut, IsOverlong, HasFault as HasFieldFault, IsOutcome}
 use Rattle.zy_read.proofs.ByteLemmas.{bytes_front}
-use Rattle.zy_capture.specs.Replies.{replies_limit}
-use Rattle.zy_capture.specs.RepliesSteps.{Progress, start, is_open}
-use Rattle.zy_capture.specs.RepliesVerdict.{Verdict, read_from, verdict}
-use Rattle.zy_capture.specs.RepliesVerdict.Verdict.{Good, Bad}
-use Rattle.zy_capture.specs.RepliesFaults.{IsBegun, HasFault}
-use Rattle.zy_capture.proofs.RepliesWholeLemmas.{IsReadTo, read_whole, good_spells}
+use Rattle.zy_read.proofs.VerdictLemmas.{outcome, fault_bad, cut_bad, cut_overlong, overlong_cut, overlong_text, overlong_most, overlong_long}
+use Rattle.zy_capture.specs.declared.replies_state.RepliesState.{RepliesState}
+use Rattle.zy_capture.specs.RepliesFaults.{IsWrong, IsBegun, HasFault}
+use Rattle.zy_capture.specs.RepliesSteps.{replies_fields}
+use Rattle.zy_capture.specs.RepliesVerdict.{Verdict, good, verdict}
+use Rattle.zy_capture.specs.RepliesVerdict.Verdict.{Bad}
+use Rattle.zy_capture.specs.RepliesLaws.{lawful}
+use Rattle.zy_capture.proofs.RepliesWholeLemmas.{whole_spells}
 use Rattle.zy_capture.proofs.RepliesSpelledLemmas.{spells_good}
-use Rattle.zy_capture.proofs.RepliesFaultLemmas.{IsCut, IsOverlong, begun, bad_has}
-use Rattle.zy_capture.proofs.RepliesFaultReadLemmas.{has_bad, open_due}
+use Rattle.zy_capture.proofs.RepliesFaultLemmas.{IsForm, misjudged_wrong}
+use Rattle.zy_capture.proofs.RepliesFaultReadLemmas.{has_bad}
 
 -- ---- texts that are begun
 
-open_short : (due : RepliesDue) (p : Progress) (given : List SessionBytes) (text : List ℕ) → is_open due ≡ true → IsReadTo due p given text → length text ≤ replies_limit
-open_short Nothing p given text is read = cc
-open_short (Broken fault) p given text is read = cc
-open_short due p given text is read = omega (arith, read.count, read.short)
+-- a text that is cut is begun
+cut_begun : (text : List ℕ) → IsCut replies_fields text → IsBegun text
+cut_begun text cut =
+    let truncated : verdict text ≡ Bad (Truncated (length text)) = cut_bad replies_fields lawful good Bad text cut in
+    record {
+      short = cut.within;
+      no_file = λ version items spells. let is_good = spells_good text version items spells in cc;
+      none_wrong = λ at wrong. let bad = has_bad text at wrong in cc;
+    }
 
-cut_short : (text : List ℕ) (at : ℕ) → AreBytes text → IsCut text at → length text ≤ replies_limit
-unfolding verdict_on reading_of fault_met
-cut_short text at all cut =
-    let r : Reading Progress SessionBytes = read_from start text in
-    open_short r.last.due r.last r.given text (open_due r.last.due r.last r.given cut.no_fault cut.no_file) (read_whole start [] [] text all begun)
+-- a wrong byte or number, if it is not one
+not_wrong : (text : List ℕ) (fault : FileFault) → ((at : ℕ) → IsWrong text at → ⊥) → IsForm text fault → ⊥
+not_wrong text (Form at) none wrong = none at wrong
+not_wrong text (Truncated at) none wrong = wrong
+not_wrong text TooLong none wrong = wrong
 
-cut_begun : (text : List ℕ) (at : ℕ) → AreBytes text → verdict text ≡ Bad (Truncated at) → IsBegun text
-cut_begun text at all is = record {
-  short = cut_short text at all (bad_has text (Truncated at) all is);
-  no_file = λ version items spells. let good = spells_good text version items spells in cc;
-  none_wrong = λ place wrong. let bad = has_bad text (Form place) all wrong in cc;
-}
+begun_by : (text : List ℕ) (found : Verdict) → AreBytes text → IsBegun text → IsOutcome replies_fields good Bad text found → IsCut replies_fields text
+begun_by text found all begun (inl whole) = absurd (begun.no_file (whole.0).version whole.1.0 (whole_spells text whole.0 whole.1.0 all whole.1.1))
+begun_by text found all begun (inr (inl cut)) = cut.0
+begun_by text found all begun (inr (inr fault)) = elim fault.1.1 [
+  | inl wrong ↦ absurd (not_wrong text fault.1.0 begun.none_wrong (misjudged_wrong text fault.0 fault.1.0 all wrong))
+  | inr long ↦ absurd (let more = overlong_long replies_fields text fault.0 long.0 in omega (arith, more, begun.short))
+]
 
--- a text that is too long has more bytes than a replies file
-over_long : (text : List ℕ) → AreBytes text → IsOverlong text → replies_limit + 1 ≤ length text
-over_long text all long =
-    let cut : IsCut long.front replies_limit = bad_has long.front (Truncated replies_limit) (bytes_front long.front (long.byte ∷ long.rest) (subst AreBytes long.whole all)) long.cut in
-    omega (arith, cut.place, ap (λ (l : List ℕ). length l) long.whole, length-append long.front (long.byte ∷ long.rest))
-
-begun_is : (text : List ℕ) (found : Verdict) → AreBytes text → IsBegun text → verdict text ≡ found → verdict text ≡ Bad (Truncated (length text))
-begun_is text (Good version items) all is_begun is = absurd (is_begun.no_file version items (good_spells text version items all is))
-begun_is text (Bad (Form at)) all is_begun is = absurd (is_begun.none_wrong at (bad_has text (Form at) all is))
-begun_is text (Bad (Truncated at)) all is_begun is = let cut : IsCut text at = bad_has text (Truncated at) all is in is ∙ ap (λ (n : ℕ). Bad (Truncated n)) cut.place
-begun_is text (Bad TooLong) all is_begun is = absurd (omega (arith, over_long text all (bad_has text TooLong all is), is_begun.short))
+-- a text that is begun is cut
+begun_cut : (text : List ℕ) → AreBytes text → IsBegun text → IsCut replies_fields text
+begun_cut text all begun = begun_by text (verdict text) all begun (outcome replies_fields lawful good Bad text)
 
 -- ---- all faults
 
+form_had : (text : List ℕ) (fault : FileFault) → IsForm text fault → HasFault text fault
+form_had text (Form at) wrong = wrong
+form_had text (Truncated at) wrong = absurd wrong
+form_had text TooLong wrong = absurd wrong
+
+long_had : (text : List ℕ) (s : RepliesState) → IsOverlong replies_fields text s → HasFault text TooLong
+long_had text s long = record {
+  front = concat long.begins.parts ++ long.seen;
+  byte = long.byte;
+  rest = long.rest;
+  whole = overlong_text replies_fields text s long;
+  most = overlong_most replies_fields text s long;
+  begun = cut_begun (concat long.begins.parts ++ long.seen) (overlong_cut replies_fields text s long);
+}
+
+had : (text : List ℕ) (s : RepliesState) (fault : FileFault) → AreBytes text → HasFieldFault replies_fields text s fault → HasFault text fault
+had text s fault all (inl wrong) = form_had text fault (misjudged_wrong text s fault all wrong)
+had text s fault all (inr long) = subst (HasFault text) (sym long.1) (long_had text s long.0)
+
+had_by : (text : List ℕ) (found : Verdict) (fault : FileFault) → AreBytes text → IsOutcome replies_fields good Bad text found → found ≡ Bad fault → HasFault text fault
+had_by text found fault all (inl whole) is = let is_good = whole.1.2 in cc
+had_by text found fault all (inr (inl cut)) is =
+    let truncated : found ≡ Bad (Truncated (length text)) = cut.1 in
+    let same : Truncated (length text) ≡ fault = cc in
+    subst (HasFault text) same (record { place = refl; begun = cut_begun text cut.0 })
+had_by text found fault all (inr (inr has)) is =
+    let bad : found ≡ Bad has.1.0 = has.1.2 in
+    let same : has.1.0 ≡ fault = cc in
+    subst (HasFault text) same (had text has.0 has.1.0 all has.1.1)
+
 pub fault_had : (text : List ℕ) (fault : FileFault) → AreBytes text → verdict text ≡ Bad fault → HasFault text fault
-fault_had text (Form at) all is = bad_has text (Form at) all is
-fault_had text (Truncated at) all is = let cut : IsCut text at = bad_has text (Truncated at) all is in record { place = cut.place; begun = cut_begun text at all is }
-fault_had text TooLong all is =
-    let long : IsOverlong text = bad_has text TooLong all is in
-    let small : AreBytes long.front = bytes_front long.front (long.byte ∷ long.rest) (subst AreBytes long.whole all) in
-    let cut : IsCut long.front replies_limit = bad_has long.front (Truncated replies_limit) small long.cut in
-    record { front = long.front; byte = long.byte; rest = long.rest; whole = long.whole; most = sym cut.place; begun = cut_begun long.front replies_limit small long.cut }
+fault_had text fault all is = had_by text (verdict text) fault all (outcome replies_fields lawful good Bad text) is
 
 pub fault_told : (text : List ℕ) (fault : FileFault) → AreBytes text → HasFault text fault → verdict text ≡ Bad fault
-fault_told text (Form at) all has = has_bad text (Form at) all has
-fault_told text (Truncated at) all has = begun_is text (verdict text) all has.begun refl ∙ ap (λ (n : ℕ). Bad (Truncated n)) (sym has.place)
+fault_told text (Form at) all has = has_bad text at has
+fault_told text (Truncated at) all has =
+    cut_bad replies_fields lawful good Bad text (begun_cut text all has.begun) ∙ ap (λ (n : ℕ). Bad (Truncated n)) (sym has.place)
 fault_told text TooLong all has =
-    let small : AreBytes has.front = bytes_front has.front (has.byte ∷ has.rest) (subst AreBytes has.whole all) in
-    has_bad text TooLong all (record { front = has.front; byte = has.byte; rest = has.rest; whole = has.whole; cut = begun_is has.front (verdict has.front) small has.begun refl ∙ ap (λ (n : ℕ). Bad (Truncated n)) has.most })
+    let cut : IsCut replies_fields has.front = begun_cut has.front (bytes_front has.front (has.byte ∷ has.rest) (subst AreBytes has.whole all)) has.begun in
+    ap verdict has.whole
+    ∙ fault_bad replies_fields lawful good Bad (has.front ++ has.byte ∷ has.rest) cut.s TooLong (inr (cut_overlong replies_fields has.front has.byte has.rest cut has.most, refl))

@@ -1,67 +1,66 @@
--- The outputs of a replies text without a fault so far are those of a replies file whose version
--- was read.
-use Rattle.std.proofs.Common.{◌≡◌, ◌≢◌, ◌⊎◌, inl, inr, ℕ, List, [], refl, ◌∙◌, ap, arith}
-use Rattle.std.specs.Prelude.{None, Some}
+-- The version and the outputs that are read of a good replies file, and of a text without a fault so far.
+use Rattle.std.proofs.Common.{◌≡◌, ◌≢◌, ℕ, Bool, true, false, List, [], ◌∙◌, ap, subst}
+use Rattle.std.specs.Prelude.{Option, None, Some, if◌then◌else◌}
+use Rattle.std.specs.List.{concat}
+use Rattle.zy_base.specs.declared.file_fault.FileFault.{FileFault}
+use Rattle.zy_base.specs.declared.file_fault.FileFault.TheVariants.{Truncated}
+use Rattle.zy_read.specs.Bytes.{AreBytes}
 use Rattle.zy_read.specs.Format.{Reading, reading_of, verdict_on, fault_met, given_by}
-use Rattle.zy_read.specs.Standing.{StandsAs}
-use Rattle.zy_read.proofs.Feeding.{given_here}
+use Rattle.zy_read.specs.Fields.{at_state, ended_by}
+use Rattle.zy_read.proofs.MagicLemmas.{IsVersion}
+use Rattle.zy_read.proofs.OutcomeLemmas.{IsRead, text_read}
 use Rattle.zy_capture.specs.declared.session_bytes.SessionBytes.{SessionBytes}
 use Rattle.zy_capture.specs.declared.replies_due.RepliesDue.{RepliesDue}
-use Rattle.zy_capture.specs.declared.replies_due.RepliesDue.TheVariants.{Magic, Tag, Connection, Session, Length, Output, Nothing, Broken}
-use Rattle.zy_read.specs.Bytes.{AreBytes}
-use Rattle.zy_capture.specs.RepliesSteps.{Progress, start}
-use Rattle.zy_capture.specs.RepliesVerdict.{replies, read_from, verdict, ended, fault_in, fault_of, version_in, version_of, outputs_of}
-use Rattle.zy_capture.specs.RepliesVerdict.Verdict.{Good}
-use Rattle.zy_capture.specs.RepliesStanding.{StandsForReplies}
+use Rattle.zy_capture.specs.declared.replies_due.RepliesDue.TheVariants.{Magic, Tag, Connection, Session, Length, Output, Nothing}
+use Rattle.zy_capture.specs.declared.replies_state.RepliesState.{RepliesState}
+use Rattle.zy_capture.specs.RepliesSteps.{Progress, start, is_last, replies_fields}
+use Rattle.zy_capture.specs.RepliesVerdict.{good, verdict, read_from, version_in, version_of, outputs_of, fault_of}
+use Rattle.zy_capture.specs.RepliesVerdict.Verdict.{Good, Bad}
+use Rattle.zy_capture.specs.RepliesLaws.{lawful}
 use Rattle.zy_capture.specs.SoFar.{IsRepliesSoFar}
-use Rattle.zy_capture.proofs.RepliesWholeLemmas.{Keeps, IsReadTo, read_whole}
-use Rattle.zy_capture.proofs.RepliesFeeding.{version_here}
-
-known_version : (version : ℕ) → (version ≡ 1) ⊎ (version ≡ 2) → version_in version ≡ Some version
-known_version version (inl one) = rw one refl
-known_version version (inr two) = rw two refl
+use Rattle.zy_capture.proofs.RepliesWholeLemmas.{IsReadTo, AreSoFar, reached}
+use Rattle.zy_capture.proofs.RepliesTellLemmas.{known_version}
 
 -- the version and the outputs of a replies file are read
 pub record Tells (text : List ℕ) (version : ℕ) (items : List SessionBytes) : Type 0 where
   pub version_is : version_of text ≡ Some version
   pub outputs_are : outputs_of text ≡ items
 
-ends_good : (due : RepliesDue) (p : Progress) (given : List SessionBytes) (text : List ℕ) (version : ℕ) (items : List SessionBytes) → StandsForReplies p given text → (version ≡ 1) ⊎ (version ≡ 2) → ended due p given ≡ Good version items → Tells text version items
-ends_good Nothing p given text version items stands known good =
-    let version_is : p.version ≡ version = cc in
-    let items_are : given ≡ items = cc in
-    record {
-      version_is = version_here p given text stands ∙ ap (λ (v : ℕ). version_in v) version_is ∙ known_version version known;
-      outputs_are = given_here replies p given text stands ∙ items_are;
-    }
-ends_good due p given text version items stands known good = cc
+-- what is good is good with what was read
+end_good : (is_end : Bool) (p : Progress) (given : List SessionBytes) (version : ℕ) (items : List SessionBytes) → (if is_end then Good p.state.version given else Bad (Truncated p.at)) ≡ Good version items → (p.state.version ≡ version) × (given ≡ items)
+end_good true p given version items is = (cc, cc)
+end_good false p given version items is = cc
 
-pub good_tells : (text : List ℕ) (version : ℕ) (items : List SessionBytes) → (version ≡ 1) ⊎ (version ≡ 2) → verdict text ≡ Good version items → Tells text version items
-unfolding verdict_on StandsAs
-good_tells text version items known good =
-    let r : Reading Progress SessionBytes = reading_of replies text in
-    ends_good r.last.due r.last r.given text version items refl known good
+ends_good : (fault : Option FileFault) (p : Progress) (given : List SessionBytes) (version : ℕ) (items : List SessionBytes) → ended_by fault replies_fields good Bad p given ≡ Good version items → (p.state.version ≡ version) × (given ≡ items)
+ends_good None p given version items is = end_good (is_last p.state.due) p given version items is
+ends_good (Some fault) p given version items is = cc
 
-made : (p : Progress) (given : List SessionBytes) (text : List ℕ) → StandsForReplies p given text → Keeps p given → IsRepliesSoFar text
-made p given text stands keeps = record {
-  version = p.version;
-  version_is = version_here p given text stands ∙ known_version p.version keeps.known;
-  lawful = rw (given_here replies p given text stands) (record { known = keeps.known; ordered = keeps.ordered });
-}
+pub good_tells : (text : List ℕ) (version : ℕ) (items : List SessionBytes) → IsVersion version → verdict text ≡ Good version items → Tells text version items
+unfolding verdict_on version_of given_by reading_of
+good_tells text version items known is =
+    let r : Reading Progress SessionBytes = read_from (at_state start 0) text in
+    let told = ends_good r.last.fault r.last r.given version items is in
+    record { version_is = ap (λ (v : ℕ). version_in v) told.0 ∙ known_version version known; outputs_are = told.1 }
 
-so_far : (due : RepliesDue) (p : Progress) (given : List SessionBytes) (text : List ℕ) → StandsForReplies p given text → fault_in due ≡ None → given ≢ [] → IsReadTo due p given text → IsRepliesSoFar text
-so_far (Magic part) p given text stands none some read = absurd (some read.valid.0.none)
-so_far Tag p given text stands none some read = made p given text stands read.valid
-so_far Connection p given text stands none some read = made p given text stands read.valid.0
-so_far (Session conn) p given text stands none some read = made p given text stands read.valid.0
-so_far (Length conn number) p given text stands none some read = made p given text stands read.valid.0
-so_far (Output conn number size) p given text stands none some read = made p given text stands read.valid.0
-so_far Nothing p given text stands none some read = made p given text stands read.valid
-so_far (Broken fault) p given text stands none some read = cc
+-- where records were given, they are those of a file with the version of the state
+so_far : (due : RepliesDue) (s : RepliesState) (text : List ℕ) (given : List SessionBytes) → given ≢ [] → IsReadTo due s text given → AreSoFar s given
+so_far (Magic part) s text given some read = absurd (some read.valid.0.none)
+so_far Tag s text given some read = read.valid
+so_far Connection s text given some read = read.valid
+so_far (Session conn) s text given some read = read.valid.0
+so_far (Length conn number) s text given some read = read.valid.0
+so_far (Output conn number others) s text given some read = read.valid.0
+so_far Nothing s text given some read = read.valid
 
 -- the outputs of a text without a fault so far are those of a replies file
 pub outputs_so_far : (text : List ℕ) → AreBytes text → fault_of text ≡ None → outputs_of text ≢ [] → IsRepliesSoFar text
-unfolding fault_met given_by reading_of StandsAs
+unfolding fault_met version_of given_by reading_of
 outputs_so_far text all none some =
-    let r : Reading Progress SessionBytes = read_from start text in
-    so_far r.last.due r.last r.given text refl none some (read_whole start [] [] text all (record { bytes = refl; count = refl; short = omega arith; valid = (record { none = refl; no_connection = refl; no_session = refl }, omega arith, tt) }))
+    let r : Reading Progress SessionBytes = read_from (at_state start 0) text in
+    let read = subst (λ (o : Option FileFault). IsRead replies_fields o r.last r.given text) none (text_read replies_fields lawful text) in
+    let keeps : AreSoFar r.last.state r.given = so_far r.last.state.due r.last.state (concat read.begins.parts) r.given some (reached text r.last.state r.given r.last.seen read.begins all) in
+    record {
+      version = r.last.state.version;
+      version_is = known_version r.last.state.version keeps.known;
+      lawful = record { known = keeps.known; ordered = keeps.ordered };
+    }

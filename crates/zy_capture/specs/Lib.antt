@@ -6,11 +6,10 @@ pub mod Standing
 pub mod Streams
 pub mod Outputs
 pub mod Replies
+pub mod RepliesLaws
 pub mod RepliesSteps
 pub mod RepliesVerdict
 pub mod RepliesStanding
 pub mod Faults
 pub mod RepliesFaults
 pub mod Worked
-pub mod Lasting
-pub mod RepliesLasting

@@ -5,18 +5,12 @@ use Rattle.std.specs.Prelude.{◌≡◌, ◌⊎◌, ℕ, ◌+◌, ◌^◌, ◌<�
 use Rattle.std.specs.Int.{to_be_bytes, w32}
 use Rattle.zy_base.specs.declared.file_fault.FileFault.{FileFault}
 use Rattle.zy_base.specs.declared.file_fault.FileFault.TheVariants.{Form, Truncated, TooLong}
+use Rattle.zy_read.specs.Magic.{IsBadMagic}
 use Rattle.zy_capture.specs.declared.session_bytes.SessionBytes.{SessionBytes}
 use Rattle.zy_capture.specs.Capture.{connection_limit}
-use Rattle.zy_capture.specs.Replies.{magic, spelled, spelling, IsNext, IsRepliesFile, SpellsReplies, replies_limit}
+use Rattle.zy_capture.specs.Replies.{letters, magic, spelled, spelling, IsNext, IsRepliesFile, SpellsReplies, replies_limit}
 
 -- ---- beginnings
-
--- the bytes are the first ones of a magic
-pub record BeginsMagic (bytes : List ℕ) : Type 0 where
-  pub version : ℕ
-  pub rest : List ℕ
-  pub known : (version ≡ 1) ⊎ (version ≡ 2)
-  pub whole : bytes ++ rest ≡ magic version
 
 -- the bytes of a replies file up to its end, or up to a further record
 abbrev pub front_text : ℕ → List SessionBytes → List ℕ
@@ -54,17 +48,6 @@ IsLawfulSession version items conn session =
     IsNext version (connections_after 0 items) (sessions_after 0 items) conn session × (session < 2 ^ 31)
 
 -- ---- a byte or a number that is wrong
-
--- a byte of the first eight follows the first ones of a magic, and is the next one of none
-pub record IsBadMagic (text : List ℕ) (at : ℕ) : Type 0 where
-  pub front : List ℕ
-  pub byte : ℕ
-  pub rest : List ℕ
-  pub whole : text ≡ front ++ byte ∷ rest
-  pub place : at ≡ length front
-  pub within : at < 8
-  pub begins : BeginsMagic front
-  pub differs : BeginsMagic (front ++ byte ∷ []) → ⊥
 
 -- where a record or the end is expected, there is a byte which is neither the tag nor the end
 pub record IsBadTag (text : List ℕ) (at : ℕ) : Type 0 where
@@ -122,7 +105,7 @@ pub record IsTrailing (text : List ℕ) (at : ℕ) : Type 0 where
 -- a byte or a number of the text is wrong, or comes after the end
 abbrev pub IsWrong : List ℕ → ℕ → Type 0
 IsWrong text at =
-    IsBadMagic text at ⊎ (IsBadTag text at ⊎ (IsBadConnection text at ⊎ (IsBadSession text at ⊎ IsTrailing text at)))
+    IsBadMagic letters text at ⊎ (IsBadTag text at ⊎ (IsBadConnection text at ⊎ (IsBadSession text at ⊎ IsTrailing text at)))
 
 -- the text is no replies file, but nothing in it is wrong, and it is not longer than one may be
 pub record IsBegun (text : List ℕ) : Type 0 where

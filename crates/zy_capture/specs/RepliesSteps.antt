@@ -1,164 +1,118 @@
--- The step at each byte of a replies file, by what is expected there: the table of docs/FORMATS.md,
--- "Replies". A number is judged at its last byte.
-use Rattle.std.specs.Prelude.{ℕ, ◌+◌, ◌-◌, ◌^◌, ◌==◌, ◌&&◌, ◌||◌, nat_lt, nat_le, if◌then◌else◌, Bool, true, false}
-use Rattle.std.specs.Prelude.{List, [], ◌∷◌, ◌++◌, length, None, Some}
+-- The fields of a replies file, and what a whole one does, by what is expected: the table of docs/FORMATS.md, "Replies".
+use Rattle.std.specs.Prelude.{ℕ, ◌+◌, ◌-◌, ◌^◌, ◌==◌, ◌&&◌, ◌||◌, nat_lt, if◌then◌else◌, Bool, true, false}
+use Rattle.std.specs.Prelude.{List, [], get_or}
 use Rattle.std.specs.Int.{from_be_bytes, w32, w64}
 use Rattle.zy_base.specs.declared.file_fault.FileFault.{FileFault}
-use Rattle.zy_base.specs.declared.file_fault.FileFault.TheVariants.{Form, TooLong}
-use Rattle.zy_read.specs.Format as Reads
+use Rattle.zy_base.specs.declared.file_fault.FileFault.TheVariants.{Form, Truncated, TooLong}
+use Rattle.zy_read.specs.Fields.{Judged, Fields, Place}
+use Rattle.zy_read.specs.Fields.Judged.{Then, Gives, Wrong}
+use Rattle.zy_read.specs.FieldReading.{width_of}
+use Rattle.zy_read.specs.declared.shape.Shape.{Shape}
+use Rattle.zy_read.specs.declared.shape.Shape.TheVariants as Shapes
 use Rattle.zy_read.specs.declared.magic.MagicPart.TheVariants.{Letters}
 use Rattle.zy_read.specs.declared.magic.MagicStep.{MagicStep}
-use Rattle.zy_read.specs.declared.magic.MagicStep.TheVariants.{Next, Whole, Wrong}
-use Rattle.zy_read.specs.Magic.{magic_step}
+use Rattle.zy_read.specs.Magic.{magic_step, magic_judged}
 use Rattle.zy_capture.specs.declared.session_bytes.SessionBytes.{SessionBytes}
 use Rattle.zy_capture.specs.declared.replies_due.RepliesDue.{RepliesDue}
 use Rattle.zy_capture.specs.declared.replies_due.RepliesDue.TheVariants.{Magic, Tag, Connection, Session, Length}
-use Rattle.zy_capture.specs.declared.replies_due.RepliesDue.TheVariants.{Output, Nothing, Broken}
+use Rattle.zy_capture.specs.declared.replies_due.RepliesDue.TheVariants.{Output, Nothing}
+use Rattle.zy_capture.specs.declared.replies_state.RepliesState.{RepliesState}
 use Rattle.zy_capture.specs.Capture.{connection_limit}
 use Rattle.zy_capture.specs.Replies.{letters, replies_limit}
 
--- ---- how far a text was read
-
 -- where a text was read up to some byte
-pub record Progress : Type 0 where
-  -- what is expected there
-  pub due : RepliesDue
-  -- the bytes read so far of the expected number
-  pub field : List ℕ
-  -- the bytes read so far of the expected output
-  pub payload : List ℕ
-  -- the version, or 0 before the magic was read
-  pub version : ℕ
-  -- how many connections have an output
-  pub connections : ℕ
-  -- how many sessions the last one of them has
-  pub sessions : ℕ
-  -- how many bytes were read
-  pub at : ℕ
+abbrev pub Progress : Type 0
+Progress = Place RepliesState FileFault
 
--- before the first byte
-abbrev pub start : Progress
-start = record { due = Magic Letters; field = []; payload = []; version = 0; connections = 0; sessions = 0; at = 0 }
+-- before the first field
+abbrev pub start : RepliesState
+start = record { due = Magic Letters; version = 0; connections = 0; sessions = 0 }
 
--- what a byte does: where it leads, and the output that it ends
-abbrev pub Step : Type 0
-Step = Reads.Step Progress SessionBytes
+-- ---- what a whole field may do
 
--- ---- what a byte may do
+-- this is expected after the field
+abbrev pub goes : RepliesState → RepliesDue → Judged RepliesState SessionBytes FileFault
+goes s due = Then (record s { due = due })
 
--- the byte is the last one of its part, and this is expected after it
-abbrev pub goes : Progress → RepliesDue → Step
-goes p due = record { next = record p { due = due; field = []; at = p.at + 1 }; gave = None }
+-- the state after the record of this session
+abbrev pub after_output : RepliesState → ℕ → ℕ → RepliesState
+after_output s conn session = record s { due = Tag; connections = conn + 1; sessions = session + 1 }
 
--- after the last byte of the record of this session
-abbrev pub after_output : Progress → ℕ → ℕ → Progress
-after_output p conn session =
-    record p { due = Tag; field = []; payload = []; connections = conn + 1; sessions = session + 1; at = p.at + 1 }
+-- the field ends the output of this session
+abbrev pub gives : RepliesState → ℕ → ℕ → List ℕ → Judged RepliesState SessionBytes FileFault
+gives s conn session bytes =
+    Gives (after_output s conn session) (record { conn = conn; session = session; bytes = bytes })
 
--- the byte ends the output of this session
-abbrev pub gives : Progress → ℕ → ℕ → List ℕ → Step
-gives p conn session bytes =
-    record {
-      next = after_output p conn session;
-      gave = Some (record {
-        conn = conn;
-        session = session;
-        bytes = bytes;
-      });
-    }
-
--- the byte is a fault, and nothing after it is read
-abbrev pub refuses : Progress → FileFault → Step
-refuses p fault = record { next = record p { due = Broken fault }; gave = None }
-
--- the byte is one of a number, and not the last one
-abbrev pub keeps : Progress → RepliesDue → ℕ → Step
-keeps p due byte = record { next = record p { due = due; field = p.field ++ byte ∷ []; at = p.at + 1 }; gave = None }
-
--- the byte is one of an output, and not the last one
-abbrev pub grows : Progress → RepliesDue → ℕ → Step
-grows p due byte =
-    record { next = record p { due = due; payload = p.payload ++ byte ∷ []; at = p.at + 1 }; gave = None }
-
--- the place after bytes of an output, none of which is its last
-abbrev pub grown_by : Progress → List ℕ → Progress
-grown_by p bytes = record p { payload = p.payload ++ bytes; at = p.at + length bytes }
-
--- ---- the step at a byte, by what is expected
+-- ---- a whole field
 
 -- where a byte of the magic leads
-abbrev pub after_magic : Progress → MagicStep → Step
-after_magic p (Next part) = goes p (Magic part)
-after_magic p (Whole version) = goes (record p { version = version }) Tag
-after_magic p Wrong = refuses p (Form p.at)
+abbrev pub after_magic : RepliesState → ℕ → MagicStep → Judged RepliesState SessionBytes FileFault
+after_magic s at step =
+    magic_judged (λ part. record s { due = Magic part }) (λ version. record s { due = Tag; version = version }) (Form at)
+    step
 
 -- the tag of a record, or the end
-abbrev pub tag : Progress → ℕ → Step
-tag p byte = if byte == 82 then goes p Connection else if byte == 69 then goes p Nothing else refuses p (Form p.at)
+abbrev pub tag : RepliesState → ℕ → ℕ → Judged RepliesState SessionBytes FileFault
+tag s at byte = if byte == 82 then goes s Connection else if byte == 69 then goes s Nothing else Wrong (Form at)
 
 -- the connection of a record: that of the last one, which only version 2 has, or the next one
-abbrev pub may_come : Progress → ℕ → Bool
-may_come p conn =
-    nat_lt conn connection_limit && (conn == p.connections || (p.version == 2 && conn + 1 == p.connections))
+abbrev pub may_come : RepliesState → ℕ → Bool
+may_come s conn =
+    nat_lt conn connection_limit && (conn == s.connections || (s.version == 2 && conn + 1 == s.connections))
 
 -- the next session of a connection
-abbrev pub due_session : Progress → ℕ → ℕ
-due_session p conn = if conn == p.connections then 0 else p.sessions
+abbrev pub due_session : RepliesState → ℕ → ℕ
+due_session s conn = if conn == s.connections then 0 else s.sessions
 
--- the whole connection of a record
-abbrev pub connection : Progress → ℕ → Step
-connection p conn =
-    if may_come p conn then (if p.version == 2 then goes p (Session conn) else goes p (Length conn 0))
-    else refuses p (Form (p.at - 3))
+-- the connection of a record
+abbrev pub connection : RepliesState → ℕ → ℕ → Judged RepliesState SessionBytes FileFault
+connection s at conn =
+    if may_come s conn then (if s.version == 2 then goes s (Session conn) else goes s (Length conn 0))
+    else Wrong (Form at)
 
--- the whole session of a record
-abbrev pub session : ℕ → Progress → ℕ → Step
-session conn p number =
-    if number == due_session p conn && nat_lt number (2 ^ 31) then goes p (Length conn number)
-    else refuses p (Form (p.at - 3))
+-- the session of a record
+abbrev pub session : ℕ → RepliesState → ℕ → ℕ → Judged RepliesState SessionBytes FileFault
+session conn s at number =
+    if number == due_session s conn && nat_lt number (2 ^ 31) then goes s (Length conn number) else Wrong (Form at)
 
--- the whole length of an output
-abbrev pub size_read : ℕ → ℕ → Progress → ℕ → Step
-size_read conn session p size =
-    if size == 0 then gives p conn session [] else goes (record p { payload = [] }) (Output conn session size)
+-- the length of an output
+abbrev pub size_read : ℕ → ℕ → RepliesState → ℕ → Judged RepliesState SessionBytes FileFault
+size_read conn session s size =
+    if size == 0 then gives s conn session [] else goes s (Output conn session (size - 1))
 
--- a byte of a number of four bytes
-abbrev pub four : RepliesDue → (Progress → ℕ → Step) → Progress → ℕ → Step
-four due judged p byte =
-    if nat_lt (length p.field) 3 then keeps p due byte else judged p (from_be_bytes w32 (p.field ++ byte ∷ []))
+-- a whole field, where this is expected
+abbrev pub judged : RepliesDue → RepliesState → ℕ → List ℕ → Judged RepliesState SessionBytes FileFault
+judged (Magic part) s at field = after_magic s at (magic_step part letters at (get_or field 0 0))
+judged Tag s at field = tag s at (get_or field 0 0)
+judged Connection s at field = connection s at (from_be_bytes w32 field)
+judged (Session conn) s at field = session conn s at (from_be_bytes w32 field)
+judged (Length conn number) s at field = size_read conn number s (from_be_bytes w64 field)
+judged (Output conn number others) s at field = gives s conn number field
+judged Nothing s at field = Wrong (Form at)
 
--- a byte of a number of eight bytes
-abbrev pub eight : RepliesDue → (Progress → ℕ → Step) → Progress → ℕ → Step
-eight due judged p byte =
-    if nat_lt (length p.field) 7 then keeps p due byte else judged p (from_be_bytes w64 (p.field ++ byte ∷ []))
+-- ---- the fields
 
--- a byte of an output
-abbrev pub output : ℕ → ℕ → ℕ → Progress → ℕ → Step
-output conn session size p byte =
-    if nat_lt (length p.payload + 1) size then grows p (Output conn session size) byte
-    else gives p conn session (p.payload ++ byte ∷ [])
+-- the shape of the field that is expected
+abbrev pub shape : RepliesDue → Shape
+shape Connection = Shapes.Four
+shape (Session conn) = Shapes.Four
+shape (Length conn number) = Shapes.Eight
+shape (Output conn number others) = Shapes.Run others
+shape due = Shapes.Byte
 
--- the step at a byte, where this is expected
-abbrev pub taken : RepliesDue → Progress → ℕ → Step
-taken (Magic part) p byte = after_magic p (magic_step part letters p.at byte)
-taken Tag p byte = tag p byte
-taken Connection p byte = four Connection connection p byte
-taken (Session conn) p byte = four (Session conn) (session conn) p byte
-taken (Length conn number) p byte = eight (Length conn number) (size_read conn number) p byte
-taken (Output conn number size) p byte = output conn number size p byte
-taken Nothing p byte = refuses p (Form p.at)
-taken (Broken fault) p byte = record { next = p; gave = None }
+-- the end was read
+abbrev pub is_last : RepliesDue → Bool
+is_last Nothing = true
+is_last due = false
 
--- neither the end nor a fault was met
-abbrev pub is_open : RepliesDue → Bool
-is_open Nothing = false
-is_open (Broken fault) = false
-is_open due = true
-
--- the text has its most bytes, and its end was not read
-abbrev pub is_full : Progress → Bool
-is_full p = is_open p.due && nat_le replies_limit p.at
-
--- a byte: that the text is too long comes before every other fault
-abbrev pub step : Progress → ℕ → Step
-step p byte = if is_full p then refuses p TooLong else taken p.due p byte
+-- the fields of a replies file
+abbrev pub replies_fields : Fields RepliesState SessionBytes FileFault
+replies_fields = record {
+  start = start;
+  width = λ s. width_of (shape s.due);
+  judge = λ s at field. judged s.due s at field;
+  is_end = λ s. is_last s.due;
+  limit = replies_limit;
+  too_long = TooLong;
+  truncated = Truncated;
+}

@@ -1,6 +1,7 @@
 -- The version, the count and the records of a text so far, if it has no fault and gave a record.
 use Rattle.std.specs.Prelude.{◌≡◌, ◌⊎◌, ℕ, ◌*◌, ◌^◌, ◌<◌, ◌≤◌, List, ◌++◌, length, Some}
 use Rattle.std.specs.Int.{to_be_bytes, w32}
+use Rattle.zy_read.specs.Magic.{HasMagic}
 use Rattle.zy_capture.specs.Capture.{magic, connection_limit, IsCapture}
 use Rattle.zy_capture.specs.Streams.{closes}
 use Rattle.zy_capture.specs.Verdict.{version_of, count_of, records_of}
@@ -34,10 +35,8 @@ pub record BeginsWithCount (text : List ℕ) (count : ℕ) : Type 0 where
   pub whole : text ≡ magic version ++ (to_be_bytes w32 count ++ rest)
 
 -- the text begins with the magic of a replies file of a version
-pub record BeginsWithRepliesMagic (text : List ℕ) (version : ℕ) : Type 0 where
-  pub rest : List ℕ
-  pub known : (version ≡ 1) ⊎ (version ≡ 2)
-  pub whole : text ≡ RepliesText.magic version ++ rest
+abbrev pub BeginsWithRepliesMagic : List ℕ → ℕ → Type 0
+BeginsWithRepliesMagic text version = HasMagic RepliesText.letters text version
 
 -- the version was read, and the outputs are those of a replies file
 pub record IsRepliesSoFar (text : List ℕ) : Type 0 where

@@ -1,15 +1,15 @@
 -- The bytes that brought a reader of captures to where it is, and the meaning of its answers.
-use Rattle.std.specs.Prelude.{Option, ◌≡◌, ℕ, ◌<◌, ◌≤◌, List, ◌∷◌, [], ◌++◌, length, Result, Ok, Err, ⊤}
-use Rattle.std.specs.Int.{from_be_bytes, w32}
+use Rattle.std.specs.Prelude.{Option, None, Some, ◌≡◌, ℕ, ◌<◌, ◌≤◌, List, ◌∷◌, [], ◌++◌, length, Result, Ok, Err, ⊤}
 use Rattle.zy_read.specs.declared.not_taken.NotTaken.{NotTaken}
 use Rattle.zy_read.specs.Standing.{StandsAs, Follows}
 use Rattle.zy_read.specs.Magic.{IsInMagic}
 use Rattle.zy_capture.specs.declared.record.Record.{Record}
 use Rattle.zy_capture.specs.declared.capture_fault.CaptureFault.{CaptureFault}
 use Rattle.zy_capture.specs.declared.due.Due.{Due}
-use Rattle.zy_capture.specs.declared.due.Due.TheVariants.{Magic, Length, Payload}
+use Rattle.zy_capture.specs.declared.due.Due.TheVariants.{Magic, Count, Tag, Connection, Length, Payload, Closed}
+use Rattle.zy_capture.specs.declared.due.Due.TheVariants.{Nothing}
 use Rattle.zy_capture.specs.Capture.{capture_limit, segment_limit}
-use Rattle.zy_capture.specs.Steps.{Progress, Step}
+use Rattle.zy_capture.specs.Steps.{Progress, Step, number}
 use Rattle.zy_capture.specs.Verdict.{Verdict, captures, verdict}
 use Rattle.zy_capture.specs.Verdict.Verdict.{Good, Bad}
 
@@ -29,10 +29,11 @@ EndsBy p answer = (given : List Record) (b : List ℕ) → StandsFor p given b �
 -- the byte is the last one of the length of a segment that is lawful and not empty
 pub record IsLengthEnd (p : Progress) (byte : ℕ) : Type 0 where
   pub conn : ℕ
-  pub due : p.due ≡ Length conn
-  pub last : length p.field ≡ 3
-  pub some : 0 < from_be_bytes w32 (p.field ++ byte ∷ [])
-  pub lawful : from_be_bytes w32 (p.field ++ byte ∷ []) ≤ segment_limit
+  pub due : p.state.due ≡ Length conn
+  pub none : p.fault ≡ None
+  pub last : length p.seen ≡ 3
+  pub some : 0 < number (p.seen ++ byte ∷ [])
+  pub lawful : number (p.seen ++ byte ∷ []) ≤ segment_limit
   pub within : p.at < capture_limit
 
 -- ---- for the reader alone
@@ -42,9 +43,28 @@ pub record IsLengthEnd (p : Progress) (byte : ℕ) : Type 0 where
 abbrev pub Takes : Step → Progress → Progress → ℕ → Result (Option Record) (NotTaken CaptureFault) → Type 0
 Takes step old new byte result = Follows captures IsLengthEnd step old new byte result
 
--- what is due is within its bounds: the place of a part of the magic, and the bytes of a segment, for which there is
--- room
-abbrev pub IsWithin : Due → ℕ → List ℕ → ℕ → Type 0
-IsWithin (Magic part) at payload room = IsInMagic part at
-IsWithin (Payload conn size) at payload room = (length payload < size) × (size ≤ room)
-IsWithin due at payload room = ⊤
+-- the bytes that were read of the field, of those that are kept of a number and of a segment
+abbrev pub seen_of : Due → List ℕ → List ℕ → List ℕ
+seen_of (Payload conn others) field payload = payload
+seen_of due field payload = field
+
+-- the bytes that are kept are those of a field, which may begin at this place; and there is room for a segment
+abbrev pub IsWithin : Due → ℕ → List ℕ → List ℕ → ℕ → Type 0
+IsWithin (Magic part) at field payload room = IsInMagic part at × (field ≡ [])
+IsWithin Tag at field payload room = field ≡ []
+IsWithin (Payload conn others) at field payload room = (length payload ≤ others) × (others < room)
+IsWithin Nothing at field payload room = field ≡ []
+IsWithin due at field payload room = length field < 4
+
+-- the same, where this fault was met or none; after one no byte is kept
+abbrev pub IsKept : Option CaptureFault → Due → ℕ → List ℕ → List ℕ → ℕ → Type 0
+IsKept None due at field payload room = IsWithin due at field payload room
+IsKept (Some fault) due at field payload room = seen_of due field payload ≡ []
+
+-- the field is a number
+abbrev pub IsNumber : Due → Type 0
+IsNumber Count = ⊤
+IsNumber Connection = ⊤
+IsNumber (Length conn) = ⊤
+IsNumber Closed = ⊤
+IsNumber due = ⊥

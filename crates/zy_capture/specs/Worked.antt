@@ -6,7 +6,9 @@ use Rattle.zy_capture.specs.declared.record.Record.TheVariants as Kinds
 use Rattle.zy_capture.specs.declared.capture_fault.CaptureFault.{CaptureFault}
 use Rattle.zy_capture.specs.declared.due.Due.TheVariants as Dues
 use Rattle.zy_capture.specs.declared.replies_due.RepliesDue.TheVariants as RepliesDues
-use Rattle.zy_capture.specs.Verdict as Captures
+use Rattle.zy_read.specs.Format.{read_on}
+use Rattle.zy_read.specs.Fields.{at_state, step}
+use Rattle.zy_capture.specs.Steps.{state, fields}
 use Rattle.zy_capture.specs.RepliesVerdict as Replies
 use Rattle.zy_capture.specs.Outputs.{AllOutputs}
 
@@ -42,14 +44,7 @@ sessions_text = codes "ZYGCAP2\n\0\0\0\u{2}S\0\0\0\0\0\0\0\u{2}abC\0\0\0\0C\0\0\
 -- connection, where a record is expected
 abbrev pub met_behind : ℕ → List ℕ → Option CaptureFault
 met_behind at text =
-    Captures.fault_in (Captures.read_from (record {
-      due = Dues.Tag;
-      field = [];
-      payload = [];
-      version = 2;
-      count = 1;
-      at = at;
-    }) text).last.due
+    (read_on (step fields) (at_state (state Dues.Tag 2 1) at) text).last.fault
 
 -- ---- replies files
 
@@ -75,12 +70,9 @@ session_outputs_text =
 -- record is expected
 abbrev pub met_behind_replies : ℕ → List ℕ → Option FileFault
 met_behind_replies at text =
-    Replies.fault_in (Replies.read_from (record {
+    (Replies.read_from (at_state (record {
       due = RepliesDues.Tag;
-      field = [];
-      payload = [];
       version = 1;
       connections = 0;
       sessions = 0;
-      at = at;
-    }) text).last.due
+    }) at) text).last.fault

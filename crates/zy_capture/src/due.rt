@@ -1,6 +1,5 @@
 //! What is expected next in a capture.
 
-use crate::capture_fault::CaptureFault;
 use zy_read::MagicPart;
 
 /// What is expected next.
@@ -16,12 +15,10 @@ pub(crate) enum Due {
     Connection,
     /// The length of a segment of this connection.
     Length { conn: u32 },
-    /// The bytes of a segment of this connection and length.
-    Payload { conn: u32, length: u32 },
+    /// The bytes of a segment of this connection: one, and this number of others.
+    Payload { conn: u32, others: u32 },
     /// The connection of a close record.
     Closed,
     /// Nothing: the end was read.
     Nothing,
-    /// Nothing: the text has this fault.
-    Broken(CaptureFault),
 }

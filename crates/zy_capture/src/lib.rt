@@ -2,6 +2,7 @@
 #![tactic(auto)]
 
 mod capture_fault;
+mod capture_state;
 mod due;
 mod laws;
 mod outputs;
@@ -9,6 +10,7 @@ mod reader;
 mod record;
 mod replies_due;
 mod replies_reader;
+mod replies_state;
 mod session_bytes;
 mod sessions;
 mod streams;

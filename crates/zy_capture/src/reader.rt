@@ -2,9 +2,6 @@
 ghost use Rattle.std.specs.Prelude.{◌≡◌, ◌+◌, ◌<◌, ◌≤◌, [], ◌∷◌, ◌++◌, length, take, drop, get_or, Err, Ok, None};
 ghost use Rattle.zy_read.specs.Standing.{given_in, Feeds, FeedsAs, TellsFault, TellsLasting, AnswersBy, Follows};
 ghost use Rattle.zy_read.specs.declared.not_taken.NotTaken.TheVariants.{NoMemory};
-ghost use Rattle.zy_capture.specs.declared.due.Due.TheVariants as Dues;
-ghost use Rattle.zy_capture.specs.Capture.{capture_limit};
-ghost use Rattle.zy_capture.specs.Steps.{grown_by};
 ghost use Rattle.zy_capture.specs.Verdict.{captures, verdict, version_of, count_of, is_within_record, is_good};
 ghost use Rattle.zy_capture.specs.Standing.{StandsFor, EndsBy, IsLengthEnd};
 
@@ -12,6 +9,7 @@ mod head;
 mod steps;
 
 use crate::capture_fault::{CaptureFault, FeedFault};
+use crate::capture_state::CaptureState;
 use crate::due::Due;
 use crate::record::Record;
 use std::alloc::Global;
@@ -23,32 +21,29 @@ use zy_read::{Fed, Field, MagicPart, feed, feed_piece};
 #[derive(Drop)]
 pub struct Reader {
     alloc: Global,
-    due: Due,
+    state: CaptureState,
     field: Field,
     payload: Filling,
-    version: u32,
-    count: u32,
     at: u64,
+    fault: Option<CaptureFault>,
 }
 
 impl Model for Reader {
-    ghost use Rattle.std.specs.Prelude.{◌+◌, ◌<◌, ◌≤◌, length};
+    ghost use Rattle.std.specs.Prelude.{◌+◌, ◌≤◌, length};
     ghost use Rattle.zy_capture.specs.Steps.{Progress};
-    ghost use Rattle.zy_capture.specs.Standing.{IsWithin};
+    ghost use Rattle.zy_capture.specs.Standing.{seen_of, IsKept};
 
     ghost Value = { Progress };
 
     ghost view = { λ r. record {
-      due = r.due;
-      field = r.field;
-      payload = r.payload.bytes;
-      version = r.version;
-      count = r.count;
+      state = r.state;
+      seen = seen_of r.state.due r.field r.payload.bytes;
       at = r.at;
+      fault = r.fault;
     } };
 
-    ghost invariant = { λ r. (length r.field < 4) × (length r.field ≤ r.at)
-        × IsWithin r.due r.at r.payload.bytes (length r.payload.bytes + r.payload.room) };
+    ghost invariant = { λ r. (length r.field ≤ r.at)
+        × IsKept r.fault r.state.due r.at r.field r.payload.bytes (length r.payload.bytes + r.payload.room) };
 }
 
 impl Reader {
@@ -58,12 +53,15 @@ impl Reader {
     {
         Reader {
             alloc,
-            due: Due::Magic(MagicPart::Letters),
+            state: CaptureState {
+                due: Due::Magic(MagicPart::Letters),
+                version: 0,
+                count: 0,
+            },
             field: Field::new(),
             payload: Filling::new(alloc),
-            version: 0,
-            count: 0,
             at: 0,
+            fault: None,
         }
     }
 
@@ -109,10 +107,9 @@ impl Reader {
     pub fn version(&self) -> Option<u32>
         ensures value { AnswersBy captures self.now version_of result }
     {
-        if self.version == 0 {
-            None
-        } else {
-            Some(self.version)
+        match self.state.due {
+            Due::Magic(_) => None,
+            _ => Some(self.state.version),
         }
     }
 
@@ -121,12 +118,9 @@ impl Reader {
     pub fn count(&self) -> Option<u32>
         ensures value { AnswersBy captures self.now count_of result }
     {
-        match self.due {
-            Due::Magic(_)
-            | Due::Count
-            | Due::Broken(CaptureFault::BadMagic { .. })
-            | Due::Broken(CaptureFault::ConnCount { .. }) => None,
-            _ => Some(self.count),
+        match self.state.due {
+            Due::Magic(_) | Due::Count => None,
+            _ => Some(self.state.count),
         }
     }
 
@@ -135,10 +129,11 @@ impl Reader {
     pub fn is_within_record(&self) -> bool
         ensures value { AnswersBy captures self.now is_within_record result }
     {
-        matches!(
-            self.due,
-            Due::Connection | Due::Length { .. } | Due::Payload { .. } | Due::Closed
-        )
+        self.fault.is_none()
+            && matches!(
+                self.state.due,
+                Due::Connection | Due::Length { .. } | Due::Payload { .. } | Due::Closed
+            )
     }
 
     /// True exactly where the end was read and no fault was met.
@@ -146,7 +141,7 @@ impl Reader {
     pub fn is_done(&self) -> bool
         ensures value { AnswersBy captures self.now (λ b. is_good (verdict b)) result }
     {
-        matches!(self.due, Due::Nothing)
+        self.fault.is_none() && matches!(self.state.due, Due::Nothing)
     }
 
     /// Whether the bytes that were fed are a whole capture, and their fault otherwise.
@@ -154,10 +149,10 @@ impl Reader {
     pub fn end(&self) -> Result<(), CaptureFault>
         ensures value { EndsBy self.now result }
     {
-        match self.due {
-            Due::Nothing => Ok(()),
-            Due::Broken(fault) => Err(fault),
-            _ => Err(CaptureFault::Truncated { at: self.at }),
+        match (self.fault, self.state.due) {
+            (Some(fault), _) => Err(fault),
+            (None, Due::Nothing) => Ok(()),
+            (None, _) => Err(CaptureFault::Truncated { at: self.at }),
         }
     }
 }

@@ -1,6 +1,5 @@
 //! What is expected next in a replies file.
 
-use zy_base::FileFault;
 use zy_read::MagicPart;
 
 /// What is expected next.
@@ -21,14 +20,12 @@ pub(crate) enum RepliesDue {
         conn: u32,
         session: u32,
     },
-    /// The output of this session, and its length.
+    /// The output of this session: one byte and so many others.
     Output {
         conn: u32,
         session: u32,
-        length: u64,
+        others: u64,
     },
     /// Nothing: the end was read.
     Nothing,
-    /// Nothing: the text has this fault.
-    Broken(FileFault),
 }

@@ -3,53 +3,28 @@ ghost use Rattle.std.specs.Prelude.{◌≡◌, ◌+◌, ◌<◌, ◌≤◌, [], 
 ghost use Rattle.std.specs.Prelude.{false};
 ghost use Rattle.zy_read.specs.Standing.{given_in, Feeds, FeedsAs, TellsFault, TellsLasting, AnswersBy};
 ghost use Rattle.zy_read.specs.declared.not_taken.NotTaken.TheVariants.{NoMemory};
-ghost use Rattle.zy_capture.specs.declared.replies_due.RepliesDue.TheVariants as Dues;
-ghost use Rattle.zy_capture.specs.Replies.{replies_limit};
-ghost use Rattle.zy_capture.specs.RepliesSteps.{grown_by};
 ghost use Rattle.zy_capture.specs.RepliesVerdict.{replies, verdict, version_of, is_good};
 ghost use Rattle.zy_capture.specs.RepliesStanding.{StandsForReplies, EndsBy, IsOfOutput};
 
-mod steps;
-
-use crate::replies_due::RepliesDue;
+use crate::replies_state::RepliesState;
 use crate::session_bytes::SessionBytes;
 use std::alloc::Global;
 use std::marker::Model;
 use zy_base::FileFault;
-use zy_read::{Fed, Field, FileFeed, MagicPart, feed, feed_piece};
+use zy_read::{Fed, FieldReader, FileFeed, feed, feed_piece};
 
 /// Reads a replies file, of either version, byte by byte or in pieces.
 #[derive(Drop)]
 pub struct RepliesReader {
-    alloc: Global,
-    due: RepliesDue,
-    field: Field,
-    payload: Vec<u8>,
-    version: u32,
-    connections: u32,
-    sessions: u32,
-    at: u64,
+    reader: FieldReader<RepliesState>,
 }
 
 impl Model for RepliesReader {
-    ghost use Rattle.std.specs.Prelude.{◌<◌, ◌≤◌, length};
     ghost use Rattle.zy_capture.specs.RepliesSteps.{Progress};
-    ghost use Rattle.zy_capture.specs.RepliesStanding.{IsWithin};
 
     ghost Value = { Progress };
 
-    ghost view = { λ r. record {
-      due = r.due;
-      field = r.field;
-      payload = r.payload.items;
-      version = r.version;
-      connections = r.connections;
-      sessions = r.sessions;
-      at = r.at;
-    } };
-
-    ghost invariant = { λ r. (length r.field ≤ r.at)
-        × IsWithin r.due r.at (length r.field) r.payload.items };
+    ghost view = { λ r. r.reader };
 }
 
 impl RepliesReader {
@@ -58,14 +33,7 @@ impl RepliesReader {
         ensures value { StandsForReplies result [] [] }
     {
         RepliesReader {
-            alloc,
-            due: RepliesDue::Magic(MagicPart::Letters),
-            field: Field::new(),
-            payload: Vec::new(alloc),
-            version: 0,
-            connections: 0,
-            sessions: 0,
-            at: 0,
+            reader: FieldReader::new(alloc, RepliesState::new()),
         }
     }
 
@@ -83,7 +51,7 @@ impl RepliesReader {
         ensures kept { result ≡ Err NoMemory → self.new ≡ self.old }
         ensures memory { result ≡ Err NoMemory → IsOfOutput self.old byte }
     {
-        feed(self, byte)
+        feed(&mut self.reader, byte)
     }
 
     /// Takes bytes up to and including the one that ends the first output or is the first fault, or
@@ -91,6 +59,7 @@ impl RepliesReader {
     ///
     /// After `NoMemory` the bytes before the one that needs memory are taken; `feed` says when that
     /// is possible.
+    #[tactic(auto, using(crate::proofs::RepliesFeeding::of_output))]
     pub fn feed_piece(&mut self, bytes: &[u8]) -> Fed<SessionBytes, FileFault>
         requires some { 0 < length bytes.now }
         ensures within { result.taken ≤ length bytes.now }
@@ -103,7 +72,7 @@ impl RepliesReader {
         ensures memory { result.answer ≡ Err NoMemory
             → IsOfOutput self.new (get_or bytes.now result.taken 0) }
     {
-        feed_piece(self, bytes)
+        feed_piece(&mut self.reader, bytes)
     }
 
     /// 1 or 2; `None` exactly where the magic was not read whole or was refused.
@@ -111,10 +80,9 @@ impl RepliesReader {
     pub fn version(&self) -> Option<u32>
         ensures value { AnswersBy replies self.now version_of result }
     {
-        if self.version == 0 {
-            None
-        } else {
-            Some(self.version)
+        match self.reader.state().version {
+            0 => None,
+            version => Some(version),
         }
     }
 
@@ -123,7 +91,7 @@ impl RepliesReader {
     pub fn is_done(&self) -> bool
         ensures value { AnswersBy replies self.now (λ b. is_good (verdict b)) result }
     {
-        matches!(self.due, RepliesDue::Nothing)
+        self.reader.end().is_ok()
     }
 
     /// Whether the bytes that were fed are a whole replies file, and their fault otherwise.
@@ -131,10 +99,6 @@ impl RepliesReader {
     pub fn end(&self) -> Result<(), FileFault>
         ensures value { EndsBy self.now result }
     {
-        match self.due {
-            RepliesDue::Nothing => Ok(()),
-            RepliesDue::Broken(fault) => Err(fault),
-            _ => Err(FileFault::Truncated { at: self.at }),
-        }
+        self.reader.end()
     }
 }

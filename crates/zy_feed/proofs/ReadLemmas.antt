@@ -10,19 +10,19 @@ use Rattle.zy_read.proofs.ByteLemmas.{bytes_front}
 use Rattle.zy_read.proofs.SourceLemmas.{consumed_none}
 use Rattle.zy_capture.specs.declared.record.Record.{Record}
 use Rattle.zy_capture.specs.declared.capture_fault.CaptureFault.{CaptureFault}
-use Rattle.zy_capture.specs.declared.due.Due.{Due}
 use Rattle.zy_capture.specs.declared.due.Due.TheVariants.{Nothing}
 use Rattle.zy_capture.specs.Capture.{capture_limit}
-use Rattle.zy_capture.specs.Steps.{Progress, step}
-use Rattle.zy_capture.specs.Verdict.{captures, ended, verdict, fault_of, count_of, records_of}
+use Rattle.zy_read.specs.Fields.{step}
+use Rattle.zy_capture.specs.Steps.{Progress, fields}
+use Rattle.zy_capture.specs.Verdict.{captures, is_good, verdict, fault_of, count_of, records_of}
 use Rattle.zy_capture.specs.Verdict.Verdict.{Good}
 use Rattle.zy_capture.specs.Standing.{StandsFor, EndsAs}
-use Rattle.zy_capture.proofs.Feeding.{count_here}
+use Rattle.zy_capture.proofs.Feeding.{count_here, good_ended}
 use Rattle.zy_read.specs.declared.stop.Stop.{Stop}
 use Rattle.zy_feed.specs.declared.intake.Header.{Header}
 use Rattle.zy_feed.specs.Reads.{Intake, IsFresh, HasRead, HasReadAll, StopsBy, TellsHeader, TellsNoHeader}
 use Rattle.zy_capture.specs.Streams.{closes}
-use Rattle.zy_capture.proofs.SoFarLemmas.{good_tells, records_so_far}
+use Rattle.zy_capture.proofs.SoFarLemmas.{spells_tells, records_so_far}
 use Rattle.zy_capture.proofs.TellLemmas.{IsPastCount, past_count, version_stays, count_stays, version_read}
 use Rattle.zy_capture.proofs.WholeLemmas.{clean_short, good_spells}
 use Rattle.zy_feed.proofs.StepLemmas.{step_gave}
@@ -30,7 +30,7 @@ use Rattle.zy_feed.proofs.StepLemmas.{step_gave}
 -- ---- no capture has more bytes than the limit
 
 pub has_few : {S : Type 0} (rest : S → Option (List ℕ)) (faults : S → ℕ) (first now : S) (p : Intake) (records : List Record) (bytes : List ℕ) → HasRead rest faults first now p records bytes → length bytes ≤ capture_limit
-has_few rest faults first now p records bytes has = clean_short bytes (bytes_front bytes p.left has.given.bytes) has.clean
+has_few rest faults first now p records bytes has = clean_short bytes has.clean
 
 -- so after this many bytes no stop needs a cause
 pub too_long : {S : Type 0} (rest : S → Option (List ℕ)) (faults : S → ℕ) (first now : S) (p : Intake) (records : List Record) (bytes more : List ℕ) (n : ℕ) (stop : Stop CaptureFault) → 18446744073709551615 ≤ n → n ≤ length more → HasRead rest faults first now p records (bytes ++ more) → StopsBy rest faults first now stop
@@ -39,26 +39,26 @@ too_long rest faults first now p records bytes more n stop over within has = abs
 -- ---- version and count
 
 -- after the count, version and count are read
-not_early : (p : Progress) (given : List Record) (b : List ℕ) → AreBytes b → StandsFor p given b → IsPastCount p.due → TellsNoHeader b → ⊥
+not_early : (p : Progress) (given : List Record) (b : List ℕ) → AreBytes b → StandsFor p given b → IsPastCount p.state.due → TellsNoHeader b → ⊥
 not_early p given b small stands past none = go none
   where
-    told : count_of b ≡ Some p.count
-    told = count_here p given b stands ∙ past_count p.due p.count past
+    told : count_of b ≡ Some p.state.count
+    told = count_here p given b stands ∙ past_count p.state.due p.state.count past
 
     go : TellsNoHeader b → ⊥
-    go (inl none) = let read = version_read b p.count small told in cc
-    go (inr none) = let read : count_of b ≡ Some p.count = told in cc
+    go (inl none) = let read = version_read b p.state.count small told in cc
+    go (inr none) = let read : count_of b ≡ Some p.state.count = told in cc
 
 -- the first record ends after the count
-record_late : (p q : Progress) (b more : List ℕ) (r : Record) → StandsFor p [] b → StandsFor q (r ∷ []) (b ++ more) → length more ≤ 1 → IsPastCount p.due
+record_late : (p q : Progress) (b more : List ℕ) (r : Record) → StandsFor p [] b → StandsFor q (r ∷ []) (b ++ more) → length more ≤ 1 → IsPastCount p.state.due
 unfolding StandsAs read_on
 record_late p q b [] r first second few =
     let given : [] ≡ r ∷ [] = ap (λ (x : Reading Progress Record). x.given) (sym (read_more captures p [] b [] first) ∙ second) in cc
 record_late p q b (byte ∷ []) r first second few =
-    let given : option_to_list (step p byte).gave ++ [] ≡ r ∷ [] = ap (λ (x : Reading Progress Record). x.given) (sym (read_more captures p [] b (byte ∷ []) first) ∙ second) in
-    go (step p byte).gave refl given
+    let given : option_to_list (step fields p byte).gave ++ [] ≡ r ∷ [] = ap (λ (x : Reading Progress Record). x.given) (sym (read_more captures p [] b (byte ∷ []) first) ∙ second) in
+    go (step fields p byte).gave refl given
   where
-    go : (gave : Option Record) → (step p byte).gave ≡ gave → option_to_list gave ++ [] ≡ r ∷ [] → IsPastCount p.due
+    go : (gave : Option Record) → (step fields p byte).gave ≡ gave → option_to_list gave ++ [] ≡ r ∷ [] → IsPastCount p.state.due
     go None is given = cc
     go (Some s) is given = step_gave p byte s is
 record_late p q b (byte ∷ next ∷ more) r first second few = absurd (omega (arith, few))
@@ -67,12 +67,10 @@ pub record_absurd : {S : Type 0} (rest : S → Option (List ℕ)) (faults : S �
 record_absurd rest faults first old now p q bytes more r has none few later =
     not_early p.reader [] bytes (bytes_front bytes p.left has.given.bytes) has.reader (record_late p.reader q.reader bytes more r has.reader later.reader few) none
 
-nothing_due : (due : Due) (p : Progress) (given : List Record) (version count : ℕ) → ended due p given ≡ Good version count given → due ≡ Nothing
-nothing_due Nothing p given version count is = refl
-nothing_due due p given version count is = cc
-
-whole_due : (p : Progress) (given : List Record) (b : List ℕ) → StandsFor p given b → EndsAs given (Ok tt) (verdict b) → p.due ≡ Nothing
-whole_due p given b stands good = nothing_due p.due p given good.0 good.1 (sym (verdict_here captures p given b stands) ∙ good.2)
+whole_due : (p : Progress) (given : List Record) (b : List ℕ) → StandsFor p given b → EndsAs given (Ok tt) (verdict b) → p.state.due ≡ Nothing
+whole_due p given b stands good =
+    let ends : captures.ended p given ≡ Good good.0 good.1 given = sym (verdict_here captures p given b stands) ∙ good.2 in
+    (good_ended p given (ap is_good ends)).due
 
 pub end_absurd : {S : Type 0} (rest : S → Option (List ℕ)) (faults : S → ℕ) (first now : S) (q : Intake) (bytes : List ℕ) → TellsNoHeader bytes → HasReadAll rest faults first now q [] bytes → ⊥
 end_absurd rest faults first now q bytes none all =
@@ -92,7 +90,7 @@ some_records first records is = cc
 pub good_as_told : (records : List Record) (text : List ℕ) (header : Header) → AreBytes text → EndsAs records (Ok tt) (verdict text) → TellsHeader text header → verdict text ≡ Good header.version header.count records
 good_as_told records text header small good told =
     let spells = good_spells text good.0 good.1 records small good.2 in
-    let tells = good_tells text good.0 good.1 records spells.valid.known good.2 in
+    let tells = spells_tells text good.0 good.1 records spells in
     let version : good.0 ≡ header.version = some_same (sym tells.version_is ∙ told.0) in
     let count : good.1 ≡ header.count = some_same (sym tells.count_is ∙ told.1) in
     good.2 ∙ ap (λ (v : ℕ). Good v good.1 records) version ∙ ap (λ (n : ℕ). Good header.version n records) count

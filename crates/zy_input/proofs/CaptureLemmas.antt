@@ -1,26 +1,30 @@
 -- What is kept of a capture while it is read.
-use Rattle.std.proofs.Common.{◌≡◌, ◌⊎◌, inl, inr, ℕ, ◌+◌, ◌==◌, true, List, [], ◌∷◌, ◌++◌, length, refl, sym, ◌∙◌, ap}
-use Rattle.std.specs.Int.{from_be_bytes, w32}
-use Rattle.std.specs.Prelude.{nat_lt, if◌then◌else◌, Option, None, Some, Result, Ok, Err, OnOk, ⊤}
+use Rattle.std.proofs.Common.{◌≡◌, ◌⊎◌, inl, inr, ℕ, ◌-◌, ◌==◌, true, false, List, [], ◌∷◌, ◌++◌, length, refl, sym, ◌∙◌, ap}
+use Rattle.std.specs.Prelude.{nat_lt, Option, None, Some, Result, Ok, Err, OnOk, ⊤}
 use Rattle.zy_read.specs.declared.not_taken.NotTaken.{NotTaken}
 use Rattle.zy_read.specs.declared.not_taken.NotTaken.TheVariants.{Fault}
 use Rattle.zy_read.specs.Standing.{given_in, Feeds, TellsFault}
+use Rattle.zy_read.specs.Fields.{moved, judged_at, step}
+use Rattle.zy_read.specs.Fields.Judged.{Then, Gives, Wrong}
+use Rattle.zy_read.specs.FieldsLasting.{lasting}
 use Rattle.zy_read.proofs.Feeding.{verdict_here}
+use Rattle.zy_read.proofs.StepLemmas.{step_does, end_closes}
 use Rattle.zy_base.specs.declared.outside.NoMemory as Outside
 use Rattle.zy_capture.specs.declared.record.Record.{Record}
-use Rattle.zy_capture.specs.declared.record.Record.TheVariants as Kinds
 use Rattle.zy_capture.specs.declared.capture_fault.CaptureFault.{CaptureFault}
-use Rattle.zy_capture.specs.declared.capture_fault.CaptureFault.TheVariants.{ConnRange, SegmentLength, Trailing, TooLong}
+use Rattle.zy_capture.specs.declared.capture_fault.CaptureFault.TheVariants.{TooLong}
 use Rattle.zy_capture.specs.declared.due.Due.{Due}
-use Rattle.zy_capture.specs.declared.due.Due.TheVariants.{Magic, Count, Tag, Connection, Length, Payload, Closed, Nothing, Broken}
+use Rattle.zy_capture.specs.declared.due.Due.TheVariants.{Connection, Length, Payload, Closed, Nothing}
+use Rattle.zy_capture.specs.declared.capture_state.CaptureState.{CaptureState}
 use Rattle.zy_capture.specs.Streams.{no_bytes, with_record}
 use Rattle.zy_capture.specs.Capture.{segment_limit}
-use Rattle.zy_capture.specs.Steps.{Progress, Step, goes, gives, refuses, keeps, grows, place, judged, number, taken, is_full, step}
+use Rattle.zy_capture.specs.Steps.{Progress, Step, Judgement, number, judge, fields}
 use Rattle.zy_capture.specs.Standing.{StandsFor, EndsAs}
-use Rattle.zy_capture.specs.Verdict.{captures, ended, fault_in, is_good, verdict, count_of, count_in, is_within, is_within_record}
-use Rattle.zy_capture.specs.Verdict.Verdict.{Good}
-use Rattle.zy_capture.specs.Lasting.{lasting}
-use Rattle.zy_capture.proofs.Feeding.{count_here, within_here}
+use Rattle.zy_capture.specs.Verdict.{captures, good as at_end, is_good, verdict, count_of, is_within, is_within_by, is_within_record}
+use Rattle.zy_capture.specs.Verdict.Verdict.{Good, Bad}
+use Rattle.zy_capture.proofs.ByteLemmas.{chosen}
+use Rattle.zy_capture.proofs.Feeding.{count_here, within_here, good_ended, good_count}
+use Rattle.zy_capture.proofs.WholeLemmas.{lawful}
 use Rattle.zy_capture.proofs.AddLemmas.{records_on}
 use Rattle.zy_input.specs.declared.capture_part.CapturePart.{CapturePart}
 use Rattle.zy_input.specs.declared.stop.Refusal.TheVariants.{Capture}
@@ -28,81 +32,68 @@ use Rattle.zy_input.specs.Parts.{HasStreams}
 use Rattle.zy_input.specs.Reading.{GoesOn, IsFaultyText}
 use Rattle.zy_input.specs.Keeping.{KeepsRecords}
 use Rattle.zy_input.specs.Kinds.{StandsForCapture, capture_keeping}
-use Rattle.zy_journal_reader.proofs.CallLemmas.{either}
 use Rattle.zy_input.proofs.FormatLemmas.{EndsOnce, StaysOpen, answer_fault}
 use Rattle.zy_input.proofs.KeepingLemmas.{not_none, kept_here}
 
 -- ---- the format
 
--- the end was read where a capture is whole
-end_read : (due : Due) (p : Progress) (given : List Record) → is_good (ended due p given) ≡ true → due ≡ Nothing
-end_read Nothing p given good = refl
-end_read (Broken fault) p given good = cc
-end_read due p given good = cc
-
-closes : (p : Progress) (given : List Record) (byte : ℕ) → is_good (ended p.due p given) ≡ true → (fault : CaptureFault) × (fault_in (step p byte).next.due ≡ Some fault)
-closes p given byte good = let is : p.due ≡ Nothing = end_read p.due p given good in (Trailing p.at, rw is refl)
+closes : (p : Progress) (given : List Record) (byte : ℕ) → is_good (captures.ended p given) ≡ true → (fault : CaptureFault) × ((step fields p byte).next.fault ≡ Some fault)
+closes p given byte good =
+    let ended = good_ended p given good in
+    end_closes fields lawful p byte ended.none (rw ended.due refl)
 
 -- a byte after a capture is a fault
 pub once : EndsOnce captures is_good
-once = record { lasting = lasting; closes = closes; bad = λ fault. refl }
+once = record { lasting = lasting fields at_end Bad; closes = closes; bad = λ fault. refl }
 
 -- ---- pieces
 
--- within a record a byte that doesn't end it leads on within it, or to a fault
-abbrev LeadsOn : Step → Type 0
-LeadsOn s = s.gave ≡ None → (is_within s.next.due ≡ true) ⊎ ((fault : CaptureFault) × (fault_in s.next.due ≡ Some fault))
-
-faulty : (p : Progress) (fault : CaptureFault) → LeadsOn (refuses p fault)
-faulty p fault none = inr (fault, refl)
-
-judged_leads : (due : Due) (p : Progress) (n : ℕ) → is_within due ≡ true → LeadsOn (judged due p n)
-judged_leads Connection p n within =
-    either LeadsOn (nat_lt n p.count) (goes p (Length n)) (refuses p (ConnRange (place p) n)) (λ none. inl refl) (faulty p (ConnRange (place p) n))
-judged_leads (Length conn) p n within =
-    either LeadsOn (nat_lt segment_limit n) (refuses p (SegmentLength (place p) n)) (if n == 0 then gives p (Kinds.Segment (record { conn = conn; bytes = [] })) else goes (record p { payload = [] }) (Payload conn n)) (faulty p (SegmentLength (place p) n))
-    (either LeadsOn (n == 0) (gives p (Kinds.Segment (record { conn = conn; bytes = [] }))) (goes (record p { payload = [] }) (Payload conn n)) (λ none. cc) (λ none. inl refl))
-judged_leads Closed p n within =
-    either LeadsOn (nat_lt n p.count) (gives p (Kinds.Close n)) (refuses p (ConnRange (place p) n)) (λ none. cc) (faulty p (ConnRange (place p) n))
-judged_leads (Payload conn size) p n within = λ none. inl refl
-judged_leads Count p n within = cc
-judged_leads (Magic part) p n within = cc
-judged_leads Tag p n within = cc
-judged_leads Nothing p n within = cc
-judged_leads (Broken fault) p n within = cc
-
-number_leads : (due : Due) (p : Progress) (byte : ℕ) → is_within due ≡ true → LeadsOn (number due p byte)
-number_leads due p byte within =
-    let n : ℕ = from_be_bytes w32 (p.field ++ byte ∷ []) in
-    either LeadsOn (nat_lt (length p.field) 3) (keeps p due byte) (judged due p n) (λ none. inl within) (judged_leads due p n within)
-
-taken_leads : (due : Due) (p : Progress) (byte : ℕ) → is_within due ≡ true → LeadsOn (taken due p byte)
-taken_leads Connection p byte within = number_leads Connection p byte within
-taken_leads (Length conn) p byte within = number_leads (Length conn) p byte within
-taken_leads Closed p byte within = number_leads Closed p byte within
-taken_leads (Payload conn size) p byte within =
-    either LeadsOn (nat_lt (length p.payload + 1) size) (grows p (Payload conn size) byte) (gives p (Kinds.Segment (record { conn = conn; bytes = p.payload ++ byte ∷ [] }))) (λ none. inl refl) (λ none. cc)
-taken_leads Count p byte within = cc
-taken_leads (Magic part) p byte within = cc
-taken_leads Tag p byte within = cc
-taken_leads Nothing p byte within = cc
-taken_leads (Broken fault) p byte within = cc
-
-step_leads : (p : Progress) (byte : ℕ) → is_within p.due ≡ true → LeadsOn (step p byte)
-step_leads p byte within = either LeadsOn (is_full p) (refuses p TooLong) (taken p.due p byte) (faulty p TooLong) (taken_leads p.due p byte within)
-
 -- a record was begun, and has not ended
 abbrev pub IsWithin : Progress → Type 0
-IsWithin p = is_within p.due ≡ true
+IsWithin p = is_within_by p.fault p.state.due ≡ true
 
-within_not_read : (due : Due) (p : Progress) (given : List Record) → is_within due ≡ true → is_good (ended due p given) ≡ true → ⊥
-within_not_read Nothing p given within good = cc
-within_not_read (Broken fault) p given within good = cc
-within_not_read due p given within good = cc
+-- a byte that doesn't end a record leads on within it, or to a fault
+abbrev LeadsOn : Step → Type 0
+LeadsOn s = s.gave ≡ None → IsWithin s.next ⊎ ((fault : CaptureFault) × (s.next.fault ≡ Some fault))
+
+-- so does a field that is not wrong
+abbrev StaysWithin : Judgement → Type 0
+StaysWithin (Then next) = is_within next.due ≡ true
+StaysWithin judged = ⊤
+
+judged_stays : (due : Due) (s : CaptureState) (at : ℕ) (field : List ℕ) → is_within due ≡ true → StaysWithin (judge due s at field)
+judged_stays Connection s at field within = chosen StaysWithin (nat_lt (number field) s.count) _ _ (λ below. refl) (λ over. tt)
+judged_stays (Length conn) s at field within =
+    chosen StaysWithin (nat_lt segment_limit (number field)) _ _ (λ over. tt) (λ few. chosen StaysWithin (number field == 0) _ _ (λ empty. tt) (λ some. refl))
+judged_stays (Payload conn others) s at field within = tt
+judged_stays Closed s at field within = chosen StaysWithin (nat_lt (number field) s.count) _ _ (λ below. tt) (λ over. tt)
+judged_stays due s at field within = cc
+
+moved_leads : (p : Progress) (judged : Judgement) → StaysWithin judged → LeadsOn (moved p judged)
+moved_leads p (Then next) within none = inl within
+moved_leads p (Gives next item) within none = cc
+moved_leads p (Wrong fault) within none = inr (fault, refl)
+
+-- no fault was met within a record
+clean_within : (fault : Option CaptureFault) (due : Due) → is_within_by fault due ≡ true → (fault ≡ None) × (is_within due ≡ true)
+clean_within None due within = (refl, within)
+clean_within (Some fault) due within = cc
+
+step_leads : (p : Progress) (byte : ℕ) → IsWithin p → LeadsOn (step fields p byte)
+step_leads p byte within =
+    step_does fields LeadsOn p byte (λ fault met none. inr (fault, met)) (λ none. inr (TooLong, refl)) (λ none. inl within)
+    (moved_leads p (judged_at fields p byte) (judged_stays p.state.due p.state (p.at - length p.seen) (p.seen ++ byte ∷ []) (clean_within p.fault p.state.due within).1))
+
+within_not_read : (p : Progress) (given : List Record) → IsWithin p → is_good (captures.ended p given) ≡ true → ⊥
+within_not_read p given within good =
+    let due : p.state.due ≡ Nothing = (good_ended p given good).due in
+    let inside : is_within p.state.due ≡ true = (clean_within p.fault p.state.due within).1 in
+    let outside : is_within p.state.due ≡ false = rw due refl in
+    cc
 
 pub stays : StaysOpen captures is_good IsWithin
 stays = record {
-  never = λ p given within good. within_not_read p.due p given within good;
+  never = within_not_read;
   goes = λ p byte within none. step_leads p byte within none;
 }
 
@@ -125,12 +116,6 @@ record_kept old new count item given (Err e) added kept = tt
 -- ---- the end
 
 -- the count of a whole capture was read
-due_counts : (due : Due) (p : Progress) (given : List Record) (version count : ℕ) → ended due p given ≡ Good version count given → count_in due p.count ≡ Some count
-due_counts Nothing p given version count is = cc
-due_counts (Broken fault) p given version count is = cc
-due_counts due p given version count is = cc
-
--- the count of a whole capture was read
 whole_count : (part : CapturePart) (bytes : List ℕ) (stands : StandsForCapture part bytes) → ((given : List Record) (b : List ℕ) → StandsFor part.reader given b → EndsAs given (Ok tt) (verdict b))
     → (version : ℕ) × (count : ℕ) × (verdict bytes ≡ Good version count stands.given) × (count_of bytes ≡ Some count)
 whole_count part bytes stands ends =
@@ -138,7 +123,7 @@ whole_count part bytes stands ends =
       good.0,
       good.1,
       good.2,
-      count_here part.reader stands.given bytes stands.reader ∙ due_counts part.reader.due part.reader stands.given good.0 good.1 (sym (verdict_here captures part.reader stands.given bytes stands.reader) ∙ good.2),
+      count_here part.reader stands.given bytes stands.reader ∙ good_count part.reader stands.given stands.given good.0 good.1 (sym (verdict_here captures part.reader stands.given bytes stands.reader) ∙ good.2),
     )
 
 -- the streams are those of the capture

@@ -76,4 +76,4 @@ may_keep reader kept item streams is made = go item (last_holds (IsRecordOf all.
     go (Kinds.Close conn) lawful =
         let held = ap (λ (l : List (List (List ℕ))). length (sessions_of l conn)) joined ∙ count_held all.count conn is.given lawful.1 in
         let spent : 5 * closes conn (is.given ++ item ∷ []) ≤ length is.bytes = subst (λ (l : List Record). 5 * closes conn l ≤ length is.bytes) same (all.spent conn) in
-        (omega (arith, lawful.1, size), omega (arith, held, spent, clean_short is.bytes is.small is.clean, closes_front conn is.given item))
+        (omega (arith, lawful.1, size), omega (arith, held, spent, clean_short is.bytes is.clean, closes_front conn is.given item))

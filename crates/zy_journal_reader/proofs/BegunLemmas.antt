@@ -1,70 +1,84 @@
 -- A text is bad with a fault exactly where it has it, as a journal; that it ends too early, or is too long, is said by
 -- its bytes.
-use Rattle.std.proofs.Common.{◌≡◌, ℕ, ◌+◌, ◌≤◌, true, List, [], ◌∷◌, length, refl, sym, ◌∙◌, ap, subst, arith, length-append}
-use Rattle.std.specs.Prelude.{⊤}
-use Rattle.zy_read.specs.Format.{Reading, reading_of, verdict_on, fault_met}
+use Rattle.std.proofs.Common.{◌≡◌, inl, inr, ℕ, List, ◌∷◌, ◌++◌, length, refl, sym, ◌∙◌, ap, subst, arith}
+use Rattle.std.specs.List.{concat}
 use Rattle.zy_base.specs.declared.file_fault.FileFault.{FileFault}
 use Rattle.zy_base.specs.declared.file_fault.FileFault.TheVariants.{Form, Truncated, TooLong}
-use Rattle.zy_journal_reader.specs.declared.due.Due.{Due}
-use Rattle.zy_journal_reader.specs.declared.due.Due.TheVariants.{Nothing, Broken}
-use Rattle.zy_journal_reader.specs.Steps.{Progress, start, is_open, journal_limit}
-use Rattle.zy_journal_reader.specs.Verdict.{Verdict, read_from, verdict}
 use Rattle.zy_read.specs.Bytes.{AreBytes}
 use Rattle.zy_read.proofs.ByteLemmas.{bytes_front}
-use Rattle.zy_journal_reader.specs.Verdict.Verdict.{Good, Bad}
+use Rattle.zy_read.specs.Runs.{IsCut, IsOutcome}
+use Rattle.zy_read.specs.Runs.{HasFault as HasFieldFault}
+use Rattle.zy_read.proofs.VerdictLemmas.{outcome, cut_bad, cut_overlong, fault_bad, overlong_cut, overlong_text, overlong_most, overlong_long}
+use Rattle.zy_journal_reader.specs.Steps.{ReadState, journal_fields}
+use Rattle.zy_journal_reader.specs.Verdict.{Verdict, good, verdict}
+use Rattle.zy_journal_reader.specs.Verdict.Verdict.{Bad}
 use Rattle.zy_journal_reader.specs.Faults.{IsBegun, HasFault}
-use Rattle.zy_journal_reader.proofs.SoFar.{IsReadTo}
-use Rattle.zy_journal_reader.proofs.WholeLemmas.{read_whole, good_spells}
+use Rattle.zy_journal_reader.specs.Laws.{lawful}
+use Rattle.zy_journal_reader.proofs.WholeLemmas.{good_spells}
 use Rattle.zy_journal_reader.proofs.SpelledLemmas.{spells_good}
-use Rattle.zy_journal_reader.proofs.FaultLemmas.{IsCut, IsOverlong, begun, bad_has}
-use Rattle.zy_journal_reader.proofs.FaultReadLemmas.{has_bad, open_due}
+use Rattle.zy_journal_reader.proofs.FaultLemmas.{HasWrong, misjudged_wrong}
+use Rattle.zy_journal_reader.proofs.FaultReadLemmas.{wrong_bad}
 
 -- ---- texts that are begun
 
-open_short : (due : Due) (p : Progress) (text : List ℕ) → is_open due ≡ true → IsReadTo due p text → length text ≤ journal_limit
-open_short Nothing p text is read = cc
-open_short (Broken fault) p text is read = cc
-open_short due p text is read = omega (arith, read.count, read.short)
+-- a text that is cut is begun
+cut_begun : (text : List ℕ) → IsCut journal_fields text → IsBegun text
+cut_begun text cut =
+    let is : verdict text ≡ Bad (Truncated (length text)) = cut_bad journal_fields lawful good Bad text cut in
+    record {
+      short = cut.within;
+      no_journal = λ journal spells. let told = spells_good text journal spells in cc;
+      none_wrong = λ at wrong. let told = wrong_bad text at wrong in cc;
+    }
 
-cut_short : (text : List ℕ) (at : ℕ) → AreBytes text → IsCut text at → length text ≤ journal_limit
-unfolding verdict_on reading_of fault_met
-cut_short text at all cut =
-    let r : Reading Progress ⊤ = read_from start text in
-    open_short r.last.due r.last text (open_due r.last.due r.last cut.no_fault cut.no_journal) (read_whole start [] text all begun)
+-- a text that is begun is cut
+begun_of : (text : List ℕ) (found : Verdict) → AreBytes text → IsBegun text → verdict text ≡ found → IsOutcome journal_fields good Bad text found → IsCut journal_fields text
+begun_of text found all begun is (inl whole) = absurd (begun.no_journal _ (good_spells text _ all (is ∙ whole.1.2)))
+begun_of text found all begun is (inr (inl cut)) = cut.0
+begun_of text found all begun is (inr (inr (s, (fault, inl misjudged, said)))) =
+    let has : HasWrong text fault = misjudged_wrong text s fault all misjudged in absurd (begun.none_wrong has.at has.wrong)
+begun_of text found all begun is (inr (inr (s, (fault, inr long, said)))) = absurd (omega (arith, overlong_long journal_fields text s long.0, begun.short))
 
-cut_begun : (text : List ℕ) (at : ℕ) → AreBytes text → verdict text ≡ Bad (Truncated at) → IsBegun text
-cut_begun text at all is = record {
-  short = cut_short text at all (bad_has text (Truncated at) all is);
-  no_journal = λ journal spells. let good = spells_good text journal spells in cc;
-  none_wrong = λ place wrong. let bad = has_bad text (Form place) all wrong in cc;
-}
-
--- a text that is too long has more bytes than a journal
-over_long : (text : List ℕ) → AreBytes text → IsOverlong text → journal_limit + 1 ≤ length text
-over_long text all long =
-    let cut : IsCut long.front journal_limit = bad_has long.front (Truncated journal_limit) (bytes_front long.front (long.byte ∷ long.rest) (subst AreBytes long.whole all)) long.cut in
-    omega (arith, cut.place, ap (λ (l : List ℕ). length l) long.whole, length-append long.front (long.byte ∷ long.rest))
-
-begun_is : (text : List ℕ) (found : Verdict) → AreBytes text → IsBegun text → verdict text ≡ found → verdict text ≡ Bad (Truncated (length text))
-begun_is text (Good journal) all is_begun is = absurd (is_begun.no_journal journal (good_spells text journal all is))
-begun_is text (Bad (Form at)) all is_begun is = absurd (is_begun.none_wrong at (bad_has text (Form at) all is))
-begun_is text (Bad (Truncated at)) all is_begun is = let cut : IsCut text at = bad_has text (Truncated at) all is in is ∙ ap (λ (n : ℕ). Bad (Truncated n)) cut.place
-begun_is text (Bad TooLong) all is_begun is = absurd (omega (arith, over_long text all (bad_has text TooLong all is), is_begun.short))
+begun_cut : (text : List ℕ) → AreBytes text → IsBegun text → IsCut journal_fields text
+begun_cut text all begun = begun_of text (verdict text) all begun refl (outcome journal_fields lawful good Bad text)
 
 -- ---- all faults
 
-pub fault_had : (text : List ℕ) (fault : FileFault) → AreBytes text → verdict text ≡ Bad fault → HasFault text fault
-fault_had text (Form at) all is = bad_has text (Form at) all is
-fault_had text (Truncated at) all is = let cut : IsCut text at = bad_has text (Truncated at) all is in record { place = cut.place; begun = cut_begun text at all is }
-fault_had text TooLong all is =
-    let long : IsOverlong text = bad_has text TooLong all is in
-    let small : AreBytes long.front = bytes_front long.front (long.byte ∷ long.rest) (subst AreBytes long.whole all) in
-    let cut : IsCut long.front journal_limit = bad_has long.front (Truncated journal_limit) small long.cut in
-    record { front = long.front; byte = long.byte; rest = long.rest; whole = long.whole; most = sym cut.place; begun = cut_begun long.front journal_limit small long.cut }
+-- a fault of the fields is one of the text
+field_fault : (text : List ℕ) (s : ReadState) (found fault : FileFault) → AreBytes text → Bad found ≡ Bad fault → HasFieldFault journal_fields text s found → HasFault text fault
+field_fault text s found fault all same (inl misjudged) =
+    let has : HasWrong text found = misjudged_wrong text s found all misjudged in
+    let is : Form has.at ≡ fault = (let told = has.is in cc) in
+    subst (λ (f : FileFault). HasFault text f) is has.wrong
+field_fault text s found fault all same (inr long) =
+    let front : List ℕ = concat long.0.begins.parts ++ long.0.seen in
+    let is : TooLong ≡ fault = (let told = long.1 in cc) in
+    subst (λ (f : FileFault). HasFault text f) is (record {
+      front = front;
+      byte = long.0.byte;
+      rest = long.0.rest;
+      whole = overlong_text journal_fields text s long.0;
+      most = overlong_most journal_fields text s long.0;
+      begun = cut_begun front (overlong_cut journal_fields text s long.0);
+    })
 
+had_of : (text : List ℕ) (found : Verdict) (fault : FileFault) → AreBytes text → found ≡ Bad fault → IsOutcome journal_fields good Bad text found → HasFault text fault
+had_of text found fault all is (inl whole) = let said = whole.1.2 in cc
+had_of text found fault all is (inr (inl cut)) =
+    let same : Truncated (length text) ≡ fault = (let said = cut.1 in cc) in
+    subst (λ (f : FileFault). HasFault text f) same (record { place = refl; begun = cut_begun text cut.0 })
+had_of text found fault all is (inr (inr has)) = field_fault text has.0 has.1.0 fault all (sym has.1.2 ∙ is) has.1.1
+
+-- a bad text has its fault
+pub fault_had : (text : List ℕ) (fault : FileFault) → AreBytes text → verdict text ≡ Bad fault → HasFault text fault
+fault_had text fault all is = had_of text (verdict text) fault all is (outcome journal_fields lawful good Bad text)
+
+-- a text is bad with the fault that it has
 pub fault_told : (text : List ℕ) (fault : FileFault) → AreBytes text → HasFault text fault → verdict text ≡ Bad fault
-fault_told text (Form at) all has = has_bad text (Form at) all has
-fault_told text (Truncated at) all has = begun_is text (verdict text) all has.begun refl ∙ ap (λ (n : ℕ). Bad (Truncated n)) (sym has.place)
+fault_told text (Form at) all has = wrong_bad text at has
+fault_told text (Truncated at) all has =
+    cut_bad journal_fields lawful good Bad text (begun_cut text all has.begun) ∙ ap (λ (n : ℕ). Bad (Truncated n)) (sym has.place)
 fault_told text TooLong all has =
     let small : AreBytes has.front = bytes_front has.front (has.byte ∷ has.rest) (subst AreBytes has.whole all) in
-    has_bad text TooLong all (record { front = has.front; byte = has.byte; rest = has.rest; whole = has.whole; cut = begun_is has.front (verdict has.front) small has.begun refl ∙ ap (λ (n : ℕ). Bad (Truncated n)) has.most })
+    let cut = begun_cut has.front small has.begun in
+    ap verdict has.whole ∙ fault_bad journal_fields lawful good Bad (has.front ++ has.byte ∷ has.rest) cut.s TooLong (inr (cut_overlong journal_fields has.front has.byte has.rest cut has.most, refl))

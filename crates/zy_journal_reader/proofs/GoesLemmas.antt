@@ -23,10 +23,9 @@ use Rattle.zy_journal_reader.specs.declared.due.NumberField.TheVariants.{Flags, 
 use Rattle.zy_journal_reader.specs.declared.due.LongField.TheVariants.{CallNumber, FoundUnique, ReplyNumber, Gets, Sets, Hits, Misses, Items}
 use Rattle.zy_journal_reader.specs.declared.due.BytesField.TheVariants.{Key, Value, FoundValue}
 use Rattle.zy_journal_reader.specs.Fields.{fresh, at_key, at_flags, at_number, at_value, entry_of}
-use Rattle.zy_journal_reader.specs.Steps.{Progress}
-use Rattle.zy_journal_reader.specs.Verdict.{read_from}
+use Rattle.zy_journal_reader.specs.Steps.{ReadState}
 use Rattle.zy_journal_reader.proofs.CallLemmas.{plain_text}
-use Rattle.zy_journal_reader.proofs.PlaceLemmas.{place, Goes, both, to, one_byte, four_bytes, eight_bytes, all_bytes}
+use Rattle.zy_journal_reader.proofs.PlaceLemmas.{Goes, both, to, stays, one_byte, four_bytes, eight_bytes, all_bytes}
 
 -- ---- tests
 
@@ -54,29 +53,29 @@ conn_is n past after few = grind (arith, nat_tests)
 -- ---- keys and values
 
 -- a key
-pub key_goes : (p : Progress) (d : Draft) (key : List ℕ) → IsKey key → Goes p d (Byte KeyLength) (key_text key) p (record d { key = key; size = 0 }) (at_flags (fields_of d.kind))
+pub key_goes : (p : ReadState) (d : Draft) (key : List ℕ) → IsKey key → Goes p d (Byte KeyLength) (key_text key) p (record d { key = key; size = 0 }) (at_flags (fields_of d.kind))
 key_goes p d key is =
     both (length key ∷ []) key
     (one_byte p p d (record d { size = length key }) KeyLength (Bytes Key) (length key) (λ at. between (length key) 1 250 is.0 is.1) (λ at. refl))
-    (all_bytes p p (record d { size = length key }) (record d { key = key; size = 0 }) Key (at_flags (fields_of d.kind)) key refl is.0 (λ k l. refl))
+    (all_bytes p p (record d { size = length key }) (record d { key = key; size = 0 }) Key (at_flags (fields_of d.kind)) key refl is.0 refl)
 
 -- no further byte
-pub nothing_more : {p q : Progress} {d e : Draft} {due next : Due} (s : List ℕ) → Goes p d due s q e next → Goes p d due (s ++ []) q e next
+pub nothing_more : {p q : ReadState} {d e : Draft} {due next : Due} (s : List ℕ) → Goes p d due s q e next → Goes p d due (s ++ []) q e next
 nothing_more {p} {q} {d} {e} {due} {next} s goes = subst (λ (l : List ℕ). Goes p d due l q e next) (sym (append-nil s)) goes
 
 -- a value that a call stores
-pub value_goes : (p : Progress) (d : Draft) (value : List ℕ) → d.size ≡ 0 → IsValue value → Goes p d (Number ValueLength) (value_text value) p (record d { value = value; size = 0 }) (Byte ReplyCode)
+pub value_goes : (p : ReadState) (d : Draft) (value : List ℕ) → d.size ≡ 0 → IsValue value → Goes p d (Number ValueLength) (value_text value) p (record d { value = value; size = 0 }) (Byte ReplyCode)
 value_goes p d [] none is =
     nothing_more (to_be_bytes w32 0)
-    (four_bytes p p d (record d { value = []; size = 0 }) ValueLength (Byte ReplyCode) 0 (omega arith) (λ at f. refl)
-    (λ at f. ap (λ (n : ℕ). to p (record d { value = []; size = n }) (Byte ReplyCode) at) none))
+    (four_bytes p p d (record d { value = []; size = 0 }) ValueLength (Byte ReplyCode) 0 (omega arith) refl
+    (ap (λ (n : ℕ). to p (record d { value = []; size = n }) (Byte ReplyCode)) none))
 value_goes p d (byte ∷ rest) none is =
     let value : List ℕ = byte ∷ rest in
     let n : ℕ = length value in
     both (to_be_bytes w32 n) value
-    (four_bytes p p d (record d { size = n }) ValueLength (Bytes Value) n (omega (arith, is)) (λ at f. most_is n value_limit is)
-    (λ at f. rw (zero_no n (omega arith)) refl))
-    (all_bytes p p (record d { size = n }) (record d { value = value; size = 0 }) Value (Byte ReplyCode) value refl (omega arith) (λ k l. refl))
+    (four_bytes p p d (record d { size = n }) ValueLength (Bytes Value) n (omega (arith, is)) (most_is n value_limit is)
+    (rw (zero_no n (omega arith)) refl))
+    (all_bytes p p (record d { size = n }) (record d { value = value; size = 0 }) Value (Byte ReplyCode) value refl (omega arith) refl)
 
 -- ---- calls
 
@@ -94,39 +93,35 @@ known kind key flags number value d = record d {
 abbrev pub plain : Draft → Draft
 plain d = record d { size = 0 }
 
--- no text
-pub stays : (p : Progress) (d : Draft) (due : Due) → Goes p d due [] p d due
-stays p d due = record { reads = λ at more room. ap (λ (k : ℕ). read_from (place p d due k) more) (omega arith) }
-
 -- each field of a call, where it is there
-pub value_there : (b : Bool) (p : Progress) (d : Draft) (value : List ℕ) → IfSome (there b value) IsValue
+pub value_there : (b : Bool) (p : ReadState) (d : Draft) (value : List ℕ) → IfSome (there b value) IsValue
     → Goes p (plain d) (if b then Number ValueLength else Byte ReplyCode) (field_text value_text (there b value)) p (record (plain d) { value = either_of b value d.value }) (Byte ReplyCode)
 value_there true p d value is = value_goes p (plain d) value refl is
 value_there false p d value is = stays p (plain d) (Byte ReplyCode)
 
-pub number_there : (b : Bool) (p : Progress) (d : Draft) (n : ℕ) → IfSome (there b n) (λ m. m < 2 ^ 64)
+pub number_there : (b : Bool) (p : ReadState) (d : Draft) (n : ℕ) → IfSome (there b n) (λ m. m < 2 ^ 64)
     → Goes p d (if b then Long CallNumber else at_value (fields_of d.kind)) (field_text (to_be_bytes w64) (there b n)) p (record d { number = either_of b n d.number }) (at_value (fields_of d.kind))
-number_there true p d n small = eight_bytes p p d (record d { number = n }) CallNumber (at_value (fields_of d.kind)) n small (λ at f. refl) (λ at f. refl)
+number_there true p d n small = eight_bytes p p d (record d { number = n }) CallNumber (at_value (fields_of d.kind)) n small refl refl
 number_there false p d n small = stays p d (at_value (fields_of d.kind))
 
-pub flags_there : (b : Bool) (p : Progress) (d : Draft) (n : ℕ) → IfSome (there b n) (λ m. m < 2 ^ 32)
+pub flags_there : (b : Bool) (p : ReadState) (d : Draft) (n : ℕ) → IfSome (there b n) (λ m. m < 2 ^ 32)
     → Goes p d (if b then Number Flags else at_number (fields_of d.kind)) (field_text (to_be_bytes w32) (there b n)) p (record d { flags = either_of b n d.flags }) (at_number (fields_of d.kind))
-flags_there true p d n small = four_bytes p p d (record d { flags = n }) Flags (at_number (fields_of d.kind)) n small (λ at f. refl) (λ at f. refl)
+flags_there true p d n small = four_bytes p p d (record d { flags = n }) Flags (at_number (fields_of d.kind)) n small refl refl
 flags_there false p d n small = stays p d (at_number (fields_of d.kind))
 
-pub key_there : (b : Bool) (p : Progress) (d : Draft) (key : List ℕ) → IfSome (there b key) IsKey
+pub key_there : (b : Bool) (p : ReadState) (d : Draft) (key : List ℕ) → IfSome (there b key) IsKey
     → Goes p (plain d) (if b then Byte KeyLength else at_flags (fields_of d.kind)) (field_text key_text (there b key)) p (record (plain d) { key = either_of b key d.key }) (at_flags (fields_of d.kind))
 key_there true p d key is = key_goes p (plain d) key is
 key_there false p d key is = stays p (plain d) (at_flags (fields_of d.kind))
 
 -- the code of a call
-pub code_goes : (p : Progress) (d : Draft) (kind : CallKind) → Goes p d (Byte CallCode) (code_of kind ∷ []) p (record d { kind = kind }) (at_key (fields_of kind))
+pub code_goes : (p : ReadState) (d : Draft) (kind : CallKind) → Goes p d (Byte CallCode) (code_of kind ∷ []) p (record d { kind = kind }) (at_key (fields_of kind))
 code_goes p d kind =
     one_byte p p d (record d { kind = kind }) CallCode (at_key (fields_of kind)) (code_of kind)
     (λ at. between (code_of kind) 1 last_call_code (code_within kind).0 (code_within kind).1)
-    (λ at. ap (λ (k : CallKind). to p (record d { kind = k }) (at_key (fields_of k)) at) (kind_back kind))
+    (λ at. ap (λ (k : CallKind). to p (record d { kind = k }) (at_key (fields_of k))) (kind_back kind))
 
-pub call_goes : (p : Progress) (d : Draft) (kind : CallKind) (key : List ℕ) (flags number : ℕ) (value : List ℕ) → IsCall (call_of kind key flags number value) → FitsCall (call_of kind key flags number value)
+pub call_goes : (p : ReadState) (d : Draft) (kind : CallKind) (key : List ℕ) (flags number : ℕ) (value : List ℕ) → IsCall (call_of kind key flags number value) → FitsCall (call_of kind key flags number value)
     → Goes p (plain d) (Byte CallCode) (call_text (call_of kind key flags number value)) p (known kind key flags number value (plain d)) (Byte ReplyCode)
 unfolding call_text
 call_goes p d kind key flags number value is fits =
@@ -151,49 +146,49 @@ call_goes p d kind key flags number value is fits =
 -- ---- replies
 
 -- the lists with the entry that was read
-abbrev pub after : Progress → Draft → CallReply → Progress
+abbrev pub after : ReadState → Draft → CallReply → ReadState
 after p d reply = record p { entries = p.entries ++ entry_of d reply ∷ []; past = record p.past { stamp = d.stamp; shard = d.shard } }
 
 -- a reply without fields
-pub plain_goes : (p : Progress) (d : Draft) (code : ℕ) → 1 ≤ code → code ≤ last_reply_code → (code == hit_code) ≡ false → (code == number_code) ≡ false → (code == tally_code) ≡ false
+pub plain_goes : (p : ReadState) (d : Draft) (code : ℕ) → 1 ≤ code → code ≤ last_reply_code → (code == hit_code) ≡ false → (code == number_code) ≡ false → (code == tally_code) ≡ false
     → Goes p d (Byte ReplyCode) (reply_text (plain_reply code)) (after p d (plain_reply code)) fresh (Byte Tag)
 plain_goes p d code some most no_hit no_number no_tally =
     subst (λ (l : List ℕ). Goes p d (Byte ReplyCode) l (after p d (plain_reply code)) fresh (Byte Tag)) (sym (plain_text code some most no_hit no_number no_tally))
     (one_byte p (after p d (plain_reply code)) d fresh ReplyCode (Byte Tag) code (λ at. between code 1 last_reply_code some most) (λ at. rw (no_hit, no_number, no_tally) refl))
 
 -- the value that a get found
-pub found_goes : (p : Progress) (d : Draft) (value : List ℕ) → IsValue value → Goes p d (Number FoundLength) (value_text value) (after p d (Hit d.found_flags d.found_unique value)) fresh (Byte Tag)
+pub found_goes : (p : ReadState) (d : Draft) (value : List ℕ) → IsValue value → Goes p d (Number FoundLength) (value_text value) (after p d (Hit d.found_flags d.found_unique value)) fresh (Byte Tag)
 found_goes p d [] is =
-    nothing_more (to_be_bytes w32 0) (four_bytes p (after p d (Hit d.found_flags d.found_unique [])) d fresh FoundLength (Byte Tag) 0 (omega arith) (λ at f. refl) (λ at f. refl))
+    nothing_more (to_be_bytes w32 0) (four_bytes p (after p d (Hit d.found_flags d.found_unique [])) d fresh FoundLength (Byte Tag) 0 (omega arith) refl refl)
 found_goes p d (byte ∷ rest) is =
     let value : List ℕ = byte ∷ rest in
     let n : ℕ = length value in
     both (to_be_bytes w32 n) value
-    (four_bytes p p d (record d { size = n }) FoundLength (Bytes FoundValue) n (omega (arith, is)) (λ at f. most_is n value_limit is) (λ at f. rw (zero_no n (omega arith)) refl))
-    (all_bytes p (after p d (Hit d.found_flags d.found_unique value)) (record d { size = n }) fresh FoundValue (Byte Tag) value refl (omega arith) (λ k l. refl))
+    (four_bytes p p d (record d { size = n }) FoundLength (Bytes FoundValue) n (omega (arith, is)) (most_is n value_limit is) (rw (zero_no n (omega arith)) refl))
+    (all_bytes p (after p d (Hit d.found_flags d.found_unique value)) (record d { size = n }) fresh FoundValue (Byte Tag) value refl (omega arith) refl)
 
 -- a hit
-pub hit_goes : (p : Progress) (d : Draft) (flags unique : ℕ) (value : List ℕ) → IsReply (Hit flags unique value) → FitsReply (Hit flags unique value)
+pub hit_goes : (p : ReadState) (d : Draft) (flags unique : ℕ) (value : List ℕ) → IsReply (Hit flags unique value) → FitsReply (Hit flags unique value)
     → Goes p d (Byte ReplyCode) (reply_text (Hit flags unique value)) (after p d (Hit flags unique value)) fresh (Byte Tag)
 unfolding reply_text
 hit_goes p d flags unique value is fits =
     let e : Draft = record d { found_flags = flags } in
     let f : Draft = record e { found_unique = unique } in
     both (hit_code ∷ []) (to_be_bytes w32 flags ++ (to_be_bytes w64 unique ++ value_text value)) (one_byte p p d d ReplyCode (Number FoundFlags) hit_code (λ at. refl) (λ at. refl))
-    (both (to_be_bytes w32 flags) (to_be_bytes w64 unique ++ value_text value) (four_bytes p p d e FoundFlags (Long FoundUnique) flags fits.0.0 (λ at l. refl) (λ at l. refl))
-    (both (to_be_bytes w64 unique) (value_text value) (eight_bytes p p e f FoundUnique (Number FoundLength) unique fits.0.1 (λ at l. refl) (λ at l. refl))
+    (both (to_be_bytes w32 flags) (to_be_bytes w64 unique ++ value_text value) (four_bytes p p d e FoundFlags (Long FoundUnique) flags fits.0.0 refl refl)
+    (both (to_be_bytes w64 unique) (value_text value) (eight_bytes p p e f FoundUnique (Number FoundLength) unique fits.0.1 refl refl)
     (found_goes p f value is)))
 
 -- a number
-pub number_goes : (p : Progress) (d : Draft) (number : ℕ) → FitsReply (Replies.Number number) → Goes p d (Byte ReplyCode) (reply_text (Replies.Number number)) (after p d (Replies.Number number)) fresh (Byte Tag)
+pub number_goes : (p : ReadState) (d : Draft) (number : ℕ) → FitsReply (Replies.Number number) → Goes p d (Byte ReplyCode) (reply_text (Replies.Number number)) (after p d (Replies.Number number)) fresh (Byte Tag)
 unfolding reply_text
 number_goes p d number fits =
     nothing_more (number_code ∷ to_be_bytes w64 number)
     (both (number_code ∷ []) (to_be_bytes w64 number) (one_byte p p d d ReplyCode (Long ReplyNumber) number_code (λ at. refl) (λ at. refl))
-    (eight_bytes p (after p d (Replies.Number number)) d fresh ReplyNumber (Byte Tag) number fits.0.1 (λ at l. refl) (λ at l. refl)))
+    (eight_bytes p (after p d (Replies.Number number)) d fresh ReplyNumber (Byte Tag) number fits.0.1 refl refl))
 
 -- a tally
-pub tally_goes : (p : Progress) (d : Draft) (counts : Tallied) → FitsReply (tally counts) → Goes p d (Byte ReplyCode) (reply_text (tally counts)) (after p d (tally counts)) fresh (Byte Tag)
+pub tally_goes : (p : ReadState) (d : Draft) (counts : Tallied) → FitsReply (tally counts) → Goes p d (Byte ReplyCode) (reply_text (tally counts)) (after p d (tally counts)) fresh (Byte Tag)
 unfolding reply_text
 tally_goes p d counts fits =
     let g : List ℕ = to_be_bytes w64 counts.gets in
@@ -207,13 +202,13 @@ tally_goes p d counts fits =
     let d4 : Draft = record d3 { counts = record d3.counts { misses = counts.misses } } in
     nothing_more (tally_code ∷ (g ++ (s ++ (h ++ (m ++ i)))))
     (both (tally_code ∷ []) (g ++ (s ++ (h ++ (m ++ i)))) (one_byte p p d d ReplyCode (Long Gets) tally_code (λ at. refl) (λ at. refl))
-    (both g (s ++ (h ++ (m ++ i))) (eight_bytes p p d d1 Gets (Long Sets) counts.gets fits.1.0 (λ at l. refl) (λ at l. refl))
-    (both s (h ++ (m ++ i)) (eight_bytes p p d1 d2 Sets (Long Hits) counts.sets fits.1.1 (λ at l. refl) (λ at l. refl))
-    (both h (m ++ i) (eight_bytes p p d2 d3 Hits (Long Misses) counts.hits fits.1.2 (λ at l. refl) (λ at l. refl))
-    (both m i (eight_bytes p p d3 d4 Misses (Long Items) counts.misses fits.1.3 (λ at l. refl) (λ at l. refl))
-    (eight_bytes p (after p d (tally counts)) d4 fresh Items (Byte Tag) counts.items fits.1.4 (λ at l. refl) (λ at l. refl)))))))
+    (both g (s ++ (h ++ (m ++ i))) (eight_bytes p p d d1 Gets (Long Sets) counts.gets fits.1.0 refl refl)
+    (both s (h ++ (m ++ i)) (eight_bytes p p d1 d2 Sets (Long Hits) counts.sets fits.1.1 refl refl)
+    (both h (m ++ i) (eight_bytes p p d2 d3 Hits (Long Misses) counts.hits fits.1.2 refl refl)
+    (both m i (eight_bytes p p d3 d4 Misses (Long Items) counts.misses fits.1.3 refl refl)
+    (eight_bytes p (after p d (tally counts)) d4 fresh Items (Byte Tag) counts.items fits.1.4 refl refl))))))
 
-pub reply_goes : (p : Progress) (d : Draft) (reply : CallReply) → IsReply reply → FitsReply reply → Goes p d (Byte ReplyCode) (reply_text reply) (after p d reply) fresh (Byte Tag)
+pub reply_goes : (p : ReadState) (d : Draft) (reply : CallReply) → IsReply reply → FitsReply reply → Goes p d (Byte ReplyCode) (reply_text reply) (after p d reply) fresh (Byte Tag)
 reply_goes p d =
     of_forms (λ (reply : CallReply). IsReply reply → FitsReply reply → Goes p d (Byte ReplyCode) (reply_text reply) (after p d reply) fresh (Byte Tag))
     (λ flags unique value is fits. hit_goes p d flags unique value is fits)

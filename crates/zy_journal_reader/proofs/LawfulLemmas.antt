@@ -12,7 +12,7 @@ use Rattle.zy_base.specs.Order.{IsBehind}
 use Rattle.zy_base.proofs.CodeLemmas.{there}
 use Rattle.zy_journal_reader.specs.declared.draft.Draft.{Draft}
 use Rattle.zy_journal_reader.specs.declared.past.Past.{Past}
-use Rattle.zy_journal_reader.specs.Steps.{Progress}
+use Rattle.zy_journal_reader.specs.Steps.{ReadState}
 use Rattle.zy_journal_reader.specs.LawfulFields.{last_one, IsNotBelow, IsNextEntry, IsNotFalling}
 use Rattle.zy_journal_reader.proofs.SoFar.{stamp_of, shard_of, conn_of, Kept, ComesAfter, HeadKnown}
 use Rattle.zy_journal_reader.proofs.SpelledLemmas.{entry_with}
@@ -47,7 +47,7 @@ rises None past n conn is = tt
 rises (Some x) past n conn is = omega (arith, conn, is)
 
 -- an entry with what was read before its call, and this call
-pub next_entry : (p : Progress) (d : Draft) (call : Call) (reply : CallReply) → Kept p.entries p.holds p.past → HeadKnown p.past d p.holds → IsCall call → FitsCall call → IsReply reply → FitsReply reply → IsNextEntry (last_one p.entries) (entry_with d call reply)
+pub next_entry : (p : ReadState) (d : Draft) (call : Call) (reply : CallReply) → Kept p.entries p.holds p.past → HeadKnown p.past d p.holds → IsCall call → FitsCall call → IsReply reply → FitsReply reply → IsNextEntry (last_one p.entries) (entry_with d call reply)
 next_entry p d call reply kept h is fits within small = record {
   valid = record {
     some_stamp = h.0.0.0.0.1;
@@ -63,7 +63,7 @@ next_entry p d call reply kept h is fits within small = record {
 }
 
 -- the same with a call and a reply that are short
-pub plain_entry : (p : Progress) (d : Draft) → Kept p.entries p.holds p.past → HeadKnown p.past d p.holds → IsNextEntry (last_one p.entries) (entry_with d Calls.Flush Replies.Miss)
+pub plain_entry : (p : ReadState) (d : Draft) → Kept p.entries p.holds p.past → HeadKnown p.past d p.holds → IsNextEntry (last_one p.entries) (entry_with d Calls.Flush Replies.Miss)
 plain_entry p d kept h = next_entry p d Calls.Flush Replies.Miss kept h tt (tt, tt) tt ((tt, tt), tt)
 
 -- a field that is there, or is not, is within its bound where it is one

@@ -1,4 +1,3 @@
-pub mod RunLemmas
 pub mod PlaceLemmas
 pub mod GoesLemmas
 pub mod SpelledLemmas
@@ -16,3 +15,4 @@ pub mod FaultLemmas
 pub mod LeadsLemmas
 pub mod FaultReadLemmas
 pub mod BegunLemmas
+pub mod PlacedLemmas

@@ -1,11 +1,12 @@
--- A lawful field of a journal leads to no fault.
-use Rattle.std.proofs.Common.{◌≡◌, ℕ, List, refl, ap}
-use Rattle.std.specs.Prelude.{◌==◌, None, Some}
-use Rattle.zy_base.specs.declared.call_kind.CallFields.{CallFields}
-use Rattle.zy_base.specs.declared.file_fault.FileFault.{FileFault}
-use Rattle.zy_base.specs.Code.{kind_of, fields_of, hit_code, number_code, tally_code}
+-- A lawful field of a journal leads to a state; no field but a tag gives a record.
+use Rattle.std.proofs.Common.{◌≢◌, ℕ, List, get_or, refl}
+use Rattle.std.specs.Prelude.{◌==◌, ⊤}
+use Rattle.std.specs.Int.{from_be_bytes, w32, w64}
+use Rattle.zy_base.specs.Code.{hit_code, number_code, tally_code}
+use Rattle.zy_read.specs.Fields.Judged.{Then, Gives, Wrong}
+use Rattle.zy_read.specs.FieldReading.{IsQuiet}
 use Rattle.zy_journal_reader.specs.declared.due.Due.{Due}
-use Rattle.zy_journal_reader.specs.declared.due.Due.TheVariants.{Broken}
+use Rattle.zy_journal_reader.specs.declared.due.Due.TheVariants.{Byte, Number, Long, Bytes, Nothing}
 use Rattle.zy_journal_reader.specs.declared.due.ByteField.{ByteField}
 use Rattle.zy_journal_reader.specs.declared.due.ByteField.TheVariants as B
 use Rattle.zy_journal_reader.specs.declared.due.NumberField.{NumberField}
@@ -14,68 +15,97 @@ use Rattle.zy_journal_reader.specs.declared.due.LongField.{LongField}
 use Rattle.zy_journal_reader.specs.declared.due.LongField.TheVariants as L
 use Rattle.zy_journal_reader.specs.declared.due.BytesField.{BytesField}
 use Rattle.zy_journal_reader.specs.declared.due.BytesField.TheVariants as S
-use Rattle.zy_journal_reader.specs.Fields.{fault_in, at_key, at_flags, at_number, at_value}
-use Rattle.zy_journal_reader.specs.Steps.{Progress, Step, after_byte, after_four, after_eight, after_bytes}
+use Rattle.zy_journal_reader.specs.Steps.{ReadState, Done, lawful_byte, lawful_number, lawful_long, after_byte, after_four, after_eight, after_bytes, judged}
 use Rattle.zy_journal_reader.proofs.CallLemmas.{either}
 
--- ---- steps that are no faults
+-- ---- fields that are no faults
 
--- a step that ends a field leads to no fault
-abbrev pub IsOpenStep : Step → Type 0
-IsOpenStep s = fault_in s.next.due ≡ None
+-- the field leads to a state, and gives no record
+abbrev pub IsThen : Done → Type 0
+IsThen (Then next) = ⊤
+IsThen done = ⊥
 
--- what is expected there is no fault
-abbrev pub IsOpenDue : Due → Type 0
-IsOpenDue due = fault_in due ≡ None
+-- the field is not wrong
+abbrev pub IsRight : Done → Type 0
+IsRight (Wrong fault) = ⊥
+IsRight done = ⊤
 
-open_value : (f : CallFields) → IsOpenDue (at_value f)
-open_value f = either IsOpenDue f.value _ _ refl refl
+byte_then : (field : ByteField) (p : ReadState) (at byte : ℕ) → field ≢ B.Tag → IsThen (after_byte field p at byte)
+byte_then B.Magic p at byte no_tag = either IsThen (at == 7) _ _ tt tt
+byte_then B.Tag p at byte no_tag = absurd (no_tag refl)
+byte_then B.CallCode p at byte no_tag = tt
+byte_then B.KeyLength p at byte no_tag = tt
+byte_then B.ReplyCode p at byte no_tag = either IsThen (byte == hit_code) _ _ tt (either IsThen (byte == number_code) _ _ tt (either IsThen (byte == tally_code) _ _ tt tt))
 
-open_number : (f : CallFields) → IsOpenDue (at_number f)
-open_number f = either IsOpenDue f.number _ _ refl (open_value f)
+four_then : (field : NumberField) (p : ReadState) (n : ℕ) → IsThen (after_four field p n)
+four_then N.ValueLength p n = either IsThen (n == 0) _ _ tt tt
+four_then N.FoundLength p n = either IsThen (n == 0) _ _ tt tt
+four_then N.Shard p n = tt
+four_then N.Connection p n = tt
+four_then N.Part p n = tt
+four_then N.Flags p n = tt
+four_then N.FoundFlags p n = tt
+four_then N.HoldConnection p n = tt
+four_then N.HoldCore p n = tt
+four_then N.HoldCount p n = tt
 
-open_flags : (f : CallFields) → IsOpenDue (at_flags f)
-open_flags f = either IsOpenDue f.flags _ _ refl (open_number f)
+eight_then : (field : LongField) (p : ReadState) (n : ℕ) → IsThen (after_eight field p n)
+eight_then L.Stamp p n = tt
+eight_then L.Index p n = tt
+eight_then L.CallNumber p n = tt
+eight_then L.FoundUnique p n = tt
+eight_then L.ReplyNumber p n = tt
+eight_then L.Gets p n = tt
+eight_then L.Sets p n = tt
+eight_then L.Hits p n = tt
+eight_then L.Misses p n = tt
+eight_then L.Items p n = tt
 
-open_key : (f : CallFields) → IsOpenDue (at_key f)
-open_key f = either IsOpenDue f.key _ _ refl (open_flags f)
+bytes_then : (field : BytesField) (p : ReadState) (content : List ℕ) → IsThen (after_bytes field p content)
+bytes_then S.Key p content = tt
+bytes_then S.Value p content = tt
+bytes_then S.FoundValue p content = tt
 
-pub byte_opens : (field : ByteField) (p : Progress) (byte : ℕ) → IsOpenStep (after_byte field p byte)
-byte_opens B.Magic p byte = either IsOpenStep (p.at == 7) _ _ refl refl
-byte_opens B.Tag p byte = either IsOpenStep (byte == 69) _ _ refl (either IsOpenStep (byte == 72) _ _ refl refl)
-byte_opens B.CallCode p byte = open_key (fields_of (kind_of byte))
-byte_opens B.KeyLength p byte = refl
-byte_opens B.ReplyCode p byte = either IsOpenStep (byte == hit_code) _ _ refl (either IsOpenStep (byte == number_code) _ _ refl (either IsOpenStep (byte == tally_code) _ _ refl refl))
+-- ---- they are right
 
-pub four_opens : (field : NumberField) (p : Progress) (n : ℕ) → IsOpenStep (after_four field p n)
-four_opens N.Shard p n = refl
-four_opens N.Connection p n = refl
-four_opens N.Part p n = refl
-four_opens N.Flags p n = open_number (fields_of p.draft.kind)
-four_opens N.ValueLength p n = either IsOpenStep (n == 0) _ _ refl refl
-four_opens N.FoundFlags p n = refl
-four_opens N.FoundLength p n = either IsOpenStep (n == 0) _ _ refl refl
-four_opens N.HoldConnection p n = refl
-four_opens N.HoldCore p n = refl
-four_opens N.HoldCount p n = refl
+then_right : (done : Done) → IsThen done → IsRight done
+then_right (Then next) is = tt
+then_right (Gives next item) is = absurd is
+then_right (Wrong fault) is = absurd is
 
-pub eight_opens : (field : LongField) (p : Progress) (n : ℕ) → IsOpenStep (after_eight field p n)
-eight_opens L.CallNumber p n = open_value (fields_of p.draft.kind)
-eight_opens L.Stamp p n = refl
-eight_opens L.Index p n = refl
-eight_opens L.FoundUnique p n = refl
-eight_opens L.ReplyNumber p n = refl
-eight_opens L.Gets p n = refl
-eight_opens L.Sets p n = refl
-eight_opens L.Hits p n = refl
-eight_opens L.Misses p n = refl
-eight_opens L.Items p n = refl
+pub byte_right : (field : ByteField) (p : ReadState) (at byte : ℕ) → IsRight (after_byte field p at byte)
+byte_right B.Tag p at byte = either IsRight (byte == 69) _ _ tt (either IsRight (byte == 72) _ _ tt tt)
+byte_right B.Magic p at byte = then_right (after_byte B.Magic p at byte) (byte_then B.Magic p at byte (λ is. cc))
+byte_right B.CallCode p at byte = tt
+byte_right B.KeyLength p at byte = tt
+byte_right B.ReplyCode p at byte = then_right (after_byte B.ReplyCode p at byte) (byte_then B.ReplyCode p at byte (λ is. cc))
 
-pub bytes_open : (field : BytesField) (p : Progress) (content : List ℕ) → IsOpenStep (after_bytes field p content)
-bytes_open S.Key p content = open_flags (fields_of p.draft.kind)
-bytes_open S.Value p content = refl
-bytes_open S.FoundValue p content = refl
+pub four_right : (field : NumberField) (p : ReadState) (n : ℕ) → IsRight (after_four field p n)
+four_right field p n = then_right (after_four field p n) (four_then field p n)
 
--- so it is not the fault
-pub not_there : (s : Step) (fault : FileFault) → IsOpenStep s → s.next.due ≡ Broken fault → ⊥
-not_there s fault opens is = let met : fault_in s.next.due ≡ Some fault = ap (λ (d : Due). fault_in d) is in cc
+pub eight_right : (field : LongField) (p : ReadState) (n : ℕ) → IsRight (after_eight field p n)
+eight_right field p n = then_right (after_eight field p n) (eight_then field p n)
+
+pub bytes_right : (field : BytesField) (p : ReadState) (content : List ℕ) → IsRight (after_bytes field p content)
+bytes_right field p content = then_right (after_bytes field p content) (bytes_then field p content)
+
+-- ---- they give nothing
+
+then_quiet : (done : Done) → IsThen done → IsQuiet done
+then_quiet (Then next) is = tt
+then_quiet (Gives next item) is = absurd is
+then_quiet (Wrong fault) is = absurd is
+
+-- no field but a tag gives a record
+pub quiet : (due : Due) (p : ReadState) (at : ℕ) (field : List ℕ) → due ≢ Byte B.Tag → IsQuiet (judged due p at field)
+quiet (Byte code) p at field no_tag =
+    let byte : ℕ = get_or field 0 0 in
+    either IsQuiet (lawful_byte code p at byte) _ _ (then_quiet (after_byte code p at byte) (byte_then code p at byte (λ is. no_tag (rw is refl)))) tt
+quiet (Number number) p at field no_tag =
+    let n : ℕ = from_be_bytes w32 field in
+    either IsQuiet (lawful_number number p n) _ _ (then_quiet (after_four number p n) (four_then number p n)) tt
+quiet (Long number) p at field no_tag =
+    let n : ℕ = from_be_bytes w64 field in
+    either IsQuiet (lawful_long number p n) _ _ (then_quiet (after_eight number p n) (eight_then number p n)) tt
+quiet (Bytes content) p at field no_tag = then_quiet (after_bytes content p field) (bytes_then content p field)
+quiet Nothing p at field no_tag = tt

@@ -13,13 +13,13 @@ use Rattle.zy_journal.specs.Journal.{magic, call_text, entry_text, hold_text, Is
 use Rattle.zy_journal_reader.specs.declared.draft.Draft.{Draft}
 use Rattle.zy_journal_reader.specs.declared.past.Past.{Past}
 use Rattle.zy_journal_reader.specs.declared.due.Due.{Due}
-use Rattle.zy_journal_reader.specs.declared.due.Due.TheVariants.{Byte, Number, Long, Bytes, Nothing, Broken}
+use Rattle.zy_journal_reader.specs.declared.due.Due.TheVariants.{Byte, Number, Long, Bytes, Nothing}
 use Rattle.zy_journal_reader.specs.declared.due.ByteField.TheVariants.{Magic, CallCode, KeyLength, ReplyCode}
 use Rattle.zy_journal_reader.specs.declared.due.NumberField.TheVariants.{Shard, Connection, Part, Flags, ValueLength, FoundFlags, FoundLength, HoldConnection, HoldCore, HoldCount}
 use Rattle.zy_journal_reader.specs.declared.due.LongField.TheVariants.{Stamp, Index, CallNumber, FoundUnique, ReplyNumber, Gets, Sets, Hits, Misses, Items}
 use Rattle.zy_journal_reader.specs.declared.due.BytesField.TheVariants.{Key, Value, FoundValue}
-use Rattle.zy_journal_reader.specs.Steps.{Progress, journal_limit}
-use Rattle.zy_read.specs.Bytes.{AreBytes}
+use Rattle.zy_journal_reader.specs.Steps.{ReadState, Done}
+use Rattle.zy_read.proofs.RunLemmas.{After}
 use Rattle.zy_journal_reader.specs.LawfulFields.{last_one}
 use Rattle.zy_journal_reader.proofs.CallLemmas.{fields_in, call_in, to_flags, to_number, to_value, KeyKnown, FlagsKnown, NumberKnown}
 
@@ -62,16 +62,11 @@ before (Bytes Value) d = head d ++ (to_value d ++ to_be_bytes w32 d.size)
 before (Bytes FoundValue) d = head d ++ (call_text (call_in d) ++ hit_code ∷ (to_be_bytes w32 d.found_flags ++ (to_be_bytes w64 d.found_unique ++ to_be_bytes w32 d.size)))
 before due d = []
 
--- the bytes that were read of what is expected
-abbrev pub pending : Due → Progress → List ℕ
-pending (Bytes field) p = p.payload
-pending due p = p.field
-
--- the bytes up to the place where this is expected
-abbrev pub bytes_of : Due → Progress → List ℕ
-bytes_of (Byte Magic) p = take p.at magic
-bytes_of Nothing p = front p.entries p.holds ++ 69 ∷ []
-bytes_of due p = front p.entries p.holds ++ (before due p.draft ++ pending due p)
+-- the bytes up to the place where this is expected, which are so many
+abbrev pub bytes_of : Due → ReadState → ℕ → List ℕ
+bytes_of (Byte Magic) s at = take at magic
+bytes_of Nothing s at = front s.entries s.holds ++ 69 ∷ []
+bytes_of due s at = front s.entries s.holds ++ before due s.draft
 
 -- an entry comes after the last one
 abbrev pub ComesAfter : Past → Entry → Type 0
@@ -168,29 +163,23 @@ Known (Bytes Value) past d hs = HeadKnown past d hs × KeyKnown d × FlagsKnown 
 Known (Bytes FoundValue) past d hs = FoundKnown past d hs × (d.size ≤ value_limit)
 Known due past d hs = ⊤
 
--- some bytes of a number
-abbrev pub IsField : ℕ → List ℕ → Type 0
-IsField most field = (length field ≤ most) × AreBytes field
+-- what is known of what is expected, before which there are so many bytes
+abbrev pub FieldKnown : Due → ReadState → ℕ → Type 0
+FieldKnown (Byte Magic) s at = (at < 8) × (s.entries ≡ []) × (s.holds ≡ [])
+FieldKnown (Bytes field) s at = 0 < s.draft.size
+FieldKnown due s at = ⊤
 
--- what is known of the bytes of what is expected
-abbrev pub FieldKnown : Due → Progress → Type 0
-FieldKnown (Byte Magic) p = (p.at < 8) × (p.entries ≡ []) × (p.holds ≡ [])
-FieldKnown (Byte field) p = p.field ≡ []
-FieldKnown (Number field) p = IsField 3 p.field
-FieldKnown (Long field) p = IsField 7 p.field
-FieldKnown (Bytes field) p = length p.payload < p.draft.size
-FieldKnown due p = ⊤
+-- a text that leads to this without a fault
+pub record IsReadTo (due : Due) (s : ReadState) (text : List ℕ) : Type 0 where
+  pub bytes : text ≡ bytes_of due s (length text)
+  pub kept : Kept s.entries s.holds s.past
+  pub field : FieldKnown due s (length text)
+  pub known : Known due s.past s.draft s.holds
 
--- a text, read up to there without a fault
-pub record Parts (due : Due) (p : Progress) (text : List ℕ) : Type 0 where
-  pub bytes : text ≡ bytes_of due p
-  pub count : p.at ≡ length text
-  pub short : p.at ≤ journal_limit
-  pub kept : Kept p.entries p.holds p.past
-  pub field : FieldKnown due p
-  pub known : Known due p.past p.draft p.holds
+-- the text leads to this state
+abbrev pub LeadTo : ReadState → List ℕ → List ⊤ → Type 0
+LeadTo s text given = IsReadTo s.due s text
 
--- a text, read up to there
-abbrev pub IsReadTo : Due → Progress → List ℕ → Type 0
-IsReadTo (Broken fault) p text = ⊤
-IsReadTo due p text = Parts due p text
+-- where a whole field leads
+abbrev pub Leads : List ℕ → Done → Type 0
+Leads text done = After LeadTo text [] done

@@ -1,5 +1,5 @@
 -- Tests, lists, numbers and texts that the lemmas on fields use.
-use Rattle.std.proofs.Common.{◌≡◌, ◌⊎◌, ℕ, ◌+◌, ◌<◌, ◌≤◌, ◌^◌, Bool, true, false, List, [], ◌∷◌, ◌++◌, length, refl, sym, ◌∙◌, ap, arith, append_assoc, length-append}
+use Rattle.std.proofs.Common.{◌≡◌, ◌⊎◌, ℕ, ◌+◌, ◌<◌, ◌≤◌, ◌^◌, Bool, true, false, List, [], ◌∷◌, ◌++◌, length, get_or, refl, sym, ◌∙◌, ap, arith, append_assoc}
 use Rattle.std.specs.Prelude.{◌==◌, ◌&&◌, ◌||◌, nat_lt, nat_le, if◌then◌else◌, Option, None, Some, flat_map}
 use Rattle.std.specs.List.{AllByRecursion}
 use Rattle.std.specs.Int.{to_be_bytes, from_be_bytes, w32, w64}
@@ -12,12 +12,11 @@ use Rattle.zy_base.specs.declared.hold.Hold.{Hold}
 use Rattle.zy_base.specs.Order.{IsOrdered, IsBefore}
 use Rattle.zy_journal.specs.Journal.{magic, entry_text, hold_text, IsEntry, IsHold, AreByConnection}
 use Rattle.zy_journal_reader.specs.declared.past.Past.{Past}
-use Rattle.zy_journal_reader.specs.Steps.{four, eight, bytes}
 use Rattle.zy_base.specs.Bounds.{FitsEntry}
 use Rattle.zy_read.specs.Bytes.{AreBytes}
-use Rattle.zy_read.proofs.ByteLemmas.{bytes_on, byte_at}
+use Rattle.zy_read.proofs.ByteLemmas.{byte_at}
 use Rattle.zy_journal_reader.specs.LawfulFields.{last_after}
-use Rattle.zy_journal_reader.proofs.SoFar.{front, ComesAfter, stamp_of, shard_of, conn_of, Kept, IsField}
+use Rattle.zy_journal_reader.proofs.SoFar.{front, ComesAfter, stamp_of, shard_of, conn_of, Kept}
 
 -- ---- tests
 
@@ -124,13 +123,11 @@ front_hold es hs h =
 
 -- ---- numbers
 
-pub four_is : (field : List ℕ) (byte : ℕ) → IsField 3 field → byte < 256 → 3 ≤ length field → to_be_bytes w32 (from_be_bytes w32 (field ++ byte ∷ [])) ≡ field ++ byte ∷ []
-four_is field byte is small long =
-    be_bytes_4 (field ++ byte ∷ []) (from_be_bytes w32 (field ++ byte ∷ [])) (omega (arith, length-append field (byte ∷ []), is.0)) (byte_at (field ++ byte ∷ []) (bytes_on field byte is.1 small)) refl
+pub four_is : (field : List ℕ) → length field ≡ 4 → AreBytes field → to_be_bytes w32 (from_be_bytes w32 field) ≡ field
+four_is field size all = be_bytes_4 field (from_be_bytes w32 field) size (byte_at field all) refl
 
-pub eight_is : (field : List ℕ) (byte : ℕ) → IsField 7 field → byte < 256 → 7 ≤ length field → to_be_bytes w64 (from_be_bytes w64 (field ++ byte ∷ [])) ≡ field ++ byte ∷ []
-eight_is field byte is small long =
-    be_bytes_8 (field ++ byte ∷ []) (from_be_bytes w64 (field ++ byte ∷ [])) (omega (arith, length-append field (byte ∷ []), is.0)) (byte_at (field ++ byte ∷ []) (bytes_on field byte is.1 small)) refl
+pub eight_is : (field : List ℕ) → length field ≡ 8 → AreBytes field → to_be_bytes w64 (from_be_bytes w64 field) ≡ field
+eight_is field size all = be_bytes_8 field (from_be_bytes w64 field) size (byte_at field all) refl
 
 pub four_below : (a b c d : ℕ) → a < 256 → b < 256 → c < 256 → d < 256 → from_be_bytes w32 (a ∷ b ∷ c ∷ d ∷ []) < 2 ^ 32
 four_below a b c d one two three four = omega arith
@@ -150,15 +147,14 @@ eight_small bytes long all = absurd (omega (arith, long))
 -- ---- texts
 
 -- a field after the bytes before it
-pub joined : (text f a b c : List ℕ) → text ≡ f ++ (a ++ b) → a ++ b ≡ c → text ≡ f ++ (c ++ [])
-joined text f a b c is same = is ∙ ap (λ (l : List ℕ). f ++ l) (same ∙ sym (append-nil c))
+pub joined : (text f a b c : List ℕ) → text ≡ f ++ (a ++ b) → a ++ b ≡ c → text ≡ f ++ c
+joined text f a b c is same = is ∙ ap (λ (l : List ℕ). f ++ l) same
 
--- a byte after some bytes of a field
-pub further : (text f a b : List ℕ) (byte : ℕ) → text ≡ f ++ (a ++ b) → text ++ byte ∷ [] ≡ f ++ (a ++ (b ++ byte ∷ []))
-further text f a b byte is = ap (λ (l : List ℕ). l ++ byte ∷ []) is ∙ append_assoc f (a ++ b) (byte ∷ []) ∙ ap (λ (l : List ℕ). f ++ l) (append_assoc a b (byte ∷ []))
+-- bytes after others
+pub further : (text f a b : List ℕ) → text ≡ f ++ a → text ++ b ≡ f ++ (a ++ b)
+further text f a b is = ap (λ (l : List ℕ). l ++ b) is ∙ append_assoc f a b
 
-pub counted : (text : List ℕ) (at byte : ℕ) → at ≡ length text → at + 1 ≡ length (text ++ byte ∷ [])
-counted text at byte is = omega (arith, length-append text (byte ∷ []), is)
-
-pub empty : (most : ℕ) → IsField most []
-empty most = (omega arith, tt)
+-- a field of one byte is that byte
+pub one_byte : (field : List ℕ) → length field ≡ 1 → field ≡ get_or field 0 0 ∷ []
+one_byte (byte ∷ []) size = refl
+one_byte field size = absurd (omega (arith, size))

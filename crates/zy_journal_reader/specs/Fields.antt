@@ -1,16 +1,15 @@
 -- What a record of a journal has, field by field: docs/FORMATS.md, "Journal".
-use Rattle.std.specs.Prelude.{◌≡◌, ℕ, ◌<◌, if◌then◌else◌, List, [], length, ⊤, Option, None, Some}
+use Rattle.std.specs.Prelude.{ℕ, ◌<◌, if◌then◌else◌, [], ⊤}
 use Rattle.zy_base.specs.declared.call_kind.CallKind.TheVariants.{Flush}
 use Rattle.zy_base.specs.declared.call_kind.CallFields.{CallFields}
 use Rattle.zy_base.specs.declared.call_reply.CallReply.{CallReply}
 use Rattle.zy_base.specs.declared.entry.Entry.{Entry}
 use Rattle.zy_base.specs.declared.tallied.Tallied.{Tallied}
 use Rattle.zy_base.specs.declared.hold.Hold.{Hold}
-use Rattle.zy_base.specs.declared.file_fault.FileFault.{FileFault}
 use Rattle.zy_base.specs.Code.{call_of}
 use Rattle.zy_journal_reader.specs.declared.draft.Draft.{Draft}
 use Rattle.zy_journal_reader.specs.declared.due.Due.{Due}
-use Rattle.zy_journal_reader.specs.declared.due.Due.TheVariants.{Byte, Number, Long, Bytes, Broken}
+use Rattle.zy_journal_reader.specs.declared.due.Due.TheVariants.{Byte, Number, Long}
 use Rattle.zy_journal_reader.specs.declared.due.ByteField.TheVariants.{Magic, KeyLength, ReplyCode}
 use Rattle.zy_journal_reader.specs.declared.due.NumberField.TheVariants.{Flags, ValueLength}
 use Rattle.zy_journal_reader.specs.declared.due.LongField.TheVariants.{CallNumber}
@@ -75,25 +74,11 @@ hold_of d count = record { core = d.core; conn = d.conn; count = count }
 
 -- ---- for the reader alone
 
--- the fault that was met, where this is expected; the end of the text is not a fault here
-abbrev pub fault_in : Due → Option FileFault
-fault_in (Broken fault) = Some fault
-fault_in due = None
+-- where a byte of the magic is expected, its place is within it
+abbrev pub IsWithin : Due → ℕ → Type 0
+IsWithin (Byte Magic) at = at < 8
+IsWithin due at = ⊤
 
--- what is expected is within its bounds: the place of a byte of the magic, and the bytes of a
--- number or of a key or a value
-abbrev pub IsWithin : Due → ℕ → ℕ → List ℕ → ℕ → Type 0
-IsWithin (Byte Magic) at seen payload size = at < 8
-IsWithin (Number field) at seen payload size = seen < 4
-IsWithin (Bytes field) at seen payload size = length payload < size
-IsWithin due at seen payload size = ⊤
-
--- a number is expected, with `most` bytes before its last one
-abbrev pub IsNumber : Due → ℕ → Type 0
-IsNumber (Number field) most = most ≡ 3
-IsNumber (Long field) most = most ≡ 7
-IsNumber due most = ⊥
-
--- what is expected is no fault, and its bounds hold at any place, while none of its bytes was read
+-- this may be expected at any place
 abbrev pub IsOpenAnywhere : Due → Type 0
-IsOpenAnywhere due = (fault_in due ≡ None) × ((at size : ℕ) (payload : List ℕ) → IsWithin due at 0 payload size)
+IsOpenAnywhere due = (at : ℕ) → IsWithin due at

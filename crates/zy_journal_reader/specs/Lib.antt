@@ -5,4 +5,4 @@ pub mod LawfulFields
 pub mod Faults
 pub mod Standing
 pub mod Worked
-pub mod Lasting
+pub mod Laws

@@ -2,14 +2,16 @@
 use Rattle.std.specs.Prelude.{◌≡◌, ℕ, Bool, true, false, List, Option, Result, Ok, Err, ⊤}
 use Rattle.zy_base.specs.declared.file_fault.FileFault.{FileFault}
 use Rattle.zy_read.specs.declared.not_taken.NotTaken.{NotTaken}
-use Rattle.zy_read.specs.Standing.{StandsAs, Follows}
+use Rattle.zy_read.specs.Standing.{StandsAs}
+use Rattle.zy_read.specs.FieldReading.{Judges}
 use Rattle.zy_journal.specs.declared.journal.Journal.{Journal}
 use Rattle.zy_journal_reader.specs.declared.due.Due.{Due}
 use Rattle.zy_journal_reader.specs.declared.due.Due.TheVariants.{Byte, Number, Long, Bytes}
 use Rattle.zy_journal_reader.specs.declared.due.ByteField.TheVariants.{ReplyCode}
 use Rattle.zy_journal_reader.specs.declared.due.NumberField.TheVariants.{FoundLength, HoldCount}
 use Rattle.zy_journal_reader.specs.declared.due.LongField.TheVariants.{ReplyNumber, Items}
-use Rattle.zy_journal_reader.specs.Steps.{Progress, Step}
+use Rattle.zy_journal_reader.specs.Fields.{IsWithin, IsOpenAnywhere}
+use Rattle.zy_journal_reader.specs.Steps.{ReadState, Progress, Done}
 use Rattle.zy_journal_reader.specs.Verdict.{Verdict, journals, verdict}
 use Rattle.zy_journal_reader.specs.Verdict.Verdict.{Good, Bad}
 
@@ -39,11 +41,18 @@ takes_memory due = false
 
 -- the reader may need memory for the byte
 abbrev pub MayWant : Progress → ℕ → Type 0
-MayWant p byte = takes_memory p.due ≡ true
+MayWant p byte = takes_memory p.state.due ≡ true
 
 -- ---- for the reader alone
 
--- an answer and a new state are those of a step; `NoMemory` changes nothing, and is answered only
--- where the reader may need memory
-abbrev pub Takes : Step → Progress → Progress → Result (Option ⊤) (NotTaken FileFault) → Type 0
-Takes step old new result = Follows journals MayWant step old new 0 result
+-- the state may be that at this place
+abbrev pub FitsPlace : ReadState → ℕ → Type 0
+FitsPlace s at = IsWithin s.due at
+
+-- its field may need memory
+abbrev pub Wants : ReadState → Type 0
+Wants s = takes_memory s.due ≡ true
+
+-- an answer and a new state, at which no place is told by what is expected, are those of a whole field
+abbrev pub Takes : Done → ReadState → ReadState → Result (Option ⊤) (NotTaken FileFault) → Type 0
+Takes done old new result = Judges (λ (s : ReadState) at. IsOpenAnywhere s.due) Wants done 0 old new result

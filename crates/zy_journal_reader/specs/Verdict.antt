@@ -4,15 +4,12 @@
 use Rattle.std.specs.Prelude.{◌≡◌, ℕ, ◌≤◌, Bool, true, false, List, length, Option, ⊤}
 use Rattle.std.specs.List.{AllByRecursion}
 use Rattle.zy_base.specs.declared.file_fault.FileFault.{FileFault}
-use Rattle.zy_base.specs.declared.file_fault.FileFault.TheVariants.{Truncated}
 use Rattle.zy_base.specs.Bounds.{FitsEntry}
 use Rattle.zy_read.specs.Format.{Format, Reading, read_on, fault_met, verdict_on}
 use Rattle.zy_journal.specs.declared.journal.Journal.{Journal}
 use Rattle.zy_journal.specs.Journal.{IsJournal, journal_bytes}
-use Rattle.zy_journal_reader.specs.declared.due.Due.{Due}
-use Rattle.zy_journal_reader.specs.declared.due.Due.TheVariants.{Nothing, Broken}
-use Rattle.zy_journal_reader.specs.Fields.{fault_in}
-use Rattle.zy_journal_reader.specs.Steps.{Progress, start, step, journal_limit}
+use Rattle.zy_read.specs.Fields.{step, format_of}
+use Rattle.zy_journal_reader.specs.Steps.{ReadState, Progress, journal_fields, journal_limit}
 
 -- ---- a whole text
 
@@ -22,24 +19,16 @@ pub data Verdict : Type 0 where
   Bad : FileFault → Verdict
 
 -- the journal that was read
-abbrev pub journal_in : Progress → Journal
-journal_in p = record { entries = p.entries; holds = p.holds }
+abbrev pub journal_in : ReadState → Journal
+journal_in s = record { entries = s.entries; holds = s.holds }
 
--- the verdict on a text that ends where it was read up to
-abbrev pub ended : Due → Progress → Verdict
-ended Nothing p = Good (journal_in p)
-ended (Broken fault) p = Bad fault
-ended due p = Bad (Truncated p.at)
+-- the verdict on a text that ends at its end
+abbrev pub good : ReadState → List ⊤ → Verdict
+good s given = Good (journal_in s)
 
 -- the format of journals; what a text gives is that the journal ended
 abbrev pub journals : Format Progress ⊤ FileFault Verdict
-journals = record {
-  start = start;
-  step = step;
-  fault_in = λ p. fault_in p.due;
-  ended = λ p given. ended p.due p;
-  bad = Bad;
-}
+journals = format_of journal_fields good Bad
 
 -- the verdict on a whole text
 abbrev pub verdict : List ℕ → Verdict
@@ -71,4 +60,4 @@ pub record SpellsJournal (text : List ℕ) (journal : Journal) : Type 0 where
 
 -- what is read of the rest of a text
 abbrev pub read_from : Progress → List ℕ → Reading Progress ⊤
-read_from p text = read_on step p text
+read_from p text = read_on (step journal_fields) p text

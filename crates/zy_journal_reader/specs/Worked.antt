@@ -3,7 +3,7 @@ use Rattle.std.specs.Prelude.{ℕ, List, ◌++◌, codes, Option}
 use Rattle.zy_base.specs.declared.file_fault.FileFault.{FileFault}
 use Rattle.zy_journal_reader.specs.declared.due.Due.TheVariants as Dues
 use Rattle.zy_journal_reader.specs.declared.due.ByteField.TheVariants as Fields
-use Rattle.zy_journal_reader.specs.Fields.{fault_in}
+use Rattle.zy_read.specs.Fields.{at_state}
 use Rattle.zy_journal_reader.specs.Steps.{start}
 use Rattle.zy_journal_reader.specs.Verdict.{read_from}
 
@@ -26,4 +26,4 @@ behind_hold text = with_magic (codes "H\0\0\0\u{1}\0\0\0\0\0\0\0\u{1}" ++ text)
 
 -- the fault that a text meets after the first `at` bytes of a journal, where a record is expected
 abbrev pub met_behind : ℕ → List ℕ → Option FileFault
-met_behind at text = fault_in (read_from (record start { due = Dues.Byte Fields.Tag; at = at }) text).last.due
+met_behind at text = (read_from (at_state (record start { due = Dues.Byte Fields.Tag }) at) text).last.fault

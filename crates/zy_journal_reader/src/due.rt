@@ -1,7 +1,5 @@
 //! What is expected next in a journal.
 
-use zy_base::FileFault;
-
 /// A part of one byte.
 #[derive(Clone, Copy)]
 pub(crate) enum ByteField {
@@ -87,6 +85,4 @@ pub(crate) enum Due {
     Bytes(BytesField),
     /// Nothing: the end was read.
     Nothing,
-    /// Nothing: the text has this fault.
-    Broken(FileFault),
 }

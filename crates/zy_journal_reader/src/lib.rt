@@ -7,6 +7,7 @@ mod due;
 mod laws;
 mod past;
 mod reader;
+mod state;
 
 pub use laws::{
     a_journal_is_bad_exactly_where_it_has_a_fault,

@@ -3,65 +3,28 @@ ghost use Rattle.std.specs.Prelude.{◌≡◌, ◌+◌, ◌<◌, ◌≤◌, [], 
 ghost use Rattle.std.specs.Prelude.{true, false};
 ghost use Rattle.zy_read.specs.Standing.{given_in, Feeds, FeedsAs, TellsFault, TellsLasting, AnswersBy};
 ghost use Rattle.zy_read.specs.declared.not_taken.NotTaken.TheVariants.{NoMemory};
-ghost use Rattle.zy_journal_reader.specs.declared.due.Due.TheVariants as Dues;
-ghost use Rattle.zy_journal_reader.specs.Steps.{grown_by, journal_limit};
 ghost use Rattle.zy_journal_reader.specs.Verdict.{journals, verdict, is_good};
 ghost use Rattle.zy_journal_reader.specs.Standing.{StandsForJournal, EndsBy, MayWant};
 
-mod codes;
-mod contents;
-mod ends;
-mod long_numbers;
-mod numbers;
-mod runs;
-mod steps;
-mod whole_fields;
-
-use crate::draft::Draft;
-use crate::due::{ByteField, BytesField, Due};
-use crate::past::Past;
+use crate::state::JournalState;
 use std::alloc::Global;
 use std::marker::Model;
-use zy_base::{Entries, Entry, FileFault, Hold, Holds};
+use zy_base::FileFault;
 use zy_journal::Journal;
-use zy_read::{Fed, Field, FileFeed, feed, feed_piece};
-
-const JOURNAL_LIMIT: u64 = 9_223_372_036_854_775_807;
+use zy_read::{Fed, FieldReader, FileFeed, feed, feed_piece};
 
 /// Reads a journal, byte by byte or in pieces, and keeps it.
 #[derive(Drop)]
 pub struct JournalReader {
-    alloc: Global,
-    due: Due,
-    field: Field,
-    payload: Vec<u8>,
-    draft: Draft,
-    entries: Vec<Entry>,
-    holds: Vec<Hold>,
-    past: Past,
-    at: u64,
+    reader: FieldReader<JournalState>,
 }
 
 impl Model for JournalReader {
-    ghost use Rattle.std.specs.Prelude.{◌≤◌, length};
-    ghost use Rattle.zy_journal_reader.specs.Fields.{IsWithin};
     ghost use Rattle.zy_journal_reader.specs.Steps.{Progress};
 
     ghost Value = { Progress };
 
-    ghost view = { λ r. record {
-      due = r.due;
-      field = r.field;
-      payload = r.payload.items;
-      draft = r.draft;
-      entries = r.entries.items;
-      holds = r.holds.items;
-      past = r.past;
-      at = r.at;
-    } };
-
-    ghost invariant = { λ r. (length r.field ≤ r.at)
-        × IsWithin r.due r.at (length r.field) r.payload.items r.draft.size };
+    ghost view = { λ r. r.reader };
 }
 
 impl JournalReader {
@@ -70,19 +33,7 @@ impl JournalReader {
         ensures value { StandsForJournal result [] [] }
     {
         JournalReader {
-            alloc,
-            due: Due::Byte(ByteField::Magic),
-            field: Field::new(),
-            payload: Vec::new(alloc),
-            draft: Draft::new(alloc),
-            entries: Vec::new(alloc),
-            holds: Vec::new(alloc),
-            past: Past {
-                stamp: 0,
-                shard: 0,
-                conn: 0,
-            },
-            at: 0,
+            reader: FieldReader::new(alloc, JournalState::new(alloc)),
         }
     }
 
@@ -99,7 +50,7 @@ impl JournalReader {
         ensures kept { result ≡ Err NoMemory → self.new ≡ self.old }
         ensures memory { result ≡ Err NoMemory → MayWant self.old byte }
     {
-        feed(self, byte)
+        feed(&mut self.reader, byte)
     }
 
     /// Takes bytes up to the end of the journal or the first fault, or all of them if there is
@@ -120,7 +71,7 @@ impl JournalReader {
         ensures memory { result.answer ≡ Err NoMemory
             → MayWant self.new (get_or bytes.now result.taken 0) }
     {
-        feed_piece(self, bytes)
+        feed_piece(&mut self.reader, bytes)
     }
 
     #[tactic(auto, using(zy_read::proofs::Feeding::verdict_here))]
@@ -128,7 +79,7 @@ impl JournalReader {
     pub fn is_done(&self) -> bool
         ensures value { AnswersBy journals self.now (λ b. is_good (verdict b)) result }
     {
-        matches!(self.due, Due::Nothing)
+        self.reader.end().is_ok()
     }
 
     #[tactic(auto, using(zy_read::proofs::Feeding::verdict_here))]
@@ -136,13 +87,9 @@ impl JournalReader {
     pub fn end(self) -> Result<Journal, FileFault>
         ensures value { EndsBy self result }
     {
-        match self.due {
-            Due::Nothing => Ok(Journal::new(
-                Entries::from_vec(self.entries),
-                Holds::from_vec(self.holds),
-            )),
-            Due::Broken(fault) => Err(fault),
-            _ => Err(FileFault::Truncated { at: self.at }),
+        match self.reader.end() {
+            Ok(()) => Ok(self.reader.into_state().into_journal()),
+            Err(fault) => Err(fault),
         }
     }
 }

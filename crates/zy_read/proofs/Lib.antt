@@ -1,5 +1,13 @@
 pub mod ByteLemmas
 pub mod Feeding
+pub mod FieldLemmas
+pub mod MagicFieldLemmas
 pub mod MagicLemmas
+pub mod OutcomeLemmas
+pub mod OverLemmas
 pub mod PieceLemmas
+pub mod RunLemmas
 pub mod SourceLemmas
+pub mod TakenLemmas
+pub mod VerdictLemmas
+pub mod StepLemmas

@@ -1,6 +1,10 @@
 pub mod Bytes
+pub mod FieldReading
+pub mod Fields
+pub mod FieldsLasting
 pub mod Format
 pub mod Lasting
 pub mod Magic
+pub mod Runs
 pub mod Standing
 pub mod Piece

@@ -1,7 +1,9 @@
 -- The magic with which a text begins, byte after byte: six letters, the digit of a version, which is 1 or 2, and a line
 -- feed.
-use Rattle.std.specs.Prelude.{ℕ, ◌+◌, ◌<◌, ◌==◌, if◌then◌else◌, List, [], ◌∷◌, ◌++◌, take, ⊤}
+use Rattle.std.specs.Prelude.{◌≡◌, ◌⊎◌, ℕ, ◌+◌, ◌<◌, ◌≤◌, ◌==◌, if◌then◌else◌, List, [], ◌∷◌, ◌++◌, length, take, ⊤}
 use Rattle.std.specs.List.{slice_index}
+use Rattle.zy_read.specs.Fields.{Judged, Fields}
+use Rattle.zy_read.specs.Fields.Judged.{Then, Wrong as IsFault}
 use Rattle.zy_read.specs.declared.magic.MagicPart.{MagicPart}
 use Rattle.zy_read.specs.declared.magic.MagicPart.TheVariants.{Letters, Digit, LineFeed}
 use Rattle.zy_read.specs.declared.magic.MagicStep.{MagicStep}
@@ -36,3 +38,51 @@ abbrev pub magic_before : MagicPart → List ℕ → ℕ → List ℕ
 magic_before Letters letters at = take at letters
 magic_before Digit letters at = letters
 magic_before (LineFeed version) letters at = letters ++ (48 + version) ∷ []
+
+-- ---- texts
+
+-- the magic of a version: the letters, the version's digit and a line feed
+abbrev pub magic_of : List ℕ → ℕ → List ℕ
+magic_of letters version = letters ++ (48 + version) ∷ 10 ∷ []
+
+-- the text begins with the magic of a version
+pub record HasMagic (letters text : List ℕ) (version : ℕ) : Type 0 where
+  pub rest : List ℕ
+  pub known : (version ≡ 1) ⊎ (version ≡ 2)
+  pub whole : text ≡ magic_of letters version ++ rest
+
+-- the bytes are the first ones of a magic
+pub record BeginsMagic (letters bytes : List ℕ) : Type 0 where
+  pub version : ℕ
+  pub rest : List ℕ
+  pub known : (version ≡ 1) ⊎ (version ≡ 2)
+  pub whole : bytes ++ rest ≡ magic_of letters version
+
+-- a byte of the first eight follows the first ones of a magic, and is the next one of none
+pub record IsBadMagic (letters text : List ℕ) (at : ℕ) : Type 0 where
+  pub front : List ℕ
+  pub byte : ℕ
+  pub rest : List ℕ
+  pub whole : text ≡ front ++ byte ∷ rest
+  pub place : at ≡ length front
+  pub within : at < 8
+  pub begins : BeginsMagic letters front
+  pub differs : BeginsMagic letters (front ++ byte ∷ []) → ⊥
+
+-- ---- fields
+
+-- what a byte of the magic does: another part is next, or the state after the magic of a version, or this is its fault
+abbrev pub magic_judged : {S G F : Type 0} → (MagicPart → S) → (ℕ → S) → F → MagicStep → Judged S G F
+magic_judged part_next after fault (Next part) = Then (part_next part)
+magic_judged part_next after fault (Whole version) = Then (after version)
+magic_judged part_next after fault Wrong = IsFault fault
+
+-- the first fields are the bytes of a magic with these letters
+pub record ReadsMagic {S G F : Type 0} (fields : Fields S G F) (letters : List ℕ) (part_next : MagicPart → S)
+    (after : ℕ → S) (form : ℕ → F) : Type 0 where
+  pub six : length letters ≡ 6
+  pub start_is : fields.start ≡ part_next Letters
+  pub widths : (part : MagicPart) → fields.width (part_next part) ≡ 1
+  pub judges : (part : MagicPart) (at byte : ℕ) → fields.judge (part_next part) at (byte ∷ [])
+      ≡ magic_judged part_next after (form at) (magic_step part letters at byte)
+  pub room : 8 ≤ fields.limit

@@ -57,6 +57,24 @@ impl Field {
         self.seen += 1;
     }
 
+    /// Four bytes, this one the last.
+    pub fn four(&self, byte: u8) -> [u8; 4]
+        requires whole { length self.now ≡ 3 }
+        ensures value { result ≡ self.now ++ byte ∷ [] }
+    {
+        let b = &self.bytes;
+        [b[0], b[1], b[2], byte]
+    }
+
+    /// Eight bytes, this one the last.
+    pub fn eight(&self, byte: u8) -> [u8; 8]
+        requires whole { length self.now ≡ 7 }
+        ensures value { result ≡ self.now ++ byte ∷ [] }
+    {
+        let b = &self.bytes;
+        [b[0], b[1], b[2], b[3], b[4], b[5], b[6], byte]
+    }
+
     /// The big-endian number of four bytes, this one the last.
     pub fn number(&self, byte: u8) -> u32
         requires whole { length self.now ≡ 3 }

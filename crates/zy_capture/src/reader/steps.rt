@@ -1,12 +1,14 @@
 //! The step of the reader of captures at each byte, by what is expected.
-ghost use Rattle.std.specs.Prelude.{◌≡◌, ◌+◌, ◌<◌, ◌≤◌, [], length, Err};
+ghost use Rattle.std.specs.Prelude.{◌≡◌, ◌+◌, ◌<◌, ◌≤◌, [], ◌∷◌, length, Err, None};
 ghost use Rattle.zy_read.specs.declared.not_taken.NotTaken.TheVariants.{Fault};
+ghost use Rattle.zy_read.specs.Fields.{grown_by, field_step, is_full};
+ghost use Rattle.zy_read.specs.FieldsLasting.{lasting};
 ghost use Rattle.zy_capture.specs.declared.due.Due.TheVariants as Dues;
 ghost use Rattle.zy_capture.specs.Capture.{capture_limit};
-ghost use Rattle.zy_capture.specs.Steps.{goes, after_record, refuses, keeps, grown_by, taken, is_full};
-ghost use Rattle.zy_capture.specs.Verdict.{Verdict, captures};
-ghost use Rattle.zy_capture.specs.Standing.{Takes, IsWithin, IsLengthEnd};
-ghost use Rattle.zy_capture.specs.Lasting.{lasting};
+ghost use Rattle.zy_capture.specs.Steps.{fields, to, after_field, broken_by};
+ghost use Rattle.zy_capture.specs.Verdict.{Verdict, captures, good};
+ghost use Rattle.zy_capture.specs.Verdict.Verdict.{Bad};
+ghost use Rattle.zy_capture.specs.Standing.{Takes, IsWithin, IsNumber, IsLengthEnd};
 
 use super::Reader;
 use crate::capture_fault::{CaptureFault, FeedFault};
@@ -37,11 +39,14 @@ impl Reads for Reader {
     ghost wants = { IsLengthEnd };
 
     fn step(&mut self, byte: u8) -> Result<Option<Record>, FeedFault> {
+        if let Some(fault) = self.fault {
+            return Err(FeedFault::Fault(fault));
+        }
         if self.is_full() {
             return self.refuse(CaptureFault::TooLong);
         }
-        match self.due {
-            Due::Payload { conn, length } => self.feed_payload(conn, length, byte),
+        match self.state.due {
+            Due::Payload { conn, others } => self.feed_payload(conn, others, byte),
             Due::Tag => self.feed_tag(byte),
             Due::Connection => self.feed_connection(byte),
             Due::Length { conn } => self.feed_length(conn, byte),
@@ -49,19 +54,21 @@ impl Reads for Reader {
             Due::Magic(part) => self.feed_magic(part, byte),
             Due::Count => self.feed_count(byte),
             Due::Nothing => self.refuse(CaptureFault::Trailing { at: self.at }),
-            Due::Broken(fault) => Err(FeedFault::Fault(fault)),
         }
     }
 
     // Takes bytes of a segment, but not its last one; or what one begins with.
-    #[tactic(auto, using(crate::proofs::RunLemmas::run_fed, zy_read::proofs::Feeding::fed_none))]
+    #[tactic(auto, using(zy_read::proofs::FieldLemmas::run_fed, zy_read::proofs::Feeding::fed_none))]
     fn take_run(&mut self, bytes: &[u8], at: usize) -> usize {
-        match self.due {
-            Due::Payload { conn, length } if self.at < CAPTURE_LIMIT => {
-                let left = length as usize - self.payload.len() - 1;
+        if self.fault.is_some() {
+            return 0;
+        }
+        match self.state.due {
+            Due::Payload { conn, others } if self.at < CAPTURE_LIMIT => {
+                let left = others as usize - self.payload.len();
                 let room = (CAPTURE_LIMIT - self.at) as usize;
                 let run = left.min(room).min(bytes.len() - at - 1);
-                self.append(conn, length, &bytes[at..at + run]);
+                self.append(conn, others, &bytes[at..at + run]);
                 run
             }
             Due::Tag if bytes.len() - at > HEAD => {
@@ -75,14 +82,15 @@ impl Reads for Reader {
         }
     }
 
-    ghost lasting = { lasting };
+    ghost lasting = { lasting fields good Bad };
 }
 
 impl Reader {
     // Takes bytes of a segment, but not its last one.
-    fn append(&mut self, conn: u32, size: u32, bytes: &[u8])
-        requires due { self.old.due ≡ Dues.Payload conn size }
-        requires fits { length self.old.payload + length bytes.now < size }
+    fn append(&mut self, conn: u32, others: u32, bytes: &[u8])
+        requires due { self.old.state.due ≡ Dues.Payload conn others }
+        requires none { self.old.fault ≡ None }
+        requires fits { length self.old.seen + length bytes.now ≤ others }
         requires room { self.old.at + length bytes.now ≤ capture_limit }
         ensures value { self.new ≡ grown_by self.old bytes.now }
     {
@@ -93,66 +101,60 @@ impl Reader {
 
     // The capture has its most bytes, and its end was not read.
     fn is_full(&self) -> bool
-        ensures value { result ≡ is_full self.now }
+        ensures value { result ≡ is_full fields self.now }
     {
-        self.at >= CAPTURE_LIMIT && !matches!(self.due, Due::Nothing | Due::Broken(_))
+        self.at >= CAPTURE_LIMIT && !matches!(self.state.due, Due::Nothing)
     }
 
-    // The byte is the last one of its part.
-    #[tactic(auto, using(crate::proofs::Bounds::within_any))]
+    // The byte is the last one of a field.
+    #[tactic(auto, using(crate::proofs::Bounds::within_any, crate::proofs::Bounds::none_seen))]
     fn go_on(&mut self, due: Due)
+        requires none { self.old.fault ≡ None }
         requires room { self.old.at < capture_limit }
-        requires within { IsWithin due (self.old.at + 1) [] 0 }
-        ensures value { self.new ≡ (goes self.old due).next }
+        requires within { IsWithin due (self.old.at + 1) [] [] 0 }
+        ensures value { self.new ≡ after_field self.old (to self.old.state due) }
     {
-        self.due = due;
+        self.state.due = due;
         self.field.clear();
         self.at += 1;
     }
 
     // The byte is one of a number, and not the last one.
-    #[tactic(auto, using(crate::proofs::Bounds::within_any))]
+    #[tactic(auto, using(crate::proofs::Bounds::number_seen, crate::proofs::Bounds::number_within))]
     fn keep(&mut self, byte: u8)
+        requires none { self.old.fault ≡ None }
         requires room { self.old.at < capture_limit }
-        requires within { IsWithin self.old.due (self.old.at + 1) [] 0 }
-        requires short { length self.old.field < 3 }
-        ensures value { self.new ≡ (keeps self.old self.old.due byte).next }
+        requires number { IsNumber self.old.state.due }
+        requires short { length self.old.seen < 3 }
+        ensures value { self.new ≡ grown_by self.old (byte ∷ []) }
     {
         self.field.push(byte);
         self.at += 1;
     }
 
-    // The byte ends a record. Gives the bytes of the segment that were read before it.
-    fn end_record(&mut self) -> Filling
-        requires room { self.old.at < capture_limit }
-        ensures value { self.new ≡ after_record self.old }
-        ensures bytes { result.bytes ≡ self.old.payload }
-    {
-        self.due = Due::Tag;
-        self.field.clear();
-        self.at += 1;
-        mem::replace(&mut self.payload, Filling::new(self.alloc))
-    }
-
     // The byte is a fault.
+    #[tactic(auto, using(crate::proofs::Bounds::nothing_seen))]
     fn refuse(&mut self, fault: CaptureFault) -> Result<Option<Record>, FeedFault>
         ensures value { result ≡ Err (Fault fault) }
-        ensures state { self.new ≡ (refuses self.old fault).next }
+        ensures state { self.new ≡ broken_by self.old fault }
     {
-        self.due = Due::Broken(fault);
+        self.field.clear();
+        drop(mem::replace(&mut self.payload, Filling::new(self.alloc)));
+        self.fault = Some(fault);
         Err(FeedFault::Fault(fault))
     }
 
     // A byte of the magic.
     fn feed_magic(&mut self, part: MagicPart, byte: u8) -> Result<Option<Record>, FeedFault>
-        requires due { self.old.due ≡ Dues.Magic part }
+        requires due { self.old.state.due ≡ Dues.Magic part }
+        requires none { self.old.fault ≡ None }
         requires room { self.old.at < capture_limit }
-        ensures value { Takes (taken (Dues.Magic part) self.old byte) self.old self.new byte result }
+        ensures value { Takes (field_step fields self.old byte) self.old self.new byte result }
     {
         match part.step(LETTERS, self.at, byte) {
             MagicStep::Next(next) => self.go_on(Due::Magic(next)),
             MagicStep::Whole { version } => {
-                self.version = version;
+                self.state.version = version;
                 self.go_on(Due::Count);
             }
             MagicStep::Wrong => return self.refuse(CaptureFault::BadMagic { at: self.at }),
@@ -162,15 +164,17 @@ impl Reader {
 
     // The tag of a record, or the end.
     fn feed_tag(&mut self, byte: u8) -> Result<Option<Record>, FeedFault>
-        requires due { self.old.due ≡ Dues.Tag }
+        requires due { self.old.state.due ≡ Dues.Tag }
+        requires none { self.old.fault ≡ None }
         requires room { self.old.at < capture_limit }
-        ensures value { Takes (taken Dues.Tag self.old byte) self.old self.new byte result }
+        ensures value { Takes (field_step fields self.old byte) self.old self.new byte result }
     {
+        let may_close = self.state.version == 2;
         if byte == b'S' {
             self.go_on(Due::Connection);
         } else if byte == b'E' {
             self.go_on(Due::Nothing);
-        } else if byte == b'C' && self.version == 2 {
+        } else if byte == b'C' && may_close {
             self.go_on(Due::Closed);
         } else {
             return self.refuse(CaptureFault::BadTag { at: self.at, byte });
@@ -180,9 +184,10 @@ impl Reader {
 
     // The connection count.
     fn feed_count(&mut self, byte: u8) -> Result<Option<Record>, FeedFault>
-        requires due { self.old.due ≡ Dues.Count }
+        requires due { self.old.state.due ≡ Dues.Count }
+        requires none { self.old.fault ≡ None }
         requires room { self.old.at < capture_limit }
-        ensures value { Takes (taken Dues.Count self.old byte) self.old self.new byte result }
+        ensures value { Takes (field_step fields self.old byte) self.old self.new byte result }
     {
         if self.field.len() < 3 {
             self.keep(byte);
@@ -192,23 +197,24 @@ impl Reader {
         if number > CONNECTION_LIMIT {
             return self.refuse(CaptureFault::ConnCount { number });
         }
-        self.count = number;
+        self.state.count = number;
         self.go_on(Due::Tag);
         Ok(None)
     }
 
     // The connection of a segment.
     fn feed_connection(&mut self, byte: u8) -> Result<Option<Record>, FeedFault>
-        requires due { self.old.due ≡ Dues.Connection }
+        requires due { self.old.state.due ≡ Dues.Connection }
+        requires none { self.old.fault ≡ None }
         requires room { self.old.at < capture_limit }
-        ensures value { Takes (taken Dues.Connection self.old byte) self.old self.new byte result }
+        ensures value { Takes (field_step fields self.old byte) self.old self.new byte result }
     {
         if self.field.len() < 3 {
             self.keep(byte);
             return Ok(None);
         }
         let conn = self.field.number(byte);
-        if conn >= self.count {
+        if conn >= self.state.count {
             return self.refuse(CaptureFault::ConnRange {
                 at: self.at - 3,
                 number: conn,
@@ -220,31 +226,32 @@ impl Reader {
 
     // The connection of a close record.
     fn feed_closed(&mut self, byte: u8) -> Result<Option<Record>, FeedFault>
-        requires due { self.old.due ≡ Dues.Closed }
+        requires due { self.old.state.due ≡ Dues.Closed }
+        requires none { self.old.fault ≡ None }
         requires room { self.old.at < capture_limit }
-        ensures value { Takes (taken Dues.Closed self.old byte) self.old self.new byte result }
+        ensures value { Takes (field_step fields self.old byte) self.old self.new byte result }
     {
         if self.field.len() < 3 {
             self.keep(byte);
             return Ok(None);
         }
         let number = self.field.number(byte);
-        if number >= self.count {
+        if number >= self.state.count {
             return self.refuse(CaptureFault::ConnRange {
                 at: self.at - 3,
                 number,
             });
         }
-        self.end_record();
+        self.go_on(Due::Tag);
         Ok(Some(Record::Close { conn: number }))
     }
 
     // The length of a segment. Memory is needed at its last byte alone.
     fn feed_length(&mut self, conn: u32, byte: u8) -> Result<Option<Record>, FeedFault>
-        requires due { self.old.due ≡ Dues.Length conn }
+        requires due { self.old.state.due ≡ Dues.Length conn }
+        requires none { self.old.fault ≡ None }
         requires room { self.old.at < capture_limit }
-        ensures value { Takes (taken (Dues.Length conn) self.old byte)
-            self.old self.new byte result }
+        ensures value { Takes (field_step fields self.old byte) self.old self.new byte result }
     {
         if self.field.len() < 3 {
             self.keep(byte);
@@ -256,7 +263,7 @@ impl Reader {
             return self.refuse(CaptureFault::SegmentLength { at, number: length });
         }
         if length == 0 {
-            self.end_record();
+            self.go_on(Due::Tag);
             return Ok(Some(Record::Segment(Segment {
                 conn,
                 bytes: Blob::new(self.alloc),
@@ -264,7 +271,7 @@ impl Reader {
         }
         match Filling::with_room(self.alloc, length as usize) {
             Ok(bytes) => {
-                self.begin_segment(conn, length, bytes);
+                self.begin_segment(conn, length - 1, bytes);
                 Ok(None)
             }
             Err(_) => Err(FeedFault::NoMemory),
@@ -272,16 +279,15 @@ impl Reader {
     }
 
     // The byte is the last one of the length of a segment that has bytes, for which there is room.
-    fn begin_segment(&mut self, conn: u32, length: u32, room: Filling)
+    fn begin_segment(&mut self, conn: u32, others: u32, room: Filling)
+        requires none { self.old.fault ≡ None }
         requires room { self.old.at < capture_limit }
-        requires some { 0 < length }
-        requires fits { length ≤ room.room }
-        requires none { room.bytes ≡ [] }
-        ensures value { self.new ≡
-            (goes (record self.old { payload = [] }) (Dues.Payload conn length)).next }
+        requires fits { others < room.room }
+        requires empty { room.bytes ≡ [] }
+        ensures value { self.new ≡ after_field self.old (to self.old.state (Dues.Payload conn others)) }
     {
         drop(mem::replace(&mut self.payload, room));
-        self.due = Due::Payload { conn, length };
+        self.state.due = Due::Payload { conn, others };
         self.field.clear();
         self.at += 1;
     }
@@ -290,20 +296,20 @@ impl Reader {
     fn feed_payload(
         &mut self,
         conn: u32,
-        length: u32,
+        others: u32,
         byte: u8,
     ) -> Result<Option<Record>, FeedFault>
-        requires due { self.old.due ≡ Dues.Payload conn length }
+        requires due { self.old.state.due ≡ Dues.Payload conn others }
+        requires none { self.old.fault ≡ None }
         requires room { self.old.at < capture_limit }
-        ensures value { Takes (taken (Dues.Payload conn length) self.old byte)
-            self.old self.new byte result }
+        ensures value { Takes (field_step fields self.old byte) self.old self.new byte result }
     {
         self.payload.push(byte);
         self.at += 1;
-        if self.payload.len() < length as usize {
+        if self.payload.len() <= others as usize {
             return Ok(None);
         }
-        self.due = Due::Tag;
+        self.state.due = Due::Tag;
         self.field.clear();
         let bytes = mem::replace(&mut self.payload, Filling::new(self.alloc));
         Ok(Some(Record::Segment(Segment {

@@ -1,5 +1,5 @@
 use Rattle.zy_capture.proofs.WholeLemmas.{good_spells}
-use Rattle.zy_capture.proofs.SpelledLemmas.{spells_good}
+use Rattle.zy_capture.proofs.WholeLemmas.{spells_good}
 use Rattle.zy_capture.proofs.laws.a_capture_is_good_exactly_where_it_is_a_spelling.Goals as goal
 
 pub returns : goal.returns

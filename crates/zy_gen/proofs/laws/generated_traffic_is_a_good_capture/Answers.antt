@@ -1,4 +1,4 @@
-use Rattle.zy_capture.proofs.SpelledLemmas.{spells_good}
+use Rattle.zy_capture.proofs.WholeLemmas.{spells_good}
 use Rattle.zy_gen.specs.Traffic.{gen_bytes, records_of}
 use Rattle.zy_gen.proofs.TrafficLemmas.{traffic_spells}
 use Rattle.zy_gen.proofs.laws.generated_traffic_is_a_good_capture.Goals as goal

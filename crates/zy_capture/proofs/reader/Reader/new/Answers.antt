@@ -3,4 +3,4 @@ use Rattle.zy_capture.specs.Verdict.{captures}
 use Rattle.zy_capture.proofs.reader.Reader.new.Goals as goal
 
 pub returns : goal.returns
-returns c = record { value = rw (c.new.ensures.value, c.new-2.ensures.value) (starts captures) }
+returns c = record { value = rw c.new.ensures.value (starts captures) }

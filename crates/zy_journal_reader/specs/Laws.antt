@@ -1,0 +1,52 @@
+-- A field of a journal has a byte, and after the end each byte is wrong.
+use Rattle.std.proofs.Common.{◌≡◌, ℕ, ◌-◌, ◌^◌, ◌<◌, List, true, refl, arith}
+use Rattle.zy_read.specs.Fields.{IsLawful, IsWrong}
+use Rattle.zy_read.specs.FieldReading.{width_of}
+use Rattle.zy_read.specs.declared.shape.Shape.{Shape}
+use Rattle.zy_read.specs.declared.shape.Shape.TheVariants.{Byte, Four, Eight, Run}
+use Rattle.zy_journal_reader.specs.declared.due.Due.{Due}
+use Rattle.zy_journal_reader.specs.declared.due.Due.TheVariants as Dues
+use Rattle.zy_journal_reader.specs.Standing.{takes_memory, FitsPlace, Wants}
+use Rattle.zy_journal_reader.specs.Steps.{ReadState, shape, is_last, judged, journal_fields}
+
+some : (kind : Shape) → 0 < width_of kind
+some Byte = omega arith
+some Four = omega arith
+some Eight = omega arith
+some (Run others) = omega arith
+
+one : (due : Due) (size : ℕ) → is_last due ≡ true → width_of (shape due size) ≡ 1
+one Dues.Nothing size is = refl
+one due size is = cc
+
+ends : (due : Due) (s : ReadState) (at : ℕ) (field : List ℕ) → is_last due ≡ true → IsWrong (judged due s at field)
+ends Dues.Nothing s at field is = tt
+ends due s at field is = cc
+
+-- so it is a format of fields
+pub lawful : IsLawful journal_fields
+lawful = record {
+  some = λ s. some (shape s.due s.draft.size);
+  one = λ s. one s.due s.draft.size;
+  ends = λ s at field. ends s.due s at field;
+}
+
+pub widths : (s : ReadState) → journal_fields.width s ≡ width_of (shape s.due s.draft.size)
+widths s = refl
+
+run_wants : (due : Due) (size others : ℕ) → shape due size ≡ Run others → takes_memory due ≡ true
+run_wants (Dues.Byte field) size others is = cc
+run_wants (Dues.Number field) size others is = cc
+run_wants (Dues.Long field) size others is = cc
+run_wants (Dues.Bytes field) size others is = refl
+run_wants Dues.Nothing size others is = cc
+
+-- a key or a value may need memory
+pub runs : (s : ReadState) (others : ℕ) → shape s.due s.draft.size ≡ Run others → Wants s
+runs s others is = run_wants s.due s.draft.size others is
+
+pub few : journal_fields.limit < 2 ^ 64 - 1
+few = omega arith
+
+pub begins : FitsPlace journal_fields.start 0
+begins = omega arith

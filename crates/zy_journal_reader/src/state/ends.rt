@@ -1,0 +1,63 @@
+//! The ends of entries and holds.
+ghost use Rattle.std.specs.Prelude.{◌≡◌, ◌<◌, ◌≤◌, ◌+◌, ℕ, [], ◌∷◌, ◌++◌, true, vec_len, vec_capacity};
+ghost use Rattle.zy_journal_reader.specs.Fields.{fresh, entry_of};
+ghost use Rattle.zy_journal_reader.specs.Steps.{ends_entry, ends_hold};
+ghost use Rattle.zy_journal_reader.specs.Standing.{Takes, takes_memory};
+
+use super::JournalState;
+use crate::draft::Draft;
+use crate::due::{ByteField, Due};
+use std::alloc::Global;
+use std::mem;
+use zy_base::{CallReply, Entry, Hold};
+use zy_read::FileFeed;
+
+impl JournalState {
+    // The field ends an entry, which needs memory.
+    pub(super) fn end_entry(
+        &mut self,
+        alloc: Global,
+        reply: CallReply,
+    ) -> Result<Option<()>, FileFeed>
+        requires due { takes_memory self.old.due ≡ true }
+        ensures value { Takes (ends_entry self.old reply) self.old self.new result }
+    {
+        if self.entries.reserve(1).is_err() {
+            return Err(FileFeed::NoMemory);
+        }
+        self.past.stamp = self.draft.stamp;
+        self.past.shard = self.draft.shard;
+        add_entry(&mut self.entries, alloc, &mut self.draft, reply);
+        self.due = Due::Byte(ByteField::Tag);
+        Ok(None)
+    }
+
+    // The field ends a hold, which needs memory.
+    pub(super) fn end_hold(&mut self, alloc: Global, count: u32) -> Result<Option<()>, FileFeed>
+        requires due { takes_memory self.old.due ≡ true }
+        ensures value { Takes (ends_hold self.old count) self.old self.new result }
+    {
+        let hold = Hold {
+            core: self.draft.core,
+            conn: self.draft.conn,
+            count,
+        };
+        if self.holds.push(hold).is_err() {
+            return Err(FileFeed::NoMemory);
+        }
+        self.past.conn = self.draft.conn;
+        self.draft = Draft::new(alloc);
+        self.due = Due::Byte(ByteField::Tag);
+        Ok(None)
+    }
+}
+
+// Appends the entry that was read, for which there is room, and leaves nothing read.
+fn add_entry(entries: &mut Vec<Entry>, alloc: Global, draft: &mut Draft, reply: CallReply)
+    requires room { vec_len entries.old < vec_capacity entries.old }
+    ensures entries { entries.new.items ≡ entries.old.items ++ entry_of draft.old reply ∷ [] }
+    ensures draft { draft.new ≡ fresh }
+{
+    let read = mem::replace(draft, Draft::new(alloc));
+    entries.push_reserved(read.into_entry(reply));
+}

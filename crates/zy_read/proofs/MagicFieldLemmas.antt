@@ -1,0 +1,291 @@
+-- A format whose first fields are the bytes of a magic: the fields of the magic and of its beginnings, the byte that is
+-- wrong in it, and the version that is read.
+use Rattle.std.proofs.Common.{◌≡◌, ◌≢◌, ◌⊎◌, inl, inr, ℕ, zero, suc, ◌+◌, ◌<◌, ◌≤◌, true, false, List, [], ◌∷◌, ◌++◌, length, take, drop, get_or, refl, sym, ◌∙◌, ap, subst, arith, append_assoc, length-append, take-append-drop}
+use Rattle.std.specs.Prelude.{◌==◌, if◌then◌else◌, ⊤}
+use Rattle.std.specs.List.{slice_index, concat}
+use Rattle.std.proofs.lemmas.List.{append-nil, take_all, take_at, length-take-le}
+use Rattle.std.proofs.lemmas.Bool.{eqb-true, eq-eqb}
+use Rattle.std.proofs.lemmas.Bool.Decides.{nat_tests}
+use Rattle.zy_read.specs.Format.{Reading, read_on}
+use Rattle.zy_read.specs.Fields.{Judged, Fields, IsLawful, Place, at_state, step}
+use Rattle.zy_read.specs.Fields.Judged.{Then, Gives, Wrong as IsFault}
+use Rattle.zy_read.specs.Runs.{Begins, IsMisjudged}
+use Rattle.zy_read.specs.declared.magic.MagicPart.{MagicPart}
+use Rattle.zy_read.specs.declared.magic.MagicPart.TheVariants.{Letters, Digit, LineFeed}
+use Rattle.zy_read.specs.declared.magic.MagicStep.{MagicStep}
+use Rattle.zy_read.specs.declared.magic.MagicStep.TheVariants.{Next, Whole, Wrong}
+use Rattle.zy_read.specs.Magic.{letter, digit, line_feed, magic_step, IsInMagic, magic_before, magic_of, HasMagic, BeginsMagic, IsBadMagic, magic_judged, ReadsMagic}
+use Rattle.zy_read.proofs.MagicLemmas.{IsVersion, IsKnown, LeadsTo, letters_on, leads}
+use Rattle.zy_read.proofs.RunLemmas.{After, runs_keep, any_parts}
+use Rattle.zy_read.proofs.OverLemmas.{RunsOver, over_none, over_then, over_join, over_begins, over_misjudged}
+use Rattle.zy_read.proofs.VerdictLemmas.{Leaves, state_kept, begins_read, text_reaches}
+
+-- ---- the fields of a magic
+
+-- one byte more
+byte_over : {S G F : Type 0} (fields : Fields S G F) (letters : List ℕ) (part_next : MagicPart → S) (after : ℕ → S) (form : ℕ → F) (reads : ReadsMagic fields letters part_next after form) (part : MagicPart) (at byte : ℕ) (x : List ℕ) (next : S) → length x ≡ at
+    → RunsOver fields fields.start 0 x (part_next part) [] → magic_judged {G = G} part_next after (form at) (magic_step part letters at byte) ≡ Then next → RunsOver fields fields.start 0 (x ++ byte ∷ []) next []
+byte_over {S} {G} {F} fields letters part_next after form reads part at byte x next size over judged =
+    let place : 0 + length x ≡ at = omega (arith, size) in
+    over_join fields fields.start (part_next part) next 0 x (byte ∷ []) [] [] over
+    (subst (λ (n : ℕ). RunsOver fields (part_next part) n (byte ∷ []) next []) (sym place) (over_then fields (part_next part) next at (byte ∷ []) (sym (reads.widths part)) (reads.judges part at byte ∙ judged)))
+
+same_true : (n : ℕ) → (n == n) ≡ true
+same_true n = eq-eqb n n refl
+
+letter_next : (letters : List ℕ) (at : ℕ) → (at == 5) ≡ false → letter letters at (slice_index letters at) ≡ Next Letters
+letter_next letters at more = rw (same_true (slice_index letters at), more) refl
+
+letters_over : {S G F : Type 0} (fields : Fields S G F) (letters : List ℕ) (part_next : MagicPart → S) (after : ℕ → S) (form : ℕ → F) (reads : ReadsMagic fields letters part_next after form) (at : ℕ) → at < 6 → RunsOver fields fields.start 0 (take at letters) (part_next Letters) []
+letters_over {S} fields letters part_next after form reads zero within =
+    subst (λ (s : S). RunsOver fields fields.start 0 [] s []) reads.start_is (over_none fields fields.start 0)
+letters_over {S} {G} {F} fields letters part_next after form reads (suc at) within =
+    let six = reads.six in
+    let there : at + 1 ≡ suc at = omega arith in
+    let more : (at == 5) ≡ false = grind (arith, nat_tests) in
+    let judged : magic_judged {G = G} part_next after (form at) (letter letters at (slice_index letters at)) ≡ Then (part_next Letters) = ap (λ (m : MagicStep). magic_judged {G = G} part_next after (form at) m) (letter_next letters at more) in
+    subst (λ (l : List ℕ). RunsOver fields fields.start 0 l (part_next Letters) []) (letters_on letters at (slice_index letters at) (omega (arith, six, within)) refl ∙ ap (λ (n : ℕ). take n letters) there)
+    (byte_over fields letters part_next after form reads Letters at (slice_index letters at) (take at letters) (part_next Letters) (length-take-le at letters (omega (arith, six, within)))
+    (letters_over fields letters part_next after form reads at (omega (arith, within))) judged)
+
+all_over : {S G F : Type 0} (fields : Fields S G F) (letters : List ℕ) (part_next : MagicPart → S) (after : ℕ → S) (form : ℕ → F) (reads : ReadsMagic fields letters part_next after form) → RunsOver fields fields.start 0 letters (part_next Digit) []
+all_over {S} {G} {F} fields letters part_next after form reads =
+    let six = reads.six in
+    let last : letter letters 5 (slice_index letters 5) ≡ Next Digit = rw (same_true (slice_index letters 5)) refl in
+    subst (λ (l : List ℕ). RunsOver fields fields.start 0 l (part_next Digit) []) (letters_on letters 5 (slice_index letters 5) (omega (arith, six)) refl ∙ take_all 6 letters (omega (arith, six)))
+    (byte_over fields letters part_next after form reads Letters 5 (slice_index letters 5) (take 5 letters) (part_next Digit) (length-take-le 5 letters (omega (arith, six)))
+    (letters_over fields letters part_next after form reads 5 (omega arith)) (ap (λ (m : MagicStep). magic_judged {G = G} part_next after (form 5) m) last))
+
+digit_next : (version : ℕ) → IsVersion version → digit (48 + version) ≡ Next (LineFeed version)
+digit_next version (inl one) = rw one refl
+digit_next version (inr two) = rw two refl
+
+-- the fields before a part of the magic
+part_over : {S G F : Type 0} (fields : Fields S G F) (letters : List ℕ) (part_next : MagicPart → S) (after : ℕ → S) (form : ℕ → F) (reads : ReadsMagic fields letters part_next after form) (part : MagicPart) (at : ℕ) → IsInMagic part at → IsKnown part → RunsOver fields fields.start 0 (magic_before part letters at) (part_next part) []
+part_over {S} {G} {F} fields letters part_next after form reads Letters at within known = letters_over fields letters part_next after form reads at within
+part_over {S} {G} {F} fields letters part_next after form reads Digit at within known = all_over fields letters part_next after form reads
+part_over {S} {G} {F} fields letters part_next after form reads (LineFeed version) at within known =
+    byte_over fields letters part_next after form reads Digit 6 (48 + version) letters (part_next (LineFeed version)) reads.six (all_over fields letters part_next after form reads) (ap (λ (m : MagicStep). magic_judged {G = G} part_next after (form 6) m) (digit_next version known))
+
+-- the fields of a magic
+pub magic_over : {S G F : Type 0} (fields : Fields S G F) (letters : List ℕ) (part_next : MagicPart → S) (after : ℕ → S) (form : ℕ → F) (reads : ReadsMagic fields letters part_next after form) (version : ℕ) → IsVersion version → RunsOver fields fields.start 0 (magic_of letters version) (after version) []
+magic_over {S} fields letters part_next after form reads version known =
+    let six = reads.six in
+    subst (λ (l : List ℕ). RunsOver fields fields.start 0 l (after version) []) (append_assoc letters ((48 + version) ∷ []) (10 ∷ []))
+    (byte_over fields letters part_next after form reads (LineFeed version) 7 10 (letters ++ (48 + version) ∷ []) (after version) (omega (arith, six, length-append letters ((48 + version) ∷ []))) (part_over fields letters part_next after form reads (LineFeed version) 7 tt known) refl)
+
+-- ---- beginnings of a magic
+
+before_begins : (part : MagicPart) (letters : List ℕ) (at : ℕ) → IsKnown part → BeginsMagic letters (magic_before part letters at)
+before_begins Letters letters at known = record {
+  version = 1;
+  rest = drop at letters ++ 49 ∷ 10 ∷ [];
+  known = inl refl;
+  whole = sym (append_assoc (take at letters) (drop at letters) (49 ∷ 10 ∷ [])) ∙ ap (λ (l : List ℕ). l ++ 49 ∷ 10 ∷ []) (take-append-drop at letters);
+}
+before_begins Digit letters at known = record { version = 1; rest = 49 ∷ 10 ∷ []; known = inl refl; whole = refl }
+before_begins (LineFeed version) letters at known = record { version = version; rest = 10 ∷ []; known = known; whole = append_assoc letters ((48 + version) ∷ []) (10 ∷ []) }
+
+-- the byte at a place
+byte_there : (front text tail : List ℕ) (byte at : ℕ) → (front ++ byte ∷ []) ++ tail ≡ text → at ≡ length front → byte ≡ get_or text at 0
+byte_there [] text tail byte at is place = rw (place, sym is) refl
+byte_there (first ∷ front) [] tail byte at is place = cc
+byte_there (first ∷ front) (second ∷ text) tail byte at is place =
+    let same : (front ++ byte ∷ []) ++ tail ≡ text = ap (λ (l : List ℕ). drop 1 l) is in
+    let here : at ≡ suc (length front) = omega (arith, place) in
+    byte_there front text tail byte (length front) same refl ∙ ap (λ (n : ℕ). get_or (second ∷ text) n 0) (sym here)
+
+-- so is the letter
+letter_there : (letters more : List ℕ) (at : ℕ) → at < length letters → get_or (letters ++ more) at 0 ≡ slice_index letters at
+letter_there [] more at within = absurd (omega (arith, within))
+letter_there (first ∷ letters) more zero within = refl
+letter_there (first ∷ letters) more (suc at) within = letter_there letters more at (omega (arith, within))
+
+behind : (letters more : List ℕ) (at : ℕ) → get_or (letters ++ more) (length letters + at) 0 ≡ get_or more at 0
+behind [] more at = ap (λ (n : ℕ). get_or more n 0) (omega arith)
+behind (first ∷ letters) more at =
+    let there : suc (length letters) + at ≡ suc (length letters + at) = omega arith in
+    ap (λ (n : ℕ). get_or (first ∷ (letters ++ more)) n 0) there ∙ behind letters more at
+
+-- a byte that is wrong continues no magic
+step_differs : (part : MagicPart) (letters : List ℕ) (at byte : ℕ) → length letters ≡ 6 → IsInMagic part at → magic_step part letters at byte ≡ Wrong → BeginsMagic letters (magic_before part letters at ++ byte ∷ []) → ⊥
+step_differs Letters letters at byte six within wrong begins =
+    let same : byte ≡ slice_index letters at = byte_there (take at letters) (magic_of letters begins.version) begins.rest byte at begins.whole (sym (length-take-le at letters (omega (arith, six, within)))) ∙ letter_there letters ((48 + begins.version) ∷ 10 ∷ []) at (omega (arith, six, within)) in
+    let right : (byte == slice_index letters at) ≡ true = eq-eqb byte (slice_index letters at) same in
+    let goes : magic_step Letters letters at byte ≡ (if at == 5 then Next Digit else Next Letters) = rw right refl in
+    elim (at == 5) as (λ b. (if at == 5 then Next Digit else Next Letters) ≡ (if b then Next Digit else Next Letters) → ⊥) [ true ↦ λ is. cc | false ↦ λ is. cc ] refl
+step_differs Digit letters at byte six within wrong begins =
+    let same : byte ≡ 48 + begins.version = byte_there letters (magic_of letters begins.version) begins.rest byte 6 begins.whole (sym six) ∙ ap (λ (n : ℕ). get_or (magic_of letters begins.version) n 0) (omega (arith, six)) ∙ behind letters ((48 + begins.version) ∷ 10 ∷ []) 0 in
+    let goes : magic_step Digit letters at byte ≡ Next (LineFeed begins.version) = ap (λ (b : ℕ). digit b) same ∙ digit_next begins.version begins.known in
+    cc
+step_differs (LineFeed version) letters at byte six within wrong begins =
+    let size : 7 ≡ length (letters ++ (48 + version) ∷ []) = omega (arith, six, length-append letters ((48 + version) ∷ [])) in
+    let same : byte ≡ 10 = byte_there (letters ++ (48 + version) ∷ []) (magic_of letters begins.version) begins.rest byte 7 begins.whole size ∙ ap (λ (n : ℕ). get_or (magic_of letters begins.version) n 0) (omega (arith, six)) ∙ behind letters ((48 + begins.version) ∷ 10 ∷ []) 1 in
+    let goes : magic_step (LineFeed version) letters at byte ≡ Whole version = ap (λ (b : ℕ). line_feed version b) same in
+    cc
+
+-- a byte that continues none is wrong
+differs_step : (letters text : List ℕ) (at : ℕ) (found : MagicStep) → LeadsTo letters at text found → (BeginsMagic letters text → ⊥) → found ≡ Wrong
+differs_step letters text at (Next part) on differs = absurd (differs (subst (BeginsMagic letters) (sym on.2) (before_begins part letters at on.1)))
+differs_step letters text at (Whole version) on differs = absurd (differs (record { version = version; rest = []; known = on.0; whole = append-nil text ∙ on.1 }))
+differs_step letters text at Wrong on differs = refl
+
+-- the part of the magic after its first bytes
+pub record IsBefore (letters front : List ℕ) : Type 0 where
+  pub part : MagicPart
+  pub within : IsInMagic part (length front)
+  pub known : IsKnown part
+  pub is : front ≡ magic_before part letters (length front)
+
+take_front : (x y : List ℕ) (n : ℕ) → n ≤ length x → take n (x ++ y) ≡ take n x
+take_front x y zero few = refl
+take_front [] y (suc n) few = absurd (omega (arith, few))
+take_front (first ∷ x) y (suc n) few = ap (λ (l : List ℕ). first ∷ l) (take_front x y n (omega (arith, few)))
+
+pub begins_before : (letters front : List ℕ) (at : ℕ) → length letters ≡ 6 → at ≡ length front → at < 8 → BeginsMagic letters front → IsBefore letters front
+begins_before letters front at six place within begins =
+    let whole : front ≡ take at (magic_of letters begins.version) = sym (take_at front begins.rest at (sym place)) ∙ ap (λ (l : List ℕ). take at l) begins.whole in
+    elim (at == 6) as (λ b. (at == 6) ≡ b → IsBefore letters front) [
+      | true ↦ λ is. let here : at ≡ 6 = eqb-true at 6 is in record {
+        part = Digit;
+        within = tt;
+        known = tt;
+        is = whole ∙ take_front letters ((48 + begins.version) ∷ 10 ∷ []) at (omega (arith, six, here)) ∙ take_all at letters (omega (arith, six, here));
+      }
+      | false ↦ λ not_six. elim (at == 7) as (λ b. (at == 7) ≡ b → IsBefore letters front) [
+        | true ↦ λ is. let here : at ≡ 7 = eqb-true at 7 is in record {
+          part = LineFeed begins.version;
+          within = tt;
+          known = begins.known;
+          is = whole ∙ ap (λ (l : List ℕ). take at l) (sym (append_assoc letters ((48 + begins.version) ∷ []) (10 ∷ [])))
+              ∙ take_front (letters ++ (48 + begins.version) ∷ []) (10 ∷ []) at (omega (arith, six, here, length-append letters ((48 + begins.version) ∷ [])))
+              ∙ take_all at (letters ++ (48 + begins.version) ∷ []) (omega (arith, six, here, length-append letters ((48 + begins.version) ∷ [])));
+        }
+        | false ↦ λ not_seven. let few : at < 6 = grind (arith, nat_tests) in record {
+          part = Letters;
+          within = omega (arith, place, few);
+          known = tt;
+          is = whole ∙ take_front letters ((48 + begins.version) ∷ 10 ∷ []) at (omega (arith, six, few)) ∙ ap (λ (n : ℕ). take n letters) place;
+        }
+      ] refl
+    ] refl
+
+-- ---- the byte that is wrong
+
+-- it is one of the first eight
+few : (part : MagicPart) (letters front : List ℕ) → length letters ≡ 6 → front ≡ magic_before part letters (length front) → IsInMagic part (length front) → length front < 8
+few Letters letters front six is within = omega (arith, within)
+few Digit letters front six is within = omega (arith, six, ap (λ (l : List ℕ). length l) is)
+few (LineFeed version) letters front six is within = omega (arith, six, ap (λ (l : List ℕ). length l) is, length-append letters ((48 + version) ∷ []))
+
+-- a byte of the magic that is wrong
+pub bad_magic : (part : MagicPart) (letters text front rest : List ℕ) (byte : ℕ) → length letters ≡ 6 → text ≡ front ++ byte ∷ rest → front ≡ magic_before part letters (length front) → IsInMagic part (length front) → IsKnown part → magic_step part letters (length front) byte ≡ Wrong
+    → IsBadMagic letters text (length front)
+bad_magic part letters text front rest byte six whole is within known wrong = record {
+  front = front;
+  byte = byte;
+  rest = rest;
+  whole = whole;
+  place = refl;
+  within = few part letters front six is within;
+  begins = subst (BeginsMagic letters) (sym is) (before_begins part letters (length front) known);
+  differs = λ begins. step_differs part letters (length front) byte six within wrong (subst (λ (l : List ℕ). BeginsMagic letters (l ++ byte ∷ [])) is begins);
+}
+
+-- it is a field that is judged wrong
+pub magic_misjudged : {S G F : Type 0} (fields : Fields S G F) (letters : List ℕ) (part_next : MagicPart → S) (after : ℕ → S) (form : ℕ → F) (reads : ReadsMagic fields letters part_next after form) (text : List ℕ) (at : ℕ) (has : IsBadMagic letters text at)
+    → IsMisjudged fields text (part_next (begins_before letters has.front at reads.six has.place has.within has.begins).part) (form at)
+magic_misjudged {S} {G} {F} fields letters part_next after form reads text at has =
+    let here = begins_before letters has.front at reads.six has.place has.within has.begins in
+    let room = reads.room in
+    let place : length has.front ≡ at = sym has.place in
+    let found : MagicStep = magic_step here.part letters (length has.front) has.byte in
+    let wrong : found ≡ Wrong = differs_step letters (has.front ++ has.byte ∷ []) (length has.front + 1) found
+    (subst (λ (l : List ℕ). LeadsTo letters (length has.front + 1) (l ++ has.byte ∷ []) found) (sym here.is) (leads here.part letters (length has.front) has.byte reads.six here.within here.known)) has.differs in
+    over_misjudged fields text (part_next here.part) (form at) has.front (has.byte ∷ []) has.rest []
+    (subst (λ (l : List ℕ). RunsOver fields fields.start 0 l (part_next here.part) []) (sym here.is) (part_over fields letters part_next after form reads here.part (length has.front) here.within here.known))
+    (omega (arith, place, has.within, room)) has.whole (sym (reads.widths here.part)) (inr (omega (arith, place, has.within, room)))
+    (reads.judges here.part (length has.front) has.byte ∙ ap (λ (m : MagicStep). magic_judged {G = G} part_next after (form (length has.front)) m) wrong ∙ ap (λ (n : ℕ). IsFault (form n)) place)
+
+-- ---- the version
+
+-- the version that a state knows is 0 within the magic, that of the magic after it, and no field changes it then
+pub record KnowsVersion {S G F : Type 0} (fields : Fields S G F) (part_next : MagicPart → S) (after : ℕ → S) (version_in : S → ℕ) (IsPast : S → Type 0) : Type 0 where
+  pub none : (part : MagicPart) → version_in (part_next part) ≡ 0
+  pub whole : (version : ℕ) → (version_in (after version) ≡ version) × IsPast (after version)
+  pub stays : (s : S) (at : ℕ) (field : List ℕ) → IsPast s → Leaves (λ next. (version_in next ≡ version_in s) × IsPast next) (fields.judge s at field)
+
+-- the bytes are those of the magic before a part, or begin with the magic of the version
+abbrev IsAt : {S : Type 0} → List ℕ → (MagicPart → S) → (S → ℕ) → (S → Type 0) → S → List ℕ → Type 0
+IsAt letters part_next version_in IsPast s text =
+    ((part : MagicPart) × (s ≡ part_next part) × (text ≡ magic_before part letters (length text)) × IsInMagic part (length text) × IsKnown part)
+    ⊎ (IsPast s × HasMagic letters text (version_in s))
+
+-- what follows a magic does not matter
+pub further : (letters text more : List ℕ) (version : ℕ) → HasMagic letters text version → HasMagic letters (text ++ more) version
+further letters text more version has = record {
+  rest = has.rest ++ more;
+  known = has.known;
+  whole = ap (λ (l : List ℕ). l ++ more) has.whole ∙ append_assoc (magic_of letters version) has.rest more;
+}
+
+magic_on : {S G F : Type 0} (fields : Fields S G F) (letters : List ℕ) (part_next : MagicPart → S) (after : ℕ → S) (version_in : S → ℕ) (IsPast : S → Type 0) (knows : KnowsVersion fields part_next after version_in IsPast) (fault : F) (text : List ℕ) (given : List G) (found : MagicStep) → LeadsTo letters (length text) text found
+    → After (λ s t g. IsAt letters part_next version_in IsPast s t) text given (magic_judged {G = G} part_next after fault found)
+magic_on fields letters part_next after version_in IsPast knows fault text given (Next part) on = inl (part, refl, on.2, on.0, on.1)
+magic_on fields letters part_next after version_in IsPast knows fault text given (Whole version) on =
+    inr ((knows.whole version).1, subst (HasMagic letters text) (sym (knows.whole version).0) (record { rest = []; known = on.0; whole = on.1 ∙ sym (append-nil (magic_of letters version)) }))
+magic_on fields letters part_next after version_in IsPast knows fault text given Wrong on = tt
+
+past_on : {S G F : Type 0} (letters : List ℕ) (part_next : MagicPart → S) (version_in : S → ℕ) (IsPast : S → Type 0) (version : ℕ) (text : List ℕ) (given : List G) (judged : Judged S G F) → HasMagic letters text version → Leaves (λ next. (version_in next ≡ version) × IsPast next) judged
+    → After (λ s t g. IsAt letters part_next version_in IsPast s t) text given judged
+past_on letters part_next version_in IsPast version text given (Then next) has leaves = inr (leaves.1, subst (HasMagic letters text) (sym leaves.0) has)
+past_on letters part_next version_in IsPast version text given (Gives next item) has leaves = inr (leaves.1, subst (HasMagic letters text) (sym leaves.0) has)
+past_on letters part_next version_in IsPast version text given (IsFault fault) has leaves = tt
+
+-- a field of one byte
+pub one_byte : (field : List ℕ) → length field ≡ 1 → field ≡ get_or field 0 0 ∷ []
+one_byte [] is = absurd (omega (arith, is))
+one_byte (byte ∷ []) is = refl
+one_byte (byte ∷ next ∷ field) is = absurd (omega (arith, is))
+
+at_keeps : {S G F : Type 0} (fields : Fields S G F) (letters : List ℕ) (part_next : MagicPart → S) (after : ℕ → S) (form : ℕ → F) (reads : ReadsMagic fields letters part_next after form) (version_in : S → ℕ) (IsPast : S → Type 0) (knows : KnowsVersion fields part_next after version_in IsPast)
+    (s : S) (text field : List ℕ) (given : List G) → length field ≡ fields.width s → IsAt letters part_next version_in IsPast s text → After (λ s t g. IsAt letters part_next version_in IsPast s t) (text ++ field) given (fields.judge s (length text) field)
+at_keeps {S} {G} {F} fields letters part_next after form reads version_in IsPast knows s text field given size (inl at) =
+    let part : MagicPart = at.0 in
+    let byte : ℕ = get_or field 0 0 in
+    let found : MagicStep = magic_step part letters (length text) byte in
+    let one : field ≡ byte ∷ [] = one_byte field (size ∙ ap (λ (t : S). fields.width t) at.1 ∙ reads.widths part) in
+    let judged : fields.judge s (length text) field ≡ magic_judged {G = G} part_next after (form (length text)) found = ap (λ (t : S). fields.judge t (length text) field) at.1 ∙ ap (λ (l : List ℕ). fields.judge (part_next part) (length text) l) one ∙ reads.judges part (length text) byte in
+    subst (λ (j : Judged S G F). After (λ t l g. IsAt letters part_next version_in IsPast t l) (text ++ field) given j) (sym judged)
+    (subst (λ (l : List ℕ). After (λ t m g. IsAt letters part_next version_in IsPast t m) (text ++ l) given (magic_judged {G = G} part_next after (form (length text)) found)) (sym one)
+    (magic_on fields letters part_next after version_in IsPast knows (form (length text)) (text ++ byte ∷ []) given found
+    (subst (λ (n : ℕ). LeadsTo letters n (text ++ byte ∷ []) found) (sym (length-append text (byte ∷ [])))
+    (subst (λ (l : List ℕ). LeadsTo letters (length text + 1) (l ++ byte ∷ []) found) (sym at.2) (leads part letters (length text) byte reads.six at.3 at.4)))))
+at_keeps fields letters part_next after form reads version_in IsPast knows s text field given size (inr past) =
+    past_on letters part_next version_in IsPast (version_in s) (text ++ field) given (fields.judge s (length text) field) (further letters text field (version_in s) past.1) (knows.stays s (length text) field past.0)
+
+-- a version that was read is that of the magic with which the text begins
+pub told_magic : {S G F : Type 0} (fields : Fields S G F) (lawful : IsLawful fields) (letters : List ℕ) (part_next : MagicPart → S) (after : ℕ → S) (form : ℕ → F) (reads : ReadsMagic fields letters part_next after form) (version_in : S → ℕ) (IsPast : S → Type 0) (knows : KnowsVersion fields part_next after version_in IsPast)
+    (text : List ℕ) → version_in (read_on (step fields) (at_state fields.start 0) text).last.state ≢ 0 → HasMagic letters text (version_in (read_on (step fields) (at_state fields.start 0) text).last.state)
+told_magic {S} {G} {F} fields lawful letters part_next after form reads version_in IsPast knows text some =
+    let s : S = (read_on (step fields) (at_state fields.start 0) text).last.state in
+    let reached = text_reaches fields lawful text in
+    let front : List ℕ = concat reached.begins.parts in
+    let six = reads.six in
+    elim (runs_keep fields (λ field. ⊤) (λ t l g. IsAt letters part_next version_in IsPast t l) (λ t l field g ok at size. at_keeps fields letters part_next after form reads version_in IsPast knows t l field g size at)
+    reached.begins.parts fields.start s [] 0 [] reached.given refl (any_parts reached.begins.parts) (inl (Letters, reads.start_is, refl, omega arith, tt)) reached.begins.runs) [
+      | inl at ↦ absurd (some (ap (λ (t : S). version_in t) at.1 ∙ knows.none at.0))
+      | inr past ↦ subst (λ (l : List ℕ). HasMagic letters l (version_in s)) (sym reached.begins.text_is) (further letters front reached.rest (version_in s) past.1)
+    ]
+
+-- the version of the magic with which a text begins is read
+pub magic_told : {S G F : Type 0} (fields : Fields S G F) (lawful : IsLawful fields) (letters : List ℕ) (part_next : MagicPart → S) (after : ℕ → S) (form : ℕ → F) (reads : ReadsMagic fields letters part_next after form) (version_in : S → ℕ) (IsPast : S → Type 0) (knows : KnowsVersion fields part_next after version_in IsPast)
+    (text : List ℕ) (version : ℕ) → HasMagic letters text version → version_in (read_on (step fields) (at_state fields.start 0) text).last.state ≡ version
+magic_told {S} {G} {F} fields lawful letters part_next after form reads version_in IsPast knows text version has =
+    let Past : S → Type 0 = λ s. (version_in s ≡ version) × IsPast s in
+    let six = reads.six in
+    let room = reads.room in
+    let size : length (magic_of letters version) ≡ 8 = omega (arith, six, length-append letters ((48 + version) ∷ 10 ∷ [])) in
+    let begins : Begins fields text (after version) [] has.rest = over_begins fields text (after version) (magic_of letters version) has.rest [] (magic_over fields letters part_next after form reads version has.known) (omega (arith, size, room)) has.whole in
+    let kept = state_kept fields Past (λ s at field past. subst (λ (n : ℕ). Leaves (λ next. (version_in next ≡ n) × IsPast next) (fields.judge s at field)) past.0 (knows.stays s at field past.1)) has.rest (at_state (after version) (length (concat begins.parts))) (knows.whole version) in
+    ap (λ (r : Reading (Place S F) G). version_in r.last.state) (begins_read fields lawful text (after version) [] has.rest begins) ∙ kept.0

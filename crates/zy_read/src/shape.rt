@@ -1,0 +1,14 @@
+//! The shapes of fields.
+
+/// How many bytes a field has.
+#[derive(Clone, Copy)]
+pub enum Shape {
+    /// One.
+    Byte,
+    /// Four, mostly a number.
+    Four,
+    /// Eight, mostly a number.
+    Eight,
+    /// One and so many others. They may need memory.
+    Run(u64),
+}
