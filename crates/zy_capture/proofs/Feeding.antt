@@ -14,9 +14,9 @@ use Rattle.zy_capture.specs.Verdict.{version_of, version_in, count_of, count_in,
 use Rattle.zy_capture.specs.Verdict.Verdict.{Good, Bad}
 use Rattle.zy_capture.specs.Standing.{StandsFor}
 
-pub version_here : (p : Progress) (given : List Record) (b : List ℕ) → StandsFor p given b → version_of b ≡ version_in p.state.due p.state.version
+pub version_here : (p : Progress) (given : List Record) (b : List ℕ) → StandsFor p given b → version_of b ≡ version_in p.state.version
 unfolding version_of StandsAs
-version_here p given b stands = ap (λ (r : Reading Progress Record). version_in r.last.state.due r.last.state.version) stands
+version_here p given b stands = ap (λ (r : Reading Progress Record). version_in r.last.state.version) stands
 
 pub count_here : (p : Progress) (given : List Record) (b : List ℕ) → StandsFor p given b → count_of b ≡ count_in p.state.due p.state.count
 unfolding count_of StandsAs

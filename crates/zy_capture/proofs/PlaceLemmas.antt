@@ -14,6 +14,7 @@ use Rattle.zy_read.specs.declared.magic.MagicStep.TheVariants as Steps
 use Rattle.zy_read.specs.Magic.{magic_step, IsInMagic, magic_before}
 use Rattle.zy_read.proofs.ByteLemmas.{byte_at}
 use Rattle.zy_read.proofs.MagicLemmas.{IsVersion, IsKnown, LeadsTo, leads}
+use Rattle.zy_read.proofs.MagicFieldLemmas.{one_byte}
 use Rattle.zy_read.proofs.RunLemmas.{After, Keeps}
 use Rattle.zy_capture.specs.declared.record.Record.{Record}
 use Rattle.zy_capture.specs.declared.record.Record.TheVariants as Kinds
@@ -55,12 +56,6 @@ abbrev Goes : List ℕ → List Record → Judgement → Type 0
 Goes text given judged = After Stands text given judged
 
 -- ---- fields
-
--- the bytes of a field of one byte
-pub one_byte : (field : List ℕ) → length field ≡ 1 → field ≡ byte field ∷ []
-one_byte [] one = absurd (omega (arith, one))
-one_byte (b ∷ []) one = refl
-one_byte (b ∷ next ∷ rest) one = absurd (omega (arith, one))
 
 -- the bytes of a field of four
 pub four_bytes : (field : List ℕ) → AreBytes field → length field ≡ 4 → to_be_bytes w32 (number field) ≡ field

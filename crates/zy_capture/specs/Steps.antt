@@ -4,8 +4,7 @@ use Rattle.std.specs.Prelude.{ℕ, ◌+◌, ◌-◌, ◌==◌, ◌&&◌, nat_lt,
 use Rattle.std.specs.Int.{from_be_bytes, w32}
 use Rattle.zy_read.specs.declared.magic.MagicPart.TheVariants.{Letters}
 use Rattle.zy_read.specs.declared.magic.MagicStep.{MagicStep}
-use Rattle.zy_read.specs.declared.magic.MagicStep.TheVariants as Steps
-use Rattle.zy_read.specs.Magic.{magic_step}
+use Rattle.zy_read.specs.Magic.{magic_step, magic_judged}
 use Rattle.zy_read.specs.Format as Reads
 use Rattle.zy_read.specs.Fields.{Judged, Fields, Place}
 use Rattle.zy_read.specs.Fields.Judged.{Then, Gives, Wrong}
@@ -68,9 +67,8 @@ segment conn bytes = Kinds.Segment (record { conn = conn; bytes = bytes })
 
 -- a byte of the magic
 abbrev pub judge_magic : CaptureState → ℕ → MagicStep → Judgement
-judge_magic s at (Steps.Next part) = Then (to s (Magic part))
-judge_magic s at (Steps.Whole version) = Then (state Count version s.count)
-judge_magic s at Steps.Wrong = Wrong (BadMagic at)
+judge_magic s at step =
+    magic_judged (λ part. to s (Magic part)) (λ version. state Count version s.count) (BadMagic at) step
 
 -- the connection count
 abbrev pub judge_count : CaptureState → ℕ → Judgement

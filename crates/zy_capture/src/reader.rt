@@ -107,9 +107,9 @@ impl Reader {
     pub fn version(&self) -> Option<u32>
         ensures value { AnswersBy captures self.now version_of result }
     {
-        match self.state.due {
-            Due::Magic(_) => None,
-            _ => Some(self.state.version),
+        match self.state.version {
+            0 => None,
+            version => Some(version),
         }
     }
 
