@@ -23,7 +23,7 @@ use Rattle.zy_capture.specs.declared.replies_state.RepliesState.{RepliesState}
 use Rattle.zy_capture.specs.Capture.{connection_limit}
 use Rattle.zy_capture.specs.Replies.{letters, magic, spelled, spelling, IsNext, IsRepliesFile, replies_limit}
 use Rattle.zy_capture.specs.RepliesFaults.{front_text, connections_after, sessions_after, IsWrong}
-use Rattle.zy_capture.specs.RepliesSteps.{shape, after_magic, tag, may_come, due_session, connection, session, judged, is_nothing, replies_fields}
+use Rattle.zy_capture.specs.RepliesSteps.{shape, after_magic, tag, may_come, due_session, connection, session, judged, is_last, replies_fields}
 use Rattle.zy_capture.proofs.ByteLemmas.{chosen}
 use Rattle.zy_capture.proofs.RepliesWholeLemmas.{IsReadTo, AreSoFar, four_is, reached}
 
@@ -145,11 +145,11 @@ from_end s text front rest given byte whole short read =
     }))))
 
 -- a field before the end is within the limit
-few : (due : RepliesDue) (count : ℕ) → is_nothing due ≡ false → (is_nothing due ≡ true) ⊎ (count ≤ replies_limit) → count ≤ replies_limit
+few : (due : RepliesDue) (count : ℕ) → is_last due ≡ false → (is_last due ≡ true) ⊎ (count ≤ replies_limit) → count ≤ replies_limit
 few due count before (inl end_is) = cc
 few due count before (inr short) = short
 
-from_field : (due : RepliesDue) (s : RepliesState) (text front field rest : List ℕ) (given : List SessionBytes) → text ≡ front ++ (field ++ rest) → AreBytes field → length field ≡ width_of (shape due) → length front ≤ replies_limit → (is_nothing due ≡ true) ⊎ (length front + length field ≤ replies_limit) → IsReadTo due s front given
+from_field : (due : RepliesDue) (s : RepliesState) (text front field rest : List ℕ) (given : List SessionBytes) → text ≡ front ++ (field ++ rest) → AreBytes field → length field ≡ width_of (shape due) → length front ≤ replies_limit → (is_last due ≡ true) ⊎ (length front + length field ≤ replies_limit) → IsReadTo due s front given
     → Faults text (judged due s (length front) field)
 from_field (Magic part) s text front field rest given whole all size short room read =
     from_magic s text (length front) (magic_step part letters (length front) (get_or field 0 0))

@@ -10,7 +10,7 @@ use Rattle.zy_capture.specs.declared.session_bytes.SessionBytes.{SessionBytes}
 use Rattle.zy_capture.specs.declared.replies_due.RepliesDue.{RepliesDue}
 use Rattle.zy_capture.specs.declared.replies_due.RepliesDue.TheVariants.{Output}
 use Rattle.zy_capture.specs.Replies.{replies_limit}
-use Rattle.zy_capture.specs.RepliesSteps.{Progress, shape, is_nothing, replies_fields}
+use Rattle.zy_capture.specs.RepliesSteps.{Progress, shape, is_last, replies_fields}
 use Rattle.zy_capture.specs.RepliesVerdict.{version_of, version_in}
 use Rattle.zy_capture.specs.RepliesStanding.{StandsForReplies, IsOfOutput}
 
@@ -18,7 +18,7 @@ pub version_here : (p : Progress) (given : List SessionBytes) (b : List ℕ) →
 unfolding version_of StandsAs
 version_here p given b stands = ap (λ (r : Reading Progress SessionBytes). version_in r.last.state.version) stands
 
-output_due : (due : RepliesDue) (others at : ℕ) → shape due ≡ Run others → (not (is_nothing due) && nat_le replies_limit at) ≡ false → ((conn session more : ℕ) × (due ≡ Output conn session more)) × (at < replies_limit)
+output_due : (due : RepliesDue) (others at : ℕ) → shape due ≡ Run others → (not (is_last due) && nat_le replies_limit at) ≡ false → ((conn session more : ℕ) × (due ≡ Output conn session more)) × (at < replies_limit)
 output_due (Output conn session more) others at run room = ((conn, session, more, refl), grind (arith, nat_tests))
 output_due due others at run room = cc
 

@@ -13,7 +13,7 @@ use Rattle.zy_capture.specs.declared.session_bytes.SessionBytes.{SessionBytes}
 use Rattle.zy_capture.specs.declared.replies_due.RepliesDue.{RepliesDue}
 use Rattle.zy_capture.specs.declared.replies_due.RepliesDue.TheVariants.{Magic, Tag, Connection, Session, Length, Output, Nothing}
 use Rattle.zy_capture.specs.declared.replies_state.RepliesState.{RepliesState}
-use Rattle.zy_capture.specs.RepliesSteps.{Progress, start, is_nothing, replies_fields}
+use Rattle.zy_capture.specs.RepliesSteps.{Progress, start, is_last, replies_fields}
 use Rattle.zy_capture.specs.RepliesVerdict.{good, verdict, read_from, version_in, version_of, outputs_of, fault_of}
 use Rattle.zy_capture.specs.RepliesVerdict.Verdict.{Good, Bad}
 use Rattle.zy_capture.specs.RepliesLaws.{lawful}
@@ -32,7 +32,7 @@ end_good true p given version items is = (cc, cc)
 end_good false p given version items is = cc
 
 ends_good : (fault : Option FileFault) (p : Progress) (given : List SessionBytes) (version : ℕ) (items : List SessionBytes) → ended_by fault replies_fields good Bad p given ≡ Good version items → (p.state.version ≡ version) × (given ≡ items)
-ends_good None p given version items is = end_good (is_nothing p.state.due) p given version items is
+ends_good None p given version items is = end_good (is_last p.state.due) p given version items is
 ends_good (Some fault) p given version items is = cc
 
 pub good_tells : (text : List ℕ) (version : ℕ) (items : List SessionBytes) → IsVersion version → verdict text ≡ Good version items → Tells text version items

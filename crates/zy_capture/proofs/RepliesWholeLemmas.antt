@@ -29,7 +29,7 @@ use Rattle.zy_capture.specs.declared.replies_state.RepliesState.{RepliesState}
 use Rattle.zy_capture.specs.Capture.{connection_limit}
 use Rattle.zy_capture.specs.Replies.{letters, magic, session_text, spelled, spelling, IsNext, AreNumbers, AreInOrder, SpellsReplies}
 use Rattle.zy_capture.specs.RepliesFaults.{front_text, connections_after, sessions_after}
-use Rattle.zy_capture.specs.RepliesSteps.{shape, start, after_magic, tag, may_come, due_session, connection, session, size_read, judged, is_nothing, replies_fields}
+use Rattle.zy_capture.specs.RepliesSteps.{shape, start, after_magic, tag, may_come, due_session, connection, session, size_read, judged, is_last, replies_fields}
 use Rattle.zy_capture.specs.RepliesVerdict.{Verdict, good, verdict}
 use Rattle.zy_capture.specs.RepliesVerdict.Verdict.{Good, Bad}
 use Rattle.zy_capture.specs.RepliesLaws.{lawful}
@@ -299,7 +299,7 @@ reached text s given rest begins all =
     runs_keep replies_fields AreBytes LeadTo fields_keep begins.parts start s [] 0 [] given refl
     (byte_parts begins.parts (bytes_front (concat begins.parts) rest (subst AreBytes begins.text_is all))) begun begins.runs
 
-pub end_due : (due : RepliesDue) → is_nothing due ≡ true → due ≡ Nothing
+pub end_due : (due : RepliesDue) → is_last due ≡ true → due ≡ Nothing
 end_due Nothing is = refl
 end_due due is = cc
 

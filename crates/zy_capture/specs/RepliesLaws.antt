@@ -8,7 +8,7 @@ use Rattle.zy_capture.specs.declared.replies_due.RepliesDue.{RepliesDue}
 use Rattle.zy_capture.specs.declared.replies_due.RepliesDue.TheVariants.{Nothing}
 use Rattle.zy_capture.specs.declared.replies_state.RepliesState.{RepliesState}
 use Rattle.zy_capture.specs.RepliesStanding.{IsWithin}
-use Rattle.zy_capture.specs.RepliesSteps.{shape, is_nothing, judged, replies_fields}
+use Rattle.zy_capture.specs.RepliesSteps.{shape, is_last, judged, replies_fields}
 
 some : (kind : Shape) → 0 < width_of kind
 some Byte = omega arith
@@ -16,11 +16,11 @@ some Four = omega arith
 some Eight = omega arith
 some (Run others) = omega arith
 
-one : (due : RepliesDue) → is_nothing due ≡ true → width_of (shape due) ≡ 1
+one : (due : RepliesDue) → is_last due ≡ true → width_of (shape due) ≡ 1
 one Nothing is = refl
 one due is = cc
 
-ends : (due : RepliesDue) (s : RepliesState) (at : ℕ) (field : List ℕ) → is_nothing due ≡ true → IsWrong (judged due s at field)
+ends : (due : RepliesDue) (s : RepliesState) (at : ℕ) (field : List ℕ) → is_last due ≡ true → IsWrong (judged due s at field)
 ends Nothing s at field is = tt
 ends due s at field is = cc
 

@@ -101,9 +101,9 @@ shape (Output conn number others) = Shapes.Run others
 shape due = Shapes.Byte
 
 -- the end was read
-abbrev pub is_nothing : RepliesDue → Bool
-is_nothing Nothing = true
-is_nothing due = false
+abbrev pub is_last : RepliesDue → Bool
+is_last Nothing = true
+is_last due = false
 
 -- the fields of a replies file
 abbrev pub replies_fields : Fields RepliesState SessionBytes FileFault
@@ -111,7 +111,7 @@ replies_fields = record {
   start = start;
   width = λ s. width_of (shape s.due);
   judge = λ s at field. judged s.due s at field;
-  is_end = λ s. is_nothing s.due;
+  is_end = λ s. is_last s.due;
   limit = replies_limit;
   too_long = TooLong;
   truncated = Truncated;

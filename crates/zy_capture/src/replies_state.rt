@@ -164,8 +164,7 @@ impl FieldFormat for RepliesState {
                 }
             }
             RepliesDue::Session { conn }
-                if number == self.due_session(conn) && number < SESSION_LIMIT =>
-            {
+                if number == self.due_session(conn) && number < SESSION_LIMIT => {
                 RepliesDue::Length {
                     conn,
                     session: number,

@@ -1,9 +1,9 @@
 -- A format whose first fields are the bytes of a magic: the fields of the magic and of its beginnings, the byte that is
 -- wrong in it, and the version that is read.
-use Rattle.std.proofs.Common.{◌≡◌, ◌≢◌, ◌⊎◌, inl, inr, ℕ, zero, suc, ◌+◌, ◌-◌, ◌<◌, ◌≤◌, true, false, List, [], ◌∷◌, ◌++◌, length, take, drop, get_or, refl, sym, ◌∙◌, ap, subst, arith, append_assoc, length-append, take-append-drop}
+use Rattle.std.proofs.Common.{◌≡◌, ◌≢◌, ◌⊎◌, inl, inr, ℕ, zero, suc, ◌+◌, ◌<◌, ◌≤◌, true, false, List, [], ◌∷◌, ◌++◌, length, take, drop, get_or, refl, sym, ◌∙◌, ap, subst, arith, append_assoc, length-append, take-append-drop}
 use Rattle.std.specs.Prelude.{◌==◌, if◌then◌else◌, ⊤}
 use Rattle.std.specs.List.{slice_index, concat}
-use Rattle.std.proofs.lemmas.List.{append-nil, take_all, take_more, take_at, length-take-le}
+use Rattle.std.proofs.lemmas.List.{append-nil, take_all, take_at, length-take-le}
 use Rattle.std.proofs.lemmas.Bool.{eqb-true, eq-eqb}
 use Rattle.std.proofs.lemmas.Bool.Decides.{nat_tests}
 use Rattle.zy_read.specs.Format.{Reading, read_on}
@@ -16,9 +16,9 @@ use Rattle.zy_read.specs.declared.magic.MagicStep.{MagicStep}
 use Rattle.zy_read.specs.declared.magic.MagicStep.TheVariants.{Next, Whole, Wrong}
 use Rattle.zy_read.specs.Magic.{letter, digit, line_feed, magic_step, IsInMagic, magic_before, magic_of, HasMagic, BeginsMagic, IsBadMagic, magic_judged, ReadsMagic}
 use Rattle.zy_read.proofs.MagicLemmas.{IsVersion, IsKnown, LeadsTo, letters_on, leads}
-use Rattle.zy_read.proofs.RunLemmas.{After, Keeps, runs_keep, any_parts}
+use Rattle.zy_read.proofs.RunLemmas.{After, runs_keep, any_parts}
 use Rattle.zy_read.proofs.OverLemmas.{RunsOver, over_none, over_then, over_join, over_begins, over_misjudged}
-use Rattle.zy_read.proofs.VerdictLemmas.{Leaves, state_kept, begins_read, Reaches, text_reaches}
+use Rattle.zy_read.proofs.VerdictLemmas.{Leaves, state_kept, begins_read, text_reaches}
 
 -- ---- the fields of a magic
 
@@ -147,21 +147,27 @@ begins_before letters front at six place within begins =
     let whole : front ≡ take at (magic_of letters begins.version) = sym (take_at front begins.rest at (sym place)) ∙ ap (λ (l : List ℕ). take at l) begins.whole in
     elim (at == 6) as (λ b. (at == 6) ≡ b → IsBefore letters front) [
       | true ↦ λ is. let here : at ≡ 6 = eqb-true at 6 is in record {
-          part = Digit; within = tt; known = tt;
-          is = whole ∙ take_front letters ((48 + begins.version) ∷ 10 ∷ []) at (omega (arith, six, here)) ∙ take_all at letters (omega (arith, six, here));
-        }
+        part = Digit;
+        within = tt;
+        known = tt;
+        is = whole ∙ take_front letters ((48 + begins.version) ∷ 10 ∷ []) at (omega (arith, six, here)) ∙ take_all at letters (omega (arith, six, here));
+      }
       | false ↦ λ not_six. elim (at == 7) as (λ b. (at == 7) ≡ b → IsBefore letters front) [
-          | true ↦ λ is. let here : at ≡ 7 = eqb-true at 7 is in record {
-              part = LineFeed begins.version; within = tt; known = begins.known;
-              is = whole ∙ ap (λ (l : List ℕ). take at l) (sym (append_assoc letters ((48 + begins.version) ∷ []) (10 ∷ [])))
-                  ∙ take_front (letters ++ (48 + begins.version) ∷ []) (10 ∷ []) at (omega (arith, six, here, length-append letters ((48 + begins.version) ∷ [])))
-                  ∙ take_all at (letters ++ (48 + begins.version) ∷ []) (omega (arith, six, here, length-append letters ((48 + begins.version) ∷ [])));
-            }
-          | false ↦ λ not_seven. let few : at < 6 = grind (arith, nat_tests) in record {
-              part = Letters; within = omega (arith, place, few); known = tt;
-              is = whole ∙ take_front letters ((48 + begins.version) ∷ 10 ∷ []) at (omega (arith, six, few)) ∙ ap (λ (n : ℕ). take n letters) place;
-            }
-        ] refl
+        | true ↦ λ is. let here : at ≡ 7 = eqb-true at 7 is in record {
+          part = LineFeed begins.version;
+          within = tt;
+          known = begins.known;
+          is = whole ∙ ap (λ (l : List ℕ). take at l) (sym (append_assoc letters ((48 + begins.version) ∷ []) (10 ∷ [])))
+              ∙ take_front (letters ++ (48 + begins.version) ∷ []) (10 ∷ []) at (omega (arith, six, here, length-append letters ((48 + begins.version) ∷ [])))
+              ∙ take_all at (letters ++ (48 + begins.version) ∷ []) (omega (arith, six, here, length-append letters ((48 + begins.version) ∷ [])));
+        }
+        | false ↦ λ not_seven. let few : at < 6 = grind (arith, nat_tests) in record {
+          part = Letters;
+          within = omega (arith, place, few);
+          known = tt;
+          is = whole ∙ take_front letters ((48 + begins.version) ∷ 10 ∷ []) at (omega (arith, six, few)) ∙ ap (λ (n : ℕ). take n letters) place;
+        }
+      ] refl
     ] refl
 
 -- ---- the byte that is wrong
