@@ -22,7 +22,7 @@ use Rattle.zy_capture.specs.declared.due.Due.TheVariants.{Magic, Count, Tag, Con
 use Rattle.zy_capture.specs.declared.capture_state.CaptureState.{CaptureState}
 use Rattle.zy_capture.specs.Capture.{letters, magic, spelling, capture_limit, connection_limit, segment_limit}
 use Rattle.zy_capture.specs.Faults.{front_text, GoesOn, IsConnectionOver, IsWrong}
-use Rattle.zy_capture.specs.Steps.{width, is_end, Judgement, number, byte, judge_magic, judge_tag, judge, fields}
+use Rattle.zy_capture.specs.Steps.{width, is_nothing, Judgement, number, byte, judge_magic, judge_tag, judged, fields}
 use Rattle.zy_capture.proofs.ByteLemmas.{chosen}
 use Rattle.zy_capture.proofs.PlaceLemmas.{IsAfter, IsAt, four_bytes, small_number}
 use Rattle.zy_capture.proofs.WholeLemmas.{stands_there, ends_spelling}
@@ -43,7 +43,7 @@ magic_wrong part s front rest given b fault (Steps.Whole version) step is = λ n
 magic_wrong part s front rest given b fault Steps.Wrong step is =
     told (front ++ b ∷ rest) (BadMagic (length front)) fault (bad_magic part letters (front ++ b ∷ rest) front rest b refl refl is.3 is.0 is.1 step)
 
-count_wrong : (s : CaptureState) (front field rest : List ℕ) (given : List Record) (fault : CaptureFault) → AreBytes field → IsAt Count s front given → length field ≡ 4 → Faults (front ++ (field ++ rest)) fault (judge Count s (length front) field)
+count_wrong : (s : CaptureState) (front field rest : List ℕ) (given : List Record) (fault : CaptureFault) → AreBytes field → IsAt Count s front given → length field ≡ 4 → Faults (front ++ (field ++ rest)) fault (judged Count s (length front) field)
 count_wrong s front field rest given fault all is four =
     let n : ℕ = number field in
     chosen (Faults (front ++ (field ++ rest)) fault) (nat_lt connection_limit n) _ _
@@ -111,19 +111,19 @@ range_wrong s front field rest given tag all is four known room over =
       within = omega (arith, room);
     }
 
-connection_wrong : (s : CaptureState) (front field rest : List ℕ) (given : List Record) (fault : CaptureFault) → AreBytes field → IsAt Connection s front given → length field ≡ 4 → length front + 4 ≤ capture_limit → Faults (front ++ (field ++ rest)) fault (judge Connection s (length front) field)
+connection_wrong : (s : CaptureState) (front field rest : List ℕ) (given : List Record) (fault : CaptureFault) → AreBytes field → IsAt Connection s front given → length field ≡ 4 → length front + 4 ≤ capture_limit → Faults (front ++ (field ++ rest)) fault (judged Connection s (length front) field)
 connection_wrong s front field rest given fault all is four room =
     let n : ℕ = number field in
     chosen (Faults (front ++ (field ++ rest)) fault) (nat_lt n s.count) _ _ (λ below none. cc)
     (λ over. told (front ++ (field ++ rest)) (ConnRange (length front) n) fault (range_wrong s front field rest given 83 all is four (inl refl) room (ltb-false n s.count over)))
 
-closed_wrong : (s : CaptureState) (front field rest : List ℕ) (given : List Record) (fault : CaptureFault) → AreBytes field → IsAt Closed s front given → length field ≡ 4 → length front + 4 ≤ capture_limit → Faults (front ++ (field ++ rest)) fault (judge Closed s (length front) field)
+closed_wrong : (s : CaptureState) (front field rest : List ℕ) (given : List Record) (fault : CaptureFault) → AreBytes field → IsAt Closed s front given → length field ≡ 4 → length front + 4 ≤ capture_limit → Faults (front ++ (field ++ rest)) fault (judged Closed s (length front) field)
 closed_wrong s front field rest given fault all is four room =
     let n : ℕ = number field in
     chosen (Faults (front ++ (field ++ rest)) fault) (nat_lt n s.count) _ _ (λ below none. cc)
     (λ over. told (front ++ (field ++ rest)) (ConnRange (length front) n) fault (range_wrong s front field rest given 67 all is.0 four (inr (refl, is.1)) room (ltb-false n s.count over)))
 
-length_wrong : (conn : ℕ) (s : CaptureState) (front field rest : List ℕ) (given : List Record) (fault : CaptureFault) → AreBytes field → IsAt (Length conn) s front given → length field ≡ 4 → length front + 4 ≤ capture_limit → Faults (front ++ (field ++ rest)) fault (judge (Length conn) s (length front) field)
+length_wrong : (conn : ℕ) (s : CaptureState) (front field rest : List ℕ) (given : List Record) (fault : CaptureFault) → AreBytes field → IsAt (Length conn) s front given → length field ≡ 4 → length front + 4 ≤ capture_limit → Faults (front ++ (field ++ rest)) fault (judged (Length conn) s (length front) field)
 length_wrong conn s front field rest given fault all is four room =
     let n : ℕ = number field in
     let text : List ℕ = front ++ (field ++ rest) in
@@ -165,7 +165,7 @@ end_wrong s front rest given b fault is short =
 -- ---- all fields
 
 -- there is room for a field that is not the end
-room_for : (next : Due) (count size : ℕ) → is_end next ≡ false → (is_end next ≡ true) ⊎ (count ≤ capture_limit) → count ≡ size → size ≤ capture_limit
+room_for : (next : Due) (count size : ℕ) → is_nothing next ≡ false → (is_nothing next ≡ true) ⊎ (count ≤ capture_limit) → count ≡ size → size ≤ capture_limit
 room_for next count size still (inl end_is) same = cc
 room_for next count size still (inr few) same = omega (arith, few, same)
 
@@ -174,12 +174,12 @@ one_text : (front field rest : List ℕ) → length field ≡ 1 → front ++ byt
 one_text front field rest one = ap (λ (l : List ℕ). front ++ (l ++ rest)) (sym (one_byte field one))
 
 field_wrong : (next : Due) (s : CaptureState) (front field rest : List ℕ) (given : List Record) (fault : CaptureFault) → AreBytes field → IsAt next s front given → length field ≡ width next → length front ≤ capture_limit
-    → (is_end next ≡ true) ⊎ (length front + length field ≤ capture_limit) → Faults (front ++ (field ++ rest)) fault (judge next s (length front) field)
+    → (is_nothing next ≡ true) ⊎ (length front + length field ≤ capture_limit) → Faults (front ++ (field ++ rest)) fault (judged next s (length front) field)
 field_wrong (Magic part) s front field rest given fault all is size short room =
-    subst (λ (l : List ℕ). Faults l fault (judge (Magic part) s (length front) field)) (one_text front field rest size) (magic_wrong part s front rest given (byte field) fault (magic_step part letters (length front) (byte field)) refl is)
+    subst (λ (l : List ℕ). Faults l fault (judged (Magic part) s (length front) field)) (one_text front field rest size) (magic_wrong part s front rest given (byte field) fault (magic_step part letters (length front) (byte field)) refl is)
 field_wrong Count s front field rest given fault all is size short room = count_wrong s front field rest given fault all is size
 field_wrong Tag s front field rest given fault all is size short room =
-    subst (λ (l : List ℕ). Faults l fault (judge Tag s (length front) field)) (one_text front field rest size) (tag_wrong s front rest given (byte field) fault is (room_for Tag (length front + length field) (length front + 1) refl room (omega (arith, size))))
+    subst (λ (l : List ℕ). Faults l fault (judged Tag s (length front) field)) (one_text front field rest size) (tag_wrong s front rest given (byte field) fault is (room_for Tag (length front + length field) (length front + 1) refl room (omega (arith, size))))
 field_wrong Connection s front field rest given fault all is size short room =
     connection_wrong s front field rest given fault all is size (room_for Connection (length front + length field) (length front + 4) refl room (omega (arith, size)))
 field_wrong (Length conn) s front field rest given fault all is size short room =
@@ -188,7 +188,7 @@ field_wrong (Payload conn more) s front field rest given fault all is size short
 field_wrong Closed s front field rest given fault all is size short room =
     closed_wrong s front field rest given fault all is size (room_for Closed (length front + length field) (length front + 4) refl room (omega (arith, size)))
 field_wrong Nothing s front field rest given fault all is size short room =
-    subst (λ (l : List ℕ). Faults l fault (judge Nothing s (length front) field)) (one_text front field rest size) (end_wrong s front rest given (byte field) fault is short)
+    subst (λ (l : List ℕ). Faults l fault (judged Nothing s (length front) field)) (one_text front field rest size) (end_wrong s front rest given (byte field) fault is short)
 
 -- a text with a wrong field has its fault
 pub misjudged_wrong : (text : List ℕ) (s : CaptureState) (fault : CaptureFault) → AreBytes text → IsMisjudged fields text s fault → IsWrong text fault

@@ -17,7 +17,7 @@ use Rattle.zy_capture.specs.declared.due.Due.TheVariants.{Tag, Connection, Lengt
 use Rattle.zy_capture.specs.declared.capture_state.CaptureState.{CaptureState}
 use Rattle.zy_capture.specs.Capture.{letters, magic, spelling, IsCapture, capture_limit, connection_limit, segment_limit}
 use Rattle.zy_capture.specs.Faults.{front_text, IsCountOver, IsBadTag, IsConnectionOver, IsLengthOver, IsTrailing, IsWrong}
-use Rattle.zy_capture.specs.Steps.{state, width, judge_count, judge_tag, judge_connection, judge_length, judge_closed, judge, fields}
+use Rattle.zy_capture.specs.Steps.{state, width, judge_count, judge_tag, judge_connection, judge_length, judge_closed, judged, fields}
 use Rattle.zy_capture.specs.Verdict.Verdict.{Bad}
 use Rattle.zy_capture.specs.Verdict.{good, verdict}
 use Rattle.zy_capture.proofs.PartLemmas.{Over, number_is, conn_over, part_state, after_state, reads_magic, then_over}
@@ -28,12 +28,12 @@ use Rattle.zy_capture.proofs.WholeLemmas.{lawful, end_over}
 -- a text that begins with the records of a capture and further fields, where the next one is wrong
 after_bad : (text : List ℕ) (version count : ℕ) (items : List Record) (tail : List ℕ) (s : CaptureState) (field rest : List ℕ) (at : ℕ) (fault : CaptureFault) → IsCapture version count items
     → Over (state Tag version count) (0 + length (front_text version count items)) tail s [] → text ≡ front_text version count items ++ (tail ++ (field ++ rest)) → at ≡ length (front_text version count items) + length tail → at ≤ capture_limit
-    → length field ≡ width s.due → HasRoom fields s (at + length field) → judge s.due s at field ≡ Wrong fault → verdict text ≡ Bad fault
+    → length field ≡ width s.due → HasRoom fields s (at + length field) → judged s.due s at field ≡ Wrong fault → verdict text ≡ Bad fault
 after_bad text version count items tail s field rest at fault valid over whole place short size room is =
     let front : List ℕ = front_text version count items in
     let there : at ≡ length (front ++ tail) = place ∙ sym (length-append front tail) in
     fault_bad fields lawful good Bad text s fault (inl (over_misjudged fields text s fault (front ++ tail) field rest items (then_over version count items tail s valid over) (subst (λ (n : ℕ). n ≤ capture_limit) there short)
-    (whole ∙ sym (append_assoc front tail (field ++ rest))) size (subst (λ (n : ℕ). HasRoom fields s (n + length field)) there room) (ap (λ (n : ℕ). judge s.due s n field) (sym there) ∙ is)))
+    (whole ∙ sym (append_assoc front tail (field ++ rest))) size (subst (λ (n : ℕ). HasRoom fields s (n + length field)) there room) (ap (λ (n : ℕ). judged s.due s n field) (sym there) ∙ is)))
 
 -- ---- each fault
 
@@ -60,10 +60,10 @@ tag_bad text at b has =
     after_bad text has.version has.count has.items [] s (b ∷ []) has.rest at (BadTag at b) has.front.valid (over_none fields s (0 + length (front_text has.version has.count has.items))) has.front.whole (omega (arith, has.front.place)) (omega (arith, has.within)) refl (inr (omega (arith, has.within)))
     (tag_judged s at b has.no_segment has.no_end has.no_close)
 
-range_judged : (s : CaptureState) (at n : ℕ) → s.count ≤ n → n < 2 ^ 32 → judge Connection s at (to_be_bytes w32 n) ≡ Wrong (ConnRange at n)
+range_judged : (s : CaptureState) (at n : ℕ) → s.count ≤ n → n < 2 ^ 32 → judged Connection s at (to_be_bytes w32 n) ≡ Wrong (ConnRange at n)
 range_judged s at n over fits = ap (λ (k : ℕ). judge_connection s at k) (number_is n fits) ∙ rw (le-ltb n s.count over) refl
 
-closed_judged : (s : CaptureState) (at n : ℕ) → s.count ≤ n → n < 2 ^ 32 → judge Closed s at (to_be_bytes w32 n) ≡ Wrong (ConnRange at n)
+closed_judged : (s : CaptureState) (at n : ℕ) → s.count ≤ n → n < 2 ^ 32 → judged Closed s at (to_be_bytes w32 n) ≡ Wrong (ConnRange at n)
 closed_judged s at n over fits = ap (λ (k : ℕ). judge_closed s at k) (number_is n fits) ∙ rw (le-ltb n s.count over) refl
 
 range_bad : (text : List ℕ) (at n : ℕ) → IsConnectionOver text at n → verdict text ≡ Bad (ConnRange at n)

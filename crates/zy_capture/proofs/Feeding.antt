@@ -9,7 +9,7 @@ use Rattle.zy_capture.specs.declared.capture_fault.CaptureFault.{CaptureFault}
 use Rattle.zy_capture.specs.declared.capture_fault.CaptureFault.TheVariants.{Truncated}
 use Rattle.zy_capture.specs.declared.due.Due.{Due}
 use Rattle.zy_capture.specs.declared.due.Due.TheVariants.{Nothing}
-use Rattle.zy_capture.specs.Steps.{Progress, is_end, fields}
+use Rattle.zy_capture.specs.Steps.{Progress, is_nothing, fields}
 use Rattle.zy_capture.specs.Verdict.{version_of, version_in, count_of, count_in, is_within_by, is_within_record, captures, good, is_good}
 use Rattle.zy_capture.specs.Verdict.Verdict.{Good, Bad}
 use Rattle.zy_capture.specs.Standing.{StandsFor}
@@ -33,7 +33,7 @@ pub record IsEnded (p : Progress) : Type 0 where
   pub none : p.fault ≡ None
   pub due : p.state.due ≡ Nothing
 
-end_due : (due : Due) (p : Progress) (given : List Record) → is_good (if is_end due then good p.state given else Bad (Truncated p.at)) ≡ true → due ≡ Nothing
+end_due : (due : Due) (p : Progress) (given : List Record) → is_good (if is_nothing due then good p.state given else Bad (Truncated p.at)) ≡ true → due ≡ Nothing
 end_due Nothing p given is = refl
 end_due due p given is = cc
 

@@ -19,7 +19,7 @@ use Rattle.zy_capture.specs.declared.due.Due.TheVariants.{Magic, Count, Tag, Con
 use Rattle.zy_capture.specs.declared.capture_state.CaptureState.{CaptureState}
 use Rattle.zy_capture.specs.Capture.{letters, magic, spelled, IsRecordOf, IsCapture, connection_limit, segment_limit}
 use Rattle.zy_capture.specs.Faults.{front_text}
-use Rattle.zy_capture.specs.Steps.{state, start, to, number, segment, judge_count, judge_connection, judge_length, judge_closed, judge, fields}
+use Rattle.zy_capture.specs.Steps.{state, start, to, number, segment, judge_count, judge_connection, judge_length, judge_closed, judged, fields}
 
 -- whole fields of a capture lead from a state to a state, and give these records
 abbrev pub Over : CaptureState → ℕ → List ℕ → CaptureState → List Record → Type 0
@@ -30,19 +30,19 @@ Over s at text last given = RunsOver fields s at text last given
 pub number_is : (n : ℕ) → n < 2 ^ 32 → number (to_be_bytes w32 n) ≡ n
 number_is n small = from_be_bytes-to_be_bytes_4 n small
 
-pub connection_judged : (s : CaptureState) (at conn : ℕ) → conn < s.count → s.count ≤ connection_limit → judge Connection s at (to_be_bytes w32 conn) ≡ Then (to s (Length conn))
+pub connection_judged : (s : CaptureState) (at conn : ℕ) → conn < s.count → s.count ≤ connection_limit → judged Connection s at (to_be_bytes w32 conn) ≡ Then (to s (Length conn))
 connection_judged s at conn below few = ap (λ (n : ℕ). judge_connection s at n) (number_is conn (omega (arith, below, few))) ∙ rw (lt-ltb conn s.count below) refl
 
-closed_judged : (s : CaptureState) (at conn : ℕ) → conn < s.count → s.count ≤ connection_limit → judge Closed s at (to_be_bytes w32 conn) ≡ Gives (to s Tag) (Kinds.Close conn)
+closed_judged : (s : CaptureState) (at conn : ℕ) → conn < s.count → s.count ≤ connection_limit → judged Closed s at (to_be_bytes w32 conn) ≡ Gives (to s Tag) (Kinds.Close conn)
 closed_judged s at conn below few = ap (λ (n : ℕ). judge_closed s at n) (number_is conn (omega (arith, below, few))) ∙ rw (lt-ltb conn s.count below) refl
 
 zero_no : (n : ℕ) → 0 < n → (n == 0) ≡ false
 zero_no n some = grind (arith, nat_tests)
 
-length_judged : (s : CaptureState) (at conn size : ℕ) → 0 < size → size ≤ segment_limit → judge (Length conn) s at (to_be_bytes w32 size) ≡ Then (to s (Payload conn (size - 1)))
+length_judged : (s : CaptureState) (at conn size : ℕ) → 0 < size → size ≤ segment_limit → judged (Length conn) s at (to_be_bytes w32 size) ≡ Then (to s (Payload conn (size - 1)))
 length_judged s at conn size some few = ap (λ (n : ℕ). judge_length s conn at n) (number_is size (omega (arith, few))) ∙ rw (le-ltb segment_limit size few, zero_no size some) refl
 
-count_judged : (s : CaptureState) (at count : ℕ) → count ≤ connection_limit → judge Count s at (to_be_bytes w32 count) ≡ Then (state Tag s.version count)
+count_judged : (s : CaptureState) (at count : ℕ) → count ≤ connection_limit → judged Count s at (to_be_bytes w32 count) ≡ Then (state Tag s.version count)
 count_judged s at count few = ap (λ (n : ℕ). judge_count s n) (number_is count (omega (arith, few))) ∙ rw (le-ltb connection_limit count few) refl
 
 -- ---- records

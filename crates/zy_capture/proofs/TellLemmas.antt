@@ -21,7 +21,7 @@ use Rattle.zy_capture.specs.declared.due.Due.TheVariants.{Magic, Count, Tag, Con
 use Rattle.zy_capture.specs.declared.capture_state.CaptureState.{CaptureState}
 use Rattle.zy_capture.specs.Capture.{letters, magic, spelled, connection_limit, segment_limit}
 use Rattle.zy_capture.specs.Faults.{front_text}
-use Rattle.zy_capture.specs.Steps.{Progress, state, number, byte, judge, fields}
+use Rattle.zy_capture.specs.Steps.{Progress, state, number, byte, judged, fields}
 use Rattle.zy_capture.specs.Verdict.{captures, version_in, version_of, count_in, count_of}
 use Rattle.zy_capture.specs.SoFar.{BeginsWithMagic, BeginsWithCount}
 use Rattle.zy_capture.proofs.ByteLemmas.{chosen, assoc_twice}
@@ -50,7 +50,7 @@ HasVersion version s = (s.version ≡ version) × IsPast s.due
 abbrev HasCount : ℕ → CaptureState → Type 0
 HasCount count s = IsPastCount s.due × (s.count ≡ count)
 
-version_left : (version : ℕ) (next : Due) (s : CaptureState) (at : ℕ) (field : List ℕ) → IsPast next → s.version ≡ version → Leaves (HasVersion version) (judge next s at field)
+version_left : (version : ℕ) (next : Due) (s : CaptureState) (at : ℕ) (field : List ℕ) → IsPast next → s.version ≡ version → Leaves (HasVersion version) (judged next s at field)
 version_left version (Magic part) s at field past is = absurd past
 version_left version Count s at field past is = chosen (Leaves (HasVersion version)) (nat_lt connection_limit (number field)) _ _ (λ over. tt) (λ few. (is, tt))
 version_left version Tag s at field past is =
@@ -63,7 +63,7 @@ version_left version (Payload conn more) s at field past is = (is, tt)
 version_left version Closed s at field past is = chosen (Leaves (HasVersion version)) (nat_lt (number field) s.count) _ _ (λ below. (is, tt)) (λ over. tt)
 version_left version Nothing s at field past is = tt
 
-count_left : (count : ℕ) (next : Due) (s : CaptureState) (at : ℕ) (field : List ℕ) → IsPastCount next → s.count ≡ count → Leaves (HasCount count) (judge next s at field)
+count_left : (count : ℕ) (next : Due) (s : CaptureState) (at : ℕ) (field : List ℕ) → IsPastCount next → s.count ≡ count → Leaves (HasCount count) (judged next s at field)
 count_left count (Magic part) s at field past is = absurd past
 count_left count Count s at field past is = absurd past
 count_left count Tag s at field past is =

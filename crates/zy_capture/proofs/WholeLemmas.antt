@@ -20,7 +20,7 @@ use Rattle.zy_capture.specs.declared.due.Due.TheVariants.{Magic, Count, Tag, Con
 use Rattle.zy_capture.specs.declared.capture_state.CaptureState.{CaptureState}
 use Rattle.zy_capture.specs.Capture.{magic, spelled, spelling, IsCapture, Spells, capture_limit}
 use Rattle.zy_capture.specs.Faults.{front_text}
-use Rattle.zy_capture.specs.Steps.{Progress, state, start, width, is_end, judge, fields}
+use Rattle.zy_capture.specs.Steps.{Progress, state, start, width, is_nothing, judged, fields}
 use Rattle.zy_capture.specs.Verdict.Verdict.{Good, Bad}
 use Rattle.zy_capture.specs.Verdict.{Verdict, good, verdict, fault_of}
 use Rattle.zy_capture.proofs.ByteLemmas.{assoc_twice}
@@ -39,11 +39,11 @@ width_some (Payload conn more) = omega arith
 width_some Closed = omega arith
 width_some Nothing = omega arith
 
-width_one : (next : Due) → is_end next ≡ true → width next ≡ 1
+width_one : (next : Due) → is_nothing next ≡ true → width next ≡ 1
 width_one Nothing is = refl
 width_one next is = cc
 
-end_wrong : (next : Due) (s : CaptureState) (at : ℕ) (field : List ℕ) → is_end next ≡ true → IsWrong (judge next s at field)
+end_wrong : (next : Due) (s : CaptureState) (at : ℕ) (field : List ℕ) → is_nothing next ≡ true → IsWrong (judged next s at field)
 end_wrong Nothing s at field is = tt
 end_wrong next s at field is = cc
 
@@ -66,7 +66,7 @@ pub ends_spelling : (version count : ℕ) (items : List Record) → front_text v
 unfolding spelling
 ends_spelling version count items = assoc_twice (magic version) (to_be_bytes w32 count) (flat_map spelled items) (69 ∷ [])
 
-spells_at : (next : Due) (s : CaptureState) (text : List ℕ) (given : List Record) → is_end next ≡ true → IsAt next s text given → length text ≤ capture_limit → Spells text s.version s.count given
+spells_at : (next : Due) (s : CaptureState) (text : List ℕ) (given : List Record) → is_nothing next ≡ true → IsAt next s text given → length text ≤ capture_limit → Spells text s.version s.count given
 spells_at Nothing s text given ends is short = record { valid = is.valid; spelled = is.whole ∙ ends_spelling s.version s.count given; short = short }
 spells_at next s text given ends is short = cc
 
