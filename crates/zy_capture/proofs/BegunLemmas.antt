@@ -8,7 +8,7 @@ use Rattle.zy_read.proofs.VerdictLemmas.{outcome, fault_bad, cut_bad, cut_overlo
 use Rattle.zy_capture.specs.declared.capture_fault.CaptureFault.{CaptureFault}
 use Rattle.zy_capture.specs.declared.capture_fault.CaptureFault.TheVariants.{BadMagic, ConnCount, BadTag, ConnRange, SegmentLength, Truncated, Trailing, TooLong}
 use Rattle.zy_capture.specs.declared.capture_state.CaptureState.{CaptureState}
-use Rattle.zy_capture.specs.Faults.{IsWrong, IsBegun, IsTooLong} 
+use Rattle.zy_capture.specs.Faults.{IsWrong, IsBegun, IsTooLong}
 use Rattle.zy_capture.specs.Faults as Faults
 use Rattle.zy_capture.specs.Steps.{fields}
 use Rattle.zy_capture.specs.Verdict.Verdict.{Bad}

@@ -165,16 +165,16 @@ end_wrong s front rest given b fault is short =
 -- ---- all fields
 
 -- there is room for a field that is not the end
-room_for : (next : Due) (count size : ℕ) → is_nothing next ≡ false → (is_nothing next ≡ true) ⊎ (count ≤ capture_limit) → count ≡ size → size ≤ capture_limit
-room_for next count size still (inl end_is) same = cc
-room_for next count size still (inr few) same = omega (arith, few, same)
+room_for : (due : Due) (count size : ℕ) → is_nothing due ≡ false → (is_nothing due ≡ true) ⊎ (count ≤ capture_limit) → count ≡ size → size ≤ capture_limit
+room_for due count size still (inl end_is) same = cc
+room_for due count size still (inr few) same = omega (arith, few, same)
 
 -- a field of one byte, in front of the rest
 one_text : (front field rest : List ℕ) → length field ≡ 1 → front ++ byte field ∷ rest ≡ front ++ (field ++ rest)
 one_text front field rest one = ap (λ (l : List ℕ). front ++ (l ++ rest)) (sym (one_byte field one))
 
-field_wrong : (next : Due) (s : CaptureState) (front field rest : List ℕ) (given : List Record) (fault : CaptureFault) → AreBytes field → IsAt next s front given → length field ≡ width next → length front ≤ capture_limit
-    → (is_nothing next ≡ true) ⊎ (length front + length field ≤ capture_limit) → Faults (front ++ (field ++ rest)) fault (judged next s (length front) field)
+field_wrong : (due : Due) (s : CaptureState) (front field rest : List ℕ) (given : List Record) (fault : CaptureFault) → AreBytes field → IsAt due s front given → length field ≡ width due → length front ≤ capture_limit
+    → (is_nothing due ≡ true) ⊎ (length front + length field ≤ capture_limit) → Faults (front ++ (field ++ rest)) fault (judged due s (length front) field)
 field_wrong (Magic part) s front field rest given fault all is size short room =
     subst (λ (l : List ℕ). Faults l fault (judged (Magic part) s (length front) field)) (one_text front field rest size) (magic_wrong part s front rest given (byte field) fault (magic_step part letters (length front) (byte field)) refl is)
 field_wrong Count s front field rest given fault all is size short room = count_wrong s front field rest given fault all is size

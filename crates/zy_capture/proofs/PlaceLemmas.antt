@@ -154,7 +154,7 @@ from_closed s text field given all is four =
     (λ below. record_on s.version s.count given (Kinds.Close conn) (67 ∷ []) text field (is.1, ltb-true conn s.count below) (ap (λ (l : List ℕ). 67 ∷ l) (sym (four_bytes field all four))) is.0)
     (λ over. tt)
 
-field_keeps : (next : Due) (s : CaptureState) (text field : List ℕ) (given : List Record) → AreBytes field → IsAt next s text given → length field ≡ width next → Goes (text ++ field) given (judged next s (length text) field)
+field_keeps : (due : Due) (s : CaptureState) (text field : List ℕ) (given : List Record) → AreBytes field → IsAt due s text given → length field ≡ width due → Goes (text ++ field) given (judged due s (length text) field)
 field_keeps (Magic part) s text field given all is size = from_magic part s text field given is size
 field_keeps Count s text field given all is size = from_count s text field given all is size
 field_keeps Tag s text field given all is size = from_tag s text field given is size

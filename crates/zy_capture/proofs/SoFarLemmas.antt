@@ -82,11 +82,11 @@ made s given front more text some whole short version_is count_is records_are =
       few = λ conn. subst (λ (l : List Record). closes conn l < 2 ^ 31) (sym records_are) (omega (arith, spent conn, short));
     }
 
-so_far : (next : Due) (s : CaptureState) (given : List Record) (front more text : List ℕ) → IsAt next s front given → text ≡ front ++ more → length text ≤ capture_limit → version_of text ≡ version_in s.version → count_of text ≡ count_in next s.count → records_of text ≡ given → given ≢ [] → IsCaptureSoFar text
+so_far : (due : Due) (s : CaptureState) (given : List Record) (front more text : List ℕ) → IsAt due s front given → text ≡ front ++ more → length text ≤ capture_limit → version_of text ≡ version_in s.version → count_of text ≡ count_in due s.count → records_of text ≡ given → given ≢ [] → IsCaptureSoFar text
 so_far (Magic part) s given front more text is whole short version_is count_is records_are some = absurd (some is.2)
 so_far Count s given front more text is whole short version_is count_is records_are some = absurd (some is.1)
-so_far next s given front more text is whole short version_is count_is records_are some =
-    let after : IsAfterSome s front given = after_some next s front given tt is in
+so_far due s given front more text is whole short version_is count_is records_are some =
+    let after : IsAfterSome s front given = after_some due s front given tt is in
     made s given front more text after whole short (version_is ∙ known_version s.version after.after.valid.known) count_is records_are
 
 read_so_far : (text : List ℕ) (p : Progress) (given : List Record) (fault : Option CaptureFault) → AreBytes text → fault ≡ None → IsRead fields fault p given text → version_of text ≡ version_in p.state.version → count_of text ≡ count_in p.state.due p.state.count → records_of text ≡ given → given ≢ [] → IsCaptureSoFar text

@@ -34,13 +34,13 @@ use Rattle.zy_capture.proofs.WholeLemmas.{lawful, stands_there}
 -- the magic was read
 abbrev pub IsPast : Due → Type 0
 IsPast (Magic part) = ⊥
-IsPast next = ⊤
+IsPast due = ⊤
 
 -- the count was read
 abbrev pub IsPastCount : Due → Type 0
 IsPastCount (Magic part) = ⊥
 IsPastCount Count = ⊥
-IsPastCount next = ⊤
+IsPastCount due = ⊤
 
 -- the magic was read, and this is the version
 abbrev HasVersion : ℕ → CaptureState → Type 0
@@ -50,7 +50,7 @@ HasVersion version s = (s.version ≡ version) × IsPast s.due
 abbrev HasCount : ℕ → CaptureState → Type 0
 HasCount count s = IsPastCount s.due × (s.count ≡ count)
 
-version_left : (version : ℕ) (next : Due) (s : CaptureState) (at : ℕ) (field : List ℕ) → IsPast next → s.version ≡ version → Leaves (HasVersion version) (judged next s at field)
+version_left : (version : ℕ) (due : Due) (s : CaptureState) (at : ℕ) (field : List ℕ) → IsPast due → s.version ≡ version → Leaves (HasVersion version) (judged due s at field)
 version_left version (Magic part) s at field past is = absurd past
 version_left version Count s at field past is = chosen (Leaves (HasVersion version)) (nat_lt connection_limit (number field)) _ _ (λ over. tt) (λ few. (is, tt))
 version_left version Tag s at field past is =
@@ -63,7 +63,7 @@ version_left version (Payload conn more) s at field past is = (is, tt)
 version_left version Closed s at field past is = chosen (Leaves (HasVersion version)) (nat_lt (number field) s.count) _ _ (λ below. (is, tt)) (λ over. tt)
 version_left version Nothing s at field past is = tt
 
-count_left : (count : ℕ) (next : Due) (s : CaptureState) (at : ℕ) (field : List ℕ) → IsPastCount next → s.count ≡ count → Leaves (HasCount count) (judged next s at field)
+count_left : (count : ℕ) (due : Due) (s : CaptureState) (at : ℕ) (field : List ℕ) → IsPastCount due → s.count ≡ count → Leaves (HasCount count) (judged due s at field)
 count_left count (Magic part) s at field past is = absurd past
 count_left count Count s at field past is = absurd past
 count_left count Tag s at field past is =
@@ -76,10 +76,10 @@ count_left count (Payload conn more) s at field past is = (tt, is)
 count_left count Closed s at field past is = chosen (Leaves (HasCount count)) (nat_lt (number field) s.count) _ _ (λ below. (tt, is)) (λ over. tt)
 count_left count Nothing s at field past is = tt
 
-pub past_count : (next : Due) (count : ℕ) → IsPastCount next → count_in next count ≡ Some count
+pub past_count : (due : Due) (count : ℕ) → IsPastCount due → count_in due count ≡ Some count
 past_count (Magic part) count past = absurd past
 past_count Count count past = absurd past
-past_count next count past = refl
+past_count due count past = refl
 
 -- ---- what a text begins with is read
 
@@ -146,7 +146,7 @@ pub record IsAfterSome (s : CaptureState) (text : List ℕ) (given : List Record
   pub tail : List ℕ
   pub after : IsAfter s.version s.count given tail text
 
-pub after_some : (next : Due) (s : CaptureState) (text : List ℕ) (given : List Record) → IsPastCount next → IsAt next s text given → IsAfterSome s text given
+pub after_some : (due : Due) (s : CaptureState) (text : List ℕ) (given : List Record) → IsPastCount due → IsAt due s text given → IsAfterSome s text given
 after_some (Magic part) s text given past is = absurd past
 after_some Count s text given past is = absurd past
 after_some Tag s text given past is = record { tail = []; after = is }
@@ -156,12 +156,12 @@ after_some (Payload conn more) s text given past is = record { tail = 83 ∷ (to
 after_some Closed s text given past is = record { tail = 67 ∷ []; after = is.0 }
 after_some Nothing s text given past is = record { tail = 69 ∷ []; after = is }
 
-count_at : (next : Due) (s : CaptureState) (text more : List ℕ) (given : List Record) (count : ℕ) → count_in next s.count ≡ Some count → IsAt next s text given → BeginsWithCount (text ++ more) count
+count_at : (due : Due) (s : CaptureState) (text more : List ℕ) (given : List Record) (count : ℕ) → count_in due s.count ≡ Some count → IsAt due s text given → BeginsWithCount (text ++ more) count
 count_at (Magic part) s text more given count told is = absurd (none_met count told)
 count_at Count s text more given count told is = absurd (none_met count told)
-count_at next s text more given count told is =
+count_at due s text more given count told is =
     let same : s.count ≡ count = cc in
-    let some : IsAfterSome s text given = after_some next s text given tt is in
+    let some : IsAfterSome s text given = after_some due s text given tt is in
     let body : List ℕ = flat_map spelled given in
     subst (BeginsWithCount (text ++ more)) same (record {
       version = s.version;

@@ -29,7 +29,7 @@ use Rattle.zy_capture.proofs.PartLemmas.{Over, then_over}
 
 -- ---- the fields are lawful
 
-width_some : (next : Due) → 0 < width next
+width_some : (due : Due) → 0 < width due
 width_some (Magic part) = omega arith
 width_some Count = omega arith
 width_some Tag = omega arith
@@ -39,13 +39,13 @@ width_some (Payload conn more) = omega arith
 width_some Closed = omega arith
 width_some Nothing = omega arith
 
-width_one : (next : Due) → is_nothing next ≡ true → width next ≡ 1
+width_one : (due : Due) → is_nothing due ≡ true → width due ≡ 1
 width_one Nothing is = refl
-width_one next is = cc
+width_one due is = cc
 
-end_wrong : (next : Due) (s : CaptureState) (at : ℕ) (field : List ℕ) → is_nothing next ≡ true → IsWrong (judged next s at field)
+end_wrong : (due : Due) (s : CaptureState) (at : ℕ) (field : List ℕ) → is_nothing due ≡ true → IsWrong (judged due s at field)
 end_wrong Nothing s at field is = tt
-end_wrong next s at field is = cc
+end_wrong due s at field is = cc
 
 pub lawful : IsLawful fields
 lawful = record {
@@ -66,9 +66,9 @@ pub ends_spelling : (version count : ℕ) (items : List Record) → front_text v
 unfolding spelling
 ends_spelling version count items = assoc_twice (magic version) (to_be_bytes w32 count) (flat_map spelled items) (69 ∷ [])
 
-spells_at : (next : Due) (s : CaptureState) (text : List ℕ) (given : List Record) → is_nothing next ≡ true → IsAt next s text given → length text ≤ capture_limit → Spells text s.version s.count given
+spells_at : (due : Due) (s : CaptureState) (text : List ℕ) (given : List Record) → is_nothing due ≡ true → IsAt due s text given → length text ≤ capture_limit → Spells text s.version s.count given
 spells_at Nothing s text given ends is short = record { valid = is.valid; spelled = is.whole ∙ ends_spelling s.version s.count given; short = short }
-spells_at next s text given ends is short = cc
+spells_at due s text given ends is short = cc
 
 pub whole_spells : (text : List ℕ) (s : CaptureState) (given : List Record) → AreBytes text → IsWhole fields text s given → Spells text s.version s.count given
 whole_spells text s given all whole =
