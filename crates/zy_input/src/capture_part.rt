@@ -4,10 +4,10 @@ ghost use Rattle.std.specs.Prelude.{OnOk, option_to_list};
 ghost use Rattle.zy_read.specs.Bytes.{AreBytes};
 ghost use Rattle.zy_capture.specs.declared.capture_fault.CaptureFault.{CaptureFault};
 ghost use Rattle.zy_capture.specs.declared.record.Record.{Record};
-ghost use Rattle.zy_capture.specs.Standing.{StandsFor};
+ghost use Rattle.zy_capture.specs.Standing.{StandsForRecords};
 ghost use Rattle.zy_capture.specs.Streams.{with_record};
 ghost use Rattle.zy_capture.specs.Verdict.{Verdict, fault_of, count_of, is_within_record};
-ghost use Rattle.zy_input.specs.Reading.{Takes, IsPartOpen};
+ghost use Rattle.zy_input.specs.Reading.{TakesInPart, IsPartOpen};
 ghost use Rattle.zy_input.specs.Keeping.{KeepsSoFar, IsKeeping};
 ghost use Rattle.zy_input.specs.Kinds.{MayKeep, capture_keeping, capture_kind};
 
@@ -30,7 +30,7 @@ pub(crate) struct CapturePart {
 impl CapturePart {
     // No byte was taken yet.
     pub(crate) fn new(alloc: Global) -> CapturePart
-        ensures reader { StandsFor result.reader [] [] }
+        ensures reader { StandsForRecords result.reader [] [] }
         ensures none { result.streams ≡ None }
     {
         CapturePart {
@@ -44,10 +44,10 @@ impl CapturePart {
     fn go_on(&mut self, gave: Option<Record>) -> Result<bool, Stop>
         requires keeping { IsKeeping capture_keeping self.old.reader self.old.streams gave }
         ensures value { (given : List Record) (bytes : List ℕ)
-            → StandsFor self.old.reader (given ++ option_to_list gave) bytes
+            → StandsForRecords self.old.reader (given ++ option_to_list gave) bytes
             → AreBytes bytes → fault_of bytes ≡ None
             → KeepsSoFar capture_keeping self.old.streams (count_of bytes) given
-            → Takes capture_kind self.new bytes result }
+            → TakesInPart capture_kind self.new bytes result }
     {
         match keep_next(self.alloc, &self.reader, &mut self.streams, gave) {
             Ok(()) => Ok(self.reader.is_done()),
@@ -59,7 +59,8 @@ impl CapturePart {
     fn take_byte(&mut self, byte: u8) -> Result<bool, Stop>
         requires goes { IsPartOpen (λ (u : ⊤). capture_kind) self.old }
         ensures value { (bytes : List ℕ) → capture_kind.stands self.old bytes
-            → capture_kind.goes_on bytes → Takes capture_kind self.new (bytes ++ byte ∷ []) result }
+            → capture_kind.goes_on bytes → TakesInPart capture_kind self.new (bytes ++ byte ∷ [])
+            result }
     {
         match self.reader.feed(byte) {
             Ok(gave) => self.go_on(gave),
@@ -76,7 +77,8 @@ impl CapturePart {
         ensures taken { (whole : _) → result.answer ≡ Ok whole → 0 < result.count }
         ensures value { (bytes : List ℕ) → capture_kind.stands self.old bytes
             → capture_kind.goes_on bytes → is_within_record bytes ≡ true
-            → Takes capture_kind self.new (bytes ++ take result.count next.now) result.answer }
+            → TakesInPart capture_kind self.new (bytes ++ take result.count next.now)
+            result.answer }
     {
         let Fed { taken, answer } = self.reader.feed_piece(next);
         match answer {

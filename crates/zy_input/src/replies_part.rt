@@ -5,7 +5,7 @@ ghost use Rattle.zy_base.specs.declared.file_fault.FileFault.{FileFault};
 ghost use Rattle.zy_capture.specs.declared.session_bytes.SessionBytes.{SessionBytes};
 ghost use Rattle.zy_capture.specs.RepliesStanding.{StandsForReplies};
 ghost use Rattle.zy_capture.specs.RepliesVerdict.{Verdict, fault_of, version_of};
-ghost use Rattle.zy_input.specs.Reading.{Takes};
+ghost use Rattle.zy_input.specs.Reading.{TakesInPart};
 ghost use Rattle.zy_input.specs.Keeping.{KeepsSoFar, IsKeeping};
 ghost use Rattle.zy_input.specs.Kinds.{replies_keeping, replies_kind};
 
@@ -45,7 +45,7 @@ impl RepliesPart {
             → StandsForReplies self.old.reader (given ++ option_to_list gave) bytes
             → AreBytes bytes → fault_of bytes ≡ None
             → KeepsSoFar replies_keeping self.old.outputs (version_of bytes) given
-            → Takes replies_kind self.new bytes result }
+            → TakesInPart replies_kind self.new bytes result }
     {
         match keep_next(self.alloc, &self.reader, &mut self.outputs, gave) {
             Ok(()) => Ok(false),

@@ -29,8 +29,8 @@ abbrev pub at_flags : CallFields → Due
 at_flags fields = if fields.flags then Number Flags else at_number fields
 
 -- what comes after its code
-abbrev pub at_key : CallFields → Due
-at_key fields = if fields.key then Byte KeyLength else at_flags fields
+abbrev pub after_call_code : CallFields → Due
+after_call_code fields = if fields.key then Byte KeyLength else at_flags fields
 
 -- ---- records
 
@@ -59,8 +59,8 @@ fresh = record {
 }
 
 -- the entry that was read, with this reply
-abbrev pub entry_of : Draft → CallReply → Entry
-entry_of d reply = record {
+abbrev pub entry_read : Draft → CallReply → Entry
+entry_read d reply = record {
   tag = record { conn = d.conn; index = d.index; part = d.part };
   shard = d.shard;
   call = call_of d.kind d.key d.flags d.number d.value;
@@ -75,10 +75,10 @@ hold_of d count = record { core = d.core; conn = d.conn; count = count }
 -- ---- for the reader alone
 
 -- where a byte of the magic is expected, its place is within it
-abbrev pub IsWithin : Due → ℕ → Type 0
-IsWithin (Byte Magic) at = at < 8
-IsWithin due at = ⊤
+abbrev pub IsInBounds : Due → ℕ → Type 0
+IsInBounds (Byte Magic) at = at < 8
+IsInBounds due at = ⊤
 
 -- this may be expected at any place
 abbrev pub IsOpenAnywhere : Due → Type 0
-IsOpenAnywhere due = (at : ℕ) → IsWithin due at
+IsOpenAnywhere due = (at : ℕ) → IsInBounds due at
