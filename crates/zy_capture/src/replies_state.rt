@@ -227,6 +227,12 @@ impl FieldFormat for RepliesState {
         }
     }
 
+    // None.
+    #[tactic(auto, using(zy_read::proofs::OverLemmas::over_none))]
+    fn judge_front(&mut self, alloc: Global, at: u64, bytes: &[u8]) -> usize {
+        0
+    }
+
     ghost widths = { widths };
 
     ghost runs = { runs };
