@@ -1,8 +1,7 @@
 //! The step of the reader of a format of fields at each byte, by the shape of the field.
-ghost use Rattle.std.specs.Prelude.{◌≡◌, ◌+◌, ◌-◌, ◌<◌, ◌≤◌, ◌++◌, ◌∷◌, [], List, length, None, Some, true, false};
-ghost use Rattle.zy_read.specs.Fields.{Place, is_full, field_step, grown_by, format_of, refused};
+ghost use Rattle.std.specs.Prelude.{◌≡◌, ◌+◌, ◌-◌, ◌<◌, None, Some, false};
+ghost use Rattle.zy_read.specs.Fields.{is_full, field_step, format_of};
 ghost use Rattle.zy_read.specs.FieldReading.{IsOfRun, TakesField};
-ghost use Rattle.zy_read.specs.Standing.{Follows};
 ghost use Rattle.zy_read.specs.declared.shape.Shape.TheVariants as Kinds;
 ghost use Rattle.zy_read.specs.FieldsLasting.{lasting};
 
