@@ -41,7 +41,7 @@ abbrev pub MayJudge : {S G F : Type 0} → (S → ℕ → Type 0) → Judged S G
 MayJudge Fits judged after old new None = new ≡ old
 MayJudge Fits judged after old new (Some answer) = Judges Fits judged after old new answer
 
--- the next field has so many bytes and can be taken at once, if there is one
+-- the next field has `count` bytes and can be taken at once, where `left` bytes are left
 pub record IsWholeNext {S G F : Type 0} (fields : Fields S G F) (ends : S → Bool) (p : Place S F) (left count : ℕ) : Type 0 where
   pub none : p.seen ≡ []
   pub open_still : p.fault ≡ None

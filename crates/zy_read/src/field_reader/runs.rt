@@ -30,8 +30,8 @@ impl<S: FieldFormat> FieldReader<S> {
         taken
     }
 
-    // The number of bytes of the next field, if it ends no record and can be taken at once where so
-    // many bytes are left, and 0 otherwise.
+    // The number of bytes of the next field, if it ends no record and can be taken at once of the
+    // bytes that are left, and 0 otherwise.
     fn next_whole(&self, left: usize) -> usize
         ensures next { 0 < result
             → IsWholeNext S.fields S.ends self.now left result }
