@@ -105,6 +105,12 @@ abbrev pub is_last : RepliesDue → Bool
 is_last Nothing = true
 is_last due = false
 
+-- the field may end the record of a session
+abbrev pub may_give : RepliesDue → Bool
+may_give (Length conn number) = true
+may_give (Output conn number others) = true
+may_give due = false
+
 -- the fields of a replies file
 abbrev pub replies_fields : Fields RepliesState SessionBytes FileFault
 replies_fields = record {

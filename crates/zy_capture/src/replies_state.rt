@@ -1,12 +1,11 @@
 //! The state of a replies file, and what its fields do.
-ghost use Rattle.std.specs.Prelude.{◌≡◌, ◌+◌, ◌∷◌, [], ℕ, length, refl};
-ghost use Rattle.zy_read.specs.declared.shape.Shape.TheVariants as Kinds;
-ghost use Rattle.zy_capture.specs.RepliesSteps.{replies_fields, shape, start, may_come, due_session, after_output};
+ghost use Rattle.std.specs.Prelude.{◌≡◌, ◌+◌, length};
+ghost use Rattle.zy_capture.specs.RepliesSteps.{replies_fields, shape, may_give, start, may_come, due_session, after_output};
 ghost use Rattle.zy_capture.specs.Replies.{AreNumbers};
 ghost use Rattle.zy_capture.specs.RepliesVerdict.{Verdict, good};
 ghost use Rattle.zy_capture.specs.RepliesVerdict.Verdict.{Bad};
 ghost use Rattle.zy_capture.specs.RepliesStanding.{IsWithin};
-ghost use Rattle.zy_capture.specs.RepliesLaws.{widths, lawful, few, begins};
+ghost use Rattle.zy_capture.specs.RepliesLaws.{widths, lawful, none, few, begins};
 
 use crate::replies_due::RepliesDue;
 use crate::session_bytes::SessionBytes;
@@ -20,13 +19,16 @@ const LETTERS: &[u8; 6] = b"ZYGREP";
 
 const SESSION_LIMIT: u32 = 2_147_483_648;
 
-/// What is expected next, the version, or 0 before the magic was read, how many connections have an
-/// output, and how many sessions the last one of them has.
+/// What was read of a replies file, up to some field.
 #[derive(Clone, Copy)]
 pub(crate) struct RepliesState {
-    pub(crate) due: RepliesDue,
+    /// What is expected next.
+    due: RepliesDue,
+    /// The version, or 0 before the magic was read.
     pub(crate) version: u32,
+    /// How many connections have an output.
     connections: u32,
+    /// How many sessions the last one of them has.
     sessions: u32,
 }
 
@@ -96,6 +98,8 @@ impl FieldFormat for RepliesState {
 
     ghost Fits = { λ s at. IsWithin s.due at };
 
+    ghost ends = { λ s. may_give s.due };
+
     fn shape(&self) -> Shape {
         match self.due {
             RepliesDue::Connection | RepliesDue::Session { .. } => Shape::Four,
@@ -107,6 +111,13 @@ impl FieldFormat for RepliesState {
 
     fn is_end(&self) -> bool {
         matches!(self.due, RepliesDue::Nothing)
+    }
+
+    fn may_give(&self) -> bool {
+        matches!(
+            self.due,
+            RepliesDue::Length { .. } | RepliesDue::Output { .. }
+        )
     }
 
     fn limit(&self) -> u64 {
@@ -212,6 +223,8 @@ impl FieldFormat for RepliesState {
     ghost widths = { widths };
 
     ghost lawful = { lawful };
+
+    ghost none = { none };
 
     ghost few = { few };
 

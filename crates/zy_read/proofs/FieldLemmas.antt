@@ -130,3 +130,19 @@ run_fed {S} {G} {F} fields good bad p q bytes none short room same =
     ∙ grows_read fields bytes p.state p.seen p.at [] short (inr room)
     ∙ ap (λ (x : Place S F). record { given = []; last = grown_by x bytes }) (sym (here p none))
     ∙ ap (λ (x : Place S F). record { given = []; last = x }) (sym same))
+
+-- a whole field that leads on is fed
+pub whole_fed : {S G F V : Type 0} (fields : Fields S G F) (lawful : IsLawful fields) (good : S → List G → V) (bad : F → V) (p q : Place S F) (next : S) (field : List ℕ) → p.fault ≡ None → p.seen ≡ [] → fields.width p.state ≡ length field → p.at + length field ≤ fields.limit
+    → fields.judge p.state p.at field ≡ Then next → q ≡ at_state next (p.at + length field) → Feeds (format_of fields good bad) p q field []
+unfolding read_on
+whole_fed {S} {G} {F} fields lawful good bad p q next field none empty size room judged same =
+    let from_here : p.at - 0 ≡ p.at = omega arith in
+    let one = read_rest fields p.state field [] p.at (omega (arith, size, lawful.some p.state)) (omega (arith, size)) (inr room) in
+    fed_by (format_of fields good bad) p q field []
+    (ap (λ (x : Place S F). read_on (step fields) x field) (here p none ∙ ap (λ (l : List ℕ). within p.state l p.at) empty)
+    ∙ ap (λ (l : List ℕ). read_on (step fields) (within p.state [] p.at) l) (sym (append-nil field))
+    ∙ one.reads []
+    ∙ ap (λ (n : ℕ). goes_on fields (moved one.last (fields.judge p.state n field)) []) from_here
+    ∙ ap (λ (j : Judged S G F). goes_on fields (moved one.last j) []) judged
+    ∙ ap (λ (n : ℕ). record { given = []; last = at_state next n }) one.place
+    ∙ ap (λ (x : Place S F). record { given = []; last = x }) (sym same))

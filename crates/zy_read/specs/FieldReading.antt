@@ -1,5 +1,5 @@
 -- What a reader of a format of fields keeps, and what the judgement of a field answers.
-use Rattle.std.specs.Prelude.{◌≡◌, ℕ, ◌+◌, ◌-◌, ◌^◌, ◌<◌, ◌≤◌, true, false, List, [], ◌++◌, length, Option, None, Some}
+use Rattle.std.specs.Prelude.{◌≡◌, ℕ, ◌+◌, ◌-◌, ◌^◌, ◌<◌, ◌≤◌, Bool, true, false, List, [], ◌++◌, length, Option, None, Some}
 use Rattle.std.specs.Prelude.{Result, Ok, Err, ⊤}
 use Rattle.zy_read.specs.Format.{Step}
 use Rattle.zy_read.specs.Standing.{Follows}
@@ -30,6 +30,25 @@ Judges Fits judged after old new (Err fault) = (judged ≡ Wrong fault) × (new 
 abbrev pub EndsWith : {S G F : Type 0} → Fields S G F → Option F → Place S F → F → Type 0
 EndsWith fields None p fault = (fields.is_end p.state ≡ false) × (fault ≡ fields.truncated p.at)
 EndsWith fields (Some found) p fault = found ≡ fault
+
+-- what a field does ends no record
+abbrev pub EndsNone : {S G F : Type 0} → Judged S G F → Type 0
+EndsNone (Gives next item) = ⊥
+EndsNone judged = ⊤
+
+-- an answer and a new state, if there is an answer, are what the field does
+abbrev pub MayJudge : {S G F : Type 0} → (S → ℕ → Type 0) → Judged S G F → ℕ → S → S → Option (Result (Option G) F) → Type 0
+MayJudge Fits judged after old new None = new ≡ old
+MayJudge Fits judged after old new (Some answer) = Judges Fits judged after old new answer
+
+-- the next field has `count` bytes and can be taken at once, where `left` bytes are left
+pub record IsWholeNext {S G F : Type 0} (fields : Fields S G F) (ends : S → Bool) (p : Place S F) (left count : ℕ) : Type 0 where
+  pub none : p.seen ≡ []
+  pub open_still : p.fault ≡ None
+  pub size : fields.width p.state ≡ count
+  pub within : count < left
+  pub room : p.at + count ≤ fields.limit
+  pub no_record : ends p.state ≡ false
 
 -- the end was read and no fault was met, or this is the fault
 abbrev pub EndsAt : {S G F : Type 0} → Fields S G F → Place S F → Result ⊤ F → Type 0

@@ -1,7 +1,7 @@
 //! A format whose texts are fields, one after another.
-ghost use Rattle.std.specs.Prelude.{◌≡◌, ◌+◌, ◌-◌, ◌<◌, ◌^◌, ◌∷◌, [], ℕ, List, length};
+ghost use Rattle.std.specs.Prelude.{◌≡◌, ◌+◌, ◌-◌, ◌<◌, ◌^◌, ◌∷◌, [], ℕ, Bool, false, List, length};
 ghost use Rattle.zy_read.specs.Fields.{Fields, IsLawful};
-ghost use Rattle.zy_read.specs.FieldReading.{width_of, Judges};
+ghost use Rattle.zy_read.specs.FieldReading.{width_of, Judges, EndsNone};
 ghost use Rattle.zy_read.specs.declared.shape.Shape.{Shape as Shapes};
 ghost use Rattle.zy_read.specs.declared.shape.Shape.TheVariants as Kinds;
 
@@ -35,6 +35,9 @@ pub trait FieldFormat: Drop {
     /// The state may be that at this place.
     ghost Fits: { Self → ℕ → Type 0 };
 
+    /// The next field may end a record.
+    ghost ends: { Self → Bool };
+
     /// The shape of the next field.
     fn shape(&self) -> Shape
         ensures value { result ≡ shape_of self.now };
@@ -42,6 +45,10 @@ pub trait FieldFormat: Drop {
     /// Whether a text may end here.
     fn is_end(&self) -> bool
         ensures value { result ≡ fields.is_end self.now };
+
+    /// Whether the next field may end a record.
+    fn may_give(&self) -> bool
+        ensures value { result ≡ ends self.now };
 
     /// The most bytes of a text.
     fn limit(&self) -> u64
@@ -104,6 +111,10 @@ pub trait FieldFormat: Drop {
 
     /// A field has a byte; after the end each byte is wrong.
     ghost lawful: { IsLawful fields };
+
+    /// No other field ends one.
+    ghost none: { (s : Self) (at : ℕ) (field : List ℕ) → ends s ≡ false
+        → EndsNone (fields.judge s at field) };
 
     /// There is a number after the limit.
     ghost few: { fields.limit < 2 ^ 64 - 1 };

@@ -1,18 +1,13 @@
 //! The reader of a format of fields.
-ghost use Rattle.std.specs.Prelude.{◌≡◌, ◌+◌, ◌-◌, ◌<◌, ◌≤◌, ◌++◌, ◌∷◌, [], List, length, None, Some, true, false};
-ghost use Rattle.zy_read.specs.Fields.{Place, at_state, is_full, field_step, grown_by, format_of, refused};
-ghost use Rattle.zy_read.specs.FieldReading.{IsOfRun, EndsAt, TakesField};
-ghost use Rattle.zy_read.specs.Standing.{Follows};
-ghost use Rattle.zy_read.specs.declared.shape.Shape.TheVariants as Kinds;
-ghost use Rattle.zy_read.specs.FieldsLasting.{lasting};
+ghost use Rattle.std.specs.Prelude.{◌≡◌, ◌-◌, ◌<◌, None, Some};
+ghost use Rattle.zy_read.specs.Fields.{at_state, is_full};
+ghost use Rattle.zy_read.specs.FieldReading.{EndsAt};
 
+mod runs;
 mod steps;
 
 use crate::field::Field;
 use crate::field_format::FieldFormat;
-use crate::not_taken::NotTaken;
-use crate::reads::Reads;
-use crate::shape::Shape;
 use std::alloc::Global;
 use std::marker::Model;
 

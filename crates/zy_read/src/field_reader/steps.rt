@@ -1,8 +1,7 @@
 //! The step of the reader of a format of fields at each byte, by the shape of the field.
-ghost use Rattle.std.specs.Prelude.{◌≡◌, ◌+◌, ◌-◌, ◌<◌, ◌≤◌, ◌++◌, ◌∷◌, [], List, length, None, Some, true, false};
-ghost use Rattle.zy_read.specs.Fields.{Place, is_full, field_step, grown_by, format_of, refused};
+ghost use Rattle.std.specs.Prelude.{◌≡◌, ◌+◌, ◌-◌, ◌<◌, None, Some, false};
+ghost use Rattle.zy_read.specs.Fields.{is_full, field_step, format_of};
 ghost use Rattle.zy_read.specs.FieldReading.{IsOfRun, TakesField};
-ghost use Rattle.zy_read.specs.Standing.{Follows};
 ghost use Rattle.zy_read.specs.declared.shape.Shape.TheVariants as Kinds;
 ghost use Rattle.zy_read.specs.FieldsLasting.{lasting};
 
@@ -43,47 +42,17 @@ impl<S: FieldFormat> Reads for FieldReader<S> {
         }
     }
 
-    // Takes bytes of a run, but not its last one; where memory is wanted for them, none.
-    #[tactic(auto, using(crate::proofs::FieldLemmas::run_fed, crate::proofs::Feeding::fed_none))]
+    // Takes whole fields that end no record, and then bytes of a run, but not its last one; where
+    // memory is wanted for these, none.
     fn take_run(&mut self, bytes: &[u8], at: usize) -> usize {
-        if self.fault.is_some() {
-            return 0;
-        }
-        let limit = self.state.limit();
-        match self.state.shape() {
-            Shape::Run(others) if self.at < limit => {
-                let left = others - self.payload.len() as u64;
-                let room = limit - self.at;
-                let run = left.min(room).min((bytes.len() - at - 1) as u64) as usize;
-                if self.append(others, &bytes[at..at + run]) {
-                    run
-                } else {
-                    0
-                }
-            }
-            _ => 0,
-        }
+        let fields = self.take_fields(bytes, at);
+        fields + self.take_part(bytes, at + fields)
     }
 
     ghost lasting = { lasting S.fields S.good S.bad };
 }
 
 impl<S: FieldFormat> FieldReader<S> {
-    // Takes bytes of a run, but not its last one, where there is memory.
-    fn append(&mut self, others: u64, bytes: &[u8]) -> bool
-        requires shape { S.shape_of self.old.state ≡ Kinds.Run others }
-        requires fits { length self.old.seen + length bytes.now ≤ others }
-        requires room { self.old.at + length bytes.now ≤ S.fields.limit }
-        ensures ok { result ≡ true → self.new ≡ grown_by self.old bytes.now }
-        ensures kept { result ≡ false → self.new ≡ self.old }
-    {
-        if self.payload.extend_from_slice(bytes).is_err() {
-            return false;
-        }
-        self.at += bytes.len() as u64;
-        true
-    }
-
     // A field of one byte.
     fn take_byte(&mut self, byte: u8) -> Result<Option<S::Gives>, NotTaken<S::Fault>>
         requires shape { S.shape_of self.old.state ≡ Kinds.Byte }
