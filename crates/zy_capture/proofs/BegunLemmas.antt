@@ -1,14 +1,13 @@
 -- A text is bad with a fault exactly where it has that fault.
-use Rattle.std.proofs.Common.{◌≡◌, inl, inr, ℕ, ◌+◌, ◌≤◌, List, ◌∷◌, ◌++◌, length, refl, sym, ◌∙◌, ap, subst, arith, append_assoc, length-append}
+use Rattle.std.proofs.Common.{◌≡◌, inl, inr, ℕ, List, ◌∷◌, ◌++◌, length, refl, sym, ◌∙◌, ap, subst, arith}
 use Rattle.std.specs.List.{concat}
 use Rattle.zy_read.specs.Bytes.{AreBytes}
 use Rattle.zy_read.specs.Runs.{IsCut, IsOverlong, IsOutcome}
 use Rattle.zy_read.proofs.ByteLemmas.{bytes_front}
-use Rattle.zy_read.proofs.VerdictLemmas.{outcome, fault_bad, cut_bad, cut_overlong}
+use Rattle.zy_read.proofs.VerdictLemmas.{outcome, fault_bad, cut_bad, cut_overlong, overlong_cut, overlong_text, overlong_most, overlong_long}
 use Rattle.zy_capture.specs.declared.capture_fault.CaptureFault.{CaptureFault}
 use Rattle.zy_capture.specs.declared.capture_fault.CaptureFault.TheVariants.{BadMagic, ConnCount, BadTag, ConnRange, SegmentLength, Truncated, Trailing, TooLong}
 use Rattle.zy_capture.specs.declared.capture_state.CaptureState.{CaptureState}
-use Rattle.zy_capture.specs.Capture.{capture_limit}
 use Rattle.zy_capture.specs.Faults.{IsWrong, IsBegun, IsTooLong}
 use Rattle.zy_capture.specs.Faults as Faults
 use Rattle.zy_capture.specs.Steps.{fields}
@@ -20,16 +19,11 @@ use Rattle.zy_capture.proofs.FaultReadLemmas.{wrong_bad}
 
 -- ---- texts that are begun
 
--- a text with more bytes than a capture may have is not short
-over_long : (text : List ℕ) (s : CaptureState) → IsOverlong fields text s → capture_limit + 1 ≤ length text
-over_long text s has =
-    omega (arith, has.most, ap (λ (l : List ℕ). length l) has.begins.text_is, length-append (concat has.begins.parts) (has.seen ++ has.byte ∷ has.rest), length-append has.seen (has.byte ∷ has.rest))
-
 cut_by : (text : List ℕ) (found : Verdict) → AreBytes text → IsBegun text → IsOutcome fields good Bad text found → IsCut fields text
 cut_by text found all begun (inl whole) = absurd (begun.no_capture whole.0.version whole.0.count whole.1.0 (whole_spells text whole.0 whole.1.0 all whole.1.1))
 cut_by text found all begun (inr (inl cut)) = cut.0
 cut_by text found all begun (inr (inr (s, (fault, inl has, is)))) = absurd (begun.none_wrong fault (misjudged_wrong text s fault all has))
-cut_by text found all begun (inr (inr (s, (fault, inr has, is)))) = absurd (omega (arith, over_long text s has.0, begun.short))
+cut_by text found all begun (inr (inr (s, (fault, inr has, is)))) = absurd (omega (arith, overlong_long fields text s has.0, begun.short))
 
 -- a text that is begun is cut
 begun_cut : (text : List ℕ) → AreBytes text → IsBegun text → IsCut fields text
@@ -53,25 +47,14 @@ cut_begun text cut =
 -- ---- texts that are too long
 
 too_long : (text : List ℕ) (s : CaptureState) → IsOverlong fields text s → IsTooLong text
-too_long text s has =
-    let parts : List ℕ = concat has.begins.parts in
-    let most : length (parts ++ has.seen) ≡ capture_limit = length-append parts has.seen ∙ has.most in
-    record {
-      front = parts ++ has.seen;
-      byte = has.byte;
-      rest = has.rest;
-      whole = has.begins.text_is ∙ sym (append_assoc parts has.seen (has.byte ∷ has.rest));
-      most = most;
-      begun = cut_begun (parts ++ has.seen) (record {
-        s = s;
-        given = has.given;
-        seen = has.seen;
-        begins = record { parts = has.begins.parts; runs = has.begins.runs; text_is = refl; short = has.begins.short };
-        no_end = has.no_end;
-        part = has.part;
-        within = omega (arith, most);
-      });
-    }
+too_long text s has = record {
+  front = concat has.begins.parts ++ has.seen;
+  byte = has.byte;
+  rest = has.rest;
+  whole = overlong_text fields text s has;
+  most = overlong_most fields text s has;
+  begun = cut_begun (concat has.begins.parts ++ has.seen) (overlong_cut fields text s has);
+}
 
 too_long_bad : (text : List ℕ) → AreBytes text → IsTooLong text → verdict text ≡ Bad TooLong
 too_long_bad text all has =

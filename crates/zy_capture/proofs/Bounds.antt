@@ -2,7 +2,7 @@
 use Rattle.std.proofs.Common.{◌≡◌, ℕ, ◌<◌, List, [], length, refl, arith}
 use Rattle.zy_capture.specs.declared.due.Due.{Due}
 use Rattle.zy_capture.specs.declared.due.Due.TheVariants.{Magic, Count, Tag, Connection, Length, Payload, Closed, Nothing}
-use Rattle.zy_capture.specs.Standing.{IsWithin, IsNumber, seen_of}
+use Rattle.zy_capture.specs.Standing.{IsWithin, IsFour, seen_of}
 
 -- bounds that hold where no room was made hold with any room
 pub within_any : (due : Due) (at : ℕ) (payload : List ℕ) (room : ℕ) → IsWithin due at [] [] 0 → IsWithin due at [] payload room
@@ -26,11 +26,11 @@ nothing_seen (Payload conn others) = refl
 nothing_seen due = refl
 
 -- the bytes of a number
-pub number_seen : (due : Due) (field payload : List ℕ) → IsNumber due → seen_of due field payload ≡ field
+pub number_seen : (due : Due) (field payload : List ℕ) → IsFour due → seen_of due field payload ≡ field
 number_seen (Payload conn others) field payload is = absurd is
 number_seen due field payload is = refl
 
-pub number_within : (due : Due) (at : ℕ) (field payload : List ℕ) (room : ℕ) → IsNumber due → length field < 4 → IsWithin due at field payload room
+pub number_within : (due : Due) (at : ℕ) (field payload : List ℕ) (room : ℕ) → IsFour due → length field < 4 → IsWithin due at field payload room
 number_within (Magic part) at field payload room is short = absurd is
 number_within Tag at field payload room is short = absurd is
 number_within (Payload conn others) at field payload room is short = absurd is

@@ -1,5 +1,5 @@
 -- Tests and places that both readers' lemmas use.
-use Rattle.std.proofs.Common.{◌≡◌, ℕ, ◌+◌, ◌<◌, Bool, true, false, List, [], ◌∷◌, ◌++◌, length, refl, ◌∙◌, ap, arith, append_assoc, length-append}
+use Rattle.std.proofs.Common.{◌≡◌, ℕ, ◌<◌, Bool, true, false, List, ◌++◌, refl, ◌∙◌, ap, arith, append_assoc}
 use Rattle.std.specs.Prelude.{◌==◌, ◌&&◌, if◌then◌else◌}
 use Rattle.std.proofs.lemmas.Bool.Decides.{nat_tests}
 
@@ -16,12 +16,5 @@ pub chosen : {S : Type 0} (P : S → Type 0) (test : Bool) (x y : S) → (test �
 chosen P test x y first second =
     elim test as (λ (t : Bool). (t ≡ true → P x) → (t ≡ false → P y) → P (if t then x else y)) [ true ↦ λ one two. one refl | false ↦ λ one two. two refl ] first second
 
-pub counted : (text : List ℕ) (at byte : ℕ) → at ≡ length text → at + 1 ≡ length (text ++ byte ∷ [])
-counted text at byte is = omega (arith, length-append text (byte ∷ []), is)
-
 pub assoc_twice : (x y z s : List ℕ) → (x ++ (y ++ z)) ++ s ≡ x ++ (y ++ (z ++ s))
 assoc_twice x y z s = append_assoc x (y ++ z) s ∙ ap (λ (l : List ℕ). x ++ l) (append_assoc y z s)
-
--- a byte after text that ends in the bytes of a part
-pub on_part : (text x y : List ℕ) (byte : ℕ) → text ≡ x ++ y → text ++ byte ∷ [] ≡ x ++ (y ++ byte ∷ [])
-on_part text x y byte is = ap (λ (l : List ℕ). l ++ byte ∷ []) is ∙ append_assoc x y (byte ∷ [])

@@ -1,19 +1,19 @@
 -- A field that is wrong is a fault of the text.
-use Rattle.std.proofs.Common.{◌≡◌, ◌⊎◌, inl, inr, ℕ, zero, suc, ◌+◌, ◌<◌, ◌≤◌, true, false, List, [], ◌∷◌, ◌++◌, length, take, drop, get_or, refl, sym, ◌∙◌, ap, subst, arith, append_assoc, length-append, take-append-drop}
+use Rattle.std.proofs.Common.{◌≡◌, ◌⊎◌, inl, inr, ℕ, ◌+◌, ◌≤◌, true, false, List, [], ◌∷◌, ◌++◌, length, refl, sym, ◌∙◌, ap, subst, arith, append_assoc, length-append}
 use Rattle.std.specs.Prelude.{◌==◌, ◌&&◌, nat_lt}
-use Rattle.std.specs.List.{slice_index, concat}
+use Rattle.std.specs.List.{concat}
 use Rattle.std.specs.Int.{to_be_bytes, w32}
 use Rattle.std.proofs.lemmas.Bool.{ltb-false, ltb-true}
 use Rattle.std.proofs.lemmas.Bool.Decides.{nat_tests}
 use Rattle.zy_read.specs.Bytes.{AreBytes}
 use Rattle.zy_read.specs.declared.magic.MagicPart.{MagicPart}
-use Rattle.zy_read.specs.declared.magic.MagicPart.TheVariants.{Letters, Digit, LineFeed}
 use Rattle.zy_read.specs.declared.magic.MagicStep.{MagicStep}
 use Rattle.zy_read.specs.declared.magic.MagicStep.TheVariants as Steps
 use Rattle.zy_read.specs.Magic.{magic_step}
 use Rattle.zy_read.specs.Fields.Judged.{Wrong}
 use Rattle.zy_read.specs.Runs.{IsMisjudged}
 use Rattle.zy_read.proofs.ByteLemmas.{bytes_front, bytes_back}
+use Rattle.zy_read.proofs.MagicFieldLemmas.{one_byte, bad_magic}
 use Rattle.zy_capture.specs.declared.record.Record.{Record}
 use Rattle.zy_capture.specs.declared.capture_fault.CaptureFault.{CaptureFault}
 use Rattle.zy_capture.specs.declared.capture_fault.CaptureFault.TheVariants.{BadMagic, ConnCount, BadTag, ConnRange, SegmentLength, Trailing}
@@ -21,51 +21,11 @@ use Rattle.zy_capture.specs.declared.due.Due.{Due}
 use Rattle.zy_capture.specs.declared.due.Due.TheVariants.{Magic, Count, Tag, Connection, Length, Payload, Closed, Nothing}
 use Rattle.zy_capture.specs.declared.capture_state.CaptureState.{CaptureState}
 use Rattle.zy_capture.specs.Capture.{letters, magic, spelling, capture_limit, connection_limit, segment_limit}
-use Rattle.zy_capture.specs.Faults.{BeginsMagic, front_text, GoesOn, IsConnectionOver, IsWrong}
-use Rattle.zy_capture.specs.Steps.{width, is_end, Judgement, number, byte, judge_magic, judge_tag, judge, fields}
+use Rattle.zy_capture.specs.Faults.{front_text, GoesOn, IsConnectionOver, IsWrong}
+use Rattle.zy_capture.specs.Steps.{width, is_nothing, Judgement, number, byte, judge_magic, judge_tag, judged, fields}
 use Rattle.zy_capture.proofs.ByteLemmas.{chosen}
-use Rattle.zy_capture.proofs.PlaceLemmas.{IsAfter, IsAt, one_byte, four_bytes, small_number}
+use Rattle.zy_capture.proofs.PlaceLemmas.{IsAfter, IsAt, four_bytes, small_number}
 use Rattle.zy_capture.proofs.WholeLemmas.{stands_there, ends_spelling}
-
--- ---- beginnings of a magic
-
-pub begins_letters : (at : ℕ) → BeginsMagic (take at letters)
-begins_letters at = record {
-  version = 1;
-  rest = drop at letters ++ 49 ∷ 10 ∷ [];
-  known = inl refl;
-  whole = sym (append_assoc (take at letters) (drop at letters) (49 ∷ 10 ∷ [])) ∙ ap (λ (l : List ℕ). l ++ 49 ∷ 10 ∷ []) (take-append-drop at letters);
-}
-
-pub begins_digit : (version : ℕ) → (version ≡ 1) ⊎ (version ≡ 2) → BeginsMagic (letters ++ (48 + version) ∷ [])
-begins_digit version known = record { version = version; rest = 10 ∷ []; known = known; whole = refl }
-
-letter_is : (at byte version : ℕ) (rest : List ℕ) → at < 6 → (take at letters ++ byte ∷ []) ++ rest ≡ magic version → byte ≡ slice_index letters at
-letter_is zero byte version rest within is = ap (λ (l : List ℕ). get_or l 0 0) is
-letter_is (suc zero) byte version rest within is = ap (λ (l : List ℕ). get_or l 1 0) is
-letter_is (suc (suc zero)) byte version rest within is = ap (λ (l : List ℕ). get_or l 2 0) is
-letter_is (suc (suc (suc zero))) byte version rest within is = ap (λ (l : List ℕ). get_or l 3 0) is
-letter_is (suc (suc (suc (suc zero)))) byte version rest within is = ap (λ (l : List ℕ). get_or l 4 0) is
-letter_is (suc (suc (suc (suc (suc zero))))) byte version rest within is = ap (λ (l : List ℕ). get_or l 5 0) is
-letter_is (suc (suc (suc (suc (suc (suc at)))))) byte version rest within is = absurd (omega (arith, within))
-
-differs_letter : (at byte : ℕ) → at < 6 → (byte == slice_index letters at) ≡ false → BeginsMagic (take at letters ++ byte ∷ []) → ⊥
-differs_letter at byte within differs begins =
-    let same : byte ≡ slice_index letters at = letter_is at byte begins.version begins.rest within begins.whole in
-    grind (arith, nat_tests)
-
-differs_digit : (byte : ℕ) → (byte == 49) ≡ false → (byte == 50) ≡ false → BeginsMagic (letters ++ byte ∷ []) → ⊥
-differs_digit byte one two begins =
-    let same : byte ≡ 48 + begins.version = ap (λ (l : List ℕ). get_or l 6 0) begins.whole in
-    elim begins.known [
-      | inl first ↦ let is : byte ≡ 49 = omega (arith, same, first) in grind (arith, nat_tests)
-      | inr second ↦ let is : byte ≡ 50 = omega (arith, same, second) in grind (arith, nat_tests)
-    ]
-
-differs_line_feed : (version byte : ℕ) → (byte == 10) ≡ false → BeginsMagic ((letters ++ (48 + version) ∷ []) ++ byte ∷ []) → ⊥
-differs_line_feed version byte differs begins =
-    let same : byte ≡ 10 = ap (λ (l : List ℕ). get_or l 7 0) begins.whole in
-    grind (arith, nat_tests)
 
 -- ---- a field that is wrong
 
@@ -76,46 +36,14 @@ Faults text fault judged = judged ≡ Wrong fault → IsWrong text fault
 told : (text : List ℕ) (found fault : CaptureFault) → IsWrong text found → Faults text fault (Wrong found)
 told text found fault has is = let same : found ≡ fault = cc in subst (λ (f : CaptureFault). IsWrong text f) same has
 
--- the same of a step in the magic
-abbrev MagicFaults : CaptureState → ℕ → List ℕ → CaptureFault → MagicStep → Type 0
-MagicFaults s at text fault m = Faults text fault (judge_magic s at m)
+-- a byte of the magic that is wrong
+magic_wrong : (part : MagicPart) (s : CaptureState) (front rest : List ℕ) (given : List Record) (b : ℕ) (fault : CaptureFault) (m : MagicStep) → magic_step part letters (length front) b ≡ m → IsAt (Magic part) s front given → Faults (front ++ b ∷ rest) fault (judge_magic s (length front) m)
+magic_wrong part s front rest given b fault (Steps.Next next) step is = λ none. cc
+magic_wrong part s front rest given b fault (Steps.Whole version) step is = λ none. cc
+magic_wrong part s front rest given b fault Steps.Wrong step is =
+    told (front ++ b ∷ rest) (BadMagic (length front)) fault (bad_magic part letters (front ++ b ∷ rest) front rest b refl refl is.3 is.0 is.1 step)
 
--- a byte that is none of the magic
-no_magic : (s : CaptureState) (front begun rest : List ℕ) (b : ℕ) (fault : CaptureFault) → front ≡ begun → length front < 8 → BeginsMagic begun → (BeginsMagic (begun ++ b ∷ []) → ⊥) → MagicFaults s (length front) (front ++ b ∷ rest) fault Steps.Wrong
-no_magic s front begun rest b fault is within begins differs =
-    told (front ++ b ∷ rest) (BadMagic (length front)) fault (record {
-      front = front;
-      byte = b;
-      rest = rest;
-      whole = refl;
-      place = refl;
-      within = within;
-      begins = subst BeginsMagic (sym is) begins;
-      differs = λ one. differs (subst (λ (l : List ℕ). BeginsMagic (l ++ b ∷ [])) is one);
-    })
-
-magic_wrong : (part : MagicPart) (s : CaptureState) (front rest : List ℕ) (given : List Record) (b : ℕ) (fault : CaptureFault) → IsAt (Magic part) s front given → MagicFaults s (length front) (front ++ b ∷ rest) fault (magic_step part letters (length front) b)
-magic_wrong Letters s front rest given b fault is =
-    let at : ℕ = length front in
-    let within : at < 6 = is.0 in
-    let P : MagicStep → Type 0 = MagicFaults s at (front ++ b ∷ rest) fault in
-    chosen P (b == slice_index letters at) _ Steps.Wrong
-    (λ same. chosen P (at == 5) (Steps.Next Digit) (Steps.Next Letters) (λ last none. cc) (λ more none. cc))
-    (λ differs. no_magic s front (take at letters) rest b fault is.3 (omega (arith, within)) (begins_letters at) (differs_letter at b within differs))
-magic_wrong Digit s front rest given b fault is =
-    let at : ℕ = length front in
-    let six : at ≡ 6 = ap (λ (l : List ℕ). length l) is.3 in
-    let P : MagicStep → Type 0 = MagicFaults s at (front ++ b ∷ rest) fault in
-    chosen P (b == 49) (Steps.Next (LineFeed 1)) _ (λ one none. cc)
-    (λ not_one. chosen P (b == 50) (Steps.Next (LineFeed 2)) Steps.Wrong (λ two none. cc)
-    (λ not_two. no_magic s front letters rest b fault is.3 (omega (arith, six)) (begins_letters 6) (differs_digit b not_one not_two)))
-magic_wrong (LineFeed version) s front rest given b fault is =
-    let at : ℕ = length front in
-    let seven : at ≡ 7 = ap (λ (l : List ℕ). length l) is.3 in
-    chosen (MagicFaults s at (front ++ b ∷ rest) fault) (b == 10) (Steps.Whole version) Steps.Wrong (λ same none. cc)
-    (λ differs. no_magic s front (letters ++ (48 + version) ∷ []) rest b fault is.3 (omega (arith, seven)) (begins_digit version is.1) (differs_line_feed version b differs))
-
-count_wrong : (s : CaptureState) (front field rest : List ℕ) (given : List Record) (fault : CaptureFault) → AreBytes field → IsAt Count s front given → length field ≡ 4 → Faults (front ++ (field ++ rest)) fault (judge Count s (length front) field)
+count_wrong : (s : CaptureState) (front field rest : List ℕ) (given : List Record) (fault : CaptureFault) → AreBytes field → IsAt Count s front given → length field ≡ 4 → Faults (front ++ (field ++ rest)) fault (judged Count s (length front) field)
 count_wrong s front field rest given fault all is four =
     let n : ℕ = number field in
     chosen (Faults (front ++ (field ++ rest)) fault) (nat_lt connection_limit n) _ _
@@ -183,19 +111,19 @@ range_wrong s front field rest given tag all is four known room over =
       within = omega (arith, room);
     }
 
-connection_wrong : (s : CaptureState) (front field rest : List ℕ) (given : List Record) (fault : CaptureFault) → AreBytes field → IsAt Connection s front given → length field ≡ 4 → length front + 4 ≤ capture_limit → Faults (front ++ (field ++ rest)) fault (judge Connection s (length front) field)
+connection_wrong : (s : CaptureState) (front field rest : List ℕ) (given : List Record) (fault : CaptureFault) → AreBytes field → IsAt Connection s front given → length field ≡ 4 → length front + 4 ≤ capture_limit → Faults (front ++ (field ++ rest)) fault (judged Connection s (length front) field)
 connection_wrong s front field rest given fault all is four room =
     let n : ℕ = number field in
     chosen (Faults (front ++ (field ++ rest)) fault) (nat_lt n s.count) _ _ (λ below none. cc)
     (λ over. told (front ++ (field ++ rest)) (ConnRange (length front) n) fault (range_wrong s front field rest given 83 all is four (inl refl) room (ltb-false n s.count over)))
 
-closed_wrong : (s : CaptureState) (front field rest : List ℕ) (given : List Record) (fault : CaptureFault) → AreBytes field → IsAt Closed s front given → length field ≡ 4 → length front + 4 ≤ capture_limit → Faults (front ++ (field ++ rest)) fault (judge Closed s (length front) field)
+closed_wrong : (s : CaptureState) (front field rest : List ℕ) (given : List Record) (fault : CaptureFault) → AreBytes field → IsAt Closed s front given → length field ≡ 4 → length front + 4 ≤ capture_limit → Faults (front ++ (field ++ rest)) fault (judged Closed s (length front) field)
 closed_wrong s front field rest given fault all is four room =
     let n : ℕ = number field in
     chosen (Faults (front ++ (field ++ rest)) fault) (nat_lt n s.count) _ _ (λ below none. cc)
     (λ over. told (front ++ (field ++ rest)) (ConnRange (length front) n) fault (range_wrong s front field rest given 67 all is.0 four (inr (refl, is.1)) room (ltb-false n s.count over)))
 
-length_wrong : (conn : ℕ) (s : CaptureState) (front field rest : List ℕ) (given : List Record) (fault : CaptureFault) → AreBytes field → IsAt (Length conn) s front given → length field ≡ 4 → length front + 4 ≤ capture_limit → Faults (front ++ (field ++ rest)) fault (judge (Length conn) s (length front) field)
+length_wrong : (conn : ℕ) (s : CaptureState) (front field rest : List ℕ) (given : List Record) (fault : CaptureFault) → AreBytes field → IsAt (Length conn) s front given → length field ≡ 4 → length front + 4 ≤ capture_limit → Faults (front ++ (field ++ rest)) fault (judged (Length conn) s (length front) field)
 length_wrong conn s front field rest given fault all is four room =
     let n : ℕ = number field in
     let text : List ℕ = front ++ (field ++ rest) in
@@ -237,21 +165,21 @@ end_wrong s front rest given b fault is short =
 -- ---- all fields
 
 -- there is room for a field that is not the end
-room_for : (next : Due) (count size : ℕ) → is_end next ≡ false → (is_end next ≡ true) ⊎ (count ≤ capture_limit) → count ≡ size → size ≤ capture_limit
-room_for next count size still (inl end_is) same = cc
-room_for next count size still (inr few) same = omega (arith, few, same)
+room_for : (due : Due) (count size : ℕ) → is_nothing due ≡ false → (is_nothing due ≡ true) ⊎ (count ≤ capture_limit) → count ≡ size → size ≤ capture_limit
+room_for due count size still (inl end_is) same = cc
+room_for due count size still (inr few) same = omega (arith, few, same)
 
 -- a field of one byte, in front of the rest
 one_text : (front field rest : List ℕ) → length field ≡ 1 → front ++ byte field ∷ rest ≡ front ++ (field ++ rest)
 one_text front field rest one = ap (λ (l : List ℕ). front ++ (l ++ rest)) (sym (one_byte field one))
 
-field_wrong : (next : Due) (s : CaptureState) (front field rest : List ℕ) (given : List Record) (fault : CaptureFault) → AreBytes field → IsAt next s front given → length field ≡ width next → length front ≤ capture_limit
-    → (is_end next ≡ true) ⊎ (length front + length field ≤ capture_limit) → Faults (front ++ (field ++ rest)) fault (judge next s (length front) field)
+field_wrong : (due : Due) (s : CaptureState) (front field rest : List ℕ) (given : List Record) (fault : CaptureFault) → AreBytes field → IsAt due s front given → length field ≡ width due → length front ≤ capture_limit
+    → (is_nothing due ≡ true) ⊎ (length front + length field ≤ capture_limit) → Faults (front ++ (field ++ rest)) fault (judged due s (length front) field)
 field_wrong (Magic part) s front field rest given fault all is size short room =
-    subst (λ (l : List ℕ). Faults l fault (judge (Magic part) s (length front) field)) (one_text front field rest size) (magic_wrong part s front rest given (byte field) fault is)
+    subst (λ (l : List ℕ). Faults l fault (judged (Magic part) s (length front) field)) (one_text front field rest size) (magic_wrong part s front rest given (byte field) fault (magic_step part letters (length front) (byte field)) refl is)
 field_wrong Count s front field rest given fault all is size short room = count_wrong s front field rest given fault all is size
 field_wrong Tag s front field rest given fault all is size short room =
-    subst (λ (l : List ℕ). Faults l fault (judge Tag s (length front) field)) (one_text front field rest size) (tag_wrong s front rest given (byte field) fault is (room_for Tag (length front + length field) (length front + 1) refl room (omega (arith, size))))
+    subst (λ (l : List ℕ). Faults l fault (judged Tag s (length front) field)) (one_text front field rest size) (tag_wrong s front rest given (byte field) fault is (room_for Tag (length front + length field) (length front + 1) refl room (omega (arith, size))))
 field_wrong Connection s front field rest given fault all is size short room =
     connection_wrong s front field rest given fault all is size (room_for Connection (length front + length field) (length front + 4) refl room (omega (arith, size)))
 field_wrong (Length conn) s front field rest given fault all is size short room =
@@ -260,7 +188,7 @@ field_wrong (Payload conn more) s front field rest given fault all is size short
 field_wrong Closed s front field rest given fault all is size short room =
     closed_wrong s front field rest given fault all is size (room_for Closed (length front + length field) (length front + 4) refl room (omega (arith, size)))
 field_wrong Nothing s front field rest given fault all is size short room =
-    subst (λ (l : List ℕ). Faults l fault (judge Nothing s (length front) field)) (one_text front field rest size) (end_wrong s front rest given (byte field) fault is short)
+    subst (λ (l : List ℕ). Faults l fault (judged Nothing s (length front) field)) (one_text front field rest size) (end_wrong s front rest given (byte field) fault is short)
 
 -- a text with a wrong field has its fault
 pub misjudged_wrong : (text : List ℕ) (s : CaptureState) (fault : CaptureFault) → AreBytes text → IsMisjudged fields text s fault → IsWrong text fault

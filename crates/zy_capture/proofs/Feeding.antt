@@ -9,14 +9,14 @@ use Rattle.zy_capture.specs.declared.capture_fault.CaptureFault.{CaptureFault}
 use Rattle.zy_capture.specs.declared.capture_fault.CaptureFault.TheVariants.{Truncated}
 use Rattle.zy_capture.specs.declared.due.Due.{Due}
 use Rattle.zy_capture.specs.declared.due.Due.TheVariants.{Nothing}
-use Rattle.zy_capture.specs.Steps.{Progress, is_end, fields}
+use Rattle.zy_capture.specs.Steps.{Progress, is_nothing, fields}
 use Rattle.zy_capture.specs.Verdict.{version_of, version_in, count_of, count_in, is_within_by, is_within_record, captures, good, is_good}
 use Rattle.zy_capture.specs.Verdict.Verdict.{Good, Bad}
 use Rattle.zy_capture.specs.Standing.{StandsFor}
 
-pub version_here : (p : Progress) (given : List Record) (b : List ℕ) → StandsFor p given b → version_of b ≡ version_in p.state.due p.state.version
+pub version_here : (p : Progress) (given : List Record) (b : List ℕ) → StandsFor p given b → version_of b ≡ version_in p.state.version
 unfolding version_of StandsAs
-version_here p given b stands = ap (λ (r : Reading Progress Record). version_in r.last.state.due r.last.state.version) stands
+version_here p given b stands = ap (λ (r : Reading Progress Record). version_in r.last.state.version) stands
 
 pub count_here : (p : Progress) (given : List Record) (b : List ℕ) → StandsFor p given b → count_of b ≡ count_in p.state.due p.state.count
 unfolding count_of StandsAs
@@ -33,7 +33,7 @@ pub record IsEnded (p : Progress) : Type 0 where
   pub none : p.fault ≡ None
   pub due : p.state.due ≡ Nothing
 
-end_due : (due : Due) (p : Progress) (given : List Record) → is_good (if is_end due then good p.state given else Bad (Truncated p.at)) ≡ true → due ≡ Nothing
+end_due : (due : Due) (p : Progress) (given : List Record) → is_good (if is_nothing due then good p.state given else Bad (Truncated p.at)) ≡ true → due ≡ Nothing
 end_due Nothing p given is = refl
 end_due due p given is = cc
 

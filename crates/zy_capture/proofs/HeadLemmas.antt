@@ -1,33 +1,38 @@
 -- What a segment begins with, up to the last byte of its length, fed at once.
 use Rattle.std.proofs.Common.{◌≡◌, ℕ, ◌+◌, ◌<◌, ◌≤◌, List, [], ◌∷◌, length, get_or, refl, sym, ◌∙◌, ap, subst, arith}
 use Rattle.std.specs.Prelude.{None}
+use Rattle.std.specs.List.{concat}
+use Rattle.std.proofs.lemmas.List.{append-nil}
 use Rattle.std.proofs.lemmas.Bool.{lt-ltb}
 use Rattle.zy_read.specs.Format.{read_on}
 use Rattle.zy_read.specs.Standing.{Feeds}
 use Rattle.zy_read.specs.Fields.{at_state, step}
 use Rattle.zy_read.proofs.Feeding.{fed_by, fed_on}
 use Rattle.zy_read.proofs.FieldLemmas.{runs_read, run_fed}
+use Rattle.zy_read.proofs.OverLemmas.{over_then, over_join}
 use Rattle.zy_capture.specs.declared.due.Due.TheVariants.{Tag, Connection, Length}
 use Rattle.zy_capture.specs.declared.capture_state.CaptureState.{CaptureState}
 use Rattle.zy_capture.specs.Capture.{capture_limit}
 use Rattle.zy_capture.specs.Steps.{Progress, to, number, fields, headed}
 use Rattle.zy_capture.specs.Verdict.{captures, good}
 use Rattle.zy_capture.specs.Verdict.Verdict.{Bad}
-use Rattle.zy_capture.proofs.PartLemmas.{Leads, then_leads}
+use Rattle.zy_capture.proofs.PartLemmas.{Over}
 use Rattle.zy_capture.proofs.WholeLemmas.{lawful}
 
 -- a tag and a connection lead to the length
-conn_leads : (s : CaptureState) (at a b c d : ℕ) → s.due ≡ Tag → number (a ∷ b ∷ c ∷ d ∷ []) < s.count → Leads s at ((83 ∷ []) ∷ (a ∷ b ∷ c ∷ d ∷ []) ∷ []) (to s (Length (number (a ∷ b ∷ c ∷ d ∷ [])))) []
-conn_leads s at a b c d is few =
-    let conn : ℕ = number (a ∷ b ∷ c ∷ d ∷ []) in
-    then_leads s (to s Connection) (to s (Length conn)) at (83 ∷ []) ((a ∷ b ∷ c ∷ d ∷ []) ∷ []) [] (rw is refl) (rw is refl)
-    (then_leads (to s Connection) (to s (Length conn)) (to s (Length conn)) (at + 1) (a ∷ b ∷ c ∷ d ∷ []) [] [] refl (rw (lt-ltb conn s.count few) refl) (refl, refl))
+conn_leads : (s : CaptureState) (at : ℕ) (conn : List ℕ) → s.due ≡ Tag → length conn ≡ 4 → number conn < s.count → Over s at (83 ∷ conn) (to s (Length (number conn))) []
+conn_leads s at conn is four few =
+    over_join fields s (to s Connection) (to s (Length (number conn))) at (83 ∷ []) conn [] [] (over_then fields s (to s Connection) at (83 ∷ []) (rw is refl) (rw is refl))
+    (over_then fields (to s Connection) (to s (Length (number conn))) (at + 1) conn four (rw (lt-ltb (number conn) s.count few) refl))
 
-conn_read : (s : CaptureState) (at a b c d : ℕ) → at + 5 ≤ capture_limit → s.due ≡ Tag → number (a ∷ b ∷ c ∷ d ∷ []) < s.count
-    → read_on (step fields) (at_state s at) (83 ∷ a ∷ b ∷ c ∷ d ∷ []) ≡ record { given = []; last = at_state (to s (Length (number (a ∷ b ∷ c ∷ d ∷ [])))) (at + 5) }
+conn_read : (s : CaptureState) (at : ℕ) (conn : List ℕ) → at + 5 ≤ capture_limit → s.due ≡ Tag → length conn ≡ 4 → number conn < s.count
+    → read_on (step fields) (at_state s at) (83 ∷ conn) ≡ record { given = []; last = at_state (to s (Length (number conn))) (at + 5) }
 unfolding read_on
-conn_read s at a b c d room is few =
-    runs_read fields lawful ((83 ∷ []) ∷ (a ∷ b ∷ c ∷ d ∷ []) ∷ []) s (to s (Length (number (a ∷ b ∷ c ∷ d ∷ [])))) at (at + 5) [] [] (omega arith) room (conn_leads s at a b c d is few)
+conn_read s at conn room is four few =
+    let over : Over s at (83 ∷ conn) (to s (Length (number conn))) [] = conn_leads s at conn is four few in
+    let size : length (concat over.parts) ≡ 5 = omega (arith, ap (λ (l : List ℕ). length l) over.text_is, four) in
+    ap (λ (l : List ℕ). read_on (step fields) (at_state s at) l) (sym over.text_is ∙ sym (append-nil (concat over.parts)))
+    ∙ runs_read fields lawful over.parts s (to s (Length (number conn))) at (at + 5) [] [] (omega (arith, size)) room over.runs
 
 -- a place where nothing of a field was read
 plain : (p : Progress) → p.fault ≡ None → p.seen ≡ [] → p ≡ at_state p.state p.at
@@ -42,7 +47,7 @@ head_fed p q a b c d e f g is none empty room few same =
     let last : CaptureState = to s (Length conn) in
     let middle : Progress = at_state last (p.at + 5) in
     let first : read_on (step fields) p (83 ∷ a ∷ b ∷ c ∷ d ∷ []) ≡ record { given = []; last = middle } =
-    ap (λ (x : Progress). read_on (step fields) x (83 ∷ a ∷ b ∷ c ∷ d ∷ [])) (plain p none empty) ∙ conn_read s p.at a b c d (omega (arith, room)) is few in
+    ap (λ (x : Progress). read_on (step fields) x (83 ∷ a ∷ b ∷ c ∷ d ∷ [])) (plain p none empty) ∙ conn_read s p.at (a ∷ b ∷ c ∷ d ∷ []) (omega (arith, room)) is refl few in
     let places : headed p conn (e ∷ f ∷ g ∷ []) ≡ record { state = last; seen = e ∷ f ∷ g ∷ []; at = p.at + 5 + 3; fault = None } =
     ap (λ o. record { state = last; seen = e ∷ f ∷ g ∷ []; at = p.at + 8; fault = o }) none ∙ ap (λ n. record { state = last; seen = e ∷ f ∷ g ∷ []; at = n; fault = None }) (omega arith) in
     fed_on captures p middle q (83 ∷ a ∷ b ∷ c ∷ d ∷ []) (e ∷ f ∷ g ∷ []) [] [] (fed_by captures p middle (83 ∷ a ∷ b ∷ c ∷ d ∷ []) [] first)

@@ -14,6 +14,7 @@ use Rattle.zy_read.specs.declared.magic.MagicStep.TheVariants as Steps
 use Rattle.zy_read.specs.Magic.{magic_step, IsInMagic, magic_before}
 use Rattle.zy_read.proofs.ByteLemmas.{byte_at}
 use Rattle.zy_read.proofs.MagicLemmas.{IsVersion, IsKnown, LeadsTo, leads}
+use Rattle.zy_read.proofs.MagicFieldLemmas.{one_byte}
 use Rattle.zy_read.proofs.RunLemmas.{After, Keeps}
 use Rattle.zy_capture.specs.declared.record.Record.{Record}
 use Rattle.zy_capture.specs.declared.record.Record.TheVariants as Kinds
@@ -22,7 +23,7 @@ use Rattle.zy_capture.specs.declared.due.Due.TheVariants.{Magic, Count, Tag, Con
 use Rattle.zy_capture.specs.declared.capture_state.CaptureState.{CaptureState}
 use Rattle.zy_capture.specs.Capture.{letters, magic, spelled, IsRecordOf, IsCapture, connection_limit, segment_limit}
 use Rattle.zy_capture.specs.Faults.{front_text}
-use Rattle.zy_capture.specs.Steps.{width, Judgement, number, byte, segment, judge_magic, judge, fields}
+use Rattle.zy_capture.specs.Steps.{width, Judgement, number, byte, segment, judge_magic, judged, fields}
 use Rattle.zy_capture.proofs.ByteLemmas.{both_true, positive, chosen, assoc_twice}
 
 -- ---- what leads to a field
@@ -55,12 +56,6 @@ abbrev Goes : List ℕ → List Record → Judgement → Type 0
 Goes text given judged = After Stands text given judged
 
 -- ---- fields
-
--- the bytes of a field of one byte
-pub one_byte : (field : List ℕ) → length field ≡ 1 → field ≡ byte field ∷ []
-one_byte [] one = absurd (omega (arith, one))
-one_byte (b ∷ []) one = refl
-one_byte (b ∷ next ∷ rest) one = absurd (omega (arith, one))
 
 -- the bytes of a field of four
 pub four_bytes : (field : List ℕ) → AreBytes field → length field ≡ 4 → to_be_bytes w32 (number field) ≡ field
@@ -99,14 +94,14 @@ magic_goes s at text given (Steps.Next part) long none on =
 magic_goes s at text given (Steps.Whole version) long none on = (on.0, none, on.1)
 magic_goes s at text given Steps.Wrong long none on = tt
 
-pub from_magic : (part : MagicPart) (s : CaptureState) (text field : List ℕ) (given : List Record) → IsAt (Magic part) s text given → length field ≡ 1 → Goes (text ++ field) given (judge (Magic part) s (length text) field)
+pub from_magic : (part : MagicPart) (s : CaptureState) (text field : List ℕ) (given : List Record) → IsAt (Magic part) s text given → length field ≡ 1 → Goes (text ++ field) given (judged (Magic part) s (length text) field)
 from_magic part s text field given is one =
     let at : ℕ = length text in
     let grown : magic_before part letters at ++ byte field ∷ [] ≡ text ++ field = ap (λ (l : List ℕ). l ++ byte field ∷ []) (sym is.3) ∙ ap (λ (l : List ℕ). text ++ l) (sym (one_byte field one)) in
     magic_goes s at (text ++ field) given (magic_step part letters at (byte field)) (omega (arith, length-append text field, one)) is.2
     (subst (λ (l : List ℕ). LeadsTo letters (at + 1) l (magic_step part letters at (byte field))) grown (leads part letters at (byte field) refl is.0 is.1))
 
-from_count : (s : CaptureState) (text field : List ℕ) (given : List Record) → AreBytes field → IsAt Count s text given → length field ≡ 4 → Goes (text ++ field) given (judge Count s (length text) field)
+from_count : (s : CaptureState) (text field : List ℕ) (given : List Record) → AreBytes field → IsAt Count s text given → length field ≡ 4 → Goes (text ++ field) given (judged Count s (length text) field)
 from_count s text field given all is four =
     let n : ℕ = number field in
     chosen (Goes (text ++ field) given) (nat_lt connection_limit n) _ _ (λ over. tt)
@@ -116,7 +111,7 @@ from_count s text field given all is four =
           ∙ ap (λ (l : List ℕ). magic s.version ++ l) (sym (append-nil (to_be_bytes w32 n))) ∙ sym (append-nil (front_text s.version n []));
     }))
 
-from_tag : (s : CaptureState) (text field : List ℕ) (given : List Record) → IsAt Tag s text given → length field ≡ 1 → Goes (text ++ field) given (judge Tag s (length text) field)
+from_tag : (s : CaptureState) (text field : List ℕ) (given : List Record) → IsAt Tag s text given → length field ≡ 1 → Goes (text ++ field) given (judged Tag s (length text) field)
 from_tag s text field given is one =
     let tag : ℕ = byte field in
     let becomes : (due : ℕ) → tag ≡ due → IsAfter s.version s.count given (due ∷ []) (text ++ field) = λ due same. after_on s.version s.count given [] text field (due ∷ []) (one_byte field one ∙ ap (λ (b : ℕ). b ∷ []) same) is in
@@ -126,14 +121,14 @@ from_tag s text field given is one =
     (λ both. let same : (tag ≡ 67) × (s.version ≡ 2) = both_true tag 67 s.version 2 both in (becomes 67 same.0, same.1))
     (λ none. tt)))
 
-from_connection : (s : CaptureState) (text field : List ℕ) (given : List Record) → AreBytes field → IsAt Connection s text given → length field ≡ 4 → Goes (text ++ field) given (judge Connection s (length text) field)
+from_connection : (s : CaptureState) (text field : List ℕ) (given : List Record) → AreBytes field → IsAt Connection s text given → length field ≡ 4 → Goes (text ++ field) given (judged Connection s (length text) field)
 from_connection s text field given all is four =
     let conn : ℕ = number field in
     chosen (Goes (text ++ field) given) (nat_lt conn s.count) _ _
     (λ below. (after_on s.version s.count given (83 ∷ []) text field (83 ∷ to_be_bytes w32 conn) (ap (λ (l : List ℕ). 83 ∷ l) (sym (four_bytes field all four))) is, ltb-true conn s.count below))
     (λ over. tt)
 
-from_length : (conn : ℕ) (s : CaptureState) (text field : List ℕ) (given : List Record) → AreBytes field → IsAt (Length conn) s text given → length field ≡ 4 → Goes (text ++ field) given (judge (Length conn) s (length text) field)
+from_length : (conn : ℕ) (s : CaptureState) (text field : List ℕ) (given : List Record) → AreBytes field → IsAt (Length conn) s text given → length field ≡ 4 → Goes (text ++ field) given (judged (Length conn) s (length text) field)
 from_length conn s text field given all is four =
     let size : ℕ = number field in
     let tail : List ℕ = 83 ∷ to_be_bytes w32 conn in
@@ -146,20 +141,20 @@ from_length conn s text field given all is four =
     let whole : size - 1 + 1 ≡ size = omega (arith, positive size some) in
     (after_on s.version s.count given tail text field (tail ++ to_be_bytes w32 (size - 1 + 1)) (grown ∙ ap (λ (n : ℕ). tail ++ to_be_bytes w32 n) (sym whole)) is.0, is.1, omega (arith, whole, ltb-false segment_limit size few))))
 
-from_payload : (conn others : ℕ) (s : CaptureState) (text field : List ℕ) (given : List Record) → IsAt (Payload conn others) s text given → length field ≡ others + 1 → Goes (text ++ field) given (judge (Payload conn others) s (length text) field)
+from_payload : (conn others : ℕ) (s : CaptureState) (text field : List ℕ) (given : List Record) → IsAt (Payload conn others) s text given → length field ≡ others + 1 → Goes (text ++ field) given (judged (Payload conn others) s (length text) field)
 from_payload conn others s text field given is size =
     let tail : List ℕ = 83 ∷ (to_be_bytes w32 conn ++ to_be_bytes w32 (others + 1)) in
     record_on s.version s.count given (segment conn field) tail text field (is.1, omega (arith, size, is.2))
     (ap (λ (l : List ℕ). 83 ∷ l) (append_assoc (to_be_bytes w32 conn) (to_be_bytes w32 (others + 1)) field) ∙ ap (λ (n : ℕ). 83 ∷ (to_be_bytes w32 conn ++ (to_be_bytes w32 n ++ field))) (sym size)) is.0
 
-from_closed : (s : CaptureState) (text field : List ℕ) (given : List Record) → AreBytes field → IsAt Closed s text given → length field ≡ 4 → Goes (text ++ field) given (judge Closed s (length text) field)
+from_closed : (s : CaptureState) (text field : List ℕ) (given : List Record) → AreBytes field → IsAt Closed s text given → length field ≡ 4 → Goes (text ++ field) given (judged Closed s (length text) field)
 from_closed s text field given all is four =
     let conn : ℕ = number field in
     chosen (Goes (text ++ field) given) (nat_lt conn s.count) _ _
     (λ below. record_on s.version s.count given (Kinds.Close conn) (67 ∷ []) text field (is.1, ltb-true conn s.count below) (ap (λ (l : List ℕ). 67 ∷ l) (sym (four_bytes field all four))) is.0)
     (λ over. tt)
 
-field_keeps : (next : Due) (s : CaptureState) (text field : List ℕ) (given : List Record) → AreBytes field → IsAt next s text given → length field ≡ width next → Goes (text ++ field) given (judge next s (length text) field)
+field_keeps : (due : Due) (s : CaptureState) (text field : List ℕ) (given : List Record) → AreBytes field → IsAt due s text given → length field ≡ width due → Goes (text ++ field) given (judged due s (length text) field)
 field_keeps (Magic part) s text field given all is size = from_magic part s text field given is size
 field_keeps Count s text field given all is size = from_count s text field given all is size
 field_keeps Tag s text field given all is size = from_tag s text field given is size

@@ -26,7 +26,7 @@ use Rattle.zy_capture.specs.SoFar.{IsCaptureSoFar}
 use Rattle.zy_capture.proofs.ByteLemmas.{chosen}
 use Rattle.zy_capture.proofs.PlaceLemmas.{IsAt}
 use Rattle.zy_capture.proofs.WholeLemmas.{lawful, stands_there, good_spells, spells_whole}
-use Rattle.zy_capture.proofs.TellLemmas.{IsAfterSome, after_some}
+use Rattle.zy_capture.proofs.TellLemmas.{IsAfterSome, after_some, known_version}
 
 -- ---- a whole capture
 
@@ -42,7 +42,7 @@ spells_tells text version count items spells =
     let whole = spells_whole text version count items spells in
     let read = begins_read fields lawful text (state Nothing version count) items [] whole.begins in
     record {
-      version_is = ap (λ (r : Reading Progress Record). version_in r.last.state.due r.last.state.version) read;
+      version_is = ap (λ (r : Reading Progress Record). version_in r.last.state.version) read ∙ known_version version spells.valid.known;
       count_is = ap (λ (r : Reading Progress Record). count_in r.last.state.due r.last.state.count) read;
       records_are = ap (λ (r : Reading Progress Record). r.given) read ∙ append-nil items;
     }
@@ -82,13 +82,14 @@ made s given front more text some whole short version_is count_is records_are =
       few = λ conn. subst (λ (l : List Record). closes conn l < 2 ^ 31) (sym records_are) (omega (arith, spent conn, short));
     }
 
-so_far : (next : Due) (s : CaptureState) (given : List Record) (front more text : List ℕ) → IsAt next s front given → text ≡ front ++ more → length text ≤ capture_limit → version_of text ≡ version_in next s.version → count_of text ≡ count_in next s.count → records_of text ≡ given → given ≢ [] → IsCaptureSoFar text
+so_far : (due : Due) (s : CaptureState) (given : List Record) (front more text : List ℕ) → IsAt due s front given → text ≡ front ++ more → length text ≤ capture_limit → version_of text ≡ version_in s.version → count_of text ≡ count_in due s.count → records_of text ≡ given → given ≢ [] → IsCaptureSoFar text
 so_far (Magic part) s given front more text is whole short version_is count_is records_are some = absurd (some is.2)
 so_far Count s given front more text is whole short version_is count_is records_are some = absurd (some is.1)
-so_far next s given front more text is whole short version_is count_is records_are some =
-    made s given front more text (after_some next s front given tt is) whole short version_is count_is records_are
+so_far due s given front more text is whole short version_is count_is records_are some =
+    let after : IsAfterSome s front given = after_some due s front given tt is in
+    made s given front more text after whole short (version_is ∙ known_version s.version after.after.valid.known) count_is records_are
 
-read_so_far : (text : List ℕ) (p : Progress) (given : List Record) (fault : Option CaptureFault) → AreBytes text → fault ≡ None → IsRead fields fault p given text → version_of text ≡ version_in p.state.due p.state.version → count_of text ≡ count_in p.state.due p.state.count → records_of text ≡ given → given ≢ [] → IsCaptureSoFar text
+read_so_far : (text : List ℕ) (p : Progress) (given : List Record) (fault : Option CaptureFault) → AreBytes text → fault ≡ None → IsRead fields fault p given text → version_of text ≡ version_in p.state.version → count_of text ≡ count_in p.state.due p.state.count → records_of text ≡ given → given ≢ [] → IsCaptureSoFar text
 read_so_far text p given (Some fault) all none read version_is count_is records_are some = cc
 read_so_far text p given None all none read version_is count_is records_are some =
     so_far p.state.due p.state given (concat read.begins.parts) p.seen text (stands_there text p.state given p.seen all read.begins) read.begins.text_is (omega (arith, read.count, read.short)) version_is count_is records_are some

@@ -1,5 +1,5 @@
 -- A text is good exactly where it is the spelling of a capture.
-use Rattle.std.proofs.Common.{◌≡◌, inl, inr, ℕ, ◌<◌, ◌≤◌, true, List, [], ◌∷◌, ◌++◌, length, refl, sym, ◌∙◌, ap, subst, arith, length-append}
+use Rattle.std.proofs.Common.{◌≡◌, inl, inr, ℕ, ◌+◌, ◌<◌, ◌≤◌, true, List, [], ◌∷◌, ◌++◌, length, refl, sym, ◌∙◌, subst, arith}
 use Rattle.std.specs.Prelude.{Option, None, Some, flat_map}
 use Rattle.std.specs.List.{concat}
 use Rattle.std.specs.Int.{to_be_bytes, w32}
@@ -9,6 +9,7 @@ use Rattle.zy_read.specs.Format.{Reading, read_on, reading_of, fault_met}
 use Rattle.zy_read.specs.Fields.{IsWrong, IsLawful, at_state, step}
 use Rattle.zy_read.specs.Runs.{Begins, IsWhole, IsOutcome}
 use Rattle.zy_read.proofs.ByteLemmas.{bytes_front}
+use Rattle.zy_read.proofs.OverLemmas.{over_then, over_begins}
 use Rattle.zy_read.proofs.RunLemmas.{runs_keep, byte_parts}
 use Rattle.zy_read.proofs.OutcomeLemmas.{IsRead, text_read}
 use Rattle.zy_read.proofs.VerdictLemmas.{outcome, whole_good}
@@ -17,18 +18,18 @@ use Rattle.zy_capture.specs.declared.capture_fault.CaptureFault.{CaptureFault}
 use Rattle.zy_capture.specs.declared.due.Due.{Due}
 use Rattle.zy_capture.specs.declared.due.Due.TheVariants.{Magic, Count, Tag, Connection, Length, Payload, Closed, Nothing}
 use Rattle.zy_capture.specs.declared.capture_state.CaptureState.{CaptureState}
-use Rattle.zy_capture.specs.Capture.{magic, spelled, spelling, Spells, capture_limit}
+use Rattle.zy_capture.specs.Capture.{magic, spelled, spelling, IsCapture, Spells, capture_limit}
 use Rattle.zy_capture.specs.Faults.{front_text}
-use Rattle.zy_capture.specs.Steps.{Progress, state, start, width, is_end, judge, fields}
+use Rattle.zy_capture.specs.Steps.{Progress, state, start, width, is_nothing, judged, fields}
 use Rattle.zy_capture.specs.Verdict.Verdict.{Good, Bad}
 use Rattle.zy_capture.specs.Verdict.{Verdict, good, verdict, fault_of}
 use Rattle.zy_capture.proofs.ByteLemmas.{assoc_twice}
 use Rattle.zy_capture.proofs.PlaceLemmas.{IsAt, Stands, keeps}
-use Rattle.zy_capture.proofs.PartLemmas.{begins_with}
+use Rattle.zy_capture.proofs.PartLemmas.{Over, then_over}
 
 -- ---- the fields are lawful
 
-width_some : (next : Due) → 0 < width next
+width_some : (due : Due) → 0 < width due
 width_some (Magic part) = omega arith
 width_some Count = omega arith
 width_some Tag = omega arith
@@ -38,13 +39,13 @@ width_some (Payload conn more) = omega arith
 width_some Closed = omega arith
 width_some Nothing = omega arith
 
-width_one : (next : Due) → is_end next ≡ true → width next ≡ 1
+width_one : (due : Due) → is_nothing due ≡ true → width due ≡ 1
 width_one Nothing is = refl
-width_one next is = cc
+width_one due is = cc
 
-end_wrong : (next : Due) (s : CaptureState) (at : ℕ) (field : List ℕ) → is_end next ≡ true → IsWrong (judge next s at field)
+end_wrong : (due : Due) (s : CaptureState) (at : ℕ) (field : List ℕ) → is_nothing due ≡ true → IsWrong (judged due s at field)
 end_wrong Nothing s at field is = tt
-end_wrong next s at field is = cc
+end_wrong due s at field is = cc
 
 pub lawful : IsLawful fields
 lawful = record {
@@ -65,9 +66,9 @@ pub ends_spelling : (version count : ℕ) (items : List Record) → front_text v
 unfolding spelling
 ends_spelling version count items = assoc_twice (magic version) (to_be_bytes w32 count) (flat_map spelled items) (69 ∷ [])
 
-spells_at : (next : Due) (s : CaptureState) (text : List ℕ) (given : List Record) → is_end next ≡ true → IsAt next s text given → length text ≤ capture_limit → Spells text s.version s.count given
+spells_at : (due : Due) (s : CaptureState) (text : List ℕ) (given : List Record) → is_nothing due ≡ true → IsAt due s text given → length text ≤ capture_limit → Spells text s.version s.count given
 spells_at Nothing s text given ends is short = record { valid = is.valid; spelled = is.whole ∙ ends_spelling s.version s.count given; short = short }
-spells_at next s text given ends is short = cc
+spells_at due s text given ends is short = cc
 
 pub whole_spells : (text : List ℕ) (s : CaptureState) (given : List Record) → AreBytes text → IsWhole fields text s given → Spells text s.version s.count given
 whole_spells text s given all whole =
@@ -90,15 +91,18 @@ good_by text version count items found all (inr (inr faulty)) is = let none = fa
 pub good_spells : (text : List ℕ) (version count : ℕ) (items : List Record) → AreBytes text → verdict text ≡ Good version count items → Spells text version count items
 good_spells text version count items all is = good_by text version count items (verdict text) all (outcome fields lawful good Bad text) is
 
--- a spelling is a run to the end
+-- the fields of a spelling lead to the end
+pub end_over : (version count : ℕ) (items : List Record) → IsCapture version count items → Over start 0 (spelling version count items) (state Nothing version count) items
+end_over version count items valid =
+    subst (λ (l : List ℕ). Over start 0 l (state Nothing version count) items) (ends_spelling version count items)
+    (then_over version count items (69 ∷ []) (state Nothing version count) valid (over_then fields (state Tag version count) (state Nothing version count) (0 + length (front_text version count items)) (69 ∷ []) refl refl))
+
 pub spells_whole : (text : List ℕ) (version count : ℕ) (items : List Record) → Spells text version count items → IsWhole fields text (state Nothing version count) items
-spells_whole text version count items spells =
-    let whole : text ≡ front_text version count items ++ 69 ∷ [] = spells.spelled ∙ sym (ends_spelling version count items) in
-    record {
-      begins = begins_with text [] version count items ((69 ∷ []) ∷ []) (state Nothing version count) (69 ∷ []) spells.valid refl (refl, (refl, refl)) whole
-          (omega (arith, ap (λ (l : List ℕ). length l) whole, length-append (front_text version count items) (69 ∷ []), spells.short));
-      end_is = refl;
-    }
+spells_whole text version count items spells = record {
+  begins = over_begins fields text (state Nothing version count) (spelling version count items) [] items (end_over version count items spells.valid)
+      (subst (λ (l : List ℕ). length l ≤ capture_limit) spells.spelled spells.short) (spells.spelled ∙ sym (append-nil (spelling version count items)));
+  end_is = refl;
+}
 
 pub spells_good : (text : List ℕ) (version count : ℕ) (items : List Record) → Spells text version count items → verdict text ≡ Good version count items
 spells_good text version count items spells = whole_good fields lawful good Bad text (state Nothing version count) items (spells_whole text version count items spells)

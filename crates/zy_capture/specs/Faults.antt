@@ -1,24 +1,18 @@
 -- The faults of a capture, docs/FORMATS.md, "Capture": what a text is that has one of them. Each comes after bytes that
 -- spell the beginning of a capture, where the first wrong byte or number follows. That the verdict on a text is bad
 -- with a fault exactly where the text has it is a law in src/laws.rt.
-use Rattle.std.specs.Prelude.{◌≡◌, ◌⊎◌, ℕ, ◌+◌, ◌^◌, ◌<◌, ◌≤◌, List, [], ◌∷◌, ◌++◌, length, flat_map}
+use Rattle.std.specs.Prelude.{◌≡◌, ◌⊎◌, ℕ, ◌+◌, ◌^◌, ◌<◌, ◌≤◌, List, ◌∷◌, ◌++◌, length, flat_map}
 use Rattle.std.specs.Int.{to_be_bytes, w32}
+use Rattle.zy_read.specs.Magic.{IsBadMagic}
 use Rattle.zy_capture.specs.declared.record.Record.{Record}
 use Rattle.zy_capture.specs.declared.capture_fault.CaptureFault.{CaptureFault}
 use Rattle.zy_capture.specs.declared.capture_fault.CaptureFault.TheVariants.{BadMagic, ConnCount, BadTag, ConnRange}
 use Rattle.zy_capture.specs.declared.capture_fault.CaptureFault.TheVariants.{SegmentLength, Truncated, Trailing}
 use Rattle.zy_capture.specs.declared.capture_fault.CaptureFault.TheVariants.{TooLong}
-use Rattle.zy_capture.specs.Capture.{magic, spelled, spelling, IsCapture, Spells, capture_limit, connection_limit}
+use Rattle.zy_capture.specs.Capture.{letters, magic, spelled, spelling, IsCapture, Spells, capture_limit, connection_limit}
 use Rattle.zy_capture.specs.Capture.{segment_limit}
 
 -- ---- beginnings
-
--- the bytes are the first ones of a magic
-pub record BeginsMagic (bytes : List ℕ) : Type 0 where
-  pub version : ℕ
-  pub rest : List ℕ
-  pub known : (version ≡ 1) ⊎ (version ≡ 2)
-  pub whole : bytes ++ rest ≡ magic version
 
 -- the bytes of a capture up to its end, or up to a further record
 abbrev pub front_text : ℕ → ℕ → List Record → List ℕ
@@ -32,17 +26,6 @@ pub record GoesOn (text : List ℕ) (version count : ℕ) (items : List Record) 
   pub place : at ≡ length (front_text version count items)
 
 -- ---- faults
-
--- a byte of the first eight follows the first ones of a magic, and is the next one of none
-pub record IsBadMagic (text : List ℕ) (at : ℕ) : Type 0 where
-  pub front : List ℕ
-  pub byte : ℕ
-  pub rest : List ℕ
-  pub whole : text ≡ front ++ byte ∷ rest
-  pub place : at ≡ length front
-  pub within : at < 8
-  pub begins : BeginsMagic front
-  pub differs : BeginsMagic (front ++ byte ∷ []) → ⊥
 
 -- a count of over 4,096 follows the magic
 pub record IsCountOver (text : List ℕ) (number : ℕ) : Type 0 where
@@ -109,7 +92,7 @@ pub record IsTrailing (text : List ℕ) (at : ℕ) : Type 0 where
 
 -- a byte or a number of the text is wrong, or comes after the end
 abbrev pub IsWrong : List ℕ → CaptureFault → Type 0
-IsWrong text (BadMagic at) = IsBadMagic text at
+IsWrong text (BadMagic at) = IsBadMagic letters text at
 IsWrong text (ConnCount number) = IsCountOver text number
 IsWrong text (BadTag at byte) = IsBadTag text at byte
 IsWrong text (ConnRange at number) = IsConnectionOver text at number

@@ -2,7 +2,7 @@
 use Rattle.std.specs.Prelude.{◌≡◌, ◌⊎◌, ℕ, ◌*◌, ◌^◌, ◌<◌, ◌≤◌, List, ◌++◌, length, Some}
 use Rattle.std.specs.Int.{to_be_bytes, w32}
 use Rattle.zy_read.specs.Magic.{HasMagic}
-use Rattle.zy_capture.specs.Capture.{magic, connection_limit, IsCapture}
+use Rattle.zy_capture.specs.Capture.{letters, magic, connection_limit, IsCapture}
 use Rattle.zy_capture.specs.Streams.{closes}
 use Rattle.zy_capture.specs.Verdict.{version_of, count_of, records_of}
 use Rattle.zy_capture.specs.Replies.{IsRepliesFile}
@@ -21,10 +21,8 @@ pub record IsCaptureSoFar (text : List ℕ) : Type 0 where
   pub few : (conn : ℕ) → closes conn (records_of text) < 2 ^ 31
 
 -- the text begins with the magic of a version
-pub record BeginsWithMagic (text : List ℕ) (version : ℕ) : Type 0 where
-  pub rest : List ℕ
-  pub known : (version ≡ 1) ⊎ (version ≡ 2)
-  pub whole : text ≡ magic version ++ rest
+abbrev pub BeginsWithMagic : List ℕ → ℕ → Type 0
+BeginsWithMagic text version = HasMagic letters text version
 
 -- the text begins with a magic and this count, which is not too large
 pub record BeginsWithCount (text : List ℕ) (count : ℕ) : Type 0 where

@@ -57,14 +57,14 @@ IsWithin Nothing at field payload room = field ≡ []
 IsWithin due at field payload room = length field < 4
 
 -- the same, where this fault was met or none; after one no byte is kept
-abbrev pub IsKept : Option CaptureFault → Due → ℕ → List ℕ → List ℕ → ℕ → Type 0
-IsKept None due at field payload room = IsWithin due at field payload room
-IsKept (Some fault) due at field payload room = seen_of due field payload ≡ []
+abbrev pub IsWithinBy : Option CaptureFault → Due → ℕ → List ℕ → List ℕ → ℕ → Type 0
+IsWithinBy None due at field payload room = IsWithin due at field payload room
+IsWithinBy (Some fault) due at field payload room = seen_of due field payload ≡ []
 
--- the field is a number
-abbrev pub IsNumber : Due → Type 0
-IsNumber Count = ⊤
-IsNumber Connection = ⊤
-IsNumber (Length conn) = ⊤
-IsNumber Closed = ⊤
-IsNumber due = ⊥
+-- the field has four bytes
+abbrev pub IsFour : Due → Type 0
+IsFour Count = ⊤
+IsFour Connection = ⊤
+IsFour (Length conn) = ⊤
+IsFour Closed = ⊤
+IsFour due = ⊥

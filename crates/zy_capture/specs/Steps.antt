@@ -4,8 +4,7 @@ use Rattle.std.specs.Prelude.{ℕ, ◌+◌, ◌-◌, ◌==◌, ◌&&◌, nat_lt,
 use Rattle.std.specs.Int.{from_be_bytes, w32}
 use Rattle.zy_read.specs.declared.magic.MagicPart.TheVariants.{Letters}
 use Rattle.zy_read.specs.declared.magic.MagicStep.{MagicStep}
-use Rattle.zy_read.specs.declared.magic.MagicStep.TheVariants as Steps
-use Rattle.zy_read.specs.Magic.{magic_step}
+use Rattle.zy_read.specs.Magic.{magic_step, magic_judged}
 use Rattle.zy_read.specs.Format as Reads
 use Rattle.zy_read.specs.Fields.{Judged, Fields, Place}
 use Rattle.zy_read.specs.Fields.Judged.{Then, Gives, Wrong}
@@ -44,9 +43,9 @@ width (Payload conn others) = others + 1
 width due = 1
 
 -- the end was read
-abbrev pub is_end : Due → Bool
-is_end Nothing = true
-is_end due = false
+abbrev pub is_nothing : Due → Bool
+is_nothing Nothing = true
+is_nothing due = false
 
 -- ---- what a whole field does
 
@@ -68,9 +67,8 @@ segment conn bytes = Kinds.Segment (record { conn = conn; bytes = bytes })
 
 -- a byte of the magic
 abbrev pub judge_magic : CaptureState → ℕ → MagicStep → Judgement
-judge_magic s at (Steps.Next part) = Then (to s (Magic part))
-judge_magic s at (Steps.Whole version) = Then (state Count version s.count)
-judge_magic s at Steps.Wrong = Wrong (BadMagic at)
+judge_magic s at step =
+    magic_judged (λ part. to s (Magic part)) (λ version. state Count version s.count) (BadMagic at) step
 
 -- the connection count
 abbrev pub judge_count : CaptureState → ℕ → Judgement
@@ -103,23 +101,23 @@ judge_closed s at conn =
     if nat_lt conn s.count then Gives (to s Tag) (Kinds.Close conn) else Wrong (ConnRange at conn)
 
 -- a whole field that begins at this place
-abbrev pub judge : Due → CaptureState → ℕ → List ℕ → Judgement
-judge (Magic part) s at field = judge_magic s at (magic_step part letters at (byte field))
-judge Count s at field = judge_count s (number field)
-judge Tag s at field = judge_tag s at (byte field)
-judge Connection s at field = judge_connection s at (number field)
-judge (Length conn) s at field = judge_length s conn at (number field)
-judge (Payload conn others) s at field = Gives (to s Tag) (segment conn field)
-judge Closed s at field = judge_closed s at (number field)
-judge Nothing s at field = Wrong (Trailing at)
+abbrev pub judged : Due → CaptureState → ℕ → List ℕ → Judgement
+judged (Magic part) s at field = judge_magic s at (magic_step part letters at (byte field))
+judged Count s at field = judge_count s (number field)
+judged Tag s at field = judge_tag s at (byte field)
+judged Connection s at field = judge_connection s at (number field)
+judged (Length conn) s at field = judge_length s conn at (number field)
+judged (Payload conn others) s at field = Gives (to s Tag) (segment conn field)
+judged Closed s at field = judge_closed s at (number field)
+judged Nothing s at field = Wrong (Trailing at)
 
 -- the fields of a capture
 abbrev pub fields : Fields CaptureState Record CaptureFault
 fields = record {
   start = start;
   width = λ s. width s.due;
-  judge = λ s. judge s.due s;
-  is_end = λ s. is_end s.due;
+  judge = λ s. judged s.due s;
+  is_end = λ s. is_nothing s.due;
   limit = capture_limit;
   too_long = TooLong;
   truncated = Truncated;

@@ -1,7 +1,7 @@
 -- The verdict on a whole text: the capture that it spells, or its first fault. A text is read from
 -- its first byte to its last. That it is good exactly where it is a spelling, and bad exactly where
 -- it has a fault of specs/Faults.antt, are laws in src/laws.rt.
-use Rattle.std.specs.Prelude.{ℕ, Bool, true, false, List, Option, None, Some}
+use Rattle.std.specs.Prelude.{ℕ, ◌==◌, if◌then◌else◌, Bool, true, false, List, Option, None, Some}
 use Rattle.zy_read.specs.Format.{Format, reading_of, given_by, fault_met, verdict_on}
 use Rattle.zy_read.specs.Fields.{format_of}
 use Rattle.zy_capture.specs.declared.record.Record.{Record}
@@ -37,10 +37,9 @@ is_good (Bad fault) = false
 
 -- ---- what was met in a text, whatever follows
 
--- the version, where the magic was read whole
-abbrev pub version_in : Due → ℕ → Option ℕ
-version_in (Magic part) version = None
-version_in due version = Some version
+-- the version, where the magic was read whole; it is 0 before
+abbrev pub version_in : ℕ → Option ℕ
+version_in version = if version == 0 then None else Some version
 
 -- the connection count, where it was read whole and not refused
 abbrev pub count_in : Due → ℕ → Option ℕ
@@ -75,7 +74,7 @@ last_of text = (reading_of captures text).last
 
 -- the version of a text's magic
 unfoldable pub version_of : List ℕ → Option ℕ
-version_of text = version_in (last_of text).state.due (last_of text).state.version
+version_of text = version_in (last_of text).state.version
 
 -- the connection count of a text
 unfoldable pub count_of : List ℕ → Option ℕ

@@ -31,7 +31,7 @@ pub struct Reader {
 impl Model for Reader {
     ghost use Rattle.std.specs.Prelude.{◌+◌, ◌≤◌, length};
     ghost use Rattle.zy_capture.specs.Steps.{Progress};
-    ghost use Rattle.zy_capture.specs.Standing.{seen_of, IsKept};
+    ghost use Rattle.zy_capture.specs.Standing.{seen_of, IsWithinBy};
 
     ghost Value = { Progress };
 
@@ -43,7 +43,7 @@ impl Model for Reader {
     } };
 
     ghost invariant = { λ r. (length r.field ≤ r.at)
-        × IsKept r.fault r.state.due r.at r.field r.payload.bytes (length r.payload.bytes + r.payload.room) };
+        × IsWithinBy r.fault r.state.due r.at r.field r.payload.bytes (length r.payload.bytes + r.payload.room) };
 }
 
 impl Reader {
@@ -107,9 +107,9 @@ impl Reader {
     pub fn version(&self) -> Option<u32>
         ensures value { AnswersBy captures self.now version_of result }
     {
-        match self.state.due {
-            Due::Magic(_) => None,
-            _ => Some(self.state.version),
+        match self.state.version {
+            0 => None,
+            version => Some(version),
         }
     }
 

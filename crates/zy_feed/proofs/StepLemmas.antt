@@ -10,7 +10,7 @@ use Rattle.zy_capture.specs.declared.record.Record.{Record}
 use Rattle.zy_capture.specs.declared.due.Due.{Due}
 use Rattle.zy_capture.specs.declared.due.Due.TheVariants.{Magic, Count}
 use Rattle.zy_capture.specs.Capture.{letters, connection_limit}
-use Rattle.zy_capture.specs.Steps.{Progress, Step, Judgement, number, byte, judge_magic, judge, fields}
+use Rattle.zy_capture.specs.Steps.{Progress, Step, Judgement, number, byte, judge_magic, judged, fields}
 use Rattle.zy_capture.proofs.ByteLemmas.{chosen}
 use Rattle.zy_capture.proofs.TellLemmas.{IsPastCount}
 
@@ -20,7 +20,7 @@ magic_gave p at (Next next) r gave = cc
 magic_gave p at (Whole version) r gave = cc
 magic_gave p at Wrong r gave = cc
 
-judged_gave : (due : Due) (p : Progress) (at : ℕ) (field : List ℕ) (r : Record) → (moved p (judge due p.state at field)).gave ≡ Some r → IsPastCount due
+judged_gave : (due : Due) (p : Progress) (at : ℕ) (field : List ℕ) (r : Record) → (moved p (judged due p.state at field)).gave ≡ Some r → IsPastCount due
 judged_gave (Magic part) p at field r gave = absurd (magic_gave p at (magic_step part letters at (byte field)) r gave)
 judged_gave Count p at field r gave =
     let GaveNone : Judgement → Type 0 = λ j. (moved p j).gave ≡ Some r → ⊥ in

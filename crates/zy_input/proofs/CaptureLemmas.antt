@@ -18,7 +18,7 @@ use Rattle.zy_capture.specs.declared.due.Due.TheVariants.{Connection, Length, Pa
 use Rattle.zy_capture.specs.declared.capture_state.CaptureState.{CaptureState}
 use Rattle.zy_capture.specs.Streams.{no_bytes, with_record}
 use Rattle.zy_capture.specs.Capture.{segment_limit}
-use Rattle.zy_capture.specs.Steps.{Progress, Step, Judgement, number, judge, fields}
+use Rattle.zy_capture.specs.Steps.{Progress, Step, Judgement, number, judged, fields}
 use Rattle.zy_capture.specs.Standing.{StandsFor, EndsAs}
 use Rattle.zy_capture.specs.Verdict.{captures, good as at_end, is_good, verdict, count_of, is_within, is_within_by, is_within_record}
 use Rattle.zy_capture.specs.Verdict.Verdict.{Good, Bad}
@@ -61,7 +61,7 @@ abbrev StaysWithin : Judgement → Type 0
 StaysWithin (Then next) = is_within next.due ≡ true
 StaysWithin judged = ⊤
 
-judged_stays : (due : Due) (s : CaptureState) (at : ℕ) (field : List ℕ) → is_within due ≡ true → StaysWithin (judge due s at field)
+judged_stays : (due : Due) (s : CaptureState) (at : ℕ) (field : List ℕ) → is_within due ≡ true → StaysWithin (judged due s at field)
 judged_stays Connection s at field within = chosen StaysWithin (nat_lt (number field) s.count) _ _ (λ below. refl) (λ over. tt)
 judged_stays (Length conn) s at field within =
     chosen StaysWithin (nat_lt segment_limit (number field)) _ _ (λ over. tt) (λ few. chosen StaysWithin (number field == 0) _ _ (λ empty. tt) (λ some. refl))

@@ -71,8 +71,3 @@ front_fed {S} {G} {F} fields lawful good bad p q bytes most run none first over 
     let is : take run (take most bytes) ≡ take run bytes = take-take run most bytes within in
     let size : length (take run bytes) ≡ run = length-take-le run bytes (omega (arith, within, fits)) in
     over_fed fields lawful good bad p q (take run bytes) none first (subst (λ (l : List ℕ). RunsOver fields p.state p.at l q.state []) is over) (omega (arith, size, room, within)) (same ∙ ap (λ (n : ℕ). at_state q.state (p.at + n)) (sym size))
-
--- bytes taken after others, from some place on
-pub runs_on : {P G F V : Type 0} (format : Format P G F V) (p q r : P) (bytes : List ℕ) (at run more : ℕ) → Feeds format p q (take run (drop at bytes)) [] → Feeds format q r (take more (drop (at + run) bytes)) [] → Feeds format p r (take (run + more) (drop at bytes)) []
-runs_on format p q r bytes at run more first second =
-    run_on format p q r (drop at bytes) run more first (subst (λ (l : List ℕ). Feeds format q r (take more l) []) (sym (drop-drop run at bytes)) second)

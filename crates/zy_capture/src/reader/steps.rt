@@ -8,7 +8,7 @@ ghost use Rattle.zy_capture.specs.Capture.{capture_limit};
 ghost use Rattle.zy_capture.specs.Steps.{fields, to, after_field, broken_by};
 ghost use Rattle.zy_capture.specs.Verdict.{Verdict, captures, good};
 ghost use Rattle.zy_capture.specs.Verdict.Verdict.{Bad};
-ghost use Rattle.zy_capture.specs.Standing.{Takes, IsWithin, IsNumber, IsLengthEnd};
+ghost use Rattle.zy_capture.specs.Standing.{Takes, IsWithin, IsFour, IsLengthEnd};
 
 use super::Reader;
 use crate::capture_fault::{CaptureFault, FeedFault};
@@ -124,7 +124,7 @@ impl Reader {
     fn keep(&mut self, byte: u8)
         requires none { self.old.fault ≡ None }
         requires room { self.old.at < capture_limit }
-        requires number { IsNumber self.old.state.due }
+        requires number { IsFour self.old.state.due }
         requires short { length self.old.seen < 3 }
         ensures value { self.new ≡ grown_by self.old (byte ∷ []) }
     {

@@ -1,7 +1,7 @@
 use Rattle.std.proofs.Common.{◌+◌, ℕ, List, [], take, drop, subst}
 use Rattle.zy_read.specs.Fields.{format_of}
 use Rattle.zy_read.specs.Standing.{Feeds}
-use Rattle.zy_read.proofs.TakenLemmas.{runs_on}
+use Rattle.zy_read.proofs.PieceLemmas.{run_more}
 use Rattle.zy_read.proofs.field_reader.steps.FieldReaderReads.take_run.Goals as goal
 
 pub returns-clause-fed : goal.returns-clause-fed
@@ -10,5 +10,5 @@ returns-clause-fed g c =
     let bytes : List ℕ = c.args.bytes.now in
     let fields : ℕ = c.take_fields-fields.result in
     let first : Feeds format c.args.self.now c.take_front.new.self (take (fields + c.take_front.result) (drop c.args.at bytes)) [] =
-    runs_on format c.args.self.now c.take_fields-fields.new.self c.take_front.new.self bytes c.args.at fields c.take_front.result c.take_fields-fields.ensures.fed c.take_front.ensures.fed in
-    runs_on format c.args.self.now c.take_front.new.self c.take_part.new.self bytes c.args.at (fields + c.take_front.result) c.take_part.result first c.take_part.ensures.fed
+    run_more format c.args.self.now c.take_fields-fields.new.self c.take_front.new.self bytes c.args.at fields c.take_front.result c.take_fields-fields.ensures.fed c.take_front.ensures.fed in
+    run_more format c.args.self.now c.take_front.new.self c.take_part.new.self bytes c.args.at (fields + c.take_front.result) c.take_part.result first c.take_part.ensures.fed
