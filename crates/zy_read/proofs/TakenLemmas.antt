@@ -1,19 +1,18 @@
 -- Whole fields that are fed at once.
-use Rattle.std.proofs.Common.{◌≡◌, inr, ℕ, ◌+◌, ◌-◌, ◌<◌, ◌≤◌, Bool, true, false, List, [], ◌∷◌, ◌++◌, length, take, drop, refl, sym, ◌∙◌, ap, subst, arith, length-append}
-use Rattle.std.specs.Prelude.{Option, None, Some, Result, Ok, Err, is_ok, ⊤}
+use Rattle.std.proofs.Common.{◌≡◌, inr, ℕ, ◌+◌, ◌-◌, ◌≤◌, true, false, List, [], length, take, sym, ◌∙◌, ap, subst, arith}
+use Rattle.std.specs.Prelude.{Option, None, Some, Result, Ok, Err, is_ok}
 use Rattle.std.specs.List.{concat}
-use Rattle.std.proofs.lemmas.List.{append-nil, drop-drop, take-take, length-take-le}
+use Rattle.std.proofs.lemmas.List.{append-nil, take-take, length-take-le}
 use Rattle.zy_read.specs.declared.not_taken.NotTaken.{NotTaken}
 use Rattle.zy_read.specs.declared.not_taken.NotTaken.TheVariants.{Fault, NoMemory}
-use Rattle.zy_read.specs.Format.{Format, Step, Reading, read_on}
+use Rattle.zy_read.specs.Format.{read_on}
 use Rattle.zy_read.specs.Fields.{Judged, Fields, IsLawful, Place, at_state, moved, step, format_of}
-use Rattle.zy_read.specs.Fields.Judged.{Then, Gives, Wrong}
+use Rattle.zy_read.specs.Fields.Judged.{Then}
 use Rattle.zy_read.specs.Runs.{RunsOver}
 use Rattle.zy_read.specs.FieldReading.{Judges, IsQuiet}
 use Rattle.zy_read.specs.Standing.{Feeds}
 use Rattle.zy_read.proofs.Feeding.{fed_by}
-use Rattle.zy_read.proofs.PieceLemmas.{run_on}
-use Rattle.zy_read.proofs.FieldLemmas.{goes_on, within, read_rest, with_given, runs_read}
+use Rattle.zy_read.proofs.FieldLemmas.{goes_on, within, read_rest, runs_read}
 
 -- a field that gives no record leads to a state
 pub quiet_then : {S G F : Type 0} (Fits : S → ℕ → Type 0) (Wants : S → Type 0) (judged : Judged S G F) (after : ℕ) (old new : S) (answer : Result (Option G) (NotTaken F)) → Judges Fits Wants judged after old new answer → is_ok answer ≡ true → IsQuiet judged → (judged ≡ Then new) × Fits new after

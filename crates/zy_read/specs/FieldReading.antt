@@ -1,5 +1,5 @@
 -- What a reader of a format of fields keeps, and what the judgement of a field answers.
-use Rattle.std.specs.Prelude.{◌≡◌, ℕ, ◌+◌, ◌-◌, ◌^◌, ◌<◌, ◌≤◌, Bool, true, false, List, [], ◌++◌, length, Option, None, Some}
+use Rattle.std.specs.Prelude.{◌≡◌, ℕ, ◌+◌, ◌-◌, ◌^◌, ◌<◌, ◌≤◌, true, false, List, [], ◌++◌, length, Option, None, Some}
 use Rattle.std.specs.Prelude.{Result, Ok, Err, ⊤}
 use Rattle.zy_read.specs.Format.{Step}
 use Rattle.zy_read.specs.Standing.{Follows}

@@ -1,4 +1,4 @@
-use Rattle.std.proofs.Common.{rules, ◌≡◌, ◌+◌, ◌-◌, ◌<◌, ◌≤◌, ℕ, List, [], length, take, drop, subst, arith}
+use Rattle.std.proofs.Common.{rules, ◌-◌, ◌≤◌, ℕ, List, [], length, take, drop, arith}
 use Rattle.std.proofs.lemmas.List.{length-drop}
 use Rattle.zy_read.specs.Runs.{RunsOver}
 use Rattle.zy_read.proofs.TakenLemmas.{front_fed}

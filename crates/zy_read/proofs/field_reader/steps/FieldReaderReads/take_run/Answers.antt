@@ -1,4 +1,4 @@
-use Rattle.std.proofs.Common.{◌+◌, ℕ, List, [], take, drop, subst}
+use Rattle.std.proofs.Common.{◌+◌, ℕ, List, [], take, drop}
 use Rattle.zy_read.specs.Fields.{format_of}
 use Rattle.zy_read.specs.Standing.{Feeds}
 use Rattle.zy_read.proofs.PieceLemmas.{run_more}
