@@ -49,4 +49,4 @@ pub few : journal_fields.limit < 2 ^ 64 - 1
 few = omega arith
 
 pub begins : FitsPlace journal_fields.start 0
-begins = omega arith
+begins = (omega arith, refl)

@@ -11,6 +11,7 @@ mod contents;
 mod ends;
 mod long_numbers;
 mod numbers;
+mod whole_records;
 
 use crate::draft::Draft;
 use crate::due::{ByteField, Due};
@@ -178,6 +179,15 @@ impl FieldFormat for JournalState {
                 Err(_) => Err(NotTaken::NoMemory),
             },
             _ => unreachable!(),
+        }
+    }
+
+    // Whole records, where one may begin.
+    #[tactic(auto, using(zy_read::proofs::OverLemmas::over_none))]
+    fn judge_front(&mut self, alloc: Global, at: u64, bytes: &[u8]) -> usize {
+        match self.due {
+            Due::Byte(ByteField::Tag) => self.take_records(alloc, bytes),
+            _ => 0,
         }
     }
 
