@@ -4,7 +4,7 @@ ghost use Rattle.zy_table.specs.Member.{is_in};
 ghost use Rattle.mc_store.specs.Pass.{passed};
 ghost use Rattle.mc_store.specs.View.{untraced};
 ghost use Rattle.zy_shuffle.specs.Pass.{HasAll, newly_held};
-ghost use Rattle.zy_conn.specs.Work.{worked, idle};
+ghost use Rattle.zy_conn.specs.Work.{work_of_pass, idle};
 ghost use Rattle.zy_conn.specs.Block.{blocked, label_of};
 ghost use Rattle.zy_home.specs.Parts.{AreParts};
 
@@ -55,7 +55,7 @@ fn block_of(
     requires within { conn < 4096 }
     requires fresh { is_in conn root.old.given ≡ false }
     ensures block { result.0 ≡ blocked
-        (worked (passed store.now.id conn [] untraced) result.1.ring [] [] idle 0 0 []) 2 [] }
+        (work_of_pass (passed store.now.id conn [] untraced) result.1.ring [] [] idle 0 0 []) 2 [] }
     ensures inlet { result.1.sent ≡ [] }
     ensures root { (root.new.table ≡ store.now.id) × (root.new.given ≡ conn ∷ root.old.given) }
 {

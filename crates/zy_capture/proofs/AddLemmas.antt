@@ -10,7 +10,7 @@ use Rattle.zy_capture.specs.declared.record.Record.TheVariants as Kinds
 use Rattle.zy_capture.specs.declared.session_bytes.SessionBytes.{SessionBytes}
 use Rattle.zy_capture.specs.Outputs.{AllOutputs, AreOutputs, HasSessions, MayAdd, with_session, with_output}
 use Rattle.zy_capture.specs.Streams.{sessions_of, no_bytes, last_grown, with_record, with_records}
-use Rattle.zy_capture.specs.Replies.{AreNumbers, AreInOrder, IsNext, session_items, all_items, items_of}
+use Rattle.zy_capture.specs.Replies.{AreNumbers, AreBySession, IsNextSession, session_items, all_items, items_of}
 use Rattle.zy_capture.specs.RepliesFaults.{connections_after, sessions_after}
 
 -- ---- records
@@ -65,8 +65,8 @@ last_on conn (suc i) (sessions ∷ connections) bytes last =
 
 -- ---- the output that comes next
 
-order_last : (version connections sessions : ℕ) (given : List SessionBytes) (item : SessionBytes) → AreInOrder version connections sessions (given ++ item ∷ [])
-    → IsNext version (connections_after connections given) (sessions_after sessions given) item.conn item.session × AreNumbers item.conn item.session
+order_last : (version connections sessions : ℕ) (given : List SessionBytes) (item : SessionBytes) → AreBySession version connections sessions (given ++ item ∷ [])
+    → IsNextSession version (connections_after connections given) (sessions_after sessions given) item.conn item.session × AreNumbers item.conn item.session
 order_last version connections sessions [] item ordered = (ordered.0, ordered.1)
 order_last version connections sessions (first ∷ given) item ordered = order_last version (first.conn + 1) (first.session + 1) given item ordered.2
 
@@ -117,14 +117,14 @@ pub record Adds (outputs : AllOutputs) (item : SessionBytes) : Type 0 where
   pub may : MayAdd outputs item.conn
   pub items : items_of (with_output outputs item.conn item.bytes) ≡ items_of outputs ++ item ∷ []
 
-adds : (outputs : AllOutputs) (item : SessionBytes) → AreOutputs outputs → IsNext outputs.version (length outputs.sessions) (sessions_after 0 (items_of outputs)) item.conn item.session → AreNumbers item.conn item.session → Adds outputs item
+adds : (outputs : AllOutputs) (item : SessionBytes) → AreOutputs outputs → IsNextSession outputs.version (length outputs.sessions) (sessions_after 0 (items_of outputs)) item.conn item.session → AreNumbers item.conn item.session → Adds outputs item
 adds outputs item are (inl next) numbers = record { may = inl (next.0, numbers.0); items = added_last outputs item (inl next) }
 adds outputs item are (inr last) numbers =
     let count : item.session ≡ length (sessions_of outputs.sessions item.conn) = last.2 ∙ sessions_are outputs.version 0 0 item.conn outputs.sessions are.sessions last.1 in
     record { may = inr (last.0, last.1, omega (arith, count, numbers.1)); items = added_last outputs item (inr (last.1, count)) }
 
-pub next_adds : (outputs : AllOutputs) (item : SessionBytes) → AreOutputs outputs → AreInOrder outputs.version 0 0 (items_of outputs ++ item ∷ []) → Adds outputs item
+pub next_adds : (outputs : AllOutputs) (item : SessionBytes) → AreOutputs outputs → AreBySession outputs.version 0 0 (items_of outputs ++ item ∷ []) → Adds outputs item
 next_adds outputs item are ordered =
     let last = order_last outputs.version 0 0 (items_of outputs) item ordered in
     let count : connections_after 0 (items_of outputs) ≡ length outputs.sessions = connections_are outputs.version 0 outputs.sessions are.sessions ∙ omega arith in
-    adds outputs item are (subst (λ (n : ℕ). IsNext outputs.version n (sessions_after 0 (items_of outputs)) item.conn item.session) count last.0) last.1
+    adds outputs item are (subst (λ (n : ℕ). IsNextSession outputs.version n (sessions_after 0 (items_of outputs)) item.conn item.session) count last.0) last.1

@@ -10,7 +10,7 @@ use Rattle.zy_capture.specs.declared.session_bytes.SessionBytes.{SessionBytes}
 use Rattle.zy_capture.specs.Capture.{connection_limit}
 use Rattle.zy_capture.specs.Outputs.{AllOutputs, AreOutputs, HasSessions, MayAdd, with_session, with_output}
 use Rattle.zy_capture.specs.Streams.{sessions_of}
-use Rattle.zy_capture.specs.Replies.{replies_limit, SpellsReplies, magic, output_text, connection_text, numbered_from, replies_bytes, spelled, spelling, AreInOrder, IsRepliesFile, session_items, all_items, items_of}
+use Rattle.zy_capture.specs.Replies.{replies_limit, SpellsReplies, replies_magic, output_text, connection_text, numbered_from, replies_bytes, spelled, spelling, AreBySession, IsRepliesFile, session_items, all_items, items_of}
 
 -- ---- the text
 
@@ -27,20 +27,20 @@ all_texts version conn (sessions ∷ connections) =
 
 pub bytes_spelled : (outputs : AllOutputs) → replies_bytes outputs ≡ spelling outputs.version (items_of outputs)
 unfolding replies_bytes spelling
-bytes_spelled outputs = ap (λ (l : List ℕ). magic outputs.version ++ l ++ 69 ∷ []) (all_texts outputs.version 0 outputs.sessions)
+bytes_spelled outputs = ap (λ (l : List ℕ). replies_magic outputs.version ++ l ++ 69 ∷ []) (all_texts outputs.version 0 outputs.sessions)
 
 -- ---- the order
 
 -- further sessions of the last connection, and then the sessions of the next connections
 later_sessions : (version conn number : ℕ) (sessions : List (List ℕ)) (rest : List SessionBytes) → version ≡ 2 → conn < connection_limit → number + length sessions ≤ 2 ^ 31
-    → ((last : ℕ) → AreInOrder version (conn + 1) last rest) → AreInOrder version (conn + 1) number (session_items conn number sessions ++ rest)
+    → ((last : ℕ) → AreBySession version (conn + 1) last rest) → AreBySession version (conn + 1) number (session_items conn number sessions ++ rest)
 later_sessions version conn number [] rest two below few onwards = onwards number
 later_sessions version conn number (bytes ∷ sessions) rest two below few onwards =
     (inr (two, refl, refl), (below, omega (arith, few)), later_sessions version conn (number + 1) sessions rest two below (omega (arith, few)) onwards)
 
 -- the sessions of the next connection, and then those of the ones after it
 next_sessions : (version conn last : ℕ) (sessions : List (List ℕ)) (rest : List SessionBytes) → (version ≡ 1) ⊎ (version ≡ 2) → HasSessions version sessions → conn < connection_limit
-    → ((last : ℕ) → AreInOrder version (conn + 1) last rest) → AreInOrder version conn last (session_items conn 0 sessions ++ rest)
+    → ((last : ℕ) → AreBySession version (conn + 1) last rest) → AreBySession version conn last (session_items conn 0 sessions ++ rest)
 next_sessions version conn last [] rest known has below onwards = absurd (omega (arith, has.some))
 next_sessions version conn last (bytes ∷ []) rest known has below onwards = (inl (refl, refl), (below, omega arith), onwards 1)
 next_sessions version conn last (bytes ∷ next ∷ sessions) rest (inl one) has below onwards = absurd (omega (arith, has.one one))
@@ -48,7 +48,7 @@ next_sessions version conn last (bytes ∷ next ∷ sessions) rest (inr two) has
     (inl (refl, refl), (below, omega arith), later_sessions version conn 1 (next ∷ sessions) rest two below (omega (arith, has.few)) onwards)
 
 all_in_order : (version conn last : ℕ) (connections : List (List (List ℕ))) → (version ≡ 1) ⊎ (version ≡ 2) → AllByRecursion (HasSessions version) connections → conn + length connections ≤ connection_limit
-    → AreInOrder version conn last (all_items conn connections)
+    → AreBySession version conn last (all_items conn connections)
 all_in_order version conn last [] known all few = tt
 all_in_order version conn last (sessions ∷ connections) known all few =
     next_sessions version conn last sessions (all_items (conn + 1) connections) known all.0 (omega (arith, few))

@@ -8,7 +8,7 @@ use Rattle.zy_read.proofs.VerdictLemmas.{outcome, fault_bad, cut_bad, cut_overlo
 use Rattle.zy_capture.specs.declared.capture_fault.CaptureFault.{CaptureFault}
 use Rattle.zy_capture.specs.declared.capture_fault.CaptureFault.TheVariants.{BadMagic, ConnCount, BadTag, ConnRange, SegmentLength, Truncated, Trailing, TooLong}
 use Rattle.zy_capture.specs.declared.capture_state.CaptureState.{CaptureState}
-use Rattle.zy_capture.specs.Faults.{IsWrong, IsBegun, IsTooLong}
+use Rattle.zy_capture.specs.Faults.{IsWrongCapture, IsBegun, IsTooLong}
 use Rattle.zy_capture.specs.Faults as Faults
 use Rattle.zy_capture.specs.Steps.{fields}
 use Rattle.zy_capture.specs.Verdict.Verdict.{Bad}
@@ -29,7 +29,7 @@ cut_by text found all begun (inr (inr (s, (fault, inr has, is)))) = absurd (omeg
 begun_cut : (text : List ℕ) → AreBytes text → IsBegun text → IsCut fields text
 begun_cut text all begun = cut_by text (verdict text) all begun (outcome fields lawful good Bad text)
 
-not_cut : (text : List ℕ) (at : ℕ) (fault : CaptureFault) → IsWrong text fault → Bad fault ≡ Bad (Truncated at) → ⊥
+not_cut : (text : List ℕ) (at : ℕ) (fault : CaptureFault) → IsWrongCapture text fault → Bad fault ≡ Bad (Truncated at) → ⊥
 not_cut text at (Truncated place) wrong is = wrong
 not_cut text at TooLong wrong is = wrong
 not_cut text at fault wrong is = cc
@@ -63,7 +63,7 @@ too_long_bad text all has =
 
 -- ---- all faults
 
-wrong_has : (text : List ℕ) (fault : CaptureFault) → IsWrong text fault → Faults.HasFault text fault
+wrong_has : (text : List ℕ) (fault : CaptureFault) → IsWrongCapture text fault → Faults.HasFaultAsCapture text fault
 wrong_has text (Truncated at) wrong = absurd wrong
 wrong_has text TooLong wrong = absurd wrong
 wrong_has text (BadMagic at) wrong = wrong
@@ -73,24 +73,24 @@ wrong_has text (ConnRange at number) wrong = wrong
 wrong_has text (SegmentLength at number) wrong = wrong
 wrong_has text (Trailing at) wrong = wrong
 
-had_by : (text : List ℕ) (fault : CaptureFault) (found : Verdict) → AreBytes text → IsOutcome fields good Bad text found → found ≡ Bad fault → Faults.HasFault text fault
+had_by : (text : List ℕ) (fault : CaptureFault) (found : Verdict) → AreBytes text → IsOutcome fields good Bad text found → found ≡ Bad fault → Faults.HasFaultAsCapture text fault
 had_by text fault found all (inl whole) is = let none = whole.1.2 in cc
 had_by text fault found all (inr (inl cut)) is =
     let told = cut.1 in
     let same : Truncated (length text) ≡ fault = cc in
-    subst (λ (f : CaptureFault). Faults.HasFault text f) same (record { place = refl; begun = cut_begun text cut.0 })
+    subst (λ (f : CaptureFault). Faults.HasFaultAsCapture text f) same (record { place = refl; begun = cut_begun text cut.0 })
 had_by text fault found all (inr (inr (s, (other, inl has, told)))) is =
     let same : other ≡ fault = cc in
-    subst (λ (f : CaptureFault). Faults.HasFault text f) same (wrong_has text other (misjudged_wrong text s other all has))
+    subst (λ (f : CaptureFault). Faults.HasFaultAsCapture text f) same (wrong_has text other (misjudged_wrong text s other all has))
 had_by text fault found all (inr (inr (s, (other, inr has, told)))) is =
     let long_is = has.1 in
     let same : TooLong ≡ fault = cc in
-    subst (λ (f : CaptureFault). Faults.HasFault text f) same (too_long text s has.0)
+    subst (λ (f : CaptureFault). Faults.HasFaultAsCapture text f) same (too_long text s has.0)
 
-pub fault_had : (text : List ℕ) (fault : CaptureFault) → AreBytes text → verdict text ≡ Bad fault → Faults.HasFault text fault
+pub fault_had : (text : List ℕ) (fault : CaptureFault) → AreBytes text → verdict text ≡ Bad fault → Faults.HasFaultAsCapture text fault
 fault_had text fault all is = had_by text fault (verdict text) all (outcome fields lawful good Bad text) is
 
-pub fault_told : (text : List ℕ) (fault : CaptureFault) → AreBytes text → Faults.HasFault text fault → verdict text ≡ Bad fault
+pub fault_told : (text : List ℕ) (fault : CaptureFault) → AreBytes text → Faults.HasFaultAsCapture text fault → verdict text ≡ Bad fault
 fault_told text (Truncated at) all has = cut_bad fields lawful good Bad text (begun_cut text all has.begun) ∙ ap (λ (n : ℕ). Bad (Truncated n)) (sym has.place)
 fault_told text TooLong all has = too_long_bad text all has
 fault_told text (BadMagic at) all has = wrong_bad text (BadMagic at) has

@@ -20,8 +20,8 @@ use Rattle.zy_capture.specs.declared.capture_fault.CaptureFault.TheVariants.{Bad
 use Rattle.zy_capture.specs.declared.due.Due.{Due}
 use Rattle.zy_capture.specs.declared.due.Due.TheVariants.{Magic, Count, Tag, Connection, Length, Payload, Closed, Nothing}
 use Rattle.zy_capture.specs.declared.capture_state.CaptureState.{CaptureState}
-use Rattle.zy_capture.specs.Capture.{letters, magic, spelling, capture_limit, connection_limit, segment_limit}
-use Rattle.zy_capture.specs.Faults.{front_text, GoesOn, IsConnectionOver, IsWrong}
+use Rattle.zy_capture.specs.Capture.{letters, capture_magic, spelling, capture_limit, connection_limit, segment_limit}
+use Rattle.zy_capture.specs.Faults.{front_text, CaptureGoesOn, IsConnectionOver, IsWrongCapture}
 use Rattle.zy_capture.specs.Steps.{width, is_nothing, Judgement, number, byte, judge_magic, judge_tag, judged, fields}
 use Rattle.zy_capture.proofs.ByteLemmas.{chosen}
 use Rattle.zy_capture.proofs.PlaceLemmas.{IsAfter, IsAt, four_bytes, small_number}
@@ -31,10 +31,10 @@ use Rattle.zy_capture.proofs.WholeLemmas.{stands_there, ends_spelling}
 
 -- what a field does means that the text has the fault
 abbrev Faults : List ℕ → CaptureFault → Judgement → Type 0
-Faults text fault judged = judged ≡ Wrong fault → IsWrong text fault
+Faults text fault judged = judged ≡ Wrong fault → IsWrongCapture text fault
 
-told : (text : List ℕ) (found fault : CaptureFault) → IsWrong text found → Faults text fault (Wrong found)
-told text found fault has is = let same : found ≡ fault = cc in subst (λ (f : CaptureFault). IsWrong text f) same has
+told : (text : List ℕ) (found fault : CaptureFault) → IsWrongCapture text found → Faults text fault (Wrong found)
+told text found fault has is = let same : found ≡ fault = cc in subst (λ (f : CaptureFault). IsWrongCapture text f) same has
 
 -- a byte of the magic that is wrong
 magic_wrong : (part : MagicPart) (s : CaptureState) (front rest : List ℕ) (given : List Record) (b : ℕ) (fault : CaptureFault) (m : MagicStep) → magic_step part letters (length front) b ≡ m → IsAt (Magic part) s front given → Faults (front ++ b ∷ rest) fault (judge_magic s (length front) m)
@@ -51,14 +51,14 @@ count_wrong s front field rest given fault all is four =
       version = s.version;
       rest = rest;
       known = is.0;
-      whole = ap (λ (l : List ℕ). l ++ (field ++ rest)) is.2 ∙ ap (λ (l : List ℕ). magic s.version ++ (l ++ rest)) (sym (four_bytes field all four));
+      whole = ap (λ (l : List ℕ). l ++ (field ++ rest)) is.2 ∙ ap (λ (l : List ℕ). capture_magic s.version ++ (l ++ rest)) (sym (four_bytes field all four));
       over = ltb-true connection_limit n over;
       fits = small_number field all;
     }))
     (λ few none. cc)
 
 -- a text goes on after the records of a capture
-goes_on : (version count : ℕ) (given : List Record) (tail front after : List ℕ) → IsAfter version count given tail front → GoesOn (front ++ after) version count given (length (front_text version count given)) (tail ++ after)
+goes_on : (version count : ℕ) (given : List Record) (tail front after : List ℕ) → IsAfter version count given tail front → CaptureGoesOn (front ++ after) version count given (length (front_text version count given)) (tail ++ after)
 goes_on version count given tail front after is = record {
   valid = is.valid;
   whole = ap (λ (l : List ℕ). l ++ after) is.whole ∙ append_assoc (front_text version count given) tail after;
@@ -102,7 +102,7 @@ range_wrong s front field rest given tag all is four known room over =
       tag_at = length (front_text s.version s.count given);
       tag = tag;
       rest = rest;
-      front = subst (λ (l : List ℕ). GoesOn (front ++ (field ++ rest)) s.version s.count given (length (front_text s.version s.count given)) (tag ∷ (l ++ rest))) (sym (four_bytes field all four))
+      front = subst (λ (l : List ℕ). CaptureGoesOn (front ++ (field ++ rest)) s.version s.count given (length (front_text s.version s.count given)) (tag ∷ (l ++ rest))) (sym (four_bytes field all four))
           (goes_on s.version s.count given (tag ∷ []) front (field ++ rest) is);
       known = known;
       place = size;
@@ -136,7 +136,7 @@ length_wrong conn s front field rest given fault all is four room =
       tag_at = length (front_text s.version s.count given);
       conn = conn;
       rest = rest;
-      front = subst (λ (l : List ℕ). GoesOn text s.version s.count given (length (front_text s.version s.count given)) (83 ∷ (to_be_bytes w32 conn ++ (l ++ rest)))) (sym (four_bytes field all four))
+      front = subst (λ (l : List ℕ). CaptureGoesOn text s.version s.count given (length (front_text s.version s.count given)) (83 ∷ (to_be_bytes w32 conn ++ (l ++ rest)))) (sym (four_bytes field all four))
           (goes_on s.version s.count given (83 ∷ to_be_bytes w32 conn) front (field ++ rest) is.0);
       below = is.1;
       place = size;
@@ -191,9 +191,9 @@ field_wrong Nothing s front field rest given fault all is size short room =
     subst (λ (l : List ℕ). Faults l fault (judged Nothing s (length front) field)) (one_text front field rest size) (end_wrong s front rest given (byte field) fault is short)
 
 -- a text with a wrong field has its fault
-pub misjudged_wrong : (text : List ℕ) (s : CaptureState) (fault : CaptureFault) → AreBytes text → IsMisjudged fields text s fault → IsWrong text fault
+pub misjudged_wrong : (text : List ℕ) (s : CaptureState) (fault : CaptureFault) → AreBytes text → IsMisjudged fields text s fault → IsWrongCapture text fault
 misjudged_wrong text s fault all has =
     let front : List ℕ = concat has.begins.parts in
     let bytes : AreBytes (has.field ++ has.rest) = bytes_back front (has.field ++ has.rest) (subst AreBytes has.begins.text_is all) in
-    subst (λ (l : List ℕ). IsWrong l fault) (sym has.begins.text_is)
+    subst (λ (l : List ℕ). IsWrongCapture l fault) (sym has.begins.text_is)
     (field_wrong s.due s front has.field has.rest has.given fault (bytes_front has.field has.rest bytes) (stands_there text s has.given (has.field ++ has.rest) all has.begins) has.size has.begins.short has.room has.wrong)

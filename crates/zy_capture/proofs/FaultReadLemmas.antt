@@ -15,8 +15,8 @@ use Rattle.zy_capture.specs.declared.capture_fault.CaptureFault.{CaptureFault}
 use Rattle.zy_capture.specs.declared.capture_fault.CaptureFault.TheVariants.{BadMagic, ConnCount, BadTag, ConnRange, SegmentLength, Truncated, Trailing, TooLong}
 use Rattle.zy_capture.specs.declared.due.Due.TheVariants.{Tag, Connection, Length, Closed, Nothing}
 use Rattle.zy_capture.specs.declared.capture_state.CaptureState.{CaptureState}
-use Rattle.zy_capture.specs.Capture.{letters, magic, spelling, IsCapture, capture_limit, connection_limit, segment_limit}
-use Rattle.zy_capture.specs.Faults.{front_text, IsCountOver, IsBadTag, IsConnectionOver, IsLengthOver, IsTrailing, IsWrong}
+use Rattle.zy_capture.specs.Capture.{letters, capture_magic, spelling, IsCapture, capture_limit, connection_limit, segment_limit}
+use Rattle.zy_capture.specs.Faults.{front_text, IsCountOver, IsBadTag, IsConnectionOver, IsLengthOver, IsTrailing, IsWrongCapture}
 use Rattle.zy_capture.specs.Steps.{state, width, judge_count, judge_tag, judge_connection, judge_length, judge_closed, judged, fields}
 use Rattle.zy_capture.specs.Verdict.Verdict.{Bad}
 use Rattle.zy_capture.specs.Verdict.{good, verdict}
@@ -44,7 +44,7 @@ magic_bad text at has =
 count_bad : (text : List ℕ) (number : ℕ) → IsCountOver text number → verdict text ≡ Bad (ConnCount number)
 count_bad text number has =
     let s : CaptureState = after_state has.version in
-    fault_bad fields lawful good Bad text s (ConnCount number) (inl (over_misjudged fields text s (ConnCount number) (magic has.version) (to_be_bytes w32 number) has.rest [] (magic_over fields letters part_state after_state BadMagic reads_magic has.version has.known)
+    fault_bad fields lawful good Bad text s (ConnCount number) (inl (over_misjudged fields text s (ConnCount number) (capture_magic has.version) (to_be_bytes w32 number) has.rest [] (magic_over fields letters part_state after_state BadMagic reads_magic has.version has.known)
     (omega arith) has.whole refl (inr (omega arith)) (ap (λ (n : ℕ). judge_count s n) (number_is number has.fits) ∙ rw (lt-ltb connection_limit number has.over) refl)))
 
 tag_judged : (s : CaptureState) (at b : ℕ) → (b ≡ 83 → ⊥) → (b ≡ 69 → ⊥) → (s.version ≡ 2 → b ≡ 67 → ⊥) → judge_tag s at b ≡ Wrong (BadTag at b)
@@ -98,7 +98,7 @@ trailing_bad text at has =
     (omega (arith, place, has.within)) has.whole refl (inl refl) (ap (λ (n : ℕ). Wrong (Trailing n)) place)))
 
 -- a text with a wrong byte or number is bad with that fault
-pub wrong_bad : (text : List ℕ) (fault : CaptureFault) → IsWrong text fault → verdict text ≡ Bad fault
+pub wrong_bad : (text : List ℕ) (fault : CaptureFault) → IsWrongCapture text fault → verdict text ≡ Bad fault
 wrong_bad text (BadMagic at) has = magic_bad text at has
 wrong_bad text (ConnCount number) has = count_bad text number has
 wrong_bad text (BadTag at b) has = tag_bad text at b has

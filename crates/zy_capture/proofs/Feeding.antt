@@ -9,43 +9,43 @@ use Rattle.zy_capture.specs.declared.capture_fault.CaptureFault.{CaptureFault}
 use Rattle.zy_capture.specs.declared.capture_fault.CaptureFault.TheVariants.{Truncated}
 use Rattle.zy_capture.specs.declared.due.Due.{Due}
 use Rattle.zy_capture.specs.declared.due.Due.TheVariants.{Nothing}
-use Rattle.zy_capture.specs.Steps.{Progress, is_nothing, fields}
+use Rattle.zy_capture.specs.Steps.{CaptureProgress, is_nothing, fields}
 use Rattle.zy_capture.specs.Verdict.{version_of, version_in, count_of, count_in, is_within_by, is_within_record, captures, good, is_good}
 use Rattle.zy_capture.specs.Verdict.Verdict.{Good, Bad}
-use Rattle.zy_capture.specs.Standing.{StandsFor}
+use Rattle.zy_capture.specs.Standing.{StandsForRecords}
 
-pub version_here : (p : Progress) (given : List Record) (b : List ℕ) → StandsFor p given b → version_of b ≡ version_in p.state.version
+pub version_here : (p : CaptureProgress) (given : List Record) (b : List ℕ) → StandsForRecords p given b → version_of b ≡ version_in p.state.version
 unfolding version_of StandsAs
-version_here p given b stands = ap (λ (r : Reading Progress Record). version_in r.last.state.version) stands
+version_here p given b stands = ap (λ (r : Reading CaptureProgress Record). version_in r.last.state.version) stands
 
-pub count_here : (p : Progress) (given : List Record) (b : List ℕ) → StandsFor p given b → count_of b ≡ count_in p.state.due p.state.count
+pub count_here : (p : CaptureProgress) (given : List Record) (b : List ℕ) → StandsForRecords p given b → count_of b ≡ count_in p.state.due p.state.count
 unfolding count_of StandsAs
-count_here p given b stands = ap (λ (r : Reading Progress Record). count_in r.last.state.due r.last.state.count) stands
+count_here p given b stands = ap (λ (r : Reading CaptureProgress Record). count_in r.last.state.due r.last.state.count) stands
 
-pub within_here : (p : Progress) (given : List Record) (b : List ℕ) → StandsFor p given b → is_within_record b ≡ is_within_by p.fault p.state.due
+pub within_here : (p : CaptureProgress) (given : List Record) (b : List ℕ) → StandsForRecords p given b → is_within_record b ≡ is_within_by p.fault p.state.due
 unfolding is_within_record StandsAs
-within_here p given b stands = ap (λ (r : Reading Progress Record). is_within_by r.last.fault r.last.state.due) stands
+within_here p given b stands = ap (λ (r : Reading CaptureProgress Record). is_within_by r.last.fault r.last.state.due) stands
 
 -- ---- where a text is a capture
 
 -- the end was read, and no fault was met
-pub record IsEnded (p : Progress) : Type 0 where
+pub record IsEnded (p : CaptureProgress) : Type 0 where
   pub none : p.fault ≡ None
   pub due : p.state.due ≡ Nothing
 
-end_due : (due : Due) (p : Progress) (given : List Record) → is_good (if is_nothing due then good p.state given else Bad (Truncated p.at)) ≡ true → due ≡ Nothing
+end_due : (due : Due) (p : CaptureProgress) (given : List Record) → is_good (if is_nothing due then good p.state given else Bad (Truncated p.at)) ≡ true → due ≡ Nothing
 end_due Nothing p given is = refl
 end_due due p given is = cc
 
-ended_at : (fault : Option CaptureFault) (p : Progress) (given : List Record) → p.fault ≡ fault → is_good (ended_by fault fields good Bad p given) ≡ true → IsEnded p
+ended_at : (fault : Option CaptureFault) (p : CaptureProgress) (given : List Record) → p.fault ≡ fault → is_good (ended_by fault fields good Bad p given) ≡ true → IsEnded p
 ended_at None p given none is = record { none = none; due = end_due p.state.due p given is }
 ended_at (Some fault) p given met is = cc
 
-pub good_ended : (p : Progress) (given : List Record) → is_good (captures.ended p given) ≡ true → IsEnded p
+pub good_ended : (p : CaptureProgress) (given : List Record) → is_good (captures.ended p given) ≡ true → IsEnded p
 good_ended p given is = ended_at p.fault p given refl is
 
 -- its count was read
-pub good_count : (p : Progress) (given items : List Record) (version count : ℕ) → captures.ended p given ≡ Good version count items → count_in p.state.due p.state.count ≡ Some count
+pub good_count : (p : CaptureProgress) (given items : List Record) (version count : ℕ) → captures.ended p given ≡ Good version count items → count_in p.state.due p.state.count ≡ Some count
 good_count p given items version count is =
     let ended : IsEnded p = good_ended p given (rw is refl) in
     let none : p.fault ≡ None = ended.none in

@@ -13,7 +13,7 @@ use Rattle.zy_read.proofs.OverLemmas.{over_then, over_join}
 use Rattle.zy_capture.specs.declared.due.Due.TheVariants.{Tag, Connection, Length}
 use Rattle.zy_capture.specs.declared.capture_state.CaptureState.{CaptureState}
 use Rattle.zy_capture.specs.Capture.{capture_limit}
-use Rattle.zy_capture.specs.Steps.{Progress, to, number, fields, headed}
+use Rattle.zy_capture.specs.Steps.{CaptureProgress, to, number, fields, headed}
 use Rattle.zy_capture.specs.Verdict.{captures, good}
 use Rattle.zy_capture.specs.Verdict.Verdict.{Bad}
 use Rattle.zy_capture.proofs.PartLemmas.{Over}
@@ -35,19 +35,19 @@ conn_read s at conn room is four few =
     ∙ runs_read fields lawful over.parts s (to s (Length (number conn))) at (at + 5) [] [] (omega (arith, size)) room over.runs
 
 -- a place where nothing of a field was read
-plain : (p : Progress) → p.fault ≡ None → p.seen ≡ [] → p ≡ at_state p.state p.at
+plain : (p : CaptureProgress) → p.fault ≡ None → p.seen ≡ [] → p ≡ at_state p.state p.at
 plain p none empty = ap (λ o. record { state = p.state; seen = p.seen; at = p.at; fault = o }) none ∙ ap (λ l. record { state = p.state; seen = l; at = p.at; fault = None }) empty
 
 -- they are fed
-pub head_fed : (p q : Progress) (a b c d e f g : ℕ) → p.state.due ≡ Tag → p.fault ≡ None → p.seen ≡ [] → p.at + 8 ≤ capture_limit → number (a ∷ b ∷ c ∷ d ∷ []) < p.state.count
+pub head_fed : (p q : CaptureProgress) (a b c d e f g : ℕ) → p.state.due ≡ Tag → p.fault ≡ None → p.seen ≡ [] → p.at + 8 ≤ capture_limit → number (a ∷ b ∷ c ∷ d ∷ []) < p.state.count
     → q ≡ headed p (number (a ∷ b ∷ c ∷ d ∷ [])) (e ∷ f ∷ g ∷ []) → Feeds captures p q (83 ∷ a ∷ b ∷ c ∷ d ∷ e ∷ f ∷ g ∷ []) []
 head_fed p q a b c d e f g is none empty room few same =
     let conn : ℕ = number (a ∷ b ∷ c ∷ d ∷ []) in
     let s : CaptureState = p.state in
     let last : CaptureState = to s (Length conn) in
-    let middle : Progress = at_state last (p.at + 5) in
+    let middle : CaptureProgress = at_state last (p.at + 5) in
     let first : read_on (step fields) p (83 ∷ a ∷ b ∷ c ∷ d ∷ []) ≡ record { given = []; last = middle } =
-    ap (λ (x : Progress). read_on (step fields) x (83 ∷ a ∷ b ∷ c ∷ d ∷ [])) (plain p none empty) ∙ conn_read s p.at (a ∷ b ∷ c ∷ d ∷ []) (omega (arith, room)) is refl few in
+    ap (λ (x : CaptureProgress). read_on (step fields) x (83 ∷ a ∷ b ∷ c ∷ d ∷ [])) (plain p none empty) ∙ conn_read s p.at (a ∷ b ∷ c ∷ d ∷ []) (omega (arith, room)) is refl few in
     let places : headed p conn (e ∷ f ∷ g ∷ []) ≡ record { state = last; seen = e ∷ f ∷ g ∷ []; at = p.at + 5 + 3; fault = None } =
     ap (λ o. record { state = last; seen = e ∷ f ∷ g ∷ []; at = p.at + 8; fault = o }) none ∙ ap (λ n. record { state = last; seen = e ∷ f ∷ g ∷ []; at = n; fault = None }) (omega arith) in
     fed_on captures p middle q (83 ∷ a ∷ b ∷ c ∷ d ∷ []) (e ∷ f ∷ g ∷ []) [] [] (fed_by captures p middle (83 ∷ a ∷ b ∷ c ∷ d ∷ []) [] first)
@@ -67,7 +67,7 @@ eight (a ∷ b ∷ c ∷ d ∷ e ∷ f ∷ g ∷ []) is = absurd (omega (arith, 
 eight (a ∷ b ∷ c ∷ d ∷ e ∷ f ∷ g ∷ h ∷ i ∷ l) is = absurd (omega (arith, is))
 
 -- eight bytes of which the first is this one are fed
-pub head_of : (p q : Progress) (l : List ℕ) (conn : ℕ) → p.state.due ≡ Tag → p.fault ≡ None → p.seen ≡ [] → length l ≡ 8 → get_or l 0 0 ≡ 83 → p.at + 8 ≤ capture_limit
+pub head_of : (p q : CaptureProgress) (l : List ℕ) (conn : ℕ) → p.state.due ≡ Tag → p.fault ≡ None → p.seen ≡ [] → length l ≡ 8 → get_or l 0 0 ≡ 83 → p.at + 8 ≤ capture_limit
     → conn ≡ number (get_or l 1 0 ∷ get_or l 2 0 ∷ get_or l 3 0 ∷ get_or l 4 0 ∷ []) → conn < p.state.count
     → q ≡ headed p conn (get_or l 5 0 ∷ get_or l 6 0 ∷ get_or l 7 0 ∷ []) → Feeds captures p q l []
 head_of p q l conn is none empty long first room told few same =

@@ -9,7 +9,7 @@ use Rattle.std.proofs.lemmas.List.Folds.{sum_by-replicate}
 use Rattle.zy_capture.specs.declared.record.Record.{Record}
 use Rattle.zy_capture.specs.declared.record.Record.TheVariants as Kinds
 use Rattle.zy_capture.specs.Outputs.{AllOutputs}
-use Rattle.zy_capture.specs.Replies.{magic, session_text, output_text, numbered_from, connection_text, replies_bytes}
+use Rattle.zy_capture.specs.Replies.{replies_magic, session_text, output_text, numbered_from, connection_text, replies_bytes}
 use Rattle.zy_capture.specs.Capture as Captures
 use Rattle.zy_capture.specs.Streams.{sessions_of, no_bytes, last_grown, with_record, with_records}
 
@@ -45,9 +45,9 @@ replies_few outputs =
     let records = numbered_from (connection_text outputs.version) 0 outputs.sessions in
     let all : length records ≤ sum_by (λ sessions. sum_by record_most sessions) outputs.sessions =
     numbered_few (connection_text outputs.version) (λ sessions. sum_by record_most sessions) (λ conn sessions. numbered_few (output_text outputs.version conn) record_most (output_few outputs.version conn) 0 sessions) 0 outputs.sessions in
-    let whole = length-append (magic outputs.version) (records ++ 69 ∷ []) in
+    let whole = length-append (replies_magic outputs.version) (records ++ 69 ∷ []) in
     let end = length-append records (69 ∷ []) in
-    let front : length (magic outputs.version) ≤ 8 = omega arith in
+    let front : length (replies_magic outputs.version) ≤ 8 = omega arith in
     omega (arith, all, whole, end, front)
 
 -- ---- streams
@@ -101,7 +101,7 @@ records_few : (text : List ℕ) (version count : ℕ) (items : List Record) → 
 unfolding Captures.spelling
 records_few text version count items spells =
     let records = flat_map Captures.spelled items in
-    let front = Captures.magic version in
+    let front = Captures.capture_magic version in
     let whole = length-append front (to_be_bytes w32 count ++ (records ++ 69 ∷ [])) in
     let body = length-append (to_be_bytes w32 count) (records ++ 69 ∷ []) in
     let end = length-append records (69 ∷ []) in

@@ -17,7 +17,7 @@ use Rattle.zy_capture.specs.declared.record.Record.TheVariants as Kinds
 use Rattle.zy_capture.specs.declared.capture_fault.CaptureFault.TheVariants.{BadMagic}
 use Rattle.zy_capture.specs.declared.due.Due.TheVariants.{Magic, Count, Tag, Connection, Length, Payload, Closed}
 use Rattle.zy_capture.specs.declared.capture_state.CaptureState.{CaptureState}
-use Rattle.zy_capture.specs.Capture.{letters, magic, spelled, IsRecordOf, IsCapture, connection_limit, segment_limit}
+use Rattle.zy_capture.specs.Capture.{letters, capture_magic, spelled, IsRecordOf, IsCapture, connection_limit, segment_limit}
 use Rattle.zy_capture.specs.Faults.{front_text}
 use Rattle.zy_capture.specs.Steps.{state, start, to, number, segment, judge_count, judge_connection, judge_length, judge_closed, judged, fields}
 
@@ -97,14 +97,14 @@ after_state version = state Count version 0
 pub reads_magic : ReadsMagic fields letters part_state after_state BadMagic
 reads_magic = record { six = refl; start_is = refl; widths = λ part. refl; judges = λ part at byte. refl; room = omega arith }
 
-pub head_over : (version count : ℕ) (items : List Record) → IsCapture version count items → Over start 0 (magic version ++ to_be_bytes w32 count) (state Tag version count) []
+pub head_over : (version count : ℕ) (items : List Record) → IsCapture version count items → Over start 0 (capture_magic version ++ to_be_bytes w32 count) (state Tag version count) []
 head_over version count items valid =
-    over_join fields start (after_state version) (state Tag version count) 0 (magic version) (to_be_bytes w32 count) [] [] (magic_over fields letters part_state after_state BadMagic reads_magic version valid.known)
+    over_join fields start (after_state version) (state Tag version count) 0 (capture_magic version) (to_be_bytes w32 count) [] [] (magic_over fields letters part_state after_state BadMagic reads_magic version valid.known)
     (over_then fields (after_state version) (state Tag version count) 8 (to_be_bytes w32 count) refl (count_judged (after_state version) 8 count valid.few))
 
 pub front_over : (version count : ℕ) (items : List Record) → IsCapture version count items → Over start 0 (front_text version count items) (state Tag version count) items
 front_over version count items valid =
-    over_join fields start (state Tag version count) (state Tag version count) 0 (magic version ++ to_be_bytes w32 count) (flat_map spelled items) [] items
+    over_join fields start (state Tag version count) (state Tag version count) 0 (capture_magic version ++ to_be_bytes w32 count) (flat_map spelled items) [] items
     (head_over version count items valid) (records_over items version count 12 valid.lawful valid.few)
 
 -- the records of a capture, and further fields

@@ -21,7 +21,7 @@ use Rattle.zy_capture.specs.declared.record.Record.TheVariants as Kinds
 use Rattle.zy_capture.specs.declared.due.Due.{Due}
 use Rattle.zy_capture.specs.declared.due.Due.TheVariants.{Magic, Count, Tag, Connection, Length, Payload, Closed, Nothing}
 use Rattle.zy_capture.specs.declared.capture_state.CaptureState.{CaptureState}
-use Rattle.zy_capture.specs.Capture.{letters, magic, spelled, IsRecordOf, IsCapture, connection_limit, segment_limit}
+use Rattle.zy_capture.specs.Capture.{letters, capture_magic, spelled, IsRecordOf, IsCapture, connection_limit, segment_limit}
 use Rattle.zy_capture.specs.Faults.{front_text}
 use Rattle.zy_capture.specs.Steps.{width, Judgement, number, byte, segment, judge_magic, judged, fields}
 use Rattle.zy_capture.proofs.ByteLemmas.{both_true, positive, chosen, assoc_twice}
@@ -37,7 +37,7 @@ pub record IsAfter (version count : ℕ) (given : List Record) (tail text : List
 abbrev pub IsAt : Due → CaptureState → List ℕ → List Record → Type 0
 IsAt (Magic part) s text given =
     IsInMagic part (length text) × IsKnown part × (given ≡ []) × (text ≡ magic_before part letters (length text))
-IsAt Count s text given = IsVersion s.version × (given ≡ []) × (text ≡ magic s.version)
+IsAt Count s text given = IsVersion s.version × (given ≡ []) × (text ≡ capture_magic s.version)
 IsAt Tag s text given = IsAfter s.version s.count given [] text
 IsAt Connection s text given = IsAfter s.version s.count given (83 ∷ []) text
 IsAt (Length conn) s text given = IsAfter s.version s.count given (83 ∷ to_be_bytes w32 conn) text × (conn < s.count)
@@ -77,8 +77,8 @@ all_on version count (first ∷ given) item all one = (all.0, all_on version cou
 -- one further record
 front_on : (version count : ℕ) (given : List Record) (item : Record) → front_text version count given ++ spelled item ≡ front_text version count (given ++ item ∷ [])
 front_on version count given item =
-    assoc_twice (magic version) (to_be_bytes w32 count) (flat_map spelled given) (spelled item)
-    ∙ ap (λ (l : List ℕ). magic version ++ (to_be_bytes w32 count ++ l)) (ap (λ (l : List ℕ). flat_map spelled given ++ l) (sym (append-nil (spelled item))) ∙ sym (flat_map-append spelled given (item ∷ [])))
+    assoc_twice (capture_magic version) (to_be_bytes w32 count) (flat_map spelled given) (spelled item)
+    ∙ ap (λ (l : List ℕ). capture_magic version ++ (to_be_bytes w32 count ++ l)) (ap (λ (l : List ℕ). flat_map spelled given ++ l) (sym (append-nil (spelled item))) ∙ sym (flat_map-append spelled given (item ∷ [])))
 
 record_on : (version count : ℕ) (given : List Record) (item : Record) (tail text field : List ℕ) → IsRecordOf version count item → tail ++ field ≡ spelled item → IsAfter version count given tail text → IsAfter version count (given ++ item ∷ []) [] (text ++ field)
 record_on version count given item tail text field one is after = record {
@@ -107,8 +107,8 @@ from_count s text field given all is four =
     chosen (Goes (text ++ field) given) (nat_lt connection_limit n) _ _ (λ over. tt)
     (λ few. subst (λ (l : List Record). IsAfter s.version n l [] (text ++ field)) (sym is.1) (record {
       valid = record { known = is.0; few = ltb-false connection_limit n few; lawful = tt };
-      whole = ap (λ (l : List ℕ). l ++ field) is.2 ∙ ap (λ (l : List ℕ). magic s.version ++ l) (sym (four_bytes field all four))
-          ∙ ap (λ (l : List ℕ). magic s.version ++ l) (sym (append-nil (to_be_bytes w32 n))) ∙ sym (append-nil (front_text s.version n []));
+      whole = ap (λ (l : List ℕ). l ++ field) is.2 ∙ ap (λ (l : List ℕ). capture_magic s.version ++ l) (sym (four_bytes field all four))
+          ∙ ap (λ (l : List ℕ). capture_magic s.version ++ l) (sym (append-nil (to_be_bytes w32 n))) ∙ sym (append-nil (front_text s.version n []));
     }))
 
 from_tag : (s : CaptureState) (text field : List ℕ) (given : List Record) → IsAt Tag s text given → length field ≡ 1 → Goes (text ++ field) given (judged Tag s (length text) field)

@@ -8,7 +8,7 @@ use Rattle.zy_read.specs.Runs.{IsCut, IsOverlong, HasFault as HasFieldFault, IsO
 use Rattle.zy_read.proofs.ByteLemmas.{bytes_front}
 use Rattle.zy_read.proofs.VerdictLemmas.{outcome, fault_bad, cut_bad, cut_overlong, overlong_cut, overlong_text, overlong_most, overlong_long}
 use Rattle.zy_capture.specs.declared.replies_state.RepliesState.{RepliesState}
-use Rattle.zy_capture.specs.RepliesFaults.{IsWrong, IsBegun, HasFault}
+use Rattle.zy_capture.specs.RepliesFaults.{IsWrongReplies, IsBegun, HasFaultAsReplies}
 use Rattle.zy_capture.specs.RepliesSteps.{replies_fields}
 use Rattle.zy_capture.specs.RepliesVerdict.{Verdict, good, verdict}
 use Rattle.zy_capture.specs.RepliesVerdict.Verdict.{Bad}
@@ -31,7 +31,7 @@ cut_begun text cut =
     }
 
 -- a wrong byte or number, if it is not one
-not_wrong : (text : List ℕ) (fault : FileFault) → ((at : ℕ) → IsWrong text at → ⊥) → IsForm text fault → ⊥
+not_wrong : (text : List ℕ) (fault : FileFault) → ((at : ℕ) → IsWrongReplies text at → ⊥) → IsForm text fault → ⊥
 not_wrong text (Form at) none wrong = none at wrong
 not_wrong text (Truncated at) none wrong = wrong
 not_wrong text TooLong none wrong = wrong
@@ -50,12 +50,12 @@ begun_cut text all begun = begun_by text (verdict text) all begun (outcome repli
 
 -- ---- all faults
 
-form_had : (text : List ℕ) (fault : FileFault) → IsForm text fault → HasFault text fault
+form_had : (text : List ℕ) (fault : FileFault) → IsForm text fault → HasFaultAsReplies text fault
 form_had text (Form at) wrong = wrong
 form_had text (Truncated at) wrong = absurd wrong
 form_had text TooLong wrong = absurd wrong
 
-long_had : (text : List ℕ) (s : RepliesState) → IsOverlong replies_fields text s → HasFault text TooLong
+long_had : (text : List ℕ) (s : RepliesState) → IsOverlong replies_fields text s → HasFaultAsReplies text TooLong
 long_had text s long = record {
   front = concat long.begins.parts ++ long.seen;
   byte = long.byte;
@@ -65,25 +65,25 @@ long_had text s long = record {
   begun = cut_begun (concat long.begins.parts ++ long.seen) (overlong_cut replies_fields text s long);
 }
 
-had : (text : List ℕ) (s : RepliesState) (fault : FileFault) → AreBytes text → HasFieldFault replies_fields text s fault → HasFault text fault
+had : (text : List ℕ) (s : RepliesState) (fault : FileFault) → AreBytes text → HasFieldFault replies_fields text s fault → HasFaultAsReplies text fault
 had text s fault all (inl wrong) = form_had text fault (misjudged_wrong text s fault all wrong)
-had text s fault all (inr long) = subst (HasFault text) (sym long.1) (long_had text s long.0)
+had text s fault all (inr long) = subst (HasFaultAsReplies text) (sym long.1) (long_had text s long.0)
 
-had_by : (text : List ℕ) (found : Verdict) (fault : FileFault) → AreBytes text → IsOutcome replies_fields good Bad text found → found ≡ Bad fault → HasFault text fault
+had_by : (text : List ℕ) (found : Verdict) (fault : FileFault) → AreBytes text → IsOutcome replies_fields good Bad text found → found ≡ Bad fault → HasFaultAsReplies text fault
 had_by text found fault all (inl whole) is = let is_good = whole.1.2 in cc
 had_by text found fault all (inr (inl cut)) is =
     let truncated : found ≡ Bad (Truncated (length text)) = cut.1 in
     let same : Truncated (length text) ≡ fault = cc in
-    subst (HasFault text) same (record { place = refl; begun = cut_begun text cut.0 })
+    subst (HasFaultAsReplies text) same (record { place = refl; begun = cut_begun text cut.0 })
 had_by text found fault all (inr (inr has)) is =
     let bad : found ≡ Bad has.1.0 = has.1.2 in
     let same : has.1.0 ≡ fault = cc in
-    subst (HasFault text) same (had text has.0 has.1.0 all has.1.1)
+    subst (HasFaultAsReplies text) same (had text has.0 has.1.0 all has.1.1)
 
-pub fault_had : (text : List ℕ) (fault : FileFault) → AreBytes text → verdict text ≡ Bad fault → HasFault text fault
+pub fault_had : (text : List ℕ) (fault : FileFault) → AreBytes text → verdict text ≡ Bad fault → HasFaultAsReplies text fault
 fault_had text fault all is = had_by text (verdict text) fault all (outcome replies_fields lawful good Bad text) is
 
-pub fault_told : (text : List ℕ) (fault : FileFault) → AreBytes text → HasFault text fault → verdict text ≡ Bad fault
+pub fault_told : (text : List ℕ) (fault : FileFault) → AreBytes text → HasFaultAsReplies text fault → verdict text ≡ Bad fault
 fault_told text (Form at) all has = has_bad text at has
 fault_told text (Truncated at) all has =
     cut_bad replies_fields lawful good Bad text (begun_cut text all has.begun) ∙ ap (λ (n : ℕ). Bad (Truncated n)) (sym has.place)

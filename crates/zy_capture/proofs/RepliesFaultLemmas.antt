@@ -21,8 +21,8 @@ use Rattle.zy_capture.specs.declared.replies_due.RepliesDue.{RepliesDue}
 use Rattle.zy_capture.specs.declared.replies_due.RepliesDue.TheVariants.{Magic, Tag, Connection, Session, Length, Output, Nothing}
 use Rattle.zy_capture.specs.declared.replies_state.RepliesState.{RepliesState}
 use Rattle.zy_capture.specs.Capture.{connection_limit}
-use Rattle.zy_capture.specs.Replies.{letters, magic, spelled, spelling, IsNext, IsRepliesFile, replies_limit}
-use Rattle.zy_capture.specs.RepliesFaults.{front_text, connections_after, sessions_after, IsWrong}
+use Rattle.zy_capture.specs.Replies.{letters, replies_magic, spelled, spelling, IsNextSession, IsRepliesFile, replies_limit}
+use Rattle.zy_capture.specs.RepliesFaults.{front_text, connections_after, sessions_after, IsWrongReplies}
 use Rattle.zy_capture.specs.RepliesSteps.{shape, after_magic, tag, may_come, due_session, connection, session, judged, is_last, replies_fields}
 use Rattle.zy_capture.proofs.ByteLemmas.{chosen}
 use Rattle.zy_capture.proofs.RepliesWholeLemmas.{IsReadTo, AreSoFar, four_is, reached}
@@ -36,7 +36,7 @@ no_connection conn connections version is lawful = grind (arith, nat_tests)
 
 -- nor is a session that is not
 no_session : (version connections sessions conn number : ℕ) → (number == (if conn == connections then 0 else sessions) && nat_lt number (2 ^ 31)) ≡ false
-    → IsNext version connections sessions conn number × (number < 2 ^ 31) → ⊥
+    → IsNextSession version connections sessions conn number × (number < 2 ^ 31) → ⊥
 no_session version connections sessions conn number is lawful = grind (arith, nat_tests)
 
 four_fits : (field : List ℕ) → AreBytes field → length field ≡ 4 → from_be_bytes w32 field < 2 ^ 32
@@ -48,7 +48,7 @@ four_fits field all size =
 
 -- the fault is that of a wrong byte or number
 abbrev pub IsForm : List ℕ → FileFault → Type 0
-IsForm text (Form at) = IsWrong text at
+IsForm text (Form at) = IsWrongReplies text at
 IsForm text fault = ⊥
 
 -- a field that is wrong means that the text is
@@ -124,15 +124,15 @@ from_session conn s text front field rest given whole all size room read =
       place = place;
       lawful = subst (λ (k : ℕ). (conn < connection_limit) × ((conn ≡ k) ⊎ ((s.version ≡ 2) × (conn + 1 ≡ k)))) keeps.connections_are read.valid.1;
       wrong = λ lawful. no_session s.version s.connections s.sessions conn n wrong
-          (subst (λ (k : ℕ). IsNext s.version s.connections k conn n) (sym keeps.sessions_are) (subst (λ (k : ℕ). IsNext s.version k (sessions_after 0 given) conn n) (sym keeps.connections_are) lawful.0), lawful.1);
+          (subst (λ (k : ℕ). IsNextSession s.version s.connections k conn n) (sym keeps.sessions_are) (subst (λ (k : ℕ). IsNextSession s.version k (sessions_after 0 given) conn n) (sym keeps.connections_are) lawful.0), lawful.1);
       fits = four_fits field all size;
       within = omega (arith, size, room);
     })))))
 
-from_end : (s : RepliesState) (text front rest : List ℕ) (given : List SessionBytes) (byte : ℕ) → text ≡ front ++ byte ∷ rest → length front ≤ replies_limit → IsReadTo Nothing s front given → IsWrong text (length front)
+from_end : (s : RepliesState) (text front rest : List ℕ) (given : List SessionBytes) (byte : ℕ) → text ≡ front ++ byte ∷ rest → length front ≤ replies_limit → IsReadTo Nothing s front given → IsWrongReplies text (length front)
 unfolding spelling
 from_end s text front rest given byte whole short read =
-    let spelled_is : front ≡ spelling s.version given = read.bytes ∙ append_assoc (magic s.version) (flat_map (spelled s.version) given) (69 ∷ []) in
+    let spelled_is : front ≡ spelling s.version given = read.bytes ∙ append_assoc (replies_magic s.version) (flat_map (spelled s.version) given) (69 ∷ []) in
     inr (inr (inr (inr (record {
       version = s.version;
       items = given;

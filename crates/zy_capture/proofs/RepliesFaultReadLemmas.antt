@@ -16,8 +16,8 @@ use Rattle.zy_capture.specs.declared.session_bytes.SessionBytes.{SessionBytes}
 use Rattle.zy_capture.specs.declared.replies_due.RepliesDue.TheVariants.{Connection, Session}
 use Rattle.zy_capture.specs.declared.replies_state.RepliesState.{RepliesState}
 use Rattle.zy_capture.specs.Capture.{connection_limit}
-use Rattle.zy_capture.specs.Replies.{letters, spelling, IsNext, replies_limit}
-use Rattle.zy_capture.specs.RepliesFaults.{front_text, connections_after, sessions_after, GoesOn, IsBadTag, IsBadConnection, IsBadSession, IsTrailing, IsWrong}
+use Rattle.zy_capture.specs.Replies.{letters, spelling, IsNextSession, replies_limit}
+use Rattle.zy_capture.specs.RepliesFaults.{front_text, connections_after, sessions_after, RepliesGoOn, IsBadTag, IsBadConnection, IsBadSession, IsTrailing, IsWrongReplies}
 use Rattle.zy_capture.specs.RepliesSteps.{start, goes, tag, connection, session, replies_fields}
 use Rattle.zy_capture.specs.RepliesVerdict.{good, verdict}
 use Rattle.zy_capture.specs.RepliesVerdict.Verdict.{Bad}
@@ -45,7 +45,7 @@ may_two : (version connections conn : ℕ) → version ≡ 2 → (conn < connect
     → (nat_lt conn connection_limit && (conn == connections || (version == 2 && conn + 1 == connections))) ≡ true
 may_two version connections conn two lawful = grind (arith, nat_tests)
 
-not_due : (version connections sessions conn number : ℕ) → version ≡ 2 → (conn ≡ connections) ⊎ ((version ≡ 2) × (conn + 1 ≡ connections)) → (IsNext version connections sessions conn number × (number < 2 ^ 31) → ⊥)
+not_due : (version connections sessions conn number : ℕ) → version ≡ 2 → (conn ≡ connections) ⊎ ((version ≡ 2) × (conn + 1 ≡ connections)) → (IsNextSession version connections sessions conn number × (number < 2 ^ 31) → ⊥)
     → (number == (if conn == connections then 0 else sessions) && nat_lt number (2 ^ 31)) ≡ false
 not_due version connections sessions conn number two follows wrong = grind (arith, nat_tests)
 
@@ -63,7 +63,7 @@ bad_tag_bad text at has =
     (no_tag (after_items has.version has.items) (length x) has.byte has.no_record has.no_end ∙ ap (λ (n : ℕ). Wrong (Form n)) (sym has.front.place))
 
 -- the records and the tag of one more
-tagged_over : (version : ℕ) (items : List SessionBytes) (text tail : List ℕ) (at : ℕ) → GoesOn text version items at (82 ∷ tail) → at ≤ replies_limit → Over start 0 (front_text version items ++ 82 ∷ []) (in_state Connection version (connections_after 0 items) (sessions_after 0 items)) items
+tagged_over : (version : ℕ) (items : List SessionBytes) (text tail : List ℕ) (at : ℕ) → RepliesGoOn text version items at (82 ∷ tail) → at ≤ replies_limit → Over start 0 (front_text version items ++ 82 ∷ []) (in_state Connection version (connections_after 0 items) (sessions_after 0 items)) items
 tagged_over version items text tail at goes_on short =
     let s : RepliesState = in_state Connection version (connections_after 0 items) (sessions_after 0 items) in
     subst (λ (l : List SessionBytes). Over start 0 (front_text version items ++ 82 ∷ []) s l) (append-nil items)
@@ -112,7 +112,7 @@ trailing_bad text at has =
     (ap (λ (k : ℕ). Wrong (Form k)) (sym has.place))
 
 -- a text is bad with what is wrong in it
-pub has_bad : (text : List ℕ) (at : ℕ) → IsWrong text at → verdict text ≡ Bad (Form at)
+pub has_bad : (text : List ℕ) (at : ℕ) → IsWrongReplies text at → verdict text ≡ Bad (Form at)
 has_bad text at (inl has) = bad_magic_bad text at has
 has_bad text at (inr (inl has)) = bad_tag_bad text at has
 has_bad text at (inr (inr (inl has))) = connection_bad text at has

@@ -16,20 +16,20 @@ use Rattle.zy_capture.specs.declared.replies_due.RepliesDue.TheVariants.{Magic, 
 use Rattle.zy_capture.specs.declared.replies_state.RepliesState.{RepliesState}
 use Rattle.zy_capture.specs.Replies.{letters, replies_limit}
 use Rattle.zy_capture.proofs.ByteLemmas.{chosen}
-use Rattle.zy_capture.specs.RepliesSteps.{Progress, shape, after_magic, may_come, due_session, judged, is_last, replies_fields}
+use Rattle.zy_capture.specs.RepliesSteps.{RepliesPlace, shape, after_magic, may_come, due_session, judged, is_last, replies_fields}
 use Rattle.zy_capture.specs.RepliesVerdict.{version_of, version_in}
 use Rattle.zy_capture.specs.RepliesStanding.{StandsForReplies, IsOfOutput, IsOutputDue}
 
-pub version_here : (p : Progress) (given : List SessionBytes) (b : List ℕ) → StandsForReplies p given b → version_of b ≡ version_in p.state.version
+pub version_here : (p : RepliesPlace) (given : List SessionBytes) (b : List ℕ) → StandsForReplies p given b → version_of b ≡ version_in p.state.version
 unfolding version_of StandsAs
-version_here p given b stands = ap (λ (r : Reading Progress SessionBytes). version_in r.last.state.version) stands
+version_here p given b stands = ap (λ (r : Reading RepliesPlace SessionBytes). version_in r.last.state.version) stands
 
 output_due : (due : RepliesDue) (others at : ℕ) → shape due ≡ Run others → (not (is_last due) && nat_le replies_limit at) ≡ false → ((conn session more : ℕ) × (due ≡ Output conn session more)) × (at < replies_limit)
 output_due (Output conn session more) others at run room = ((conn, session, more, refl), grind (arith, nat_tests))
 output_due due others at run room = cc
 
 -- a byte of a run is one of an output
-pub of_output : (p : Progress) (byte : ℕ) → MayNeed replies_fields IsOutputDue p byte → IsOfOutput p byte
+pub of_output : (p : RepliesPlace) (byte : ℕ) → MayNeed replies_fields IsOutputDue p byte → IsOfOutput p byte
 of_output p byte is = output_due p.state.due is.0.0 p.at is.0.1 is.1
 
 magic_quiet : (s : RepliesState) (at : ℕ) (step : MagicStep) → IsQuiet (after_magic s at step)

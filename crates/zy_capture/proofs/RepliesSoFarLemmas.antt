@@ -13,7 +13,7 @@ use Rattle.zy_capture.specs.declared.session_bytes.SessionBytes.{SessionBytes}
 use Rattle.zy_capture.specs.declared.replies_due.RepliesDue.{RepliesDue}
 use Rattle.zy_capture.specs.declared.replies_due.RepliesDue.TheVariants.{Magic, Tag, Connection, Session, Length, Output, Nothing}
 use Rattle.zy_capture.specs.declared.replies_state.RepliesState.{RepliesState}
-use Rattle.zy_capture.specs.RepliesSteps.{Progress, start, is_last, replies_fields}
+use Rattle.zy_capture.specs.RepliesSteps.{RepliesPlace, start, is_last, replies_fields}
 use Rattle.zy_capture.specs.RepliesVerdict.{good, verdict, read_from, version_in, version_of, outputs_of, fault_of}
 use Rattle.zy_capture.specs.RepliesVerdict.Verdict.{Good, Bad}
 use Rattle.zy_capture.specs.RepliesLaws.{lawful}
@@ -27,18 +27,18 @@ pub record Tells (text : List ℕ) (version : ℕ) (items : List SessionBytes) :
   pub outputs_are : outputs_of text ≡ items
 
 -- what is good is good with what was read
-end_good : (is_end : Bool) (p : Progress) (given : List SessionBytes) (version : ℕ) (items : List SessionBytes) → (if is_end then Good p.state.version given else Bad (Truncated p.at)) ≡ Good version items → (p.state.version ≡ version) × (given ≡ items)
+end_good : (is_end : Bool) (p : RepliesPlace) (given : List SessionBytes) (version : ℕ) (items : List SessionBytes) → (if is_end then Good p.state.version given else Bad (Truncated p.at)) ≡ Good version items → (p.state.version ≡ version) × (given ≡ items)
 end_good true p given version items is = (cc, cc)
 end_good false p given version items is = cc
 
-ends_good : (fault : Option FileFault) (p : Progress) (given : List SessionBytes) (version : ℕ) (items : List SessionBytes) → ended_by fault replies_fields good Bad p given ≡ Good version items → (p.state.version ≡ version) × (given ≡ items)
+ends_good : (fault : Option FileFault) (p : RepliesPlace) (given : List SessionBytes) (version : ℕ) (items : List SessionBytes) → ended_by fault replies_fields good Bad p given ≡ Good version items → (p.state.version ≡ version) × (given ≡ items)
 ends_good None p given version items is = end_good (is_last p.state.due) p given version items is
 ends_good (Some fault) p given version items is = cc
 
 pub good_tells : (text : List ℕ) (version : ℕ) (items : List SessionBytes) → IsVersion version → verdict text ≡ Good version items → Tells text version items
 unfolding verdict_on version_of given_by reading_of
 good_tells text version items known is =
-    let r : Reading Progress SessionBytes = read_from (at_state start 0) text in
+    let r : Reading RepliesPlace SessionBytes = read_from (at_state start 0) text in
     let told = ends_good r.last.fault r.last r.given version items is in
     record { version_is = ap (λ (v : ℕ). version_in v) told.0 ∙ known_version version known; outputs_are = told.1 }
 
@@ -56,7 +56,7 @@ so_far Nothing s text given some read = read.valid
 pub outputs_so_far : (text : List ℕ) → AreBytes text → fault_of text ≡ None → outputs_of text ≢ [] → IsRepliesSoFar text
 unfolding fault_met version_of given_by reading_of
 outputs_so_far text all none some =
-    let r : Reading Progress SessionBytes = read_from (at_state start 0) text in
+    let r : Reading RepliesPlace SessionBytes = read_from (at_state start 0) text in
     let read = subst (λ (o : Option FileFault). IsRead replies_fields o r.last r.given text) none (text_read replies_fields lawful text) in
     let keeps : AreSoFar r.last.state r.given = so_far r.last.state.due r.last.state (concat read.begins.parts) r.given some (reached text r.last.state r.given r.last.seen read.begins all) in
     record {

@@ -17,7 +17,7 @@ use Rattle.zy_capture.specs.declared.replies_due.RepliesDue.{RepliesDue}
 use Rattle.zy_capture.specs.declared.replies_due.RepliesDue.TheVariants.{Magic, Tag, Connection, Session, Length, Output, Nothing}
 use Rattle.zy_capture.specs.declared.replies_state.RepliesState.{RepliesState}
 use Rattle.zy_capture.specs.Capture.{connection_limit}
-use Rattle.zy_capture.specs.Replies.{letters, magic, session_text, spelled, spelling, IsNext, AreNumbers, AreInOrder, IsRepliesFile, SpellsReplies, replies_limit}
+use Rattle.zy_capture.specs.Replies.{letters, replies_magic, session_text, spelled, spelling, IsNextSession, AreNumbers, AreBySession, IsRepliesFile, SpellsReplies, replies_limit}
 use Rattle.zy_capture.specs.RepliesFaults.{front_text, connections_after, sessions_after}
 use Rattle.zy_capture.specs.RepliesSteps.{start, goes, connection, session, size_read, replies_fields}
 use Rattle.zy_capture.specs.RepliesVerdict.{good, verdict}
@@ -48,26 +48,26 @@ reads_magic = record { six = refl; start_is = refl; widths = λ part. refl; judg
 
 -- ---- tests
 
-pub may : (version connections sessions conn number : ℕ) → conn < connection_limit → IsNext version connections sessions conn number
+pub may : (version connections sessions conn number : ℕ) → conn < connection_limit → IsNextSession version connections sessions conn number
     → (nat_lt conn connection_limit && (conn == connections || (version == 2 && conn + 1 == connections))) ≡ true
 may version connections sessions conn number below next = grind (arith, nat_tests)
 
 -- after the connection of a record, in version 2
-pub connection_two : (s : RepliesState) (at conn number : ℕ) → conn < connection_limit → s.version ≡ 2 → IsNext s.version s.connections s.sessions conn number → connection s at conn ≡ goes s (Session conn)
+pub connection_two : (s : RepliesState) (at conn number : ℕ) → conn < connection_limit → s.version ≡ 2 → IsNextSession s.version s.connections s.sessions conn number → connection s at conn ≡ goes s (Session conn)
 connection_two s at conn number below two next = rw (may s.version s.connections s.sessions conn number below next, two) refl
 
 -- and in version 1
-connection_one : (s : RepliesState) (at conn number : ℕ) → conn < connection_limit → s.version ≡ 1 → IsNext s.version s.connections s.sessions conn number → connection s at conn ≡ goes s (Length conn 0)
+connection_one : (s : RepliesState) (at conn number : ℕ) → conn < connection_limit → s.version ≡ 1 → IsNextSession s.version s.connections s.sessions conn number → connection s at conn ≡ goes s (Length conn 0)
 connection_one s at conn number below one next = rw (may s.version s.connections s.sessions conn number below next, one) refl
 
-pub due : (version connections sessions conn number : ℕ) → number < 2 ^ 31 → IsNext version connections sessions conn number
+pub due : (version connections sessions conn number : ℕ) → number < 2 ^ 31 → IsNextSession version connections sessions conn number
     → (number == (if conn == connections then 0 else sessions) && nat_lt number (2 ^ 31)) ≡ true
 due version connections sessions conn number below next = grind (arith, nat_tests)
 
-session_two : (s : RepliesState) (at conn number : ℕ) → number < 2 ^ 31 → IsNext s.version s.connections s.sessions conn number → session conn s at number ≡ goes s (Length conn number)
+session_two : (s : RepliesState) (at conn number : ℕ) → number < 2 ^ 31 → IsNextSession s.version s.connections s.sessions conn number → session conn s at number ≡ goes s (Length conn number)
 session_two s at conn number below next = rw (due s.version s.connections s.sessions conn number below next) refl
 
-no_session : (version connections sessions conn number : ℕ) → version ≡ 1 → IsNext version connections sessions conn number → number ≡ 0
+no_session : (version connections sessions conn number : ℕ) → version ≡ 1 → IsNextSession version connections sessions conn number → number ≡ 0
 no_session version connections sessions conn number one (inl first) = first.1
 no_session version connections sessions conn number one (inr later) = absurd (omega (arith, one, later.0))
 
@@ -84,7 +84,7 @@ connection_over version connections sessions at conn next small judges =
     over_then replies_fields s (in_state next version connections sessions) at (to_be_bytes w32 conn) refl
     (ap (λ (n : ℕ). connection s at n) (from_be_bytes-to_be_bytes_4 conn small) ∙ judges)
 
-session_over : (version connections sessions at conn number : ℕ) → number < 2 ^ 31 → IsNext version connections sessions conn number
+session_over : (version connections sessions at conn number : ℕ) → number < 2 ^ 31 → IsNextSession version connections sessions conn number
     → Over (in_state (Session conn) version connections sessions) at (to_be_bytes w32 number) (in_state (Length conn number) version connections sessions) []
 session_over version connections sessions at conn number below next =
     let s : RepliesState = in_state (Session conn) version connections sessions in
@@ -112,7 +112,7 @@ rest_over version connections sessions at conn number (byte ∷ bytes) small =
 pub tag_over : (version connections sessions at : ℕ) → Over (in_state Tag version connections sessions) at (82 ∷ []) (in_state Connection version connections sessions) []
 tag_over version connections sessions at = over_then replies_fields (in_state Tag version connections sessions) (in_state Connection version connections sessions) at (82 ∷ []) refl refl
 
-record_over : (item : SessionBytes) (version connections sessions at : ℕ) → IsVersion version → IsNext version connections sessions item.conn item.session → AreNumbers item.conn item.session → length item.bytes < 2 ^ 64
+record_over : (item : SessionBytes) (version connections sessions at : ℕ) → IsVersion version → IsNextSession version connections sessions item.conn item.session → AreNumbers item.conn item.session → length item.bytes < 2 ^ 64
     → Over (in_state Tag version connections sessions) at (spelled version item) (in_state Tag version (item.conn + 1) (item.session + 1)) (item ∷ [])
 record_over item version connections sessions at (inl one) next numbers small =
     let s : RepliesState = in_state Tag version connections sessions in
@@ -146,7 +146,7 @@ bytes_few : (version : ℕ) (item : SessionBytes) → length item.bytes ≤ leng
 bytes_few version item =
     omega (arith, length-append (to_be_bytes w32 item.conn) (session_text version item.session ++ (to_be_bytes w64 (length item.bytes) ++ item.bytes)), length-append (session_text version item.session) (to_be_bytes w64 (length item.bytes) ++ item.bytes), length-append (to_be_bytes w64 (length item.bytes)) item.bytes)
 
-records_over : (items : List SessionBytes) (version connections sessions at : ℕ) → IsVersion version → AreInOrder version connections sessions items → length (flat_map (spelled version) items) < 2 ^ 64
+records_over : (items : List SessionBytes) (version connections sessions at : ℕ) → IsVersion version → AreBySession version connections sessions items → length (flat_map (spelled version) items) < 2 ^ 64
     → Over (in_state Tag version connections sessions) at (flat_map (spelled version) items) (in_state Tag version (connections_after connections items) (sessions_after sessions items)) items
 records_over [] version connections sessions at known ordered small = over_none replies_fields (in_state Tag version connections sessions) at
 records_over (item ∷ items) version connections sessions at known ordered small =
@@ -163,8 +163,8 @@ after_items version items = in_state Tag version (connections_after 0 items) (se
 -- the magic and the records of a file
 pub front_over : (version : ℕ) (items : List SessionBytes) → IsRepliesFile version items → length (front_text version items) ≤ replies_limit → Over start 0 (front_text version items) (after_items version items) items
 front_over version items valid short =
-    let sizes : length (front_text version items) ≡ length (magic version) + length (flat_map (spelled version) items) = length-append (magic version) (flat_map (spelled version) items) in
-    over_join replies_fields start (in_state Tag version 0 0) (after_items version items) 0 (magic version) (flat_map (spelled version) items) [] items (magic_over replies_fields letters part_state after_state Form reads_magic version valid.known)
+    let sizes : length (front_text version items) ≡ length (replies_magic version) + length (flat_map (spelled version) items) = length-append (replies_magic version) (flat_map (spelled version) items) in
+    over_join replies_fields start (in_state Tag version 0 0) (after_items version items) 0 (replies_magic version) (flat_map (spelled version) items) [] items (magic_over replies_fields letters part_state after_state Form reads_magic version valid.known)
     (records_over items version 0 0 8 valid.known valid.ordered (omega (arith, short, sizes)))
 
 -- ---- the whole
@@ -177,7 +177,7 @@ pub spelling_over : (version : ℕ) (items : List SessionBytes) → IsRepliesFil
 unfolding spelling
 spelling_over version items valid short =
     let body : List ℕ = flat_map (spelled version) items in
-    let whole : front_text version items ++ 69 ∷ [] ≡ magic version ++ (body ++ 69 ∷ []) = append_assoc (magic version) body (69 ∷ []) in
+    let whole : front_text version items ++ 69 ∷ [] ≡ replies_magic version ++ (body ++ 69 ∷ []) = append_assoc (replies_magic version) body (69 ∷ []) in
     let sizes : length (front_text version items ++ 69 ∷ []) ≡ length (front_text version items) + 1 = length-append (front_text version items) (69 ∷ []) in
     let front = front_over version items valid (omega (arith, short, sizes, ap (λ (l : List ℕ). length l) whole)) in
     subst (λ (l : List ℕ). Over start 0 l (end_state version items) items) whole

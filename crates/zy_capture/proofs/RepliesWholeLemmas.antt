@@ -27,7 +27,7 @@ use Rattle.zy_capture.specs.declared.replies_due.RepliesDue.{RepliesDue}
 use Rattle.zy_capture.specs.declared.replies_due.RepliesDue.TheVariants.{Magic, Tag, Connection, Session, Length, Output, Nothing}
 use Rattle.zy_capture.specs.declared.replies_state.RepliesState.{RepliesState}
 use Rattle.zy_capture.specs.Capture.{connection_limit}
-use Rattle.zy_capture.specs.Replies.{letters, magic, session_text, spelled, spelling, IsNext, AreNumbers, AreInOrder, SpellsReplies}
+use Rattle.zy_capture.specs.Replies.{letters, replies_magic, session_text, spelled, spelling, IsNextSession, AreNumbers, AreBySession, SpellsReplies}
 use Rattle.zy_capture.specs.RepliesFaults.{front_text, connections_after, sessions_after}
 use Rattle.zy_capture.specs.RepliesSteps.{shape, start, after_magic, tag, may_come, due_session, connection, session, size_read, judged, is_last, replies_fields}
 use Rattle.zy_capture.specs.RepliesVerdict.{Verdict, good, verdict}
@@ -58,7 +58,7 @@ pub record IsFirst (s : RepliesState) (given : List SessionBytes) : Type 0 where
 -- among the records
 pub record IsAmong (version connections sessions : ℕ) (given : List SessionBytes) : Type 0 where
   pub known : IsVersion version
-  pub ordered : AreInOrder version 0 0 given
+  pub ordered : AreBySession version 0 0 given
   pub connections_are : connections ≡ connections_after 0 given
   pub sessions_are : sessions ≡ sessions_after 0 given
 
@@ -68,7 +68,7 @@ MayCome s conn = (conn < connection_limit) × ((conn ≡ s.connections) ⊎ ((s.
 
 -- a session is the next one
 abbrev pub IsDue : RepliesState → ℕ → ℕ → Type 0
-IsDue s conn number = IsNext s.version s.connections s.sessions conn number × AreNumbers conn number
+IsDue s conn number = IsNextSession s.version s.connections s.sessions conn number × AreNumbers conn number
 
 -- the records so far are those of a file with this state
 abbrev pub AreSoFar : RepliesState → List SessionBytes → Type 0
@@ -129,11 +129,11 @@ two_not : (version : ℕ) → (version == 2) ≡ false → version ≡ 2 → ⊥
 two_not version one two = grind (arith, nat_tests)
 
 -- in version 1 the next connection alone comes next, with session 0
-first_due : (version connections sessions conn : ℕ) → (version == 2) ≡ false → (conn ≡ connections) ⊎ ((version ≡ 2) × (conn + 1 ≡ connections)) → IsNext version connections sessions conn 0
+first_due : (version connections sessions conn : ℕ) → (version == 2) ≡ false → (conn ≡ connections) ⊎ ((version ≡ 2) × (conn + 1 ≡ connections)) → IsNextSession version connections sessions conn 0
 first_due version connections sessions conn one (inl next) = inl (next, refl)
 first_due version connections sessions conn one (inr last) = absurd (two_not version one last.0)
 
-session_due : (version connections sessions conn n : ℕ) → (conn ≡ connections) ⊎ ((version ≡ 2) × (conn + 1 ≡ connections)) → n ≡ (if conn == connections then 0 else sessions) → IsNext version connections sessions conn n
+session_due : (version connections sessions conn n : ℕ) → (conn ≡ connections) ⊎ ((version ≡ 2) × (conn + 1 ≡ connections)) → n ≡ (if conn == connections then 0 else sessions) → IsNextSession version connections sessions conn n
 session_due version connections sessions conn n (inl next) is =
     let yes_next : (conn == connections) ≡ true = eq-eqb conn connections next in inl (next, is ∙ rw yes_next refl)
 session_due version connections sessions conn n (inr last) is =
@@ -146,7 +146,7 @@ front_on : (version : ℕ) (given : List SessionBytes) (item : SessionBytes) →
 front_on version given item =
     let all : flat_map (spelled version) given ++ spelled version item ≡ flat_map (spelled version) (given ++ item ∷ []) =
     ap (λ (l : List ℕ). flat_map (spelled version) given ++ l) (sym (append-nil (spelled version item))) ∙ sym (flat_map-append (spelled version) given (item ∷ [])) in
-    append_assoc (magic version) (flat_map (spelled version) given) (spelled version item) ∙ ap (λ (l : List ℕ). magic version ++ l) all
+    append_assoc (replies_magic version) (flat_map (spelled version) given) (spelled version item) ∙ ap (λ (l : List ℕ). replies_magic version ++ l) all
 
 connections_on : (before : ℕ) (given : List SessionBytes) (item : SessionBytes) → connections_after before (given ++ item ∷ []) ≡ item.conn + 1
 connections_on before [] item = refl
@@ -156,9 +156,9 @@ sessions_on : (before : ℕ) (given : List SessionBytes) (item : SessionBytes) �
 sessions_on before [] item = refl
 sessions_on before (first ∷ given) item = sessions_on (first.session + 1) given item
 
-order_on : (version connections sessions : ℕ) (given : List SessionBytes) (item : SessionBytes) → AreInOrder version connections sessions given
-    → IsNext version (connections_after connections given) (sessions_after sessions given) item.conn item.session → AreNumbers item.conn item.session
-    → AreInOrder version connections sessions (given ++ item ∷ [])
+order_on : (version connections sessions : ℕ) (given : List SessionBytes) (item : SessionBytes) → AreBySession version connections sessions given
+    → IsNextSession version (connections_after connections given) (sessions_after sessions given) item.conn item.session → AreNumbers item.conn item.session
+    → AreBySession version connections sessions (given ++ item ∷ [])
 order_on version connections sessions [] item ordered next numbers = (next, numbers, tt)
 order_on version connections sessions (first ∷ given) item ordered next numbers =
     (ordered.0, ordered.1, order_on version (first.conn + 1) (first.session + 1) given item ordered.2 next numbers)
@@ -166,8 +166,8 @@ order_on version connections sessions (first ∷ given) item ordered next number
 -- after the record of a session that was expected
 kept_on : (s : RepliesState) (given : List SessionBytes) (item : SessionBytes) → AreSoFar s given → IsDue s item.conn item.session → IsAmong s.version (item.conn + 1) (item.session + 1) (given ++ item ∷ [])
 kept_on s given item keeps due =
-    let next : IsNext s.version (connections_after 0 given) (sessions_after 0 given) item.conn item.session =
-    subst (λ (n : ℕ). IsNext s.version (connections_after 0 given) n item.conn item.session) keeps.sessions_are (subst (λ (n : ℕ). IsNext s.version n s.sessions item.conn item.session) keeps.connections_are due.0) in
+    let next : IsNextSession s.version (connections_after 0 given) (sessions_after 0 given) item.conn item.session =
+    subst (λ (n : ℕ). IsNextSession s.version (connections_after 0 given) n item.conn item.session) keeps.sessions_are (subst (λ (n : ℕ). IsNextSession s.version n s.sessions item.conn item.session) keeps.connections_are due.0) in
     record {
       known = keeps.known;
       ordered = order_on s.version 0 0 given item keeps.ordered next due.1;
@@ -190,7 +190,7 @@ magic_leads s given text at (Steps.Next part) first on =
     record { bytes = on.2; valid = (record { none = first.none; no_version = first.no_version; no_connection = first.no_connection; no_session = first.no_session }, on.0, on.1) }
 magic_leads s given text at (Steps.Whole version) first on =
     subst (λ (l : List SessionBytes). IsReadTo Tag (record s { due = Tag; version = version }) text l) (sym first.none) (record {
-      bytes = on.1 ∙ sym (append-nil (magic version));
+      bytes = on.1 ∙ sym (append-nil (replies_magic version));
       valid = record { known = on.0; ordered = tt; connections_are = first.no_connection; sessions_are = first.no_session };
     })
 magic_leads s given text at Steps.Wrong first on = tt
@@ -311,7 +311,7 @@ whole_spells text s given all whole =
     let text_is : text ≡ concat whole.begins.parts = whole.begins.text_is ∙ append-nil (concat whole.begins.parts) in
     record {
       valid = record { known = read.valid.known; ordered = read.valid.ordered };
-      spelled = text_is ∙ read.bytes ∙ append_assoc (magic s.version) (flat_map (spelled s.version) given) (69 ∷ []);
+      spelled = text_is ∙ read.bytes ∙ append_assoc (replies_magic s.version) (flat_map (spelled s.version) given) (69 ∷ []);
       short = rw text_is (whole.begins.short);
     }
 

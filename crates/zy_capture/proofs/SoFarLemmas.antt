@@ -16,10 +16,10 @@ use Rattle.zy_capture.specs.declared.capture_fault.CaptureFault.{CaptureFault}
 use Rattle.zy_capture.specs.declared.due.Due.{Due}
 use Rattle.zy_capture.specs.declared.due.Due.TheVariants.{Magic, Count, Nothing}
 use Rattle.zy_capture.specs.declared.capture_state.CaptureState.{CaptureState}
-use Rattle.zy_capture.specs.Capture.{IsCapture, Spells, magic, spelled, capture_limit}
+use Rattle.zy_capture.specs.Capture.{IsCapture, Spells, capture_magic, spelled, capture_limit}
 use Rattle.zy_capture.specs.Faults.{front_text}
 use Rattle.zy_capture.specs.Streams.{closes}
-use Rattle.zy_capture.specs.Steps.{Progress, state, fields}
+use Rattle.zy_capture.specs.Steps.{CaptureProgress, state, fields}
 use Rattle.zy_capture.specs.Verdict.Verdict.{Good}
 use Rattle.zy_capture.specs.Verdict.{verdict, fault_of, version_in, version_of, count_in, count_of, records_of}
 use Rattle.zy_capture.specs.SoFar.{IsCaptureSoFar}
@@ -42,9 +42,9 @@ spells_tells text version count items spells =
     let whole = spells_whole text version count items spells in
     let read = begins_read fields lawful text (state Nothing version count) items [] whole.begins in
     record {
-      version_is = ap (λ (r : Reading Progress Record). version_in r.last.state.version) read ∙ known_version version spells.valid.known;
-      count_is = ap (λ (r : Reading Progress Record). count_in r.last.state.due r.last.state.count) read;
-      records_are = ap (λ (r : Reading Progress Record). r.given) read ∙ append-nil items;
+      version_is = ap (λ (r : Reading CaptureProgress Record). version_in r.last.state.version) read ∙ known_version version spells.valid.known;
+      count_is = ap (λ (r : Reading CaptureProgress Record). count_in r.last.state.due r.last.state.count) read;
+      records_are = ap (λ (r : Reading CaptureProgress Record). r.given) read ∙ append-nil items;
     }
 
 pub good_tells : (text : List ℕ) (version count : ℕ) (items : List Record) → AreBytes text → verdict text ≡ Good version count items → Tells text version count items
@@ -64,7 +64,7 @@ closes_few conn (Kinds.Close other ∷ items) =
 
 front_few : (version count : ℕ) (given : List Record) (conn : ℕ) (tail text : List ℕ) → text ≡ front_text version count given ++ tail → 5 * closes conn given ≤ length text
 front_few version count given conn tail text is =
-    omega (arith, closes_few conn given, ap (λ (l : List ℕ). length l) is, length-append (front_text version count given) tail, length-append (magic version) (to_be_bytes w32 count ++ flat_map spelled given), length-append (to_be_bytes w32 count) (flat_map spelled given))
+    omega (arith, closes_few conn given, ap (λ (l : List ℕ). length l) is, length-append (front_text version count given) tail, length-append (capture_magic version) (to_be_bytes w32 count ++ flat_map spelled given), length-append (to_be_bytes w32 count) (flat_map spelled given))
 
 -- the records of a text that was read up to a field after the count
 made : (s : CaptureState) (given : List Record) (front more text : List ℕ) → IsAfterSome s front given → text ≡ front ++ more → length text ≤ capture_limit → version_of text ≡ Some s.version → count_of text ≡ Some s.count → records_of text ≡ given → IsCaptureSoFar text
@@ -89,7 +89,7 @@ so_far due s given front more text is whole short version_is count_is records_ar
     let after : IsAfterSome s front given = after_some due s front given tt is in
     made s given front more text after whole short (version_is ∙ known_version s.version after.after.valid.known) count_is records_are
 
-read_so_far : (text : List ℕ) (p : Progress) (given : List Record) (fault : Option CaptureFault) → AreBytes text → fault ≡ None → IsRead fields fault p given text → version_of text ≡ version_in p.state.version → count_of text ≡ count_in p.state.due p.state.count → records_of text ≡ given → given ≢ [] → IsCaptureSoFar text
+read_so_far : (text : List ℕ) (p : CaptureProgress) (given : List Record) (fault : Option CaptureFault) → AreBytes text → fault ≡ None → IsRead fields fault p given text → version_of text ≡ version_in p.state.version → count_of text ≡ count_in p.state.due p.state.count → records_of text ≡ given → given ≢ [] → IsCaptureSoFar text
 read_so_far text p given (Some fault) all none read version_is count_is records_are some = cc
 read_so_far text p given None all none read version_is count_is records_are some =
     so_far p.state.due p.state given (concat read.begins.parts) p.seen text (stands_there text p.state given p.seen all read.begins) read.begins.text_is (omega (arith, read.count, read.short)) version_is count_is records_are some
@@ -98,5 +98,5 @@ read_so_far text p given None all none read version_is count_is records_are some
 pub records_so_far : (text : List ℕ) → AreBytes text → fault_of text ≡ None → records_of text ≢ [] → IsCaptureSoFar text
 unfolding fault_met given_by reading_of version_of count_of
 records_so_far text all none some =
-    let r : Reading Progress Record = read_on (step fields) (at_state fields.start 0) text in
+    let r : Reading CaptureProgress Record = read_on (step fields) (at_state fields.start 0) text in
     read_so_far text r.last r.given r.last.fault all none (text_read fields lawful text) refl refl refl some

@@ -6,7 +6,7 @@ use Rattle.std.proofs.lemmas.List.{append-nil, length-set, get_or-set_same, get_
 use Rattle.std.proofs.lemmas.Bool.Decides.{nat_tests, eqb_tells}
 use Rattle.zy_capture.specs.declared.record.Record.{Record}
 use Rattle.zy_capture.specs.declared.record.Record.TheVariants as Kinds
-use Rattle.zy_capture.specs.Streams.{closes, stream_after, stream, sessions_of, no_bytes, last_of, last_grown, grown, closed, with_records}
+use Rattle.zy_capture.specs.Streams.{closes, stream_after, stream, sessions_of, no_bytes, last_session, last_grown, grown, closed, with_records}
 
 -- ---- the last session
 
@@ -15,7 +15,7 @@ last_grown-append [] last bytes = refl
 last_grown-append (x ∷ []) last bytes = refl
 last_grown-append (x ∷ y ∷ before) last bytes = ap (λ (l : List (List ℕ)). x ∷ l) (last_grown-append (y ∷ before) last bytes)
 
-pub last_of-append : (before : List (List ℕ)) (last : List ℕ) → last_of (before ++ last ∷ []) ≡ last
+pub last_of-append : (before : List (List ℕ)) (last : List ℕ) → last_session (before ++ last ∷ []) ≡ last
 last_of-append [] last = refl
 last_of-append (x ∷ []) last = refl
 last_of-append (x ∷ y ∷ before) last = last_of-append (y ∷ before) last

@@ -19,9 +19,9 @@ use Rattle.zy_capture.specs.declared.capture_fault.CaptureFault.TheVariants.{Bad
 use Rattle.zy_capture.specs.declared.due.Due.{Due}
 use Rattle.zy_capture.specs.declared.due.Due.TheVariants.{Magic, Count, Tag, Connection, Length, Payload, Closed, Nothing}
 use Rattle.zy_capture.specs.declared.capture_state.CaptureState.{CaptureState}
-use Rattle.zy_capture.specs.Capture.{letters, magic, spelled, connection_limit, segment_limit}
+use Rattle.zy_capture.specs.Capture.{letters, capture_magic, spelled, connection_limit, segment_limit}
 use Rattle.zy_capture.specs.Faults.{front_text}
-use Rattle.zy_capture.specs.Steps.{Progress, state, number, byte, judged, fields}
+use Rattle.zy_capture.specs.Steps.{CaptureProgress, state, number, byte, judged, fields}
 use Rattle.zy_capture.specs.Verdict.{captures, version_in, version_of, count_in, count_of}
 use Rattle.zy_capture.specs.SoFar.{BeginsWithMagic, BeginsWithCount}
 use Rattle.zy_capture.proofs.ByteLemmas.{chosen, assoc_twice}
@@ -87,17 +87,17 @@ past_count due count past = refl
 begun_last : (text : List ℕ) (s : CaptureState) (given : List Record) (rest : List ℕ) (begins : Begins fields text s given rest)
     → (reading_of captures text).last ≡ (read_on (step fields) (at_state s (length (concat begins.parts))) rest).last
 unfolding reading_of
-begun_last text s given rest begins = ap (λ (r : Reading Progress Record). r.last) (begins_read fields lawful text s given rest begins)
+begun_last text s given rest begins = ap (λ (r : Reading CaptureProgress Record). r.last) (begins_read fields lawful text s given rest begins)
 
 pub count_told : (text : List ℕ) (count : ℕ) → BeginsWithCount text count → count_of text ≡ Some count
 unfolding count_of
 count_told text count begins =
     let s : CaptureState = state Tag begins.version count in
     let front : Begins fields text s [] begins.rest =
-    over_begins fields text s (magic begins.version ++ to_be_bytes w32 count) begins.rest [] (head_over begins.version count [] (record { known = begins.known; few = begins.few; lawful = tt })) (omega arith) begins.whole in
-    let last : Progress = (read_on (step fields) (at_state s (length (concat front.parts))) begins.rest).last in
+    over_begins fields text s (capture_magic begins.version ++ to_be_bytes w32 count) begins.rest [] (head_over begins.version count [] (record { known = begins.known; few = begins.few; lawful = tt })) (omega arith) begins.whole in
+    let last : CaptureProgress = (read_on (step fields) (at_state s (length (concat front.parts))) begins.rest).last in
     let has : HasCount count last.state = state_kept fields (HasCount count) (λ t at field is. count_left count t.due t at field is.0 is.1) begins.rest (at_state s (length (concat front.parts))) (tt, refl) in
-    ap (λ (p : Progress). count_in p.state.due p.state.count) (begun_last text s [] begins.rest front)
+    ap (λ (p : CaptureProgress). count_in p.state.due p.state.count) (begun_last text s [] begins.rest front)
     ∙ past_count last.state.due last.state.count has.0 ∙ ap (λ (n : ℕ). Some n) has.1
 
 -- ---- the version
@@ -169,7 +169,7 @@ count_at due s text more given count told is =
       known = some.after.valid.known;
       few = some.after.valid.few;
       whole = ap (λ (l : List ℕ). l ++ more) some.after.whole ∙ append_assoc (front_text s.version s.count given) some.tail more
-          ∙ assoc_twice (magic s.version) (to_be_bytes w32 s.count) body (some.tail ++ more);
+          ∙ assoc_twice (capture_magic s.version) (to_be_bytes w32 s.count) body (some.tail ++ more);
     })
 
 pub told_count : (text : List ℕ) (count : ℕ) → AreBytes text → count_of text ≡ Some count → BeginsWithCount text count
@@ -195,8 +195,8 @@ count_stays text more count small is =
       rest = begins.rest ++ more;
       known = begins.known;
       few = begins.few;
-      whole = ap (λ (l : List ℕ). l ++ more) begins.whole ∙ append_assoc (magic begins.version) (to_be_bytes w32 count ++ begins.rest) more
-          ∙ ap (λ (l : List ℕ). magic begins.version ++ l) (append_assoc (to_be_bytes w32 count) begins.rest more);
+      whole = ap (λ (l : List ℕ). l ++ more) begins.whole ∙ append_assoc (capture_magic begins.version) (to_be_bytes w32 count ++ begins.rest) more
+          ∙ ap (λ (l : List ℕ). capture_magic begins.version ++ l) (append_assoc (to_be_bytes w32 count) begins.rest more);
     })
 
 -- where the count was read, the version was

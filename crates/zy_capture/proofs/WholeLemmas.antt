@@ -18,9 +18,9 @@ use Rattle.zy_capture.specs.declared.capture_fault.CaptureFault.{CaptureFault}
 use Rattle.zy_capture.specs.declared.due.Due.{Due}
 use Rattle.zy_capture.specs.declared.due.Due.TheVariants.{Magic, Count, Tag, Connection, Length, Payload, Closed, Nothing}
 use Rattle.zy_capture.specs.declared.capture_state.CaptureState.{CaptureState}
-use Rattle.zy_capture.specs.Capture.{magic, spelled, spelling, IsCapture, Spells, capture_limit}
+use Rattle.zy_capture.specs.Capture.{capture_magic, spelled, spelling, IsCapture, Spells, capture_limit}
 use Rattle.zy_capture.specs.Faults.{front_text}
-use Rattle.zy_capture.specs.Steps.{Progress, state, start, width, is_nothing, judged, fields}
+use Rattle.zy_capture.specs.Steps.{CaptureProgress, state, start, width, is_nothing, judged, fields}
 use Rattle.zy_capture.specs.Verdict.Verdict.{Good, Bad}
 use Rattle.zy_capture.specs.Verdict.{Verdict, good, verdict, fault_of}
 use Rattle.zy_capture.proofs.ByteLemmas.{assoc_twice}
@@ -64,7 +64,7 @@ stands_there text s given rest all begins =
 
 pub ends_spelling : (version count : ℕ) (items : List Record) → front_text version count items ++ 69 ∷ [] ≡ spelling version count items
 unfolding spelling
-ends_spelling version count items = assoc_twice (magic version) (to_be_bytes w32 count) (flat_map spelled items) (69 ∷ [])
+ends_spelling version count items = assoc_twice (capture_magic version) (to_be_bytes w32 count) (flat_map spelled items) (69 ∷ [])
 
 spells_at : (due : Due) (s : CaptureState) (text : List ℕ) (given : List Record) → is_nothing due ≡ true → IsAt due s text given → length text ≤ capture_limit → Spells text s.version s.count given
 spells_at Nothing s text given ends is short = record { valid = is.valid; spelled = is.whole ∙ ends_spelling s.version s.count given; short = short }
@@ -110,12 +110,12 @@ spells_good text version count items spells = whole_good fields lawful good Bad 
 -- ---- texts without a fault
 
 -- such a text has at most the bytes of a capture
-clean_by : (text : List ℕ) (p : Progress) (given : List Record) (fault : Option CaptureFault) → fault ≡ None → IsRead fields fault p given text → length text ≤ capture_limit
+clean_by : (text : List ℕ) (p : CaptureProgress) (given : List Record) (fault : Option CaptureFault) → fault ≡ None → IsRead fields fault p given text → length text ≤ capture_limit
 clean_by text p given None none read = omega (arith, read.count, read.short)
 clean_by text p given (Some fault) none read = cc
 
 pub clean_short : (text : List ℕ) → fault_of text ≡ None → length text ≤ capture_limit
 unfolding fault_met reading_of
 clean_short text none =
-    let r : Reading Progress Record = read_on (step fields) (at_state fields.start 0) text in
+    let r : Reading CaptureProgress Record = read_on (step fields) (at_state fields.start 0) text in
     clean_by text r.last r.given r.last.fault none (text_read fields lawful text)

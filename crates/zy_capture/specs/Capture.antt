@@ -23,8 +23,8 @@ abbrev pub letters : List ℕ
 letters = codes "ZYGCAP"
 
 -- the magic of a version: the letters, the version's digit and a line feed
-abbrev pub magic : ℕ → List ℕ
-magic version = letters ++ (48 + version) ∷ 10 ∷ []
+abbrev pub capture_magic : ℕ → List ℕ
+capture_magic version = letters ++ (48 + version) ∷ 10 ∷ []
 
 -- a record: its tag, its connection and, of a segment, its length and its bytes
 abbrev pub spelled : Record → List ℕ
@@ -33,7 +33,7 @@ spelled (Kinds.Close conn) = 67 ∷ to_be_bytes w32 conn
 
 -- a capture: its magic, its connection count, its records and the end
 unfoldable pub spelling : ℕ → ℕ → List Record → List ℕ
-spelling version count items = magic version ++ to_be_bytes w32 count ++ flat_map spelled items ++ 69 ∷ []
+spelling version count items = capture_magic version ++ to_be_bytes w32 count ++ flat_map spelled items ++ 69 ∷ []
 
 -- ---- validity
 

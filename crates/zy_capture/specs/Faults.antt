@@ -9,18 +9,19 @@ use Rattle.zy_capture.specs.declared.capture_fault.CaptureFault.{CaptureFault}
 use Rattle.zy_capture.specs.declared.capture_fault.CaptureFault.TheVariants.{BadMagic, ConnCount, BadTag, ConnRange}
 use Rattle.zy_capture.specs.declared.capture_fault.CaptureFault.TheVariants.{SegmentLength, Truncated, Trailing}
 use Rattle.zy_capture.specs.declared.capture_fault.CaptureFault.TheVariants.{TooLong}
-use Rattle.zy_capture.specs.Capture.{letters, magic, spelled, spelling, IsCapture, Spells, capture_limit, connection_limit}
+use Rattle.zy_capture.specs.Capture.{letters, capture_magic, spelled, spelling, IsCapture, Spells, capture_limit, connection_limit}
 use Rattle.zy_capture.specs.Capture.{segment_limit}
 
 -- ---- beginnings
 
 -- the bytes of a capture up to its end, or up to a further record
 abbrev pub front_text : ℕ → ℕ → List Record → List ℕ
-front_text version count items = magic version ++ to_be_bytes w32 count ++ flat_map spelled items
+front_text version count items = capture_magic version ++ to_be_bytes w32 count ++ flat_map spelled items
 
 -- a text goes on with `tail` after the records of a capture, which have `at` bytes with what comes
 -- before them
-pub record GoesOn (text : List ℕ) (version count : ℕ) (items : List Record) (at : ℕ) (tail : List ℕ) : Type 0 where
+pub record CaptureGoesOn (text : List ℕ) (version count : ℕ) (items : List Record) (at : ℕ) (tail : List ℕ)
+    : Type 0 where
   pub valid : IsCapture version count items
   pub whole : text ≡ front_text version count items ++ tail
   pub place : at ≡ length (front_text version count items)
@@ -32,7 +33,7 @@ pub record IsCountOver (text : List ℕ) (number : ℕ) : Type 0 where
   pub version : ℕ
   pub rest : List ℕ
   pub known : (version ≡ 1) ⊎ (version ≡ 2)
-  pub whole : text ≡ magic version ++ to_be_bytes w32 number ++ rest
+  pub whole : text ≡ capture_magic version ++ to_be_bytes w32 number ++ rest
   pub over : connection_limit < number
   pub fits : number < 2 ^ 32
 
@@ -42,7 +43,7 @@ pub record IsBadTag (text : List ℕ) (at byte : ℕ) : Type 0 where
   pub count : ℕ
   pub items : List Record
   pub rest : List ℕ
-  pub front : GoesOn text version count items at (byte ∷ rest)
+  pub front : CaptureGoesOn text version count items at (byte ∷ rest)
   pub no_segment : byte ≡ 83 → ⊥
   pub no_end : byte ≡ 69 → ⊥
   pub no_close : version ≡ 2 → byte ≡ 67 → ⊥
@@ -56,7 +57,7 @@ pub record IsConnectionOver (text : List ℕ) (at number : ℕ) : Type 0 where
   pub tag_at : ℕ
   pub tag : ℕ
   pub rest : List ℕ
-  pub front : GoesOn text version count items tag_at (tag ∷ (to_be_bytes w32 number ++ rest))
+  pub front : CaptureGoesOn text version count items tag_at (tag ∷ (to_be_bytes w32 number ++ rest))
   pub known : (tag ≡ 83) ⊎ ((tag ≡ 67) × (version ≡ 2))
   pub place : at ≡ tag_at + 1
   pub over : count ≤ number
@@ -71,7 +72,8 @@ pub record IsLengthOver (text : List ℕ) (at number : ℕ) : Type 0 where
   pub tag_at : ℕ
   pub conn : ℕ
   pub rest : List ℕ
-  pub front : GoesOn text version count items tag_at (83 ∷ (to_be_bytes w32 conn ++ (to_be_bytes w32 number ++ rest)))
+  pub front : CaptureGoesOn text version count items tag_at
+      (83 ∷ (to_be_bytes w32 conn ++ (to_be_bytes w32 number ++ rest)))
   pub below : conn < count
   pub place : at ≡ tag_at + 5
   pub over : segment_limit < number
@@ -91,21 +93,21 @@ pub record IsTrailing (text : List ℕ) (at : ℕ) : Type 0 where
   pub within : at ≤ capture_limit
 
 -- a byte or a number of the text is wrong, or comes after the end
-abbrev pub IsWrong : List ℕ → CaptureFault → Type 0
-IsWrong text (BadMagic at) = IsBadMagic letters text at
-IsWrong text (ConnCount number) = IsCountOver text number
-IsWrong text (BadTag at byte) = IsBadTag text at byte
-IsWrong text (ConnRange at number) = IsConnectionOver text at number
-IsWrong text (SegmentLength at number) = IsLengthOver text at number
-IsWrong text (Trailing at) = IsTrailing text at
-IsWrong text (Truncated at) = ⊥
-IsWrong text TooLong = ⊥
+abbrev pub IsWrongCapture : List ℕ → CaptureFault → Type 0
+IsWrongCapture text (BadMagic at) = IsBadMagic letters text at
+IsWrongCapture text (ConnCount number) = IsCountOver text number
+IsWrongCapture text (BadTag at byte) = IsBadTag text at byte
+IsWrongCapture text (ConnRange at number) = IsConnectionOver text at number
+IsWrongCapture text (SegmentLength at number) = IsLengthOver text at number
+IsWrongCapture text (Trailing at) = IsTrailing text at
+IsWrongCapture text (Truncated at) = ⊥
+IsWrongCapture text TooLong = ⊥
 
 -- the text is no capture, but nothing in it is wrong, and it is not longer than a capture may be
 pub record IsBegun (text : List ℕ) : Type 0 where
   pub short : length text ≤ capture_limit
   pub no_capture : (version count : ℕ) (items : List Record) → Spells text version count items → ⊥
-  pub none_wrong : (fault : CaptureFault) → IsWrong text fault → ⊥
+  pub none_wrong : (fault : CaptureFault) → IsWrongCapture text fault → ⊥
 
 -- the text ends before the end byte
 pub record IsTruncated (text : List ℕ) (at : ℕ) : Type 0 where
@@ -123,7 +125,7 @@ pub record IsTooLong (text : List ℕ) : Type 0 where
   pub begun : IsBegun front
 
 -- the text has this fault
-abbrev pub HasFault : List ℕ → CaptureFault → Type 0
-HasFault text (Truncated at) = IsTruncated text at
-HasFault text TooLong = IsTooLong text
-HasFault text fault = IsWrong text fault
+abbrev pub HasFaultAsCapture : List ℕ → CaptureFault → Type 0
+HasFaultAsCapture text (Truncated at) = IsTruncated text at
+HasFaultAsCapture text TooLong = IsTooLong text
+HasFaultAsCapture text fault = IsWrongCapture text fault

@@ -13,8 +13,8 @@ abbrev pub letters : List ℕ
 letters = codes "ZYGREP"
 
 -- the magic of a version: the letters, the version's digit and a line feed
-abbrev pub magic : ℕ → List ℕ
-magic version = letters ++ (48 + version) ∷ 10 ∷ []
+abbrev pub replies_magic : ℕ → List ℕ
+replies_magic version = letters ++ (48 + version) ∷ 10 ∷ []
 
 -- the session of a record, which only version 2 writes
 abbrev pub session_text : ℕ → ℕ → List ℕ
@@ -39,7 +39,7 @@ connection_text version conn sessions = numbered_from (output_text version conn)
 -- a replies file: its magic, its records, connection by connection, and the end
 unfoldable pub replies_bytes : AllOutputs → List ℕ
 replies_bytes outputs =
-    magic outputs.version ++ numbered_from (connection_text outputs.version) 0 outputs.sessions ++ 69 ∷ []
+    replies_magic outputs.version ++ numbered_from (connection_text outputs.version) 0 outputs.sessions ++ 69 ∷ []
 
 -- ---- files by their records
 
@@ -49,7 +49,7 @@ spelled version item = output_text version item.conn item.session item.bytes
 
 -- a replies file with these records
 unfoldable pub spelling : ℕ → List SessionBytes → List ℕ
-spelling version items = magic version ++ flat_map (spelled version) items ++ 69 ∷ []
+spelling version items = replies_magic version ++ flat_map (spelled version) items ++ 69 ∷ []
 
 -- the sessions of a connection from some session on
 abbrev pub session_items : ℕ → ℕ → List (List ℕ) → List SessionBytes
@@ -74,8 +74,8 @@ replies_limit = 2 ^ 63 - 1
 
 -- this session comes after `connections` connections, the last of which has `sessions` sessions: it
 -- is the first one of the next connection or, in version 2, the next one of the last connection
-abbrev pub IsNext : ℕ → ℕ → ℕ → ℕ → ℕ → Type 0
-IsNext version connections sessions conn session =
+abbrev pub IsNextSession : ℕ → ℕ → ℕ → ℕ → ℕ → Type 0
+IsNextSession version connections sessions conn session =
     ((conn ≡ connections) × (session ≡ 0)) ⊎ ((version ≡ 2) × (conn + 1 ≡ connections) × (session ≡ sessions))
 
 -- a connection and a session are within their bounds
@@ -83,16 +83,16 @@ abbrev pub AreNumbers : ℕ → ℕ → Type 0
 AreNumbers conn session = (conn < connection_limit) × (session < 2 ^ 31)
 
 -- each session comes after those before it
-abbrev pub AreInOrder : ℕ → ℕ → ℕ → List SessionBytes → Type 0
-AreInOrder version connections sessions [] = ⊤
-AreInOrder version connections sessions (item ∷ items) =
-    IsNext version connections sessions item.conn item.session × AreNumbers item.conn item.session
-    × AreInOrder version (item.conn + 1) (item.session + 1) items
+abbrev pub AreBySession : ℕ → ℕ → ℕ → List SessionBytes → Type 0
+AreBySession version connections sessions [] = ⊤
+AreBySession version connections sessions (item ∷ items) =
+    IsNextSession version connections sessions item.conn item.session × AreNumbers item.conn item.session
+    × AreBySession version (item.conn + 1) (item.session + 1) items
 
 -- the version and the outputs are those of a replies file
 pub record IsRepliesFile (version : ℕ) (items : List SessionBytes) : Type 0 where
   pub known : (version ≡ 1) ⊎ (version ≡ 2)
-  pub ordered : AreInOrder version 0 0 items
+  pub ordered : AreBySession version 0 0 items
 
 -- the text is the spelling of these outputs, and not too long
 pub record SpellsReplies (text : List ℕ) (version : ℕ) (items : List SessionBytes) : Type 0 where

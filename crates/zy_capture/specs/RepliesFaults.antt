@@ -8,17 +8,17 @@ use Rattle.zy_base.specs.declared.file_fault.FileFault.TheVariants.{Form, Trunca
 use Rattle.zy_read.specs.Magic.{IsBadMagic}
 use Rattle.zy_capture.specs.declared.session_bytes.SessionBytes.{SessionBytes}
 use Rattle.zy_capture.specs.Capture.{connection_limit}
-use Rattle.zy_capture.specs.Replies.{letters, magic, spelled, spelling, IsNext, IsRepliesFile, SpellsReplies, replies_limit}
+use Rattle.zy_capture.specs.Replies.{letters, replies_magic, spelled, spelling, IsNextSession, IsRepliesFile, SpellsReplies, replies_limit}
 
 -- ---- beginnings
 
 -- the bytes of a replies file up to its end, or up to a further record
 abbrev pub front_text : ℕ → List SessionBytes → List ℕ
-front_text version items = magic version ++ flat_map (spelled version) items
+front_text version items = replies_magic version ++ flat_map (spelled version) items
 
 -- a text goes on with `tail` after the records of a replies file, which have `at` bytes with the
 -- magic before them
-pub record GoesOn (text : List ℕ) (version : ℕ) (items : List SessionBytes) (at : ℕ) (tail : List ℕ) : Type 0 where
+pub record RepliesGoOn (text : List ℕ) (version : ℕ) (items : List SessionBytes) (at : ℕ) (tail : List ℕ) : Type 0 where
   pub valid : IsRepliesFile version items
   pub whole : text ≡ front_text version items ++ tail
   pub place : at ≡ length (front_text version items)
@@ -45,7 +45,7 @@ IsLawfulConnection version items conn =
 -- after these records this session of a connection is lawful: it is the expected one
 abbrev pub IsLawfulSession : ℕ → List SessionBytes → ℕ → ℕ → Type 0
 IsLawfulSession version items conn session =
-    IsNext version (connections_after 0 items) (sessions_after 0 items) conn session × (session < 2 ^ 31)
+    IsNextSession version (connections_after 0 items) (sessions_after 0 items) conn session × (session < 2 ^ 31)
 
 -- ---- a byte or a number that is wrong
 
@@ -55,7 +55,7 @@ pub record IsBadTag (text : List ℕ) (at : ℕ) : Type 0 where
   pub items : List SessionBytes
   pub byte : ℕ
   pub rest : List ℕ
-  pub front : GoesOn text version items at (byte ∷ rest)
+  pub front : RepliesGoOn text version items at (byte ∷ rest)
   pub no_record : byte ≡ 82 → ⊥
   pub no_end : byte ≡ 69 → ⊥
   pub within : at < replies_limit
@@ -67,7 +67,7 @@ pub record IsBadConnection (text : List ℕ) (at : ℕ) : Type 0 where
   pub tag_at : ℕ
   pub number : ℕ
   pub rest : List ℕ
-  pub front : GoesOn text version items tag_at (82 ∷ (to_be_bytes w32 number ++ rest))
+  pub front : RepliesGoOn text version items tag_at (82 ∷ (to_be_bytes w32 number ++ rest))
   pub place : at ≡ tag_at + 1
   pub wrong : IsLawfulConnection version items number → ⊥
   pub fits : number < 2 ^ 32
@@ -82,7 +82,7 @@ pub record IsBadSession (text : List ℕ) (at : ℕ) : Type 0 where
   pub conn : ℕ
   pub number : ℕ
   pub rest : List ℕ
-  pub front : GoesOn text version items tag_at (82 ∷ (to_be_bytes w32 conn ++ (to_be_bytes w32 number ++ rest)))
+  pub front : RepliesGoOn text version items tag_at (82 ∷ (to_be_bytes w32 conn ++ (to_be_bytes w32 number ++ rest)))
   pub place : at ≡ tag_at + 5
   pub lawful : IsLawfulConnection version items conn
   pub wrong : IsLawfulSession version items conn number → ⊥
@@ -103,15 +103,15 @@ pub record IsTrailing (text : List ℕ) (at : ℕ) : Type 0 where
 -- ---- faults
 
 -- a byte or a number of the text is wrong, or comes after the end
-abbrev pub IsWrong : List ℕ → ℕ → Type 0
-IsWrong text at =
+abbrev pub IsWrongReplies : List ℕ → ℕ → Type 0
+IsWrongReplies text at =
     IsBadMagic letters text at ⊎ (IsBadTag text at ⊎ (IsBadConnection text at ⊎ (IsBadSession text at ⊎ IsTrailing text at)))
 
 -- the text is no replies file, but nothing in it is wrong, and it is not longer than one may be
 pub record IsBegun (text : List ℕ) : Type 0 where
   pub short : length text ≤ replies_limit
   pub no_file : (version : ℕ) (items : List SessionBytes) → SpellsReplies text version items → ⊥
-  pub none_wrong : (at : ℕ) → IsWrong text at → ⊥
+  pub none_wrong : (at : ℕ) → IsWrongReplies text at → ⊥
 
 -- the text ends before the end byte
 pub record IsTruncated (text : List ℕ) (at : ℕ) : Type 0 where
@@ -129,7 +129,7 @@ pub record IsTooLong (text : List ℕ) : Type 0 where
   pub begun : IsBegun front
 
 -- the text has this fault
-abbrev pub HasFault : List ℕ → FileFault → Type 0
-HasFault text (Form at) = IsWrong text at
-HasFault text (Truncated at) = IsTruncated text at
-HasFault text TooLong = IsTooLong text
+abbrev pub HasFaultAsReplies : List ℕ → FileFault → Type 0
+HasFaultAsReplies text (Form at) = IsWrongReplies text at
+HasFaultAsReplies text (Truncated at) = IsTruncated text at
+HasFaultAsReplies text TooLong = IsTooLong text

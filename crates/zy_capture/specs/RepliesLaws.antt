@@ -7,7 +7,7 @@ use Rattle.zy_read.specs.declared.shape.Shape.TheVariants.{Byte, Four, Eight, Ru
 use Rattle.zy_capture.specs.declared.replies_due.RepliesDue.{RepliesDue}
 use Rattle.zy_capture.specs.declared.replies_due.RepliesDue.TheVariants.{Nothing}
 use Rattle.zy_capture.specs.declared.replies_state.RepliesState.{RepliesState}
-use Rattle.zy_capture.specs.RepliesStanding.{IsWithin, IsOutputDue}
+use Rattle.zy_capture.specs.RepliesStanding.{IsInRepliesBounds, IsOutputDue}
 use Rattle.zy_capture.specs.RepliesSteps.{shape, is_last, judged, replies_fields}
 
 some : (kind : Shape) → 0 < width_of kind
@@ -42,5 +42,5 @@ runs s others is = (others, is)
 pub few : replies_fields.limit < 2 ^ 64 - 1
 few = omega arith
 
-pub begins : IsWithin replies_fields.start.due 0
+pub begins : IsInRepliesBounds replies_fields.start.due 0
 begins = omega arith

@@ -21,8 +21,8 @@ use Rattle.zy_capture.specs.Capture.{connection_limit}
 use Rattle.zy_capture.specs.Replies.{letters, replies_limit}
 
 -- where a text was read up to some byte
-abbrev pub Progress : Type 0
-Progress = Place RepliesState FileFault
+abbrev pub RepliesPlace : Type 0
+RepliesPlace = Place RepliesState FileFault
 
 -- before the first field
 abbrev pub start : RepliesState

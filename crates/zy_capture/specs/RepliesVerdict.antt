@@ -6,7 +6,7 @@ use Rattle.zy_read.specs.Fields.{step, format_of}
 use Rattle.zy_read.specs.Format.{Format, Reading, read_on, reading_of, given_by, fault_met, verdict_on}
 use Rattle.zy_capture.specs.declared.session_bytes.SessionBytes.{SessionBytes}
 use Rattle.zy_capture.specs.declared.replies_state.RepliesState.{RepliesState}
-use Rattle.zy_capture.specs.RepliesSteps.{Progress, replies_fields}
+use Rattle.zy_capture.specs.RepliesSteps.{RepliesPlace, replies_fields}
 
 -- ---- a whole text
 
@@ -20,7 +20,7 @@ abbrev pub good : RepliesState → List SessionBytes → Verdict
 good s given = Good s.version given
 
 -- the format of replies files
-abbrev pub replies : Format Progress SessionBytes FileFault Verdict
+abbrev pub replies : Format RepliesPlace SessionBytes FileFault Verdict
 replies = format_of replies_fields good Bad
 
 -- the verdict on a whole text
@@ -53,5 +53,5 @@ version_of text = version_in (reading_of replies text).last.state.version
 -- ---- for proofs
 
 -- what is read of the rest of a text
-abbrev pub read_from : Progress → List ℕ → Reading Progress SessionBytes
+abbrev pub read_from : RepliesPlace → List ℕ → Reading RepliesPlace SessionBytes
 read_from p text = read_on (step replies_fields) p text

@@ -2,7 +2,7 @@
 use Rattle.std.specs.Prelude.{◌≡◌, ◌⊎◌, ℕ, ◌*◌, ◌^◌, ◌<◌, ◌≤◌, List, ◌++◌, length, Some}
 use Rattle.std.specs.Int.{to_be_bytes, w32}
 use Rattle.zy_read.specs.Magic.{HasMagic}
-use Rattle.zy_capture.specs.Capture.{letters, magic, connection_limit, IsCapture}
+use Rattle.zy_capture.specs.Capture.{letters, capture_magic, connection_limit, IsCapture}
 use Rattle.zy_capture.specs.Streams.{closes}
 use Rattle.zy_capture.specs.Verdict.{version_of, count_of, records_of}
 use Rattle.zy_capture.specs.Replies.{IsRepliesFile}
@@ -30,7 +30,7 @@ pub record BeginsWithCount (text : List ℕ) (count : ℕ) : Type 0 where
   pub rest : List ℕ
   pub known : (version ≡ 1) ⊎ (version ≡ 2)
   pub few : count ≤ connection_limit
-  pub whole : text ≡ magic version ++ (to_be_bytes w32 count ++ rest)
+  pub whole : text ≡ capture_magic version ++ (to_be_bytes w32 count ++ rest)
 
 -- the text begins with the magic of a replies file of a version
 abbrev pub BeginsWithRepliesMagic : List ℕ → ℕ → Type 0

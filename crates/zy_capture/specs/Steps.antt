@@ -126,21 +126,21 @@ fields = record {
 -- ---- how far a text was read
 
 -- where a text was read up to some byte
-abbrev pub Progress : Type 0
-Progress = Place CaptureState CaptureFault
+abbrev pub CaptureProgress : Type 0
+CaptureProgress = Place CaptureState CaptureFault
 
 -- what a byte does: where it leads, and the record that it ends
-abbrev pub Step : Type 0
-Step = Reads.Step Progress Record
+abbrev pub CaptureStep : Type 0
+CaptureStep = Reads.Step CaptureProgress Record
 
 -- the place after a field that ends here, where this is the state
-abbrev pub after_field : Progress → CaptureState → Progress
+abbrev pub after_field : CaptureProgress → CaptureState → CaptureProgress
 after_field p s = record p { state = s; seen = []; at = p.at + 1 }
 
 -- the place where this fault was met
-abbrev pub broken_by : Progress → CaptureFault → Progress
+abbrev pub broken_by : CaptureProgress → CaptureFault → CaptureProgress
 broken_by p fault = record p { seen = []; fault = Some fault }
 
 -- where the eight bytes lead that a segment begins with, of this connection and with these first bytes of its length
-abbrev pub headed : Progress → ℕ → List ℕ → Progress
+abbrev pub headed : CaptureProgress → ℕ → List ℕ → CaptureProgress
 headed p conn bytes = record p { state = to p.state (Length conn); seen = bytes; at = p.at + 8 }

@@ -38,10 +38,10 @@ abbrev pub no_bytes : ℕ → List (List (List ℕ))
 no_bytes count = replicate count ([] ∷ [])
 
 -- the last one of several sessions
-abbrev pub last_of : List (List ℕ) → List ℕ
-last_of [] = []
-last_of (session ∷ []) = session
-last_of (session ∷ next ∷ sessions) = last_of (next ∷ sessions)
+abbrev pub last_session : List (List ℕ) → List ℕ
+last_session [] = []
+last_session (session ∷ []) = session
+last_session (session ∷ next ∷ sessions) = last_session (next ∷ sessions)
 
 -- the last one of several sessions grew by bytes
 abbrev pub last_grown : List (List ℕ) → List ℕ → List (List ℕ)

@@ -9,7 +9,7 @@ use Rattle.zy_capture.specs.declared.capture_fault.CaptureFault.{CaptureFault}
 use Rattle.zy_capture.specs.declared.due.Due.{Due}
 use Rattle.zy_capture.specs.declared.due.Due.TheVariants.{Magic, Count, Connection, Length, Payload, Closed}
 use Rattle.zy_capture.specs.declared.capture_state.CaptureState.{CaptureState}
-use Rattle.zy_capture.specs.Steps.{Progress, fields}
+use Rattle.zy_capture.specs.Steps.{CaptureProgress, fields}
 
 -- ---- a whole text
 
@@ -23,7 +23,7 @@ abbrev pub good : CaptureState → List Record → Verdict
 good s given = Good s.version s.count given
 
 -- the format of captures
-abbrev pub captures : Format Progress Record CaptureFault Verdict
+abbrev pub captures : Format CaptureProgress Record CaptureFault Verdict
 captures = format_of fields good Bad
 
 -- the verdict on a whole text
@@ -48,16 +48,16 @@ count_in Count count = None
 count_in due count = Some count
 
 -- a record was begun, and has not ended
-abbrev pub is_within : Due → Bool
-is_within Connection = true
-is_within (Length conn) = true
-is_within (Payload conn others) = true
-is_within Closed = true
-is_within due = false
+abbrev pub is_record_open : Due → Bool
+is_record_open Connection = true
+is_record_open (Length conn) = true
+is_record_open (Payload conn others) = true
+is_record_open Closed = true
+is_record_open due = false
 
 -- the same, where this fault was met or none
 abbrev pub is_within_by : Option CaptureFault → Due → Bool
-is_within_by None due = is_within due
+is_within_by None due = is_record_open due
 is_within_by (Some fault) due = false
 
 -- the records that are whole in a text, before its first fault
@@ -69,17 +69,17 @@ abbrev pub fault_of : List ℕ → Option CaptureFault
 fault_of text = fault_met captures text
 
 -- where a text was read up to its last byte
-abbrev pub last_of : List ℕ → Progress
-last_of text = (reading_of captures text).last
+abbrev pub last_progress : List ℕ → CaptureProgress
+last_progress text = (reading_of captures text).last
 
 -- the version of a text's magic
 unfoldable pub version_of : List ℕ → Option ℕ
-version_of text = version_in (last_of text).state.version
+version_of text = version_in (last_progress text).state.version
 
 -- the connection count of a text
 unfoldable pub count_of : List ℕ → Option ℕ
-count_of text = count_in (last_of text).state.due (last_of text).state.count
+count_of text = count_in (last_progress text).state.due (last_progress text).state.count
 
 -- a record was begun in a text, and has not ended
 unfoldable pub is_within_record : List ℕ → Bool
-is_within_record text = is_within_by (last_of text).fault (last_of text).state.due
+is_within_record text = is_within_by (last_progress text).fault (last_progress text).state.due

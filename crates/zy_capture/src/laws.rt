@@ -12,16 +12,16 @@ ghost use Rattle.zy_capture.specs.declared.capture_fault.CaptureFault.TheVariant
 ghost use Rattle.zy_capture.specs.declared.session_bytes.SessionBytes.{SessionBytes};
 ghost use Rattle.zy_capture.specs.Capture.{Spells};
 ghost use Rattle.zy_read.specs.Bytes.{AreBytes};
-ghost use Rattle.zy_capture.specs.Faults.{HasFault};
+ghost use Rattle.zy_capture.specs.Faults.{HasFaultAsCapture};
 ghost use Rattle.zy_capture.specs.SoFar.{BeginsWithMagic, BeginsWithCount, BeginsWithRepliesMagic, IsCaptureSoFar};
 ghost use Rattle.zy_capture.specs.SoFar.{IsRepliesSoFar};
-ghost use Rattle.zy_capture.specs.Steps.{Progress};
+ghost use Rattle.zy_capture.specs.Steps.{CaptureProgress};
 ghost use Rattle.zy_capture.specs.Verdict.{captures, verdict, fault_of, version_of, count_of, records_of};
 ghost use Rattle.zy_capture.specs.Verdict.Verdict.{Good, Bad};
-ghost use Rattle.zy_capture.specs.Standing.{StandsFor};
+ghost use Rattle.zy_capture.specs.Standing.{StandsForRecords};
 ghost use Rattle.zy_capture.specs.Streams.{closes, stream, sessions_of, no_bytes, with_record, with_records};
 ghost use Rattle.zy_capture.specs.Outputs.{AllOutputs, AreOutputs, MayAdd, with_output};
-ghost use Rattle.zy_capture.specs.Replies.{SpellsReplies, AreInOrder, replies_bytes, replies_limit, items_of};
+ghost use Rattle.zy_capture.specs.Replies.{SpellsReplies, AreBySession, replies_bytes, replies_limit, items_of};
 ghost use Rattle.zy_capture.specs.RepliesSteps as RepliesProgress;
 ghost use Rattle.zy_capture.specs.RepliesFaults as RepliesFaults;
 ghost use Rattle.zy_capture.specs.RepliesVerdict as Replies;
@@ -40,7 +40,7 @@ pub fn a_capture_is_good_exactly_where_it_is_a_spelling()
 /// The verdict on a text is bad with a fault exactly where the text has that fault.
 pub fn a_capture_is_bad_exactly_where_it_has_a_fault()
     ensures exactly { (text : List ℕ) (fault : CaptureFault) → AreBytes text
-        → verdict text ≡ Bad fault ↔ HasFault text fault }
+        → verdict text ≡ Bad fault ↔ HasFaultAsCapture text fault }
 {}
 
 /// While a good capture is read, its version, its count and its records are those that it spells.
@@ -84,15 +84,15 @@ pub fn the_first_fault_of_a_capture_counts()
 /// Two readers to which the same bytes were fed gave the same records, and are in the same state.
 /// So it does not matter when memory was refused, or what was asked of them between the bytes.
 pub fn what_is_given_depends_on_the_bytes_alone()
-    ensures given { (p q : Progress) (given others : List Record) (b : List ℕ)
-        → StandsFor p given b → StandsFor q others b → given ≡ others }
-    ensures state { (p q : Progress) (given others : List Record) (b : List ℕ)
-        → StandsFor p given b → StandsFor q others b → p ≡ q }
+    ensures given { (p q : CaptureProgress) (given others : List Record) (b : List ℕ)
+        → StandsForRecords p given b → StandsForRecords q others b → given ≡ others }
+    ensures state { (p q : CaptureProgress) (given others : List Record) (b : List ℕ)
+        → StandsForRecords p given b → StandsForRecords q others b → p ≡ q }
 {}
 
 /// A reader to which the pieces of a text were fed gave what it gives for the text.
 pub fn how_a_capture_is_cut_does_not_matter()
-    ensures whole { (old new : Progress) (pieces : List (List ℕ)) (gave : List Record)
+    ensures whole { (old new : CaptureProgress) (pieces : List (List ℕ)) (gave : List Record)
         → FeedsPieces captures old new pieces gave → Feeds captures old new (concat pieces) gave }
 {}
 
@@ -142,7 +142,8 @@ pub fn a_replies_file_is_good_exactly_where_it_is_a_spelling()
 /// fault.
 pub fn a_replies_file_is_bad_exactly_where_it_has_a_fault()
     ensures exactly { (text : List ℕ) (fault : FileFault) → AreBytes text
-        → Replies.verdict text ≡ Replies.Verdict.Bad fault ↔ RepliesFaults.HasFault text fault }
+        → Replies.verdict text ≡ Replies.Verdict.Bad fault
+        ↔ RepliesFaults.HasFaultAsReplies text fault }
 {}
 
 /// While a good replies file is read, its version and its outputs are those that it spells.
@@ -180,15 +181,17 @@ pub fn the_first_fault_of_a_replies_file_counts()
 /// Two readers of replies files to which the same bytes were fed gave the same outputs, and are in
 /// the same state.
 pub fn what_is_given_of_replies_depends_on_the_bytes_alone()
-    ensures given { (p q : RepliesProgress.Progress) (given others : List SessionBytes) (b : List ℕ)
+    ensures given { (p q : RepliesProgress.RepliesPlace) (given others : List SessionBytes)
+        (b : List ℕ)
         → StandsForReplies p given b → StandsForReplies q others b → given ≡ others }
-    ensures state { (p q : RepliesProgress.Progress) (given others : List SessionBytes) (b : List ℕ)
+    ensures state { (p q : RepliesProgress.RepliesPlace) (given others : List SessionBytes)
+        (b : List ℕ)
         → StandsForReplies p given b → StandsForReplies q others b → p ≡ q }
 {}
 
 /// A reader to which the pieces of a replies file were fed gave what it gives for the file.
 pub fn how_a_replies_file_is_cut_does_not_matter()
-    ensures whole { (old new : RepliesProgress.Progress) (pieces : List (List ℕ))
+    ensures whole { (old new : RepliesProgress.RepliesPlace) (pieces : List (List ℕ))
         (gave : List SessionBytes)
         → FeedsPieces Replies.replies old new pieces gave
         → Feeds Replies.replies old new (concat pieces) gave }
@@ -207,10 +210,10 @@ pub fn outputs_stay_outputs()
 /// An output that comes after others in a replies file may be added to these, and is then the last.
 pub fn outputs_that_are_read_can_be_added()
     ensures may { (outputs : AllOutputs) (item : SessionBytes) → AreOutputs outputs
-        → AreInOrder outputs.version 0 0 (items_of outputs ++ item ∷ [])
+        → AreBySession outputs.version 0 0 (items_of outputs ++ item ∷ [])
         → MayAdd outputs item.conn }
     ensures last { (outputs : AllOutputs) (item : SessionBytes) → AreOutputs outputs
-        → AreInOrder outputs.version 0 0 (items_of outputs ++ item ∷ [])
+        → AreBySession outputs.version 0 0 (items_of outputs ++ item ∷ [])
         → items_of (with_output outputs item.conn item.bytes) ≡ items_of outputs ++ item ∷ [] }
 {}
 

@@ -3,7 +3,7 @@ ghost use Rattle.std.specs.Prelude.{◌≡◌, ◌+◌, ◌<◌, ◌≤◌, [], 
 ghost use Rattle.zy_read.specs.Standing.{given_in, Feeds, FeedsAs, TellsFault, TellsLasting, AnswersBy, Follows};
 ghost use Rattle.zy_read.specs.declared.not_taken.NotTaken.TheVariants.{NoMemory};
 ghost use Rattle.zy_capture.specs.Verdict.{captures, verdict, version_of, count_of, is_within_record, is_good};
-ghost use Rattle.zy_capture.specs.Standing.{StandsFor, EndsBy, IsLengthEnd};
+ghost use Rattle.zy_capture.specs.Standing.{StandsForRecords, EndsBy, IsLengthEnd};
 
 mod head;
 mod steps;
@@ -30,10 +30,10 @@ pub struct Reader {
 
 impl Model for Reader {
     ghost use Rattle.std.specs.Prelude.{◌+◌, ◌≤◌, length};
-    ghost use Rattle.zy_capture.specs.Steps.{Progress};
+    ghost use Rattle.zy_capture.specs.Steps.{CaptureProgress};
     ghost use Rattle.zy_capture.specs.Standing.{seen_of, IsWithinBy};
 
-    ghost Value = { Progress };
+    ghost Value = { CaptureProgress };
 
     ghost view = { λ r. record {
       state = r.state;
@@ -49,7 +49,7 @@ impl Model for Reader {
 impl Reader {
     /// A reader to which no byte was fed. Takes no memory.
     pub fn new(alloc: Global) -> Reader
-        ensures value { StandsFor result [] [] }
+        ensures value { StandsForRecords result [] [] }
     {
         Reader {
             alloc,

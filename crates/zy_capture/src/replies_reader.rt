@@ -19,9 +19,9 @@ pub struct RepliesReader {
 }
 
 impl Model for RepliesReader {
-    ghost use Rattle.zy_capture.specs.RepliesSteps.{Progress};
+    ghost use Rattle.zy_capture.specs.RepliesSteps.{RepliesPlace};
 
-    ghost Value = { Progress };
+    ghost Value = { RepliesPlace };
 
     ghost view = { λ r. r.reader };
 }

@@ -5,7 +5,7 @@ ghost use Rattle.zy_capture.specs.RepliesSteps.{replies_fields, shape, start, ma
 ghost use Rattle.zy_capture.specs.Replies.{AreNumbers};
 ghost use Rattle.zy_capture.specs.RepliesVerdict.{Verdict, good};
 ghost use Rattle.zy_capture.specs.RepliesVerdict.Verdict.{Bad};
-ghost use Rattle.zy_capture.specs.RepliesStanding.{IsWithin, IsOutputDue};
+ghost use Rattle.zy_capture.specs.RepliesStanding.{IsInRepliesBounds, IsOutputDue};
 ghost use Rattle.zy_capture.specs.RepliesLaws.{widths, runs, lawful, few, begins};
 
 use crate::replies_due::RepliesDue;
@@ -98,7 +98,7 @@ impl FieldFormat for RepliesState {
 
     ghost shape_of = { λ s. shape s.due };
 
-    ghost Fits = { λ s at. IsWithin s.due at };
+    ghost Fits = { λ s at. IsInRepliesBounds s.due at };
 
     ghost Wants = { IsOutputDue };
 

@@ -1,7 +1,7 @@
 //! The sessions of one connection.
 ghost use Rattle.std.specs.Prelude.{◌≡◌, ◌<◌, ◌≤◌, ◌^◌, [], ◌∷◌, ◌++◌, length, OnOk, OnErr, IfErr};
 ghost use Rattle.std.specs.List.{slice_index_or};
-ghost use Rattle.zy_capture.specs.Streams.{last_of, last_grown};
+ghost use Rattle.zy_capture.specs.Streams.{last_session, last_grown};
 
 use std::alloc::Global;
 use std::marker::Model;
@@ -61,7 +61,7 @@ impl Sessions {
 
     // The bytes of the last session.
     pub(crate) fn into_last(self) -> Blob
-        ensures value { result ≡ last_of self }
+        ensures value { result ≡ last_session self }
     {
         self.last
     }

@@ -2,7 +2,7 @@
 ghost use Rattle.std.specs.Prelude.{◌≡◌, ◌⊎◌, ◌<◌, ◌≤◌, length};
 ghost use Rattle.zy_base.specs.Outside.{Writes};
 ghost use Rattle.zy_capture.specs.Streams.{sessions_of};
-ghost use Rattle.zy_capture.specs.Replies.{magic, output_text, connection_text, numbered_from, replies_bytes};
+ghost use Rattle.zy_capture.specs.Replies.{replies_magic, output_text, connection_text, numbered_from, replies_bytes};
 
 use crate::outputs::Outputs;
 use zy_base::{Failed, Sink, write_pieces, write_whole};
@@ -22,7 +22,7 @@ pub fn write_replies<K: Sink>(sink: &mut K, outputs: &Outputs) -> Result<(), Fai
 // The magic of a version.
 fn magic_of(version: u32) -> &'static [u8]
     requires version { (version ≡ 1) ⊎ (version ≡ 2) }
-    ensures value { result.now ≡ magic version }
+    ensures value { result.now ≡ replies_magic version }
 {
     if version == 1 {
         b"ZYGREP1\n"

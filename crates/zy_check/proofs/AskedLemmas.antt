@@ -11,7 +11,7 @@ use Rattle.mc_parse.specs.declared.shard_call.ShardCall.{ShardCall}
 use Rattle.mc_parse.specs.Calls.{Due, due_of, tag_of, tagged, calls_of}
 use Rattle.mc_parse.proofs.CallLemmas.{length-tagged}
 use Rattle.mc_reply.specs.Answers.{AnswerEach}
-use Rattle.zy_check.specs.Begun.{IsKept}
+use Rattle.zy_check.specs.Begun.{IsPartlyAnswered}
 use Rattle.zy_check.proofs.DueLemmas.{tagged_at}
 
 -- an entry is the call at a place exactly if it is this call
@@ -44,7 +44,7 @@ each_more (call ∷ calls) (r ∷ replies) reply few kind each =
     subst (λ (n : ℕ). AnswerEach (take n (call ∷ calls)) (r ∷ (replies ++ reply ∷ []))) (sym on) (each.0, each_more calls replies reply (omega arith) (λ c is. kind c is) each.1)
 
 pub kept_more : (command : Command) (shards : ℕ) (calls : List ShardCall) (replies : List CallReply) (reply : CallReply) → length replies < length (calls_of shards command)
-    → ((call : ShardCall) → slice_get (calls_of shards command) (length replies) ≡ Some call → MayAnswer call.call reply) → IsKept command shards calls replies → IsKept command shards calls (replies ++ reply ∷ [])
+    → ((call : ShardCall) → slice_get (calls_of shards command) (length replies) ≡ Some call → MayAnswer call.call reply) → IsPartlyAnswered command shards calls replies → IsPartlyAnswered command shards calls (replies ++ reply ∷ [])
 kept_more command shards calls replies reply few kind kept =
     let long : length (replies ++ reply ∷ []) ≡ length replies + 1 = length-append replies (reply ∷ []) in record {
       some = kept.some;

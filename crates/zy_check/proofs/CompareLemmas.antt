@@ -2,7 +2,7 @@
 use Rattle.std.proofs.Common.{◌≡◌, ℕ, ◌+◌, ◌<◌, ◌≤◌, List, [], ◌∷◌, ◌++◌, length, take, drop, Option, None, Some, refl, sym, ap, ◌∙◌, arith}
 use Rattle.std.proofs.lemmas.List.{append-nil, append_assoc, length-append, length-take-le, length-drop, take-append-drop}
 use Rattle.zy_check.specs.Cause.{agreeing}
-use Rattle.zy_check.specs.Comparing.{HasFirst, IsOther, AddedTo, EndedWith}
+use Rattle.zy_check.specs.Comparing.{HasFirst, DiffersAt, AddedTo, EndedWith}
 use Rattle.zy_check.proofs.ByteLemmas.{agreeing_few, agreeing_short, agreeing_all, agreeing_behind, agreeing_differs, agreeing_differs_first}
 use Rattle.zy_check.proofs.CursorLemmas.{take_on}
 
@@ -22,7 +22,7 @@ module _ (found made : List ℕ) (at : ℕ) (text : List ℕ) (first : HasFirst 
       → AddedTo (Some found) session (made ++ text) (at + agreeing (drop at found) text) (Some (record { session = session; at = at + agreeing (drop at found) text }))
   added_short session short = (refl, other)
     where
-      other : (behind : List ℕ) → IsOther (Some found) ((made ++ text) ++ behind) (at + agreeing (drop at found) text)
+      other : (behind : List ℕ) → DiffersAt (Some found) ((made ++ text) ++ behind) (at + agreeing (drop at found) text)
       other behind =
           let due = whole behind in
           let size = length-take-le at found first.0 in

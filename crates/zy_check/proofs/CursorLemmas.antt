@@ -10,7 +10,7 @@ use Rattle.zy_frame.specs.Cut.{frames_of, commands_of}
 use Rattle.zy_frame.specs.Progress.{Progress, StandsFor}
 use Rattle.zy_frame.specs.Feed.{Appends}
 use Rattle.zy_frame.proofs.CutLaws.{frames_of_nil, commands_first}
-use Rattle.zy_check.specs.Cursor.{Cursor, HasGiven}
+use Rattle.zy_check.specs.Cursor.{Cursor, HasGivenCommands}
 
 -- the first elements up to a place, and then those up to a later one
 pub take_on : {A : Type 0} (start more : ℕ) (xs : List A) → take (start + more) xs ≡ take start xs ++ take more (drop start xs)
@@ -30,13 +30,13 @@ take_piece at end stream rising =
     let whole : at + (end - at) ≡ end = omega arith in
     sym (take_on at (end - at) stream) ∙ ap (λ (n : ℕ). take n stream) whole
 
-pub none_given : (p : Progress) (stream : List ℕ) → StandsFor p [] → HasGiven (record { framer = p; frames = []; at = 0 }) stream []
+pub none_given : (p : Progress) (stream : List ℕ) → StandsFor p [] → HasGivenCommands (record { framer = p; frames = []; at = 0 }) stream []
 none_given p stream stands = record { within = omega arith; stands = stands; all = ap (map command_of) frames_of_nil }
 
 pub fed_on : (p q : Progress) (before after : List FrameKind) (at end : ℕ) (stream : List ℕ) → at ≤ end → end ≤ length stream
     → ((fed : List ℕ) → StandsFor p fed → StandsFor q (fed ++ slice_range stream at end))
     → ((fed : List ℕ) → StandsFor p fed → Appends fed (slice_range stream at end) before after)
-    → (given : List Command) → HasGiven (record { framer = p; frames = before; at = at }) stream given → HasGiven (record { framer = q; frames = after; at = end }) stream given
+    → (given : List Command) → HasGivenCommands (record { framer = p; frames = before; at = at }) stream given → HasGivenCommands (record { framer = q; frames = after; at = end }) stream given
 fed_on p q before after at end stream rising within stands appends given has =
     let more = appends (take at stream) has.stands in
     let whole = take_piece at end stream rising in record {
@@ -48,7 +48,7 @@ fed_on p q before after at end stream rising within stands appends given has =
     }
 
 -- what was given comes first
-pub given_first : (c : Cursor) (stream : List ℕ) (given : List Command) → HasGiven c stream given → (later : List Command) × (commands_of stream ≡ given ++ later)
+pub given_first : (c : Cursor) (stream : List ℕ) (given : List Command) → HasGivenCommands c stream given → (later : List Command) × (commands_of stream ≡ given ++ later)
 given_first c stream given has =
     let rest = commands_first (take c.at stream) (drop c.at stream) in (
       map command_of c.frames ++ rest.0,

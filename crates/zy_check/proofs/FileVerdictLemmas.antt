@@ -15,12 +15,12 @@ use Rattle.zy_journal.specs.Journal.{IsHold, IsJournal}
 use Rattle.mc_parse.specs.Calls.{due}
 use Rattle.zy_run.specs.Commands.{streams_in, commands_held}
 use Rattle.zy_run.specs.Run.{AreOfConnections, IsRun}
-use Rattle.zy_run.specs.Output.{outputs_of, all_outputs}
+use Rattle.zy_run.specs.Output.{connection_outputs, all_outputs}
 use Rattle.zy_run.specs.Spans.{AreHoldsOf, Spans}
 use Rattle.zy_run.proofs.StreamLemmas.{streams_held, held_commands, length-streams_in}
 use Rattle.zy_run.proofs.OutputLemmas.{length-outputs_of}
 use Rattle.zy_check.specs.Cause.{IsRight}
-use Rattle.zy_check.specs.OfRun.{IsOfRun, AreOfRun, given_of}
+use Rattle.zy_check.specs.OfRun.{IsGivenByRun, AreOfRun, given_by_records}
 use Rattle.zy_check.proofs.RunVerdictLemmas.{no_sessions}
 use Rattle.zy_check.proofs.YesVerdictLemmas.{yes_is_run, yes_outputs, yes_spans}
 
@@ -28,13 +28,13 @@ use Rattle.zy_check.proofs.YesVerdictLemmas.{yes_is_run, yes_outputs, yes_spans}
 
 module _ (count : ℕ) (streams : ℕ → List (List ℕ)) (es : List Entry) where
   -- each connection has its own
-  all_outputs-at : (conn : ℕ) → conn < count → sessions_of (all_outputs count streams es) conn ≡ outputs_of conn (streams conn) es
-  all_outputs-at conn within = get_or-map-range_with_len (λ k. outputs_of k (streams k) es) 0 count conn conn [] within (omega arith)
+  all_outputs-at : (conn : ℕ) → conn < count → sessions_of (all_outputs count streams es) conn ≡ connection_outputs conn (streams conn) es
+  all_outputs-at conn within = get_or-map-range_with_len (λ k. connection_outputs k (streams k) es) 0 count conn conn [] within (omega arith)
 
   -- and no other has one
   all_outputs-past : (conn : ℕ) → count ≤ conn → sessions_of (all_outputs count streams es) conn ≡ []
   all_outputs-past conn past =
-      let size = length-map-range_with_len (λ k. outputs_of k (streams k) es) 0 count in
+      let size = length-map-range_with_len (λ k. connection_outputs k (streams k) es) 0 count in
       no_sessions (all_outputs count streams es) conn (omega arith)
 
 module _ (shards count : ℕ) (records : List Record) (journal : Journal) (outputs : AllOutputs) where
@@ -47,18 +47,18 @@ module _ (shards count : ℕ) (records : List Record) (journal : Journal) (outpu
   -- ---- a run of the records is one of the streams
 
   module _ (are : AreOfRun shards count records journal outputs) where
-    own_outputs : (conn : ℕ) → sessions_of outputs.sessions conn ≡ outputs_of conn (sessions_of kept conn) journal.entries
+    own_outputs : (conn : ℕ) → sessions_of outputs.sessions conn ≡ connection_outputs conn (sessions_of kept conn) journal.entries
     own_outputs conn =
         ap (λ (l : List (List (List ℕ))). sessions_of l conn) are.replies
         ∙ dite (dec_lt conn count)
         (λ within.
         all_outputs-at count (streams_in records) journal.entries conn within
-        ∙ ap (λ (l : List (List ℕ)). outputs_of conn l journal.entries) (sym (streams_held count conn records within)))
+        ∙ ap (λ (l : List (List ℕ)). connection_outputs conn l journal.entries) (sym (streams_held count conn records within)))
         (λ past.
         all_outputs-past count (streams_in records) journal.entries conn (omega arith)
-        ∙ ap (λ (l : List (List ℕ)). outputs_of conn l journal.entries) (sym (no_sessions kept conn (omega (arith, size)))))
+        ∙ ap (λ (l : List (List ℕ)). connection_outputs conn l journal.entries) (sym (no_sessions kept conn (omega (arith, size)))))
 
-    pub of_records : IsOfRun (given_of shards count records journal outputs)
+    pub of_records : IsGivenByRun (given_by_records shards count records journal outputs)
     of_records = record {
       run = record {
         legal = are.run.legal;
@@ -88,17 +88,17 @@ module _ (shards count : ℕ) (records : List Record) (journal : Journal) (outpu
   some_outputs version (first ∷ all) zero are within = are.0.some
   some_outputs version (first ∷ all) (suc conn) are within = some_outputs version all conn are.1 (omega arith)
 
-  module _ (some : 1 ≤ shards) (lawful : IsJournal journal) (are : AreOutputs outputs) (right : IsRight (given_of shards count records journal outputs)) where
+  module _ (some : 1 ≤ shards) (lawful : IsJournal journal) (are : AreOutputs outputs) (right : IsRight (given_by_records shards count records journal outputs)) where
     run : IsRun shards journal.entries (length kept) (commands_held kept)
-    run = yes_is_run (given_of shards count records journal outputs) some right
+    run = yes_is_run (given_by_records shards count records journal outputs) some right
 
     span : Spans journal.holds (length kept) (commands_held kept)
-    span = yes_spans (given_of shards count records journal outputs) lawful.rising (counting journal.holds lawful.holds) right
+    span = yes_spans (given_by_records shards count records journal outputs) lawful.rising (counting journal.holds lawful.holds) right
 
-    due_outputs : (conn : ℕ) → conn < count → sessions_of outputs.sessions conn ≡ outputs_of conn (streams_in records conn) journal.entries
+    due_outputs : (conn : ℕ) → conn < count → sessions_of outputs.sessions conn ≡ connection_outputs conn (streams_in records conn) journal.entries
     due_outputs conn within =
-        yes_outputs (given_of shards count records journal outputs) conn right
-        ∙ ap (λ (l : List (List ℕ)). outputs_of conn l journal.entries) (streams_held count conn records within)
+        yes_outputs (given_by_records shards count records journal outputs) conn right
+        ∙ ap (λ (l : List (List ℕ)). connection_outputs conn l journal.entries) (streams_held count conn records within)
 
     -- there are no outputs of another connection
     no_more : length outputs.sessions ≤ count
@@ -107,8 +107,8 @@ module _ (shards count : ℕ) (records : List Record) (journal : Journal) (outpu
         let one = some_outputs outputs.version outputs.sessions count are.sessions more in
         let none : length (sessions_of outputs.sessions count) ≡ 0 =
         ap (λ (l : List (List ℕ)). length l)
-        (yes_outputs (given_of shards count records journal outputs) count right
-        ∙ ap (λ (l : List (List ℕ)). outputs_of count l journal.entries) (no_sessions kept count (omega (arith, size)))) in
+        (yes_outputs (given_by_records shards count records journal outputs) count right
+        ∙ ap (λ (l : List (List ℕ)). connection_outputs count l journal.entries) (no_sessions kept count (omega (arith, size)))) in
         absurd (omega arith))
         (λ no_more_then. omega arith)
 
@@ -131,7 +131,7 @@ module _ (shards count : ℕ) (records : List Record) (journal : Journal) (outpu
         connections = subst (λ (n : ℕ). AreOfConnections n journal.entries) size run.connections;
         calls = λ conn within. run.calls conn (omega (arith, size)) ∙ ap (due shards conn) (held_commands count conn records within);
       };
-      replies = fill_by_all (λ conn. outputs_of conn (streams_in records conn) journal.entries) outputs.sessions count [] (omega (arith, no_more, no_less)) due_outputs;
+      replies = fill_by_all (λ conn. connection_outputs conn (streams_in records conn) journal.entries) outputs.sessions count [] (omega (arith, no_more, no_less)) due_outputs;
       holds = record {
         rising = span.rising;
         connections = subst (λ (n : ℕ). AreHoldsOf n journal.holds) size span.connections;

@@ -8,7 +8,7 @@ use Rattle.zy_check.specs.declared.verdict.Verdict.{Verdict}
 use Rattle.zy_check.specs.declared.verdict.Verdict.TheVariants.{Yes, No}
 use Rattle.zy_check.specs.declared.verdict.Cause.{Cause}
 use Rattle.zy_check.specs.declared.verdict.Cause.TheVariants.{NotNext, WrongReply, Missing, WrongOutput, WrongHolds}
-use Rattle.zy_check.specs.Given.{Given, IsNextAt, AreRight, due_in, IsWhole, found_output, due_output}
+use Rattle.zy_check.specs.Given.{Given, IsNextAt, AreRight, due_in, HasEveryEntry, found_output, due_output}
 use Rattle.zy_check.specs.Cause.{IsNotNext, IsWrongReply, IsMissing, IsWrongOutput, IsWrongHolds, IsRight, agreeing_in, HasVerdict}
 
 -- two numbers are the same where neither is below the other
@@ -24,7 +24,7 @@ module _ (g : Given) where
   reply_is_right : (at : ℕ) → IsWrongReply g at → AreRight g → ⊥
   reply_is_right at is right = is.wrong (right at is.within).1
 
-  not_whole : (conn index : ℕ) → IsMissing g conn index → IsWhole g conn → ⊥
+  not_whole : (conn index : ℕ) → IsMissing g conn index → HasEveryEntry g conn → ⊥
   not_whole conn index is whole =
       let near = slice_get_within (due_in g conn) (length (of_connection conn g.entries)) is.call is.is_due in
       omega arith

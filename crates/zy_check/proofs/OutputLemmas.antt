@@ -6,7 +6,7 @@ use Rattle.std.proofs.lemmas.Option.{slice_get-get_or, slice_get_past}
 use mathlib.Core.Logic.{dite}
 use native.Mathlib.Decide.{ℕ_discrete, dec_lt}
 use Rattle.zy_capture.specs.Streams.{sessions_of}
-use Rattle.zy_run.specs.Output.{output, outputs_of}
+use Rattle.zy_run.specs.Output.{session_output, connection_outputs}
 use Rattle.zy_run.proofs.OutputLemmas.{length-outputs_of, outputs_of-at}
 use Rattle.zy_check.specs.Given.{Given, found_output, due_output, IsOutput}
 use Rattle.zy_check.specs.Cause.{agreeing_in, ComesBefore, IsComplete, IsWrongOutput}
@@ -22,13 +22,13 @@ module _ (g : Given) (conn session : ℕ) where
   abbrev outputs : List (List ℕ)
   outputs = sessions_of g.outputs conn
 
-  pub due_is : session < length streams → due_output g conn session ≡ Some (output conn session streams g.entries)
+  pub due_is : session < length streams → due_output g conn session ≡ Some (session_output conn session streams g.entries)
   due_is within =
       let size = length-outputs_of conn streams g.entries in
-      slice_get-get_or (outputs_of conn streams g.entries) session [] (omega arith) ∙ ap (λ (l : List ℕ). Some l) (outputs_of-at conn session streams g.entries within)
+      slice_get-get_or (connection_outputs conn streams g.entries) session [] (omega arith) ∙ ap (λ (l : List ℕ). Some l) (outputs_of-at conn session streams g.entries within)
 
   due_past : length streams ≤ session → due_output g conn session ≡ None
-  due_past past = let size = length-outputs_of conn streams g.entries in slice_get_past (outputs_of conn streams g.entries) session (omega arith)
+  due_past past = let size = length-outputs_of conn streams g.entries in slice_get_past (connection_outputs conn streams g.entries) session (omega arith)
 
   found_there : session < length outputs → found_output g conn session ≡ Some (slice_index_or outputs session [])
   found_there within = slice_get-get_or outputs session [] within

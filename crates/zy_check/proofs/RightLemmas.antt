@@ -8,7 +8,7 @@ use Rattle.zy_base.specs.declared.entry.Entry.{Entry}
 use Rattle.zy_base.specs.Order.{of_connection}
 use Rattle.mc_parse.specs.Calls.{Due, due, due_of, dues_of}
 use Rattle.zy_run.specs.Commands.{commands_over}
-use Rattle.zy_check.specs.Given.{Given, due_in, AreRight, IsWhole}
+use Rattle.zy_check.specs.Given.{Given, due_in, AreRight, HasEveryEntry}
 use Rattle.zy_check.specs.Cause.{IsComplete}
 use Rattle.zy_check.proofs.WalkLemmas.{right_so_far}
 use Rattle.zy_check.proofs.ListLemmas.{same_lists}
@@ -27,7 +27,7 @@ none_due : (g : Given) (conn : ℕ) → length g.streams ≤ conn → due_in g c
 none_due g conn past = ap (λ (sessions : List (List ℕ)). due g.shards conn (commands_over sessions)) (get_or_past g.streams conn [] past)
 
 -- each expected call has an entry, if that is so for all connections that exist
-pub whole_all : (g : Given) → AreRight g → ((c : ℕ) → c < length g.streams → IsWhole g c) → IsComplete g
+pub whole_all : (g : Given) → AreRight g → ((c : ℕ) → c < length g.streams → HasEveryEntry g c) → IsComplete g
 whole_all g right first = record {
   right = right;
   whole = λ conn. dite (dec_lt conn (length g.streams))

@@ -17,9 +17,9 @@ use Rattle.mc_parse.specs.Calls.{Due, due, due_of}
 use Rattle.zy_run.specs.Commands.{commands_over, commands_held}
 use Rattle.zy_run.specs.Run.{AreOfConnections, IsRun}
 use Rattle.zy_run.specs.Spans.{held_of, AreHoldsOf, Spans}
-use Rattle.zy_check.specs.Given.{Given, due_in, IsNext, IsAnswered, AreRight, IsWhole, IsHeld}
+use Rattle.zy_check.specs.Given.{Given, due_in, IsNextCall, IsAnswered, AreRight, HasEveryEntry, IsHeld}
 use Rattle.zy_check.specs.Cause.{IsRight}
-use Rattle.zy_check.specs.OfRun.{IsOfRun}
+use Rattle.zy_check.specs.OfRun.{IsGivenByRun}
 use Rattle.zy_check.proofs.DueLemmas.{asked_at}
 use Rattle.zy_check.proofs.WalkLemmas.{take_next, own_here}
 
@@ -45,7 +45,7 @@ held_none count conn (h ∷ hs) are past =
     ]
 
 -- no expected call
-pub whole_past : (g : Given) (conn : ℕ) → length g.streams ≤ conn → IsWhole g conn
+pub whole_past : (g : Given) (conn : ℕ) → length g.streams ≤ conn → HasEveryEntry g conn
 whole_past g conn past =
     let none : length (due_in g conn) ≡ 0 =
     ap (λ (l : List (List ℕ)). length (due g.shards conn (commands_over l))) (no_sessions g.streams conn past) in
@@ -68,7 +68,7 @@ answered_in shards es at e legal is =
     IsLegal-reply shards (take at es) e (IsLegal-front shards (take at es ++ e ∷ []) (drop (at + 1) es) (subst (IsLegal shards) parts legal))
 
 module _ (g : Given) (run : IsRun g.shards g.entries (length g.streams) (commands_held g.streams)) where
-  next_in : (at : ℕ) (e : Entry) → slice_get g.entries at ≡ Some e → IsNext g (take at g.entries) e
+  next_in : (at : ℕ) (e : Entry) → slice_get g.entries at ≡ Some e → IsNextCall g (take at g.entries) e
   next_in at e is =
       let conn = e.tag.conn in
       let within = connection_at (length g.streams) g.entries at e run.connections is in
@@ -81,11 +81,11 @@ module _ (g : Given) (run : IsRun g.shards g.entries (length g.streams) (command
   are_right : AreRight g
   are_right at within =
       let found = element_at g.entries at within in (
-        subst (λ (o : Option Entry). IfSome o (IsNext g (take at g.entries))) (sym found.1) (next_in at found.0 found.1),
+        subst (λ (o : Option Entry). IfSome o (IsNextCall g (take at g.entries))) (sym found.1) (next_in at found.0 found.1),
         subst (λ (o : Option Entry). IfSome o (IsAnswered g (take at g.entries))) (sym found.1) (answered_in g.shards g.entries at found.0 run.legal found.1),
       )
 
-  are_whole : (conn : ℕ) → IsWhole g conn
+  are_whole : (conn : ℕ) → HasEveryEntry g conn
   are_whole conn = dite (dec_lt conn (length g.streams))
       (λ within.
       let same = ap (λ (l : List Due). length l) (run.calls conn within) in
@@ -104,7 +104,7 @@ are_held g span conn = dite (dec_lt conn (length g.streams))
 
 -- ---- the verdict
 
-pub run_is_right : (g : Given) → IsOfRun g → IsRight g
+pub run_is_right : (g : Given) → IsGivenByRun g → IsRight g
 run_is_right g is = record {
   complete = record { right = are_right g is.run; whole = are_whole g is.run };
   outputs = λ conn session. ap (λ (l : List (List ℕ)). slice_get l session) (is.outputs conn);

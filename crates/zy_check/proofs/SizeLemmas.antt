@@ -40,7 +40,7 @@ use Rattle.zy_frame.proofs.CutLemmas.{splits_cut}
 use Rattle.zy_frame.proofs.BoundLemmas.{stream_within}
 use Rattle.zy_frame.proofs.WidthLemmas.{text_width}
 use Rattle.zy_run.specs.Commands.{commands_over, commands_in, streams_in}
-use Rattle.zy_run.specs.Output.{output, outputs_of}
+use Rattle.zy_run.specs.Output.{session_output, connection_outputs}
 use Rattle.zy_run.specs.Spans.{held_of}
 use Rattle.zy_run.proofs.StreamLemmas.{streams_held}
 use Rattle.zy_check.specs.OfRun.{AreOfRun}
@@ -166,7 +166,7 @@ module _ (conn : ℕ) (es : List Entry) where
 
   -- the outputs of sessions are the texts of their commands
   outputs_size : (streams front rest : List (List ℕ)) → streams ≡ front ++ rest
-      → sum_by length (map (λ session. output conn session streams es) (range_with_len (length front) (length rest)))
+      → sum_by length (map (λ session. session_output conn session streams es) (range_with_len (length front) (length rest)))
       ≡ length (concat (texts_from (length (commands_over front)) (commands_over rest) (of_connection conn es)))
   outputs_size streams front [] whole = refl
   outputs_size streams front (stream ∷ rest) whole =
@@ -174,18 +174,18 @@ module _ (conn : ℕ) (es : List Entry) where
       let at = length (commands_over front) in
       let before : take (length front) streams ≡ front = ap (λ (l : List (List ℕ)). take (length front) l) whole ∙ take-append_seam front (stream ∷ rest) in
       let this : slice_index_or streams (length front) [] ≡ stream = ap (λ (l : List (List ℕ)). slice_index_or l (length front) []) whole ∙ get_or-append_seam front stream rest [] in
-      let first : length (output conn (length front) streams es) ≡ length (concat (texts_from at (commands_of stream) own)) =
+      let first : length (session_output conn (length front) streams es) ≡ length (concat (texts_from at (commands_of stream) own)) =
       ap (λ (l : List (List ℕ)). length (concat (texts_from (length (commands_over l)) (commands_of (slice_index_or streams (length front) [])) own))) before
       ∙ ap (λ (l : List ℕ). length (concat (texts_from at (commands_of l) own))) this in
       let again = outputs_size streams (front ++ stream ∷ []) rest (whole ∙ sym (append_assoc front (stream ∷ []) rest)) in
       let on : length (front ++ stream ∷ []) ≡ length front + 1 = length-append front (stream ∷ []) in
-      let range = ap (λ (n : ℕ). sum_by length (map (λ session. output conn session streams es) (range_with_len n (length rest)))) on in
+      let range = ap (λ (n : ℕ). sum_by length (map (λ session. session_output conn session streams es) (range_with_len n (length rest)))) on in
       let index = ap (λ (n : ℕ). length (concat (texts_from n (commands_over rest) own))) (over_more front stream) in
       let split : length (concat (texts_from at (commands_of stream ++ commands_over rest) own)) ≡ length (concat (texts_from at (commands_of stream) own)) + length (concat (texts_from (at + length (commands_of stream)) (commands_over rest) own)) =
       ap (λ (l : List (List ℕ)). length (concat l)) (texts_from-append at (commands_of stream) (commands_over rest) own)
       ∙ ap (λ (l : List ℕ). length l) (concat-append (texts_from at (commands_of stream) own) (texts_from (at + length (commands_of stream)) (commands_over rest) own))
       ∙ length-append (concat (texts_from at (commands_of stream) own)) (concat (texts_from (at + length (commands_of stream)) (commands_over rest) own)) in
-      let sum = sum_by-cons length (output conn (length front) streams es) (map (λ session. output conn session streams es) (range_with_len (length front + 1) (length rest))) in
+      let sum = sum_by-cons length (session_output conn (length front) streams es) (map (λ session. session_output conn session streams es) (range_with_len (length front + 1) (length rest))) in
       omega (arith, first, again, range, index, split, sum)
 
   record_sum : (sessions : List (List ℕ)) → sum_by (λ bytes. 17 + length bytes) sessions ≡ 17 * length sessions + sum_by length sessions
@@ -197,7 +197,7 @@ module _ (conn : ℕ) (es : List Entry) where
 
   -- the records of a connection's outputs
   records_few : (streams : List (List ℕ)) → AllByRecursion (λ (e : Entry). IsSmall e.reply) es → length (of_connection conn es) ≤ 256 * sum_by length streams → sum_by length streams ≤ 4294967295
-      → sum_by (λ bytes. 17 + length bytes) (outputs_of conn streams es) ≤ 17 * length streams + 536871212 * sum_by length streams
+      → sum_by (λ bytes. 17 + length bytes) (connection_outputs conn streams es) ≤ 17 * length streams + 536871212 * sum_by length streams
   records_few streams small few short =
       let own = of_connection conn es in
       let texts = texts_few 0 (commands_over streams) own (streams_within streams) (own_small conn es small) (omega (arith, few, short)) in
@@ -205,8 +205,8 @@ module _ (conn : ℕ) (es : List Entry) where
         arith,
         few,
         texts,
-        record_sum (outputs_of conn streams es),
-        length-map-range_with_len (λ session. output conn session streams es) 0 (length streams),
+        record_sum (connection_outputs conn streams es),
+        length-map-range_with_len (λ session. session_output conn session streams es) 0 (length streams),
         outputs_size streams [] streams refl,
         streams_weigh streams,
         replies_counted 0 (length (commands_over streams)) own,
@@ -292,11 +292,11 @@ module _ (shards version count : ℕ) (bytes : List ℕ) (records : List Record)
       let most = spells.valid.few in
       let small = all_small journal.entries lawful.entries fit in
       let same = ap (λ (l : List (List (List ℕ))). sum_by (λ sessions. sum_by (λ bytes. 17 + length bytes) sessions) l) are.replies in
-      let sum = total-map (λ (sessions : List (List ℕ)). sum_by (λ bytes. 17 + length bytes) sessions) (λ conn. outputs_of conn (streams_in records conn) journal.entries) count in
-      let each = total-le (λ conn. sum_by (λ bytes. 17 + length bytes) (outputs_of conn (streams_in records conn) journal.entries)) (λ conn. 17 * length (sessions_of kept conn) + 536871212 * bytes_of conn) count (λ conn within.
+      let sum = total-map (λ (sessions : List (List ℕ)). sum_by (λ bytes. 17 + length bytes) sessions) (λ conn. connection_outputs conn (streams_in records conn) journal.entries) count in
+      let each = total-le (λ conn. sum_by (λ bytes. 17 + length bytes) (connection_outputs conn (streams_in records conn) journal.entries)) (λ conn. 17 * length (sessions_of kept conn) + 536871212 * bytes_of conn) count (λ conn within.
       let held = streams_held count conn records within in
       let short = total-at bytes_of conn count within in
       let one = records_few conn journal.entries (sessions_of kept conn) small (own_few conn within) (omega (arith, short, all_bytes)) in
-      let as_held = ap (λ (l : List (List ℕ)). sum_by (λ bytes. 17 + length bytes) (outputs_of conn l journal.entries)) held in
+      let as_held = ap (λ (l : List (List ℕ)). sum_by (λ bytes. 17 + length bytes) (connection_outputs conn l journal.entries)) held in
       omega (arith, one, as_held)) in
       omega (arith, most, same, sum, each, total-both (λ conn. length (sessions_of kept conn)) bytes_of count, all_bytes, all_sessions, replies_few outputs)

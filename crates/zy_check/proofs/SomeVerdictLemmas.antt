@@ -15,12 +15,12 @@ use Rattle.zy_capture.specs.Streams.{sessions_of}
 use Rattle.mc_parse.specs.Calls.{due_of}
 use Rattle.mc_parse.proofs.SameLemmas.{due_told}
 use Rattle.zy_run.specs.Commands.{commands_over, commands_held}
-use Rattle.zy_run.specs.Output.{outputs_of}
+use Rattle.zy_run.specs.Output.{connection_outputs}
 use Rattle.zy_run.specs.Spans.{held_of, AreHoldsOf}
 use Rattle.zy_check.specs.declared.verdict.Verdict.{Verdict}
 use Rattle.zy_check.specs.declared.verdict.Verdict.TheVariants.{Yes, No}
 use Rattle.zy_check.specs.declared.verdict.Cause.TheVariants.{NotNext, WrongReply, Missing, WrongOutput, WrongHolds}
-use Rattle.zy_check.specs.Given.{Given, due_in, IsNext, IsNextAt, IsAnswered, IsAnsweredAt, AreRight, IsWhole, found_output, due_output, IsOutput, IsHeld}
+use Rattle.zy_check.specs.Given.{Given, due_in, IsNextCall, IsNextAt, IsAnswered, IsAnsweredAt, AreRight, HasEveryEntry, found_output, due_output, IsOutput, IsHeld}
 use Rattle.zy_check.specs.Cause.{IsComplete, ComesBefore, agreeing_in, HasVerdict}
 use Rattle.zy_check.proofs.RunVerdictLemmas.{element_at, no_sessions, held_none, whole_past}
 
@@ -59,12 +59,12 @@ module _ (g : Given) where
   next_told at = each (slice_get g.entries at)
     where
       one : (e : Entry) → Dec (e.tag.conn < length g.streams)
-          → Dec (slice_get (due_in g e.tag.conn) (length (of_connection e.tag.conn (take at g.entries))) ≡ Some (due_of e)) → Dec (IsNext g (take at g.entries) e)
+          → Dec (slice_get (due_in g e.tag.conn) (length (of_connection e.tag.conn (take at g.entries))) ≡ Some (due_of e)) → Dec (IsNextCall g (take at g.entries) e)
       one e (yes within) (yes is) = yes (record { connection = within; call = is })
       one e (yes within) (no differs) = no (λ next. differs next.call)
       one e (no beyond) call = no (λ next. beyond next.connection)
 
-      each : (o : Option Entry) → Dec (IfSome o (IsNext g (take at g.entries)))
+      each : (o : Option Entry) → Dec (IfSome o (IsNextCall g (take at g.entries)))
       each None = yes tt
       each (Some e) = one e (dec_lt e.tag.conn (length g.streams))
           (option_told due_told (slice_get (due_in g e.tag.conn) (length (of_connection e.tag.conn (take at g.entries)))) (Some (due_of e)))
@@ -84,7 +84,7 @@ module _ (g : Given) where
       both (yes next) (no wrong) = no (λ right. wrong right.1)
       both (no wrong) answered = no (λ right. wrong right.0)
 
-  whole_told : (conn : ℕ) → Dec (IsWhole g conn)
+  whole_told : (conn : ℕ) → Dec (HasEveryEntry g conn)
   whole_told conn = dec_le (length (due_in g conn)) (length (of_connection conn g.entries))
 
   held_told : (conn : ℕ) → Dec (IsHeld g conn)
@@ -94,12 +94,12 @@ module _ (g : Given) where
 
   -- how many sessions a connection has or should have, at most
   abbrev sessions : ℕ → ℕ
-  sessions conn = length (sessions_of g.outputs conn) + length (outputs_of conn (sessions_of g.streams conn) g.entries)
+  sessions conn = length (sessions_of g.outputs conn) + length (connection_outputs conn (sessions_of g.streams conn) g.entries)
 
   output_past : (conn session : ℕ) → sessions conn ≤ session → IsOutput g conn session
   output_past conn session past =
       slice_get_past (sessions_of g.outputs conn) session (omega arith)
-      ∙ sym (slice_get_past (outputs_of conn (sessions_of g.streams conn) g.entries) session (omega arith))
+      ∙ sym (slice_get_past (connection_outputs conn (sessions_of g.streams conn) g.entries) session (omega arith))
 
   session_told : (conn : ℕ) → FirstNot (IsOutput g conn) (sessions conn) ⊎ ((session : ℕ) → session < sessions conn → IsOutput g conn session)
   session_told conn = first_not (IsOutput g conn) (λ session. option_told bytes_told (found_output g conn session) (due_output g conn session)) (sessions conn)
@@ -121,7 +121,7 @@ module _ (g : Given) where
   outputs_past : (conn : ℕ) → length g.streams + length g.outputs ≤ conn → AreOutputsOf conn
   outputs_past conn past session =
       ap (λ (l : List (List ℕ)). slice_get l session) (no_sessions g.outputs conn (omega arith))
-      ∙ sym (ap (λ (l : List (List ℕ)). slice_get (outputs_of conn l g.entries) session) (no_sessions g.streams conn (omega arith)))
+      ∙ sym (ap (λ (l : List (List ℕ)). slice_get (connection_outputs conn l g.entries) session) (no_sessions g.streams conn (omega arith)))
 
   -- ---- the verdict
 
@@ -170,9 +170,9 @@ module _ (g : Given) where
       go (inr all) = by_holds complete (λ conn. dite (dec_lt conn limit) (λ low. all conn low) (λ high. outputs_past conn (omega arith)))
 
   by_calls : AreRight g → (v : Verdict) × HasVerdict g v
-  by_calls right = go (first_not (IsWhole g) whole_told (length g.streams))
+  by_calls right = go (first_not (HasEveryEntry g) whole_told (length g.streams))
     where
-      go : FirstNot (IsWhole g) (length g.streams) ⊎ ((conn : ℕ) → conn < length g.streams → IsWhole g conn) → (v : Verdict) × HasVerdict g v
+      go : FirstNot (HasEveryEntry g) (length g.streams) ⊎ ((conn : ℕ) → conn < length g.streams → HasEveryEntry g conn) → (v : Verdict) × HasVerdict g v
       go (inl first) =
           let fails = first.fails in
           let call = element_at (due_in g first.at) (length (of_connection first.at g.entries)) (omega arith) in

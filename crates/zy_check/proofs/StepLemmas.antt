@@ -20,10 +20,10 @@ use Rattle.zy_run.specs.Commands.{commands_held}
 use Rattle.zy_capture.specs.Streams.{sessions_of}
 use Rattle.zy_check.specs.declared.compared.Differing.{Differing}
 use Rattle.zy_check.specs.declared.track.Track.{Track}
-use Rattle.zy_check.specs.Given.{Given, due_in, IsNext, AreRight, IsWhole, IsOutput}
+use Rattle.zy_check.specs.Given.{Given, due_in, IsNextCall, AreRight, HasEveryEntry, IsOutput}
 use Rattle.zy_check.specs.Cause.{IsComplete, IsMissing}
 use Rattle.zy_check.specs.Begun.{Begun, asked_in}
-use Rattle.zy_check.specs.Track.{HasMade, IsAtCall, IsAtEnd, Stands, AreCompared, with_reply}
+use Rattle.zy_check.specs.Track.{HasMadeCalls, IsAtCall, IsAtEnd, StandsAtSession, AreCompared, with_reply}
 use Rattle.zy_check.specs.Walk.{AreTracked, IsDueIn, IsNextIn}
 use Rattle.zy_check.specs.Missing.{AreEnded}
 use Rattle.zy_check.proofs.DueLemmas.{tagged_at}
@@ -42,32 +42,32 @@ made_size : (g : Given) (at conn : ℕ) → length (made_before g at conn) ≡ l
 made_size g at conn = length-map (of_connection conn (take at g.entries)) due_of
 
 -- at a call: an entry that is this call is next
-pub due_next : (g : Given) (at : ℕ) (e : Entry) (t : Track) (b : Begun) → e.tag.conn < length g.streams → HasMade g e.tag.conn t (made_before g at e.tag.conn) → t.begun ≡ Some b → length b.replies < length (asked_in b)
-    → slice_get (due_at b.shards e.tag.conn t.commands b.command) (length b.replies) ≡ Some (due_of e) → IsNext g (take at g.entries) e
+pub due_next : (g : Given) (at : ℕ) (e : Entry) (t : Track) (b : Begun) → e.tag.conn < length g.streams → HasMadeCalls g e.tag.conn t (made_before g at e.tag.conn) → t.begun ≡ Some b → length b.replies < length (asked_in b)
+    → slice_get (due_at b.shards e.tag.conn t.commands b.command) (length b.replies) ≡ Some (due_of e) → IsNextCall g (take at g.entries) e
 due_next g at e t b within has begun few due =
-    let h : Stands g e.tag.conn t.session t.cursor (Some b) t.commands t.compared (made_before g at e.tag.conn) =
-    subst (λ (o : Option Begun). Stands g e.tag.conn t.session t.cursor o t.commands t.compared (made_before g at e.tag.conn)) begun has in record {
+    let h : StandsAtSession g e.tag.conn t.session t.cursor (Some b) t.commands t.compared (made_before g at e.tag.conn) =
+    subst (λ (o : Option Begun). StandsAtSession g e.tag.conn t.session t.cursor o t.commands t.compared (made_before g at e.tag.conn)) begun has in record {
       connection = within;
       call = ap (slice_get (due_in g e.tag.conn)) (sym (made_size g at e.tag.conn)) ∙ next_due g e.tag.conn t.session t.cursor b t.commands t.compared (made_before g at e.tag.conn) h few
           ∙ ap (λ (n : ℕ). slice_get (due_at n e.tag.conn t.commands b.command) (length b.replies)) (sym h.shards) ∙ due;
     }
 
 -- and the entry that is next is this call
-pub next_due_in : (g : Given) (at : ℕ) (e : Entry) (t : Track) (b : Begun) → HasMade g e.tag.conn t (made_before g at e.tag.conn) → t.begun ≡ Some b → length b.replies < length (asked_in b)
-    → IsNext g (take at g.entries) e → slice_get (due_at b.shards e.tag.conn t.commands b.command) (length b.replies) ≡ Some (due_of e)
+pub next_due_in : (g : Given) (at : ℕ) (e : Entry) (t : Track) (b : Begun) → HasMadeCalls g e.tag.conn t (made_before g at e.tag.conn) → t.begun ≡ Some b → length b.replies < length (asked_in b)
+    → IsNextCall g (take at g.entries) e → slice_get (due_at b.shards e.tag.conn t.commands b.command) (length b.replies) ≡ Some (due_of e)
 next_due_in g at e t b has begun few next =
-    let h : Stands g e.tag.conn t.session t.cursor (Some b) t.commands t.compared (made_before g at e.tag.conn) =
-    subst (λ (o : Option Begun). Stands g e.tag.conn t.session t.cursor o t.commands t.compared (made_before g at e.tag.conn)) begun has in
+    let h : StandsAtSession g e.tag.conn t.session t.cursor (Some b) t.commands t.compared (made_before g at e.tag.conn) =
+    subst (λ (o : Option Begun). StandsAtSession g e.tag.conn t.session t.cursor o t.commands t.compared (made_before g at e.tag.conn)) begun has in
     ap (λ (n : ℕ). slice_get (due_at n e.tag.conn t.commands b.command) (length b.replies)) h.shards
     ∙ sym (next_due g e.tag.conn t.session t.cursor b t.commands t.compared (made_before g at e.tag.conn) h few)
     ∙ ap (slice_get (due_in g e.tag.conn)) (made_size g at e.tag.conn) ∙ next.call
 
 -- so an entry is the call that is next exactly where it is next
-pub next_exact : (g : Given) (at : ℕ) (e : Entry) (t : Track) (so : Bool) → e.tag.conn < length g.streams → HasMade g e.tag.conn t (made_before g at e.tag.conn) → IsAtCall t.begun
-    → ((b : Begun) → t.begun ≡ Some b → (so ≡ true ↔ slice_get (due_at b.shards e.tag.conn t.commands b.command) (length b.replies) ≡ Some (due_of e))) → (so ≡ true ↔ IsNext g (take at g.entries) e)
+pub next_exact : (g : Given) (at : ℕ) (e : Entry) (t : Track) (so : Bool) → e.tag.conn < length g.streams → HasMadeCalls g e.tag.conn t (made_before g at e.tag.conn) → IsAtCall t.begun
+    → ((b : Begun) → t.begun ≡ Some b → (so ≡ true ↔ slice_get (due_at b.shards e.tag.conn t.commands b.command) (length b.replies) ≡ Some (due_of e))) → (so ≡ true ↔ IsNextCall g (take at g.entries) e)
 next_exact g at e t so within has call exact = go t.begun refl call
   where
-    go : (o : Option Begun) → t.begun ≡ o → IsAtCall o → (so ≡ true ↔ IsNext g (take at g.entries) e)
+    go : (o : Option Begun) → t.begun ≡ o → IsAtCall o → (so ≡ true ↔ IsNextCall g (take at g.entries) e)
     go None is few = absurd few
     go (Some b) is few = (
       (λ y. due_next g at e t b within has is few ((exact b is).0 y)),
@@ -91,12 +91,12 @@ next_in e tracks t so within call exact y =
     go (Some b) is few = (few, (exact b is).0 y)
 
 -- at its end no entry is next
-ended_as : (g : Given) (conn : ℕ) (t : Track) (made : List Due) → HasMade g conn t made → IsAtEnd g conn t → (made ≡ due_in g conn) × (t.commands ≡ length (commands_held g.streams conn))
+ended_as : (g : Given) (conn : ℕ) (t : Track) (made : List Due) → HasMadeCalls g conn t made → IsAtEnd g conn t → (made ≡ due_in g conn) × (t.commands ≡ length (commands_held g.streams conn))
 ended_as g conn t made has end =
-    let h : Stands g conn t.session t.cursor None t.commands t.compared made = subst (λ (o : Option Begun). Stands g conn t.session t.cursor o t.commands t.compared made) end.0 has in
+    let h : StandsAtSession g conn t.session t.cursor None t.commands t.compared made = subst (λ (o : Option Begun). StandsAtSession g conn t.session t.cursor o t.commands t.compared made) end.0 has in
     (made_all g conn t.session t.cursor t.commands t.compared made h end.1, count_all g conn t.session t.cursor t.commands t.compared made h end.1)
 
-pub end_not_next : (g : Given) (at : ℕ) (e : Entry) (t : Track) → HasMade g e.tag.conn t (made_before g at e.tag.conn) → IsAtEnd g e.tag.conn t → IsNext g (take at g.entries) e → ⊥
+pub end_not_next : (g : Given) (at : ℕ) (e : Entry) (t : Track) → HasMadeCalls g e.tag.conn t (made_before g at e.tag.conn) → IsAtEnd g e.tag.conn t → IsNextCall g (take at g.entries) e → ⊥
 end_not_next g at e t has end next =
     let made = made_before g at e.tag.conn in
     let all = (ended_as g e.tag.conn t made has end).0 in
@@ -108,7 +108,7 @@ end_not_next g at e t has end next =
 
 module _ (g : Given) (at : ℕ) (tracks : List Track) (tracked : AreTracked g at tracks) where
   -- a connection goes on after the same calls
-  tracked_set : (conn : ℕ) (old new : Track) → slice_get tracks conn ≡ Some old → ((made : List Due) → HasMade g conn old made → HasMade g conn new made) → AreTracked g at (slice_set tracks conn new)
+  tracked_set : (conn : ℕ) (old new : Track) → slice_get tracks conn ≡ Some old → ((made : List Due) → HasMadeCalls g conn old made → HasMadeCalls g conn new made) → AreTracked g at (slice_set tracks conn new)
   tracked_set conn old new found kept =
       let within = slice_get_within tracks conn old found in record {
         count = length-set tracks conn new ∙ tracked.count;
@@ -116,20 +116,20 @@ module _ (g : Given) (at : ℕ) (tracks : List Track) (tracked : AreTracked g at
             (λ same.
             let both : Some new ≡ Some t = sym (slice_get-set tracks conn new within) ∙ (λ i. slice_get (slice_set tracks conn new) (sym same i)) ∙ is in
             let t_is : new ≡ t = cc in
-            subst (λ (x : Track). HasMade g c x (made_before g at c)) t_is (subst (λ (n : ℕ). HasMade g n new (made_before g at n)) (sym same) (kept (made_before g at conn) (tracked.each conn old found))))
+            subst (λ (x : Track). HasMadeCalls g c x (made_before g at c)) t_is (subst (λ (n : ℕ). HasMadeCalls g n new (made_before g at n)) (sym same) (kept (made_before g at conn) (tracked.each conn old found))))
             (λ other. tracked.each c t (sym (slice_get-set_other tracks conn c new other) ∙ is));
       }
 
   -- the same of the connection at a place
-  pub tracked_at : (conn : ℕ) (read new : Track) → conn < length tracks → ((made : List Due) → HasMade g conn (get_or tracks conn read) made → HasMade g conn new made) → AreTracked g at (slice_set tracks conn new)
+  pub tracked_at : (conn : ℕ) (read new : Track) → conn < length tracks → ((made : List Due) → HasMadeCalls g conn (get_or tracks conn read) made → HasMadeCalls g conn new made) → AreTracked g at (slice_set tracks conn new)
   tracked_at conn read new within kept = tracked_set conn (get_or tracks conn read) new (slice_get-get_or tracks conn read within) kept
 
   -- it is after these calls
-  pub has_made : (conn : ℕ) (read new : Track) → conn < length tracks → ((made : List Due) → HasMade g conn (get_or tracks conn read) made → HasMade g conn new made) → HasMade g conn new (made_before g at conn)
+  pub has_made : (conn : ℕ) (read new : Track) → conn < length tracks → ((made : List Due) → HasMadeCalls g conn (get_or tracks conn read) made → HasMadeCalls g conn new made) → HasMadeCalls g conn new (made_before g at conn)
   has_made conn read new within kept = kept (made_before g at conn) (tracked.each conn (get_or tracks conn read) (slice_get-get_or tracks conn read within))
 
   -- one further entry was made
-  pub tracked_on : (e : Entry) (new : Track) → slice_get g.entries at ≡ Some e → e.tag.conn < length tracks → HasMade g e.tag.conn new (made_before g at e.tag.conn ++ due_of e ∷ []) → AreTracked g (at + 1) (slice_set tracks e.tag.conn new)
+  pub tracked_on : (e : Entry) (new : Track) → slice_get g.entries at ≡ Some e → e.tag.conn < length tracks → HasMadeCalls g e.tag.conn new (made_before g at e.tag.conn ++ due_of e ∷ []) → AreTracked g (at + 1) (slice_set tracks e.tag.conn new)
   tracked_on e new is within has =
       let more : made_before g (at + 1) e.tag.conn ≡ made_before g at e.tag.conn ++ due_of e ∷ [] =
       ap (λ (l : List Entry). dues_of (of_connection e.tag.conn l)) (take_next g.entries at e is) ∙ ap dues_of (of_connection-push e.tag.conn (take at g.entries) e refl)
@@ -139,21 +139,21 @@ module _ (g : Given) (at : ℕ) (tracks : List Track) (tracked : AreTracked g at
             (λ same.
             let both : Some new ≡ Some t = sym (slice_get-set tracks e.tag.conn new within) ∙ (λ i. slice_get (slice_set tracks e.tag.conn new) (sym same i)) ∙ there_is in
             let t_is : new ≡ t = cc in
-            subst (λ (x : Track). HasMade g c x (made_before g (at + 1) c)) t_is
-            (subst (λ (n : ℕ). HasMade g n new (made_before g (at + 1) n)) (sym same) (subst (HasMade g e.tag.conn new) (sym more) has)))
+            subst (λ (x : Track). HasMadeCalls g c x (made_before g (at + 1) c)) t_is
+            (subst (λ (n : ℕ). HasMadeCalls g n new (made_before g (at + 1) n)) (sym same) (subst (HasMadeCalls g e.tag.conn new) (sym more) has)))
             (λ other.
             let same : made_before g (at + 1) c ≡ made_before g at c =
             ap dues_of (ap (of_connection c) (take_next g.entries at e is) ∙ of_connection-push_other c (take at g.entries) e (λ f. other (sym f))) in
-            subst (HasMade g c t) (sym same) (tracked.each c t (sym (slice_get-set_other tracks e.tag.conn c new other) ∙ there_is)));
+            subst (HasMadeCalls g c t) (sym same) (tracked.each c t (sym (slice_get-set_other tracks e.tag.conn c new other) ∙ there_is)));
       }
 
 -- the entry is the call that is next, and its reply is taken
-pub taken : (g : Given) (at : ℕ) (e : Entry) (t : Track) (reply : CallReply) → HasMade g e.tag.conn t (made_before g at e.tag.conn) → IsDueIn t.begun t.commands e → slice_get g.entries at ≡ Some e → reply ≡ e.reply
-    → HasMade g e.tag.conn (record t { begun = with_reply t.begun reply }) (made_before g at e.tag.conn ++ due_of e ∷ [])
+pub taken : (g : Given) (at : ℕ) (e : Entry) (t : Track) (reply : CallReply) → HasMadeCalls g e.tag.conn t (made_before g at e.tag.conn) → IsDueIn t.begun t.commands e → slice_get g.entries at ≡ Some e → reply ≡ e.reply
+    → HasMadeCalls g e.tag.conn (record t { begun = with_reply t.begun reply }) (made_before g at e.tag.conn ++ due_of e ∷ [])
 taken g at e t reply has due is same = go t.begun has due
   where
-    go : (o : Option Begun) → Stands g e.tag.conn t.session t.cursor o t.commands t.compared (made_before g at e.tag.conn) → IsDueIn o t.commands e
-        → Stands g e.tag.conn t.session t.cursor (with_reply o reply) t.commands t.compared (made_before g at e.tag.conn ++ due_of e ∷ [])
+    go : (o : Option Begun) → StandsAtSession g e.tag.conn t.session t.cursor o t.commands t.compared (made_before g at e.tag.conn) → IsDueIn o t.commands e
+        → StandsAtSession g e.tag.conn t.session t.cursor (with_reply o reply) t.commands t.compared (made_before g at e.tag.conn ++ due_of e ∷ [])
     go None h d = absurd d
     go (Some b) h d =
         answered g e.tag.conn t.session t.cursor b t.commands t.compared (made_before g at e.tag.conn) h e reply d.0
@@ -184,17 +184,17 @@ pub all_before : (g : Given) (conn : ℕ) → made_before g (length g.entries) c
 all_before g conn = ap (λ (l : List Entry). dues_of (of_connection conn l)) (take_all (length g.entries) g.entries (omega arith))
 
 -- a connection at its end has no call without an entry
-pub end_whole : (g : Given) (conn : ℕ) (t : Track) → HasMade g conn t (dues_of (of_connection conn g.entries)) → IsAtEnd g conn t → IsWhole g conn
+pub end_whole : (g : Given) (conn : ℕ) (t : Track) → HasMadeCalls g conn t (dues_of (of_connection conn g.entries)) → IsAtEnd g conn t → HasEveryEntry g conn
 end_whole g conn t has end =
     let all = ap (λ (l : List Due). length l) (ended_as g conn t (dues_of (of_connection conn g.entries)) has end).0 in
     let size = length-map (of_connection conn g.entries) due_of in
     omega arith
 
 -- one at a call has one, of the command that is begun
-pub call_missing : (g : Given) (conn : ℕ) (t : Track) → AreRight g → ((c : ℕ) → c < conn → IsWhole g c) → HasMade g conn t (dues_of (of_connection conn g.entries)) → IsAtCall t.begun → IsMissing g conn t.commands
+pub call_missing : (g : Given) (conn : ℕ) (t : Track) → AreRight g → ((c : ℕ) → c < conn → HasEveryEntry g c) → HasMadeCalls g conn t (dues_of (of_connection conn g.entries)) → IsAtCall t.begun → IsMissing g conn t.commands
 call_missing g conn t right first has at = go t.begun has at
   where
-    go : (o : Option Begun) → Stands g conn t.session t.cursor o t.commands t.compared (dues_of (of_connection conn g.entries)) → IsAtCall o → IsMissing g conn t.commands
+    go : (o : Option Begun) → StandsAtSession g conn t.session t.cursor o t.commands t.compared (dues_of (of_connection conn g.entries)) → IsAtCall o → IsMissing g conn t.commands
     go None h few = absurd few
     go (Some b) h few =
         let call = there (asked_in b) (length b.replies) few in
@@ -219,10 +219,10 @@ ends_more g tracks conn new within ends end c t below is = dite (ℕ_discrete c 
 
 -- those at their ends have no call without an entry
 pub ends_whole : (g : Given) (tracks : List Track) (conn : ℕ) → conn ≤ length tracks → AreTracked g (length g.entries) tracks → ((c : ℕ) (t : Track) → c < conn → slice_get tracks c ≡ Some t → IsAtEnd g c t)
-    → (c : ℕ) → c < conn → IsWhole g c
+    → (c : ℕ) → c < conn → HasEveryEntry g c
 ends_whole g tracks conn most tracked ends c below =
     let t = there tracks c (omega arith) in
-    end_whole g c t.0 (subst (HasMade g c t.0) (all_before g c) (tracked.each c t.0 t.1)) (ends c t.0 below t.1)
+    end_whole g c t.0 (subst (HasMadeCalls g c t.0) (all_before g c) (tracked.each c t.0 t.1)) (ends c t.0 below t.1)
 
 -- where all are at their ends, all is complete
 pub all_ended : (g : Given) (tracks : List Track) → AreRight g → AreTracked g (length g.entries) tracks → ((c : ℕ) (t : Track) → slice_get tracks c ≡ Some t → IsAtEnd g c t) → IsComplete g × AreEnded g tracks
@@ -234,17 +234,17 @@ all_ended g tracks right tracked ends = (
   record { count = tracked.count; each = λ c t is. (has c t is, ends c t is) },
 )
   where
-    has : (c : ℕ) (t : Track) → slice_get tracks c ≡ Some t → HasMade g c t (dues_of (of_connection c g.entries))
-    has c t is = subst (HasMade g c t) (all_before g c) (tracked.each c t is)
+    has : (c : ℕ) (t : Track) → slice_get tracks c ≡ Some t → HasMadeCalls g c t (dues_of (of_connection c g.entries))
+    has c t is = subst (HasMadeCalls g c t) (all_before g c) (tracked.each c t is)
 
 -- as many commands are done as there are
 pub ended_count : (g : Given) (tracks : List Track) (conn : ℕ) (t : Track) → AreEnded g tracks → slice_get tracks conn ≡ Some t → t.commands ≡ length (commands_held g.streams conn)
 ended_count g tracks conn t are is = let has = are.each conn t is in (ended_as g conn t (dues_of (of_connection conn g.entries)) has.0 has.1).1
 
 -- if no output was found to differ, each is the expected one
-pub end_outputs : (g : Given) (conn : ℕ) (t : Track) (made : List Due) → HasMade g conn t made → IsAtEnd g conn t → IsComplete g → t.compared.differing ≡ None → (s : ℕ) → s < length (sessions_of g.streams conn) → IsOutput g conn s
+pub end_outputs : (g : Given) (conn : ℕ) (t : Track) (made : List Due) → HasMadeCalls g conn t made → IsAtEnd g conn t → IsComplete g → t.compared.differing ≡ None → (s : ℕ) → s < length (sessions_of g.streams conn) → IsOutput g conn s
 end_outputs g conn t made has end complete none s below =
-    let h : Stands g conn t.session t.cursor None t.commands t.compared made = subst (λ (o : Option Begun). Stands g conn t.session t.cursor o t.commands t.compared made) end.0 has in
+    let h : StandsAtSession g conn t.session t.cursor None t.commands t.compared made = subst (λ (o : Option Begun). StandsAtSession g conn t.session t.cursor o t.commands t.compared made) end.0 has in
     let all : AreCompared g conn t.session [] t.compared.at None =
     subst (λ (o : Option Differing). AreCompared g conn t.session [] t.compared.at o) none (compared_all g conn t.session t.cursor t.commands t.compared made h end.1 complete) in
     let past = end.1 in

@@ -26,10 +26,10 @@ use Rattle.zy_check.specs.declared.compared.Differing.{Differing}
 use Rattle.zy_check.specs.Given.{Given, due_in, found_output, due_output, IsOutput}
 use Rattle.zy_check.specs.Cause.{agreeing_in, IsComplete}
 use Rattle.zy_check.specs.Begun.{Begun, asked_in}
-use Rattle.zy_check.specs.Comparing.{HasFirst, IsOther, AddedTo, EndedWith, Adds, Ends}
-use Rattle.zy_check.specs.Cursor.{Cursor, HasGiven}
+use Rattle.zy_check.specs.Comparing.{HasFirst, DiffersAt, AddedTo, EndedWith, AddsText, Finishes}
+use Rattle.zy_check.specs.Cursor.{Cursor, HasGivenCommands}
 use Rattle.zy_check.specs.Output.{IsDiffering}
-use Rattle.zy_check.specs.Track.{stream_of, commands_past, made_of, AreCompared, Stands}
+use Rattle.zy_check.specs.Track.{stream_of, commands_past, made_of, AreCompared, StandsAtSession}
 use Rattle.zy_check.proofs.ListLemmas.{get_append, get_behind, take_one}
 use Rattle.zy_check.proofs.DueLemmas.{commands_split}
 use Rattle.zy_check.proofs.AnswerLemmas.{replies_more, command_replies}
@@ -45,7 +45,7 @@ no_commands : (g : Given) (conn session : ℕ) → length (sessions_of g.streams
 no_commands g conn session past = ap commands_of (get_or_past (sessions_of g.streams conn) session [] past) ∙ ap (map command_of) frames_of_nil
 
 -- so where a session has a command, it is there
-session_there : (g : Given) (conn session : ℕ) (cursor : Cursor) (done : List Command) (command : Command) → HasGiven cursor (stream_of g conn session) (done ++ command ∷ []) → session < length (sessions_of g.streams conn)
+session_there : (g : Given) (conn session : ℕ) (cursor : Cursor) (done : List Command) (command : Command) → HasGivenCommands cursor (stream_of g conn session) (done ++ command ∷ []) → session < length (sessions_of g.streams conn)
 session_there g conn session cursor done command has = dite (dec_lt session (length (sessions_of g.streams conn)))
     (λ low. low)
     (λ high.
@@ -76,7 +76,7 @@ whole_from g conn session given later there is =
 
 -- ---- the command that is begun
 
-module _ (g : Given) (conn session : ℕ) (cursor : Cursor) (b : Begun) (commands : ℕ) (compared : Compared) (made : List Due) (h : Stands g conn session cursor (Some b) commands compared made) where
+module _ (g : Given) (conn session : ℕ) (cursor : Cursor) (b : Begun) (commands : ℕ) (compared : Compared) (made : List Due) (h : StandsAtSession g conn session cursor (Some b) commands compared made) where
   abbrev past : List Command
   past = commands_past g conn session
 
@@ -134,7 +134,7 @@ module _ (g : Given) (conn session : ℕ) (cursor : Cursor) (b : Begun) (command
   -- ---- it is answered
 
   pub answered : (e : Entry) (reply : CallReply) → length b.replies < length (asked_in b) → slice_get here (length b.replies) ≡ Some (due_of e) → slice_get own (length made) ≡ Some e → reply ≡ e.reply
-      → Stands g conn session cursor (Some (record b { replies = b.replies ++ reply ∷ [] })) commands compared (made ++ due_of e ∷ [])
+      → StandsAtSession g conn session cursor (Some (record b { replies = b.replies ++ reply ∷ [] })) commands compared (made ++ due_of e ∷ [])
   answered e reply few is mine same =
       let long : length (b.replies ++ reply ∷ []) ≡ length b.replies + 1 = length-append b.replies (reply ∷ []) in record {
         done = h.done;
@@ -185,7 +185,7 @@ module _ (g : Given) (conn session : ℕ) (cursor : Cursor) (b : Begun) (command
 
       -- the output is another, whatever its later texts are
       finished_differs : (at : ℕ) → ((s : ℕ) → s < session → IsOutput g conn s)
-          → ((more : List ℕ) → IsOther (found_output g conn session) ((first ++ text b.command b.replies) ++ more) at) → IsDiffering g conn session at
+          → ((more : List ℕ) → DiffersAt (found_output g conn session) ((first ++ text b.command b.replies) ++ more) at) → IsDiffering g conn session at
       finished_differs at before other =
           let more = made_of (length past + length done) later own in
           let due : due_output g conn session ≡ Some ((first ++ text b.command b.replies) ++ more) =
@@ -197,7 +197,7 @@ module _ (g : Given) (conn session : ℕ) (cursor : Cursor) (b : Begun) (command
             agrees = ap (agreeing_in (found_output g conn session)) due ∙ differs.1;
           }
 
-      finished_outputs : (after : Compared) → Adds (found_output g conn session) session (text b.command b.replies) compared after → AreCompared g conn session done after.at after.differing
+      finished_outputs : (after : Compared) → AddsText (found_output g conn session) session (text b.command b.replies) compared after → AreCompared g conn session done after.at after.differing
       finished_outputs after adds = go compared.differing refl (h.written complete).outputs
         where
           new : (o : Option Differing) → ((s : ℕ) → s < session → IsOutput g conn s) → AddedTo (found_output g conn session) session (first ++ text b.command b.replies) after.at o → AreCompared g conn session done after.at o
@@ -208,11 +208,11 @@ module _ (g : Given) (conn session : ℕ) (cursor : Cursor) (b : Begun) (command
           go None is was = new after.differing was.0 (adds.added is first was.1)
           go (Some d) is was = subst (AreCompared g conn session done after.at) (sym (ap (λ (c : Compared). c.differing) (adds.kept d is) ∙ is)) was
 
-    pub finished : (after : Compared) → Adds (found_output g conn session) session (text b.command b.replies) compared after → Stands g conn session cursor None (commands + 1) after made
+    pub finished : (after : Compared) → AddsText (found_output g conn session) session (text b.command b.replies) compared after → StandsAtSession g conn session cursor None (commands + 1) after made
     finished after adds = record {
       done = done;
       within = h.within;
-      given = subst (HasGiven cursor (stream_of g conn session)) (sym (append-nil done)) h.given;
+      given = subst (HasGivenCommands cursor (stream_of g conn session)) (sym (append-nil done)) h.given;
       count = finished_count;
       shards = tt;
       calls = finished_calls;
@@ -221,8 +221,8 @@ module _ (g : Given) (conn session : ℕ) (cursor : Cursor) (b : Begun) (command
 
 -- ---- the session ends
 
-module _ (g : Given) (conn session : ℕ) (cursor : Cursor) (commands : ℕ) (compared : Compared) (made : List Due) (h : Stands g conn session cursor None commands compared made)
-    (there : session < length (sessions_of g.streams conn)) (all : (given : List Command) → HasGiven cursor (stream_of g conn session) given → commands_of (stream_of g conn session) ≡ given) where
+module _ (g : Given) (conn session : ℕ) (cursor : Cursor) (commands : ℕ) (compared : Compared) (made : List Due) (h : StandsAtSession g conn session cursor None commands compared made)
+    (there : session < length (sessions_of g.streams conn)) (all : (given : List Command) → HasGivenCommands cursor (stream_of g conn session) given → commands_of (stream_of g conn session) ≡ given) where
   all_done : commands_of (stream_of g conn session) ≡ h.done
   all_done = all (h.done ++ []) h.given ∙ append-nil h.done
 
@@ -240,7 +240,7 @@ module _ (g : Given) (conn session : ℕ) (cursor : Cursor) (commands : ℕ) (co
     due_whole : due_output g conn session ≡ Some whole
     due_whole = due_is g conn session there ∙ ap (λ (l : List Command). Some (made_of (length (commands_past g conn session)) l (of_connection conn g.entries))) all_done
 
-    ended_outputs : (after : Compared) → Ends (found_output g conn session) session compared after → AreCompared g conn (session + 1) [] after.at after.differing
+    ended_outputs : (after : Compared) → Finishes (found_output g conn session) session compared after → AreCompared g conn (session + 1) [] after.at after.differing
     ended_outputs after ends = go compared.differing refl (h.written complete).outputs
       where
         new : (o : Option Differing) → ((s : ℕ) → s < session → IsOutput g conn s) → EndedWith (found_output g conn session) session whole after.at o → AreCompared g conn (session + 1) [] after.at o
@@ -258,7 +258,7 @@ module _ (g : Given) (conn session : ℕ) (cursor : Cursor) (commands : ℕ) (co
         go None is was = new after.differing was.0 (ends.ended is whole was.1)
         go (Some d) is was = subst (AreCompared g conn (session + 1) [] after.at) (sym (ap (λ (c : Compared). c.differing) (ends.kept d is) ∙ is)) was
 
-  pub session_ended : (next : Cursor) (after : Compared) → ((stream : List ℕ) → HasGiven next stream []) → Ends (found_output g conn session) session compared after → Stands g conn (session + 1) next None commands after made
+  pub session_ended : (next : Cursor) (after : Compared) → ((stream : List ℕ) → HasGivenCommands next stream []) → Finishes (found_output g conn session) session compared after → StandsAtSession g conn (session + 1) next None commands after made
   session_ended next after none ends = record {
     done = [];
     within = omega arith;
@@ -271,7 +271,7 @@ module _ (g : Given) (conn session : ℕ) (cursor : Cursor) (commands : ℕ) (co
 
 -- ---- the end
 
-module _ (g : Given) (conn session : ℕ) (cursor : Cursor) (commands : ℕ) (compared : Compared) (made : List Due) (h : Stands g conn session cursor None commands compared made)
+module _ (g : Given) (conn session : ℕ) (cursor : Cursor) (commands : ℕ) (compared : Compared) (made : List Due) (h : StandsAtSession g conn session cursor None commands compared made)
     (end : length (sessions_of g.streams conn) ≤ session) where
   none_done : h.done ≡ []
   none_done =

@@ -18,7 +18,7 @@ use Rattle.mc_parse.specs.Calls.{due_of, dues_of, IsDueOn}
 use Rattle.mc_parse.proofs.CallLemmas.{due_within}
 use Rattle.mc_shard.specs.Replay.{Replayed, replaying, state_replayed}
 use Rattle.zy_run.specs.Commands.{commands_held}
-use Rattle.zy_check.specs.Given.{Given, due_in, IsNext, IsNextAt, IsAnswered, IsAnsweredAt, AreRightBelow}
+use Rattle.zy_check.specs.Given.{Given, due_in, IsNextCall, IsNextAt, IsAnswered, IsAnsweredAt, AreRightBelow}
 use Rattle.zy_check.specs.Cause.{IsWrongReply}
 use Rattle.zy_check.specs.Walk.{AreReplayed}
 use Rattle.zy_check.proofs.DueLemmas.{asked_at}
@@ -115,7 +115,7 @@ all_at P (y ∷ ys) zero x all is = let same : y ≡ x = cc in subst P same (All
 all_at P (y ∷ ys) (suc k) x all is = all_at P ys k x (All-tail P y ys all) is
 
 -- the next call is on one of the shards
-pub next_within : (g : Given) (before : List Entry) (e : Entry) → 1 ≤ g.shards → IsNext g before e → e.shard < g.shards
+pub next_within : (g : Given) (before : List Entry) (e : Entry) → 1 ≤ g.shards → IsNextCall g before e → e.shard < g.shards
 next_within g before e some next =
     all_at (IsDueOn g.shards) (due_in g e.tag.conn) (length (of_connection e.tag.conn before)) (due_of e) (due_within g.shards e.tag.conn (commands_held g.streams e.tag.conn) some) next.call
 
@@ -123,7 +123,7 @@ next_within g before e some next =
 pub right_so_far : (g : Given) (at conn j : ℕ) → AreRightBelow g at → j < length (of_connection conn (take at g.entries)) → slice_get (dues_of (of_connection conn g.entries)) j ≡ slice_get (due_in g conn) j
 right_so_far g at conn j right within =
     let own = own_there conn g.entries at j within in
-    let next : IsNext g (take own.place g.entries) own.entry = subst (λ (o : Option Entry). IfSome o (IsNext g (take own.place g.entries))) own.is (right own.place own.below).0 in
+    let next : IsNextCall g (take own.place g.entries) own.entry = subst (λ (o : Option Entry). IfSome o (IsNextCall g (take own.place g.entries))) own.is (right own.place own.below).0 in
     let asked = asked_at (of_connection conn g.entries) j own.entry ((λ i. slice_get (of_connection conn g.entries) (sym own.before i)) ∙ own_here conn g.entries own.place own.entry own.is own.mine) in
     asked ∙ sym ((λ i. slice_get (due_in g (sym own.mine i)) (length (of_connection (sym own.mine i) (take own.place g.entries)))) ∙ next.call) ∙ (λ i. slice_get (due_in g conn) (own.before i))
 
@@ -166,8 +166,8 @@ state_is shards at es e states old are within found =
 -- ---- the entry at a place
 
 module _ (g : Given) (at : ℕ) (e : Entry) (is : slice_get g.entries at ≡ Some e) where
-  pub next_at : IsNext g (take at g.entries) e → IsNextAt g at
-  next_at next = subst (λ (o : Option Entry). IfSome o (IsNext g (take at g.entries))) (sym is) next
+  pub next_at : IsNextCall g (take at g.entries) e → IsNextAt g at
+  next_at next = subst (λ (o : Option Entry). IfSome o (IsNextCall g (take at g.entries))) (sym is) next
 
   module _ (states : List Replayed) (old : Replayed) (are : AreReplayed g.shards (take at g.entries) states) (within : e.shard < g.shards) (found : slice_get states e.shard ≡ Some old) where
     state_at : old.state ≡ replayed g.shards e.shard empty_state (at_shard e.shard (take at g.entries))
@@ -177,7 +177,7 @@ module _ (g : Given) (at : ℕ) (e : Entry) (is : slice_get g.entries at ≡ Som
     answered_at same = subst (λ (o : Option Entry). IfSome o (IsAnswered g (take at g.entries))) (sym is) (same ∙ ap (λ (s : State). reply_to s e.call) state_at)
 
     -- it is next, and its reply is not its shard's
-    pub is_wrong_reply : AreRightBelow g at → IsNext g (take at g.entries) e → (e.reply ≡ reply_to old.state e.call → ⊥) → IsWrongReply g at
+    pub is_wrong_reply : AreRightBelow g at → IsNextCall g (take at g.entries) e → (e.reply ≡ reply_to old.state e.call → ⊥) → IsWrongReply g at
     is_wrong_reply right next wrong = record {
       within = slice_get_within g.entries at e is;
       first = right;

@@ -17,9 +17,9 @@ use Rattle.zy_journal.specs.Journal.{AreByConnection}
 use Rattle.mc_parse.specs.Calls.{due_of, dues_of}
 use Rattle.zy_run.specs.Commands.{commands_over, commands_held}
 use Rattle.zy_run.specs.Run.{AreOfConnections, IsRun}
-use Rattle.zy_run.specs.Output.{outputs_of}
+use Rattle.zy_run.specs.Output.{connection_outputs}
 use Rattle.zy_run.specs.Spans.{held_of, AreHoldsOf, Spans}
-use Rattle.zy_check.specs.Given.{Given, due_in, IsNext, IsAnswered, AreRight}
+use Rattle.zy_check.specs.Given.{Given, due_in, IsNextCall, IsAnswered, AreRight}
 use Rattle.zy_check.specs.Cause.{IsComplete, IsRight}
 use Rattle.zy_check.proofs.WalkLemmas.{take_next, next_within, right_so_far}
 use Rattle.zy_check.proofs.RunVerdictLemmas.{element_at, no_sessions}
@@ -38,9 +38,9 @@ same_at_each (x ∷ xs) (y ∷ ys) each =
 -- ---- the entries
 
 module _ (g : Given) (right : AreRight g) where
-  is_next : (at : ℕ) (e : Entry) → slice_get g.entries at ≡ Some e → IsNext g (take at g.entries) e
+  is_next : (at : ℕ) (e : Entry) → slice_get g.entries at ≡ Some e → IsNextCall g (take at g.entries) e
   is_next at e is =
-      subst (λ (o : Option Entry). IfSome o (IsNext g (take at g.entries))) is (right at (slice_get_within g.entries at e is)).0
+      subst (λ (o : Option Entry). IfSome o (IsNextCall g (take at g.entries))) is (right at (slice_get_within g.entries at e is)).0
 
   is_answered : (at : ℕ) (e : Entry) → slice_get g.entries at ≡ Some e → IsAnswered g (take at g.entries) e
   is_answered at e is =
@@ -88,9 +88,9 @@ yes_is_run g some right = record {
 
 -- ---- the outputs
 
-pub yes_outputs : (g : Given) (conn : ℕ) → IsRight g → sessions_of g.outputs conn ≡ outputs_of conn (sessions_of g.streams conn) g.entries
+pub yes_outputs : (g : Given) (conn : ℕ) → IsRight g → sessions_of g.outputs conn ≡ connection_outputs conn (sessions_of g.streams conn) g.entries
 yes_outputs g conn right =
-    same_at_each (sessions_of g.outputs conn) (outputs_of conn (sessions_of g.streams conn) g.entries) (right.outputs conn)
+    same_at_each (sessions_of g.outputs conn) (connection_outputs conn (sessions_of g.streams conn) g.entries) (right.outputs conn)
 
 -- ---- the holds
 

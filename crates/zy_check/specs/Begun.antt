@@ -17,7 +17,8 @@ abbrev pub asked_in : Begun → List ShardCall
 asked_in a = calls_of a.shards a.command
 
 -- a command with its calls, and replies of the kinds that the first of them may get
-pub record IsKept (command : Command) (shards : ℕ) (calls : List ShardCall) (replies : List CallReply) : Type 0 where
+pub record IsPartlyAnswered (command : Command) (shards : ℕ) (calls : List ShardCall) (replies : List CallReply)
+    : Type 0 where
   pub some : 1 ≤ shards
   pub limit : shards ≤ 256
   pub calls_are : calls ≡ calls_of shards command

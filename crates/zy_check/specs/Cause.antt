@@ -6,7 +6,7 @@ use Rattle.mc_parse.specs.Calls.{Due}
 use Rattle.zy_check.specs.declared.verdict.Verdict.{Verdict}
 use Rattle.zy_check.specs.declared.verdict.Verdict.TheVariants.{Yes, No}
 use Rattle.zy_check.specs.declared.verdict.Cause.TheVariants.{NotNext, WrongReply, Missing, WrongOutput, WrongHolds}
-use Rattle.zy_check.specs.Given.{Given, IsNextAt, IsAnsweredAt, AreRightBelow, AreRight, due_in, IsWhole, found_output, due_output, IsOutput, IsHeld}
+use Rattle.zy_check.specs.Given.{Given, IsNextAt, IsAnsweredAt, AreRightBelow, AreRight, due_in, HasEveryEntry, found_output, due_output, IsOutput, IsHeld}
 
 -- ---- entries
 
@@ -29,7 +29,7 @@ pub record IsWrongReply (g : Given) (at : ℕ) : Type 0 where
 -- calls is of this command
 pub record IsMissing (g : Given) (conn index : ℕ) : Type 0 where
   pub right : AreRight g
-  pub first : (c : ℕ) → c < conn → IsWhole g c
+  pub first : (c : ℕ) → c < conn → HasEveryEntry g c
   pub call : Due
   pub is_due : slice_get (due_in g conn) (length (of_connection conn g.entries)) ≡ Some call
   pub is_of : call.tag.index ≡ index
@@ -37,7 +37,7 @@ pub record IsMissing (g : Given) (conn index : ℕ) : Type 0 where
 -- each entry is right, and each expected call has one
 pub record IsComplete (g : Given) : Type 0 where
   pub right : AreRight g
-  pub whole : (conn : ℕ) → IsWhole g conn
+  pub whole : (conn : ℕ) → HasEveryEntry g conn
 
 -- ---- outputs
 

@@ -10,17 +10,17 @@ HasFirst None made at = (made ≡ []) × (at ≡ 0)
 HasFirst (Some found) made at = (at ≤ length found) × (take at found ≡ made)
 
 -- the output that was found is not the expected one, and `at` first bytes agree
-abbrev pub IsOther : Option (List ℕ) → List ℕ → ℕ → Type 0
-IsOther found due at = (found ≢ Some due) × (agreeing_in found (Some due) ≡ at)
+abbrev pub DiffersAt : Option (List ℕ) → List ℕ → ℕ → Type 0
+DiffersAt found due at = (found ≢ Some due) × (agreeing_in found (Some due) ≡ at)
 
 -- this was made so far and is found, or the output differs, whatever is made after it
 abbrev pub AddedTo : Option (List ℕ) → ℕ → List ℕ → ℕ → Option Differing → Type 0
 AddedTo found session made at None = HasFirst found made at
 AddedTo found session made at (Some d) =
-    (d.session ≡ session) × ((behind : List ℕ) → IsOther found (made ++ behind) d.at)
+    (d.session ≡ session) × ((behind : List ℕ) → DiffersAt found (made ++ behind) d.at)
 
 -- a further text of an output is compared
-pub record Adds (found : Option (List ℕ)) (session : ℕ) (text : List ℕ) (before after : Compared) : Type 0 where
+pub record AddsText (found : Option (List ℕ)) (session : ℕ) (text : List ℕ) (before after : Compared) : Type 0 where
   pub kept : (d : Differing) → before.differing ≡ Some d → after ≡ before
   pub added : before.differing ≡ None → (made : List ℕ) → HasFirst found made before.at
       → AddedTo found session (made ++ text) after.at after.differing
@@ -28,10 +28,10 @@ pub record Adds (found : Option (List ℕ)) (session : ℕ) (text : List ℕ) (b
 -- this was made and is what was found, or the output is another
 abbrev pub EndedWith : Option (List ℕ) → ℕ → List ℕ → ℕ → Option Differing → Type 0
 EndedWith found session made at None = (found ≡ Some made) × (at ≡ 0)
-EndedWith found session made at (Some d) = (d.session ≡ session) × IsOther found made d.at
+EndedWith found session made at (Some d) = (d.session ≡ session) × DiffersAt found made d.at
 
 -- an output is compared to its end
-pub record Ends (found : Option (List ℕ)) (session : ℕ) (before after : Compared) : Type 0 where
+pub record Finishes (found : Option (List ℕ)) (session : ℕ) (before after : Compared) : Type 0 where
   pub kept : (d : Differing) → before.differing ≡ Some d → after ≡ before
   pub ended : before.differing ≡ None → (made : List ℕ) → HasFirst found made before.at
       → EndedWith found session made after.at after.differing

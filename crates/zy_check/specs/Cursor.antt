@@ -13,7 +13,7 @@ pub record Cursor : Type 0 where
   pub at : ℕ
 
 -- of a stream, these commands were given
-pub record HasGiven (cursor : Cursor) (stream : List ℕ) (given : List Command) : Type 0 where
+pub record HasGivenCommands (cursor : Cursor) (stream : List ℕ) (given : List Command) : Type 0 where
   pub within : cursor.at ≤ length stream
   pub stands : StandsFor cursor.framer (take cursor.at stream)
   pub all : commands_of (take cursor.at stream) ≡ given ++ map command_of cursor.frames
@@ -21,6 +21,7 @@ pub record HasGiven (cursor : Cursor) (stream : List ℕ) (given : List Command)
 -- one further command was given, or all are
 abbrev pub GaveNext : Cursor → Cursor → List ℕ → Option Command → Type 0
 GaveNext before after stream None =
-    (given : List Command) → HasGiven before stream given → commands_of stream ≡ given
+    (given : List Command) → HasGivenCommands before stream given → commands_of stream ≡ given
 GaveNext before after stream (Some command) =
-    (given : List Command) → HasGiven before stream given → HasGiven after stream (given ++ command ∷ [])
+    (given : List Command) → HasGivenCommands before stream given
+    → HasGivenCommands after stream (given ++ command ∷ [])

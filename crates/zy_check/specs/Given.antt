@@ -11,7 +11,7 @@ use Rattle.zy_capture.specs.Streams.{sessions_of}
 use Rattle.zy_journal.specs.declared.journal.Journal.{Journal}
 use Rattle.mc_parse.specs.Calls.{Due, due, due_of}
 use Rattle.zy_run.specs.Commands.{commands_held}
-use Rattle.zy_run.specs.Output.{outputs_of}
+use Rattle.zy_run.specs.Output.{connection_outputs}
 use Rattle.zy_run.specs.Spans.{held_of}
 
 -- the number of shards, the streams of all connections' sessions, a journal's entries and holds,
@@ -24,8 +24,8 @@ pub record Given : Type 0 where
   pub outputs : List (List (List ℕ))
 
 -- streams, a journal and outputs, on `shards` shards
-abbrev pub given : ℕ → List (List (List ℕ)) → Journal → AllOutputs → Given
-given shards streams journal outputs =
+abbrev pub all_given : ℕ → List (List (List ℕ)) → Journal → AllOutputs → Given
+all_given shards streams journal outputs =
     record {
       shards = shards;
       streams = streams;
@@ -41,7 +41,7 @@ abbrev pub due_in : Given → ℕ → List Due
 due_in g conn = due g.shards conn (commands_held g.streams conn)
 
 -- an entry is the next call of its connection, after these entries
-pub record IsNext (g : Given) (before : List Entry) (e : Entry) : Type 0 where
+pub record IsNextCall (g : Given) (before : List Entry) (e : Entry) : Type 0 where
   -- the connection exists
   pub connection : e.tag.conn < length g.streams
   -- the entry is the first of its expected calls for which there is no entry yet
@@ -54,7 +54,7 @@ IsAnswered g before e =
 
 -- the entry at a place is the next call of its connection
 abbrev pub IsNextAt : Given → ℕ → Type 0
-IsNextAt g at = IfSome (slice_get g.entries at) (IsNext g (take at g.entries))
+IsNextAt g at = IfSome (slice_get g.entries at) (IsNextCall g (take at g.entries))
 
 -- the entry at a place has the reply that its shard gives at that point
 abbrev pub IsAnsweredAt : Given → ℕ → Type 0
@@ -71,8 +71,8 @@ AreRight g = AreRightBelow g (length g.entries)
 -- ---- calls
 
 -- each expected call of a connection has an entry
-abbrev pub IsWhole : Given → ℕ → Type 0
-IsWhole g conn = length (due_in g conn) ≤ length (of_connection conn g.entries)
+abbrev pub HasEveryEntry : Given → ℕ → Type 0
+HasEveryEntry g conn = length (due_in g conn) ≤ length (of_connection conn g.entries)
 
 -- ---- outputs
 
@@ -82,7 +82,7 @@ found_output g conn session = slice_get (sessions_of g.outputs conn) session
 
 -- the expected output of a session, if there is one
 abbrev pub due_output : Given → ℕ → ℕ → Option (List ℕ)
-due_output g conn session = slice_get (outputs_of conn (sessions_of g.streams conn) g.entries) session
+due_output g conn session = slice_get (connection_outputs conn (sessions_of g.streams conn) g.entries) session
 
 -- the output of a session is the expected one, or there is none and none is expected
 abbrev pub IsOutput : Given → ℕ → ℕ → Type 0

@@ -8,13 +8,13 @@ use Rattle.zy_check.specs.declared.verdict.Cause.{Cause}
 use Rattle.zy_check.specs.declared.verdict.Verdict.TheVariants.{No}
 use Rattle.zy_check.specs.Given.{Given}
 use Rattle.zy_check.specs.Cause.{IsComplete, HasVerdict}
-use Rattle.zy_check.specs.Track.{HasMade, IsAtEnd}
+use Rattle.zy_check.specs.Track.{HasMadeCalls, IsAtEnd}
 
 -- each connection is at its end, after the calls of its entries
 pub record AreEnded (g : Given) (tracks : List Track) : Type 0 where
   pub count : length tracks ≡ length g.streams
   pub each : (conn : ℕ) (t : Track) → slice_get tracks conn ≡ Some t
-      → HasMade g conn t (dues_of (of_connection conn g.entries)) × IsAtEnd g conn t
+      → HasMadeCalls g conn t (dues_of (of_connection conn g.entries)) × IsAtEnd g conn t
 
 -- each expected call has an entry, and each connection is at its end, or this is the first cause
 abbrev pub FoundMissing : Given → List Track → Option Cause → Type 0

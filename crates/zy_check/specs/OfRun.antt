@@ -6,16 +6,16 @@ use Rattle.zy_capture.specs.Streams.{sessions_of, no_bytes, with_records}
 use Rattle.zy_journal.specs.declared.journal.Journal.{Journal}
 use Rattle.zy_run.specs.Commands.{streams_in, commands_in, commands_held}
 use Rattle.zy_run.specs.Run.{IsRun}
-use Rattle.zy_run.specs.Output.{outputs_of, all_outputs}
+use Rattle.zy_run.specs.Output.{connection_outputs, all_outputs}
 use Rattle.zy_run.specs.Spans.{Spans}
-use Rattle.zy_check.specs.Given.{Given, given}
+use Rattle.zy_check.specs.Given.{Given, all_given}
 
 -- what was given is a run's
-pub record IsOfRun (g : Given) : Type 0 where
+pub record IsGivenByRun (g : Given) : Type 0 where
   -- the entries are one run of the commands of all streams
   pub run : IsRun g.shards g.entries (length g.streams) (commands_held g.streams)
   -- each connection has the outputs of that run
-  pub outputs : (conn : ℕ) → sessions_of g.outputs conn ≡ outputs_of conn (sessions_of g.streams conn) g.entries
+  pub outputs : (conn : ℕ) → sessions_of g.outputs conn ≡ connection_outputs conn (sessions_of g.streams conn) g.entries
   -- and the holds span the commands
   pub holds : Spans g.holds (length g.streams) (commands_held g.streams)
 
@@ -27,5 +27,6 @@ pub record AreOfRun (shards count : ℕ) (records : List Record) (journal : Jour
   pub holds : Spans journal.holds count (commands_in records)
 
 -- these records' streams, a journal and outputs
-abbrev pub given_of : ℕ → ℕ → List Record → Journal → AllOutputs → Given
-given_of shards count records journal outputs = given shards (with_records (no_bytes count) records) journal outputs
+abbrev pub given_by_records : ℕ → ℕ → List Record → Journal → AllOutputs → Given
+given_by_records shards count records journal outputs =
+    all_given shards (with_records (no_bytes count) records) journal outputs

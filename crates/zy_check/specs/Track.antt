@@ -17,7 +17,7 @@ use Rattle.zy_check.specs.Given.{Given, found_output, IsOutput}
 use Rattle.zy_check.specs.Cause.{IsComplete}
 use Rattle.zy_check.specs.Begun.{Begun, asked_in}
 use Rattle.zy_check.specs.Comparing.{HasFirst}
-use Rattle.zy_check.specs.Cursor.{Cursor, HasGiven}
+use Rattle.zy_check.specs.Cursor.{Cursor, HasGivenCommands}
 use Rattle.zy_check.specs.Output.{IsDiffering}
 
 -- ---- the command that is begun
@@ -48,9 +48,9 @@ IsAtCall None = ⊥
 IsAtCall (Some b) = length b.replies < length (asked_in b)
 
 -- none of its calls is left
-abbrev pub IsDone : Option Begun → Type 0
-IsDone None = ⊤
-IsDone (Some b) = length (asked_in b) ≡ length b.replies
+abbrev pub HasNoCallLeft : Option Begun → Type 0
+HasNoCallLeft None = ⊤
+HasNoCallLeft (Some b) = length (asked_in b) ≡ length b.replies
 
 -- with one further reply
 abbrev pub with_reply : Option Begun → CallReply → Option Begun
@@ -94,12 +94,12 @@ pub record AreWritten (g : Given) (conn session : ℕ) (done : List Command) (be
 
 -- a connection at a place of a session, with this command in progress, `commands` commands done,
 -- and its outputs compared so far, after these calls were made
-pub record Stands (g : Given) (conn session : ℕ) (cursor : Cursor) (begun : Option Begun) (commands : ℕ)
+pub record StandsAtSession (g : Given) (conn session : ℕ) (cursor : Cursor) (begun : Option Begun) (commands : ℕ)
     (compared : Compared) (made : List Due) : Type 0 where
   -- the commands of the session that are done
   pub done : List Command
   pub within : session ≤ length (sessions_of g.streams conn)
-  pub given : HasGiven cursor (stream_of g conn session) (done ++ begun_in begun)
+  pub given : HasGivenCommands cursor (stream_of g conn session) (done ++ begun_in begun)
   pub count : commands ≡ length (commands_past g conn session ++ done)
   pub shards : IsOn g.shards begun
   pub calls : made
@@ -107,8 +107,8 @@ pub record Stands (g : Given) (conn session : ℕ) (cursor : Cursor) (begun : Op
   pub written : IsComplete g → AreWritten g conn session done begun compared
 
 -- the state of a connection of what is given, after these calls were made
-abbrev pub HasMade : Given → ℕ → Track → List Due → Type 0
-HasMade g conn t made = Stands g conn t.session t.cursor t.begun t.commands t.compared made
+abbrev pub HasMadeCalls : Given → ℕ → Track → List Due → Type 0
+HasMadeCalls g conn t made = StandsAtSession g conn t.session t.cursor t.begun t.commands t.compared made
 
 -- it has no further session to read
 abbrev pub IsAtEnd : Given → ℕ → Track → Type 0

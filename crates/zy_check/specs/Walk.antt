@@ -12,14 +12,14 @@ use Rattle.zy_check.specs.declared.verdict.Cause.{Cause}
 use Rattle.zy_check.specs.declared.verdict.Verdict.TheVariants.{No}
 use Rattle.zy_check.specs.Given.{Given, AreRight, AreRightBelow}
 use Rattle.zy_check.specs.Begun.{Begun, asked_in}
-use Rattle.zy_check.specs.Track.{HasMade}
+use Rattle.zy_check.specs.Track.{HasMadeCalls}
 use Rattle.zy_check.specs.Cause.{HasVerdict}
 
 -- each connection is in the state after the calls of its entries before a place
 pub record AreTracked (g : Given) (at : ℕ) (tracks : List Track) : Type 0 where
   pub count : length tracks ≡ length g.streams
   pub each : (conn : ℕ) (t : Track) → slice_get tracks conn ≡ Some t
-      → HasMade g conn t (dues_of (of_connection conn (take at g.entries)))
+      → HasMadeCalls g conn t (dues_of (of_connection conn (take at g.entries)))
 
 -- `shards` shards after the calls of entries
 pub record AreReplayed (shards : ℕ) (es : List Entry) (states : List Replayed) : Type 0 where
@@ -29,7 +29,7 @@ pub record AreReplayed (shards : ℕ) (es : List Entry) (states : List Replayed)
 
 -- connections and shards are in the state before the entry at a place, and each entry before it is
 -- right
-pub record AreAt (g : Given) (at : ℕ) (tracks : List Track) (states : List Replayed) : Type 0 where
+pub record AreBeforeEntry (g : Given) (at : ℕ) (tracks : List Track) (states : List Replayed) : Type 0 where
   pub some : 1 ≤ g.shards
   pub tracked : AreTracked g at tracks
   pub replays : AreReplayed g.shards (take at g.entries) states
@@ -49,7 +49,7 @@ pub record IsNextIn (tracks : List Track) (e : Entry) : Type 0 where
 -- the entry at a place is right, and connections and shards are in the state after it, or this is
 -- the first cause
 abbrev pub FoundAt : Given → ℕ → List Track → List Replayed → Option Cause → Type 0
-FoundAt g at tracks states None = AreAt g (at + 1) tracks states
+FoundAt g at tracks states None = AreBeforeEntry g (at + 1) tracks states
 FoundAt g at tracks states (Some cause) = HasVerdict g (No cause)
 
 -- each entry is right, and each connection is in the state after its last, or this is the first cause

@@ -23,13 +23,13 @@ pub struct Begun {
 }
 
 impl Model for Begun {
-    ghost use Rattle.zy_check.specs.Begun.{Begun, IsKept};
+    ghost use Rattle.zy_check.specs.Begun.{Begun, IsPartlyAnswered};
 
     ghost Value = { Begun };
 
     ghost view = { λ b. record { command = b.command; shards = b.shards; replies = b.replies } };
 
-    ghost invariant = { λ b. IsKept b.command b.shards b.calls b.replies };
+    ghost invariant = { λ b. IsPartlyAnswered b.command b.shards b.calls b.replies };
 }
 
 impl Begun {

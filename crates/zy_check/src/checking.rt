@@ -1,6 +1,6 @@
 //! Whether a journal and outputs are those of a run.
 ghost use Rattle.std.specs.Prelude.{◌≡◌, ◌≤◌, length, IfOk};
-ghost use Rattle.zy_check.specs.Given.{Given, given};
+ghost use Rattle.zy_check.specs.Given.{Given, all_given};
 ghost use Rattle.zy_check.specs.Cause.{HasVerdict};
 ghost use Rattle.zy_check.specs.Missing.{FoundMissing};
 ghost use Rattle.zy_check.specs.Walk.{AreTracked};
@@ -30,7 +30,7 @@ pub fn check(
     requires some { 1 ≤ shards }
     requires limit { shards ≤ 256 }
     ensures verdict { IfOk result
-        (HasVerdict (given shards streams.now journal.now outputs.now)) }
+        (HasVerdict (all_given shards streams.now journal.now outputs.now)) }
 {
     let files = Files::new(streams, journal, outputs, shards);
     let mut tracks = at_start(alloc, files.count())?;

@@ -1,6 +1,6 @@
 //! Comparing outputs, text by text.
 ghost use Rattle.std.specs.Prelude.{◌≡◌, drop, Some, option_map};
-ghost use Rattle.zy_check.specs.Comparing.{Adds, Ends};
+ghost use Rattle.zy_check.specs.Comparing.{AddsText, Finishes};
 
 use crate::bytes::agreeing;
 
@@ -21,7 +21,7 @@ pub struct Compared {
 impl Compared {
     /// Compares the next text with what was found of this session's output.
     pub fn add(&mut self, found: Option<&[u8]>, session: u32, text: &[u8])
-        ensures added { Adds (option_map (λ bytes. bytes.now) found.entry) session text.now
+        ensures added { AddsText (option_map (λ bytes. bytes.now) found.entry) session text.now
             self.old self.new }
     {
         if self.differing.is_some() {
@@ -40,7 +40,7 @@ impl Compared {
 
     /// The output of this session is whole.
     pub fn end(&mut self, found: Option<&[u8]>, session: u32)
-        ensures ended { Ends (option_map (λ bytes. bytes.now) found.entry) session
+        ensures ended { Finishes (option_map (λ bytes. bytes.now) found.entry) session
             self.old self.new }
     {
         if self.differing.is_some() {

@@ -1,7 +1,7 @@
 //! The commands of a stream, one at a time.
 ghost use Rattle.std.specs.Prelude.{◌≡◌, ◌<◌, ◌≤◌, ℕ, List, [], length, IfOk, OnOk};
 ghost use Rattle.mc_parse.specs.declared.command.Command.{Command};
-ghost use Rattle.zy_check.specs.Cursor.{HasGiven, GaveNext};
+ghost use Rattle.zy_check.specs.Cursor.{HasGivenCommands, GaveNext};
 
 use mc_parse::Command;
 use std::alloc::Global;
@@ -34,7 +34,7 @@ impl Model for Cursor {
 impl Cursor {
     /// At the start of a stream. Takes no memory.
     pub fn new(alloc: Global) -> Cursor
-        ensures none { (stream : List ℕ) → HasGiven result stream [] }
+        ensures none { (stream : List ℕ) → HasGivenCommands result stream [] }
     {
         Cursor {
             alloc,
@@ -67,8 +67,9 @@ impl Cursor {
     fn read_on(&mut self, stream: &[u8]) -> Result<(), NoMemory>
         requires more { self.old.at < length stream.now }
         ensures on { OnOk result (self.old.at < self.new.at) }
-        ensures same { OnOk result ((given : List Command) → HasGiven self.old stream.now given
-            → HasGiven self.new stream.now given) }
+        ensures same { OnOk result ((given : List Command)
+            → HasGivenCommands self.old stream.now given
+            → HasGivenCommands self.new stream.now given) }
     {
         let end = piece_end(self.at, stream.len());
         self.framer.feed(&stream[self.at..end], &mut self.frames)?;

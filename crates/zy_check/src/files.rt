@@ -2,7 +2,7 @@
 ghost use Rattle.std.specs.Prelude.{◌≡◌, ◌^◌, ◌<◌, ◌≤◌, [], length, option_map};
 ghost use Rattle.std.specs.List.{slice_index_or};
 ghost use Rattle.zy_capture.specs.Streams.{sessions_of};
-ghost use Rattle.zy_check.specs.Given.{given, found_output};
+ghost use Rattle.zy_check.specs.Given.{all_given, found_output};
 
 use std::marker::Model;
 use zy_base::Hold;
@@ -20,11 +20,11 @@ pub struct Files<'a> {
 
 impl<'a> Model for Files<'a> {
     ghost use Rattle.std.specs.Prelude.{◌≤◌};
-    ghost use Rattle.zy_check.specs.Given.{Given, given};
+    ghost use Rattle.zy_check.specs.Given.{Given, all_given};
 
     ghost Value = { Given };
 
-    ghost view = { λ f. given f.shards f.streams.now f.journal.now f.outputs.now };
+    ghost view = { λ f. all_given f.shards f.streams.now f.journal.now f.outputs.now };
 
     ghost invariant = { λ f. (1 ≤ f.shards) × (f.shards ≤ 256) };
 }
@@ -39,7 +39,7 @@ impl<'a> Files<'a> {
     ) -> Files<'a>
         requires some { 1 ≤ shards }
         requires limit { shards ≤ 256 }
-        ensures value { result ≡ given shards streams.now journal.now outputs.now }
+        ensures value { result ≡ all_given shards streams.now journal.now outputs.now }
     {
         Files {
             streams,

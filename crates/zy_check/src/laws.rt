@@ -13,13 +13,13 @@ ghost use Rattle.zy_journal.specs.declared.journal.Journal.{Journal};
 ghost use Rattle.zy_journal.specs.Journal.{AreByConnection, IsJournal, journal_bytes};
 ghost use Rattle.zy_run.specs.Commands.{commands_held};
 ghost use Rattle.zy_run.specs.Run.{IsRun};
-ghost use Rattle.zy_run.specs.Output.{outputs_of};
+ghost use Rattle.zy_run.specs.Output.{connection_outputs};
 ghost use Rattle.zy_run.specs.Spans.{Spans};
 ghost use Rattle.zy_check.specs.declared.verdict.Verdict.{Verdict};
 ghost use Rattle.zy_check.specs.declared.verdict.Verdict.TheVariants.{Yes};
 ghost use Rattle.zy_check.specs.Given.{Given};
 ghost use Rattle.zy_check.specs.Cause.{HasVerdict};
-ghost use Rattle.zy_check.specs.OfRun.{IsOfRun, AreOfRun, given_of};
+ghost use Rattle.zy_check.specs.OfRun.{IsGivenByRun, AreOfRun, given_by_records};
 
 /// On whatever is given there is one verdict.
 pub fn there_is_one_verdict()
@@ -31,8 +31,8 @@ pub fn there_is_one_verdict()
 
 /// If what is given is a run's, the verdict is yes, and no other is.
 pub fn a_run_is_right()
-    ensures right { (g : Given) → IsOfRun g → HasVerdict g Yes }
-    ensures only { (g : Given) (v : Verdict) → IsOfRun g → HasVerdict g v → v ≡ Yes }
+    ensures right { (g : Given) → IsGivenByRun g → HasVerdict g Yes }
+    ensures only { (g : Given) (v : Verdict) → IsGivenByRun g → HasVerdict g v → v ≡ Yes }
 {}
 
 /// If the verdict is yes, what is given is a run's; for holds this is stated if they are in the
@@ -41,7 +41,8 @@ pub fn yes_means_a_run()
     ensures run { (g : Given) → 1 ≤ g.shards → HasVerdict g Yes
         → IsRun g.shards g.entries (length g.streams) (commands_held g.streams) }
     ensures outputs { (g : Given) (conn : ℕ) → HasVerdict g Yes
-        → sessions_of g.outputs conn ≡ outputs_of conn (sessions_of g.streams conn) g.entries }
+        → sessions_of g.outputs conn ≡ connection_outputs conn (sessions_of g.streams conn)
+        g.entries }
     ensures holds { (g : Given) → AreByConnection 0 g.holds
         → AllByRecursion (λ (h : Hold). 0 < h.count) g.holds → HasVerdict g Yes
         → Spans g.holds (length g.streams) (commands_held g.streams) }
@@ -54,10 +55,10 @@ pub fn yes_means_a_run()
 pub fn served_runs_check()
     ensures right { (shards count : ℕ) (records : List Record) (journal : Journal)
         (outputs : AllOutputs) → AreOfRun shards count records journal outputs
-        → HasVerdict (given_of shards count records journal outputs) Yes }
+        → HasVerdict (given_by_records shards count records journal outputs) Yes }
     ensures only { (shards count : ℕ) (records : List Record) (journal : Journal)
         (outputs : AllOutputs) (v : Verdict) → AreOfRun shards count records journal outputs
-        → HasVerdict (given_of shards count records journal outputs) v → v ≡ Yes }
+        → HasVerdict (given_by_records shards count records journal outputs) v → v ≡ Yes }
 {}
 
 /// Where the verdict on a journal and outputs that have a spelling and a capture's streams is yes,
@@ -65,7 +66,7 @@ pub fn served_runs_check()
 pub fn what_checks_is_of_a_run()
     ensures run { (shards count : ℕ) (records : List Record) (journal : Journal)
         (outputs : AllOutputs) → 1 ≤ shards → IsJournal journal → AreOutputs outputs
-        → HasVerdict (given_of shards count records journal outputs) Yes
+        → HasVerdict (given_by_records shards count records journal outputs) Yes
         → AreOfRun shards count records journal outputs }
     ensures order { (journal : Journal) → IsJournal journal → IsOrdered None journal.entries }
 {}

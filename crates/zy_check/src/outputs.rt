@@ -5,7 +5,7 @@ ghost use Rattle.mc_parse.specs.Calls.{dues_of};
 ghost use Rattle.zy_check.specs.Cause.{IsComplete};
 ghost use Rattle.zy_check.specs.Missing.{AreEnded};
 ghost use Rattle.zy_check.specs.Output.{FoundDiffering, FoundOutput};
-ghost use Rattle.zy_check.specs.Track.{HasMade, IsAtEnd};
+ghost use Rattle.zy_check.specs.Track.{HasMadeCalls, IsAtEnd};
 
 use crate::compared::Differing;
 use crate::files::Files;
@@ -39,7 +39,7 @@ pub fn first_output(files: &Files, tracks: &[Track]) -> Option<Cause>
 fn first_differing(files: &Files, track: &Track, conn: u32) -> Option<Differing>
     requires within { conn < length files.now.streams }
     requires complete { IsComplete files.now }
-    requires made { HasMade files.now conn track.now (dues_of (of_connection conn files.now.entries)) }
+    requires made { HasMadeCalls files.now conn track.now (dues_of (of_connection conn files.now.entries)) }
     requires end { IsAtEnd files.now conn track.now }
     ensures found { FoundDiffering files.now conn result }
 {

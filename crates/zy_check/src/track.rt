@@ -7,10 +7,10 @@ ghost use Rattle.zy_capture.specs.Streams.{sessions_of};
 ghost use Rattle.mc_parse.specs.declared.shard_call.ShardCall.{ShardCall};
 ghost use Rattle.mc_parse.specs.Calls.{Due, due_at, due_of};
 ghost use Rattle.zy_check.specs.Given.{Given, found_output};
-ghost use Rattle.zy_check.specs.Cursor.{HasGiven};
-ghost use Rattle.zy_check.specs.Comparing.{Ends};
+ghost use Rattle.zy_check.specs.Cursor.{HasGivenCommands};
+ghost use Rattle.zy_check.specs.Comparing.{Finishes};
 ghost use Rattle.zy_check.specs.Begun.{Begun, asked_in};
-ghost use Rattle.zy_check.specs.Track.{HasMade, IsAtCall, IsAtEnd, IsDone, with_reply};
+ghost use Rattle.zy_check.specs.Track.{HasMadeCalls, IsAtCall, IsAtEnd, HasNoCallLeft, with_reply};
 
 use crate::begun::Begun;
 use crate::compared::{Compared, Differing};
@@ -35,7 +35,7 @@ pub struct Track {
 impl Track {
     /// At the start of a connection's first session. Takes no memory.
     pub fn new(alloc: Global) -> Track
-        ensures none { (g : Given) (conn : ℕ) → HasMade g conn result [] }
+        ensures none { (g : Given) (conn : ℕ) → HasMadeCalls g conn result [] }
     {
         Track {
             alloc,
@@ -68,8 +68,8 @@ impl Track {
     /// the commands before it are compared.
     pub fn go_on(&mut self, files: &Files, conn: u32) -> Result<bool, NoMemory>
         requires within { conn < length files.now.streams }
-        ensures kept { OnOk result ((made : List Due) → HasMade files.now conn self.old made
-            → HasMade files.now conn self.new made) }
+        ensures kept { OnOk result ((made : List Due) → HasMadeCalls files.now conn self.old made
+            → HasMadeCalls files.now conn self.new made) }
         ensures next { IfOk result (λ there. there ≡ true → IsAtCall self.new.begun) }
         ensures end { IfOk result (λ there. there ≡ false → IsAtEnd files.now conn self.new) }
     {
@@ -116,7 +116,7 @@ impl Track {
     // Whether a call is next of the command that is begun.
     fn is_at_call(&self) -> bool
         ensures call { result ≡ true → IsAtCall self.now.begun }
-        ensures done { result ≡ false → IsDone self.now.begun }
+        ensures done { result ≡ false → HasNoCallLeft self.now.begun }
     {
         match &self.begun {
             Some(begun) => !begun.is_done(),
@@ -126,9 +126,9 @@ impl Track {
 
     // Compares the text of the command that is begun, where there is one. Its calls are answered.
     fn finish(&mut self, files: &Files, conn: u32) -> Result<(), NoMemory>
-        requires done { IsDone self.old.begun }
-        ensures kept { OnOk result ((made : List Due) → HasMade files.now conn self.old made
-            → HasMade files.now conn self.new made) }
+        requires done { HasNoCallLeft self.old.begun }
+        ensures kept { OnOk result ((made : List Due) → HasMadeCalls files.now conn self.old made
+            → HasMadeCalls files.now conn self.new made) }
         ensures none { OnOk result (self.new.begun ≡ None) }
     {
         let Some(begun) = &self.begun else {
@@ -150,8 +150,8 @@ impl Track {
     fn begin(&mut self, files: &Files, conn: u32) -> Result<bool, NoMemory>
         requires within { conn < length files.now.streams }
         requires none { self.old.begun ≡ None }
-        ensures kept { OnOk result ((made : List Due) → HasMade files.now conn self.old made
-            → HasMade files.now conn self.new made) }
+        ensures kept { OnOk result ((made : List Due) → HasMadeCalls files.now conn self.old made
+            → HasMadeCalls files.now conn self.new made) }
         ensures end { IfOk result (λ there. there ≡ false → IsAtEnd files.now conn self.new) }
     {
         if files.sessions(conn) <= self.session {
@@ -172,9 +172,9 @@ impl Track {
         requires within { self.old.session < length (sessions_of files.now.streams conn) }
         requires limit { length (sessions_of files.now.streams conn) ≤ 2 ^ 31 }
         ensures session { self.new.session ≡ self.old.session + 1 }
-        ensures cursor { (stream : List ℕ) → HasGiven self.new.cursor stream [] }
+        ensures cursor { (stream : List ℕ) → HasGivenCommands self.new.cursor stream [] }
         ensures same { (self.new.begun ≡ self.old.begun) × (self.new.commands ≡ self.old.commands) }
-        ensures compared { Ends (found_output files.now conn self.old.session) self.old.session
+        ensures compared { Finishes (found_output files.now conn self.old.session) self.old.session
             self.old.compared self.new.compared }
     {
         self.compared

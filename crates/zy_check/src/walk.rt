@@ -3,8 +3,8 @@ ghost use Rattle.std.specs.Prelude.{◌≡◌, ◌↔◌, ◌≤◌, ℕ, true, 
 ghost use Rattle.std.specs.List.{slice_get};
 ghost use Rattle.zy_base.specs.Shard.{reply_to};
 ghost use Rattle.mc_shard.specs.Replay.{state_replayed};
-ghost use Rattle.zy_check.specs.Given.{IsNext};
-ghost use Rattle.zy_check.specs.Walk.{AreAt, AreReplayed, AreTracked, FoundAt, FoundWrong, IsNextIn};
+ghost use Rattle.zy_check.specs.Given.{IsNextCall};
+ghost use Rattle.zy_check.specs.Walk.{AreBeforeEntry, AreReplayed, AreTracked, FoundAt, FoundWrong, IsNextIn};
 
 use crate::files::Files;
 use crate::track::Track;
@@ -46,7 +46,7 @@ fn wrong_at(
     states: &mut Vec<Replay>,
 ) -> Result<Option<Cause>, NoMemory>
     requires is { slice_get files.now.entries at ≡ Some entry.now }
-    requires here { AreAt files.now at tracks.old states.old.items }
+    requires here { AreBeforeEntry files.now at tracks.old states.old.items }
     ensures found { IfOk result (FoundAt files.now at tracks.new states.new.items) }
 {
     if !is_next(files, tracks, entry)? {
@@ -65,7 +65,7 @@ fn is_next(files: &Files, tracks: &mut [Track], entry: &Entry) -> Result<bool, N
     ensures kept { OnOk result ((at : ℕ) → AreTracked files.now at tracks.old
         → AreTracked files.now at tracks.new) }
     ensures exact { IfOk result (λ next. (at : ℕ) → AreTracked files.now at tracks.old
-        → next ≡ true ↔ IsNext files.now (take at files.now.entries) entry.now) }
+        → next ≡ true ↔ IsNextCall files.now (take at files.now.entries) entry.now) }
     ensures there { IfOk result (λ next. next ≡ true → IsNextIn tracks.new entry.now) }
 {
     let conn = entry.tag.conn;

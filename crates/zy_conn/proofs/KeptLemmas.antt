@@ -21,9 +21,9 @@ use Rattle.mc_store.specs.Pass.{Passed}
 use Rattle.zy_calls.specs.Batch.{Batch, no_text}
 use Rattle.zy_frame.specs.Frame.{command_of}
 use Rattle.zy_rx.specs.Ring.{RingName}
-use Rattle.zy_conn.specs.Work.{Start, idle, raw, going, Worked, worked, commands_of_frames, texts_all, texts_taken}
-use Rattle.zy_conn.specs.Kept.{command_begun, dues_begun, replies_begun, IsGoingOn, IsBegun, Kept}
-use Rattle.zy_conn.specs.Step.{IsPart}
+use Rattle.zy_conn.specs.Work.{Start, idle, raw, going, Worked, work_of_pass, commands_of_frames, texts_all, texts_taken}
+use Rattle.zy_conn.specs.Kept.{command_begun, dues_begun, replies_begun, IsGoingOn, IsBegunCommand, KeepsCommands}
+use Rattle.zy_conn.specs.Step.{IsMadeAsPart}
 
 -- ---- lists
 
@@ -54,7 +54,7 @@ texts_more count commands command entries within =
     ∙ take-append-le count (texts_of commands entries) (text command (replies_at (length commands) entries) ∷ []) (omega arith)
 
 -- nothing was offered yet
-kept_new : (p : Passed) (r : RingName) (known : List FrameKind) → r.capacity ≡ 64 → p.calls ≡ [] → Kept (worked p r [] known idle 0 0 [])
+kept_new : (p : Passed) (r : RingName) (known : List FrameKind) → r.capacity ≡ 64 → p.calls ≡ [] → KeepsCommands (work_of_pass p r [] known idle 0 0 [])
 kept_new p r known slots none = record {
   slots = slots;
   done = [];
@@ -71,16 +71,16 @@ kept_new p r known slots none = record {
 }
 
 pub kept_new_as : (p : Passed) (r : RingName) (taken known : List FrameKind) (batch : Batch) → r.capacity ≡ 64 → p.calls ≡ [] → taken ≡ [] → batch ≡ no_text 0
-    → Kept (worked p r taken known idle batch.finished 0 batch.texts)
+    → KeepsCommands (work_of_pass p r taken known idle batch.finished 0 batch.texts)
 kept_new_as p r taken known batch slots none t is =
-    subst (λ l. Kept (worked p r l known idle batch.finished 0 batch.texts)) (sym t)
-    (subst (λ (v : Batch). Kept (worked p r [] known idle v.finished 0 v.texts)) (sym is) (kept_new p r known slots none))
+    subst (λ l. KeepsCommands (work_of_pass p r l known idle batch.finished 0 batch.texts)) (sym t)
+    (subst (λ (v : Batch). KeepsCommands (work_of_pass p r [] known idle v.finished 0 v.texts)) (sym is) (kept_new p r known slots none))
 
 -- ---- steps
 
-module _ (w : Worked) (k : Kept w) where
+module _ (w : Worked) (k : KeepsCommands w) where
   -- a look at the ring
-  pub kept_looks : (known : List FrameKind) (trace : Trace) → Kept (record w { known = known; trace = trace })
+  pub kept_looks : (known : List FrameKind) (trace : Trace) → KeepsCommands (record w { known = known; trace = trace })
   kept_looks known trace = record {
     slots = k.slots;
     done = k.done;
@@ -112,7 +112,7 @@ module _ (w : Worked) (k : Kept w) where
       ∙ texts_more w.shown (commands_of_frames w.taken) (command_of frame) w.calls (omega arith)
 
   pub kept_begins : (frame : FrameKind) (known : List FrameKind) → w.begun ≡ idle → w.finished ≢ 2 ^ 40
-      → Kept (record w { taken = w.taken ++ frame ∷ []; known = known; begun = raw frame })
+      → KeepsCommands (record w { taken = w.taken ++ frame ∷ []; known = known; begun = raw frame })
   kept_begins frame known e below =
       let size = finished_idle e in
       let long = length-map w.taken command_of in
@@ -136,7 +136,7 @@ module _ (w : Worked) (k : Kept w) where
 
   -- the command of the frame that is begun is read
   pub kept_reads : (frame : FrameKind) → w.begun ≡ raw frame → 1 ≤ w.table.slots → w.table.slots ≤ 256
-      → Kept (record w { begun = going (command_of frame) (calls_of w.table.slots (command_of frame)) [] })
+      → KeepsCommands (record w { begun = going (command_of frame) (calls_of w.table.slots (command_of frame)) [] })
   kept_reads frame e some limit = record {
     slots = k.slots;
     done = k.done;
@@ -154,15 +154,15 @@ module _ (w : Worked) (k : Kept w) where
 
   module _ (command : Command) (calls : List ShardCall) (replies : List CallReply) (e : w.begun ≡ going command calls replies) where
     pub going_on : IsGoingOn w.table.slots command calls replies
-    going_on = subst (IsBegun w.table.slots) e k.begun
+    going_on = subst (IsBegunCommand w.table.slots) e k.begun
 
     -- a call of the command is made
     pub texts_call : (entry : Entry) (start : Start) (trace : Trace) → entry.tag.index ≡ w.finished
         → texts_taken (record w { begun = start; calls = w.calls ++ entry ∷ []; trace = trace }) ≡ texts_taken w
     texts_call entry start trace tag = let shown = k.shown in take-texts_of w.shown (commands_of_frames w.taken) w.calls entry (omega arith)
 
-    pub kept_calls : (asked : ShardCall) (entry : Entry) (trace : Trace) → slice_get calls (length replies) ≡ Some asked → IsPart w.conn w.finished (length replies) asked entry
-        → Kept (record w { begun = going command calls (replies ++ entry.reply ∷ []); calls = w.calls ++ entry ∷ []; trace = trace })
+    pub kept_calls : (asked : ShardCall) (entry : Entry) (trace : Trace) → slice_get calls (length replies) ≡ Some asked → IsMadeAsPart w.conn w.finished (length replies) asked entry
+        → KeepsCommands (record w { begun = going command calls (replies ++ entry.reply ∷ []); calls = w.calls ++ entry ∷ []; trace = trace })
     kept_calls asked entry trace there part =
         let tag : entry.tag.index ≡ w.finished = ap (λ (d : Due). d.tag.index) part.due in
         let call : entry.call ≡ asked.call = ap (λ (d : Due). d.call.call) part.due in
@@ -204,7 +204,7 @@ module _ (w : Worked) (k : Kept w) where
 
     -- the command is finished
     pub kept_finishes : length calls ≤ length replies
-        → Kept (record w { begun = idle; finished = w.finished + 1; batch = w.batch ++ text command replies ∷ [] })
+        → KeepsCommands (record w { begun = idle; finished = w.finished + 1; batch = w.batch ++ text command replies ∷ [] })
     kept_finishes whole =
         let count = k.count in
         let frames : commands_of_frames w.taken ≡ k.done ++ command ∷ [] = k.frames ∙ ap (λ s. k.done ++ command_begun s) e in

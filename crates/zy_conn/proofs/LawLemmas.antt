@@ -7,7 +7,7 @@ use Rattle.mc_reply.proofs.TextLemmas.{length-texts_from}
 use Rattle.zy_frame.specs.declared.frame_kind.FrameKind.{FrameKind}
 use Rattle.zy_frame.specs.Frame.{command_of}
 use Rattle.zy_conn.specs.Work.{Worked, commands_of_frames, texts_all, texts_taken}
-use Rattle.zy_conn.specs.Kept.{command_begun, dues_begun, Kept, HasDone}
+use Rattle.zy_conn.specs.Kept.{command_begun, dues_begun, KeepsCommands, HasDone}
 use Rattle.zy_conn.proofs.KeptLemmas.{done_idle, finished_idle}
 
 pub done_calls : (offered : List FrameKind) (w : Worked) → HasDone offered w → dues_of w.calls ≡ due w.table.slots w.conn (commands_of_frames offered)
@@ -27,7 +27,7 @@ pub done_count : (offered : List FrameKind) (w : Worked) → HasDone offered w �
 done_count offered w h = sym (finished_idle w h.kept h.none) ∙ length-map w.taken command_of ∙ ap length h.all
 
 -- the number of finished commands is at most that of frames taken
-finished_taken : (w : Worked) → Kept w → w.finished ≤ length (texts_all w)
+finished_taken : (w : Worked) → KeepsCommands w → w.finished ≤ length (texts_all w)
 finished_taken w k =
     let long = length-texts_from 0 (commands_of_frames w.taken) w.calls in
     let size = ap length k.frames in
@@ -35,8 +35,8 @@ finished_taken w k =
     let count = k.count in
     omega arith
 
-pub one_text : (w : Worked) → Kept w → length (texts_taken w ++ w.batch) ≡ w.finished
+pub one_text : (w : Worked) → KeepsCommands w → length (texts_taken w ++ w.batch) ≡ w.finished
 one_text w k = ap length k.texts ∙ length-take-le w.finished (texts_all w) (finished_taken w k)
 
-pub taken_texts : (w : Worked) → Kept w → length (texts_taken w) ≡ w.shown
+pub taken_texts : (w : Worked) → KeepsCommands w → length (texts_taken w) ≡ w.shown
 taken_texts w k = let within = finished_taken w k in let shown = k.shown in length-take-le w.shown (texts_all w) (omega arith)

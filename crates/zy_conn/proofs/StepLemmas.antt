@@ -18,43 +18,43 @@ use Rattle.zy_conn.specs.declared.hold_end.HoldEnd.{HoldEnd}
 use Rattle.zy_conn.specs.declared.hold_end.HoldEnd.TheVariants.{Drained, Limit, Spent, Busy}
 use Rattle.zy_conn.specs.declared.calling.Made.{Made}
 use Rattle.zy_conn.specs.declared.calling.Made.TheVariants.{Call, Done, Stopped}
-use Rattle.zy_conn.specs.Work.{Start, idle, raw, going, start_of, Worked, worked, texts_taken, mark_of}
-use Rattle.zy_conn.specs.Kept.{Kept}
+use Rattle.zy_conn.specs.Work.{Start, idle, raw, going, start_of, Worked, work_of_pass, texts_taken, mark_of}
+use Rattle.zy_conn.specs.Kept.{KeepsCommands}
 use Rattle.zy_conn.specs.Hold.{call_due}
-use Rattle.zy_conn.specs.Step.{IsWhole, text_begun, calls_left, SamePass, CallStopsBy, Makes, Goes, StopsBy, MadeFrom}
+use Rattle.zy_conn.specs.Step.{IsAllMade, text_begun, calls_left, SamePass, CallStopsBy, Makes, StepsOn, StopsBy, MadeFrom}
 use Rattle.zy_conn.proofs.KeptLemmas.{kept_looks, texts_begin, kept_begins, kept_reads, texts_call, kept_calls, kept_finishes}
 
 -- ---- a frame is taken
 
-module _ (p : Passed) (r r' : RingName) (taken taken' known known' : List FrameKind) (s s' : Start) (f sh : ℕ) (b : List (List ℕ)) (frame : FrameKind) (k : Kept (worked p r taken known s f sh b)) (e : s ≡ idle) where
-  pub kept_begins_as : f ≢ 2 ^ 40 → r' ≡ r → taken' ≡ taken ++ frame ∷ [] → s' ≡ raw frame → Kept (worked p r' taken' known' s' f sh b)
+module _ (p : Passed) (r r' : RingName) (taken taken' known known' : List FrameKind) (s s' : Start) (f sh : ℕ) (b : List (List ℕ)) (frame : FrameKind) (k : KeepsCommands (work_of_pass p r taken known s f sh b)) (e : s ≡ idle) where
+  pub kept_begins_as : f ≢ 2 ^ 40 → r' ≡ r → taken' ≡ taken ++ frame ∷ [] → s' ≡ raw frame → KeepsCommands (work_of_pass p r' taken' known' s' f sh b)
   kept_begins_as below ring is begun =
-      subst (λ y. Kept (worked p r' taken' known' y f sh b)) (sym begun)
-      (subst (λ l. Kept (worked p r' l known' (raw frame) f sh b)) (sym is)
-      (subst (λ y. Kept (worked p y (taken ++ frame ∷ []) known' (raw frame) f sh b)) (sym ring) (kept_begins (worked p r taken known s f sh b) k frame known' e below)))
+      subst (λ y. KeepsCommands (work_of_pass p r' taken' known' y f sh b)) (sym begun)
+      (subst (λ l. KeepsCommands (work_of_pass p r' l known' (raw frame) f sh b)) (sym is)
+      (subst (λ y. KeepsCommands (work_of_pass p y (taken ++ frame ∷ []) known' (raw frame) f sh b)) (sym ring) (kept_begins (work_of_pass p r taken known s f sh b) k frame known' e below)))
 
   pub kept_reads_as : f ≢ 2 ^ 40 → r' ≡ r → taken' ≡ taken ++ frame ∷ [] → 1 ≤ p.table.slots → p.table.slots ≤ 256
-      → s' ≡ going (command_of frame) (calls_of p.table.slots (command_of frame)) [] → Kept (worked p r' taken' known' s' f sh b)
+      → s' ≡ going (command_of frame) (calls_of p.table.slots (command_of frame)) [] → KeepsCommands (work_of_pass p r' taken' known' s' f sh b)
   kept_reads_as below ring is some limit begun =
-      subst (λ y. Kept (worked p r' taken' known' y f sh b)) (sym begun)
-      (subst (λ l. Kept (worked p r' l known' (going (command_of frame) (calls_of p.table.slots (command_of frame)) []) f sh b)) (sym is)
-      (subst (λ y. Kept (worked p y (taken ++ frame ∷ []) known' (going (command_of frame) (calls_of p.table.slots (command_of frame)) []) f sh b)) (sym ring)
-      (kept_reads (worked p r (taken ++ frame ∷ []) known' (raw frame) f sh b) (kept_begins (worked p r taken known s f sh b) k frame known' e below) frame refl some limit)))
+      subst (λ y. KeepsCommands (work_of_pass p r' taken' known' y f sh b)) (sym begun)
+      (subst (λ l. KeepsCommands (work_of_pass p r' l known' (going (command_of frame) (calls_of p.table.slots (command_of frame)) []) f sh b)) (sym is)
+      (subst (λ y. KeepsCommands (work_of_pass p y (taken ++ frame ∷ []) known' (going (command_of frame) (calls_of p.table.slots (command_of frame)) []) f sh b)) (sym ring)
+      (kept_reads (work_of_pass p r (taken ++ frame ∷ []) known' (raw frame) f sh b) (kept_begins (work_of_pass p r taken known s f sh b) k frame known' e below) frame refl some limit)))
 
   -- the command of the frame is read, or the frame stays
   pub kept_begun_as : {A E : Type 0} (read : Result A E) (b' : Begun) (replies' : List CallReply) → s' ≡ start_of p.table.slots b' replies' → replies' ≡ []
       → OnOk read (b' ≡ Going (command_of frame)) → OnErr read (b' ≡ Raw frame)
-      → f ≢ 2 ^ 40 → r' ≡ r → taken' ≡ taken ++ frame ∷ [] → 1 ≤ p.table.slots → p.table.slots ≤ 256 → Kept (worked p r' taken' known' s' f sh b)
+      → f ≢ 2 ^ 40 → r' ≡ r → taken' ≡ taken ++ frame ∷ [] → 1 ≤ p.table.slots → p.table.slots ≤ 256 → KeepsCommands (work_of_pass p r' taken' known' s' f sh b)
   kept_begun_as (Ok x) b' replies' start none ok err below ring is some limit =
       kept_reads_as below ring is some limit
       (start ∙ ap (λ y. start_of p.table.slots y replies') ok ∙ ap (λ l. going (command_of frame) (calls_of p.table.slots (command_of frame)) l) none)
   kept_begun_as (Err x) b' replies' start none ok err below ring is some limit =
       kept_begins_as below ring is (start ∙ ap (λ y. start_of p.table.slots y replies') err)
 
-  pub goes_begins_as : r' ≡ r → taken' ≡ taken ++ frame ∷ [] → Goes (worked p r taken known s f sh b) (worked p r' taken' known' s' f sh b)
+  pub goes_begins_as : r' ≡ r → taken' ≡ taken ++ frame ∷ [] → StepsOn (work_of_pass p r taken known s f sh b) (work_of_pass p r' taken' known' s' f sh b)
   goes_begins_as ring is = record {
     table = refl;
-    mark = (λ i. (p.conn, (ring i, (ap (λ l. texts_taken (worked p r l known' (raw frame) f sh b)) is ∙ texts_begin (worked p r taken known s f sh b) k frame known' e) i)));
+    mark = (λ i. (p.conn, (ring i, (ap (λ l. texts_taken (work_of_pass p r l known' (raw frame) f sh b)) is ∙ texts_begin (work_of_pass p r taken known s f sh b) k frame known' e) i)));
     steps = omega arith;
   }
 
@@ -62,8 +62,8 @@ module _ (p : Passed) (r r' : RingName) (taken taken' known known' : List FrameK
 
 -- the work after the next call
 pub record IsMade {E : Type 0} (a b : Worked) (made : Result Made E) : Type 0 where
-  pub kept : Kept b
-  pub goes : Goes a b
+  pub kept : KeepsCommands b
+  pub goes : StepsOn a b
   pub to : IfOk made (MadeFrom a b)
 
 -- a call that was not made stops the work
@@ -79,27 +79,27 @@ stopped p q command calls replies replies' asked a b (Busy shard loaded found) e
   busy = subst (λ x. WasBusy asked.shard x b.trace shard loaded found) (sym t) (subst (λ x. WasBusy asked.shard p.trace x shard loaded found) (sym u) h);
 }
 
-module _ (p q : Passed) (r : RingName) (taken known : List FrameKind) (s : Start) (f sh : ℕ) (b : List (List ℕ)) (command : Command) (calls : List ShardCall) (replies replies' : List CallReply) (k : Kept (worked p r taken known s f sh b)) (e : s ≡ going command calls replies) where
+module _ (p q : Passed) (r : RingName) (taken known : List FrameKind) (s : Start) (f sh : ℕ) (b : List (List ℕ)) (command : Command) (calls : List ShardCall) (replies replies' : List CallReply) (k : KeepsCommands (work_of_pass p r taken known s f sh b)) (e : s ≡ going command calls replies) where
   module _ (pass : SamePass p q) where
-    same_made : q.calls ≡ p.calls → replies' ≡ replies → record (worked p r taken known s f sh b) { trace = q.trace } ≡ worked q r taken known (going command calls replies') f sh b
+    same_made : q.calls ≡ p.calls → replies' ≡ replies → record (work_of_pass p r taken known s f sh b) { trace = q.trace } ≡ work_of_pass q r taken known (going command calls replies') f sh b
     same_made h g = let t = pass.table in let c = pass.conn in cc
 
-    unmade : {E : Type 0} (made : Result Made E) → q.calls ≡ p.calls → replies' ≡ replies → IfOk made (MadeFrom (worked p r taken known s f sh b) (worked q r taken known (going command calls replies') f sh b))
-        → IsMade (worked p r taken known s f sh b) (worked q r taken known (going command calls replies') f sh b) made
+    unmade : {E : Type 0} (made : Result Made E) → q.calls ≡ p.calls → replies' ≡ replies → IfOk made (MadeFrom (work_of_pass p r taken known s f sh b) (work_of_pass q r taken known (going command calls replies') f sh b))
+        → IsMade (work_of_pass p r taken known s f sh b) (work_of_pass q r taken known (going command calls replies') f sh b) made
     unmade made h g to =
         let is = same_made h g in record {
-          kept = subst Kept is (kept_looks (worked p r taken known s f sh b) k known q.trace);
+          kept = subst KeepsCommands is (kept_looks (work_of_pass p r taken known s f sh b) k known q.trace);
           goes = record { table = pass.table; mark = ap mark_of (sym is); steps = pass.steps };
           to = to;
         }
 
     pub is_made : {E : Type 0} (made : Result Made E) → MatchResult made (Makes f calls replies p replies' q) (λ _. (q.calls ≡ p.calls) × (replies' ≡ replies))
-        → IsMade (worked p r taken known s f sh b) (worked q r taken known (going command calls replies') f sh b) made
+        → IsMade (work_of_pass p r taken known s f sh b) (work_of_pass q r taken known (going command calls replies') f sh b) made
     is_made (Err x) h = unmade (Err x) h.0 h.1 tt
     is_made (Ok Done) h = unmade (Ok Done) h.1 h.2 (omega (arith, ap length h.2, h.0))
     is_made (Ok (Stopped end)) h =
         unmade (Ok (Stopped end)) h.3 h.4
-        (stopped p q command calls replies replies' h.0 (worked p r taken known s f sh b) (worked q r taken known (going command calls replies') f sh b) end refl (ap (λ l. slice_get calls (length l)) h.4 ∙ h.1) refl refl refl h.2)
+        (stopped p q command calls replies replies' h.0 (work_of_pass p r taken known s f sh b) (work_of_pass q r taken known (going command calls replies') f sh b) end refl (ap (λ l. slice_get calls (length l)) h.4 ∙ h.1) refl refl refl h.2)
     is_made (Ok Call) h =
         let asked = h.0 in
         let entry = h.2 in
@@ -109,11 +109,11 @@ module _ (p q : Passed) (r : RingName) (taken known : List FrameKind) (s : Start
         let long = length-append replies (entry.reply ∷ []) in
         let t = pass.table in
         let c = pass.conn in
-        let is : record (worked p r taken known s f sh b) { begun = going command calls (replies ++ entry.reply ∷ []); calls = p.calls ++ entry ∷ []; trace = q.trace } ≡ worked q r taken known (going command calls replies') f sh b = (let h4 = h.4 in let h5 = h.5 in cc) in record {
-          kept = subst Kept is (kept_calls (worked p r taken known s f sh b) k command calls replies e asked entry q.trace h.1 part);
+        let is : record (work_of_pass p r taken known s f sh b) { begun = going command calls (replies ++ entry.reply ∷ []); calls = p.calls ++ entry ∷ []; trace = q.trace } ≡ work_of_pass q r taken known (going command calls replies') f sh b = (let h4 = h.4 in let h5 = h.5 in cc) in record {
+          kept = subst KeepsCommands is (kept_calls (work_of_pass p r taken known s f sh b) k command calls replies e asked entry q.trace h.1 part);
           goes = record {
             table = pass.table;
-            mark = ap mark_of (sym is) ∙ ap (λ l. (p.conn, (r, l))) (texts_call (worked p r taken known s f sh b) k command calls replies e entry (going command calls (replies ++ entry.reply ∷ [])) q.trace tag);
+            mark = ap mark_of (sym is) ∙ ap (λ l. (p.conn, (r, l))) (texts_call (work_of_pass p r taken known s f sh b) k command calls replies e entry (going command calls (replies ++ entry.reply ∷ [])) q.trace tag);
             steps = pass.steps;
           };
           to = ap calls_left e ∙ (omega (arith, ap length h.5));
@@ -122,26 +122,26 @@ module _ (p q : Passed) (r : RingName) (taken known : List FrameKind) (s : Start
     -- the same, stated of the values that the step has
     pub is_made_as : {E : Type 0} (made : Result Made E) (index : ℕ) (listed : List ShardCall) (s' : Start) → index ≡ f → listed ≡ calls → s' ≡ going command calls replies'
         → MatchResult made (Makes index listed replies p replies' q) (λ _. (q.calls ≡ p.calls) × (replies' ≡ replies))
-        → IsMade (worked p r taken known s f sh b) (worked q r taken known s' f sh b) made
+        → IsMade (work_of_pass p r taken known s f sh b) (work_of_pass q r taken known s' f sh b) made
     is_made_as made index listed s' i l e' h =
-        subst (λ y. IsMade (worked p r taken known s f sh b) (worked q r taken known y f sh b) made) (sym e')
+        subst (λ y. IsMade (work_of_pass p r taken known s f sh b) (work_of_pass q r taken known y f sh b) made) (sym e')
         (is_made made
         (subst (λ n. MatchResult made (Makes n calls replies p replies' q) (λ _. (q.calls ≡ p.calls) × (replies' ≡ replies))) i
         (subst (λ xs. MatchResult made (Makes index xs replies p replies' q) (λ _. (q.calls ≡ p.calls) × (replies' ≡ replies))) l h)))
 
 -- ---- a command is finished
 
-kept_ends : (w : Worked) (k : Kept w) (s : Start) → w.begun ≡ s → IsWhole s → Kept (record w { begun = idle; finished = w.finished + 1; batch = w.batch ++ text_begun s ∷ [] })
+kept_ends : (w : Worked) (k : KeepsCommands w) (s : Start) → w.begun ≡ s → IsAllMade s → KeepsCommands (record w { begun = idle; finished = w.finished + 1; batch = w.batch ++ text_begun s ∷ [] })
 kept_ends w k idle e whole = absurd whole
 kept_ends w k (raw frame) e whole = absurd whole
 kept_ends w k (going command calls replies) e whole = kept_finishes w k command calls replies e whole
 
-module _ (p : Passed) (r : RingName) (taken known : List FrameKind) (s s' : Start) (sh : ℕ) (batch sent batch' : Batch) (k : Kept (worked p r taken known s batch.finished sh batch.texts)) where
-  pub kept_ends_as : IsWhole s → s' ≡ idle → (s2 : Start) → s2 ≡ s → sent ≡ with_text batch (text_begun s2) → (n : ℕ) → n ≡ sent.finished → batch' ≡ with_finished sent (n + 1)
-      → Kept (worked p r taken known s' batch'.finished sh batch'.texts)
+module _ (p : Passed) (r : RingName) (taken known : List FrameKind) (s s' : Start) (sh : ℕ) (batch sent batch' : Batch) (k : KeepsCommands (work_of_pass p r taken known s batch.finished sh batch.texts)) where
+  pub kept_ends_as : IsAllMade s → s' ≡ idle → (s2 : Start) → s2 ≡ s → sent ≡ with_text batch (text_begun s2) → (n : ℕ) → n ≡ sent.finished → batch' ≡ with_finished sent (n + 1)
+      → KeepsCommands (work_of_pass p r taken known s' batch'.finished sh batch'.texts)
   kept_ends_as whole none s2 same is n at more =
       let finished : batch'.finished ≡ batch.finished + 1 = ap (λ (v : Batch). v.finished) more ∙ ap (λ m. m + 1) (at ∙ ap (λ (v : Batch). v.finished) is) in
       let texts : batch'.texts ≡ batch.texts ++ text_begun s ∷ [] = ap (λ (v : Batch). v.texts) more ∙ ap (λ (v : Batch). v.texts) is ∙ ap (λ y. batch.texts ++ text_begun y ∷ []) same in
-      subst (λ y. Kept (worked p r taken known y batch'.finished sh batch'.texts)) (sym none)
-      (subst (λ m. Kept (worked p r taken known idle m sh batch'.texts)) (sym finished)
-      (subst (λ l. Kept (worked p r taken known idle (batch.finished + 1) sh l)) (sym texts) (kept_ends (worked p r taken known s batch.finished sh batch.texts) k s refl whole)))
+      subst (λ y. KeepsCommands (work_of_pass p r taken known y batch'.finished sh batch'.texts)) (sym none)
+      (subst (λ m. KeepsCommands (work_of_pass p r taken known idle m sh batch'.texts)) (sym finished)
+      (subst (λ l. KeepsCommands (work_of_pass p r taken known idle (batch.finished + 1) sh l)) (sym texts) (kept_ends (work_of_pass p r taken known s batch.finished sh batch.texts) k s refl whole)))

@@ -13,7 +13,7 @@ use Rattle.zy_conn.specs.Block.{Blocked}
 -- ---- the holds of a connection
 
 -- one of this number of cores held this connection, and finished 1 to 64 of its commands
-pub record IsHold (cores connection : ℕ) (hold : Hold) : Type 0 where
+pub record IsHoldOf (cores connection : ℕ) (hold : Hold) : Type 0 where
   pub some : 1 ≤ hold.count
   pub limit : hold.count ≤ 64
   pub core_is : hold.core < cores
@@ -22,7 +22,7 @@ pub record IsHold (cores connection : ℕ) (hold : Hold) : Type 0 where
 -- each is a hold of this connection by one of these cores
 abbrev pub EachIsHold : ℕ → ℕ → List Hold → Type 0
 EachIsHold cores connection [] = Unit {0}
-EachIsHold cores connection (hold ∷ holds) = IsHold cores connection hold × EachIsHold cores connection holds
+EachIsHold cores connection (hold ∷ holds) = IsHoldOf cores connection hold × EachIsHold cores connection holds
 
 -- the holds, by at most 64 cores, of a connection with `finished` finished commands
 pub record AreHolds (cores connection finished : ℕ) (holds : List Hold) : Type 0 where

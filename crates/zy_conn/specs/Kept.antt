@@ -42,14 +42,14 @@ pub record IsGoingOn (shards : ℕ) (command : Command) (calls : List ShardCall)
   pub answers : AnswerEach (take (length replies) calls) replies
 
 -- if the command in progress has its calls, they and the replies are its own
-abbrev pub IsBegun : ℕ → Start → Type 0
-IsBegun shards idle = Unit {0}
-IsBegun shards (raw frame) = Unit {0}
-IsBegun shards (going command calls replies) = IsGoingOn shards command calls replies
+abbrev pub IsBegunCommand : ℕ → Start → Type 0
+IsBegunCommand shards idle = Unit {0}
+IsBegunCommand shards (raw frame) = Unit {0}
+IsBegunCommand shards (going command calls replies) = IsGoingOn shards command calls replies
 
 -- ---- the work
 
-pub record Kept (work : Worked) : Type 0 where
+pub record KeepsCommands (work : Worked) : Type 0 where
   -- the event ring has 64 slots
   pub slots : work.ring.capacity ≡ 64
   -- the frames taken are those of the finished commands, and then that of the command in progress
@@ -62,7 +62,7 @@ pub record Kept (work : Worked) : Type 0 where
   -- each call got a reply of a kind that it may get
   pub kinds : AreAnswers work.calls
   -- the command in progress has the replies of its own calls
-  pub begun : IsBegun work.table.slots work.begun
+  pub begun : IsBegunCommand work.table.slots work.begun
   pub now : replies_at work.finished work.calls ≡ replies_begun work.begun
   pub later : (index : ℕ) → work.finished < index → replies_at index work.calls ≡ []
   -- the texts ever taken, followed by those that wait, are the texts of the finished commands
@@ -73,6 +73,6 @@ pub record Kept (work : Worked) : Type 0 where
 
 -- each frame that was offered was taken, and no command is in progress
 pub record HasDone (offered : List FrameKind) (work : Worked) : Type 0 where
-  pub kept : Kept work
+  pub kept : KeepsCommands work
   pub none : work.begun ≡ idle
   pub all : work.taken ≡ offered

@@ -24,10 +24,10 @@ IsGoing (raw frame) = ⊥
 IsGoing (going command calls replies) = Unit {0}
 
 -- each of its calls was made
-abbrev pub IsWhole : Start → Type 0
-IsWhole idle = ⊥
-IsWhole (raw frame) = ⊥
-IsWhole (going command calls replies) = length calls ≤ length replies
+abbrev pub IsAllMade : Start → Type 0
+IsAllMade idle = ⊥
+IsAllMade (raw frame) = ⊥
+IsAllMade (going command calls replies) = length calls ≤ length replies
 
 -- the text of the command in progress, from the replies so far
 abbrev pub text_begun : Start → List ℕ
@@ -50,7 +50,7 @@ pub record SamePass (before after : Passed) : Type 0 where
   pub steps : before.trace.steps ≤ after.trace.steps
 
 -- this call was made as this part of a command
-pub record IsPart (connection index part : ℕ) (asked : ShardCall) (entry : Entry) : Type 0 where
+pub record IsMadeAsPart (connection index part : ℕ) (asked : ShardCall) (entry : Entry) : Type 0 where
   pub due : due_of entry ≡ record { tag = tag_of connection index part; call = asked }
   pub kind : MayAnswer asked.call entry.reply
 
@@ -66,7 +66,7 @@ CallStopsBy asked before after (Busy shard loaded found) =
 module _ (index : ℕ) (asked : ShardCall) (replies : List CallReply) (before : Passed) (replies' : List CallReply)
     (after : Passed) where
   abbrev pub MakesThis : Made → Type 0
-  MakesThis Call = (entry : Entry) × IsPart before.conn index (length replies) asked entry
+  MakesThis Call = (entry : Entry) × IsMadeAsPart before.conn index (length replies) asked entry
       × (after.calls ≡ before.calls ++ entry ∷ []) × (replies' ≡ replies ++ entry.reply ∷ [])
   MakesThis Done = ⊥
   MakesThis (Stopped end) = CallStopsBy asked before after end × (after.calls ≡ before.calls) × (replies' ≡ replies)
@@ -76,7 +76,7 @@ module _ (index : ℕ) (calls : List ShardCall) (replies : List CallReply) (befo
     (after : Passed) where
   abbrev pub Makes : Made → Type 0
   Makes Call = (asked : ShardCall) × (slice_get calls (length replies) ≡ Some asked)
-      × (entry : Entry) × IsPart before.conn index (length replies) asked entry
+      × (entry : Entry) × IsMadeAsPart before.conn index (length replies) asked entry
       × (after.calls ≡ before.calls ++ entry ∷ []) × (replies' ≡ replies ++ entry.reply ∷ [])
   Makes Done = (length calls ≤ length replies) × (after.calls ≡ before.calls) × (replies' ≡ replies)
   Makes (Stopped end) = (asked : ShardCall) × (slice_get calls (length replies) ≡ Some asked)
@@ -85,7 +85,7 @@ module _ (index : ℕ) (calls : List ShardCall) (replies : List CallReply) (befo
 -- ---- the work
 
 -- what every step keeps
-pub record Goes (before after : Worked) : Type 0 where
+pub record StepsOn (before after : Worked) : Type 0 where
   pub table : after.table ≡ before.table
   pub mark : mark_of after ≡ mark_of before
   pub steps : before.trace.steps ≤ after.trace.steps
@@ -100,5 +100,5 @@ StopsBy before after (Busy shard loaded found) = FoundBusy before.trace after sh
 -- the effect of the next call of the command in progress
 abbrev pub MadeFrom : Worked → Worked → Made → Type 0
 MadeFrom before after Call = calls_left before.begun ≡ calls_left after.begun + 1
-MadeFrom before after Done = IsWhole after.begun
+MadeFrom before after Done = IsAllMade after.begun
 MadeFrom before after (Stopped end) = StopsBy before after end

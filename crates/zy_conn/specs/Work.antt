@@ -56,8 +56,8 @@ pub record Worked : Type 0 where
   pub trace : Trace
 
 -- the work of this pass over this event ring
-abbrev pub worked : Passed → RingName → List FrameKind → List FrameKind → Start → ℕ → ℕ → List (List ℕ) → Worked
-worked pass ring taken known begun finished shown batch = record {
+abbrev pub work_of_pass : Passed → RingName → List FrameKind → List FrameKind → Start → ℕ → ℕ → List (List ℕ) → Worked
+work_of_pass pass ring taken known begun finished shown batch = record {
   conn = pass.conn;
   table = pass.table;
   ring = ring;

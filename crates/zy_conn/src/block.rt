@@ -3,8 +3,9 @@ ghost use Rattle.std.specs.Prelude.{◌≡◌, ◌+◌, ◌<◌, ◌≤◌, [], 
 ghost use Rattle.zy_calls.specs.Output.{with_batch};
 ghost use Rattle.mc_store.specs.Pass.{passed};
 ghost use Rattle.zy_rx.specs.Ring.{offering};
-ghost use Rattle.zy_conn.specs.Work.{worked, idle, has_event, texts_taken, batch_waiting, mark_of};
-ghost use Rattle.zy_conn.specs.Kept.{Kept};
+ghost use Rattle.zy_conn.specs.Work.{work_of_pass, idle, has_event, texts_taken, batch_waiting};
+ghost use Rattle.zy_conn.specs.Work.{mark_of};
+ghost use Rattle.zy_conn.specs.Kept.{KeepsCommands};
 ghost use Rattle.zy_conn.specs.Hold.{AreHolds, HeldTo, IsRecorded};
 ghost use Rattle.zy_conn.specs.Block.{blocked};
 
@@ -61,7 +62,7 @@ impl Block {
     ) -> Result<(Block, EventInlet), (Pass, NoMemory)>
         requires conn { pass.conn ≡ conn }
         requires empty { pass.calls ≡ [] }
-        ensures block { IfOk result (λ made. made.0 ≡ blocked (worked pass made.1.ring [] [] idle 0 0 []) 64 []) }
+        ensures block { IfOk result (λ made. made.0 ≡ blocked (work_of_pass pass made.1.ring [] [] idle 0 0 []) 64 []) }
         ensures inlet { IfOk result (λ made. made.1 ≡ offering made.1.ring [] 64) }
         ensures returned { IfErr result (λ e. e.0 ≡ pass) }
     {
@@ -78,7 +79,7 @@ impl Block {
         requires conn { pass.conn ≡ conn }
         requires empty { pass.calls ≡ [] }
         requires few { cores ≤ 64 }
-        ensures block { IfOk result (λ made. made.0 ≡ blocked (worked pass made.1.ring [] [] idle 0 0 []) cores []) }
+        ensures block { IfOk result (λ made. made.0 ≡ blocked (work_of_pass pass made.1.ring [] [] idle 0 0 []) cores []) }
         ensures inlet { IfOk result (λ made. made.1 ≡ offering made.1.ring [] 64) }
         ensures returned { IfErr result (λ e. e.0 ≡ pass) }
     {
@@ -204,7 +205,7 @@ impl Block {
     pub fn into_parts(self) -> (Pass, Holds)
         ensures pass { result.0 ≡ passed self.work.table self.work.conn self.work.calls self.work.trace }
         ensures holds { result.1 ≡ self.holds }
-        ensures kept { Kept self.work × AreHolds self.cores self.work.conn self.work.finished self.holds }
+        ensures kept { KeepsCommands self.work × AreHolds self.cores self.work.conn self.work.finished self.holds }
     {
         let Block {
             work,

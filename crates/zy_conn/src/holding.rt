@@ -1,7 +1,7 @@
 //! Carrying out commands in one hold.
 ghost use Rattle.std.specs.Prelude.{◌≡◌, ◌+◌, ◌≤◌, IfOk};
 ghost use Rattle.zy_conn.specs.Hold.{HeldTo};
-ghost use Rattle.zy_conn.specs.Step.{Goes};
+ghost use Rattle.zy_conn.specs.Step.{StepsOn};
 
 use crate::hold_end::HoldEnd;
 use crate::work::Work;
@@ -16,7 +16,7 @@ pub(crate) fn carry_out<G: Gate>(
     core: u32,
 ) -> (u32, Result<HoldEnd, NoMemory>)
     requires table { work.old.table ≡ store.now.id }
-    ensures goes { Goes work.old work.new }
+    ensures goes { StepsOn work.old work.new }
     ensures count { work.new.finished ≡ work.old.finished + result.0 }
     ensures limit { result.0 ≤ 64 }
     ensures end { IfOk result.1 (HeldTo work.old work.new) }

@@ -4,7 +4,7 @@ ghost use Rattle.mc_parse.specs.Calls.{due, dues_of};
 ghost use Rattle.mc_reply.specs.Texts.{texts_of};
 ghost use Rattle.zy_frame.specs.declared.frame_kind.FrameKind.{FrameKind};
 ghost use Rattle.zy_conn.specs.Work.{Worked, commands_of_frames, texts_taken};
-ghost use Rattle.zy_conn.specs.Kept.{Kept, HasDone};
+ghost use Rattle.zy_conn.specs.Kept.{KeepsCommands, HasDone};
 
 /// Once every frame that was offered was taken and no command is in progress, the calls made are
 /// the expected calls of all commands, and the texts taken followed by those that wait are the
@@ -20,7 +20,7 @@ pub fn all_commands_are_done()
 
 /// Each finished command has one text, which was taken or waits.
 pub fn each_finished_command_has_one_text()
-    ensures count { (work : Worked) → Kept work
+    ensures count { (work : Worked) → KeepsCommands work
         → length (texts_taken work ++ work.batch) ≡ work.finished }
-    ensures taken { (work : Worked) → Kept work → length (texts_taken work) ≡ work.shown }
+    ensures taken { (work : Worked) → KeepsCommands work → length (texts_taken work) ≡ work.shown }
 {}

@@ -3,8 +3,8 @@ ghost use Rattle.std.specs.Prelude.{◌≡◌, ◌≢◌, ◌+◌, ◌≤◌, []
 ghost use Rattle.zy_calls.specs.Output.{with_batch};
 ghost use Rattle.mc_store.specs.Pass.{passed};
 ghost use Rattle.zy_rx.specs.Ring.{offering};
-ghost use Rattle.zy_conn.specs.Work.{worked, idle, has_event, texts_taken, batch_waiting};
-ghost use Rattle.zy_conn.specs.Kept.{Kept};
+ghost use Rattle.zy_conn.specs.Work.{work_of_pass, idle, has_event, texts_taken, batch_waiting};
+ghost use Rattle.zy_conn.specs.Kept.{KeepsCommands};
 
 mod run;
 mod steps;
@@ -43,15 +43,16 @@ pub(crate) struct Work {
 }
 
 impl Model for Work {
-    ghost use Rattle.zy_conn.specs.Work.{Worked, start_of, worked};
-    ghost use Rattle.zy_conn.specs.Kept.{Kept};
+    ghost use Rattle.zy_conn.specs.Work.{Worked, start_of, work_of_pass};
+    ghost use Rattle.zy_conn.specs.Kept.{KeepsCommands};
 
     ghost Value = { Worked };
 
-    ghost view = { λ w. worked w.pass w.frames.ring w.frames.taken w.frames.known
+    ghost view = { λ w. work_of_pass w.pass w.frames.ring w.frames.taken w.frames.known
         (start_of w.pass.table.slots w.begun w.replies.items) w.batch.finished w.shown w.batch.texts };
 
-    ghost invariant = { λ w. Kept (worked w.pass w.frames.ring w.frames.taken w.frames.known
+    ghost invariant = { λ w. KeepsCommands
+        (work_of_pass w.pass w.frames.ring w.frames.taken w.frames.known
         (start_of w.pass.table.slots w.begun w.replies.items) w.batch.finished w.shown w.batch.texts) };
 }
 
@@ -60,7 +61,8 @@ impl Work {
     /// a refusal the pass is handed back.
     pub(crate) fn new(alloc: Global, pass: Pass) -> Result<(Work, EventInlet), (Pass, NoMemory)>
         requires empty { pass.calls ≡ [] }
-        ensures work { IfOk result (λ made. made.0 ≡ worked pass made.1.ring [] [] idle 0 0 []) }
+        ensures work { IfOk result (λ made. made.0
+            ≡ work_of_pass pass made.1.ring [] [] idle 0 0 []) }
         ensures inlet { IfOk result (λ made. made.1 ≡ offering made.1.ring [] 64) }
         ensures returned { IfErr result (λ e. e.0 ≡ pass) }
     {
@@ -155,7 +157,7 @@ impl Work {
     /// The pass, with what the work has kept.
     pub(crate) fn into_pass(self) -> Pass
         ensures pass { result ≡ passed self.table self.conn self.calls self.trace }
-        ensures kept { Kept self }
+        ensures kept { KeepsCommands self }
     {
         let Work {
             alloc: _,

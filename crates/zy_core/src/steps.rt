@@ -2,7 +2,7 @@
 ghost use Rattle.std.specs.Prelude.{◌≡◌, ◌+◌, ◌<◌, ◌≤◌, ◌^◌, true, false, OnOk, IfOk, is_err};
 ghost use Rattle.zy_conn.specs.Block.{label_of};
 ghost use Rattle.zy_home.specs.Home.{HomeStands, StandsHome, all_here};
-ghost use Rattle.zy_home.specs.Place.{Looked};
+ghost use Rattle.zy_home.specs.Place.{OnlyLooked};
 ghost use Rattle.zy_core.specs.Turn.{ReceivesTo, CollectsAll};
 ghost use Rattle.zy_core.specs.Step.{Kin, IsStill, Moved, ServesHome, HasHomeSteps};
 

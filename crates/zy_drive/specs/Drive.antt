@@ -8,25 +8,25 @@ use Rattle.zy_drive.specs.declared.driven.Driven.TheVariants.{Settled, Broken, N
 
 -- after how many idle turns in a row the cores of a run rest, 0 if none does: only if each of several threads drives
 -- one core
-abbrev pub rest_of : ℕ → ℕ → ℕ → ℕ
-rest_of threads cores rest = if nat_lt 1 threads && (threads == cores) then rest else 0
+abbrev pub idle_turns_before_rest : ℕ → ℕ → ℕ → ℕ
+idle_turns_before_rest threads cores rest = if nat_lt 1 threads && (threads == cores) then rest else 0
 
 -- ---- the answer
 
 -- the cores that are handed back
-abbrev pub cores_of : Driven → List Cored
-cores_of (Settled cores) = cores
-cores_of (Broken cores) = cores
-cores_of (NoMemory cores) = cores
+abbrev pub returned_cores : Driven → List Cored
+returned_cores (Settled cores) = cores
+returned_cores (Broken cores) = cores
+returned_cores (NoMemory cores) = cores
 
 -- the answer is `Settled`
-abbrev pub IsSettled : Driven → Type 0
-IsSettled (Settled cores) = ⊤
-IsSettled (Broken cores) = ⊥
-IsSettled (NoMemory cores) = ⊥
+abbrev pub IsSettledRun : Driven → Type 0
+IsSettledRun (Settled cores) = ⊤
+IsSettledRun (Broken cores) = ⊥
+IsSettledRun (NoMemory cores) = ⊥
 
 -- the answer is `Broken`
-abbrev pub IsBroken : Driven → Type 0
-IsBroken (Settled cores) = ⊥
-IsBroken (Broken cores) = ⊤
-IsBroken (NoMemory cores) = ⊥
+abbrev pub IsBrokenRun : Driven → Type 0
+IsBrokenRun (Settled cores) = ⊥
+IsBrokenRun (Broken cores) = ⊤
+IsBrokenRun (NoMemory cores) = ⊥

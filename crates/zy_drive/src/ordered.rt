@@ -2,7 +2,7 @@
 ghost use Rattle.std.specs.Prelude.{◌≡◌, ◌↔◌, ◌<◌, ◌≤◌, Some, slice_get, vec_len};
 ghost use Rattle.zy_core.specs.Core.{Fits, identity_of};
 ghost use Rattle.zy_core.specs.Cores.{identities, AreCores, AreInlets, EachFits, EachSettled};
-ghost use Rattle.zy_drive.specs.Drive.{cores_of, IsSettled, IsBroken};
+ghost use Rattle.zy_drive.specs.Drive.{returned_cores, IsSettledRun, IsBrokenRun};
 ghost use Rattle.zy_rx.specs.Feed.{rings_of};
 
 mod draws;
@@ -32,10 +32,10 @@ pub fn drive_ordered<R: Wait, F: Feeder, G: Gate>(
     requires cores { AreCores shared.now (identities cores) }
     requires inlets { AreInlets (rings_of (F.inlets feeder.old)) (identities cores) }
     requires fresh { ¬ F.ended feeder.old × ¬ F.broken feeder.old }
-    ensures ended { IsSettled result → F.ended feeder.new }
-    ensures settled { IsSettled result → EachSettled (cores_of result) }
-    ensures broken { IsBroken result → F.broken feeder.new }
-    ensures same { identities (cores_of result) ≡ identities cores }
+    ensures ended { IsSettledRun result → F.ended feeder.new }
+    ensures settled { IsSettledRun result → EachSettled (returned_cores result) }
+    ensures broken { IsBrokenRun result → F.broken feeder.new }
+    ensures same { identities (returned_cores result) ≡ identities cores }
     ensures leads { F.leads feeder.old feeder.new }
     ensures rings { rings_of (F.inlets feeder.new) ≡ rings_of (F.inlets feeder.old) }
 {

@@ -2,7 +2,7 @@
 ghost use Rattle.std.specs.Prelude.{◌≡◌, ◌≤◌, true, length, vec_len, vec_capacity, IfOk};
 ghost use Rattle.zy_drive.specs.Deal.{gathered, lists_of, AreEmpty, HaveRoom};
 ghost use Rattle.zy_core.specs.Cores.{identities, AreCores, EachSettled};
-ghost use Rattle.zy_drive.specs.Drive.{cores_of, IsSettled, IsBroken};
+ghost use Rattle.zy_drive.specs.Drive.{returned_cores, IsSettledRun, IsBrokenRun};
 ghost use Rattle.zy_park.specs.Pass.{GaveNone};
 ghost use Rattle.zy_rx.specs.Feed.{rings_of};
 
@@ -64,10 +64,10 @@ pub fn drive<R: Threads + Wait + Sync, F: Feeder, G: Gate + Sync>(
     requires bells { root.old.bells ≡ bells.now }
     requires count { length bells.now ≡ length shared.now.rings }
     requires free { GaveNone root.old }
-    ensures ended { IsSettled result → F.ended feeder.new }
-    ensures settled { IsSettled result → EachSettled (cores_of result) }
-    ensures broken { IsBroken result → F.broken feeder.new }
-    ensures same { identities (cores_of result) ≡ identities cores }
+    ensures ended { IsSettledRun result → F.ended feeder.new }
+    ensures settled { IsSettledRun result → EachSettled (returned_cores result) }
+    ensures broken { IsBrokenRun result → F.broken feeder.new }
+    ensures same { identities (returned_cores result) ≡ identities cores }
     ensures leads { F.leads feeder.old feeder.new }
     ensures rings { rings_of (F.inlets feeder.new) ≡ rings_of (F.inlets feeder.old) }
 {
@@ -109,10 +109,10 @@ pub fn drive_groups<R: Threads + Wait + Sync, F: Feeder, G: Gate + Sync>(
     requires bells { root.old.bells ≡ bells.now }
     requires count { length bells.now ≡ length shared.now.rings }
     requires free { GaveNone root.old }
-    ensures ended { IsSettled result → F.ended feeder.new }
-    ensures settled { IsSettled result → EachSettled (cores_of result) }
-    ensures broken { IsBroken result → F.broken feeder.new }
-    ensures same { identities (cores_of result) ≡ identities cores }
+    ensures ended { IsSettledRun result → F.ended feeder.new }
+    ensures settled { IsSettledRun result → EachSettled (returned_cores result) }
+    ensures broken { IsBrokenRun result → F.broken feeder.new }
+    ensures same { identities (returned_cores result) ≡ identities cores }
     ensures leads { F.leads feeder.old feeder.new }
     ensures rings { rings_of (F.inlets feeder.new) ≡ rings_of (F.inlets feeder.old) }
 {
@@ -180,9 +180,9 @@ fn together(groups: Vec<Vec<Core>>, count: usize, whole: Vec<Core>) -> Cores
 
 // The answer, by how the caller's own loop ended and whether all cores found that all are done.
 fn answer(cores: Cores, is_done: bool, how: How) -> Driven
-    ensures cores { cores_of result ≡ cores }
-    ensures settled { IsSettled result → (how ≡ How.Ended) × (is_done ≡ true) }
-    ensures broken { IsBroken result → how ≡ How.Broken }
+    ensures cores { returned_cores result ≡ cores }
+    ensures settled { IsSettledRun result → (how ≡ How.Ended) × (is_done ≡ true) }
+    ensures broken { IsBrokenRun result → how ≡ How.Broken }
 {
     match how {
         How::Broken => Driven::Broken(cores),

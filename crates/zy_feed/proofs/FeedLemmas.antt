@@ -12,14 +12,14 @@ use Rattle.zy_rx.specs.declared.rx.Rx.{Rx}
 use Rattle.zy_rx.specs.declared.rx.Rx.TheVariants.{End}
 use Rattle.zy_rx.specs.Flow.{home_of}
 use Rattle.zy_rx.specs.Ring.{Offering}
-use Rattle.zy_rx.specs.Routing.{item_of, items_for}
+use Rattle.zy_rx.specs.Routing.{offered_item, items_for}
 use Rattle.zy_rx.proofs.TakenLemmas.{items_for-push, items_for-push_other}
 use Rattle.zy_rx.specs.Feed.{sent_by}
 use Rattle.zy_read.specs.declared.stop.Stop.{Stop}
 use Rattle.zy_capture.specs.declared.capture_fault.CaptureFault.{CaptureFault}
 use Rattle.zy_feed.specs.declared.stage.Stage.TheVariants.{Cutting, Waiting, Ending, Ended, Broken}
 use Rattle.zy_feed.specs.Reads.{Intake, HasRead, Cuts}
-use Rattle.zy_feed.specs.Feeding.{home_in, kept_for, end_before, OffersTo, Feeding, feeding, AreSent, Stands, Leads}
+use Rattle.zy_feed.specs.Feeding.{home_in, kept_for, end_before, OffersTo, Feeding, feeding, AreSent, Stands, LeadsTo}
 
 -- ---- which core an item is for
 
@@ -30,15 +30,15 @@ kept_else : (cores core : ℕ) (item : Rx) → (home_in cores item == core) ≡ 
 kept_else cores core item is = rw is refl
 
 -- the item of a further record is for its home alone
-routed_by : (cores core : ℕ) (records : List Record) (last : Record) (here : Bool) → (home_in cores (item_of last) == core) ≡ here
-    → ((home_in cores (item_of last) == core) ≡ true → items_for cores core (records ++ last ∷ []) ≡ items_for cores core records ++ item_of last ∷ [])
-    → ((home_in cores (item_of last) == core) ≡ false → items_for cores core (records ++ last ∷ []) ≡ items_for cores core records)
-    → items_for cores core (records ++ last ∷ []) ≡ items_for cores core records ++ kept_for cores core (item_of last)
-routed_by cores core records last true is one other = one is ∙ ap (λ (l : List Rx). items_for cores core records ++ l) (sym (kept_here cores core (item_of last) is))
+routed_by : (cores core : ℕ) (records : List Record) (last : Record) (here : Bool) → (home_in cores (offered_item last) == core) ≡ here
+    → ((home_in cores (offered_item last) == core) ≡ true → items_for cores core (records ++ last ∷ []) ≡ items_for cores core records ++ offered_item last ∷ [])
+    → ((home_in cores (offered_item last) == core) ≡ false → items_for cores core (records ++ last ∷ []) ≡ items_for cores core records)
+    → items_for cores core (records ++ last ∷ []) ≡ items_for cores core records ++ kept_for cores core (offered_item last)
+routed_by cores core records last true is one other = one is ∙ ap (λ (l : List Rx). items_for cores core records ++ l) (sym (kept_here cores core (offered_item last) is))
 routed_by cores core records last false is one other =
-    other is ∙ sym (append-nil (items_for cores core records)) ∙ ap (λ (l : List Rx). items_for cores core records ++ l) (sym (kept_else cores core (item_of last) is))
+    other is ∙ sym (append-nil (items_for cores core records)) ∙ ap (λ (l : List Rx). items_for cores core records ++ l) (sym (kept_else cores core (offered_item last) is))
 
-routed : (cores core : ℕ) (records : List Record) (last : Record) → items_for cores core (records ++ last ∷ []) ≡ items_for cores core records ++ kept_for cores core (item_of last)
+routed : (cores core : ℕ) (records : List Record) (last : Record) → items_for cores core (records ++ last ∷ []) ≡ items_for cores core records ++ kept_for cores core (offered_item last)
 routed cores core records (Kinds.Segment s) =
     routed_by cores core records (Kinds.Segment s) (home_of cores s.conn == core) refl (items_for-push cores core records (Kinds.Segment s)) (items_for-push_other cores core records (Kinds.Segment s))
 routed cores core records (Kinds.Close conn) =
@@ -71,9 +71,9 @@ cores_are inlets = length-map inlets (λ (i : Offering). i.sent)
 
 -- ---- a record is cut
 
-pub cut_leads : {S : Type 0} (rest : S → Option (List ℕ)) (faults : S → ℕ) (old now : S) (p q : Intake) (inlets : List Offering) (result : Result (Option Record) (Stop CaptureFault)) (r : Record) (item : Rx) → result ≡ Ok (Some r) → item ≡ item_of r
+pub cut_leads : {S : Type 0} (rest : S → Option (List ℕ)) (faults : S → ℕ) (old now : S) (p q : Intake) (inlets : List Offering) (result : Result (Option Record) (Stop CaptureFault)) (r : Record) (item : Rx) → result ≡ Ok (Some r) → item ≡ offered_item r
     → ((first : S) (records : List Record) (bytes : List ℕ) → HasRead rest faults first old p records bytes → Cuts rest faults first now q records bytes result)
-    → Leads rest faults (feeding old p inlets Cutting) (feeding now q inlets (Waiting item))
+    → LeadsTo rest faults (feeding old p inlets Cutting) (feeding now q inlets (Waiting item))
 cut_leads rest faults old now p q inlets result r item is item_is cuts first records bytes stands =
     let cut = rw is at (cuts first records bytes stands.read) in (
       r ∷ [],
@@ -82,7 +82,7 @@ cut_leads rest faults old now p q inlets result r item is item_is cuts first rec
         record {
           read = cut.1;
           sent = λ core sent there. ap (λ (i : Rx). sent ++ kept_for (length (sent_by inlets)) core i) item_is
-              ∙ ap (λ (l : List Rx). l ++ kept_for (length (sent_by inlets)) core (item_of r)) (stands.sent core sent there) ∙ sym (routed (length (sent_by inlets)) core records r);
+              ∙ ap (λ (l : List Rx). l ++ kept_for (length (sent_by inlets)) core (offered_item r)) (stands.sent core sent there) ∙ sym (routed (length (sent_by inlets)) core records r);
         },
       ),
     )
@@ -92,7 +92,7 @@ no_end core = let none : nat_lt core 0 ≡ false = grind (arith, nat_tests) in r
 
 pub cut_ends : {S : Type 0} (rest : S → Option (List ℕ)) (faults : S → ℕ) (old now : S) (p q : Intake) (inlets : List Offering) (result : Result (Option Record) (Stop CaptureFault)) → result ≡ Ok None
     → ((first : S) (records : List Record) (bytes : List ℕ) → HasRead rest faults first old p records bytes → Cuts rest faults first now q records bytes result)
-    → Leads rest faults (feeding old p inlets Cutting) (feeding now q inlets (Ending 0))
+    → LeadsTo rest faults (feeding old p inlets Cutting) (feeding now q inlets (Ending 0))
 cut_ends rest faults old now p q inlets result is cuts first records bytes stands =
     let cut = rw is at (cuts first records bytes stands.read) in (
       [],
@@ -108,7 +108,7 @@ cut_ends rest faults old now p q inlets result is cuts first records bytes stand
 
 pub cut_stops : {S : Type 0} (rest : S → Option (List ℕ)) (faults : S → ℕ) (old now : S) (p q : Intake) (inlets : List Offering) (result : Result (Option Record) (Stop CaptureFault)) (stop : Stop CaptureFault) → result ≡ Err stop → faults old ≤ faults now
     → ((first : S) (records : List Record) (bytes : List ℕ) → HasRead rest faults first old p records bytes → Cuts rest faults first now q records bytes result)
-    → Leads rest faults (feeding old p inlets Cutting) (feeding now q inlets (Broken stop))
+    → LeadsTo rest faults (feeding old p inlets Cutting) (feeding now q inlets (Broken stop))
 cut_stops rest faults old now p q inlets result stop is count cuts first records bytes stands =
     let cut = rw is at (cuts first records bytes stands.read) in (
       [],
@@ -129,7 +129,7 @@ onward : {S : Type 0} (rest : S → Option (List ℕ)) (faults : S → ℕ) (fir
 onward rest faults first g records bytes stands = ([], ([], rw (append-nil records, append-nil bytes) stands))
 
 pub delivered : {S : Type 0} (rest : S → Option (List ℕ)) (faults : S → ℕ) (now : S) (p : Intake) (before after : List Offering) (item : Rx) → OffersTo (home_in (length before) item) item before after
-    → Leads rest faults (feeding now p before (Waiting item)) (feeding now p after Cutting)
+    → LeadsTo rest faults (feeding now p before (Waiting item)) (feeding now p after Cutting)
 delivered {S} rest faults now p before after item offers first records bytes stands =
     onward rest faults first (feeding now p after Cutting) records bytes (record { read = stands.read; sent = sent })
   where
@@ -175,7 +175,7 @@ end_same core next other = go (nat_lt core next) refl
     go false is = end_not core next (grind (arith, nat_tests)) ∙ sym (end_not core (next + 1) (grind (arith, nat_tests, other)))
 
 pub end_offered : {S : Type 0} (rest : S → Option (List ℕ)) (faults : S → ℕ) (now : S) (p : Intake) (before after : List Offering) (next : ℕ) → OffersTo next End before after
-    → Leads rest faults (feeding now p before (Ending next)) (feeding now p after (Ending (next + 1)))
+    → LeadsTo rest faults (feeding now p before (Ending next)) (feeding now p after (Ending (next + 1)))
 end_offered {S} rest faults now p before after next offers first records bytes stands =
     onward rest faults first (feeding now p after (Ending (next + 1))) records bytes (record { read = stands.read; sent = sent })
   where
@@ -201,7 +201,7 @@ end_offered {S} rest faults now p before after next offers first records bytes s
     sent core got there = rw size (at_core core got (sent_after sents core next (offers.sent ++ End ∷ []) got (subst (λ (l : List (List Rx)). slice_get l core ≡ Some got) offers.is there)))
 
 pub all_ended : {S : Type 0} (rest : S → Option (List ℕ)) (faults : S → ℕ) (now : S) (p : Intake) (inlets : List Offering) (next : ℕ) → length inlets ≤ next
-    → Leads rest faults (feeding now p inlets (Ending next)) (feeding now p inlets Ended)
+    → LeadsTo rest faults (feeding now p inlets (Ending next)) (feeding now p inlets Ended)
 all_ended rest faults now p inlets next last first records bytes stands =
     onward rest faults first (feeding now p inlets Ended) records bytes (record {
       read = stands.read;

@@ -6,12 +6,12 @@ use Rattle.zy_read.specs.declared.not_taken.NotTaken.{NotTaken}
 use Rattle.zy_read.specs.Standing.{Feeds, TellsFault, TellsLasting, given_in}
 use Rattle.zy_capture.specs.declared.record.Record.{Record}
 use Rattle.zy_capture.specs.declared.capture_fault.CaptureFault.{CaptureFault}
-use Rattle.zy_capture.specs.Steps.{Progress}
+use Rattle.zy_capture.specs.Steps.{CaptureProgress}
 use Rattle.zy_capture.specs.Verdict.{captures}
 use Rattle.zy_feed.specs.Reads.{in_pieces, TakesFirst}
 
 -- the reader took the first bytes of the rest of the piece
-pub piece_taken : (most n taken : ℕ) (old new : Progress) (left bytes : List ℕ) (answer : Result (Option Record) (NotTaken CaptureFault)) → bytes ≡ take n left → n ≤ most → taken ≤ length bytes
+pub piece_taken : (most n taken : ℕ) (old new : CaptureProgress) (left bytes : List ℕ) (answer : Result (Option Record) (NotTaken CaptureFault)) → bytes ≡ take n left → n ≤ most → taken ≤ length bytes
     → ((gave : Option Record) → answer ≡ Ok gave → 0 < taken)
     → Feeds captures old new (take taken bytes) (given_in answer) → TellsFault captures old (take taken bytes) answer → TellsLasting captures old (take taken bytes) answer
     → TakesFirst most (in_pieces old left) (in_pieces new (drop taken left)) answer

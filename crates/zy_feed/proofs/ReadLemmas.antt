@@ -13,14 +13,14 @@ use Rattle.zy_capture.specs.declared.capture_fault.CaptureFault.{CaptureFault}
 use Rattle.zy_capture.specs.declared.due.Due.TheVariants.{Nothing}
 use Rattle.zy_capture.specs.Capture.{capture_limit}
 use Rattle.zy_read.specs.Fields.{step}
-use Rattle.zy_capture.specs.Steps.{Progress, fields}
+use Rattle.zy_capture.specs.Steps.{CaptureProgress, fields}
 use Rattle.zy_capture.specs.Verdict.{captures, is_good, verdict, fault_of, count_of, records_of}
 use Rattle.zy_capture.specs.Verdict.Verdict.{Good}
-use Rattle.zy_capture.specs.Standing.{StandsFor, EndsAs}
+use Rattle.zy_capture.specs.Standing.{StandsForRecords, EndsAs}
 use Rattle.zy_capture.proofs.Feeding.{count_here, good_ended}
 use Rattle.zy_read.specs.declared.stop.Stop.{Stop}
 use Rattle.zy_feed.specs.declared.intake.Header.{Header}
-use Rattle.zy_feed.specs.Reads.{Intake, IsFresh, HasRead, HasReadAll, StopsBy, TellsHeader, TellsNoHeader}
+use Rattle.zy_feed.specs.Reads.{Intake, IsUnread, HasRead, HasReadAll, StopsIntakeBy, TellsHeader, TellsNoHeader}
 use Rattle.zy_capture.specs.Streams.{closes}
 use Rattle.zy_capture.proofs.SoFarLemmas.{spells_tells, records_so_far}
 use Rattle.zy_capture.proofs.TellLemmas.{IsPastCount, past_count, version_stays, count_stays, version_read}
@@ -33,13 +33,13 @@ pub has_few : {S : Type 0} (rest : S → Option (List ℕ)) (faults : S → ℕ)
 has_few rest faults first now p records bytes has = clean_short bytes has.clean
 
 -- so after this many bytes no stop needs a cause
-pub too_long : {S : Type 0} (rest : S → Option (List ℕ)) (faults : S → ℕ) (first now : S) (p : Intake) (records : List Record) (bytes more : List ℕ) (n : ℕ) (stop : Stop CaptureFault) → 18446744073709551615 ≤ n → n ≤ length more → HasRead rest faults first now p records (bytes ++ more) → StopsBy rest faults first now stop
+pub too_long : {S : Type 0} (rest : S → Option (List ℕ)) (faults : S → ℕ) (first now : S) (p : Intake) (records : List Record) (bytes more : List ℕ) (n : ℕ) (stop : Stop CaptureFault) → 18446744073709551615 ≤ n → n ≤ length more → HasRead rest faults first now p records (bytes ++ more) → StopsIntakeBy rest faults first now stop
 too_long rest faults first now p records bytes more n stop over within has = absurd (omega (arith, over, within, length-append bytes more, has_few rest faults first now p records (bytes ++ more) has))
 
 -- ---- version and count
 
 -- after the count, version and count are read
-not_early : (p : Progress) (given : List Record) (b : List ℕ) → AreBytes b → StandsFor p given b → IsPastCount p.state.due → TellsNoHeader b → ⊥
+not_early : (p : CaptureProgress) (given : List Record) (b : List ℕ) → AreBytes b → StandsForRecords p given b → IsPastCount p.state.due → TellsNoHeader b → ⊥
 not_early p given b small stands past none = go none
   where
     told : count_of b ≡ Some p.state.count
@@ -50,12 +50,12 @@ not_early p given b small stands past none = go none
     go (inr none) = let read : count_of b ≡ Some p.state.count = told in cc
 
 -- the first record ends after the count
-record_late : (p q : Progress) (b more : List ℕ) (r : Record) → StandsFor p [] b → StandsFor q (r ∷ []) (b ++ more) → length more ≤ 1 → IsPastCount p.state.due
+record_late : (p q : CaptureProgress) (b more : List ℕ) (r : Record) → StandsForRecords p [] b → StandsForRecords q (r ∷ []) (b ++ more) → length more ≤ 1 → IsPastCount p.state.due
 unfolding StandsAs read_on
 record_late p q b [] r first second few =
-    let given : [] ≡ r ∷ [] = ap (λ (x : Reading Progress Record). x.given) (sym (read_more captures p [] b [] first) ∙ second) in cc
+    let given : [] ≡ r ∷ [] = ap (λ (x : Reading CaptureProgress Record). x.given) (sym (read_more captures p [] b [] first) ∙ second) in cc
 record_late p q b (byte ∷ []) r first second few =
-    let given : option_to_list (step fields p byte).gave ++ [] ≡ r ∷ [] = ap (λ (x : Reading Progress Record). x.given) (sym (read_more captures p [] b (byte ∷ []) first) ∙ second) in
+    let given : option_to_list (step fields p byte).gave ++ [] ≡ r ∷ [] = ap (λ (x : Reading CaptureProgress Record). x.given) (sym (read_more captures p [] b (byte ∷ []) first) ∙ second) in
     go (step fields p byte).gave refl given
   where
     go : (gave : Option Record) → (step fields p byte).gave ≡ gave → option_to_list gave ++ [] ≡ r ∷ [] → IsPastCount p.state.due
@@ -67,7 +67,7 @@ pub record_absurd : {S : Type 0} (rest : S → Option (List ℕ)) (faults : S �
 record_absurd rest faults first old now p q bytes more r has none few later =
     not_early p.reader [] bytes (bytes_front bytes p.left has.given.bytes) has.reader (record_late p.reader q.reader bytes more r has.reader later.reader few) none
 
-whole_due : (p : Progress) (given : List Record) (b : List ℕ) → StandsFor p given b → EndsAs given (Ok tt) (verdict b) → p.state.due ≡ Nothing
+whole_due : (p : CaptureProgress) (given : List Record) (b : List ℕ) → StandsForRecords p given b → EndsAs given (Ok tt) (verdict b) → p.state.due ≡ Nothing
 whole_due p given b stands good =
     let ends : captures.ended p given ≡ Good good.0 good.1 given = sym (verdict_here captures p given b stands) ∙ good.2 in
     (good_ended p given (ap is_good ends)).due
@@ -103,7 +103,7 @@ few_closes (first ∷ records) text conn small clean is =
 
 -- ---- before the first byte
 
-pub fresh_read : {S : Type 0} (rest : S → Option (List ℕ)) (faults : S → ℕ) (first : S) (p : Intake) → IsFresh p → HasRead rest faults first first p [] []
+pub fresh_read : {S : Type 0} (rest : S → Option (List ℕ)) (faults : S → ℕ) (first : S) (p : Intake) → IsUnread p → HasRead rest faults first first p [] []
 unfolding fault_met reading_of read_on
 fresh_read rest faults first p fresh = record {
   reader = fresh.0;

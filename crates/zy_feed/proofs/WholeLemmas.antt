@@ -16,7 +16,7 @@ use Rattle.zy_capture.specs.declared.record.Record.{Record}
 use Rattle.zy_feed.specs.declared.stage.Stage.TheVariants.{Cutting, Waiting, Ending, Ended, Broken}
 use Rattle.zy_feed.specs.declared.intake.Header.{Header}
 use Rattle.zy_feed.specs.Reads.{Intake, HasReadAll, HasBegun}
-use Rattle.zy_feed.specs.Feeding.{Feeding, stop_in, IsReadTo, AreSent, Stands, Leads, HasStopped, AreUnsent, HasFedAll}
+use Rattle.zy_feed.specs.Feeding.{Feeding, stop_in, IsReadTo, AreSent, Stands, LeadsTo, HasStoppedFeeding, AreUnsent, HasFedAll}
 use Rattle.zy_feed.proofs.ReadLemmas.{told_stays, good_as_told, few_closes}
 
 -- at the start
@@ -27,7 +27,7 @@ begun rest faults first header f begins unsent is = record {
   sent = subst (λ (s : Stage). AreSent f.sents s []) (sym is) (λ core sent there. unsent core sent there);
 }
 
-pub fed_all : {S : Type 0} (rest : S → Option (List ℕ)) (faults : S → ℕ) (first : S) (header : Header) (f g : Feeding S) → HasBegun rest faults first f.source f.intake header → AreUnsent f.sents → f.stage ≡ Cutting → g.stage ≡ Ended → Leads rest faults f g
+pub fed_all : {S : Type 0} (rest : S → Option (List ℕ)) (faults : S → ℕ) (first : S) (header : Header) (f g : Feeding S) → HasBegun rest faults first f.source f.intake header → AreUnsent f.sents → f.stage ≡ Cutting → g.stage ≡ Ended → LeadsTo rest faults f g
     → HasFedAll rest faults first g.source header g.sents
 fed_all rest faults first header f g begins unsent start ended leads =
     let end = leads first [] begins.bytes (begun rest faults first header f begins unsent start) in
@@ -53,8 +53,8 @@ stop_is : (stage : Stage) (stop : Stop CaptureFault) → stop_in stage ≡ Some 
 stop_is (Broken found) stop is = cc
 stop_is stage stop is = cc
 
-pub has_cause : {S : Type 0} (rest : S → Option (List ℕ)) (faults : S → ℕ) (first : S) (header : Header) (f g : Feeding S) (stop : Stop CaptureFault) → HasBegun rest faults first f.source f.intake header → AreUnsent f.sents → f.stage ≡ Cutting → stop_in g.stage ≡ Some stop → Leads rest faults f g
-    → HasStopped rest faults first g.source stop
+pub has_cause : {S : Type 0} (rest : S → Option (List ℕ)) (faults : S → ℕ) (first : S) (header : Header) (f g : Feeding S) (stop : Stop CaptureFault) → HasBegun rest faults first f.source f.intake header → AreUnsent f.sents → f.stage ≡ Cutting → stop_in g.stage ≡ Some stop → LeadsTo rest faults f g
+    → HasStoppedFeeding rest faults first g.source stop
 has_cause rest faults first header f g stop begins unsent start broken leads =
     let end = leads first [] begins.bytes (begun rest faults first header f begins unsent start) in
     subst (λ (s : Stage). IsReadTo rest faults first g.source g.intake s end.0 (begins.bytes ++ end.1.0)) (stop_is g.stage stop broken) end.1.1.read
@@ -68,7 +68,7 @@ counts_to rest faults first now intake (Ending core) records bytes read = read.r
 counts_to rest faults first now intake Ended records bytes read = read.reads.given.count
 counts_to rest faults first now intake (Broken stop) records bytes read = read.count
 
-pub counts_on : {S : Type 0} (rest : S → Option (List ℕ)) (faults : S → ℕ) (first : S) (header : Header) (f g : Feeding S) → HasBegun rest faults first f.source f.intake header → AreUnsent f.sents → f.stage ≡ Cutting → Leads rest faults f g
+pub counts_on : {S : Type 0} (rest : S → Option (List ℕ)) (faults : S → ℕ) (first : S) (header : Header) (f g : Feeding S) → HasBegun rest faults first f.source f.intake header → AreUnsent f.sents → f.stage ≡ Cutting → LeadsTo rest faults f g
     → faults first ≤ faults g.source
 counts_on rest faults first header f g begins unsent start leads =
     let end = leads first [] begins.bytes (begun rest faults first header f begins unsent start) in

@@ -22,7 +22,7 @@ use Rattle.zy_feed.specs.declared.intake.Header.{Header}
 use Rattle.zy_feed.specs.declared.stage.Stage.{Stage}
 use Rattle.zy_feed.specs.declared.feeder.CaptureFeeder.{CaptureFeeder}
 use Rattle.zy_feed.specs.declared.stage.Stage.TheVariants.{Cutting, Waiting, Ending, Ended, Broken}
-use Rattle.zy_feed.specs.Reads.{Intake, HasRead, HasReadAll, StopsBy}
+use Rattle.zy_feed.specs.Reads.{Intake, HasRead, HasReadAll, StopsIntakeBy}
 
 -- ---- inlets
 
@@ -52,8 +52,8 @@ abbrev pub feeding : {S : Type 0} → S → Intake → List Offering → Stage �
 feeding source intake inlets stage = record { source = source; intake = intake; sents = sent_by inlets; stage = stage }
 
 -- this feeder, and the same in another stage
-abbrev pub state_of : {S : Type 0} → CaptureFeeder S → Feeding S
-state_of f = feeding f.source.now f.intake f.inlets f.stage
+abbrev pub feeder_state : {S : Type 0} → CaptureFeeder S → Feeding S
+feeder_state f = feeding f.source.now f.intake f.inlets f.stage
 
 abbrev pub in_stage : {S : Type 0} → CaptureFeeder S → Stage → Feeding S
 in_stage f stage = feeding f.source.now f.intake f.inlets stage
@@ -90,9 +90,9 @@ AreSent sents stage records =
     (core : ℕ) (sent : List Rx) → slice_get sents core ≡ Some sent → IsSent (length sents) core stage sent records
 
 -- it stopped, and this is the cause
-pub record HasStopped {S : Type 0} (rest : S → Option (List ℕ)) (faults : S → ℕ) (first now : S)
+pub record HasStoppedFeeding {S : Type 0} (rest : S → Option (List ℕ)) (faults : S → ℕ) (first now : S)
     (stop : Stop CaptureFault) : Type 0 where
-  pub cause : StopsBy rest faults first now stop
+  pub cause : StopsIntakeBy rest faults first now stop
   pub count : faults first ≤ faults now
 
 -- what it has read, by its stage: these records in these bytes, the whole capture once its records
@@ -104,7 +104,7 @@ IsReadTo rest faults first now intake (Waiting item) records bytes = HasRead res
 IsReadTo rest faults first now intake (Ending core) records bytes =
     HasReadAll rest faults first now intake records bytes
 IsReadTo rest faults first now intake Ended records bytes = HasReadAll rest faults first now intake records bytes
-IsReadTo rest faults first now intake (Broken stop) records bytes = HasStopped rest faults first now stop
+IsReadTo rest faults first now intake (Broken stop) records bytes = HasStoppedFeeding rest faults first now stop
 
 -- since its source was the first one it has cut these records of these bytes, and sent their items
 pub record Stands {S : Type 0} (rest : S → Option (List ℕ)) (faults : S → ℕ) (first : S) (f : Feeding S)
@@ -113,8 +113,8 @@ pub record Stands {S : Type 0} (rest : S → Option (List ℕ)) (faults : S → 
   pub sent : AreSent f.sents f.stage records
 
 -- the later feeder has cut further records from further bytes, whatever the earlier one has read
-abbrev pub Leads : {S : Type 0} → (S → Option (List ℕ)) → (S → ℕ) → Feeding S → Feeding S → Type 0
-Leads {S} rest faults f g =
+abbrev pub LeadsTo : {S : Type 0} → (S → Option (List ℕ)) → (S → ℕ) → Feeding S → Feeding S → Type 0
+LeadsTo {S} rest faults f g =
     (first : S) (records : List Record) (bytes : List ℕ) → Stands rest faults first f records bytes
     → (more : List Record) × ((fed : List ℕ) × Stands rest faults first g (records ++ more) (bytes ++ fed))
 

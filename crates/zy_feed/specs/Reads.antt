@@ -12,8 +12,8 @@ use Rattle.zy_read.specs.declared.not_taken.NotTaken.TheVariants as Reads
 use Rattle.zy_read.specs.Standing.{Feeds, TellsFault, TellsLasting, given_in}
 use Rattle.zy_capture.specs.declared.record.Record.{Record}
 use Rattle.zy_capture.specs.declared.capture_fault.CaptureFault.{CaptureFault}
-use Rattle.zy_capture.specs.Steps.{Progress}
-use Rattle.zy_capture.specs.Standing.{StandsFor, EndsAs}
+use Rattle.zy_capture.specs.Steps.{CaptureProgress}
+use Rattle.zy_capture.specs.Standing.{StandsForRecords, EndsAs}
 use Rattle.zy_capture.specs.Verdict.{captures, verdict, fault_of, version_of, count_of}
 use Rattle.zy_capture.specs.Verdict.Verdict.{Bad}
 use Rattle.zy_feed.specs.declared.intake.Header.{Header}
@@ -24,21 +24,21 @@ use Rattle.zy_feed.specs.declared.intake.Came.TheVariants as Comes
 
 -- how far the reader is, and the bytes of the piece that it was not fed yet
 pub record Intake : Type 0 where
-  pub reader : Progress
+  pub reader : CaptureProgress
   pub left : List ℕ
 
-abbrev pub in_pieces : Progress → List ℕ → Intake
+abbrev pub in_pieces : CaptureProgress → List ℕ → Intake
 in_pieces reader left = record { reader = reader; left = left }
 
 -- nothing was read yet
-abbrev pub IsFresh : Intake → Type 0
-IsFresh intake = StandsFor intake.reader [] [] × (intake.left ≡ [])
+abbrev pub IsUnread : Intake → Type 0
+IsUnread intake = StandsForRecords intake.reader [] [] × (intake.left ≡ [])
 
 -- these records were cut from these bytes, in which no fault was met; since the state `first`, a
 -- source gave these bytes, followed by those left of the piece
 pub record HasRead {S : Type 0} (rest : S → Option (List ℕ)) (faults : S → ℕ) (first now : S) (intake : Intake)
     (records : List Record) (bytes : List ℕ) : Type 0 where
-  pub reader : StandsFor intake.reader records bytes
+  pub reader : StandsForRecords intake.reader records bytes
   pub clean : fault_of bytes ≡ None
   pub given : HasGiven rest faults first now intake.left bytes
 
@@ -52,10 +52,10 @@ pub record HasReadAll {S : Type 0} (rest : S → Option (List ℕ)) (faults : S 
 
 -- the cause of each stop: the fault is the verdict on all that the source held at first, if that is
 -- known; or its count of faults rose, or is at its largest value; `NoMemory` needs no cause
-abbrev pub StopsBy : {S : Type 0} → (S → Option (List ℕ)) → (S → ℕ) → S → S → Stop CaptureFault → Type 0
-StopsBy rest faults first now (Refused fault) = IfSome (rest first) (λ text. verdict text ≡ Bad fault)
-StopsBy rest faults first now ReadFault = Rose (faults first) (faults now)
-StopsBy rest faults first now NoMemory = ⊤
+abbrev pub StopsIntakeBy : {S : Type 0} → (S → Option (List ℕ)) → (S → ℕ) → S → S → Stop CaptureFault → Type 0
+StopsIntakeBy rest faults first now (Refused fault) = IfSome (rest first) (λ text. verdict text ≡ Bad fault)
+StopsIntakeBy rest faults first now ReadFault = Rose (faults first) (faults now)
+StopsIntakeBy rest faults first now NoMemory = ⊤
 
 -- ---- the magic and the count
 
@@ -83,7 +83,7 @@ Cuts rest faults first now intake records bytes (Ok (Some record')) =
     (more : List ℕ) × HasRead rest faults first now intake (records ++ record' ∷ []) (bytes ++ more)
 Cuts rest faults first now intake records bytes (Ok None) =
     (more : List ℕ) × HasReadAll rest faults first now intake records (bytes ++ more)
-Cuts rest faults first now intake records bytes (Err stop) = StopsBy rest faults first now stop
+Cuts rest faults first now intake records bytes (Err stop) = StopsIntakeBy rest faults first now stop
 
 -- ---- for the intake alone
 
@@ -106,18 +106,18 @@ came_of (Err (Fault fault)) = Err (Refused fault)
 came_of (Err Reads.NoMemory) = Err NoMemory
 
 -- what comes of its answer at the end of the source
-abbrev pub ended_by : Result ⊤ CaptureFault → Result Came (Stop CaptureFault)
-ended_by (Ok done) = Ok Comes.End
-ended_by (Err fault) = Err (Refused fault)
+abbrev pub came_by : Result ⊤ CaptureFault → Result Came (Stop CaptureFault)
+came_by (Ok done) = Ok Comes.End
+came_by (Err fault) = Err (Refused fault)
 
 -- a record was cut, or some bytes ended none, or the capture came to its end, or it is read no further
-abbrev pub Advances : {S : Type 0} → (S → Option (List ℕ)) → (S → ℕ) → ℕ → S → S → Intake → List Record → List ℕ
+abbrev pub AdvancesIntake : {S : Type 0} → (S → Option (List ℕ)) → (S → ℕ) → ℕ → S → S → Intake → List Record → List ℕ
     → Result Came (Stop CaptureFault) → Type 0
-Advances rest faults most first now intake records bytes (Ok (Comes.Record record')) =
+AdvancesIntake rest faults most first now intake records bytes (Ok (Comes.Record record')) =
     (more : List ℕ) × ((length more ≤ most) × HasRead rest faults first now intake (records ++ record' ∷ [])
     (bytes ++ more))
-Advances rest faults most first now intake records bytes (Ok Comes.Nothing) =
+AdvancesIntake rest faults most first now intake records bytes (Ok Comes.Nothing) =
     (more : List ℕ) × ((0 < length more) × HasRead rest faults first now intake records (bytes ++ more))
-Advances rest faults most first now intake records bytes (Ok Comes.End) =
+AdvancesIntake rest faults most first now intake records bytes (Ok Comes.End) =
     HasReadAll rest faults first now intake records bytes
-Advances rest faults most first now intake records bytes (Err stop) = StopsBy rest faults first now stop
+AdvancesIntake rest faults most first now intake records bytes (Err stop) = StopsIntakeBy rest faults first now stop

@@ -4,7 +4,8 @@ ghost use Rattle.std.proofs.Common.{◌∙◌};
 ghost use Rattle.zy_rx.specs.Routing as Routing;
 ghost use Rattle.zy_rx.specs.Feed.{rings_of, sent_by, HasOffered, HasNoRoom, HasMet};
 ghost use Rattle.zy_feed.specs.declared.stage.Stage.TheVariants as Stages;
-ghost use Rattle.zy_feed.specs.Feeding.{state_of, in_stage, stop_in, IsBroken, Leads, StepsTo};
+ghost use Rattle.zy_feed.specs.Feeding.{feeder_state, in_stage, stop_in, IsBroken, LeadsTo};
+ghost use Rattle.zy_feed.specs.Feeding.{StepsTo};
 ghost use Rattle.zy_feed.specs.Leads.{leads_same, leads_on};
 
 use crate::inlets::Inlets;
@@ -67,8 +68,8 @@ impl<'s, S: Source> CaptureFeeder<'s, S> {
     fn cut(&mut self) -> Fed
         ensures source { self.new.source.ghost_name ≡ self.old.source.ghost_name }
         ensures steps { StepsTo self.old.inlets self.new.inlets self.new.stage result }
-        ensures leads { Leads S.rest S.faults
-            (in_stage self.old Stages.Cutting) (state_of self.new) }
+        ensures leads { LeadsTo S.rest S.faults
+            (in_stage self.old Stages.Cutting) (feeder_state self.new) }
     {
         match self.intake.cut(self.source) {
             Ok(Some(record)) => self.deliver(item_of(record)),
@@ -84,8 +85,8 @@ impl<'s, S: Source> CaptureFeeder<'s, S> {
     fn deliver(&mut self, item: Rx) -> Fed
         ensures source { self.new.source.ghost_name ≡ self.old.source.ghost_name }
         ensures steps { StepsTo self.old.inlets self.new.inlets self.new.stage result }
-        ensures leads { Leads S.rest S.faults
-            (in_stage self.old (Stages.Waiting item)) (state_of self.new) }
+        ensures leads { LeadsTo S.rest S.faults
+            (in_stage self.old (Stages.Waiting item)) (feeder_state self.new) }
     {
         match self.inlets.deliver(item) {
             None => {
@@ -103,8 +104,8 @@ impl<'s, S: Source> CaptureFeeder<'s, S> {
     fn end(&mut self, core: u32) -> Fed
         ensures source { self.new.source.ghost_name ≡ self.old.source.ghost_name }
         ensures steps { StepsTo self.old.inlets self.new.inlets self.new.stage result }
-        ensures leads { Leads S.rest S.faults
-            (in_stage self.old (Stages.Ending core)) (state_of self.new) }
+        ensures leads { LeadsTo S.rest S.faults
+            (in_stage self.old (Stages.Ending core)) (feeder_state self.new) }
     {
         if core >= self.inlets.count() {
             self.stage = Stage::Ended;
@@ -127,7 +128,7 @@ impl<'s, S: Source> Feeder for CaptureFeeder<'s, S> {
     ghost broken = { λ f. IsBroken f.stage };
 
     ghost leads = { λ f g. (g.source.ghost_name ≡ f.source.ghost_name)
-        × Leads S.rest S.faults (state_of f) (state_of g) };
+        × LeadsTo S.rest S.faults (feeder_state f) (feeder_state g) };
 
     fn step(&mut self) -> Fed {
         match mem::replace(&mut self.stage, Stage::Ended) {
@@ -150,17 +151,17 @@ impl<'s, S: Source> Feeder for CaptureFeeder<'s, S> {
         self.inlets.meet(core, outlet);
     }
 
-    ghost leads_same = { λ f. (refl, leads_same S.rest S.faults (state_of f)) };
+    ghost leads_same = { λ f. (refl, leads_same S.rest S.faults (feeder_state f)) };
 
     ghost leads_on = { λ f g h p q. (
       q.0 ∙ p.0,
-      leads_on S.rest S.faults (state_of f) (state_of g) (state_of h) p.1 q.1,
+      leads_on S.rest S.faults (feeder_state f) (feeder_state g) (feeder_state h) p.1 q.1,
     ) };
 }
 
 // The item as which a record is offered; its bytes are moved.
 fn item_of(next: Record) -> Rx
-    ensures value { result ≡ Routing.item_of next }
+    ensures value { result ≡ Routing.offered_item next }
 {
     match next {
         Record::Segment(Segment { conn, bytes }) => Rx::Segment { conn, bytes },

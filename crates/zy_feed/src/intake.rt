@@ -2,9 +2,10 @@
 ghost use Rattle.std.specs.Prelude.{◌≡◌, ◌<◌, ◌≤◌, ℕ, List, [], length, true, false};
 ghost use Rattle.std.specs.Prelude.{IfOk, IfErr, IfSome, IfNone, OnOk, OnErr};
 ghost use Rattle.zy_capture.specs.declared.record.Record.{Record};
-ghost use Rattle.zy_capture.specs.Standing.{StandsFor};
-ghost use Rattle.zy_feed.specs.Reads.{IsFresh, HasRead, HasBegun, StopsBy, TellsHeader};
-ghost use Rattle.zy_feed.specs.Reads.{TellsNoHeader, Cuts, TakesFirst, Advances, came_of, ended_by};
+ghost use Rattle.zy_capture.specs.Standing.{StandsForRecords};
+ghost use Rattle.zy_feed.specs.Reads.{IsUnread, HasRead, HasBegun, StopsIntakeBy, TellsHeader};
+ghost use Rattle.zy_feed.specs.Reads.{TellsNoHeader, Cuts, TakesFirst, AdvancesIntake, came_of};
+ghost use Rattle.zy_feed.specs.Reads.{came_by};
 
 use crate::stop::Stop;
 use std::alloc::Global;
@@ -55,7 +56,7 @@ impl Intake {
         ensures ok { IfOk result (λ begun.
             HasBegun S.rest S.faults source.old source.new begun.0 begun.1) }
         ensures stopped { IfErr result (λ stop.
-            StopsBy S.rest S.faults source.old source.new stop) }
+            StopsIntakeBy S.rest S.faults source.old source.new stop) }
         ensures count { S.faults source.old ≤ S.faults source.new }
     {
         let mut intake = match Intake::new(alloc) {
@@ -69,7 +70,7 @@ impl Intake {
     }
 
     fn new(alloc: Global) -> Result<Intake, NoMemory>
-        ensures ok { IfOk result (λ intake. IsFresh intake) }
+        ensures ok { IfOk result (λ intake. IsUnread intake) }
     {
         let pieces = match Pieces::new(alloc) {
             Ok(pieces) => pieces,
@@ -83,11 +84,11 @@ impl Intake {
 
     // Reads byte after byte until version and count are known.
     fn read_header<S: Source>(&mut self, source: &mut S) -> Result<Header, Stop>
-        requires fresh { IsFresh self.old }
+        requires fresh { IsUnread self.old }
         ensures ok { IfOk result (λ header.
             HasBegun S.rest S.faults source.old source.new self.new header) }
         ensures stopped { IfErr result (λ stop.
-            StopsBy S.rest S.faults source.old source.new stop) }
+            StopsIntakeBy S.rest S.faults source.old source.new stop) }
         ensures count { S.faults source.old ≤ S.faults source.new }
     {
         for _ in 0..u64::MAX {
@@ -108,9 +109,9 @@ impl Intake {
     // Version and count, where both are known.
     fn header(&self) -> Option<Header>
         ensures some { IfSome result (λ header. (given : List Record) (b : List ℕ)
-            → StandsFor self.now.reader given b → TellsHeader b header) }
+            → StandsForRecords self.now.reader given b → TellsHeader b header) }
         ensures none { IfNone result ((given : List Record) (b : List ℕ)
-            → StandsFor self.now.reader given b → TellsNoHeader b) }
+            → StandsForRecords self.now.reader given b → TellsNoHeader b) }
     {
         match self.reader.version() {
             None => None,
@@ -152,7 +153,7 @@ impl Intake {
         requires some { 0 < most }
         ensures value { (first : S) (records : List Record) (bytes : List ℕ)
             → HasRead S.rest S.faults first source.old self.old records bytes
-            → Advances S.rest S.faults most first source.new self.new records bytes result }
+            → AdvancesIntake S.rest S.faults most first source.new self.new records bytes result }
         ensures count { S.faults source.old ≤ S.faults source.new }
     {
         match self.pieces.refill(source) {
@@ -199,7 +200,7 @@ fn came_from(answer: Result<Option<Record>, FeedFault>) -> Result<Came, Stop>
 
 // What comes of its answer at the end of the source.
 fn came_at_end(answer: Result<(), CaptureFault>) -> Result<Came, Stop>
-    ensures value { result ≡ ended_by answer }
+    ensures value { result ≡ came_by answer }
 {
     match answer {
         Ok(()) => Ok(Came::End),

@@ -5,7 +5,8 @@ ghost use Rattle.zy_read.specs.declared.stop.Stop.{Stop};
 ghost use Rattle.zy_capture.specs.declared.capture_fault.CaptureFault.{CaptureFault};
 ghost use Rattle.zy_feed.specs.declared.stage.Stage.TheVariants as Stages;
 ghost use Rattle.zy_feed.specs.Reads.{HasBegun};
-ghost use Rattle.zy_feed.specs.Feeding.{Feeding, stop_in, AreUnsent, HasFedAll, HasStopped, Leads};
+ghost use Rattle.zy_feed.specs.Feeding.{Feeding, stop_in, AreUnsent, HasFedAll, HasStoppedFeeding};
+ghost use Rattle.zy_feed.specs.Feeding.{LeadsTo};
 
 use zy_base::Source;
 
@@ -15,7 +16,7 @@ use zy_base::Source;
 pub fn a_feeder_that_ended_has_offered_the_capture<S: Source>()
     ensures all { (first : S) (header : Header) (f g : Feeding S)
         → HasBegun S.rest S.faults first f.source f.intake header → AreUnsent f.sents
-        → f.stage ≡ Stages.Cutting → g.stage ≡ Stages.Ended → Leads S.rest S.faults f g
+        → f.stage ≡ Stages.Cutting → g.stage ≡ Stages.Ended → LeadsTo S.rest S.faults f g
         → HasFedAll S.rest S.faults first g.source header g.sents }
 {}
 
@@ -24,14 +25,14 @@ pub fn a_feeder_that_ended_has_offered_the_capture<S: Source>()
 pub fn a_broken_feeder_has_its_cause<S: Source>()
     ensures cause { (first : S) (header : Header) (f g : Feeding S) (stop : Stop CaptureFault)
         → HasBegun S.rest S.faults first f.source f.intake header → AreUnsent f.sents
-        → f.stage ≡ Stages.Cutting → stop_in g.stage ≡ Some stop → Leads S.rest S.faults f g
-        → HasStopped S.rest S.faults first g.source stop }
+        → f.stage ≡ Stages.Cutting → stop_in g.stage ≡ Some stop → LeadsTo S.rest S.faults f g
+        → HasStoppedFeeding S.rest S.faults first g.source stop }
 {}
 
 /// However far it is, the count of faults has not fallen since the first read.
 pub fn a_feeder_counts_on<S: Source>()
     ensures count { (first : S) (header : Header) (f g : Feeding S)
         → HasBegun S.rest S.faults first f.source f.intake header → AreUnsent f.sents
-        → f.stage ≡ Stages.Cutting → Leads S.rest S.faults f g
+        → f.stage ≡ Stages.Cutting → LeadsTo S.rest S.faults f g
         → S.faults first ≤ S.faults g.source }
 {}

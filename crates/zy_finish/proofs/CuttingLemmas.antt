@@ -11,8 +11,8 @@ use Rattle.mc_reply.proofs.TextLemmas.{texts_from-append, length-texts_from}
 use Rattle.zy_frame.specs.Frame.{command_of}
 use Rattle.zy_frame.specs.Cut.{frames_of, commands_of}
 use Rattle.zy_run.specs.Commands.{commands_over}
-use Rattle.zy_run.specs.Output.{commands_before, output, outputs_of}
-use Rattle.zy_finish.specs.Left.{ends_from, ends_of, bytes_between, cut_from, cut_at}
+use Rattle.zy_run.specs.Output.{commands_before, session_output, connection_outputs}
+use Rattle.zy_finish.specs.Left.{ends_after, ends_of, bytes_between, cut_from, session_texts}
 
 -- there is a command for each frame
 counted : (stream : List ℕ) → length (frames_of stream) ≡ length (commands_of stream)
@@ -44,9 +44,9 @@ outputs_from-at before (suc k) (stream ∷ streams) calls within =
     outputs_from-at (before + length (commands_of stream)) k streams calls (omega arith)
     ∙ ap (λ (n : ℕ). concat (texts_from n (commands_of (slice_index_or streams k [])) calls)) number
 
-are_outputs : (conn : ℕ) (streams : List (List ℕ)) (es : List Entry) → outputs_from 0 streams (of_connection conn es) ≡ outputs_of conn streams es
+are_outputs : (conn : ℕ) (streams : List (List ℕ)) (es : List Entry) → outputs_from 0 streams (of_connection conn es) ≡ connection_outputs conn streams es
 are_outputs conn streams es =
-    fill_by_all (λ session. output conn session streams es) (outputs_from 0 streams (of_connection conn es)) (length streams) []
+    fill_by_all (λ session. session_output conn session streams es) (outputs_from 0 streams (of_connection conn es)) (length streams) []
     (length-outputs_from 0 streams (of_connection conn es))
     (λ k within.
     let number : 0 + commands_before k streams ≡ commands_before k streams = omega arith in
@@ -55,7 +55,7 @@ are_outputs conn streams es =
 -- ---- and so are the texts, where they are cut
 
 cut_outputs : (start : ℕ) (stream : List ℕ) (streams : List (List ℕ)) (calls : List Entry) (texts : List (List ℕ))
-    → drop start texts ≡ texts_from start (commands_over (stream ∷ streams)) calls → cut_from start (ends_from start (stream ∷ streams)) texts ≡ outputs_from start (stream ∷ streams) calls
+    → drop start texts ≡ texts_from start (commands_over (stream ∷ streams)) calls → cut_from start (ends_after start (stream ∷ streams)) texts ≡ outputs_from start (stream ∷ streams) calls
 unfolding outputs_from
 cut_outputs start stream [] calls texts are =
     ap (λ (rest : List (List ℕ)). concat rest ∷ []) (are ∙ ap (λ (commands : List Command). texts_from start commands calls) (append-nil (commands_of stream)))
@@ -69,11 +69,11 @@ cut_outputs start stream (next ∷ streams) calls texts are =
     let first : bytes_between start (start + size) texts ≡ concat here =
     (λ i. concat (take (count i) (parts i))) ∙ ap concat (take_at here behind size long) in
     let rest : drop (start + size) texts ≡ behind = sym (drop-drop size start texts) ∙ ap (drop size) parts ∙ drop_at here behind size long in
-    ap (λ (bytes : List ℕ). bytes ∷ cut_from (start + size) (ends_from (start + size) (next ∷ streams)) texts) first
+    ap (λ (bytes : List ℕ). bytes ∷ cut_from (start + size) (ends_after (start + size) (next ∷ streams)) texts) first
     ∙ ap (λ (l : List (List ℕ)). concat here ∷ l) (cut_outputs (start + size) next streams calls texts rest)
 
 pub cut_is_outputs : (conn : ℕ) (streams : List (List ℕ)) (es : List Entry) → 0 < length streams
-    → cut_at (ends_of streams) (texts_of (commands_over streams) (of_connection conn es)) ≡ outputs_of conn streams es
+    → session_texts (ends_of streams) (texts_of (commands_over streams) (of_connection conn es)) ≡ connection_outputs conn streams es
 cut_is_outputs conn [] es some = absurd (omega arith)
 cut_is_outputs conn (stream ∷ streams) es some =
     cut_outputs 0 stream streams (of_connection conn es) (texts_of (commands_over (stream ∷ streams)) (of_connection conn es)) refl ∙ are_outputs conn (stream ∷ streams) es
@@ -84,7 +84,7 @@ cut_is_outputs conn (stream ∷ streams) es some =
 -- sessions that have these streams, where one further session is open
 pub ends_counted : (ends : ℕ → List (List ℕ) → List ℕ) → ((before : ℕ) → ends before [] ≡ [])
     → ((before : ℕ) (stream : List ℕ) (streams : List (List ℕ)) → ends before (stream ∷ streams) ≡ (before + length (frames_of stream)) ∷ ends (before + length (frames_of stream)) streams)
-    → (before : ℕ) (closed : List (List ℕ)) (current : List ℕ) → ends before closed ≡ ends_from before (closed ++ current ∷ [])
+    → (before : ℕ) (closed : List (List ℕ)) (current : List ℕ) → ends before closed ≡ ends_after before (closed ++ current ∷ [])
 ends_counted ends none more before [] current = none before
 ends_counted ends none more before (stream ∷ []) current =
     more before stream [] ∙ (λ i. (before + counted stream i) ∷ none (before + length (frames_of stream)) i)

@@ -23,7 +23,7 @@ use Rattle.mc_store.specs.Joined.{is_joined, calls_of}
 use Rattle.zy_frame.specs.Frame.{command_of}
 use Rattle.zy_base.specs.Held.{held_in}
 use Rattle.zy_rx.specs.Flow.{home_of}
-use Rattle.zy_rx.specs.Session.{Sessions, sessions_of, streams_of}
+use Rattle.zy_rx.specs.Session.{Sessions, received_by, streams_of}
 use Rattle.zy_conn.specs.Work.{Start, Mark, commands_of_frames}
 use Rattle.zy_conn.specs.Kept.{command_begun}
 use Rattle.zy_conn.specs.Block.{Blocked}
@@ -43,13 +43,13 @@ use Rattle.zy_finish.proofs.ReceivedLemmas.{offered_streams}
 use Rattle.zy_finish.proofs.CuttingLemmas.{ends_counted}
 use Rattle.zy_finish.proofs.ServedLemmas.{own_calls, is_run, holds_span, sent_is_outputs}
 use Rattle.zy_home.specs.End.{ended_of}
-use Rattle.zy_home.specs.Home.{Homed, Keeps}
+use Rattle.zy_home.specs.Home.{Homed, IsSoundHome}
 use Rattle.zy_finish.specs.declared.rest.Rest.{Rest}
 use Rattle.zy_finish.specs.declared.finishing.Finished.{Finished}
 use Rattle.zy_finish.specs.Over.{AreOver}
-use Rattle.zy_finish.specs.Finish.{HaveReceived, IsFinished, IsHoldBy}
+use Rattle.zy_finish.specs.Finish.{HaveReceived, IsResultOfRun, IsHoldBy}
 use Rattle.zy_finish.specs.Part.{session_ends}
-use Rattle.zy_finish.specs.Rest.{rest_of, place_of, rest_at, blocks_left, ends_left, block_of, end_of, calls_in, holds_in, texts_in, ends_in, left_of, joined_to, IsKept, IsThere, AreMerged}
+use Rattle.zy_finish.specs.Rest.{rest_of_home, place_of, rest_at, blocks_left, ends_left, block_of, end_of, calls_of_block, holds_in, texts_in, ends_in, left_of, joined_to, IsBlockKept, IsThere, AreMerged}
 use Rattle.zy_finish.proofs.HomeLemmas.{IsHeld, is_held, is_there}
 use Rattle.zy_finish.proofs.CommandLemmas.{entries_within}
 use Rattle.zy_finish.proofs.GatherLemmas as gather
@@ -58,16 +58,16 @@ use Rattle.zy_finish.proofs.EntryLemmas.{merged_entries, merged_fit, holds_of, h
 -- ---- the passes that were joined
 
 module _ (rests : List Rest) where
-  calls_below : (n conn : ℕ) → conn < n → calls_of conn (joined_to rests n) ≡ calls_in (block_of rests conn)
+  calls_below : (n conn : ℕ) → conn < n → calls_of conn (joined_to rests n) ≡ calls_of_block (block_of rests conn)
   calls_below zero conn within = absurd (omega arith)
   calls_below (suc n) conn within = dite (ℕ_discrete conn n)
-      (λ same. ap (λ b. cond b (calls_in (block_of rests n)) (calls_of conn (joined_to rests n))) (eq-eqb conn n same) ∙ ap (λ k. calls_in (block_of rests k)) (sym same))
-      (λ other. ap (λ b. cond b (calls_in (block_of rests n)) (calls_of conn (joined_to rests n))) (ne_eqb conn n other) ∙ calls_below n conn (omega arith))
+      (λ same. ap (λ b. cond b (calls_of_block (block_of rests n)) (calls_of conn (joined_to rests n))) (eq-eqb conn n same) ∙ ap (λ k. calls_of_block (block_of rests k)) (sym same))
+      (λ other. ap (λ b. cond b (calls_of_block (block_of rests n)) (calls_of conn (joined_to rests n))) (ne_eqb conn n other) ∙ calls_below n conn (omega arith))
 
   calls_past : (n conn : ℕ) → n ≤ conn → calls_of conn (joined_to rests n) ≡ []
   calls_past zero conn past = refl
   calls_past (suc n) conn past =
-      ap (λ b. cond b (calls_in (block_of rests n)) (calls_of conn (joined_to rests n))) (ne_eqb conn n (λ same. omega arith)) ∙ calls_past n conn (omega arith)
+      ap (λ b. cond b (calls_of_block (block_of rests n)) (calls_of conn (joined_to rests n))) (ne_eqb conn n (λ same. omega arith)) ∙ calls_past n conn (omega arith)
 
   -- the pass of each connection was joined
   pub joined_all : (n conn : ℕ) → conn < n → is_joined conn (joined_to rests n) ≡ true
@@ -90,19 +90,19 @@ chosen_ends version ends streams are one = dite (ℕ_discrete version 1)
 
 -- ---- each connection
 
-module _ (store : TableId) (version count : ℕ) (homes : List Homed) (over : AreOver store count homes) (keeps : AllByRecursion Keeps homes)
-    (rests : List Rest) (are : rests ≡ map rest_of homes)
-    (kept : (conn : ℕ) → conn < count → (b : Blocked) → block_of rests conn ≡ Some b → IsKept b)
+module _ (store : TableId) (version count : ℕ) (homes : List Homed) (over : AreOver store count homes) (keeps : AllByRecursion IsSoundHome homes)
+    (rests : List Rest) (are : rests ≡ map rest_of_home homes)
+    (kept : (conn : ℕ) → conn < count → (b : Blocked) → block_of rests conn ≡ Some b → IsBlockKept b)
     (records : List Record) (capture : IsCapture version count records) (received : HaveReceived homes records) where
   sizes : length rests ≡ length homes
-  sizes = ap (λ (l : List Rest). length l) are ∙ length-map homes rest_of
+  sizes = ap (λ (l : List Rest). length l) are ∙ length-map homes rest_of_home
 
   module _ (conn : ℕ) (within : conn < count) where
     h : IsHeld store count homes conn
     h = is_held store count homes over keeps conn within
 
-    home_is : rest_at rests conn ≡ Some (rest_of h.home)
-    home_is = (λ i. slice_get (are i) (home_of (sizes i) conn)) ∙ slice_get-map rest_of homes (home_of (length homes) conn) ∙ ap (option_map rest_of) h.home_there
+    home_is : rest_at rests conn ≡ Some (rest_of_home h.home)
+    home_is = (λ i. slice_get (are i) (home_of (sizes i) conn)) ∙ slice_get-map rest_of_home homes (home_of (length homes) conn) ∙ ap (option_map rest_of_home) h.home_there
 
     block_is : block_of rests conn ≡ Some h.block
     block_is = (λ i. slice_get (blocks_left (home_is i)) (place_of (sizes i) conn)) ∙ h.block_there
@@ -110,11 +110,11 @@ module _ (store : TableId) (version count : ℕ) (homes : List Homed) (over : Ar
     end_is : end_of rests conn ≡ Some (ended_of h.link)
     end_is = (λ i. slice_get (ends_left (home_is i)) (place_of (sizes i) conn)) ∙ slice_get-map ended_of h.home.links (place_of (length homes) conn) ∙ ap (option_map ended_of) h.link_there
 
-    k : IsKept h.block
+    k : IsBlockKept h.block
     k = kept conn within h.block block_is
 
     s : Sessions
-    s = sessions_of (conn_of h.link) (offered_to h.home.cores h.home.core records)
+    s = received_by (conn_of h.link) (offered_to h.home.cores h.home.core records)
 
     streams : streams_of s ≡ streams_in records conn
     unfolding s
@@ -129,8 +129,8 @@ module _ (store : TableId) (version count : ℕ) (homes : List Homed) (over : Ar
     conn_same : h.block.work.conn ≡ conn
     conn_same = ap (λ (m : Mark). m.0) h.mark ∙ h.conn_is
 
-    calls_same : calls_in (block_of rests conn) ≡ h.block.work.calls
-    calls_same = ap calls_in block_is
+    calls_same : calls_of_block (block_of rests conn) ≡ h.block.work.calls
+    calls_same = ap calls_of_block block_is
 
     holds_same : holds_in (block_of rests conn) ≡ h.block.holds
     holds_same = ap holds_in block_is
@@ -145,7 +145,7 @@ module _ (store : TableId) (version count : ℕ) (homes : List Homed) (over : Ar
         (λ one. let none = closes-version_1 count conn records (subst (λ v. AllByRecursion (IsRecordOf v count) records) one capture.lawful) in let long = length-streams_in records conn in omega arith)
 
     -- it was served
-    pub is_served : IsCarriedOut store.slots conn (streams_in records conn) (calls_in (block_of rests conn)) (left_of version rests conn)
+    pub is_served : IsCarriedOut store.slots conn (streams_in records conn) (calls_of_block (block_of rests conn)) (left_of version rests conn)
     is_served = record {
       calls_are = ap dues_of calls_same ∙ end.dues ∙ (λ i. due (h.table_is i).slots (h.conn_is i) (commands_over (streams i)));
       texts_are = ap texts_in end_is ∙ end.texts ∙ (λ i. texts_of (commands_over (streams i)) (sym calls_same i));
@@ -173,9 +173,9 @@ module _ (store : TableId) (version count : ℕ) (homes : List Homed) (over : Ar
 
 -- ---- all connections
 
-module _ (store : TableId) (shards version count : ℕ) (homes : List Homed) (over : AreOver store count homes) (keeps : AllByRecursion Keeps homes)
-    (rests : List Rest) (are : rests ≡ map rest_of homes) (slots : shards ≡ store.slots) (few : shards ≤ 256)
-    (kept : (conn : ℕ) → conn < count → (b : Blocked) → block_of rests conn ≡ Some b → IsKept b)
+module _ (store : TableId) (shards version count : ℕ) (homes : List Homed) (over : AreOver store count homes) (keeps : AllByRecursion IsSoundHome homes)
+    (rests : List Rest) (are : rests ≡ map rest_of_home homes) (slots : shards ≡ store.slots) (few : shards ≤ 256)
+    (kept : (conn : ℕ) → conn < count → (b : Blocked) → block_of rests conn ≡ Some b → IsBlockKept b)
     (f : Finished) (merged : AreMerged shards (joined_to rests count) f.journal.entries)
     (holds : f.journal.holds ≡ all_holds count (left_of version rests)) (sessions : f.outputs.sessions ≡ all_sent count (left_of version rests))
     (version_is : f.outputs.version ≡ version) (lawful : AreOutputs f.outputs)
@@ -220,7 +220,7 @@ module _ (store : TableId) (shards version count : ℕ) (homes : List Homed) (ov
       (λ conn least within. are_holds store version count homes over keeps rests are kept records capture received conn (omega arith)))
 
   -- the result is that of a run
-  pub is_finished : IsFinished shards version count records f
+  pub is_finished : IsResultOfRun shards version count records f
   is_finished = record {
     run = run;
     order = merged.merged.ordered;
@@ -234,15 +234,15 @@ module _ (store : TableId) (shards version count : ℕ) (homes : List Homed) (ov
 
 -- ---- the cores of holds
 
-module _ (store : TableId) (version count : ℕ) (homes : List Homed) (over : AreOver store count homes) (keeps : AllByRecursion Keeps homes)
-    (rests : List Rest) (are : rests ≡ map rest_of homes)
-    (kept : (conn : ℕ) → conn < count → (b : Blocked) → block_of rests conn ≡ Some b → IsKept b) where
+module _ (store : TableId) (version count : ℕ) (homes : List Homed) (over : AreOver store count homes) (keeps : AllByRecursion IsSoundHome homes)
+    (rests : List Rest) (are : rests ≡ map rest_of_home homes)
+    (kept : (conn : ℕ) → conn < count → (b : Blocked) → block_of rests conn ≡ Some b → IsBlockKept b) where
   -- the holds of a connection are by the cores that there are
   held_by : (conn : ℕ) → conn < count → AllByRecursion (IsHoldBy (length homes)) (holds_in (block_of rests conn))
   held_by conn within =
       let there : IsThere store rests conn = is_there store count homes over keeps conn within rests are in
       let is : block_of rests conn ≡ Some there.block = gather.block_is store rests conn there in
-      let size : length rests ≡ length homes = ap (λ (l : List Rest). length l) are ∙ length-map homes rest_of in
+      let size : length rests ≡ length homes = ap (λ (l : List Rest). length l) are ∙ length-map homes rest_of_home in
       subst (AllByRecursion (IsHoldBy (length homes))) (sym (ap holds_in is))
       (holds_by there.block.cores (length homes) there.block.work.conn there.block.holds (there.cores_is ∙ size) (kept conn within there.block is).holds.each)
 

@@ -10,15 +10,15 @@ use Rattle.zy_rx.specs.Flow.{home_of}
 use Rattle.zy_conn.specs.Work.{Mark}
 use Rattle.zy_conn.specs.Block.{Blocked}
 use Rattle.zy_home.specs.Link.{Link, conn_of}
-use Rattle.zy_home.specs.Idle.{IsIdle, due_mark, mark_in}
+use Rattle.zy_home.specs.Idle.{IsIdleWith, due_mark, mark_in}
 use Rattle.zy_home.specs.Own.{own_conns}
 use Rattle.zy_home.specs.End.{ended_of, blocks_in}
-use Rattle.zy_home.specs.Home.{Homed, Keeps, all_here, is_settled, conns_in}
+use Rattle.zy_home.specs.Home.{Homed, IsSoundHome, all_here, is_settled, conns_in}
 use Rattle.zy_home.proofs.JoinLemmas.{some_there}
 use Rattle.zy_home.proofs.MakeLemmas.{all_at}
 use Rattle.zy_finish.specs.declared.rest.Rest.{Rest}
-use Rattle.zy_finish.specs.Over.{IsOver, AreOver}
-use Rattle.zy_finish.specs.Rest.{rest_of, place_of, IsThere}
+use Rattle.zy_finish.specs.Over.{IsHomeOver, AreOver}
+use Rattle.zy_finish.specs.Rest.{rest_of_home, place_of, IsThere}
 use Rattle.zy_finish.proofs.PlaceLemmas.{own_at}
 
 -- ---- a settled home
@@ -69,24 +69,24 @@ link_at links own place conn are at = link_is (slice_get links place) conn (sym 
 pub record IsHeld (store : TableId) (count : ℕ) (homes : List Homed) (conn : ℕ) : Type 0 where
   pub home : Homed
   pub home_there : slice_get homes (home_of (length homes) conn) ≡ Some home
-  pub over : IsOver store (length homes) count (home_of (length homes) conn) home
+  pub over : IsHomeOver store (length homes) count (home_of (length homes) conn) home
   pub block : Blocked
   pub link : Link
   pub block_there : slice_get (blocks_in home.blocks) (place_of (length homes) conn) ≡ Some block
   pub link_there : slice_get home.links (place_of (length homes) conn) ≡ Some link
   pub conn_is : conn_of link ≡ conn
   pub mark : mark_in block ≡ due_mark link
-  pub idle : IsIdle block.work link
+  pub idle : IsIdleWith block.work link
   pub table_is : block.work.table ≡ store
   pub cores_is : block.cores ≡ length homes
 
-module _ (store : TableId) (count : ℕ) (homes : List Homed) (over : AreOver store count homes) (keeps : AllByRecursion Keeps homes) (conn : ℕ) (within : conn < count) where
+module _ (store : TableId) (count : ℕ) (homes : List Homed) (over : AreOver store count homes) (keeps : AllByRecursion IsSoundHome homes) (conn : ℕ) (within : conn < count) where
   held_at : (h : Homed) → slice_get homes (home_of (length homes) conn) ≡ Some h → IsHeld store count homes conn
   held_at h there =
       let core = home_of (length homes) conn in
       let place = place_of (length homes) conn in
       let o = over.each core h there in
-      let k = all_at Keeps homes core h keeps there in
+      let k = all_at IsSoundHome homes core h keeps there in
       let own : conns_in h.links ≡ own_conns core (length homes) count = k.conns ∙ (λ i. own_conns (o.core_is i) (o.cores_is i) (o.count_is i)) in
       let l = link_at h.links (own_conns core (length homes) count) place conn own (own_at (length homes) count conn within) in
       let size = slice_get_within h.links place l.link l.is in
@@ -112,12 +112,12 @@ module _ (store : TableId) (count : ℕ) (homes : List Homed) (over : AreOver st
   is_held = let some = over.some in let t = some_there homes (home_of (length homes) conn) (omega arith) in held_at t.0 t.1
 
   -- and so what is left of it is there
-  pub is_there : (rests : List Rest) → rests ≡ map rest_of homes → IsThere store rests conn
+  pub is_there : (rests : List Rest) → rests ≡ map rest_of_home homes → IsThere store rests conn
   is_there rests are =
       let h = is_held in
-      let size : length rests ≡ length homes = ap (λ (l : List Rest). length l) are ∙ length-map homes rest_of in record {
-        rest = rest_of h.home;
-        home = (λ i. slice_get (are i) (home_of (size i) conn)) ∙ slice_get-map rest_of homes (home_of (length homes) conn) ∙ ap (option_map rest_of) h.home_there;
+      let size : length rests ≡ length homes = ap (λ (l : List Rest). length l) are ∙ length-map homes rest_of_home in record {
+        rest = rest_of_home h.home;
+        home = (λ i. slice_get (are i) (home_of (size i) conn)) ∙ slice_get-map rest_of_home homes (home_of (length homes) conn) ∙ ap (option_map rest_of_home) h.home_there;
         block = h.block;
         end = ended_of h.link;
         block_there = ap (λ n. slice_get (blocks_in h.home.blocks) (place_of n conn)) size ∙ h.block_there;

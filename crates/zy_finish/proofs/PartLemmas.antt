@@ -7,7 +7,7 @@ use Rattle.std.proofs.Math.Seq.{get_or-append_seam, set-append_seam}
 use Rattle.zy_capture.specs.Capture.{connection_limit}
 use Rattle.zy_capture.specs.Streams.{sessions_of}
 use Rattle.zy_capture.specs.Outputs.{AllOutputs, MayAdd, with_output, with_session}
-use Rattle.zy_finish.specs.Left.{bytes_between, cut_from, cut_at}
+use Rattle.zy_finish.specs.Left.{bytes_between, cut_from, session_texts}
 use Rattle.zy_finish.specs.Part.{added, HasAdded}
 
 chosen : {A : Type 0} (b : Bool) (x y : A) → b ≡ true → (if b then x else y) ≡ x
@@ -56,23 +56,23 @@ module _ (before : List (List (List ℕ))) where
 module _ (before : List (List (List ℕ))) (ends : List ℕ) (texts : List (List ℕ)) where
   -- the next end
   pub next_added : (i start conn : ℕ) (outputs outputs' : AllOutputs) (bytes : List ℕ) → i < length ends → conn ≡ length before
-      → HasAdded before (cut_at ends texts) i (cut_from start (drop i ends) texts) outputs.sessions
+      → HasAdded before (session_texts ends texts) i (cut_from start (drop i ends) texts) outputs.sessions
       → bytes ≡ bytes_between start (get_or ends i 0) texts → outputs' ≡ with_output outputs conn bytes
-      → HasAdded before (cut_at ends texts) (i + 1) (cut_from (get_or ends i 0) (drop (i + 1) ends) texts) outputs'.sessions
+      → HasAdded before (session_texts ends texts) (i + 1) (cut_from (get_or ends i 0) (drop (i + 1) ends) texts) outputs'.sessions
   next_added i start conn outputs outputs' bytes within first has is done =
-      one_added before (cut_at ends texts) (cut_from (get_or ends i 0) (drop (i + 1) ends) texts) i bytes outputs.sessions outputs'.sessions
-      (subst (λ x. HasAdded before (cut_at ends texts) i (x ∷ cut_from (get_or ends i 0) (drop (i + 1) ends) texts) outputs.sessions) (sym is)
-      (subst (λ l. HasAdded before (cut_at ends texts) i (cut_from start l texts) outputs.sessions) (drop_more ends i 0 within) has))
+      one_added before (session_texts ends texts) (cut_from (get_or ends i 0) (drop (i + 1) ends) texts) i bytes outputs.sessions outputs'.sessions
+      (subst (λ x. HasAdded before (session_texts ends texts) i (x ∷ cut_from (get_or ends i 0) (drop (i + 1) ends) texts) outputs.sessions) (sym is)
+      (subst (λ l. HasAdded before (session_texts ends texts) i (cut_from start l texts) outputs.sessions) (drop_more ends i 0 within) has))
       (ap (λ (o : AllOutputs). o.sessions) done ∙ ap (λ n. with_session outputs.sessions n bytes) first)
 
   -- the texts after the last end
   pub last_added : (i start conn : ℕ) (outputs outputs' : AllOutputs) (bytes : List ℕ) → length ends ≤ i → conn ≡ length before
-      → HasAdded before (cut_at ends texts) i (cut_from start (drop i ends) texts) outputs.sessions
+      → HasAdded before (session_texts ends texts) i (cut_from start (drop i ends) texts) outputs.sessions
       → bytes ≡ concat (drop start texts) → outputs' ≡ with_output outputs conn bytes
-      → outputs'.sessions ≡ before ++ cut_at ends texts ∷ []
+      → outputs'.sessions ≡ before ++ session_texts ends texts ∷ []
   last_added i start conn outputs outputs' bytes past first has is done =
-      all_added before (cut_at ends texts) i outputs'.sessions
-      (one_added before (cut_at ends texts) [] i bytes outputs.sessions outputs'.sessions
-      (subst (λ x. HasAdded before (cut_at ends texts) i (x ∷ []) outputs.sessions) (sym is)
-      (subst (λ l. HasAdded before (cut_at ends texts) i (cut_from start l texts) outputs.sessions) (drop_all i ends past) has))
+      all_added before (session_texts ends texts) i outputs'.sessions
+      (one_added before (session_texts ends texts) [] i bytes outputs.sessions outputs'.sessions
+      (subst (λ x. HasAdded before (session_texts ends texts) i (x ∷ []) outputs.sessions) (sym is)
+      (subst (λ l. HasAdded before (session_texts ends texts) i (cut_from start l texts) outputs.sessions) (drop_all i ends past) has))
       (ap (λ (o : AllOutputs). o.sessions) done ∙ ap (λ n. with_session outputs.sessions n bytes) first))

@@ -11,11 +11,11 @@ use Rattle.zy_capture.proofs.StreamLemmas.{last_grown-append}
 use Rattle.zy_rx.specs.declared.rx.Rx.{Rx}
 use Rattle.zy_rx.specs.declared.rx.Rx.TheVariants.{Segment, Close, End}
 use Rattle.zy_rx.specs.Flow.{home_of}
-use Rattle.zy_rx.specs.Session.{Sessions, no_sessions, with_bytes, with_close, takes_in, sessions_from, sessions_of, streams_of}
+use Rattle.zy_rx.specs.Session.{Sessions, no_sessions, with_bytes, with_close, takes_in, sessions_from, received_by, streams_of}
 use Rattle.zy_rx.proofs.SessionLemmas.{sessions-push}
 use Rattle.zy_run.specs.Commands.{streams_in}
 use Rattle.zy_run.proofs.StreamLemmas.{streams_held}
-use Rattle.zy_rx.specs.Routing.{item_of, is_for, items_for, offered_to}
+use Rattle.zy_rx.specs.Routing.{offered_item, is_for, items_for, offered_to}
 
 -- ---- the items of one record
 
@@ -54,7 +54,7 @@ takes_close : (conn other : ℕ) (s : Sessions) (same : Bool) → s.ended ≡ fa
 takes_close conn other s same live is = λ i. if live i then s else (if is i then with_close s else s)
 
 -- what a record's item changes in what a connection has received, its record changes in what is kept
-has_more : (connections : List (List (List ℕ))) (conn : ℕ) (s : Sessions) (r : Record) → Has connections conn s → Has (with_record connections r) conn (takes_in conn s (item_of r))
+has_more : (connections : List (List (List ℕ))) (conn : ℕ) (s : Sessions) (r : Record) → Has connections conn s → Has (with_record connections r) conn (takes_in conn s (offered_item r))
 has_more connections conn s (Kinds.Segment x) has =
     elim (eqb_tells x.conn conn) [
       | inl same ↦ subst (Has (grown connections x.conn x.bytes) conn) (sym (takes_bytes conn x.conn s x.bytes true has.open_yet same.0)) (rw same.1 (has_grown connections conn s x.bytes has))
@@ -68,9 +68,9 @@ has_more connections conn s (Kinds.Close c) has =
 
 -- ---- the items of all records
 
-has_all : (records : List Record) (connections : List (List (List ℕ))) (conn : ℕ) (s : Sessions) → Has connections conn s → Has (with_records connections records) conn (sessions_from conn s (map item_of records))
+has_all : (records : List Record) (connections : List (List (List ℕ))) (conn : ℕ) (s : Sessions) → Has connections conn s → Has (with_records connections records) conn (sessions_from conn s (map offered_item records))
 has_all [] connections conn s has = has
-has_all (r ∷ records) connections conn s has = has_all records (with_record connections r) conn (takes_in conn s (item_of r)) (has_more connections conn s r has)
+has_all (r ∷ records) connections conn s has = has_all records (with_record connections r) conn (takes_in conn s (offered_item r)) (has_more connections conn s r has)
 
 -- an empty session without a byte
 abbrev one_empty : List (List ℕ)
@@ -83,7 +83,7 @@ at_first conn = record {
   open_yet = refl;
 }
 
-pub received : (conn : ℕ) (records : List Record) → streams_of (sessions_of conn (map item_of records)) ≡ streams_in records conn
+pub received : (conn : ℕ) (records : List Record) → streams_of (received_by conn (map offered_item records)) ≡ streams_in records conn
 received conn records = sym (has_all records (no_bytes (conn + 1)) conn no_sessions (at_first conn)).kept ∙ streams_held (conn + 1) conn records (omega arith)
 
 -- ---- items for other cores
@@ -122,10 +122,10 @@ routed cores core conn s (x ∷ xs) home = go (is_for cores core x) refl (λ t. 
 
 -- ---- all that is offered
 
-pub offered_streams : (cores core conn : ℕ) (records : List Record) → home_of cores conn ≡ core → streams_of (sessions_of conn (offered_to cores core records)) ≡ streams_in records conn
+pub offered_streams : (cores core conn : ℕ) (records : List Record) → home_of cores conn ≡ core → streams_of (received_by conn (offered_to cores core records)) ≡ streams_in records conn
 offered_streams cores core conn records home =
     ap streams_of (sessions-push conn no_sessions (items_for cores core records) End)
-    ∙ ap streams_of (routed cores core conn no_sessions (map item_of records) home) ∙ received conn records
+    ∙ ap streams_of (routed cores core conn no_sessions (map offered_item records) home) ∙ received conn records
 
-pub offered_ended : (cores core conn : ℕ) (records : List Record) → (sessions_of conn (offered_to cores core records)).ended ≡ true
+pub offered_ended : (cores core conn : ℕ) (records : List Record) → (received_by conn (offered_to cores core records)).ended ≡ true
 offered_ended cores core conn records = ap (λ (s : Sessions). s.ended) (sessions-push conn no_sessions (items_for cores core records) End)

@@ -13,9 +13,9 @@ use Rattle.mc_store.specs.Joined.{Joined, calls_of}
 use Rattle.zy_run.specs.Commands.{streams_in, commands_in}
 use Rattle.zy_run.proofs.StreamLemmas.{length-streams_in}
 use Rattle.zy_run.specs.Run.{AreOfConnections, IsRun}
-use Rattle.zy_run.specs.Output.{outputs_of, all_outputs}
+use Rattle.zy_run.specs.Output.{connection_outputs, all_outputs}
 use Rattle.zy_run.specs.Spans.{Spans}
-use Rattle.zy_finish.specs.Left.{Left, cut_at}
+use Rattle.zy_finish.specs.Left.{Left, session_texts}
 use Rattle.zy_finish.specs.Served.{AreServed, all_holds, all_sent}
 use Rattle.zy_finish.proofs.CuttingLemmas.{cut_is_outputs}
 use Rattle.zy_finish.proofs.HoldLemmas.{spans}
@@ -47,14 +47,14 @@ module _ (shards count : ℕ) (records : List Record) (left : ℕ → Left) (joi
   pub holds_span : Spans (all_holds count left) count (commands_in records)
   holds_span = spans count (λ conn. (left conn).holds) (commands_in records) (λ conn within. (are.each conn within).holds_are) (λ conn within. (are.each conn within).held)
 
-  sent_by : (conn : ℕ) → conn < count → cut_at (left conn).ends (left conn).texts ≡ outputs_of conn (streams_in records conn) es
+  sent_by : (conn : ℕ) → conn < count → session_texts (left conn).ends (left conn).texts ≡ connection_outputs conn (streams_in records conn) es
   sent_by conn within =
       let e = are.each conn within in
-      (λ i. cut_at (e.ends_are i) ((e.texts_are ∙ ap (texts_of (commands_in records conn)) (sym (own_calls conn))) i))
+      (λ i. session_texts (e.ends_are i) ((e.texts_are ∙ ap (texts_of (commands_in records conn)) (sym (own_calls conn))) i))
       ∙ cut_is_outputs conn (streams_in records conn) es (omega (arith, length-streams_in records conn))
 
   pub sent_is_outputs : all_sent count left ≡ all_outputs count (streams_in records) es
   sent_is_outputs =
-      fill_by_all (λ conn. outputs_of conn (streams_in records conn) es) (all_sent count left) count []
-      (length-map-range_with_len (λ conn. cut_at (left conn).ends (left conn).texts) 0 count)
-      (λ conn within. get_or-map-range_with_len (λ k. cut_at (left k).ends (left k).texts) 0 count conn conn [] within (omega arith) ∙ sent_by conn within)
+      fill_by_all (λ conn. connection_outputs conn (streams_in records conn) es) (all_sent count left) count []
+      (length-map-range_with_len (λ conn. session_texts (left conn).ends (left conn).texts) 0 count)
+      (λ conn within. get_or-map-range_with_len (λ k. session_texts (left k).ends (left k).texts) 0 count conn conn [] within (omega arith) ∙ sent_by conn within)

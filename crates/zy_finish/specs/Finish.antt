@@ -27,7 +27,7 @@ pub record IsHoldBy (cores : ℕ) (hold : Hold) : Type 0 where
   pub limit : hold.count ≤ 64
 
 -- the result of a run on `shards` shards of the records of a capture
-pub record IsFinished (shards version count : ℕ) (records : List Record) (finished : Finished) : Type 0 where
+pub record IsResultOfRun (shards version count : ℕ) (records : List Record) (finished : Finished) : Type 0 where
   -- the journal's entries are one legal run of the commands of all connections
   pub run : IsRun shards finished.journal.entries count (commands_in records)
   -- in order of stamp and shard

@@ -13,15 +13,15 @@ use Rattle.zy_run.specs.Commands.{commands_over}
 
 -- the number of commands that a connection with these streams has at the end of each of its
 -- sessions but the last, which is open, after `before` commands
-abbrev pub ends_from : ℕ → List (List ℕ) → List ℕ
-ends_from before [] = []
-ends_from before (stream ∷ []) = []
-ends_from before (stream ∷ next ∷ streams) =
-    let after = before + length (commands_of stream) in after ∷ ends_from after (next ∷ streams)
+abbrev pub ends_after : ℕ → List (List ℕ) → List ℕ
+ends_after before [] = []
+ends_after before (stream ∷ []) = []
+ends_after before (stream ∷ next ∷ streams) =
+    let after = before + length (commands_of stream) in after ∷ ends_after after (next ∷ streams)
 
 -- how many commands a connection with these streams has at the end of each of its sessions but the last
 abbrev pub ends_of : List (List ℕ) → List ℕ
-ends_of streams = ends_from 0 streams
+ends_of streams = ends_after 0 streams
 
 -- the bytes of the texts from one number up to another
 abbrev pub bytes_between : ℕ → ℕ → List (List ℕ) → List ℕ
@@ -33,8 +33,8 @@ cut_from start [] texts = concat (drop start texts) ∷ []
 cut_from start (stop ∷ stops) texts = bytes_between start stop texts ∷ cut_from stop stops texts
 
 -- texts cut at these numbers: the bytes of each part
-abbrev pub cut_at : List ℕ → List (List ℕ) → List (List ℕ)
-cut_at stops texts = cut_from 0 stops texts
+abbrev pub session_texts : List ℕ → List (List ℕ) → List (List ℕ)
+session_texts stops texts = cut_from 0 stops texts
 
 -- ---- holds
 

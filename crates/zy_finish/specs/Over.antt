@@ -7,7 +7,7 @@ use Rattle.zy_home.specs.Home.{Homed, is_settled}
 
 -- the home of core `core` of `cores`, with `count` connections in all, is settled, and its ring has
 -- the label of the store and the number of cores
-pub record IsOver (store : TableId) (cores count core : ℕ) (h : Homed) : Type 0 where
+pub record IsHomeOver (store : TableId) (cores count core : ℕ) (h : Homed) : Type 0 where
   pub core_is : h.core ≡ core
   pub cores_is : h.cores ≡ cores
   pub count_is : h.count ≡ count
@@ -19,4 +19,4 @@ pub record AreOver (store : TableId) (count : ℕ) (homes : List Homed) : Type 0
   pub some : 1 ≤ length homes
   pub few : length homes ≤ 64
   pub connections : count ≤ connection_limit
-  pub each : (core : ℕ) (h : Homed) → slice_get homes core ≡ Some h → IsOver store (length homes) count core h
+  pub each : (core : ℕ) (h : Homed) → slice_get homes core ≡ Some h → IsHomeOver store (length homes) count core h

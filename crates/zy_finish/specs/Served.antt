@@ -8,7 +8,7 @@ use Rattle.zy_capture.specs.declared.record.Record.{Record}
 use Rattle.mc_store.specs.Joined.{Joined, calls_of}
 use Rattle.mc_store.specs.Closing.{AreClosed}
 use Rattle.zy_run.specs.Commands.{streams_in}
-use Rattle.zy_finish.specs.Left.{Left, IsCarriedOut, cut_at}
+use Rattle.zy_finish.specs.Left.{Left, IsCarriedOut, session_texts}
 
 -- the holds of the first `count` connections, those of each after those of the connections before it
 abbrev pub all_holds : ℕ → (ℕ → Left) → List Hold
@@ -16,7 +16,7 @@ all_holds count left = flat_map (λ conn. (left conn).holds) (range_with_len 0 c
 
 -- the texts that the first `count` connections were sent, cut at the ends of their sessions
 abbrev pub all_sent : ℕ → (ℕ → Left) → List (List (List ℕ))
-all_sent count left = map (λ conn. cut_at (left conn).ends (left conn).texts) (range_with_len 0 count)
+all_sent count left = map (λ conn. session_texts (left conn).ends (left conn).texts) (range_with_len 0 count)
 
 -- all that these records have of the first `count` connections was served, the store is closed, and
 -- its histories are merged

@@ -7,7 +7,7 @@ ghost use Rattle.zy_capture.specs.Capture.{IsCapture};
 ghost use Rattle.mc_store.specs.Joined.{is_joined};
 ghost use Rattle.mc_store.specs.Root.{IsRootOf};
 ghost use Rattle.zy_finish.specs.Over.{AreOver};
-ghost use Rattle.zy_finish.specs.Finish.{HaveReceived, IsFinished, IsHoldBy};
+ghost use Rattle.zy_finish.specs.Finish.{HaveReceived, IsResultOfRun, IsHoldBy};
 ghost use Rattle.zy_finish.specs.Rest.{AreMerged};
 
 use crate::gathered::Gathered;
@@ -44,7 +44,7 @@ pub fn finish(
     requires root { IsRootOf store.id count root }
     ensures finished { IfOk result (λ finished. (records : List Record) → IsCapture version count records
         → HaveReceived homes.items records
-        → IsFinished store.shards version count records finished) }
+        → IsResultOfRun store.shards version count records finished) }
     ensures held { IfOk result (λ finished. AllByRecursion (IsHoldBy (length homes.items)) finished.journal.holds) }
 {
     // Does nothing. The call tells the prover that the shards are the slots of the table, at most 256.

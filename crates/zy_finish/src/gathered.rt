@@ -1,7 +1,7 @@
 //! What is gathered from connections.
 ghost use Rattle.std.specs.Prelude.{◌≡◌, ◌<◌, ◌≤◌, ◌++◌, length, OnOk};
 ghost use Rattle.zy_capture.specs.Capture.{connection_limit};
-ghost use Rattle.zy_finish.specs.Rest.{IsThere, TakesIn, HasGathered};
+ghost use Rattle.zy_finish.specs.Rest.{IsThere, Gathers, HasGathered};
 
 use crate::rest::{Last, Rest};
 use crate::sessions::add_sessions;
@@ -32,7 +32,7 @@ impl Gathered {
         requires block { last.block.work.table ≡ store.now.id }
         requires next { conn ≡ length self.old.outputs.sessions }
         requires few { conn < connection_limit }
-        ensures ok { OnOk result (TakesIn last self.old self.new) }
+        ensures ok { OnOk result (Gathers last self.old self.new) }
     {
         let Last {
             block,

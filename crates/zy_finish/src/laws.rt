@@ -5,24 +5,24 @@ ghost use Rattle.zy_base.specs.declared.entry.Entry.{Entry};
 ghost use Rattle.zy_base.specs.Order.{of_connection, IsOrdered};
 ghost use Rattle.zy_capture.specs.declared.record.Record.{Record};
 ghost use Rattle.zy_rx.specs.Flow.{home_of};
-ghost use Rattle.zy_rx.specs.Session.{sessions_of, streams_of};
+ghost use Rattle.zy_rx.specs.Session.{received_by, streams_of};
 ghost use Rattle.zy_rx.specs.Routing.{offered_to};
 ghost use Rattle.mc_store.specs.Joined.{Joined, calls_of};
 ghost use Rattle.mc_reply.specs.Texts.{texts_of};
 ghost use Rattle.zy_run.specs.Commands.{streams_in, commands_in, commands_over};
 ghost use Rattle.zy_run.specs.Run.{IsRun};
-ghost use Rattle.zy_run.specs.Output.{outputs_of, all_outputs};
+ghost use Rattle.zy_run.specs.Output.{connection_outputs, all_outputs};
 ghost use Rattle.zy_run.specs.Spans.{Spans};
-ghost use Rattle.zy_finish.specs.Left.{Left, cut_at, bytes_between, ends_of};
+ghost use Rattle.zy_finish.specs.Left.{Left, session_texts, bytes_between, ends_of};
 ghost use Rattle.zy_finish.specs.Served.{AreServed, all_holds, all_sent};
 
 /// A connection whose home receives all that it is offered receives the streams of its sessions
 /// among the records, followed by the end.
 pub fn a_connection_receives_its_streams()
     ensures streams { (cores core conn : ℕ) (records : List Record) → home_of cores conn ≡ core
-        → streams_of (sessions_of conn (offered_to cores core records)) ≡ streams_in records conn }
+        → streams_of (received_by conn (offered_to cores core records)) ≡ streams_in records conn }
     ensures ended { (cores core conn : ℕ) (records : List Record)
-        → (sessions_of conn (offered_to cores core records)).ended ≡ true }
+        → (received_by conn (offered_to cores core records)).ended ≡ true }
 {}
 
 // ---- outputs
@@ -31,8 +31,8 @@ pub fn a_connection_receives_its_streams()
 pub fn outputs_are_cut_at_the_ends()
     ensures value { (conn : ℕ) (streams : List (List ℕ)) (es : List Entry)
         → 0 < length streams
-        → cut_at (ends_of streams) (texts_of (commands_over streams) (of_connection conn es))
-        ≡ outputs_of conn streams es }
+        → session_texts (ends_of streams) (texts_of (commands_over streams) (of_connection conn es))
+        ≡ connection_outputs conn streams es }
     ensures between { (start stop : ℕ) (texts : List (List ℕ)) → start ≤ stop
         → concat (take stop texts) ≡ concat (take start texts) ++ bytes_between start stop texts }
     ensures last { (start : ℕ) (texts : List (List ℕ))

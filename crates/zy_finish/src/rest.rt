@@ -1,9 +1,9 @@
 //! The rests of homes.
 ghost use Rattle.std.specs.Prelude.{◌≡◌, ◌≢◌, [], ◌∷◌, map, IfOk, OnOk};
 ghost use Rattle.std.specs.List.{AllByRecursion};
-ghost use Rattle.zy_home.specs.End.{ended};
-ghost use Rattle.zy_home.specs.Home.{Keeps};
-ghost use Rattle.zy_finish.specs.Rest.{rest_of};
+ghost use Rattle.zy_home.specs.End.{ended_output};
+ghost use Rattle.zy_home.specs.Home.{IsSoundHome};
+ghost use Rattle.zy_finish.specs.Rest.{rest_of_home};
 
 use std::alloc::Global;
 use zy_base::NoMemory;
@@ -33,7 +33,7 @@ impl Rest {
         requires block { self.old.blocks ≢ [] }
         requires end { self.old.ends ≢ [] }
         ensures block { self.old.blocks ≡ result.block ∷ self.new.blocks }
-        ensures end { self.old.ends ≡ ended result.output result.ends.items ∷ self.new.ends }
+        ensures end { self.old.ends ≡ ended_output result.output result.ends.items ∷ self.new.ends }
     {
         let Some(block) = self.blocks.next() else {
             unreachable!()
@@ -51,8 +51,8 @@ impl Rest {
 
 /// The rests of homes, with what each home kept.
 pub(crate) fn rests_of(alloc: Global, homes: Vec<Home>) -> Result<Vec<Rest>, NoMemory>
-    ensures value { IfOk result (λ rests. rests.items ≡ map rest_of homes.items) }
-    ensures keeps { OnOk result (AllByRecursion Keeps homes.items) }
+    ensures value { IfOk result (λ rests. rests.items ≡ map rest_of_home homes.items) }
+    ensures keeps { OnOk result (AllByRecursion IsSoundHome homes.items) }
 {
     let Ok(mut rests) = Vec::with_capacity(alloc, homes.len()) else {
         drop(homes);

@@ -2,7 +2,7 @@
 ghost use Rattle.std.specs.Prelude.{◌≡◌, ◌<◌, ◌^◌, [], ◌∷◌, ◌++◌, length, OnOk};
 ghost use Rattle.zy_capture.specs.Capture.{connection_limit};
 ghost use Rattle.zy_capture.specs.Outputs.{MayAdd, with_output};
-ghost use Rattle.zy_finish.specs.Left.{cut_at};
+ghost use Rattle.zy_finish.specs.Left.{session_texts};
 ghost use Rattle.zy_finish.specs.Part.{session_ends};
 
 use crate::cutting::{behind, between};
@@ -27,7 +27,7 @@ pub(crate) fn add_sessions(
     requires few { conn < connection_limit }
     ensures version { outputs.new.version ≡ outputs.old.version }
     ensures ok { OnOk result (outputs.new.sessions ≡ outputs.old.sessions
-        ++ cut_at (session_ends outputs.old.version ends.now) output.texts ∷ []) }
+        ++ session_texts (session_ends outputs.old.version ends.now) output.texts ∷ []) }
 {
     if outputs.version() == 1 || ends.is_empty() {
         return add(outputs, conn, output.into_bytes());
@@ -54,7 +54,7 @@ fn add_parts(
     requires few { conn < connection_limit }
     requires room { length ends.now < 2 ^ 31 }
     ensures version { outputs.new.version ≡ outputs.old.version }
-    ensures ok { OnOk result (outputs.new.sessions ≡ outputs.old.sessions ++ cut_at ends.now output.now.texts ∷ []) }
+    ensures ok { OnOk result (outputs.new.sessions ≡ outputs.old.sessions ++ session_texts ends.now output.now.texts ∷ []) }
 {
     let mut start = 0;
     for end in ends {

@@ -16,9 +16,9 @@ use Rattle.zy_run.specs.Commands.{commands_in}
 use Rattle.zy_run.specs.Summary.{count_of_commands}
 use Rattle.mc_parse.specs.Plain.{keys_of, all_keys_of, IsPlain, IsOwnCommand}
 use Rattle.zy_run.specs.Apart.{AreApart}
-use Rattle.zy_gen.specs.Traffic.{request_text, records_of, IsTraffic}
+use Rattle.zy_gen.specs.Traffic.{request_text, traffic_records, IsTraffic}
 use Rattle.zy_gen.proofs.LengthLemmas.{text_few}
-use Rattle.zy_gen.specs.Said.{IsKeyOf, IsOwnText, Says, Gives}
+use Rattle.zy_gen.specs.Said.{IsKeyOf, IsOwnText, Says, CarriesRequests}
 use Rattle.zy_gen.proofs.SolidLemmas.{each-append}
 use Rattle.zy_gen.proofs.SaidLemmas.{said_text, said_own}
 use Rattle.zy_gen.proofs.RequestLemmas.{says}
@@ -57,12 +57,12 @@ commands_are conn bytes texts few whole own =
 
 module _ (number connections commands conn : ℕ) (is : IsTraffic number connections commands) (within : conn < connections) where
   records : List Record
-  records = records_of number connections commands
+  records = traffic_records number connections commands
 
   few : conn < 4096
   few = let most = is.few_connections in omega arith
 
-  gives : Gives conn commands records
+  gives : CarriesRequests conn commands records
   unfolding records
   gives = gives-traffic conn number connections commands within
 
@@ -73,12 +73,12 @@ module _ (number connections commands conn : ℕ) (is : IsTraffic number connect
       ∙ append-nil (commands_of (stream conn 0 records)) ∙ commands_are conn (stream conn 0 records) gives.texts few gives.whole gives.each
 
   -- the commands of a connection of generated traffic are plain, and use its own keys
-  own_commands : AllByRecursion (IsOwnCommand (IsKeyOf conn)) (commands_in (records_of number connections commands) conn)
+  own_commands : AllByRecursion (IsOwnCommand (IsKeyOf conn)) (commands_in (traffic_records number connections commands) conn)
   unfolding records
   own_commands = subst (AllByRecursion (IsOwnCommand (IsKeyOf conn))) (sym commands_is) (texts_own conn gives.texts few gives.each)
 
   -- their number is the one that was asked for
-  pub length-commands : length (commands_in (records_of number connections commands) conn) ≡ commands
+  pub length-commands : length (commands_in (traffic_records number connections commands) conn) ≡ commands
   unfolding records
   length-commands = ap length commands_is ∙ length-map gives.texts (λ text. command_of (frame_of text)) ∙ gives.count
 
@@ -92,18 +92,18 @@ each_key conn (command ∷ commands) own = each-append (IsKeyOf conn) (keys_of c
 
 -- ---- the traffic
 
-pub traffic_apart : (number connections commands : ℕ) → IsTraffic number connections commands → AreApart connections (commands_in (records_of number connections commands))
+pub traffic_apart : (number connections commands : ℕ) → IsTraffic number connections commands → AreApart connections (commands_in (traffic_records number connections commands))
 traffic_apart number connections commands is =
     let small : (conn : ℕ) → conn < connections → conn < 4096 = λ conn within. let few = is.few_connections in omega arith in
-    let key_is : (conn : ℕ) (key : List ℕ) → conn < connections → Contains (all_keys_of (commands_in (records_of number connections commands) conn)) key → IsKeyOf conn key =
+    let key_is : (conn : ℕ) (key : List ℕ) → conn < connections → Contains (all_keys_of (commands_in (traffic_records number connections commands) conn)) key → IsKeyOf conn key =
     λ conn key within inside.
-    All-contains (IsKeyOf conn) (all_keys_of (commands_in (records_of number connections commands) conn)) key
-    (All-from_recursion (IsKeyOf conn) (all_keys_of (commands_in (records_of number connections commands) conn))
-    (each_key conn (commands_in (records_of number connections commands) conn) (own_commands number connections commands conn is within))) inside in
+    All-contains (IsKeyOf conn) (all_keys_of (commands_in (traffic_records number connections commands) conn)) key
+    (All-from_recursion (IsKeyOf conn) (all_keys_of (commands_in (traffic_records number connections commands) conn))
+    (each_key conn (commands_in (traffic_records number connections commands) conn) (own_commands number connections commands conn is within))) inside in
     record {
       plain = λ conn within.
-          All-from_recursion IsPlain (commands_in (records_of number connections commands) conn)
-          (each_plain conn (commands_in (records_of number connections commands) conn) (own_commands number connections commands conn is within));
+          All-from_recursion IsPlain (commands_in (traffic_records number connections commands) conn)
+          (each_plain conn (commands_in (traffic_records number connections commands) conn) (own_commands number connections commands conn is within));
       keys = λ conn other key within below first second.
           let one : IsKeyOf conn key = key_is conn key within first in
           let two : IsKeyOf other key = key_is other key below second in
@@ -124,6 +124,6 @@ counted f first (suc n) k each =
     omega arith
 
 -- all connections together have `connections * commands` commands
-pub traffic_count : (number connections commands : ℕ) → IsTraffic number connections commands → count_of_commands connections (commands_in (records_of number connections commands)) ≡ connections * commands
+pub traffic_count : (number connections commands : ℕ) → IsTraffic number connections commands → count_of_commands connections (commands_in (traffic_records number connections commands)) ≡ connections * commands
 traffic_count number connections commands is =
-    counted (λ conn. length (commands_in (records_of number connections commands) conn)) 0 connections commands (λ conn low high. length-commands number connections commands conn is (omega arith))
+    counted (λ conn. length (commands_in (traffic_records number connections commands) conn)) 0 connections commands (λ conn low high. length-commands number connections commands conn is (omega arith))

@@ -3,7 +3,7 @@ use Rattle.std.proofs.Common.{◌≡◌, ℕ, ◌+◌, ◌%◌, ◌^◌, ◌<◌
 use Rattle.std.specs.Prelude.{decimal}
 use Rattle.std.specs.List.{AllByRecursion}
 use Rattle.std.proofs.lemmas.Fmt.{decimal_by_steps, decimal_injective}
-use Rattle.zy_gen.specs.Traffic.{key}
+use Rattle.zy_gen.specs.Traffic.{traffic_key}
 use Rattle.zy_gen.proofs.SolidLemmas.{each-append}
 
 digits_low : (n : ℕ) → n < 2 ^ 64 → AllByRecursion (λ byte. byte < 58) (decimal n)
@@ -27,8 +27,8 @@ before_colon (x ∷ xs) (y ∷ ys) us vs low lows is =
     ap (λ (byte : ℕ). byte ∷ xs) (ap (λ (l : List ℕ). get_or l 0 0) is) ∙ ap (λ (l : List ℕ). y ∷ l) (before_colon xs ys us vs low.1 lows.1 (ap rest is))
 
 -- a key determines its connection
-pub key-conn : (conn other item another : ℕ) → conn < 2 ^ 64 → other < 2 ^ 64 → key conn item ≡ key other another → conn ≡ other
-unfolding key rest
+pub key-conn : (conn other item another : ℕ) → conn < 2 ^ 64 → other < 2 ^ 64 → traffic_key conn item ≡ traffic_key other another → conn ≡ other
+unfolding traffic_key rest
 key-conn conn other item another small low is =
     decimal_injective conn other small low
     (before_colon (decimal conn) (decimal other) (decimal (item % 64)) (decimal (another % 64)) (digits_low conn small) (digits_low other low) (ap rest is))

@@ -4,10 +4,10 @@ use Rattle.std.specs.Prelude.{codes, decimal}
 use Rattle.std.proofs.lemmas.Fmt.{length-decimal-le}
 use Rattle.zy_gen.specs.declared.request.Request.{Request}
 use Rattle.zy_gen.specs.declared.request.Request.TheVariants.{Get, GetMany, Set, SetTen, Incr, Append, Delete}
-use Rattle.zy_gen.specs.Traffic.{key, keys, block, quiet_word, request_text, IsSmall}
+use Rattle.zy_gen.specs.Traffic.{traffic_key, keys, block, quiet_word, request_text, IsSmall}
 
-key_few : (connection item : ℕ) → connection < 4096 → length (key connection item) ≤ 8
-unfolding key
+key_few : (connection item : ℕ) → connection < 4096 → length (traffic_key connection item) ≤ 8
+unfolding traffic_key
 key_few connection item few =
     let a = length-decimal-le 4 connection (omega arith) (omega arith) (omega arith) in
     let b = length-decimal-le 2 (item % 64) (omega arith) (omega arith) (omega arith) in
@@ -17,7 +17,7 @@ keys_few : (connection item count : ℕ) → connection < 4096 → length (keys 
 unfolding keys
 keys_few connection item zero few = omega arith
 keys_few connection item (suc count) few =
-    omega (arith, key_few connection item few, keys_few connection (item + 1) count few, length-append (key connection item) (keys connection (item + 1) count))
+    omega (arith, key_few connection item few, keys_few connection (item + 1) count few, length-append (traffic_key connection item) (keys connection (item + 1) count))
 
 block_size : (letter size : ℕ) → length (block letter size) ≡ size
 unfolding block
@@ -29,9 +29,9 @@ quiet_few true = omega arith
 quiet_few false = omega arith
 
 -- a key with bytes before and after it
-around : (before after : List ℕ) (connection item : ℕ) → connection < 4096 → length (before ++ (key connection item ++ after)) ≤ length before + (8 + length after)
+around : (before after : List ℕ) (connection item : ℕ) → connection < 4096 → length (before ++ (traffic_key connection item ++ after)) ≤ length before + (8 + length after)
 around before after connection item few =
-    omega (arith, key_few connection item few, length-append before (key connection item ++ after), length-append (key connection item) after)
+    omega (arith, key_few connection item few, length-append before (traffic_key connection item ++ after), length-append (traffic_key connection item) after)
 
 pub text_few : (connection item : ℕ) (request : Request) → connection < 4096 → IsSmall request → length (request_text connection item request) ≤ 455
 unfolding request_text

@@ -15,7 +15,7 @@ use Rattle.mc_parse.proofs.NumberLemmas.{small-found}
 use Rattle.mc_parse.specs.Form.{stores, gets, deletes, counts, asks, check, find, form_of, is_key, sizes, store_ask}
 use Rattle.zy_gen.specs.declared.request.Request.{Request}
 use Rattle.zy_gen.specs.declared.request.Request.TheVariants.{Get, GetMany, Set, SetTen, Incr, Append, Delete}
-use Rattle.zy_gen.specs.Traffic.{key, keys, block, request_text, IsSmall}
+use Rattle.zy_gen.specs.Traffic.{traffic_key, keys, block, request_text, IsSmall}
 use Rattle.zy_gen.specs.Said.{IsKeyOf, IsSolidWord, Says, spoken}
 use Rattle.zy_gen.proofs.SolidLemmas.{word-decimal, word-key}
 
@@ -24,12 +24,12 @@ use Rattle.zy_gen.proofs.SolidLemmas.{word-decimal, word-key}
 small_decimal : (n : ℕ) → n < 2 ^ 32 → small_number_of (decimal n) ≡ Some n
 small_decimal n small = small-found (decimal n) n (number_of-decimal n (omega arith)) small
 
-key_short : (conn item : ℕ) → conn < 4096 → is_key (key conn item) ≡ true
-unfolding key
+key_short : (conn item : ℕ) → conn < 4096 → is_key (traffic_key conn item) ≡ true
+unfolding traffic_key
 key_short conn item few =
     let a = length-decimal-le 4 conn (omega arith) (omega arith) (omega arith) in
     let b = length-decimal-le 2 (item % 64) (omega arith) (omega arith) (omega arith) in
-    le-leb (length (key conn item)) 250
+    le-leb (length (traffic_key conn item)) 250
     (omega (arith, a, b, length-append (decimal conn) (codes ":" ++ decimal (item % 64))))
 
 block_size : (letter size : ℕ) → length (block letter size) ≡ size
@@ -82,20 +82,20 @@ form_incr k amount n short is =
 
 -- ---- requests
 
-own : (conn item : ℕ) → IsKeyOf conn (key conn item)
+own : (conn item : ℕ) → IsKeyOf conn (traffic_key conn item)
 own conn item = record { item = item; is = refl }
 
 says_get : (conn item : ℕ) → conn < 4096 → Says conn (request_text conn item Get)
 unfolding request_text
 says_get conn item few = record {
   name = codes "get";
-  words = key conn item ∷ [];
+  words = traffic_key conn item ∷ [];
   after = [];
-  ask = gets (key conn item ∷ []) false;
+  ask = gets (traffic_key conn item ∷ []) false;
   quiet = false;
   text_is = simp append_assoc;
   solid = (record { some = omega arith; solid = (omega arith, (omega arith, (omega arith, tt))) }, (word-key conn item (omega arith), tt));
-  form = form_get (key conn item) [] (ap (λ t. t && true) (key_short conn item few));
+  form = form_get (traffic_key conn item) [] (ap (λ t. t && true) (key_short conn item few));
   tail = refl;
   own = (refl, (own conn item, tt));
 }
@@ -104,13 +104,13 @@ says_delete : (conn item : ℕ) → conn < 4096 → Says conn (request_text conn
 unfolding request_text
 says_delete conn item few = record {
   name = codes "delete";
-  words = key conn item ∷ [];
+  words = traffic_key conn item ∷ [];
   after = [];
-  ask = deletes (key conn item);
+  ask = deletes (traffic_key conn item);
   quiet = false;
   text_is = simp append_assoc;
   solid = (record { some = omega arith; solid = (omega arith, (omega arith, (omega arith, (omega arith, (omega arith, (omega arith, tt)))))) }, (word-key conn item (omega arith), tt));
-  form = form_delete (key conn item) (key_short conn item few);
+  form = form_delete (traffic_key conn item) (key_short conn item few);
   tail = refl;
   own = own conn item;
 }
@@ -119,16 +119,16 @@ says_incr : (conn item : ℕ) → conn < 4096 → Says conn (request_text conn i
 unfolding request_text
 says_incr conn item few = record {
   name = codes "incr";
-  words = key conn item ∷ codes "7" ∷ [];
+  words = traffic_key conn item ∷ codes "7" ∷ [];
   after = [];
-  ask = counts (key conn item) true 7;
+  ask = counts (traffic_key conn item) true 7;
   quiet = false;
   text_is = simp append_assoc;
   solid = (
     record { some = omega arith; solid = (omega arith, (omega arith, (omega arith, (omega arith, tt)))) },
     (word-key conn item (omega arith), (record { some = omega arith; solid = (omega arith, tt) }, tt)),
   );
-  form = form_incr (key conn item) (codes "7") 7 (key_short conn item few) refl;
+  form = form_incr (traffic_key conn item) (codes "7") 7 (key_short conn item few) refl;
   tail = refl;
   own = own conn item;
 }
@@ -143,16 +143,16 @@ says_set_ten : (conn item : ℕ) → conn < 4096 → Says conn (request_text con
 unfolding request_text
 says_set_ten conn item few = record {
   name = codes "set";
-  words = key conn item ∷ codes "0" ∷ codes "3600" ∷ codes "2" ∷ [];
+  words = traffic_key conn item ∷ codes "0" ∷ codes "3600" ∷ codes "2" ∷ [];
   after = codes "10\r\n";
-  ask = stores Verbs.Set (key conn item) 0 2;
+  ask = stores Verbs.Set (traffic_key conn item) 0 2;
   quiet = false;
   text_is = simp append_assoc;
   solid = (
     set_solid,
     (word-key conn item (omega arith), (digit_solid 48 (omega arith), (record { some = omega arith; solid = (omega arith, (omega arith, (omega arith, (omega arith, tt)))) }, (digit_solid 50 (omega arith), tt)))),
   );
-  form = form_set (key conn item) (codes "0") (codes "3600") (codes "2") 0 2 false (key_short conn item few) refl refl refl;
+  form = form_set (traffic_key conn item) (codes "0") (codes "3600") (codes "2") 0 2 false (key_short conn item few) refl refl refl;
   tail = refl;
   own = own conn item;
 }
@@ -161,16 +161,16 @@ says_append : (conn item : ℕ) → conn < 4096 → Says conn (request_text conn
 unfolding request_text
 says_append conn item few = record {
   name = codes "append";
-  words = key conn item ∷ codes "0" ∷ codes "0" ∷ codes "1" ∷ [];
+  words = traffic_key conn item ∷ codes "0" ∷ codes "0" ∷ codes "1" ∷ [];
   after = codes "9\r\n";
-  ask = stores Verbs.Append (key conn item) 0 1;
+  ask = stores Verbs.Append (traffic_key conn item) 0 1;
   quiet = false;
   text_is = simp append_assoc;
   solid = (
     record { some = omega arith; solid = (omega arith, (omega arith, (omega arith, (omega arith, (omega arith, (omega arith, tt)))))) },
     (word-key conn item (omega arith), (digit_solid 48 (omega arith), (digit_solid 48 (omega arith), (digit_solid 49 (omega arith), tt)))),
   );
-  form = form_append (key conn item) (codes "0") (codes "0") (codes "1") 0 1 (key_short conn item few) refl refl refl;
+  form = form_append (traffic_key conn item) (codes "0") (codes "0") (codes "1") 0 1 (key_short conn item few) refl refl refl;
   tail = refl;
   own = own conn item;
 }
@@ -188,25 +188,25 @@ says_set : (conn item flags size : ℕ) (quiet : Bool) → conn < 4096 → flags
 unfolding request_text
 says_set conn item flags size true few low small = record {
   name = codes "set";
-  words = key conn item ∷ decimal flags ∷ codes "3600" ∷ decimal size ∷ codes "noreply" ∷ [];
+  words = traffic_key conn item ∷ decimal flags ∷ codes "3600" ∷ decimal size ∷ codes "noreply" ∷ [];
   after = block item size ++ codes "\r\n";
-  ask = stores Verbs.Set (key conn item) flags size;
+  ask = stores Verbs.Set (traffic_key conn item) flags size;
   quiet = true;
   text_is = simp append_assoc;
   solid = (set_solid, (word-key conn item (omega arith), (word-decimal flags (omega arith), (hour_solid, (word-decimal size (omega arith), (noreply_solid, tt))))));
-  form = form_set (key conn item) (decimal flags) (codes "3600") (decimal size) flags size true (key_short conn item few) refl (small_decimal flags (omega arith)) (small_decimal size (omega arith));
+  form = form_set (traffic_key conn item) (decimal flags) (codes "3600") (decimal size) flags size true (key_short conn item few) refl (small_decimal flags (omega arith)) (small_decimal size (omega arith));
   tail = ended item size;
   own = own conn item;
 }
 says_set conn item flags size false few low small = record {
   name = codes "set";
-  words = key conn item ∷ decimal flags ∷ codes "3600" ∷ decimal size ∷ [];
+  words = traffic_key conn item ∷ decimal flags ∷ codes "3600" ∷ decimal size ∷ [];
   after = block item size ++ codes "\r\n";
-  ask = stores Verbs.Set (key conn item) flags size;
+  ask = stores Verbs.Set (traffic_key conn item) flags size;
   quiet = false;
   text_is = simp append_assoc;
   solid = (set_solid, (word-key conn item (omega arith), (word-decimal flags (omega arith), (hour_solid, (word-decimal size (omega arith), tt)))));
-  form = form_set (key conn item) (decimal flags) (codes "3600") (decimal size) flags size false (key_short conn item few) refl (small_decimal flags (omega arith)) (small_decimal size (omega arith));
+  form = form_set (traffic_key conn item) (decimal flags) (codes "3600") (decimal size) flags size false (key_short conn item few) refl (small_decimal flags (omega arith)) (small_decimal size (omega arith));
   tail = ended item size;
   own = own conn item;
 }
@@ -215,12 +215,12 @@ says_set conn item flags size false few low small = record {
 
 key_list : ℕ → ℕ → ℕ → List (List ℕ)
 key_list conn item zero = []
-key_list conn item (suc count) = key conn item ∷ key_list conn (item + 1) count
+key_list conn item (suc count) = traffic_key conn item ∷ key_list conn (item + 1) count
 
 spoken-keys : (word : List ℕ) (conn item count : ℕ) → spoken word (key_list conn item count) ≡ word ++ keys conn item count
 unfolding key_list keys
 spoken-keys word conn item zero = sym (append-nil word)
-spoken-keys word conn item (suc count) = ap (λ (l : List ℕ). word ++ 32 ∷ l) (spoken-keys (key conn item) conn (item + 1) count)
+spoken-keys word conn item (suc count) = ap (λ (l : List ℕ). word ++ 32 ∷ l) (spoken-keys (traffic_key conn item) conn (item + 1) count)
 
 solid-keys : (conn item count : ℕ) → conn < 4096 → AllByRecursion IsSolidWord (key_list conn item count)
 unfolding key_list
@@ -239,7 +239,7 @@ own-keys conn item (suc count) = (own conn item, own-keys conn (item + 1) count)
 
 form_many : (conn item count : ℕ) → conn < 4096 → form_of (codes "get" ∷ key_list conn item (suc count)) ≡ asks (gets (key_list conn item (suc count)) false) false
 unfolding key_list
-form_many conn item count few = form_get (key conn item) (key_list conn (item + 1) count) (short-keys conn item (suc count) few)
+form_many conn item count few = form_get (traffic_key conn item) (key_list conn (item + 1) count) (short-keys conn item (suc count) few)
 
 many_text : (conn item count : ℕ) → codes "get" ++ (keys conn item count ++ codes "\r\n") ≡ (spoken (codes "get") (key_list conn item count) ++ 13 ∷ []) ++ 10 ∷ []
 many_text conn item count =

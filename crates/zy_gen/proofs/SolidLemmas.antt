@@ -6,8 +6,8 @@ use Rattle.std.proofs.lemmas.Fmt.{decimal_by_steps, decimal_nonempty}
 use Rattle.mc_parse.specs.Words.{words, is_word}
 use Rattle.mc_parse.proofs.WordLemmas.{words-parted, words-one}
 use Rattle.zy_frame.specs.Line.{first_line, chomped, begun_by}
-use Rattle.zy_gen.specs.Traffic.{key}
-use Rattle.zy_gen.specs.Said.{IsSolid, IsInLine, IsSolidWord, spoken}
+use Rattle.zy_gen.specs.Traffic.{traffic_key}
+use Rattle.zy_gen.specs.Said.{IsSolid, HasNoLineEnd, IsSolidWord, spoken}
 
 -- ---- lists
 
@@ -25,8 +25,8 @@ solid-decimal n small =
 pub word-decimal : (n : ℕ) → n < 2 ^ 64 → IsSolidWord (decimal n)
 word-decimal n small = record { some = decimal_nonempty n small; solid = solid-decimal n small }
 
-pub word-key : (conn item : ℕ) → conn < 2 ^ 64 → IsSolidWord (key conn item)
-unfolding key
+pub word-key : (conn item : ℕ) → conn < 2 ^ 64 → IsSolidWord (traffic_key conn item)
+unfolding traffic_key
 word-key conn item small = record {
   some = omega arith;
   solid = (omega arith, each-append (λ byte. 33 ≤ byte) (decimal conn) (codes ":" ++ decimal (item % 64)) (solid-decimal conn small) (omega arith, solid-decimal (item % 64) (omega arith)));
@@ -51,15 +51,15 @@ words-spoken word (next ∷ more) solid =
 
 -- ---- lines
 
-in_line : (text : List ℕ) → IsSolid text → IsInLine text
+in_line : (text : List ℕ) → IsSolid text → HasNoLineEnd text
 in_line [] solid = tt
 in_line (byte ∷ bytes) solid = ((let high = solid.0 in omega arith), in_line bytes solid.1)
 
-pub in_line-spoken : (word : List ℕ) (more : List (List ℕ)) → AllByRecursion IsSolidWord (word ∷ more) → IsInLine (spoken word more)
+pub in_line-spoken : (word : List ℕ) (more : List (List ℕ)) → AllByRecursion IsSolidWord (word ∷ more) → HasNoLineEnd (spoken word more)
 in_line-spoken word [] solid = in_line word solid.0.solid
 in_line-spoken word (next ∷ more) solid = each-append (λ byte. 11 ≤ byte) word (32 ∷ spoken next more) (in_line word solid.0.solid) (omega arith, in_line-spoken next more solid.1)
 
-pub no_feed : (text : List ℕ) → IsInLine text → first_line text ≡ None
+pub no_feed : (text : List ℕ) → HasNoLineEnd text → first_line text ≡ None
 no_feed [] is = refl
 no_feed (byte ∷ bytes) is =
     ap (λ b. if b then Some (record { line = []; after = bytes }) else begun_by byte (first_line bytes)) (ne_eqb byte 10 (λ same. let high = is.0 in omega arith)) ∙ ap (begun_by byte) (no_feed bytes is.1)

@@ -6,21 +6,21 @@ use Rattle.std.proofs.lemmas.Grind.{flat_map-append}
 use Rattle.rand_pcg.specs.Lcg.{Lcg}
 use Rattle.zy_capture.specs.declared.record.Record.{Record}
 use Rattle.zy_capture.specs.Capture.{spelled}
-use Rattle.zy_gen.specs.Traffic.{key, keys, block, Made, behind, one_command, one_round, rounds, segment, cut}
+use Rattle.zy_gen.specs.Traffic.{traffic_key, keys, block, Made, behind, one_command, one_round, rounds, segment_record, cut}
 
 -- ---- keys
 
-keys_next : (connection item left : ℕ) → keys connection item (suc left) ≡ 32 ∷ (key connection item ++ keys connection (item + 1) left)
+keys_next : (connection item left : ℕ) → keys connection item (suc left) ≡ 32 ∷ (traffic_key connection item ++ keys connection (item + 1) left)
 unfolding keys
 keys_next connection item left = refl
 
 -- one further key
 pub keys_step : (out total : List ℕ) (connection item i count : ℕ) → i < count → out ++ keys connection (item + i) (count - i) ≡ total
-    → (out ++ (32 ∷ (key connection (item + i) ++ []))) ++ keys connection (item + (i + 1)) (count - (i + 1)) ≡ total
+    → (out ++ (32 ∷ (traffic_key connection (item + i) ++ []))) ++ keys connection (item + (i + 1)) (count - (i + 1)) ≡ total
 keys_step out total connection item i count within is =
     let left : count - i ≡ suc (count - (i + 1)) = omega arith in
     let next : item + i + 1 ≡ item + (i + 1) = omega arith in
-    let k : List ℕ = key connection (item + i) in
+    let k : List ℕ = traffic_key connection (item + i) in
     let rest : List ℕ = keys connection (item + (i + 1)) (count - (i + 1)) in
     append_assoc out (32 ∷ (k ++ [])) rest
     ∙ ap (λ (l : List ℕ). out ++ 32 ∷ (l ++ rest)) (append-nil k)
@@ -145,7 +145,7 @@ rounds_end out total connections i count words over is =
 -- ---- segments
 
 -- two segments
-pub cut_on : (out bytes : List ℕ) (connection at : ℕ) → (out ++ spelled (segment connection (take at bytes))) ++ spelled (segment connection (drop at bytes)) ≡ out ++ flat_map spelled (cut connection bytes at)
+pub cut_on : (out bytes : List ℕ) (connection at : ℕ) → (out ++ spelled (segment_record connection (take at bytes))) ++ spelled (segment_record connection (drop at bytes)) ≡ out ++ flat_map spelled (cut connection bytes at)
 cut_on out bytes connection at =
-    append_assoc out (spelled (segment connection (take at bytes))) (spelled (segment connection (drop at bytes)))
-    ∙ ap (λ (l : List ℕ). out ++ (spelled (segment connection (take at bytes)) ++ l)) (sym (append-nil (spelled (segment connection (drop at bytes)))))
+    append_assoc out (spelled (segment_record connection (take at bytes))) (spelled (segment_record connection (drop at bytes)))
+    ∙ ap (λ (l : List ℕ). out ++ (spelled (segment_record connection (take at bytes)) ++ l)) (sym (append-nil (spelled (segment_record connection (drop at bytes)))))

@@ -9,9 +9,9 @@ use Rattle.zy_capture.specs.declared.record.Record.TheVariants as Kinds
 use Rattle.zy_capture.specs.Streams.{closes, stream}
 use Rattle.zy_frame.specs.Cut.{joined}
 use Rattle.zy_gen.specs.Draw.{draw, draw_command, words_of}
-use Rattle.zy_gen.specs.Traffic.{text_of, cut, one_command, one_round, rounds, records_of}
+use Rattle.zy_gen.specs.Traffic.{command_text, cut, one_command, one_round, rounds, traffic_records}
 use Rattle.zy_gen.proofs.TrafficLemmas.{command_small}
-use Rattle.zy_gen.specs.Said.{AreSegments, Gives, IsOwnText}
+use Rattle.zy_gen.specs.Said.{AreSegments, CarriesRequests, IsOwnText}
 use Rattle.zy_gen.proofs.SolidLemmas.{each-append}
 
 -- ---- records
@@ -39,10 +39,10 @@ joined-append : (xs ys : List (List ℕ)) → joined (xs ++ ys) ≡ joined xs ++
 joined-append [] ys = refl
 joined-append (x ∷ xs) ys = ap (λ (l : List ℕ). x ++ l) (joined-append xs ys) ∙ sym (append_assoc x (joined xs) (joined ys))
 
-gives-none : (conn : ℕ) → Gives conn 0 []
+gives-none : (conn : ℕ) → CarriesRequests conn 0 []
 gives-none conn = record { segments = tt; texts = []; count = refl; whole = refl; each = tt }
 
-gives-append : (conn n m : ℕ) (xs ys : List Record) → Gives conn n xs → Gives conn m ys → Gives conn (n + m) (xs ++ ys)
+gives-append : (conn n m : ℕ) (xs ys : List Record) → CarriesRequests conn n xs → CarriesRequests conn m ys → CarriesRequests conn (n + m) (xs ++ ys)
 gives-append conn n m xs ys front back = record {
   segments = segments-append xs ys front.segments back.segments;
   texts = front.texts ++ back.texts;
@@ -62,56 +62,56 @@ stream-cut conn connection at bytes false is =
     ap (λ b. cond (b && true) (take at bytes ++ cond (b && true) (drop at bytes ++ []) []) (cond (b && true) (drop at bytes ++ []) [])) is
 
 -- a command of the connection
-gives-own : (conn connection : ℕ) (words : Lcg) → connection ≡ conn → Gives conn 1 (one_command connection words).items
+gives-own : (conn connection : ℕ) (words : Lcg) → connection ≡ conn → CarriesRequests conn 1 (one_command connection words).items
 unfolding one_command
 gives-own conn connection words is =
     let drawn = draw_command words in
-    let bytes : List ℕ = text_of connection drawn.command in
+    let bytes : List ℕ = command_text connection drawn.command in
     record {
       segments = tt;
       texts = bytes ∷ [];
       count = refl;
       whole = stream-cut conn connection (draw (length bytes + 1) drawn.left).value bytes true (eq-eqb connection conn is) ∙ sym (append-nil bytes);
-      each = (record { item = drawn.command.item; request = drawn.command.request; small = command_small words; is = ap (λ c. text_of c drawn.command) is }, tt);
+      each = (record { item = drawn.command.item; request = drawn.command.request; small = command_small words; is = ap (λ c. command_text c drawn.command) is }, tt);
     }
 
 -- a command of another connection
-gives-other : (conn connection : ℕ) (words : Lcg) → (connection ≡ conn → ⊥) → Gives conn 0 (one_command connection words).items
+gives-other : (conn connection : ℕ) (words : Lcg) → (connection ≡ conn → ⊥) → CarriesRequests conn 0 (one_command connection words).items
 unfolding one_command
 gives-other conn connection words other =
     let drawn = draw_command words in
-    let bytes : List ℕ = text_of connection drawn.command in
+    let bytes : List ℕ = command_text connection drawn.command in
     record { segments = tt; texts = []; count = refl; whole = stream-cut conn connection (draw (length bytes + 1) drawn.left).value bytes false (ne_eqb connection conn other); each = tt }
 
 -- ---- rounds
 
-more : (conn connection count n m : ℕ) (words : Lcg) → Gives conn n (one_command connection words).items → Gives conn m (one_round (connection + 1) count (one_command connection words).left).items
-    → Gives conn (n + m) (one_round connection (suc count) words).items
+more : (conn connection count n m : ℕ) (words : Lcg) → CarriesRequests conn n (one_command connection words).items → CarriesRequests conn m (one_round (connection + 1) count (one_command connection words).left).items
+    → CarriesRequests conn (n + m) (one_round connection (suc count) words).items
 unfolding one_round
 more conn connection count n m words = gives-append conn n m (one_command connection words).items (one_round (connection + 1) count (one_command connection words).left).items
 
 -- a round of later connections
-round-past : (conn connection count : ℕ) (words : Lcg) → conn < connection → Gives conn 0 (one_round connection count words).items
+round-past : (conn connection count : ℕ) (words : Lcg) → conn < connection → CarriesRequests conn 0 (one_round connection count words).items
 unfolding one_round
 round-past conn connection zero words past = gives-none conn
 round-past conn connection (suc count) words past =
     more conn connection count 0 0 words (gives-other conn connection words (λ is. omega arith)) (round-past conn (connection + 1) count (one_command connection words).left (omega arith))
 
 -- a round with the connection
-round-one : (conn connection count : ℕ) (words : Lcg) → connection ≤ conn → conn < connection + count → Gives conn 1 (one_round connection count words).items
+round-one : (conn connection count : ℕ) (words : Lcg) → connection ≤ conn → conn < connection + count → CarriesRequests conn 1 (one_round connection count words).items
 round-one conn connection zero words low high = absurd (omega arith)
 round-one conn connection (suc count) words low high = dite (ℕ_discrete connection conn)
     (λ is. more conn connection count 1 0 words (gives-own conn connection words is) (round-past conn (connection + 1) count (one_command connection words).left (omega arith)))
     (λ other. more conn connection count 0 1 words (gives-other conn connection words other) (round-one conn (connection + 1) count (one_command connection words).left (omega arith) (omega arith)))
 
-rounds-all : (conn connections count : ℕ) (words : Lcg) → conn < connections → Gives conn count (rounds connections count words).items
+rounds-all : (conn connections count : ℕ) (words : Lcg) → conn < connections → CarriesRequests conn count (rounds connections count words).items
 unfolding rounds
 rounds-all conn connections zero words within = gives-none conn
 rounds-all conn connections (suc count) words within =
-    subst (λ n. Gives conn n ((one_round 0 connections words).items ++ (rounds connections count (one_round 0 connections words).left).items)) (omega arith)
+    subst (λ n. CarriesRequests conn n ((one_round 0 connections words).items ++ (rounds connections count (one_round 0 connections words).left).items)) (omega arith)
     (gives-append conn 1 count (one_round 0 connections words).items (rounds connections count (one_round 0 connections words).left).items
     (round-one conn 0 connections words (omega arith) (omega arith)) (rounds-all conn connections count (one_round 0 connections words).left within))
 
 -- each connection's stream is `commands` requests of its own
-pub gives-traffic : (conn number connections commands : ℕ) → conn < connections → Gives conn commands (records_of number connections commands)
+pub gives-traffic : (conn number connections commands : ℕ) → conn < connections → CarriesRequests conn commands (traffic_records number connections commands)
 gives-traffic conn number connections commands within = rounds-all conn connections commands (words_of number) within

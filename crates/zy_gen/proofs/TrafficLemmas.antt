@@ -8,7 +8,7 @@ use Rattle.rand_pcg.specs.Lcg.{Lcg}
 use Rattle.zy_capture.specs.declared.record.Record.{Record}
 use Rattle.zy_capture.specs.Capture.{spelled, spelling, IsRecordOf, Spells, capture_limit}
 use Rattle.zy_gen.specs.Draw.{DrawnRequest, draw, draw_set, draw_request, draw_command, words_of}
-use Rattle.zy_gen.specs.Traffic.{text_of, IsSmall, segment, cut, one_command, one_round, rounds, records_of, gen_bytes, IsTraffic}
+use Rattle.zy_gen.specs.Traffic.{command_text, IsSmall, segment_record, cut, one_command, one_round, rounds, traffic_records, gen_bytes, IsTraffic}
 use Rattle.zy_gen.proofs.LengthLemmas.{text_few}
 
 -- ---- what is drawn
@@ -53,7 +53,7 @@ few_on connections most more xs ys first second = record {
 cut_few : (connections connection at : ℕ) (bytes : List ℕ) → connection < connections → length bytes ≤ 455 → AreFew connections 473 (cut connection bytes at)
 cut_few connections connection at bytes within few =
     let both : length (take at bytes) + length (drop at bytes) ≡ length bytes = omega (arith, length-take at bytes, length-drop at bytes) in
-    let second : List ℕ = spelled (segment connection (drop at bytes)) ++ [] in
+    let second : List ℕ = spelled (segment_record connection (drop at bytes)) ++ [] in
     let seconds : length second ≡ 9 + length (drop at bytes) = omega (arith, length-append (drop at bytes) []) in
     record {
       lawful = ((within, omega (arith, both, few)), ((within, omega (arith, both, few)), tt));
@@ -64,7 +64,7 @@ command_few : (connections connection : ℕ) (words : Lcg) → connection < conn
 unfolding one_command
 command_few connections connection words within small =
     let drawn = draw_command words in
-    let bytes : List ℕ = text_of connection drawn.command in
+    let bytes : List ℕ = command_text connection drawn.command in
     cut_few connections connection (draw (length bytes + 1) drawn.left).value bytes within (text_few connection drawn.command.item drawn.command.request small (command_small words))
 
 round_few : (connections connection count : ℕ) (words : Lcg) → connection + count ≤ connections → connections ≤ 4096 → AreFew connections (473 * count) (one_round connection count words).items
@@ -91,11 +91,11 @@ short : (connections : ℕ) (items : List Record) → length (flat_map spelled i
 unfolding spelling
 short connections items few = omega (arith, few, length-append (flat_map spelled items) (69 ∷ []))
 
-pub traffic_spells : (number connections commands : ℕ) → IsTraffic number connections commands → Spells (gen_bytes number connections commands) 1 connections (records_of number connections commands)
+pub traffic_spells : (number connections commands : ℕ) → IsTraffic number connections commands → Spells (gen_bytes number connections commands) 1 connections (traffic_records number connections commands)
 traffic_spells number connections commands is =
     let all = rounds_few connections commands (words_of number) is.few_connections in
     record {
       valid = record { known = inl refl; few = is.few_connections; lawful = all.lawful };
       spelled = refl;
-      short = short connections (records_of number connections commands) (omega (arith, all.few, is.few_commands));
+      short = short connections (traffic_records number connections commands) (omega (arith, all.few, is.few_commands));
     }

@@ -6,11 +6,11 @@ use Rattle.rand_pcg.specs.Lcg.{Lcg}
 use Rattle.zy_capture.specs.Capture.{spelling}
 use Rattle.zy_gen.specs.declared.request.Request.TheVariants.{Get}
 use Rattle.zy_gen.specs.Draw.{words_of, draw, draw_command}
-use Rattle.zy_gen.specs.Traffic.{key, request_text, Made, cut, one_command, one_round, rounds, gen_bytes}
-use Rattle.zy_gen.specs.Worked.{worked_bytes}
+use Rattle.zy_gen.specs.Traffic.{traffic_key, request_text, Made, cut, one_command, one_round, rounds, gen_bytes}
+use Rattle.zy_gen.specs.Worked.{worked_traffic}
 
-key_is : key 0 9 ≡ codes "k0:9"
-unfolding key
+key_is : traffic_key 0 9 ≡ codes "k0:9"
+unfolding traffic_key
 key_is = rw (decimal_digit 0 (omega arith), decimal_digit 9 (omega arith)) refl
 
 text_is : request_text 0 9 Get ≡ codes "get k0:9\r\n"
@@ -29,6 +29,6 @@ command_is : one_command 0 (words_of 42) ≡ with_bytes (codes "get k0:9\r\n")
 unfolding one_command with_bytes left draw
 command_is = ap with_bytes text_is
 
-pub worked : gen_bytes 42 1 1 ≡ worked_bytes
+pub worked : gen_bytes 42 1 1 ≡ worked_traffic
 unfolding spelling rounds one_round with_bytes left draw
 worked = ap (λ (made : Made). spelling 1 1 ((made.items ++ []) ++ [])) command_is

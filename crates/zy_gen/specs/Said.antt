@@ -10,7 +10,7 @@ use Rattle.zy_capture.specs.declared.record.Record.{Record}
 use Rattle.zy_capture.specs.declared.record.Record.TheVariants as Kinds
 use Rattle.zy_capture.specs.Streams.{stream}
 use Rattle.zy_gen.specs.declared.request.Request.{Request}
-use Rattle.zy_gen.specs.Traffic.{key, request_text, IsSmall}
+use Rattle.zy_gen.specs.Traffic.{traffic_key, request_text, IsSmall}
 
 -- ---- bytes
 
@@ -19,8 +19,8 @@ abbrev pub IsSolid : List ℕ → Type 0
 IsSolid text = AllByRecursion (λ byte. 33 ≤ byte) text
 
 -- each byte is above that of a line feed
-abbrev pub IsInLine : List ℕ → Type 0
-IsInLine text = AllByRecursion (λ byte. 11 ≤ byte) text
+abbrev pub HasNoLineEnd : List ℕ → Type 0
+HasNoLineEnd text = AllByRecursion (λ byte. 11 ≤ byte) text
 
 -- a text of at least one byte, each above that of a space
 pub record IsSolidWord (text : List ℕ) : Type 0 where
@@ -37,7 +37,7 @@ spoken word (next ∷ words) = word ++ 32 ∷ spoken next words
 -- the key is one of the connection's
 pub record IsKeyOf (conn : ℕ) (text : List ℕ) : Type 0 where
   pub item : ℕ
-  pub is : text ≡ key conn item
+  pub is : text ≡ traffic_key conn item
 
 -- ---- texts
 
@@ -71,7 +71,7 @@ AreSegments (Kinds.Segment s ∷ items) = AreSegments items
 AreSegments (Kinds.Close conn ∷ items) = ⊥
 
 -- records are segments, and those of a connection join to `n` requests of its own
-pub record Gives (conn n : ℕ) (items : List Record) : Type 0 where
+pub record CarriesRequests (conn n : ℕ) (items : List Record) : Type 0 where
   pub segments : AreSegments items
   pub texts : List (List ℕ)
   pub count : length texts ≡ n

@@ -2,7 +2,7 @@
 use Rattle.std.specs.Prelude.{ℕ, List, ◌++◌, ◌∷◌, [], codes}
 
 -- `get k0:9`, cut after six bytes
-abbrev pub worked_bytes : List ℕ
-worked_bytes =
+abbrev pub worked_traffic : List ℕ
+worked_traffic =
     codes "ZYGCAP1\n" ++ 0 ∷ 0 ∷ 0 ∷ 1 ∷ 83 ∷ 0 ∷ 0 ∷ 0 ∷ 0 ∷ 0 ∷ 0 ∷ 0 ∷ 6 ∷ codes "get k0"
     ++ 83 ∷ 0 ∷ 0 ∷ 0 ∷ 0 ∷ 0 ∷ 0 ∷ 0 ∷ 4 ∷ codes ":9\r\n" ++ 69 ∷ []

@@ -9,22 +9,22 @@ ghost use Rattle.zy_run.specs.Run.{IsRun};
 ghost use Rattle.zy_run.specs.Output.{all_outputs};
 ghost use Rattle.zy_run.specs.Apart.{AreApart};
 ghost use Rattle.zy_run.specs.Summary.{count_of_commands, summary, summary_of_run};
-ghost use Rattle.zy_gen.specs.Traffic.{gen_bytes, records_of, IsTraffic};
-ghost use Rattle.zy_gen.specs.Worked.{worked_bytes};
+ghost use Rattle.zy_gen.specs.Traffic.{gen_bytes, traffic_records, IsTraffic};
+ghost use Rattle.zy_gen.specs.Worked.{worked_traffic};
 
 /// Generated traffic is a good capture of version 1, with its number of connections and its segments.
 pub fn generated_traffic_is_a_good_capture()
     ensures spells { (number connections commands : ℕ) → IsTraffic number connections commands
         → Spells (gen_bytes number connections commands) 1 connections
-        (records_of number connections commands) }
+        (traffic_records number connections commands) }
     ensures good { (number connections commands : ℕ) → IsTraffic number connections commands
         → verdict (gen_bytes number connections commands)
-        ≡ Good 1 connections (records_of number connections commands) }
+        ≡ Good 1 connections (traffic_records number connections commands) }
 {}
 
 /// The worked capture has its 41 bytes.
 pub fn the_worked_capture_has_its_bytes()
-    ensures value { gen_bytes 42 1 1 ≡ worked_bytes }
+    ensures value { gen_bytes 42 1 1 ≡ worked_traffic }
 {}
 
 /// Each connection of generated traffic has `commands` commands, and all of them together have
@@ -32,9 +32,9 @@ pub fn the_worked_capture_has_its_bytes()
 pub fn generated_traffic_has_its_commands()
     ensures each { (number connections commands conn : ℕ) → IsTraffic number connections commands
         → conn < connections
-        → length (commands_in (records_of number connections commands) conn) ≡ commands }
+        → length (commands_in (traffic_records number connections commands) conn) ≡ commands }
     ensures all { (number connections commands : ℕ) → IsTraffic number connections commands
-        → count_of_commands connections (commands_in (records_of number connections commands))
+        → count_of_commands connections (commands_in (traffic_records number connections commands))
         ≡ connections * commands }
 {}
 
@@ -42,17 +42,17 @@ pub fn generated_traffic_has_its_commands()
 /// is `gets`, `cas`, `flush_all` or `stats`.
 pub fn generated_traffic_is_apart()
     ensures value { (number connections commands : ℕ) → IsTraffic number connections commands
-        → AreApart connections (commands_in (records_of number connections commands)) }
+        → AreApart connections (commands_in (traffic_records number connections commands)) }
 {}
 
 /// Two runs of generated traffic have the same outputs, whatever the numbers of their shards.
 pub fn runs_of_generated_traffic_have_the_same_outputs()
     ensures same { (number connections commands shards others : ℕ) (es fs : List Entry)
         → IsTraffic number connections commands
-        → IsRun shards es connections (commands_in (records_of number connections commands))
-        → IsRun others fs connections (commands_in (records_of number connections commands))
-        → all_outputs connections (streams_in (records_of number connections commands)) es
-        ≡ all_outputs connections (streams_in (records_of number connections commands)) fs }
+        → IsRun shards es connections (commands_in (traffic_records number connections commands))
+        → IsRun others fs connections (commands_in (traffic_records number connections commands))
+        → all_outputs connections (streams_in (traffic_records number connections commands)) es
+        ≡ all_outputs connections (streams_in (traffic_records number connections commands)) fs }
 {}
 
 /// Each run of generated traffic has the summary of its serial run, whatever the numbers of their
@@ -60,7 +60,7 @@ pub fn runs_of_generated_traffic_have_the_same_outputs()
 pub fn each_run_of_generated_traffic_has_the_summary()
     ensures value { (number connections commands shards others : ℕ) (es : List Entry) → 1 ≤ others
         → IsTraffic number connections commands
-        → IsRun shards es connections (commands_in (records_of number connections commands))
-        → summary_of_run connections (streams_in (records_of number connections commands)) es
-        ≡ summary others connections (streams_in (records_of number connections commands)) }
+        → IsRun shards es connections (commands_in (traffic_records number connections commands))
+        → summary_of_run connections (streams_in (traffic_records number connections commands)) es
+        ≡ summary others connections (streams_in (traffic_records number connections commands)) }
 {}

@@ -2,7 +2,7 @@
 ghost use Rattle.std.specs.Prelude.{◌≡◌, ◌<◌, ◌≤◌, ◌++◌, flat_map, length, IfOk, OnOk};
 ghost use Rattle.zy_capture.specs.Capture.{spelled};
 ghost use Rattle.zy_gen.specs.Draw.{draw_command};
-ghost use Rattle.zy_gen.specs.Traffic.{text_of, segment, one_command, one_round, rounds, gen_bytes, IsTraffic, head};
+ghost use Rattle.zy_gen.specs.Traffic.{command_text, segment_record, one_command, one_round, rounds, gen_bytes, IsTraffic, head};
 
 use crate::drawing::{draw, draw_command};
 use crate::writing::append_text;
@@ -94,7 +94,7 @@ fn append_command(
 #[tactic(auto, using(crate::proofs::LengthLemmas::text_few))]
 fn draw_text(line: &mut Blob, words: &mut Lcg64Xsh32, conn: u32) -> Result<(), NoMemory>
     requires few { conn < 4096 }
-    ensures ok { OnOk result (line.new ≡ text_of conn (draw_command words.old).command) }
+    ensures ok { OnOk result (line.new ≡ command_text conn (draw_command words.old).command) }
     ensures few { OnOk result (length line.new ≤ 455) }
     ensures left { words.new ≡ (draw_command words.old).left }
 {
@@ -106,7 +106,7 @@ fn draw_text(line: &mut Blob, words: &mut Lcg64Xsh32, conn: u32) -> Result<(), N
 // Appends a segment.
 fn append_segment(out: &mut Blob, conn: u32, bytes: &[u8]) -> Result<(), NoMemory>
     requires few { length bytes.now ≤ 65535 }
-    ensures ok { OnOk result (out.new ≡ out.old ++ spelled (segment conn bytes.now)) }
+    ensures ok { OnOk result (out.new ≡ out.old ++ spelled (segment_record conn bytes.now)) }
 {
     out.append(b"S")?;
     out.append(&conn.to_be_bytes())?;

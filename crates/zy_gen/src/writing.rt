@@ -1,7 +1,7 @@
 //! The bytes of a command.
 ghost use Rattle.std.specs.Prelude.{◌≡◌, ◌<◌, ◌≤◌, ◌++◌, codes, OnOk};
 ghost use Rattle.zy_gen.specs.declared.request.Request.TheVariants as Requests;
-ghost use Rattle.zy_gen.specs.Traffic.{key, keys, block, quiet_word, request_text, IsSmall};
+ghost use Rattle.zy_gen.specs.Traffic.{traffic_key, keys, block, quiet_word, request_text, IsSmall};
 
 use crate::request::{Command, Request};
 use zy_base::{Blob, NoMemory, number_text};
@@ -27,9 +27,9 @@ pub(crate) fn append_text(out: &mut Blob, conn: u32, command: &Command) -> Resul
 }
 
 // Appends a key of a connection.
-#[tactic(auto, unfolding(crate::specs::Traffic::key))]
+#[tactic(auto, unfolding(crate::specs::Traffic::traffic_key))]
 fn append_key(out: &mut Blob, conn: u32, item: u32) -> Result<(), NoMemory>
-    ensures ok { OnOk result (out.new ≡ out.old ++ key conn item) }
+    ensures ok { OnOk result (out.new ≡ out.old ++ traffic_key conn item) }
 {
     out.append(b"k")?;
     number_text(out, u64::from(conn))?;
@@ -45,7 +45,8 @@ fn append_with_key(
     item: u32,
     after: &[u8],
 ) -> Result<(), NoMemory>
-    ensures ok { OnOk result (out.new ≡ out.old ++ (before.now ++ (key conn item ++ after.now))) }
+    ensures ok { OnOk result (out.new ≡ out.old
+        ++ (before.now ++ (traffic_key conn item ++ after.now))) }
 {
     out.append(before)?;
     append_key(out, conn, item)?;

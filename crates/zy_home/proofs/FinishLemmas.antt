@@ -12,10 +12,10 @@ use Rattle.zy_frame.specs.Frame.{command_of}
 use Rattle.zy_frame.specs.Cut.{commands_of, frames_of}
 use Rattle.zy_rx.specs.Session.{Sessions, streams_of}
 use Rattle.zy_conn.specs.Work.{Start, Mark, commands_of_frames, texts_all, texts_taken}
-use Rattle.zy_conn.specs.Kept.{Kept, command_begun, dues_begun}
+use Rattle.zy_conn.specs.Kept.{KeepsCommands, command_begun, dues_begun}
 use Rattle.zy_conn.specs.Block.{Blocked}
 use Rattle.zy_home.specs.Link.{Link, LinkStands, ends_from, frames_in}
-use Rattle.zy_home.specs.Idle.{IsIdle, due_mark, mark_in}
+use Rattle.zy_home.specs.Idle.{IsIdleWith, due_mark, mark_in}
 use Rattle.zy_home.specs.Finish.{ConnEnd, commands_received, cut_at, outputs_from}
 
 -- the commands of all frames
@@ -23,7 +23,7 @@ commands-frames : (streams : List (List ℕ)) → map command_of (flat_map frame
 commands-frames [] = refl
 commands-frames (stream ∷ streams) = map-append command_of (frames_of stream) (flat_map frames_of streams) ∙ ap (λ l. commands_of stream ++ l) (commands-frames streams)
 
-pub conn_end : (b : Blocked) (l : Link) (s : Sessions) → Kept b.work → IsIdle b.work l → mark_in b ≡ due_mark l → LinkStands l s
+pub conn_end : (b : Blocked) (l : Link) (s : Sessions) → KeepsCommands b.work → IsIdleWith b.work l → mark_in b ≡ due_mark l → LinkStands l s
     → ConnEnd b.work.table.slots b.work.calls s l.output l.ends
 conn_end b l s k i mark stands =
     let taken : b.work.taken ≡ frames_in s = i.taken ∙ sym (append-nil l.inlet.sent) ∙ ap (λ x. l.inlet.sent ++ x) (sym i.waiting) ∙ stands.frames in

@@ -8,7 +8,7 @@ use Rattle.zy_conn.specs.Work.{Start, idle, raw, going, Worked, is_begun, has_ev
 use Rattle.zy_conn.specs.Block.{Blocked}
 use Rattle.zy_home.specs.Link.{Link}
 use Rattle.zy_home.specs.Offer.{IsFilled}
-use Rattle.zy_home.specs.Idle.{IsIdle}
+use Rattle.zy_home.specs.Idle.{IsIdleWith}
 use Rattle.zy_home.specs.Place.{MeetsInlet}
 
 none_known : (frames : List FrameKind) → nat_lt 0 (length frames) ≡ false → frames ≡ []
@@ -31,7 +31,7 @@ waiting_gone taken (x ∷ xs) a b room filled same =
 
 -- w is the block's work after the last look, and m the connection then; a and b are the inlet before and after what waited was offered
 pub settled_idle : (w : Worked) (m : Link) (a b : EventInlet) (taken : List FrameKind) → has_event w ≡ false → w.batch ≡ [] → w.taken ≡ taken → m.output.finished ≡ w.finished
-    → m.inlet.sent ≡ w.taken ++ w.known → b.sent ≡ m.inlet.sent → 64 + length taken ≤ length a.sent + a.free → IsFilled a b m.waiting → IsIdle w m
+    → m.inlet.sent ≡ w.taken ++ w.known → b.sent ≡ m.inlet.sent → 64 + length taken ≤ length a.sent + a.free → IsFilled a b m.waiting → IsIdleWith w m
 settled_idle w m a b taken none batch same finished all sent room filled =
     let is = no_event w.begun w.known none in
     let is_taken : m.inlet.sent ≡ w.taken = all ∙ ap (λ l. w.taken ++ l) is.1 ∙ append-nil w.taken in record {

@@ -18,11 +18,11 @@ use Rattle.zy_conn.specs.Block.{Blocked}
 use Rattle.zy_home.specs.Link.{Link, IsFor, TakesIn, StandsOn, conn_of}
 use Rattle.zy_home.specs.Offer.{WaitsFull}
 use Rattle.zy_home.specs.Own.{IsOfOthers, item_conn, is_end}
-use Rattle.zy_home.specs.Idle.{IsIdle, due_mark, mark_in}
-use Rattle.zy_home.specs.Home.{Homed, Keeps, HomeStands, StandsMore, IsAt}
+use Rattle.zy_home.specs.Idle.{IsIdleWith, due_mark, mark_in}
+use Rattle.zy_home.specs.Home.{Homed, IsSoundHome, HomeStands, StandsMore, IsAt}
 use Rattle.zy_home.specs.Place.{ComesTo, SameHand}
 use Rattle.zy_home.specs.Items.{CutsOne, CutsEach, ReceivesAll, RefusedAmid, SameFor, SameParts, StandsAll}
-use Rattle.zy_home.specs.Turn.{IsDue, IsSettled, IsPutBack, Turns, turned}
+use Rattle.zy_home.specs.Turn.{IsDue, IsSettled, IsPutBack, Turns, home_turned}
 use Rattle.zy_home.specs.Between.{IsBetween, Between, StaysIdle, CutsIn, CutsAll, CutsFrom, SettlesIn, SettlesOn}
 use Rattle.zy_home.proofs.TurnLemmas.{at_else, turned_conns, turned_keeps, turned_stands}
 use Rattle.zy_home.proofs.SettleLemmas.{Stepped, stepped, same_hand, same_turns, settled_turns, back_turns, settles}
@@ -50,7 +50,7 @@ pub past_ended : (h : Homed) (item : Rx) → h.ended ≡ true → record h { end
 past_ended h item e = ap (λ b. record h { ended = b }) (ap (λ b. b || is_end item) e ∙ sym e)
 
 -- an item that comes to a place is not of others, and not the end
-pub comes_not_others : (h : Homed) → Keeps h → (p : ℕ) (item : Rx) → ComesTo h p item → IsOfOthers h.core h.cores h.count item → ⊥
+pub comes_not_others : (h : Homed) → IsSoundHome h → (p : ℕ) (item : Rx) → ComesTo h p item → IsOfOthers h.core h.cores h.count item → ⊥
 comes_not_others h k p item c others = not_others h.core h.cores h.count (conn_of c.link) item others (for_is (conn_of c.link) item c.own) (link_own h k p c.link c.there)
 
 pub comes_no_end : (h : Homed) (p : ℕ) (item : Rx) → ComesTo h p item → h.ended ≡ (h.ended || is_end item)
@@ -116,14 +116,14 @@ in_last p [] = in_front p []
 in_last p (q ∷ qs) = in_more q p (qs ++ p ∷ []) (in_last p qs)
 
 -- between two calls no place is touched
-pub between_none : (h : Homed) → Keeps h → h.refused ≡ false → Between h []
+pub between_none : (h : Homed) → IsSoundHome h → h.refused ≡ false → Between h []
 between_none h k live = record { each = λ p x l eb el. go p x l (k.each live p x l eb el); near = λ p e. absurd (cc) }
   where
     go : (p : ℕ) (x : Option Blocked) (l : Link) → IsAt h.pass p l x → IsBetween [] h.pass p l x
     go p None l at = at
     go p (Some b) l at = (at.0, λ e. at.1)
 
-pub between_amid : (h : Homed) (touched : List ℕ) → Keeps h → h.refused ≡ false → touched ≡ [] → Between (record h { refused = true }) touched
+pub between_amid : (h : Homed) (touched : List ℕ) → IsSoundHome h → h.refused ≡ false → touched ≡ [] → Between (record h { refused = true }) touched
 between_amid h touched k live none = let b = between_none h k live in subst (Between (record h { refused = true })) (sym none) (record { each = b.each; near = b.near })
 
 pub each_at : (h : Homed) → Between h [] → (p : ℕ) (x : Option Blocked) (l : Link) → slice_get h.blocks p ≡ Some x → slice_get h.links p ≡ Some l → IsAt h.pass p l x
@@ -133,7 +133,7 @@ each_at h b p x l eb el = go x (b.each p x l eb el)
     go None r = r
     go (Some c) r = (r.0, r.1 refl)
 
-pub keeps_again : (h : Homed) → Keeps h → Between h [] → Keeps (record h { refused = false })
+pub keeps_again : (h : Homed) → IsSoundHome h → Between h [] → IsSoundHome (record h { refused = false })
 keeps_again h k b = record { core = k.core; cores = k.cores; conns = k.conns; long = k.long; places = k.places; here = k.here; each = λ e. each_at h b }
 
 -- what holds of another place
@@ -143,7 +143,7 @@ between_else touched touched' v w q l (Some c) hand kept same b = (b.0, λ e. b.
 
 -- ---- an item is cut
 
-module _ (h : Homed) (k : Keeps h) (amid : h.refused ≡ true) (touched : List ℕ) (b : Between h touched) (p : ℕ) (item : Rx) (comes : ComesTo h p item) (l m : Link) (x0 : Option Blocked) (slot : x0 ≡ get_or h.blocks p x0) (at : l ≡ get_or h.links p l) where
+module _ (h : Homed) (k : IsSoundHome h) (amid : h.refused ≡ true) (touched : List ℕ) (b : Between h touched) (p : ℕ) (item : Rx) (comes : ComesTo h p item) (l m : Link) (x0 : Option Blocked) (slot : x0 ≡ get_or h.blocks p x0) (at : l ≡ get_or h.links p l) where
   there_is : slice_get h.links p ≡ Some l
   there_is = get_at h.links p l l (get_below h.links p comes.link comes.there) at
 
@@ -171,11 +171,11 @@ module _ (h : Homed) (k : Keeps h) (amid : h.refused ≡ true) (touched : List �
   abbrev pub cut_home : Homed
   cut_home = record h { links = set h.links p m }
 
-  turned_is : turned h p x0 m h.pass h.refused ≡ cut_home
+  turned_is : home_turned h p x0 m h.pass h.refused ≡ cut_home
   turned_is = ap (λ bs. record h { blocks = bs; links = set h.links p m }) (set_there h.blocks p x0 slot_is)
 
-  pub cut_keeps : conn_of m ≡ conn_of l → Keeps cut_home
-  cut_keeps conn = subst Keeps turned_is (turned_keeps h p x0 l m h.pass h.refused (cut_turns conn) k)
+  pub cut_keeps : conn_of m ≡ conn_of l → IsSoundHome cut_home
+  cut_keeps conn = subst IsSoundHome turned_is (turned_keeps h p x0 l m h.pass h.refused (cut_turns conn) k)
 
   pub cut_same : conn_of m ≡ conn_of l → SameFor 0 h cut_home
   cut_same conn = record { core = refl; cores = refl; count = refl; table = refl; label = refl; out = refl; conns = turned_conns h p x0 l m h.pass h.refused (cut_turns conn); few = omega arith }
@@ -205,19 +205,19 @@ module _ (h : Homed) (k : Keeps h) (amid : h.refused ≡ true) (touched : List �
         (λ ne. b.near q (sym (others q ne) ∙ e));
   }
 
-  here_at : (touched' : List ℕ) → due_mark m ≡ due_mark l → ((c : Blocked) → x0 ≡ Some c → is_in p touched' ≡ false → IsIdle c.work m) → IsBetween touched' h.pass p m x0
+  here_at : (touched' : List ℕ) → due_mark m ≡ due_mark l → ((c : Blocked) → x0 ≡ Some c → is_in p touched' ≡ false → IsIdleWith c.work m) → IsBetween touched' h.pass p m x0
   here_at touched' due idle = go x0 slot_is (λ c e. idle c e)
     where
-      go : (y : Option Blocked) → slice_get h.blocks p ≡ Some y → ((c : Blocked) → y ≡ Some c → is_in p touched' ≡ false → IsIdle c.work m) → IsBetween touched' h.pass p m y
+      go : (y : Option Blocked) → slice_get h.blocks p ≡ Some y → ((c : Blocked) → y ≡ Some c → is_in p touched' ≡ false → IsIdleWith c.work m) → IsBetween touched' h.pass p m y
       go None e idle = λ out. b.each p None l e there_is out ∙ ap Some (sym due)
       go (Some c) e idle = ((b.each p (Some c) l e there_is).0 ∙ sym due, idle c refl)
 
-  idle_before : (c : Blocked) → x0 ≡ Some c → is_in p touched ≡ false → IsIdle c.work l
+  idle_before : (c : Blocked) → x0 ≡ Some c → is_in p touched ≡ false → IsIdleWith c.work l
   idle_before c e = go x0 slot_is e
     where
-      go : (y : Option Blocked) → slice_get h.blocks p ≡ Some y → y ≡ Some c → is_in p touched ≡ false → IsIdle c.work l
+      go : (y : Option Blocked) → slice_get h.blocks p ≡ Some y → y ≡ Some c → is_in p touched ≡ false → IsIdleWith c.work l
       go None at e = absurd (cc)
-      go (Some d) at e = let same : d ≡ c = cc in subst (λ (z : Blocked). is_in p touched ≡ false → IsIdle z.work l) same (b.each p (Some d) l at there_is).1
+      go (Some d) at e = let same : d ≡ c = cc in subst (λ (z : Blocked). is_in p touched ≡ false → IsIdleWith z.work l) same (b.each p (Some d) l at there_is).1
 
   stands_at : due_mark m ≡ due_mark l → TakesIn item l m → StandsMore h item cut_home
   stands_at due takes = subst (StandsMore h item) turned_is (more_at h p x0 l m h.pass h.refused (cut_turns (ap (λ (z : Mark). z.0) due)) k comes.live item cut_own takes)
@@ -302,7 +302,7 @@ pub between_first : (h h0 : Homed) → h ≡ h0 → (ts items : List ℕ) (at : 
 between_first h h0 same ts items at lt is b =
     subst (Between h) (drop_more ts at 0 lt ∙ ap (λ xs. slice_index_or xs at 0 ∷ drop (at + 1) ts) (sym is)) (subst (λ z. Between z (drop at ts)) (sym same) b)
 
-module _ (h : Homed) (k : Keeps h) (amid : h.refused ≡ true) (p : ℕ) (rest : List ℕ) (b : Between h (p ∷ rest)) (l m : Link) (x0 : Option Blocked) (slot : x0 ≡ get_or h.blocks p x0) (at : l ≡ get_or h.links p l) where
+module _ (h : Homed) (k : IsSoundHome h) (amid : h.refused ≡ true) (p : ℕ) (rest : List ℕ) (b : Between h (p ∷ rest)) (l m : Link) (x0 : Option Blocked) (slot : x0 ≡ get_or h.blocks p x0) (at : l ≡ get_or h.links p l) where
   pub touched_near : p < length h.blocks
   touched_near = b.near p (in_front p rest)
 
@@ -345,7 +345,7 @@ module _ (h : Homed) (k : Keeps h) (amid : h.refused ≡ true) (p : ℕ) (rest :
 
   module _ (w : Held Blocked) (x : Option Blocked) (conn : conn_of m ≡ conn_of l) where
     abbrev pub settled_home : Homed
-    settled_home = turned h p x m w h.refused
+    settled_home = home_turned h p x m w h.refused
 
     -- it was settled
     pub touched_turns : (c : Blocked) → x0 ≡ Some c → IsSettled was_idle p c m h.pass w x → Turns h p x l m w h.refused

@@ -11,7 +11,7 @@ use Rattle.zy_shuffle.proofs.HandLemmas.{marked_else}
 use Rattle.zy_conn.specs.Block.{Blocked, label_in}
 use Rattle.zy_home.specs.Link.{Link}
 use Rattle.zy_home.specs.Idle.{due_mark, mark_in}
-use Rattle.zy_home.specs.Home.{Homed, Keeps, IsAt, all_here}
+use Rattle.zy_home.specs.Home.{Homed, IsSoundHome, IsAt, all_here}
 use Rattle.zy_home.specs.Place.{IsOut, with_pass}
 use Rattle.zy_home.specs.Turn.{Turns}
 use Rattle.zy_home.proofs.TurnLemmas.{at_else, turned_keeps}
@@ -26,7 +26,7 @@ some_there (y ∷ ys) (suc i) lt = some_there ys i (omega arith)
 -- ---- a look
 
 module _ (h : Homed) (w : Held Blocked) (is : w ≡ record h.pass { trace = w.trace }) where
-  pub keeps_looks : Keeps h → Keeps (with_pass h w)
+  pub keeps_looks : IsSoundHome h → IsSoundHome (with_pass h w)
   keeps_looks k =
       let hand = ap (λ (v : Held Blocked). v.hand) is in
       let kept = ap (λ (v : Held Blocked). v.kept) is in
@@ -42,7 +42,7 @@ module _ (h : Homed) (w : Held Blocked) (is : w ≡ record h.pass { trace = w.tr
 
 -- ---- a block comes
 
-module _ (h : Homed) (w : Held Blocked) (n p : ℕ) (b : Blocked) (k : Keeps h) (j : Joined mark_in label_in n h.pass w p b) where
+module _ (h : Homed) (w : Held Blocked) (n p : ℕ) (b : Blocked) (k : IsSoundHome h) (j : Joined mark_in label_in n h.pass w p b) where
   -- the block of the place is not in the hand
   not_here : (x : Option Blocked) → slice_get h.blocks p ≡ Some x → x ≡ None
   not_here None e = refl
@@ -54,7 +54,7 @@ module _ (h : Homed) (w : Held Blocked) (n p : ℕ) (b : Blocked) (k : Keeps h) 
       (λ same. absurd (let one = in_front p h.pass.hand in let two : is_in p (p ∷ h.pass.hand) ≡ false = ap (λ z. is_in z (p ∷ h.pass.hand)) (sym same) ∙ ap (is_in q) (sym (ap (λ (v : Held Blocked). v.hand) j.is)) ∙ out in cc))
       (λ ne. ap (marked mark_in q) (ap (λ (v : Held Blocked). v.kept) j.is) ∙ marked_else mark_in p q b h.pass.kept ne ∙ at (sym (ap (is_in q) (ap (λ (v : Held Blocked). v.hand) j.is) ∙ in_cons p q h.pass.hand ne) ∙ out))
 
-  pub keeps_joins : Keeps (with_pass h w)
+  pub keeps_joins : IsSoundHome (with_pass h w)
   keeps_joins =
       let hand = ap (λ (v : Held Blocked). v.hand) j.is in
       let label = ap (λ (v : Held Blocked). v.label) j.is in record {
@@ -92,7 +92,7 @@ all_get (None ∷ bs) p x here e = absurd (cc)
 all_get (Some b ∷ bs) zero x here e = (b, (cc))
 all_get (Some b ∷ bs) (suc p) x here e = all_get bs p x here e
 
-pub not_joined : (h : Homed) (w : Held Blocked) (n p : ℕ) (b : Blocked) → Keeps h → Joined mark_in label_in n h.pass w p b → n ≡ length h.links → all_here h.blocks ≡ true → ⊥
+pub not_joined : (h : Homed) (w : Held Blocked) (n p : ℕ) (b : Blocked) → IsSoundHome h → Joined mark_in label_in n h.pass w p b → n ≡ length h.links → all_here h.blocks ≡ true → ⊥
 not_joined h w n p b k j size here =
     let near = j.near in
     let long = k.long in
@@ -105,7 +105,7 @@ not_joined h w n p b k j size here =
 -- ---- a block that came is put back
 
 -- memory was refused with a block out: it was put into its slot, with the mark and the label that it has
-pub put_back : (h : Homed) (k : Keeps h) (p : ℕ) (b b' : Blocked) (x : Option Blocked) (o : IsOut h p b) → label_in b' ≡ label_in b → x ≡ Some b' → Keeps (record h { blocks = set h.blocks p x; refused = true })
+pub put_back : (h : Homed) (k : IsSoundHome h) (p : ℕ) (b b' : Blocked) (x : Option Blocked) (o : IsOut h p b) → label_in b' ≡ label_in b → x ≡ Some b' → IsSoundHome (record h { blocks = set h.blocks p x; refused = true })
 put_back h k p b b' x o label filled =
     let t : Turns h p x o.link o.link h.pass true = record {
       there = o.there;
@@ -115,4 +115,4 @@ put_back h k p b b' x o label filled =
       at = λ e. absurd (cc);
       here = λ c e. let is : b' ≡ c = cc in (o.hand, ap label_in (sym is) ∙ label ∙ o.label);
     } in
-    subst (λ ls. Keeps (record h { blocks = set h.blocks p x; links = ls; refused = true })) (set_there h.links p o.link o.there) (turned_keeps h p x o.link o.link h.pass true t k)
+    subst (λ ls. IsSoundHome (record h { blocks = set h.blocks p x; links = ls; refused = true })) (set_there h.links p o.link o.there) (turned_keeps h p x o.link o.link h.pass true t k)

@@ -4,7 +4,7 @@ use Rattle.std.proofs.Common.{◌≡◌, ℕ, suc, List, [], ◌∷◌, length, 
 use Rattle.zy_table.specs.declared.name.Name.{Name}
 use Rattle.zy_rx.specs.declared.rx.Rx.{Rx}
 use Rattle.zy_rx.specs.Flow.{home_of}
-use Rattle.zy_rx.specs.Session.{Sessions, sessions_of}
+use Rattle.zy_rx.specs.Session.{Sessions, received_by}
 use Rattle.zy_table.proofs.SliceLemmas.{get_set_same}
 use Rattle.zy_shuffle.specs.Run.{Before}
 use Rattle.zy_shuffle.specs.Pass.{Held, PublishMakes}
@@ -12,11 +12,11 @@ use Rattle.zy_conn.specs.Work.{Mark, has_event}
 use Rattle.zy_conn.specs.Block.{Blocked}
 use Rattle.zy_home.specs.Link.{Link, LinkStands, conn_of}
 use Rattle.zy_home.proofs.FinishLemmas.{conn_end}
-use Rattle.zy_home.specs.End.{Ended, blocks_in, ended_of}
+use Rattle.zy_home.specs.End.{EndedOutput, blocks_in, ended_of}
 use Rattle.zy_home.specs.Idle.{mark_in}
 use Rattle.zy_home.specs.Place.{Settles}
-use Rattle.zy_home.specs.Home.{Homed, HomeStands, Keeps, IsAt, IsHere, all_here, conns_in, is_settled}
-use Rattle.zy_home.specs.Settled.{IsFinished, AreFinished}
+use Rattle.zy_home.specs.Home.{Homed, HomeStands, IsSoundHome, IsAt, IsHere, all_here, conns_in, is_settled}
+use Rattle.zy_home.specs.Settled.{IsHandedOut, AreFinished}
 use Rattle.zy_home.proofs.OwnLemmas.{own_is, conn_at}
 
 -- ---- tests
@@ -41,12 +41,12 @@ settled_live h e = not_true h.refused (both_left (not h.refused) (all_here h.blo
 
 -- ---- connections
 
-pub ended_conns : (links : List Link) → map (λ (e : Ended). e.output.conn) (map ended_of links) ≡ conns_in links
+pub ended_conns : (links : List Link) → map (λ (e : EndedOutput). e.output.conn) (map ended_of links) ≡ conns_in links
 ended_conns [] = refl
 ended_conns (l ∷ ls) = ap (λ c. conn_of l ∷ c) (ended_conns ls)
 
 -- a connection whose block is idle in the hand
-finished_at : (label : Name) (received : ℕ → Sessions) (pass : Held Blocked) (p : ℕ) (b : Blocked) (l : Link) → IsHere pass p b → IsAt pass p l (Some b) → pass.label ≡ label → LinkStands l (received (conn_of l)) → IsFinished label received b (ended_of l)
+finished_at : (label : Name) (received : ℕ → Sessions) (pass : Held Blocked) (p : ℕ) (b : Blocked) (l : Link) → IsHere pass p b → IsAt pass p l (Some b) → pass.label ≡ label → LinkStands l (received (conn_of l)) → IsHandedOut label received b (ended_of l)
 finished_at label received pass p b l here at same stands = record {
   conn = ap (λ (m : Mark). m.0) at.0;
   labelled = here.1 ∙ same;
@@ -55,7 +55,7 @@ finished_at label received pass p b l here at same stands = record {
 
 -- the same of each, at places from one on
 all_finished : (label : Name) (received : ℕ → Sessions) (bs : List (Option Blocked)) (ls : List Link) → length bs ≡ length ls → all_here bs ≡ true
-    → ((p : ℕ) (b : Blocked) (l : Link) → slice_get bs p ≡ Some (Some b) → slice_get ls p ≡ Some l → IsFinished label received b (ended_of l)) → AreFinished label received (blocks_in bs) (map ended_of ls)
+    → ((p : ℕ) (b : Blocked) (l : Link) → slice_get bs p ≡ Some (Some b) → slice_get ls p ≡ Some l → IsHandedOut label received b (ended_of l)) → AreFinished label received (blocks_in bs) (map ended_of ls)
 all_finished label received [] [] long here each = tt
 all_finished label received [] (l ∷ ls) long here each = absurd (omega arith)
 all_finished label received (x ∷ bs) [] long here each = absurd (omega arith)
@@ -63,8 +63,8 @@ all_finished label received (None ∷ bs) (l ∷ ls) long here each = absurd (cc
 all_finished label received (Some b ∷ bs) (l ∷ ls) long here each =
     (each 0 b l refl refl, all_finished label received bs ls (omega arith) here (λ p b l eb el. each (suc p) b l eb el))
 
-pub home_finished : (h : Homed) (items : List Rx) (received : ℕ → Sessions) → Keeps h → is_settled h ≡ true → HomeStands h items
-    → ((conn : ℕ) → home_of h.cores conn ≡ h.core → sessions_of conn items ≡ received conn) → AreFinished h.pass.label received (blocks_in h.blocks) (map ended_of h.links)
+pub home_finished : (h : Homed) (items : List Rx) (received : ℕ → Sessions) → IsSoundHome h → is_settled h ≡ true → HomeStands h items
+    → ((conn : ℕ) → home_of h.cores conn ≡ h.core → received_by conn items ≡ received conn) → AreFinished h.pass.label received (blocks_in h.blocks) (map ended_of h.links)
 home_finished h items received k settled stands same =
     all_finished h.pass.label received h.blocks h.links k.long (settled_here h settled)
     (λ p b l eb el.

@@ -19,7 +19,7 @@ use Rattle.zy_home.proofs.LinkLemmas.{stands_fresh}
 use Rattle.zy_home.specs.Own.{own_conns}
 use Rattle.zy_home.specs.Parts.{AreParts, AreFresh, IsNew, IsUnused, conns_of_blocks, rings_of_blocks, rings_of_inlets}
 use Rattle.zy_home.specs.declared.parts.HomeParts.{HomeParts}
-use Rattle.zy_home.specs.Home.{Homed, HomeStands, Keeps, IsAt, conns_in}
+use Rattle.zy_home.specs.Home.{Homed, HomeStands, IsSoundHome, IsAt, conns_in}
 
 -- ---- lists
 
@@ -124,7 +124,7 @@ module _ (core cores count : ℕ) (pass : Held Blocked) (blocks : List Blocked) 
       let r = fresh_at blocks inlets links p b l fresh eb el in
       new_at parts.pass.label pass p b r.inlet l (new_is p b eb) r.fresh (ring_at p b r.inlet eb r.there) (unused_at p r.inlet r.there)
 
-  pub made_keeps : core < cores → cores ≤ 64 → Keeps made
+  pub made_keeps : core < cores → cores ≤ 64 → IsSoundHome made
   made_keeps below few = record {
     core = below;
     cores = few;

@@ -13,10 +13,10 @@ use Rattle.zy_conn.specs.Work.{has_event}
 use Rattle.zy_conn.specs.Block.{Blocked, label_in}
 use Rattle.zy_home.specs.Link.{Link, StandsOn, conn_of}
 use Rattle.zy_home.specs.Offer.{WaitsBehind, WaitsFull}
-use Rattle.zy_home.specs.Idle.{IsIdle, due_mark, mark_in}
-use Rattle.zy_home.specs.Home.{Homed, Keeps, SameHome, StandsHome, IsAt}
+use Rattle.zy_home.specs.Idle.{IsIdleWith, due_mark, mark_in}
+use Rattle.zy_home.specs.Home.{Homed, IsSoundHome, SameHome, StandsHome, IsAt}
 use Rattle.zy_home.specs.Place.{IsOut, KnowsAll, Settles, SameHand}
-use Rattle.zy_home.specs.Turn.{IsSettled, IsPutBack, IsFed, IsUnfed, PassTurns, Turns, turned}
+use Rattle.zy_home.specs.Turn.{IsSettled, IsPutBack, IsFed, IsUnfed, PassTurns, Turns, home_turned}
 use Rattle.zy_home.proofs.TurnLemmas.{turned_keeps, turned_same, turned_stands}
 
 -- ---- passes
@@ -60,7 +60,7 @@ module _ (h : Homed) (p : ℕ) (l m : Link) (w : Held Blocked) (x : Option Block
         here = λ b e. absurd (let no = is.1 in cc);
       }
 
-      in_slot : (w ≡ h.pass) × (x ≡ Some s.block) × IsIdle s.block.work m → Turns h p x l m w r
+      in_slot : (w ≡ h.pass) × (x ≡ Some s.block) × IsIdleWith s.block.work m → Turns h p x l m w r
       in_slot is = record {
         there = there;
         conn = conn;
@@ -87,7 +87,7 @@ module _ (h : Homed) (p : ℕ) (l m : Link) (w : Held Blocked) (x : Option Block
         (ap (λ (z : Held Blocked). is_in p z.hand) s.pass_is ∙ hand, ap label_in (sym same) ∙ s.label ∙ ap (λ (z : Held Blocked). z.label) (sym s.pass_is));
   }
 
-  pub settles : {before : Before} (given : Blocked) → IsSettled before p given m h.pass w x → Settles before p given h (turned h p x m w r)
+  pub settles : {before : Before} (given : Blocked) → IsSettled before p given m h.pass w x → Settles before p given h (home_turned h p x m w r)
   settles given s = record {
     block = s.block;
     met = s.met;
@@ -99,7 +99,7 @@ module _ (h : Homed) (p : ℕ) (l m : Link) (w : Held Blocked) (x : Option Block
   }
 
   -- the slot was empty, and stays so
-  away_turns : (r ≡ false → h.refused ≡ false) → Keeps h → slice_get h.blocks p ≡ Some None → due_mark m ≡ due_mark l → w ≡ h.pass → x ≡ None → Turns h p x l m w r
+  away_turns : (r ≡ false → h.refused ≡ false) → IsSoundHome h → slice_get h.blocks p ≡ Some None → due_mark m ≡ due_mark l → w ≡ h.pass → x ≡ None → Turns h p x l m w r
   away_turns live k slot due is none = record {
     there = there;
     conn = conn;
@@ -111,7 +111,7 @@ module _ (h : Homed) (p : ℕ) (l m : Link) (w : Held Blocked) (x : Option Block
   }
 
   -- an item was taken in
-  pub fed_turns : (r ≡ false → h.refused ≡ false) → Keeps h → (x0 : Option Blocked) → slice_get h.blocks p ≡ Some x0 → IsFed p l m h.pass w x0 x → Turns h p x l m w r
+  pub fed_turns : (r ≡ false → h.refused ≡ false) → IsSoundHome h → (x0 : Option Blocked) → slice_get h.blocks p ≡ Some x0 → IsFed p l m h.pass w x0 x → Turns h p x l m w r
   fed_turns live k (Some b) slot s = settled_turns b live (k.here p b slot).0 s
   fed_turns live k None slot s = away_turns live k slot s.2 s.0 s.1
 
@@ -125,7 +125,7 @@ module _ (h : Homed) (p : ℕ) (l m : Link) (w : Held Blocked) (x : Option Block
     here = λ b e. absurd (cc);
   }
 
-  pub unfed_turns : r ≡ true → Keeps h → (x0 : Option Blocked) → slice_get h.blocks p ≡ Some x0 → IsUnfed h.pass w x0 x → Turns h p x l m w r
+  pub unfed_turns : r ≡ true → IsSoundHome h → (x0 : Option Blocked) → slice_get h.blocks p ≡ Some x0 → IsUnfed h.pass w x0 x → Turns h p x l m w r
   unfed_turns refused k (Some b) slot s = back_turns refused (k.here p b slot).0 s
   unfed_turns refused k None slot s = unfed_away refused s.0 s.1
 
@@ -136,7 +136,7 @@ filled-set [] p x y e same = refl
 filled-set (b ∷ bs) zero x y e same = let is : b ≡ x = cc in ap (λ z. z ∷ map is_some bs) (same ∙ ap is_some (sym is))
 filled-set (b ∷ bs) (suc p) x y e same = ap (λ l. is_some b ∷ l) (filled-set bs p x y e same)
 
-pub same_hand : (h : Homed) (p : ℕ) (m : Link) (w : Held Blocked) (x x0 : Option Blocked) (r : Bool) → slice_get h.blocks p ≡ Some x0 → IsUnfed h.pass w x0 x → SameHand h (turned h p x m w r)
+pub same_hand : (h : Homed) (p : ℕ) (m : Link) (w : Held Blocked) (x x0 : Option Blocked) (r : Bool) → slice_get h.blocks p ≡ Some x0 → IsUnfed h.pass w x0 x → SameHand h (home_turned h p x m w r)
 same_hand h p m w x (Some b) r e s = record { pass = s.pass_is; blocks = filled-set h.blocks p (Some b) x e (ap is_some s.slot_is) }
 same_hand h p m w x None r e s = record { pass = s.0; blocks = filled-set h.blocks p None x e (ap is_some s.1) }
 
@@ -144,26 +144,26 @@ same_hand h p m w x None r e s = record { pass = s.0; blocks = filled-set h.bloc
 
 -- the result of a step at one place
 pub record Stepped (h h' : Homed) (l m : Link) : Type 0 where
-  pub keeps : Keeps h'
+  pub keeps : IsSoundHome h'
   pub same : SameHome h h'
   pub stands : StandsOn l m → StandsHome h h'
 
-pub stepped : (h : Homed) (p : ℕ) (x : Option Blocked) (l m : Link) (w : Held Blocked) (r : Bool) → Keeps h → Turns h p x l m w r → Stepped h (turned h p x m w r) l m
+pub stepped : (h : Homed) (p : ℕ) (x : Option Blocked) (l m : Link) (w : Held Blocked) (r : Bool) → IsSoundHome h → Turns h p x l m w r → Stepped h (home_turned h p x m w r) l m
 stepped h p x l m w r k t = record { keeps = turned_keeps h p x l m w r t k; same = turned_same h p x l m w r t; stands = turned_stands h p x l m w r t }
 
 -- a block that is with the caller is settled, or put back where memory was refused
-module _ (h : Homed) (k : Keeps h) (p : ℕ) (b : Blocked) (o : IsOut h p b) (l m : Link) (w : Held Blocked) (x : Option Blocked) (at : l ≡ get_or h.links p l) (conn : conn_of m ≡ conn_of l) where
+module _ (h : Homed) (k : IsSoundHome h) (p : ℕ) (b : Blocked) (o : IsOut h p b) (l m : Link) (w : Held Blocked) (x : Option Blocked) (at : l ≡ get_or h.links p l) (conn : conn_of m ≡ conn_of l) where
   pub out_there : slice_get h.links p ≡ Some l
   out_there = get_at h.links p l l (get_below h.links p o.link o.there) at
 
-  pub out_settled : {before : Before} (r : Bool) → (r ≡ false → h.refused ≡ false) → IsSettled before p b m h.pass w x → Stepped h (turned h p x m w r) l m
+  pub out_settled : {before : Before} (r : Bool) → (r ≡ false → h.refused ≡ false) → IsSettled before p b m h.pass w x → Stepped h (home_turned h p x m w r) l m
   out_settled r live s = stepped h p x l m w r k (settled_turns h p l m w x r out_there conn b live o.hand s)
 
-  pub out_back : IsPutBack h.pass w x → Stepped h (turned h p x m w true) l m
+  pub out_back : IsPutBack h.pass w x → Stepped h (home_turned h p x m w true) l m
   out_back s = stepped h p x l m w true k (back_turns h p l m w x true out_there conn refl o.hand s)
 
 -- an item is taken in at a place, or memory is refused
-module _ (h : Homed) (k : Keeps h) (p : ℕ) (l0 l m : Link) (w : Held Blocked) (x0 x : Option Blocked) (there : slice_get h.links p ≡ Some l0) (slot : x0 ≡ get_or h.blocks p x0) (at : l ≡ get_or h.links p l) where
+module _ (h : Homed) (k : IsSoundHome h) (p : ℕ) (l0 l m : Link) (w : Held Blocked) (x0 x : Option Blocked) (there : slice_get h.links p ≡ Some l0) (slot : x0 ≡ get_or h.blocks p x0) (at : l ≡ get_or h.links p l) where
   pub fed_there : slice_get h.links p ≡ Some l
   fed_there = get_at h.links p l l (get_below h.links p l0 there) at
 
@@ -176,7 +176,7 @@ module _ (h : Homed) (k : Keeps h) (p : ℕ) (l0 l m : Link) (w : Held Blocked) 
   pub fed_step : (r : Bool) → (r ≡ false → h.refused ≡ false) → conn_of m ≡ conn_of l → IsFed p l m h.pass w x0 x → Turns h p x l m w r
   fed_step r live conn s = fed_turns h p l m w x r fed_there conn live k x0 fed_slot s
 
-  pub unfed_step : conn_of m ≡ conn_of l → IsUnfed h.pass w x0 x → Stepped h (turned h p x m w true) l m
+  pub unfed_step : conn_of m ≡ conn_of l → IsUnfed h.pass w x0 x → Stepped h (home_turned h p x m w true) l m
   unfed_step conn s = stepped h p x l m w true k (unfed_turns h p l m w x true fed_there conn refl k x0 fed_slot s)
 
 -- an item was taken in where the block is away

@@ -5,14 +5,14 @@ use native.Mathlib.Decide.{ℕ_discrete}
 use Rattle.zy_table.specs.Member.{is_in}
 use Rattle.zy_table.proofs.SliceLemmas.{get_set_else, get_set_same}
 use Rattle.zy_rx.specs.declared.rx.Rx.{Rx}
-use Rattle.zy_rx.specs.Session.{sessions_of}
+use Rattle.zy_rx.specs.Session.{received_by}
 use Rattle.zy_shuffle.specs.Hand.{marked}
 use Rattle.zy_shuffle.specs.Pass.{Held}
 use Rattle.zy_conn.specs.Block.{Blocked}
 use Rattle.zy_home.specs.Link.{Link, LinkStands, StandsOn, conn_of}
 use Rattle.zy_home.specs.Idle.{mark_in}
-use Rattle.zy_home.specs.Home.{Homed, Keeps, HomeStands, SameHome, StandsHome, IsAt, IsHere, conns_in}
-use Rattle.zy_home.specs.Turn.{Turns, turned}
+use Rattle.zy_home.specs.Home.{Homed, IsSoundHome, HomeStands, SameHome, StandsHome, IsAt, IsHere, conns_in}
+use Rattle.zy_home.specs.Turn.{Turns, home_turned}
 
 conns-set : (ls : List Link) (p : ℕ) (l m : Link) → slice_get ls p ≡ Some l → conn_of m ≡ conn_of l → conns_in (set ls p m) ≡ conns_in ls
 conns-set [] p l m e same = refl
@@ -35,7 +35,7 @@ module _ (h : Homed) (p : ℕ) (x : Option Blocked) (l m : Link) (w : Held Block
   pub turned_conns : conns_in (set h.links p m) ≡ conns_in h.links
   turned_conns = conns-set h.links p l m t.there t.conn
 
-  pub turned_keeps : Keeps h → Keeps (turned h p x m w r)
+  pub turned_keeps : IsSoundHome h → IsSoundHome (home_turned h p x m w r)
   turned_keeps k = record {
     core = k.core;
     cores = k.cores;
@@ -51,7 +51,7 @@ module _ (h : Homed) (p : ℕ) (x : Option Blocked) (l m : Link) (w : Held Block
         (k.each (t.live live) q y n (sym (get_set_else h.blocks p q x ne) ∙ eb) (sym (get_set_else h.links p q m ne) ∙ el)));
   }
 
-  pub turned_same : SameHome h (turned h p x m w r)
+  pub turned_same : SameHome h (home_turned h p x m w r)
   turned_same = record {
     core = refl;
     cores = refl;
@@ -64,25 +64,25 @@ module _ (h : Homed) (p : ℕ) (x : Option Blocked) (l m : Link) (w : Held Block
   }
 
   -- the connection may have received what it may have received before
-  pub turned_stands : StandsOn l m → StandsHome h (turned h p x m w r)
+  pub turned_stands : StandsOn l m → StandsHome h (home_turned h p x m w r)
   turned_stands f items s = record {
     ended = s.ended;
     links = λ q n e. dite (ℕ_discrete q p)
-        (λ same. subst (λ z. LinkStands z (sessions_of (conn_of z) items)) (here_is q n same e)
-        (subst (λ c. LinkStands m (sessions_of c items)) (sym t.conn) (f (sessions_of (conn_of l) items) (s.links p l t.there))))
+        (λ same. subst (λ z. LinkStands z (received_by (conn_of z) items)) (here_is q n same e)
+        (subst (λ c. LinkStands m (received_by c items)) (sym t.conn) (f (received_by (conn_of l) items) (s.links p l t.there))))
         (λ ne. s.links q n (sym (get_set_else h.links p q m ne) ∙ e));
   }
 
   -- the connection may have received one further item, and every other what it may have received before
   pub turned_more : ((q o : ℕ) (a b : Link) → slice_get h.links q ≡ Some a → slice_get h.links o ≡ Some b → conn_of a ≡ conn_of b → q ≡ o)
-      → (items more : List Rx) → HomeStands h items → ((c : ℕ) → (sessions_of c more).ended ≡ (sessions_of c items).ended)
-      → (LinkStands l (sessions_of (conn_of l) items) → LinkStands m (sessions_of (conn_of l) more))
-      → ((c : ℕ) → c ≢ conn_of l → sessions_of c more ≡ sessions_of c items) → HomeStands (turned h p x m w r) more
+      → (items more : List Rx) → HomeStands h items → ((c : ℕ) → (received_by c more).ended ≡ (received_by c items).ended)
+      → (LinkStands l (received_by (conn_of l) items) → LinkStands m (received_by (conn_of l) more))
+      → ((c : ℕ) → c ≢ conn_of l → received_by c more ≡ received_by c items) → HomeStands (home_turned h p x m w r) more
   turned_more apart items more s ends here other = record {
     ended = λ c. ends c ∙ s.ended c;
     links = λ q n e. dite (ℕ_discrete q p)
-        (λ same. subst (λ z. LinkStands z (sessions_of (conn_of z) more)) (here_is q n same e)
-        (subst (λ c. LinkStands m (sessions_of c more)) (sym t.conn) (here (s.links p l t.there))))
+        (λ same. subst (λ z. LinkStands z (received_by (conn_of z) more)) (here_is q n same e)
+        (subst (λ c. LinkStands m (received_by c more)) (sym t.conn) (here (s.links p l t.there))))
         (λ ne.
         let old = sym (get_set_else h.links p q m ne) ∙ e in
         let far : conn_of n ≢ conn_of l = λ same. ne (apart q p n l old t.there same) in

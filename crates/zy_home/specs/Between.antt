@@ -6,7 +6,7 @@ use Rattle.zy_rx.specs.Ring.{Taking}
 use Rattle.zy_shuffle.specs.Pass.{Held}
 use Rattle.zy_conn.specs.Block.{Blocked}
 use Rattle.zy_home.specs.Link.{Link}
-use Rattle.zy_home.specs.Idle.{IsIdle, due_mark, mark_in}
+use Rattle.zy_home.specs.Idle.{IsIdleWith, due_mark, mark_in}
 use Rattle.zy_home.specs.Home.{Homed, IsAt, StandsHome, StandsMore}
 use Rattle.zy_home.specs.Items.{CutsOne, CutsEach, SameFor, SameParts, SettlesEach, StandsAll}
 
@@ -15,7 +15,7 @@ use Rattle.zy_home.specs.Items.{CutsOne, CutsEach, SameFor, SameParts, SettlesEa
 -- the rule of a place: as between two calls, but a block in the hand need not be idle if its place was touched
 abbrev pub IsBetween : List ℕ → Held Blocked → ℕ → Link → Option Blocked → Type 0
 IsBetween touched pass place link (Some block) =
-    (mark_in block ≡ due_mark link) × (is_in place touched ≡ false → IsIdle block.work link)
+    (mark_in block ≡ due_mark link) × (is_in place touched ≡ false → IsIdleWith block.work link)
 IsBetween touched pass place link None = IsAt pass place link None
 
 -- the rule of each place, where these were touched
@@ -26,7 +26,7 @@ pub record Between (h : Homed) (touched : List ℕ) : Type 0 where
 
 -- an idle block that is in the slot is idle still
 abbrev pub StaysIdle : Option Blocked → Link → Link → Type 0
-StaysIdle slot l l' = (block : Blocked) → slot ≡ Some block → IsIdle block.work l → IsIdle block.work l'
+StaysIdle slot l l' = (block : Blocked) → slot ≡ Some block → IsIdleWith block.work l → IsIdleWith block.work l'
 
 -- ---- steps
 

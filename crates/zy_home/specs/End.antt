@@ -12,17 +12,17 @@ blocks_in (None ∷ slots) = blocks_in slots
 blocks_in (Some block ∷ slots) = block ∷ blocks_in slots
 
 -- the end of a connection: its output, and the ends of its sessions
-pub record Ended : Type 0 where
+pub record EndedOutput : Type 0 where
   pub output : Output
   pub ends : List ℕ
 
 -- an output with these ends of sessions
-abbrev pub ended : Output → List ℕ → Ended
-ended output ends = record { output = output; ends = ends }
+abbrev pub ended_output : Output → List ℕ → EndedOutput
+ended_output output ends = record { output = output; ends = ends }
 
 -- the end of a connection that is no longer served
-abbrev pub ended_of : Link → Ended
-ended_of l = ended l.output l.ends
+abbrev pub ended_of : Link → EndedOutput
+ended_of l = ended_output l.output l.ends
 
 -- the block has this label
 abbrev pub HasLabel : Name → Blocked → Type 0

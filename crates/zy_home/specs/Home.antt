@@ -2,12 +2,12 @@
 use Rattle.std.specs.Prelude.{◌≡◌, ℕ, ◌+◌, ◌<◌, ◌≤◌, List, [], ◌∷◌, ◌++◌, length, map, Bool, true, false, ◌&&◌, not, Option, Some, None, slice_get, is_some}
 use Rattle.zy_table.specs.Member.{is_in}
 use Rattle.zy_rx.specs.declared.rx.Rx.{Rx}
-use Rattle.zy_rx.specs.Session.{sessions_of}
+use Rattle.zy_rx.specs.Session.{received_by}
 use Rattle.zy_shuffle.specs.Hand.{marked}
 use Rattle.zy_shuffle.specs.Pass.{Held}
 use Rattle.zy_conn.specs.Block.{Blocked, label_in}
 use Rattle.zy_home.specs.Link.{Link, LinkStands, conn_of}
-use Rattle.zy_home.specs.Idle.{IsIdle, due_mark, mark_in}
+use Rattle.zy_home.specs.Idle.{IsIdleWith, due_mark, mark_in}
 use Rattle.zy_home.specs.Own.{own_conns}
 
 -- ---- values
@@ -54,7 +54,7 @@ pub record IsMade (core cores count : ℕ) (pass : Held Blocked) (blocks : List 
 -- a connection's block: in the hand it is idle and has the expected mark; away from it the pass
 -- keeps this mark for its place
 abbrev pub IsAt : Held Blocked → ℕ → Link → Option Blocked → Type 0
-IsAt pass place link (Some block) = (mark_in block ≡ due_mark link) × IsIdle block.work link
+IsAt pass place link (Some block) = (mark_in block ≡ due_mark link) × IsIdleWith block.work link
 IsAt pass place link None =
     is_in place pass.hand ≡ false → marked mark_in place pass.kept ≡ Some (due_mark link)
 
@@ -63,7 +63,7 @@ abbrev pub IsHere : Held Blocked → ℕ → Blocked → Type 0
 IsHere pass place block = (is_in place pass.hand ≡ true) × (label_in block ≡ pass.label)
 
 -- the rule that each home keeps
-pub record Keeps (h : Homed) : Type 0 where
+pub record IsSoundHome (h : Homed) : Type 0 where
   pub core : h.core < h.cores
   pub cores : h.cores ≤ 64
   -- its connections are its core's, by rising number, each with a place in the ring
@@ -83,9 +83,9 @@ IsInHand h p block link = (slice_get h.blocks p ≡ Some (Some block)) × (slice
 -- these items may be what the home received: each of its connections may have received the sessions that they have
 -- for it
 pub record HomeStands (h : Homed) (items : List Rx) : Type 0 where
-  pub ended : (conn : ℕ) → (sessions_of conn items).ended ≡ h.ended
+  pub ended : (conn : ℕ) → (received_by conn items).ended ≡ h.ended
   pub links : (p : ℕ) (l : Link) → slice_get h.links p ≡ Some l
-      → LinkStands l (sessions_of (conn_of l) items)
+      → LinkStands l (received_by (conn_of l) items)
 
 -- whatever the home may have received, it may still have received
 abbrev pub StandsHome : Homed → Homed → Type 0

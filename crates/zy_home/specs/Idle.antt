@@ -15,7 +15,7 @@ due_mark l = (conn_of l, (l.inlet.ring, l.output.texts))
 
 -- the block has no event, no command in progress and no pending text, it has taken all that was
 -- offered, and no frame waits for it; the output has the block's number of finished commands
-pub record IsIdle (work : Worked) (l : Link) : Type 0 where
+pub record IsIdleWith (work : Worked) (l : Link) : Type 0 where
   pub begun : work.begun ≡ idle
   pub known : work.known ≡ []
   pub batch : work.batch ≡ []

@@ -67,8 +67,8 @@ abbrev pub with_pass : Homed → Held Blocked → Homed
 with_pass h pass = record h { pass = pass }
 
 -- nothing has changed but what the pass has seen
-abbrev pub Looked : Homed → Homed → Type 0
-Looked h h' = h' ≡ with_pass h (record h.pass { trace = h'.pass.trace })
+abbrev pub OnlyLooked : Homed → Homed → Type 0
+OnlyLooked h h' = h' ≡ with_pass h (record h.pass { trace = h'.pass.trace })
 
 -- a block came into the hand with its place, and stays there
 pub record StaysIn (places : ℕ) (h h' : Homed) : Type 0 where

@@ -8,7 +8,7 @@ use Rattle.zy_conn.specs.Work.{has_event}
 use Rattle.zy_conn.specs.Block.{Blocked, label_in}
 use Rattle.zy_home.specs.Link.{Link, conn_of}
 use Rattle.zy_home.specs.Offer.{WaitsBehind, WaitsFull}
-use Rattle.zy_home.specs.Idle.{IsIdle, due_mark, mark_in}
+use Rattle.zy_home.specs.Idle.{IsIdleWith, due_mark, mark_in}
 use Rattle.zy_home.specs.Home.{Homed, IsAt, IsHere}
 use Rattle.zy_home.specs.Place.{MeetsInlet, KnowsAll}
 
@@ -32,7 +32,7 @@ pub record IsSettled (before : Before) (place : ℕ) (given : Blocked) (link' : 
       → (pass' ≡ after_publish place block pass pass'.trace) × (slot' ≡ None)
   pub makes : has_event block.work ≡ true → PublishMakes before mark_in place pass pass'
   pub idle : has_event block.work ≡ false
-      → (pass' ≡ pass) × (slot' ≡ Some block) × IsIdle block.work link'
+      → (pass' ≡ pass) × (slot' ≡ Some block) × IsIdleWith block.work link'
   pub knows : KnowsAll link' block
   pub behind : WaitsBehind link' block
 
@@ -72,8 +72,8 @@ pub record PassTurns (place : ℕ) (pass pass' : Held Blocked) : Type 0 where
   pub kept : (q : ℕ) → q ≢ place → marked mark_in q pass'.kept ≡ marked mark_in q pass.kept
 
 -- the home after a step at one place
-abbrev pub turned : Homed → ℕ → Option Blocked → Link → Held Blocked → Bool → Homed
-turned h place slot link pass refused = record h {
+abbrev pub home_turned : Homed → ℕ → Option Blocked → Link → Held Blocked → Bool → Homed
+home_turned h place slot link pass refused = record h {
   pass = pass;
   blocks = slice_set h.blocks place slot;
   links = slice_set h.links place link;

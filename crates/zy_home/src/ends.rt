@@ -1,6 +1,6 @@
 //! The ends of connections.
 ghost use Rattle.std.specs.Prelude.{◌≡◌, [], ◌∷◌, map, IfSome, IfNone};
-ghost use Rattle.zy_home.specs.End.{ended_of, ended};
+ghost use Rattle.zy_home.specs.End.{ended_of, ended_output};
 
 use crate::link::Link;
 use std::collections::VecDeque;
@@ -16,9 +16,9 @@ pub struct Ends {
 
 impl Model for Ends {
     ghost use Rattle.std.specs.Prelude.{List, map};
-    ghost use Rattle.zy_home.specs.End.{Ended, ended_of};
+    ghost use Rattle.zy_home.specs.End.{EndedOutput, ended_of};
 
-    ghost Value = { List Ended };
+    ghost Value = { List EndedOutput };
 
     ghost view = { λ ends. map ended_of ends.links.items };
 }
@@ -36,7 +36,8 @@ impl Ends {
     /// Takes the first output, with the ends of the closed sessions: of each the number of commands
     /// up to it. It is `None` exactly where none is left. Takes no memory.
     pub fn next(&mut self) -> Option<(Output, Vec<u64>)>
-        ensures value { IfSome result (λ end. self.old ≡ ended end.0 end.1.items ∷ self.new) }
+        ensures value { IfSome result (λ end. self.old
+            ≡ ended_output end.0 end.1.items ∷ self.new) }
         ensures none { IfNone result (self.old ≡ []) }
     {
         match self.links.pop_front() {

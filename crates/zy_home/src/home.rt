@@ -2,7 +2,7 @@
 ghost use Rattle.std.specs.Prelude.{◌≡◌, map};
 ghost use Rattle.std.specs.List.{AllByRecursion};
 ghost use Rattle.zy_home.specs.End.{HasLabel, blocks_in, ended_of};
-ghost use Rattle.zy_home.specs.Home.{Keeps, is_settled, all_here};
+ghost use Rattle.zy_home.specs.Home.{IsSoundHome, is_settled, all_here};
 
 mod items;
 mod making;
@@ -36,7 +36,7 @@ pub struct Home {
 }
 
 impl Model for Home {
-    ghost use Rattle.zy_home.specs.Home.{Homed, Keeps};
+    ghost use Rattle.zy_home.specs.Home.{Homed, IsSoundHome};
 
     ghost Value = { Homed };
 
@@ -51,7 +51,7 @@ impl Model for Home {
       refused = h.refused;
     } };
 
-    ghost invariant = { λ h. Keeps (record {
+    ghost invariant = { λ h. IsSoundHome (record {
       core = h.core;
       cores = h.cores;
       count = h.count;
@@ -68,7 +68,7 @@ impl Home {
     /// was refused memory is not settled.
     pub fn is_settled(&self) -> bool
         ensures value { result ≡ is_settled self.now }
-        ensures keeps { Keeps self.now }
+        ensures keeps { IsSoundHome self.now }
     {
         self.ended && !self.refused && are_here(&self.blocks)
     }
@@ -93,7 +93,7 @@ impl Home {
         ensures blocks { result.1 ≡ blocks_in self.blocks }
         ensures labels { AllByRecursion (HasLabel self.pass.label) result.1 }
         ensures ends { result.2 ≡ map ended_of self.links }
-        ensures keeps { Keeps self }
+        ensures keeps { IsSoundHome self }
     {
         let Home {
             core: _,

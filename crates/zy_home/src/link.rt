@@ -5,7 +5,7 @@ ghost use Rattle.zy_conn.specs.Block.{label_in};
 ghost use Rattle.zy_rx.specs.Session.{Sessions, with_bytes, with_close};
 ghost use Rattle.zy_home.specs.Link.{IsFor, IsFresh, LinkStands, SameLink, StandsOn, TakesIn, conn_of};
 ghost use Rattle.zy_home.specs.Offer.{Offers, IsFilled, WaitsBehind, WaitsFull};
-ghost use Rattle.zy_home.specs.Idle.{IsIdle, due_mark, mark_in};
+ghost use Rattle.zy_home.specs.Idle.{IsIdleWith, due_mark, mark_in};
 ghost use Rattle.zy_home.specs.Place.{MeetsInlet, KnowsAll};
 
 use std::alloc::Global;
@@ -145,7 +145,7 @@ impl Link {
         requires mark { mark_in block.old ≡ due_mark self.old }
         ensures event { IfOk result (λ event. event ≡ has_event block.new.work) }
         ensures mark { OnOk result (mark_in block.new ≡ due_mark self.new) }
-        ensures idle { IfOk result (λ event. event ≡ false → IsIdle block.new.work self.new) }
+        ensures idle { IfOk result (λ event. event ≡ false → IsIdleWith block.new.work self.new) }
         ensures met { OnOk result (MeetsInlet block.old block.new) }
         ensures knows { OnOk result (KnowsAll self.new block.new) }
         ensures behind { OnOk result (WaitsBehind self.new block.new) }

@@ -18,9 +18,9 @@ use Rattle.zy_capture.specs.declared.due.Due.TheVariants.{Connection, Length, Pa
 use Rattle.zy_capture.specs.declared.capture_state.CaptureState.{CaptureState}
 use Rattle.zy_capture.specs.Streams.{no_bytes, with_record}
 use Rattle.zy_capture.specs.Capture.{segment_limit}
-use Rattle.zy_capture.specs.Steps.{Progress, Step, Judgement, number, judged, fields}
-use Rattle.zy_capture.specs.Standing.{StandsFor, EndsAs}
-use Rattle.zy_capture.specs.Verdict.{captures, good as at_end, is_good, verdict, count_of, is_within, is_within_by, is_within_record}
+use Rattle.zy_capture.specs.Steps.{CaptureProgress, CaptureStep, Judgement, number, judged, fields}
+use Rattle.zy_capture.specs.Standing.{StandsForRecords, EndsAs}
+use Rattle.zy_capture.specs.Verdict.{captures, good as at_end, is_good, verdict, count_of, is_record_open, is_within_by, is_within_record}
 use Rattle.zy_capture.specs.Verdict.Verdict.{Good, Bad}
 use Rattle.zy_capture.proofs.ByteLemmas.{chosen}
 use Rattle.zy_capture.proofs.Feeding.{count_here, within_here, good_ended, good_count}
@@ -29,7 +29,7 @@ use Rattle.zy_capture.proofs.AddLemmas.{records_on}
 use Rattle.zy_input.specs.declared.capture_part.CapturePart.{CapturePart}
 use Rattle.zy_input.specs.declared.stop.Refusal.TheVariants.{Capture}
 use Rattle.zy_input.specs.Parts.{HasStreams}
-use Rattle.zy_input.specs.Reading.{GoesOn, IsFaultyText}
+use Rattle.zy_input.specs.Reading.{IsUnfinished, IsFaultyText}
 use Rattle.zy_input.specs.Keeping.{KeepsRecords}
 use Rattle.zy_input.specs.Kinds.{StandsForCapture, capture_keeping}
 use Rattle.zy_input.proofs.FormatLemmas.{EndsOnce, StaysOpen, answer_fault}
@@ -37,7 +37,7 @@ use Rattle.zy_input.proofs.KeepingLemmas.{not_none, kept_here}
 
 -- ---- the format
 
-closes : (p : Progress) (given : List Record) (byte : ℕ) → is_good (captures.ended p given) ≡ true → (fault : CaptureFault) × ((step fields p byte).next.fault ≡ Some fault)
+closes : (p : CaptureProgress) (given : List Record) (byte : ℕ) → is_good (captures.ended p given) ≡ true → (fault : CaptureFault) × ((step fields p byte).next.fault ≡ Some fault)
 closes p given byte good =
     let ended = good_ended p given good in
     end_closes fields lawful p byte ended.none (rw ended.due refl)
@@ -49,19 +49,19 @@ once = record { lasting = lasting fields at_end Bad; closes = closes; bad = λ f
 -- ---- pieces
 
 -- a record was begun, and has not ended
-abbrev pub IsWithin : Progress → Type 0
+abbrev pub IsWithin : CaptureProgress → Type 0
 IsWithin p = is_within_by p.fault p.state.due ≡ true
 
 -- a byte that doesn't end a record leads on within it, or to a fault
-abbrev LeadsOn : Step → Type 0
+abbrev LeadsOn : CaptureStep → Type 0
 LeadsOn s = s.gave ≡ None → IsWithin s.next ⊎ ((fault : CaptureFault) × (s.next.fault ≡ Some fault))
 
 -- so does a field that is not wrong
 abbrev StaysWithin : Judgement → Type 0
-StaysWithin (Then next) = is_within next.due ≡ true
+StaysWithin (Then next) = is_record_open next.due ≡ true
 StaysWithin judged = ⊤
 
-judged_stays : (due : Due) (s : CaptureState) (at : ℕ) (field : List ℕ) → is_within due ≡ true → StaysWithin (judged due s at field)
+judged_stays : (due : Due) (s : CaptureState) (at : ℕ) (field : List ℕ) → is_record_open due ≡ true → StaysWithin (judged due s at field)
 judged_stays Connection s at field within = chosen StaysWithin (nat_lt (number field) s.count) _ _ (λ below. refl) (λ over. tt)
 judged_stays (Length conn) s at field within =
     chosen StaysWithin (nat_lt segment_limit (number field)) _ _ (λ over. tt) (λ few. chosen StaysWithin (number field == 0) _ _ (λ empty. tt) (λ some. refl))
@@ -69,26 +69,26 @@ judged_stays (Payload conn others) s at field within = tt
 judged_stays Closed s at field within = chosen StaysWithin (nat_lt (number field) s.count) _ _ (λ below. tt) (λ over. tt)
 judged_stays due s at field within = cc
 
-moved_leads : (p : Progress) (judged : Judgement) → StaysWithin judged → LeadsOn (moved p judged)
+moved_leads : (p : CaptureProgress) (judged : Judgement) → StaysWithin judged → LeadsOn (moved p judged)
 moved_leads p (Then next) within none = inl within
 moved_leads p (Gives next item) within none = cc
 moved_leads p (Wrong fault) within none = inr (fault, refl)
 
 -- no fault was met within a record
-clean_within : (fault : Option CaptureFault) (due : Due) → is_within_by fault due ≡ true → (fault ≡ None) × (is_within due ≡ true)
+clean_within : (fault : Option CaptureFault) (due : Due) → is_within_by fault due ≡ true → (fault ≡ None) × (is_record_open due ≡ true)
 clean_within None due within = (refl, within)
 clean_within (Some fault) due within = cc
 
-step_leads : (p : Progress) (byte : ℕ) → IsWithin p → LeadsOn (step fields p byte)
+step_leads : (p : CaptureProgress) (byte : ℕ) → IsWithin p → LeadsOn (step fields p byte)
 step_leads p byte within =
     step_does fields LeadsOn p byte (λ fault met none. inr (fault, met)) (λ none. inr (TooLong, refl)) (λ none. inl within)
     (moved_leads p (judged_at fields p byte) (judged_stays p.state.due p.state (p.at - length p.seen) (p.seen ++ byte ∷ []) (clean_within p.fault p.state.due within).1))
 
-within_not_read : (p : Progress) (given : List Record) → IsWithin p → is_good (captures.ended p given) ≡ true → ⊥
+within_not_read : (p : CaptureProgress) (given : List Record) → IsWithin p → is_good (captures.ended p given) ≡ true → ⊥
 within_not_read p given within good =
     let due : p.state.due ≡ Nothing = (good_ended p given good).due in
-    let inside : is_within p.state.due ≡ true = (clean_within p.fault p.state.due within).1 in
-    let outside : is_within p.state.due ≡ false = rw due refl in
+    let inside : is_record_open p.state.due ≡ true = (clean_within p.fault p.state.due within).1 in
+    let outside : is_record_open p.state.due ≡ false = rw due refl in
     cc
 
 pub stays : StaysOpen captures is_good IsWithin
@@ -98,7 +98,7 @@ stays = record {
 }
 
 -- a fault within a record, whatever follows
-pub fault_within : (part : CapturePart) (q : Progress) (bytes piece more : List ℕ) (answer : Result (Option Record) (NotTaken CaptureFault)) (fault : CaptureFault) → answer ≡ Err (Fault fault) → StandsForCapture part bytes → GoesOn captures is_good bytes → is_within_record bytes ≡ true
+pub fault_within : (part : CapturePart) (q : CaptureProgress) (bytes piece more : List ℕ) (answer : Result (Option Record) (NotTaken CaptureFault)) (fault : CaptureFault) → answer ≡ Err (Fault fault) → StandsForCapture part bytes → IsUnfinished captures is_good bytes → is_within_record bytes ≡ true
     → Feeds captures part.reader q piece (given_in answer) → TellsFault captures part.reader piece answer → IsFaultyText captures is_good (λ (f : CaptureFault). Capture f) ((bytes ++ piece) ++ more) (Capture fault)
 fault_within part q bytes piece more answer fault is stands goes_on within feeds tells =
     let here : IsWithin part.reader = sym (within_here part.reader stands.given bytes stands.reader) ∙ within in
@@ -116,7 +116,7 @@ record_kept old new count item given (Err e) added kept = tt
 -- ---- the end
 
 -- the count of a whole capture was read
-whole_count : (part : CapturePart) (bytes : List ℕ) (stands : StandsForCapture part bytes) → ((given : List Record) (b : List ℕ) → StandsFor part.reader given b → EndsAs given (Ok tt) (verdict b))
+whole_count : (part : CapturePart) (bytes : List ℕ) (stands : StandsForCapture part bytes) → ((given : List Record) (b : List ℕ) → StandsForRecords part.reader given b → EndsAs given (Ok tt) (verdict b))
     → (version : ℕ) × (count : ℕ) × (verdict bytes ≡ Good version count stands.given) × (count_of bytes ≡ Some count)
 whole_count part bytes stands ends =
     let good = ends stands.given bytes stands.reader in (
@@ -127,7 +127,7 @@ whole_count part bytes stands ends =
     )
 
 -- the streams are those of the capture
-pub streams_of : (part : CapturePart) (streams : List (List (List ℕ))) (bytes : List ℕ) → StandsForCapture part bytes → part.streams ≡ Some streams → ((given : List Record) (b : List ℕ) → StandsFor part.reader given b → EndsAs given (Ok tt) (verdict b)) → HasStreams bytes streams
+pub streams_of : (part : CapturePart) (streams : List (List (List ℕ))) (bytes : List ℕ) → StandsForCapture part bytes → part.streams ≡ Some streams → ((given : List Record) (b : List ℕ) → StandsForRecords part.reader given b → EndsAs given (Ok tt) (verdict b)) → HasStreams bytes streams
 streams_of part streams bytes stands is ends =
     let whole = whole_count part bytes stands ends in
     record {
@@ -139,7 +139,7 @@ streams_of part streams bytes stands is ends =
     }
 
 -- a whole capture has streams
-pub streams_there : (part : CapturePart) (bytes : List ℕ) → StandsForCapture part bytes → part.streams ≡ None → ((given : List Record) (b : List ℕ) → StandsFor part.reader given b → EndsAs given (Ok tt) (verdict b)) → ⊥
+pub streams_there : (part : CapturePart) (bytes : List ℕ) → StandsForCapture part bytes → part.streams ≡ None → ((given : List Record) (b : List ℕ) → StandsForRecords part.reader given b → EndsAs given (Ok tt) (verdict b)) → ⊥
 streams_there part bytes stands is ends =
     let whole = whole_count part bytes stands ends in
     not_none capture_keeping part.streams bytes stands.given whole.1 is whole.3 stands.kept

@@ -10,7 +10,7 @@ use Rattle.zy_capture.specs.Verdict as Captures
 use Rattle.zy_capture.specs.RepliesVerdict as Replies
 use Rattle.zy_journal.specs.declared.journal.Journal.{Journal}
 use Rattle.zy_journal_reader.specs.Verdict as Journals
-use Rattle.zy_input.specs.Parts.{HasStreams, AreParts}
+use Rattle.zy_input.specs.Parts.{HasStreams, IsMadeOfParts}
 use Rattle.zy_input.proofs.FormatLemmas.{one_first}
 use Rattle.zy_input.proofs.CaptureLemmas as OfCapture
 use Rattle.zy_input.proofs.JournalLemmas as InJournal
@@ -81,7 +81,7 @@ same_streams text first second one two =
     let same = good_captures one.version two.version one.count two.count one.records two.records (sym one.good ∙ two.good) in
     one.joined ∙ ap (λ (n : ℕ). with_records (no_bytes n) one.records) same.counts ∙ ap (λ (l : List Record). with_records (no_bytes two.count) l) same.records ∙ sym two.joined
 
-good_journals : (first second : Journal) → Journals.Verdict.Good first ≡ Journals.Verdict.Good second → first ≡ second
+good_journals : (first second : Journal) → Journals.JournalVerdict.Good first ≡ Journals.JournalVerdict.Good second → first ≡ second
 good_journals first second is = cc
 
 record AreFiles (version other : ℕ) (files others : List SessionBytes) : Type 0 where
@@ -99,7 +99,7 @@ record AreDivided (text : List ℕ) (capture other_capture journal other_journal
   journals : journal ≡ other_journal
   files : replies ≡ other_replies
 
-divided : (text : List ℕ) (s t : List (List (List ℕ))) (j k : Journal) (o p : AllOutputs) (one : AreParts text s j o) (two : AreParts text t k p) → AreDivided text one.capture_text two.capture_text one.journal_text two.journal_text one.replies_text two.replies_text
+divided : (text : List ℕ) (s t : List (List (List ℕ))) (j k : Journal) (o p : AllOutputs) (one : IsMadeOfParts text s j o) (two : IsMadeOfParts text t k p) → AreDivided text one.capture_text two.capture_text one.journal_text two.journal_text one.replies_text two.replies_text
 divided text s t j k o p one two =
     let good = is_capture one.capture_text s one.of_capture in
     let good' = is_capture two.capture_text t two.of_capture in
@@ -108,21 +108,21 @@ divided text s t j k o p one two =
     let behind = after_capture text one.capture_text (one.journal_text ++ one.replies_text) two.capture_text (two.journal_text ++ two.replies_text) one.whole two.whole good good' in
     record {
       captures = one_first Captures.captures Captures.is_good OfCapture.once one.capture_text (one.journal_text ++ one.replies_text) two.capture_text (two.journal_text ++ two.replies_text) (sym one.whole ∙ two.whole) good good';
-      journals = one_first Journals.journals Journals.is_good InJournal.once one.journal_text one.replies_text two.journal_text two.replies_text behind whole whole';
+      journals = one_first Journals.journals Journals.is_good_journal InJournal.once one.journal_text one.replies_text two.journal_text two.replies_text behind whole whole';
       files = after_journal one.journal_text one.replies_text two.journal_text two.replies_text behind whole whole';
     }
 
-pub one_streams : (text : List ℕ) (s t : List (List (List ℕ))) (j k : Journal) (o p : AllOutputs) → AreParts text s j o → AreParts text t k p → s ≡ t
+pub one_streams : (text : List ℕ) (s t : List (List (List ℕ))) (j k : Journal) (o p : AllOutputs) → IsMadeOfParts text s j o → IsMadeOfParts text t k p → s ≡ t
 one_streams text s t j k o p one two =
     let same = divided text s t j k o p one two in
     same_streams two.capture_text s t (subst (λ (l : List ℕ). HasStreams l s) same.captures one.of_capture) two.of_capture
 
-pub one_journal : (text : List ℕ) (s t : List (List (List ℕ))) (j k : Journal) (o p : AllOutputs) → AreParts text s j o → AreParts text t k p → j ≡ k
+pub one_journal : (text : List ℕ) (s t : List (List (List ℕ))) (j k : Journal) (o p : AllOutputs) → IsMadeOfParts text s j o → IsMadeOfParts text t k p → j ≡ k
 one_journal text s t j k o p one two =
     let same = divided text s t j k o p one two in
-    good_journals j k (sym one.of_journal ∙ ap (λ (l : List ℕ). Journals.verdict l) same.journals ∙ two.of_journal)
+    good_journals j k (sym one.of_journal ∙ ap (λ (l : List ℕ). Journals.journal_verdict l) same.journals ∙ two.of_journal)
 
-pub one_outputs : (text : List ℕ) (s t : List (List (List ℕ))) (j k : Journal) (o p : AllOutputs) → AreOutputs o → AreOutputs p → AreParts text s j o → AreParts text t k p → o ≡ p
+pub one_outputs : (text : List ℕ) (s t : List (List (List ℕ))) (j k : Journal) (o p : AllOutputs) → AreOutputs o → AreOutputs p → IsMadeOfParts text s j o → IsMadeOfParts text t k p → o ≡ p
 one_outputs text s t j k o p lawful lawful' one two =
     let same = divided text s t j k o p one two in
     let files = good_replies o.version p.version (items_of o) (items_of p) (sym one.of_replies ∙ ap (λ (l : List ℕ). Replies.verdict l) same.files ∙ two.of_replies) in

@@ -10,7 +10,7 @@ use Rattle.zy_journal.specs.declared.journal.Journal.{Journal}
 use Rattle.zy_journal_reader.specs.Verdict as Journals
 use Rattle.zy_input.specs.declared.stop.Refusal.{Refusal}
 use Rattle.zy_input.specs.declared.stop.Refusal.TheVariants.{Capture, Journal as OfJournal, Replies as OfReplies, Pcap}
-use Rattle.zy_input.specs.Parts.{IsCapture, IsJournal, AreParts, HasCaptureFault, HasJournalFault, HasRepliesFault, HasPartFault}
+use Rattle.zy_input.specs.Parts.{IsCaptureText, IsJournalText, IsMadeOfParts, HasCaptureFault, HasJournalFault, HasRepliesFault, HasPartFault}
 use Rattle.zy_input.proofs.FormatLemmas.{one_rest}
 use Rattle.zy_input.proofs.CaptureLemmas as OfCapture
 use Rattle.zy_input.proofs.JournalLemmas as InJournal
@@ -19,18 +19,18 @@ use Rattle.zy_input.proofs.WholeLemmas.{is_capture, is_journal}
 -- ---- one division
 
 -- what follows the capture of a text is one
-pub after_capture : (text a x c y : List ℕ) → text ≡ a ++ x → text ≡ c ++ y → IsCapture a → IsCapture c → x ≡ y
+pub after_capture : (text a x c y : List ℕ) → text ≡ a ++ x → text ≡ c ++ y → IsCaptureText a → IsCaptureText c → x ≡ y
 after_capture text a x c y first second one two = one_rest Captures.captures Captures.is_good OfCapture.once a x c y (sym first ∙ second) one two
 
-pub after_journal : (a x c y : List ℕ) → a ++ x ≡ c ++ y → IsJournal a → IsJournal c → x ≡ y
-after_journal a x c y is one two = one_rest Journals.journals Journals.is_good InJournal.once a x c y is one two
+pub after_journal : (a x c y : List ℕ) → a ++ x ≡ c ++ y → IsJournalText a → IsJournalText c → x ≡ y
+after_journal a x c y is one two = one_rest Journals.journals Journals.is_good_journal InJournal.once a x c y is one two
 
 -- ---- parts or a fault
 
 good_bad : (text : List ℕ) (version : ℕ) (outputs : AllOutputs) (fault : FileFault) → Replies.verdict text ≡ Replies.Verdict.Good version (items_of outputs) → Replies.verdict text ≡ Replies.Verdict.Bad fault → ⊥
 good_bad text version outputs fault good bad = let is : Replies.Verdict.Good version (items_of outputs) ≡ Replies.Verdict.Bad fault = sym good ∙ bad in cc
 
-pub no_fault : (text : List ℕ) (streams : List (List (List ℕ))) (journal : Journal) (outputs : AllOutputs) (refusal : Refusal) → AreParts text streams journal outputs → HasPartFault text refusal → ⊥
+pub no_fault : (text : List ℕ) (streams : List (List (List ℕ))) (journal : Journal) (outputs : AllOutputs) (refusal : Refusal) → IsMadeOfParts text streams journal outputs → HasPartFault text refusal → ⊥
 no_fault text streams journal outputs (Capture fault) parts has = has.none parts.capture_text (parts.journal_text ++ parts.replies_text) parts.whole (is_capture parts.capture_text streams parts.of_capture)
 no_fault text streams journal outputs (OfJournal fault) parts has =
     let rest : has.rest ≡ parts.journal_text ++ parts.replies_text = after_capture text has.capture_text has.rest parts.capture_text (parts.journal_text ++ parts.replies_text) has.whole parts.whole has.of_capture (is_capture parts.capture_text streams parts.of_capture) in
@@ -46,14 +46,14 @@ no_fault text streams journal outputs (OfReplies fault) parts has =
 captures_differ : (text : List ℕ) (first second : CaptureFault) → Captures.verdict text ≡ Captures.Verdict.Bad first → Captures.verdict text ≡ Captures.Verdict.Bad second → first ≡ second
 captures_differ text first second one two = let is : Captures.Verdict.Bad first ≡ Captures.Verdict.Bad second = sym one ∙ two in cc
 
-journals_differ : (text : List ℕ) (first second : FileFault) → Journals.verdict text ≡ Journals.Verdict.Bad first → Journals.verdict text ≡ Journals.Verdict.Bad second → first ≡ second
-journals_differ text first second one two = let is : Journals.Verdict.Bad first ≡ Journals.Verdict.Bad second = sym one ∙ two in cc
+journals_differ : (text : List ℕ) (first second : FileFault) → Journals.journal_verdict text ≡ Journals.JournalVerdict.Bad first → Journals.journal_verdict text ≡ Journals.JournalVerdict.Bad second → first ≡ second
+journals_differ text first second one two = let is : Journals.JournalVerdict.Bad first ≡ Journals.JournalVerdict.Bad second = sym one ∙ two in cc
 
 replies_differ : (text : List ℕ) (first second : FileFault) → Replies.verdict text ≡ Replies.Verdict.Bad first → Replies.verdict text ≡ Replies.Verdict.Bad second → first ≡ second
 replies_differ text first second one two = let is : Replies.Verdict.Bad first ≡ Replies.Verdict.Bad second = sym one ∙ two in cc
 
 -- a fault of the capture is not one of a later part
-not_later : (text front back : List ℕ) (fault : CaptureFault) → HasCaptureFault text fault → text ≡ front ++ back → IsCapture front → ⊥
+not_later : (text front back : List ℕ) (fault : CaptureFault) → HasCaptureFault text fault → text ≡ front ++ back → IsCaptureText front → ⊥
 not_later text front back fault has is whole = has.none front back is whole
 
 -- a fault of the journal is not one of the replies file
@@ -64,7 +64,7 @@ not_last text fault other has later =
 one_journal : (text : List ℕ) (first second : FileFault) → HasJournalFault text first → HasJournalFault text second → first ≡ second
 one_journal text first second one two =
     let rest : one.rest ≡ two.rest = after_capture text one.capture_text one.rest two.capture_text two.rest one.whole two.whole one.of_capture two.of_capture in
-    journals_differ two.rest first second (subst (λ (l : List ℕ). Journals.verdict l ≡ Journals.Verdict.Bad first) rest one.bad) two.bad
+    journals_differ two.rest first second (subst (λ (l : List ℕ). Journals.journal_verdict l ≡ Journals.JournalVerdict.Bad first) rest one.bad) two.bad
 
 one_replies : (text : List ℕ) (first second : FileFault) → HasRepliesFault text first → HasRepliesFault text second → first ≡ second
 one_replies text first second one two =

@@ -5,8 +5,8 @@ use Rattle.zy_base.specs.declared.file_fault.FileFault.{FileFault}
 use Rattle.zy_read.specs.declared.stop.Stop.{Stop}
 use Rattle.zy_read.specs.declared.stop.Stop.TheVariants.{Refused, ReadFault, NoMemory}
 use Rattle.zy_journal.specs.declared.journal.Journal.{Journal}
-use Rattle.zy_journal_reader.specs.Verdict.{journals, verdict}
-use Rattle.zy_journal_reader.specs.Verdict.Verdict.{Good, Bad}
+use Rattle.zy_journal_reader.specs.Verdict.{journals, journal_verdict}
+use Rattle.zy_journal_reader.specs.Verdict.JournalVerdict.{Good, Bad}
 use Rattle.zy_input.specs.declared.journal_part.Until.TheVariants.{SourceEnd}
 use Rattle.zy_input.specs.declared.stop.Refusal.{Refusal}
 use Rattle.zy_input.specs.declared.stop.Refusal.TheVariants.{Journal as OfJournal}
@@ -17,13 +17,13 @@ use Rattle.zy_input.proofs.FormatLemmas.{ends_faulty}
 use Rattle.zy_input.proofs.PartLemmas.{if_some, read_all}
 
 -- the fault of the journal
-journal_faulty : (text : List ℕ) (refusal : Refusal) → HasFaultBehind (journal_kind SourceEnd) [] text refusal → (fault : FileFault) × (refusal ≡ OfJournal fault) × (verdict text ≡ Bad fault)
+journal_faulty : (text : List ℕ) (refusal : Refusal) → HasFaultBehind (journal_kind SourceEnd) [] text refusal → (fault : FileFault) × (refusal ≡ OfJournal fault) × (journal_verdict text ≡ Bad fault)
 journal_faulty text refusal behind =
-    let met = ends_faulty journals never (λ (f : FileFault). OfJournal f) (StandsForJournalPart SourceEnd) (λ (journal : Journal) (t : List ℕ). verdict t ≡ Good journal) [] text refusal behind in
-    (met.0, met.1, ap verdict met.2.whole ∙ met.2.bad)
+    let met = ends_faulty journals never (λ (f : FileFault). OfJournal f) (StandsForJournalPart SourceEnd) (λ (journal : Journal) (t : List ℕ). journal_verdict t ≡ Good journal) [] text refusal behind in
+    (met.0, met.1, ap journal_verdict met.2.whole ∙ met.2.bad)
 
 -- is that of the refusal
-same_fault : (text : List ℕ) (refusal : Refusal) (fault : FileFault) → refusal ≡ OfJournal fault → (f : FileFault) × (refusal ≡ OfJournal f) × (verdict text ≡ Bad f) → verdict text ≡ Bad fault
+same_fault : (text : List ℕ) (refusal : Refusal) (fault : FileFault) → refusal ≡ OfJournal fault → (f : FileFault) × (refusal ≡ OfJournal f) × (journal_verdict text ≡ Bad f) → journal_verdict text ≡ Bad fault
 same_fault text refusal fault is met =
     let here : OfJournal met.0 ≡ OfJournal fault = sym met.1 ∙ is in
     let same : met.0 ≡ fault = cc in
@@ -34,7 +34,7 @@ journal_read rest faults first now left (Ok journal) has = (has.bytes, read_all 
 journal_read rest faults first now left (Err (Refused refusal)) stops =
     let met = journal_faulty stops.0.0 refusal (record { rest = stops.0.0; whole = refl; faulty = stops.0.1 }) in
     subst (λ (r : Refusal). HasReadJournal rest faults first now (Err (Refused r))) (sym met.1)
-    (if_some (rest first) (λ text. HasFaultBehind (journal_kind SourceEnd) [] text refusal) (λ text. verdict text ≡ Bad met.0)
+    (if_some (rest first) (λ text. HasFaultBehind (journal_kind SourceEnd) [] text refusal) (λ text. journal_verdict text ≡ Bad met.0)
     (λ text behind. same_fault text refusal met.0 met.1 (journal_faulty text refusal behind)) stops.1)
 journal_read rest faults first now left (Err ReadFault) stops = stops
 journal_read rest faults first now left (Err NoMemory) stops = tt

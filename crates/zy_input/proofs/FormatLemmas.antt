@@ -8,7 +8,7 @@ use Rattle.zy_read.specs.Format.{Format, IsLasting, Reading, read_on, reading_of
 use Rattle.zy_read.specs.Standing.{StandsAs, given_in, Feeds, MeetsFault, TellsFault, TellsLasting}
 use Rattle.zy_read.proofs.Feeding.{read_more, fed_step, verdict_here, fault_here, fault_stays, fault_lasts}
 use Rattle.zy_input.specs.declared.stop.Refusal.{Refusal}
-use Rattle.zy_input.specs.Reading.{GoesOn, IsWhole, HasNoWhole, IsFaultyText, HasFaultBehind, format_kind, never}
+use Rattle.zy_input.specs.Reading.{IsUnfinished, IsWholeText, HasNoWhole, IsFaultyText, HasFaultBehind, format_kind, never}
 
 -- the first fault counts, a byte after a whole text is a fault, and a text with a fault is not whole
 pub record EndsOnce {P G F V : Type 0} (format : Format P G F V) (good : V → Bool) : Type 0 where
@@ -19,15 +19,15 @@ pub record EndsOnce {P G F V : Type 0} (format : Format P G F V) (good : V → B
 -- ---- one text
 
 -- a text with a fault is not whole
-pub bad_not_whole : {P G F V : Type 0} (format : Format P G F V) (good : V → Bool) (once : EndsOnce format good) (text : List ℕ) (fault : F) → verdict_on format text ≡ format.bad fault → IsWhole format good text → ⊥
+pub bad_not_whole : {P G F V : Type 0} (format : Format P G F V) (good : V → Bool) (once : EndsOnce format good) (text : List ℕ) (fault : F) → verdict_on format text ≡ format.bad fault → IsWholeText format good text → ⊥
 bad_not_whole format good once text fault is whole = let no : good (format.bad fault) ≡ true = ap good (sym is) ∙ whole in let not : good (format.bad fault) ≡ false = once.bad fault in cc
 
 -- a text in which a fault was met is not whole, and neither is a longer one
-pub met_not_whole : {P G F V : Type 0} (format : Format P G F V) (good : V → Bool) (once : EndsOnce format good) (text more : List ℕ) (fault : F) → fault_met format text ≡ Some fault → IsWhole format good (text ++ more) → ⊥
+pub met_not_whole : {P G F V : Type 0} (format : Format P G F V) (good : V → Bool) (once : EndsOnce format good) (text more : List ℕ) (fault : F) → fault_met format text ≡ Some fault → IsWholeText format good (text ++ more) → ⊥
 met_not_whole format good once text more fault met whole = bad_not_whole format good once (text ++ more) fault (fault_lasts format once.lasting text more fault met) whole
 
 -- after a whole text a fault is met
-pub whole_closes : {P G F V : Type 0} (format : Format P G F V) (good : V → Bool) (once : EndsOnce format good) (text more : List ℕ) (byte : ℕ) → IsWhole format good text → (fault : F) × (fault_met format (text ++ byte ∷ more) ≡ Some fault)
+pub whole_closes : {P G F V : Type 0} (format : Format P G F V) (good : V → Bool) (once : EndsOnce format good) (text more : List ℕ) (byte : ℕ) → IsWholeText format good text → (fault : F) × (fault_met format (text ++ byte ∷ more) ≡ Some fault)
 unfolding StandsAs verdict_on
 whole_closes {P} {G} {F} format good once text more byte whole =
     let r : Reading P G = reading_of format text in
@@ -37,10 +37,10 @@ whole_closes {P} {G} {F} format good once text more byte whole =
     (closed.0, ap (λ (l : List ℕ). fault_met format l) (sym (append_assoc text (byte ∷ []) more)) ∙ fault_stays format once.lasting (text ++ byte ∷ []) more closed.0 met)
 
 -- a whole text has no longer one that is whole
-pub no_longer : {P G F V : Type 0} (format : Format P G F V) (good : V → Bool) (once : EndsOnce format good) (text more : List ℕ) (byte : ℕ) → IsWhole format good text → IsWhole format good (text ++ byte ∷ more) → ⊥
+pub no_longer : {P G F V : Type 0} (format : Format P G F V) (good : V → Bool) (once : EndsOnce format good) (text more : List ℕ) (byte : ℕ) → IsWholeText format good text → IsWholeText format good (text ++ byte ∷ more) → ⊥
 no_longer format good once text more byte whole longer =
     let closed = whole_closes format good once text more byte whole in
-    met_not_whole format good once (text ++ byte ∷ more) [] closed.0 closed.1 (subst (λ (l : List ℕ). IsWhole format good l) (sym (append-nil (text ++ byte ∷ more))) longer)
+    met_not_whole format good once (text ++ byte ∷ more) [] closed.0 closed.1 (subst (λ (l : List ℕ). IsWholeText format good l) (sym (append-nil (text ++ byte ∷ more))) longer)
 
 -- ---- prefixes of one text
 
@@ -58,11 +58,11 @@ two_firsts (n ∷ a) x (m ∷ c) y is =
     go same (inr longer) = let is : a ≡ c ++ longer.0 = longer.1 in inr (longer.0, cc)
 
 -- a prefix that is whole is the only one
-same_first : {P G F V : Type 0} (format : Format P G F V) (good : V → Bool) (once : EndsOnce format good) (a d c : List ℕ) → c ≡ a ++ d → IsWhole format good a → IsWhole format good c → a ≡ c
+same_first : {P G F V : Type 0} (format : Format P G F V) (good : V → Bool) (once : EndsOnce format good) (a d c : List ℕ) → c ≡ a ++ d → IsWholeText format good a → IsWholeText format good c → a ≡ c
 same_first format good once a [] c is first second = sym (is ∙ append-nil a)
-same_first format good once a (byte ∷ more) c is first second = absurd (no_longer format good once a more byte first (subst (λ (l : List ℕ). IsWhole format good l) is second))
+same_first format good once a (byte ∷ more) c is first second = absurd (no_longer format good once a more byte first (subst (λ (l : List ℕ). IsWholeText format good l) is second))
 
-pub one_first : {P G F V : Type 0} (format : Format P G F V) (good : V → Bool) (once : EndsOnce format good) (a x c y : List ℕ) → a ++ x ≡ c ++ y → IsWhole format good a → IsWhole format good c → a ≡ c
+pub one_first : {P G F V : Type 0} (format : Format P G F V) (good : V → Bool) (once : EndsOnce format good) (a x c y : List ℕ) → a ++ x ≡ c ++ y → IsWholeText format good a → IsWholeText format good c → a ≡ c
 one_first format good once a x c y is first second = go (two_firsts a x c y is)
   where
     go : ((d : List ℕ) × (c ≡ a ++ d)) ⊎ ((d : List ℕ) × (a ≡ c ++ d)) → a ≡ c
@@ -70,15 +70,15 @@ one_first format good once a x c y is first second = go (two_firsts a x c y is)
     go (inr longer) = sym (same_first format good once c longer.0 a longer.1 second first)
 
 -- and what follows it is one
-pub one_rest : {P G F V : Type 0} (format : Format P G F V) (good : V → Bool) (once : EndsOnce format good) (a x c y : List ℕ) → a ++ x ≡ c ++ y → IsWhole format good a → IsWhole format good c → x ≡ y
+pub one_rest : {P G F V : Type 0} (format : Format P G F V) (good : V → Bool) (once : EndsOnce format good) (a x c y : List ℕ) → a ++ x ≡ c ++ y → IsWholeText format good a → IsWholeText format good c → x ≡ y
 one_rest format good once a x c y is first second =
     append_cancel_left a x y (is ∙ ap (λ (l : List ℕ). l ++ y) (sym (one_first format good once a x c y is first second)))
 
 -- ---- a text that goes on
 
 -- a text without a fault, which is not whole, has no prefix that is
-pub none_yet : {P G F V : Type 0} (format : Format P G F V) (good : V → Bool) (once : EndsOnce format good) (text : List ℕ) → GoesOn format good text → HasNoWhole format good text
-none_yet format good once text goes_on front [] is whole = let not : good (verdict_on format text) ≡ false = goes_on.1 in let yes : good (verdict_on format text) ≡ true = subst (λ (l : List ℕ). IsWhole format good l) (sym (is ∙ append-nil front)) whole in cc
+pub none_yet : {P G F V : Type 0} (format : Format P G F V) (good : V → Bool) (once : EndsOnce format good) (text : List ℕ) → IsUnfinished format good text → HasNoWhole format good text
+none_yet format good once text goes_on front [] is whole = let not : good (verdict_on format text) ≡ false = goes_on.1 in let yes : good (verdict_on format text) ≡ true = subst (λ (l : List ℕ). IsWholeText format good l) (sym (is ∙ append-nil front)) whole in cc
 none_yet format good once text goes_on front (byte ∷ more) is whole =
     let closed = whole_closes format good once front more byte whole in
     let met : fault_met format text ≡ Some closed.0 = ap (λ (l : List ℕ). fault_met format l) is ∙ closed.1 in
@@ -87,8 +87,8 @@ none_yet format good once text goes_on front (byte ∷ more) is whole =
 -- ---- a text with a fault
 
 -- neither has a longer text with a fault, whatever follows, if no prefix between the two is whole
-none_later : {P G F V : Type 0} (format : Format P G F V) (good : V → Bool) (once : EndsOnce format good) (text taken more : List ℕ) (fault : F) → GoesOn format good text → fault_met format (text ++ taken) ≡ Some fault
-    → ((d e : List ℕ) → taken ≡ d ++ e → IsWhole format good (text ++ d) → ⊥) → HasNoWhole format good ((text ++ taken) ++ more)
+none_later : {P G F V : Type 0} (format : Format P G F V) (good : V → Bool) (once : EndsOnce format good) (text taken more : List ℕ) (fault : F) → IsUnfinished format good text → fault_met format (text ++ taken) ≡ Some fault
+    → ((d e : List ℕ) → taken ≡ d ++ e → IsWholeText format good (text ++ d) → ⊥) → HasNoWhole format good ((text ++ taken) ++ more)
 none_later format good once text taken more fault goes_on met between front back is whole = go (two_firsts text (taken ++ more) front back whole_is)
   where
     whole_is : text ++ (taken ++ more) ≡ front ++ back
@@ -97,8 +97,8 @@ none_later format good once text taken more fault goes_on met between front back
     longer : (d : List ℕ) → front ≡ text ++ d → ((e : List ℕ) × (d ≡ taken ++ e)) ⊎ ((e : List ℕ) × (taken ≡ d ++ e)) → ⊥
     longer d front_is (inl e) =
         met_not_whole format good once (text ++ taken) e.0 fault met
-        (subst (λ (l : List ℕ). IsWhole format good l) (front_is ∙ ap (λ (l : List ℕ). text ++ l) e.1 ∙ sym (append_assoc text taken e.0)) whole)
-    longer d front_is (inr e) = between d e.0 e.1 (subst (λ (l : List ℕ). IsWhole format good l) front_is whole)
+        (subst (λ (l : List ℕ). IsWholeText format good l) (front_is ∙ ap (λ (l : List ℕ). text ++ l) e.1 ∙ sym (append_assoc text taken e.0)) whole)
+    longer d front_is (inr e) = between d e.0 e.1 (subst (λ (l : List ℕ). IsWholeText format good l) front_is whole)
 
     go : ((d : List ℕ) × (front ≡ text ++ d)) ⊎ ((d : List ℕ) × (text ≡ front ++ d)) → ⊥
     go (inl d) =
@@ -109,16 +109,16 @@ none_later format good once text taken more fault goes_on met between front back
 -- ---- a byte that is fed
 
 -- between a text and one further byte there is no prefix
-no_whole_byte : {P G F V : Type 0} (format : Format P G F V) (good : V → Bool) (once : EndsOnce format good) (text d e : List ℕ) (byte : ℕ) (fault : F) → GoesOn format good text → fault_met format (text ++ byte ∷ []) ≡ Some fault
-    → byte ∷ [] ≡ d ++ e → IsWhole format good (text ++ d) → ⊥
+no_whole_byte : {P G F V : Type 0} (format : Format P G F V) (good : V → Bool) (once : EndsOnce format good) (text d e : List ℕ) (byte : ℕ) (fault : F) → IsUnfinished format good text → fault_met format (text ++ byte ∷ []) ≡ Some fault
+    → byte ∷ [] ≡ d ++ e → IsWholeText format good (text ++ d) → ⊥
 no_whole_byte format good once text [] e byte fault goes_on met is whole = none_yet format good once text goes_on (text ++ []) [] (sym (append-nil (text ++ []) ∙ append-nil text)) whole
 no_whole_byte format good once text (first ∷ d) e byte fault goes_on met is whole =
     let same : first ≡ byte = cc in
     met_not_whole format good once (text ++ byte ∷ []) d fault met
-    (subst (λ (l : List ℕ). IsWhole format good l) (ap (λ (n : ℕ). text ++ n ∷ d) same ∙ sym (append_assoc text (byte ∷ []) d)) whole)
+    (subst (λ (l : List ℕ). IsWholeText format good l) (ap (λ (n : ℕ). text ++ n ∷ d) same ∙ sym (append_assoc text (byte ∷ []) d)) whole)
 
 -- a text that goes on has a fault at its next byte, whatever follows
-pub byte_fault : {P G F V : Type 0} (format : Format P G F V) (good : V → Bool) (once : EndsOnce format good) (p : P) (given : List G) (text more : List ℕ) (byte : ℕ) (fault : F) → StandsAs format p given text → GoesOn format good text → MeetsFault format p (byte ∷ []) (Some fault)
+pub byte_fault : {P G F V : Type 0} (format : Format P G F V) (good : V → Bool) (once : EndsOnce format good) (p : P) (given : List G) (text more : List ℕ) (byte : ℕ) (fault : F) → StandsAs format p given text → IsUnfinished format good text → MeetsFault format p (byte ∷ []) (Some fault)
     → HasNoWhole format good ((text ++ byte ∷ []) ++ more) × (verdict_on format ((text ++ byte ∷ []) ++ more) ≡ format.bad fault)
 byte_fault format good once p given text more byte fault stands goes_on met =
     let here = met given text stands in (
@@ -140,16 +140,16 @@ none_first (Some g) others is = cc
 
 -- from such a place on no text is whole that ends within bytes that end no record
 none_within : {P G F V : Type 0} (format : Format P G F V) (good : V → Bool) (once : EndsOnce format good) (IsOpen : P → Type 0) (stays : StaysOpen format good IsOpen) (p : P) (given : List G) (text d e : List ℕ) → StandsAs format p given text → IsOpen p
-    → (read_on format.step p (d ++ e)).given ≡ [] → IsWhole format good (text ++ d) → ⊥
+    → (read_on format.step p (d ++ e)).given ≡ [] → IsWholeText format good (text ++ d) → ⊥
 unfolding read_on
 none_within format good once IsOpen stays p given text [] e stands here none whole =
-    stays.never p given here (ap good (sym (verdict_here format p given text stands)) ∙ subst (λ (l : List ℕ). IsWhole format good l) (append-nil text) whole)
+    stays.never p given here (ap good (sym (verdict_here format p given text stands)) ∙ subst (λ (l : List ℕ). IsWholeText format good l) (append-nil text) whole)
 none_within {P} {G} format good once IsOpen stays p given text (byte ∷ d) e stands here none whole =
     let q : P = (format.step p byte).next in
     let gave : List G = option_to_list (format.step p byte).gave in
     let parts = none_first (format.step p byte).gave (read_on format.step q (d ++ e)).given none in
     let on : StandsAs format q (given ++ gave) (text ++ byte ∷ []) = fed_step format p byte given text stands in
-    let rest : IsWhole format good ((text ++ byte ∷ []) ++ d) = subst (λ (l : List ℕ). IsWhole format good l) (sym (append_assoc text (byte ∷ []) d)) whole in
+    let rest : IsWholeText format good ((text ++ byte ∷ []) ++ d) = subst (λ (l : List ℕ). IsWholeText format good l) (sym (append_assoc text (byte ∷ []) d)) whole in
     ⊎_elim (λ still. none_within format good once IsOpen stays q (given ++ gave) (text ++ byte ∷ []) d e on still parts.1 rest)
     (λ broken. met_not_whole format good once (text ++ byte ∷ []) d broken.0 (fault_here format q (given ++ gave) (text ++ byte ∷ []) on ∙ broken.1) rest)
     (stays.goes p byte here parts.0)
@@ -162,7 +162,7 @@ gave_none {P} {G} format p q given text taken stands feeds =
     (ap (λ (r : Reading P G). r.given) (sym (read_more format p given text taken stands) ∙ feeds given text stands))
 
 -- a text that goes on has a fault within a piece that ends no record, whatever follows
-pub piece_fault : {P G F V : Type 0} (format : Format P G F V) (good : V → Bool) (once : EndsOnce format good) (IsOpen : P → Type 0) (stays : StaysOpen format good IsOpen) (p q : P) (given : List G) (text taken more : List ℕ) (fault : F) → StandsAs format p given text → IsOpen p → GoesOn format good text
+pub piece_fault : {P G F V : Type 0} (format : Format P G F V) (good : V → Bool) (once : EndsOnce format good) (IsOpen : P → Type 0) (stays : StaysOpen format good IsOpen) (p q : P) (given : List G) (text taken more : List ℕ) (fault : F) → StandsAs format p given text → IsOpen p → IsUnfinished format good text
     → Feeds format p q taken [] → MeetsFault format p taken (Some fault) → HasNoWhole format good ((text ++ taken) ++ more) × (verdict_on format ((text ++ taken) ++ more) ≡ format.bad fault)
 piece_fault {P} {G} format good once IsOpen stays p q given text taken more fault stands here_open goes_on feeds met =
     let here = met given text stands in
@@ -173,7 +173,7 @@ piece_fault {P} {G} format good once IsOpen stays p q given text taken more faul
     )
 
 -- the same by the answer to the piece
-pub answer_fault : {P G F V : Type 0} (format : Format P G F V) (good : V → Bool) (once : EndsOnce format good) (refused : F → Refusal) (IsOpen : P → Type 0) (stays : StaysOpen format good IsOpen) (p q : P) (given : List G) (text taken more : List ℕ) (answer : Result (Option G) (NotTaken F)) (fault : F) → answer ≡ Err (Fault fault) → StandsAs format p given text → IsOpen p → GoesOn format good text
+pub answer_fault : {P G F V : Type 0} (format : Format P G F V) (good : V → Bool) (once : EndsOnce format good) (refused : F → Refusal) (IsOpen : P → Type 0) (stays : StaysOpen format good IsOpen) (p q : P) (given : List G) (text taken more : List ℕ) (answer : Result (Option G) (NotTaken F)) (fault : F) → answer ≡ Err (Fault fault) → StandsAs format p given text → IsOpen p → IsUnfinished format good text
     → Feeds format p q taken (given_in answer) → TellsFault format p taken answer → IsFaultyText format good refused ((text ++ taken) ++ more) (refused fault)
 answer_fault {P} {G} {F} format good once refused IsOpen stays p q given text taken more answer fault is stands here_open goes_on feeds tells =
     let fed : Feeds format p q taken [] = subst (λ (a : Result (Option G) (NotTaken F)). Feeds format p q taken (given_in a)) is feeds in

@@ -8,7 +8,7 @@ use Rattle.zy_read.specs.Standing.{StandsAs, given_in, Feeds, TellsFault, Answer
 use Rattle.zy_read.proofs.ByteLemmas.{bytes_append, bytes_take}
 use Rattle.zy_read.proofs.Feeding.{given_here}
 use Rattle.zy_input.specs.Keeping.{Keeper, KeepsRecords, KeepsSoFar, HasKept, IsKeeping, IsAdding, KeepsGiven, TakesBy}
-use Rattle.zy_input.specs.Reading.{Takes, IsFaultyText, format_kind}
+use Rattle.zy_input.specs.Reading.{TakesInPart, IsFaultyText, format_kind}
 use Rattle.zy_input.specs.declared.stop.Refusal.{Refusal}
 use Rattle.zy_read.specs.declared.stop.Stop.{Stop}
 use Rattle.zy_read.specs.declared.stop.Stop.TheVariants as Stops
@@ -70,7 +70,7 @@ KeepsAt keeping place made gave text = (is : IsKeeping keeping place made gave) 
 -- by the answer of the reader the part goes on, is whole, or is read no further
 pub taken_on : {P G F V K Part T : Type 0} (keeping : Keeper P G F V K) (good : V → Bool) (refused : F → Refusal) (stands : Part → List ℕ → Type 0) (gives : T → List ℕ → Type 0) (place : P) (before after : Option K) (part : Part) (text : List ℕ) (answer : Result (Option G) (NotTaken F)) (result : Result Bool (Stop Refusal)) (done : Bool)
     → (HasKept keeping place after text → stands part text) → ((gave : Option G) → answer ≡ Ok gave → KeepsAt keeping place before gave text) → AnswersBy keeping.format place (λ b. good (verdict_on keeping.format b)) done
-    → ((fault : F) → answer ≡ Err (Fault fault) → (more : List ℕ) → IsFaultyText keeping.format good refused (text ++ more) (refused fault)) → TakesBy keeping refused place before after done answer result → Takes (format_kind keeping.format good refused stands gives) part text result
+    → ((fault : F) → answer ≡ Err (Fault fault) → (more : List ℕ) → IsFaultyText keeping.format good refused (text ++ more) (refused fault)) → TakesBy keeping refused place before after done answer result → TakesInPart (format_kind keeping.format good refused stands gives) part text result
 taken_on {P} {G} {F} {V} {K} {Part} {T} keeping good refused stands gives place before after part text answer result done here keeps answers faulty by = go answer result refl by
   where
     kept : (gave : Option G) → KeepsAt keeping place before gave text → KeepsGiven keeping place before after gave → stands part text
@@ -84,14 +84,14 @@ taken_on {P} {G} {F} {V} {K} {Part} {T} keeping good refused stands gives place 
     whole : (gave : Option G) (is : Bool) → KeepsAt keeping place before gave text → is ≡ done → good (verdict_on keeping.format text) ≡ is
     whole gave is at same = subst (λ (l : List ℕ). good (verdict_on keeping.format l) ≡ is) at.1 (sym (same ∙ answers (at.0.given ++ option_to_list gave) at.0.bytes at.0.reader))
 
-    go : (a : Result (Option G) (NotTaken F)) (r : Result Bool (Stop Refusal)) → answer ≡ a → TakesBy keeping refused place before after done a r → Takes (format_kind keeping.format good refused stands gives) part text r
+    go : (a : Result (Option G) (NotTaken F)) (r : Result Bool (Stop Refusal)) → answer ≡ a → TakesBy keeping refused place before after done a r → TakesInPart (format_kind keeping.format good refused stands gives) part text r
     go (Ok gave) (Ok true) same takes = (kept gave (keeps gave same) takes.1, whole gave true (keeps gave same) takes.0)
     go (Ok gave) (Ok false) same takes = (kept gave (keeps gave same) takes.1, (clean gave (keeps gave same), whole gave false (keeps gave same) takes.0))
     go (Ok gave) (Err Stops.NoMemory) same takes = tt
     go (Ok gave) (Err (Stops.Refused refusal)) same takes = absurd takes
     go (Ok gave) (Err Stops.ReadFault) same takes = absurd takes
-    go (Err (Fault fault)) r same takes = subst (λ (x : Result Bool (Stop Refusal)). Takes (format_kind keeping.format good refused stands gives) part text x) (sym takes) (λ more. faulty fault same more)
-    go (Err NoMemory) r same takes = subst (λ (x : Result Bool (Stop Refusal)). Takes (format_kind keeping.format good refused stands gives) part text x) (sym takes) tt
+    go (Err (Fault fault)) r same takes = subst (λ (x : Result Bool (Stop Refusal)). TakesInPart (format_kind keeping.format good refused stands gives) part text x) (sym takes) (λ more. faulty fault same more)
+    go (Err NoMemory) r same takes = subst (λ (x : Result Bool (Stop Refusal)). TakesInPart (format_kind keeping.format good refused stands gives) part text x) (sym takes) tt
 
 -- ---- a further record
 

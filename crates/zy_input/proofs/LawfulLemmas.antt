@@ -8,7 +8,7 @@ use Rattle.zy_capture.specs.declared.record.Record.{Record}
 use Rattle.zy_capture.specs.declared.record.Record.TheVariants as Kinds
 use Rattle.zy_capture.specs.Capture.{connection_limit, IsRecordOf}
 use Rattle.zy_capture.specs.SoFar.{IsCaptureSoFar}
-use Rattle.zy_capture.specs.Steps.{Progress}
+use Rattle.zy_capture.specs.Steps.{CaptureProgress}
 use Rattle.zy_capture.specs.Streams.{closes, sessions_of, no_bytes, with_records}
 use Rattle.zy_capture.specs.Verdict.{count_of, records_of}
 use Rattle.zy_capture.proofs.AddLemmas.{streams_size}
@@ -33,11 +33,11 @@ stays bytes more count small is = count_stays bytes more count small is
 -- ---- a further record
 
 -- where a record was given, the records are those of a capture
-so_far : (reader : Progress) (kept : Option (List (List (List ℕ)))) (item : Record) (is : IsAdding capture_keeping reader kept item) → IsCaptureSoFar is.bytes
+so_far : (reader : CaptureProgress) (kept : Option (List (List (List ℕ)))) (item : Record) (is : IsAdding capture_keeping reader kept item) → IsCaptureSoFar is.bytes
 so_far reader kept item is = records_so_far is.bytes is.small is.clean (λ none. given_some capture_keeping reader kept item is none)
 
 -- so there are streams to which it is added
-pub streams_made : (reader : Progress) (kept : Option (List (List (List ℕ)))) (item : Record) → IsAdding capture_keeping reader kept item → kept ≡ None → ⊥
+pub streams_made : (reader : CaptureProgress) (kept : Option (List (List (List ℕ)))) (item : Record) → IsAdding capture_keeping reader kept item → kept ≡ None → ⊥
 streams_made reader kept item is none =
     let all = so_far reader kept item is in
     not_none capture_keeping kept is.bytes is.given all.count none all.count_is is.kept
@@ -56,7 +56,7 @@ closes_front conn (Kinds.Close other ∷ given) item = go (other == conn) (close
     go false few = few
 
 -- and they have room for it
-pub may_keep : (reader : Progress) (kept : Option (List (List (List ℕ)))) (item : Record) (streams : List (List (List ℕ))) → IsAdding capture_keeping reader kept item → kept ≡ Some streams → MayKeep streams item
+pub may_keep : (reader : CaptureProgress) (kept : Option (List (List (List ℕ)))) (item : Record) (streams : List (List (List ℕ))) → IsAdding capture_keeping reader kept item → kept ≡ Some streams → MayKeep streams item
 may_keep reader kept item streams is made = go item (last_holds (IsRecordOf all.version all.count) is.given item (subst (AllByRecursion (IsRecordOf all.version all.count)) same all.lawful.lawful))
   where
     all : IsCaptureSoFar is.bytes

@@ -6,9 +6,9 @@ use Rattle.zy_read.specs.declared.not_taken.NotTaken.TheVariants.{Fault}
 use Rattle.zy_read.specs.declared.stop.Stop.{Stop}
 use Rattle.zy_read.specs.declared.stop.Stop.TheVariants.{Refused, ReadFault, NoMemory}
 use Rattle.zy_pcap.specs.declared.pcap_fault.PcapFault.{PcapFault}
-use Rattle.zy_pcap.specs.Packets.{Found, read_on, read, packets, fault_met}
-use Rattle.zy_pcap.specs.Packets.Found.{Packets, Bad}
-use Rattle.zy_pcap.specs.Standing.{Reading, StandsFor, Feeds, TellsFault, TellsLasting, FinishesAs, FinishesBy}
+use Rattle.zy_pcap.specs.Packets.{FoundPackets, file_read_on, read, packets, file_fault_met}
+use Rattle.zy_pcap.specs.Packets.FoundPackets.{Packets, Bad}
+use Rattle.zy_pcap.specs.Standing.{PcapReading, StandsForFile, FeedsFile, TellsFileFault, TellsLastingFault, FinishesAs, FinishesBy}
 use Rattle.zy_input.specs.declared.packets_part.PacketsPart.{PacketsPart}
 use Rattle.zy_input.specs.declared.stop.Refusal.{Refusal}
 use Rattle.zy_input.specs.declared.stop.Refusal.TheVariants.{Capture, Journal as OfJournal, Replies as OfReplies, Pcap}
@@ -20,32 +20,32 @@ use Rattle.zy_input.proofs.PartLemmas.{if_some, read_all}
 -- ---- where they begin
 
 -- before the first byte there is no fault
-pub no_fault : (port : ℕ) → fault_met port [] ≡ None
-unfolding fault_met read read_on
+pub no_fault : (port : ℕ) → file_fault_met port [] ≡ None
+unfolding file_fault_met read file_read_on
 no_fault port = refl
 
 -- ---- further bytes
 
 -- after a piece without a fault
-pub packets_on : (port : ℕ) (part : PacketsPart) (new : Reading) (bytes piece : List ℕ) (answer : Result ⊤ (NotTaken PcapFault)) → answer ≡ Ok tt → StandsForPackets port part bytes → new.port ≡ part.reader.port → Feeds part.reader new piece → TellsFault part.reader piece answer
-    → ((new.port ≡ port) × StandsFor new (bytes ++ piece)) × (fault_met port (bytes ++ piece) ≡ None)
+pub packets_on : (port : ℕ) (part : PacketsPart) (new : PcapReading) (bytes piece : List ℕ) (answer : Result ⊤ (NotTaken PcapFault)) → answer ≡ Ok tt → StandsForPackets port part bytes → new.port ≡ part.reader.port → FeedsFile part.reader new piece → TellsFileFault part.reader piece answer
+    → ((new.port ≡ port) × StandsForFile new (bytes ++ piece)) × (file_fault_met port (bytes ++ piece) ≡ None)
 packets_on port part new bytes piece answer is stands same feeds tells =
-    let met = subst (λ (a : Result ⊤ (NotTaken PcapFault)). TellsFault part.reader piece a) is tells in
-    ((same ∙ stands.0, feeds bytes stands.1), subst (λ (n : ℕ). fault_met n (bytes ++ piece) ≡ None) stands.0 (met bytes stands.1))
+    let met = subst (λ (a : Result ⊤ (NotTaken PcapFault)). TellsFileFault part.reader piece a) is tells in
+    ((same ∙ stands.0, feeds bytes stands.1), subst (λ (n : ℕ). file_fault_met n (bytes ++ piece) ≡ None) stands.0 (met bytes stands.1))
 
 -- after a fault, whatever follows
-pub packets_faulty : (port : ℕ) (part : PacketsPart) (bytes piece more : List ℕ) (answer : Result ⊤ (NotTaken PcapFault)) (fault : PcapFault) → answer ≡ Err (Fault fault) → StandsForPackets port part bytes → TellsLasting part.reader piece answer → packets port ((bytes ++ piece) ++ more) ≡ Bad fault
+pub packets_faulty : (port : ℕ) (part : PacketsPart) (bytes piece more : List ℕ) (answer : Result ⊤ (NotTaken PcapFault)) (fault : PcapFault) → answer ≡ Err (Fault fault) → StandsForPackets port part bytes → TellsLastingFault part.reader piece answer → packets port ((bytes ++ piece) ++ more) ≡ Bad fault
 packets_faulty port part bytes piece more answer fault is stands tells =
-    let lasts = subst (λ (a : Result ⊤ (NotTaken PcapFault)). TellsLasting part.reader piece a) is tells in
+    let lasts = subst (λ (a : Result ⊤ (NotTaken PcapFault)). TellsLastingFault part.reader piece a) is tells in
     subst (λ (n : ℕ). packets n ((bytes ++ piece) ++ more) ≡ Bad fault) stands.0 (ap (packets part.reader.port) (append_assoc bytes piece more) ∙ lasts bytes more stands.1)
 
 -- ---- the end
 
-streams_found : (found : Found) (port : ℕ) (bytes : List ℕ) (streams : List (List (List ℕ))) → packets port bytes ≡ found → FinishesAs found (Ok streams) → HasPackets port bytes streams
+streams_found : (found : FoundPackets) (port : ℕ) (bytes : List ℕ) (streams : List (List (List ℕ))) → packets port bytes ≡ found → FinishesAs found (Ok streams) → HasPackets port bytes streams
 streams_found (Packets given) port bytes streams is finishes = record { given = given; good = is; joined = finishes }
 streams_found (Bad fault) port bytes streams is finishes = absurd finishes
 
-fault_found : (found : Found) (fault : PcapFault) → FinishesAs found (Err fault) → found ≡ Bad fault
+fault_found : (found : FoundPackets) (fault : PcapFault) → FinishesAs found (Err fault) → found ≡ Bad fault
 fault_found (Packets given) fault finishes = absurd finishes
 fault_found (Bad met) fault finishes = ap Bad (sym finishes)
 

@@ -9,7 +9,7 @@ use Rattle.zy_read.specs.declared.stop.Stop.TheVariants.{Refused, ReadFault, NoM
 use Rattle.zy_read.specs.Bytes.{AreBytes, ReadsAll}
 use Rattle.zy_read.specs.Piece.{HasGiven, IsOver}
 use Rattle.zy_read.proofs.SourceLemmas.{consumed_none, told_first}
-use Rattle.zy_input.specs.Reading.{Kind, HasFaultBehind, Takes, Advances, IsReading, HasRead}
+use Rattle.zy_input.specs.Reading.{Kind, HasFaultBehind, TakesInPart, AdvancesPart, IsReading, HasReadPart}
 
 -- ---- where a part begins
 
@@ -53,7 +53,7 @@ given_on rest faults first now left before bytes count given = record {
 
 -- where the bytes that were taken lead
 pub took : {P T S : Type 0} (kind : Kind P T) (rest : S → Option (List ℕ)) (faults : S → ℕ) (first now : S) (left before bytes : List ℕ) (count : ℕ) (reader : P) (answer : Result Bool (Stop Refusal)) → HasGiven rest faults first now left (before ++ bytes) → count ≤ length left → ((whole : Bool) → answer ≡ Ok whole → 0 < count)
-    → Takes kind reader (bytes ++ take count left) answer → Advances kind rest faults first now (drop count left) before bytes reader answer
+    → TakesInPart kind reader (bytes ++ take count left) answer → AdvancesPart kind rest faults first now (drop count left) before bytes reader answer
 took kind rest faults first now left before bytes count reader (Ok false) given within some takes =
     (take count left, (let size = length-take-le count left within in let more = some false refl in omega arith), record { given = given_on rest faults first now left before bytes count given; stands = takes.0; goes_on = takes.1 })
 took kind rest faults first now left before bytes count reader (Ok true) given within some takes = record {
@@ -79,7 +79,7 @@ if_some None P Q implies holds = tt
 if_some (Some text) P Q implies holds = implies text holds
 
 -- if no bytes are whole whatever follows, the source is at its end after the part
-over : {P T S : Type 0} (kind : Kind P T) (rest : S → Option (List ℕ)) (faults : S → ℕ) (first now : S) (left before : List ℕ) (gave : T) → ((bytes : List ℕ) → kind.whole bytes → ⊥) → HasRead kind rest faults first now left before gave → IsOver (rest now) left
+over : {P T S : Type 0} (kind : Kind P T) (rest : S → Option (List ℕ)) (faults : S → ℕ) (first now : S) (left before : List ℕ) (gave : T) → ((bytes : List ℕ) → kind.whole bytes → ⊥) → HasReadPart kind rest faults first now left before gave → IsOver (rest now) left
 over kind rest faults first now left before gave none has = go has.end
   where
     go : kind.whole has.bytes ⊎ IsOver (rest now) left → IsOver (rest now) left
@@ -87,7 +87,7 @@ over kind rest faults first now left before gave none has = go has.end
     go (inr is) = is
 
 -- and what it gave is what came before the part, and then the part
-pub read_all : {P T S : Type 0} (kind : Kind P T) (rest : S → Option (List ℕ)) (faults : S → ℕ) (first now : S) (left before : List ℕ) (gave : T) → ((bytes : List ℕ) → kind.whole bytes → ⊥) → (has : HasRead kind rest faults first now left before gave) → ReadsAll (rest first) (rest now) (before ++ has.bytes)
+pub read_all : {P T S : Type 0} (kind : Kind P T) (rest : S → Option (List ℕ)) (faults : S → ℕ) (first now : S) (left before : List ℕ) (gave : T) → ((bytes : List ℕ) → kind.whole bytes → ⊥) → (has : HasReadPart kind rest faults first now left before gave) → ReadsAll (rest first) (rest now) (before ++ has.bytes)
 read_all kind rest faults first now left before gave none has =
     let end = over kind rest faults first now left before gave none has in
     let text : List ℕ = before ++ has.bytes in

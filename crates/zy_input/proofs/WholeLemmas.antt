@@ -5,7 +5,7 @@ use Rattle.std.proofs.lemmas.List.{append-nil}
 use Rattle.zy_base.specs.declared.file_fault.FileFault.{FileFault}
 use Rattle.zy_read.specs.Format.{reading_of, read_on, fault_met, verdict_on}
 use Rattle.zy_capture.specs.declared.capture_fault.CaptureFault.{CaptureFault}
-use Rattle.zy_capture.specs.Standing.{StandsFor}
+use Rattle.zy_capture.specs.Standing.{StandsForRecords}
 use Rattle.zy_capture.specs.RepliesStanding.{StandsForReplies}
 use Rattle.zy_capture.specs.Verdict as Captures
 use Rattle.zy_capture.specs.RepliesVerdict as Texts
@@ -22,10 +22,10 @@ use Rattle.zy_input.specs.declared.stop.Refusal.{Refusal}
 use Rattle.zy_input.specs.declared.stop.Refusal.TheVariants.{Capture, Journal as OfJournal, Replies as OfReplies}
 use Rattle.zy_read.specs.declared.stop.Stop.{Stop}
 use Rattle.zy_read.specs.declared.stop.Stop.TheVariants.{Refused, ReadFault, NoMemory}
-use Rattle.zy_input.specs.Parts.{IsCapture, IsJournal, HasStreams, HasPartFault, HasCaptureFault, HasReadParts, HasReadStreams}
+use Rattle.zy_input.specs.Parts.{IsCaptureText, IsJournalText, HasStreams, HasPartFault, HasCaptureFault, HasReadParts, HasReadStreams}
 use Rattle.zy_read.specs.Piece.{HasGiven}
 use Rattle.zy_read.proofs.SourceLemmas.{told_first}
-use Rattle.zy_input.specs.Reading.{Kind, GoesOn, never, IsReading, HasFaultBehind, HasRead, StopsBy, Reads}
+use Rattle.zy_input.specs.Reading.{Kind, IsUnfinished, never, IsReading, HasFaultBehind, HasReadPart, StopsPartBy, Reads}
 use Rattle.zy_input.specs.Kinds.{capture_keeping, capture_kind, StandsForCapture, is_whole, journal_kind, StandsForJournalPart, replies_keeping, replies_kind, StandsForRepliesPart, HasOutputs}
 use Rattle.zy_input.proofs.FormatLemmas.{one_first, ends_faulty}
 use Rattle.zy_input.proofs.KeepingLemmas.{kept_none}
@@ -40,22 +40,22 @@ unfolding Captures.count_of reading_of read_on
 no_count = refl
 
 -- no byte of the capture was fed
-pub capture_stands : (part : CapturePart) → StandsFor part.reader [] [] → part.streams ≡ None → StandsForCapture part []
+pub capture_stands : (part : CapturePart) → StandsForRecords part.reader [] [] → part.streams ≡ None → StandsForCapture part []
 capture_stands part reader none = kept_none capture_keeping part.reader part.streams reader none no_count
 
-pub no_capture : GoesOn Captures.captures Captures.is_good []
+pub no_capture : IsUnfinished Captures.captures Captures.is_good []
 unfolding fault_met verdict_on reading_of read_on
 no_capture = (refl, refl)
 
 -- before the first byte of the capture
-pub capture_begun : {S : Type 0} (rest : S → Option (List ℕ)) (faults : S → ℕ) (first : S) (left : List ℕ) (part : CapturePart) → left ≡ [] → StandsFor part.reader [] [] → part.streams ≡ None → IsReading capture_kind rest faults first first left [] [] part
+pub capture_begun : {S : Type 0} (rest : S → Option (List ℕ)) (faults : S → ℕ) (first : S) (left : List ℕ) (part : CapturePart) → left ≡ [] → StandsForRecords part.reader [] [] → part.streams ≡ None → IsReading capture_kind rest faults first first left [] [] part
 capture_begun rest faults first left part empty reader none = begun capture_kind rest faults first first left [] part (given_none rest faults first left empty) (capture_stands part reader none) no_capture
 
 -- no byte of the journal was fed
 pub journal_stands : (part : JournalPart) (until : Until) → StandsForJournal part.reader [] [] → part.until ≡ until → StandsForJournalPart until part []
 journal_stands part until reader is = record { given = []; reader = reader; ends = is }
 
-pub no_journal : (until : Until) → GoesOn Journals.journals (is_whole until) []
+pub no_journal : (until : Until) → IsUnfinished Journals.journals (is_whole until) []
 unfolding fault_met verdict_on reading_of read_on
 no_journal OwnEnd = (refl, refl)
 no_journal SourceEnd = (refl, refl)
@@ -69,7 +69,7 @@ no_version : Texts.version_of [] ≡ None
 unfolding Texts.version_of reading_of read_on
 no_version = refl
 
-no_replies : GoesOn Texts.replies never []
+no_replies : IsUnfinished Texts.replies never []
 unfolding fault_met verdict_on reading_of read_on
 no_replies = (refl, refl)
 
@@ -81,11 +81,11 @@ replies_begun rest faults first now left bytes part given reader none =
 -- ---- stops
 
 -- the text is a capture
-pub is_capture : (text : List ℕ) (streams : List (List (List ℕ))) → HasStreams text streams → IsCapture text
+pub is_capture : (text : List ℕ) (streams : List (List (List ℕ))) → HasStreams text streams → IsCaptureText text
 is_capture text streams has = ap Captures.is_good has.good
 
-pub is_journal : (text : List ℕ) (journal : Journal) → Journals.verdict text ≡ Journals.Verdict.Good journal → IsJournal text
-is_journal text journal good = ap Journals.is_good good
+pub is_journal : (text : List ℕ) (journal : Journal) → Journals.journal_verdict text ≡ Journals.JournalVerdict.Good journal → IsJournalText text
+is_journal text journal good = ap Journals.is_good_journal good
 
 -- the fault of a text that begins with no capture
 pub begins_faulty : (text : List ℕ) (refusal : Refusal) → HasFaultBehind capture_kind [] text refusal → (fault : CaptureFault) × (refusal ≡ Capture fault) × HasCaptureFault text fault
@@ -100,9 +100,9 @@ capture_fault text refusal behind =
     subst (λ (r : Refusal). HasPartFault text r) (sym met.1) met.2
 
 -- a fault of the journal
-pub journal_fault : (bytes text : List ℕ) (refusal : Refusal) → IsCapture bytes → HasFaultBehind (journal_kind OwnEnd) bytes text refusal → HasPartFault text refusal
+pub journal_fault : (bytes text : List ℕ) (refusal : Refusal) → IsCaptureText bytes → HasFaultBehind (journal_kind OwnEnd) bytes text refusal → HasPartFault text refusal
 journal_fault bytes text refusal good behind =
-    let met = ends_faulty Journals.journals Journals.is_good (λ (f : FileFault). OfJournal f) (StandsForJournalPart OwnEnd) (λ (journal : Journal) (t : List ℕ). Journals.verdict t ≡ Journals.Verdict.Good journal) bytes text refusal behind in
+    let met = ends_faulty Journals.journals Journals.is_good_journal (λ (f : FileFault). OfJournal f) (StandsForJournalPart OwnEnd) (λ (journal : Journal) (t : List ℕ). Journals.journal_verdict t ≡ Journals.JournalVerdict.Good journal) bytes text refusal behind in
     subst (λ (r : Refusal). HasPartFault text r) (sym met.1) (record {
       capture_text = bytes;
       rest = met.2.text;
@@ -113,7 +113,7 @@ journal_fault bytes text refusal good behind =
     })
 
 -- a fault of the replies file
-pub replies_fault : (bytes more text : List ℕ) (refusal : Refusal) → IsCapture bytes → IsJournal more → HasFaultBehind replies_kind (bytes ++ more) text refusal → HasPartFault text refusal
+pub replies_fault : (bytes more text : List ℕ) (refusal : Refusal) → IsCaptureText bytes → IsJournalText more → HasFaultBehind replies_kind (bytes ++ more) text refusal → HasPartFault text refusal
 replies_fault bytes more text refusal good journal behind =
     let met = ends_faulty Texts.replies never (λ (f : FileFault). OfReplies f) StandsForRepliesPart HasOutputs (bytes ++ more) text refusal behind in
     subst (λ (r : Refusal). HasPartFault text r) (sym met.1) (record {
@@ -127,7 +127,7 @@ replies_fault bytes more text refusal good journal behind =
     })
 
 -- reading stops for a fault of the part that is read
-pub stopped : {P T S : Type 0} (kind : Kind P T) (rest : S → Option (List ℕ)) (faults : S → ℕ) (first now : S) (before : List ℕ) (stop : Stop Refusal) → ((text : List ℕ) (refusal : Refusal) → HasFaultBehind kind before text refusal → HasPartFault text refusal) → StopsBy kind rest faults first now before stop → HasReadParts rest faults first now (Err stop)
+pub stopped : {P T S : Type 0} (kind : Kind P T) (rest : S → Option (List ℕ)) (faults : S → ℕ) (first now : S) (before : List ℕ) (stop : Stop Refusal) → ((text : List ℕ) (refusal : Refusal) → HasFaultBehind kind before text refusal → HasPartFault text refusal) → StopsPartBy kind rest faults first now before stop → HasReadParts rest faults first now (Err stop)
 stopped kind rest faults first now before (Refused refusal) fault stops = (
   (before ++ stops.0.0, fault (before ++ stops.0.0) refusal (record { rest = stops.0.0; whole = refl; faulty = stops.0.1 })),
   if_some (rest first) (λ text. HasFaultBehind kind before text refusal) (λ text. HasPartFault text refusal) (λ text. fault text refusal) stops.1,
@@ -137,7 +137,7 @@ stopped kind rest faults first now before NoMemory fault stops = tt
 
 -- ---- all parts
 
-pub all_parts : {S : Type 0} (rest : S → Option (List ℕ)) (faults : S → ℕ) (first now : S) (left bytes more : List ℕ) (parts : Parts) → HasStreams bytes parts.streams → Journals.verdict more ≡ Journals.Verdict.Good parts.journal → HasRead replies_kind rest faults first now left (bytes ++ more) parts.outputs → HasReadParts rest faults first now (Ok parts)
+pub all_parts : {S : Type 0} (rest : S → Option (List ℕ)) (faults : S → ℕ) (first now : S) (left bytes more : List ℕ) (parts : Parts) → HasStreams bytes parts.streams → Journals.journal_verdict more ≡ Journals.JournalVerdict.Good parts.journal → HasReadPart replies_kind rest faults first now left (bytes ++ more) parts.outputs → HasReadParts rest faults first now (Ok parts)
 all_parts rest faults first now left bytes more parts streams journal has = (
   (bytes ++ more) ++ has.bytes,
   read_all replies_kind rest faults first now left (bytes ++ more) parts.outputs (λ text whole. true≢false (sym whole)) has,
@@ -156,7 +156,7 @@ all_parts rest faults first now left bytes more parts streams journal has = (
 -- ---- the capture alone
 
 -- a capture that all is, is the one that was read
-only_capture : (text behind told : List ℕ) → IsCapture text → told ≡ text ++ behind → IsCapture told → told ≡ text
+only_capture : (text behind told : List ℕ) → IsCaptureText text → told ≡ text ++ behind → IsCaptureText told → told ≡ text
 only_capture text behind told good is whole = one_first Captures.captures Captures.is_good once told [] text behind (append-nil told ∙ is) whole good
 
 same_capture_fault : (text : List ℕ) (refusal : Refusal) (fault : CaptureFault) → refusal ≡ Capture fault → (f : CaptureFault) × (refusal ≡ Capture f) × HasCaptureFault text f → HasCaptureFault text fault
@@ -167,13 +167,13 @@ same_capture_fault text refusal fault is met =
 
 pub streams_read : {S : Type 0} (rest : S → Option (List ℕ)) (faults : S → ℕ) (first now : S) (left : List ℕ) (answer : Result (List (List (List ℕ))) (Stop Refusal)) → Reads capture_kind rest faults first now left [] answer → HasReadStreams rest faults first now answer
 streams_read rest faults first now left (Ok streams) has =
-    let good : IsCapture has.bytes = is_capture has.bytes streams has.gives in
+    let good : IsCaptureText has.bytes = is_capture has.bytes streams has.gives in
     record {
       text = has.bytes;
       behind = left;
       given = has.given.source;
       are = has.gives;
-      all = told_first (rest first) (rest now) (has.bytes ++ left) (λ (told : List ℕ). IsCapture told → told ≡ has.bytes) has.given.source
+      all = told_first (rest first) (rest now) (has.bytes ++ left) (λ (told : List ℕ). IsCaptureText told → told ≡ has.bytes) has.given.source
           (λ more whole. only_capture has.bytes (left ++ more) ((has.bytes ++ left) ++ more) good (append_assoc has.bytes left more) whole);
     }
 streams_read rest faults first now left (Err (Refused refusal)) stops =

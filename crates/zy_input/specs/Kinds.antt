@@ -13,9 +13,9 @@ use Rattle.zy_capture.specs.Replies.{items_of}
 use Rattle.zy_capture.specs.RepliesSteps as RepliesSteps
 use Rattle.zy_capture.specs.Verdict as Captures
 use Rattle.zy_capture.specs.RepliesVerdict as Replies
-use Rattle.zy_pcap.specs.Packets.{fault_met, packets}
-use Rattle.zy_pcap.specs.Packets.Found.{Bad}
-use Rattle.zy_pcap.specs.Standing.{StandsFor}
+use Rattle.zy_pcap.specs.Packets.{file_fault_met, packets}
+use Rattle.zy_pcap.specs.Packets.FoundPackets.{Bad}
+use Rattle.zy_pcap.specs.Standing.{StandsForFile}
 use Rattle.zy_journal.specs.declared.journal.Journal.{Journal}
 use Rattle.zy_journal_reader.specs.Standing.{StandsForJournal}
 use Rattle.zy_journal_reader.specs.Verdict as Journals
@@ -34,7 +34,8 @@ use Rattle.zy_input.specs.Keeping.{Keeper, HasKept}
 -- ---- captures
 
 -- of a capture its streams are kept, from its count on
-abbrev pub capture_keeping : Keeper CaptureSteps.Progress Record CaptureFault Captures.Verdict (List (List (List ℕ)))
+abbrev pub capture_keeping : Keeper CaptureSteps.CaptureProgress Record CaptureFault Captures.Verdict
+    (List (List (List ℕ)))
 capture_keeping = record {
   format = Captures.captures;
   number_of = Captures.count_of;
@@ -58,8 +59,8 @@ capture_kind =
 -- ---- journals
 
 -- the verdict is that the text is whole; a journal that ends with the source is not, before that
-abbrev pub is_whole : Until → Journals.Verdict → Bool
-is_whole OwnEnd verdict = Journals.is_good verdict
+abbrev pub is_whole : Until → Journals.JournalVerdict → Bool
+is_whole OwnEnd verdict = Journals.is_good_journal verdict
 is_whole SourceEnd verdict = never verdict
 
 -- these bytes of a journal were fed
@@ -71,12 +72,12 @@ pub record StandsForJournalPart (until : Until) (part : JournalPart) (bytes : Li
 abbrev pub journal_kind : Until → Kind JournalPart Journal
 journal_kind until =
     format_kind Journals.journals (is_whole until) (λ fault. OfJournal fault) (StandsForJournalPart until)
-    (λ journal text. Journals.verdict text ≡ Journals.Verdict.Good journal)
+    (λ journal text. Journals.journal_verdict text ≡ Journals.JournalVerdict.Good journal)
 
 -- ---- replies files, which end with the source
 
 -- of a replies file its outputs are kept, from its version on
-abbrev pub replies_keeping : Keeper RepliesSteps.Progress SessionBytes FileFault Replies.Verdict AllOutputs
+abbrev pub replies_keeping : Keeper RepliesSteps.RepliesPlace SessionBytes FileFault Replies.Verdict AllOutputs
 replies_keeping = record {
   format = Replies.replies;
   number_of = Replies.version_of;
@@ -99,7 +100,7 @@ replies_kind = format_kind Replies.replies never (λ fault. OfReplies fault) Sta
 
 -- these bytes of recorded packets to a port were fed
 abbrev pub StandsForPackets : ℕ → PacketsPart → List ℕ → Type 0
-StandsForPackets port part bytes = (part.reader.port ≡ port) × StandsFor part.reader bytes
+StandsForPackets port part bytes = (part.reader.port ≡ port) × StandsForFile part.reader bytes
 
 -- the text has this fault as packets to the port
 abbrev pub IsFaultyPackets : ℕ → List ℕ → Refusal → Type 0
@@ -109,7 +110,7 @@ IsFaultyPackets port text refusal = ⊥
 abbrev pub packets_kind : ℕ → Kind PacketsPart (List (List (List ℕ)))
 packets_kind port = record {
   stands = StandsForPackets port;
-  goes_on = λ text. fault_met port text ≡ None;
+  goes_on = λ text. file_fault_met port text ≡ None;
   whole = λ text. ⊥;
   gives = λ streams text. HasPackets port text streams;
   faulty = IsFaultyPackets port;

@@ -12,10 +12,10 @@ use Rattle.zy_capture.specs.Outputs.{AllOutputs, AreOutputs}
 use Rattle.zy_capture.specs.Replies.{items_of}
 use Rattle.zy_capture.specs.Verdict as Captures
 use Rattle.zy_capture.specs.RepliesVerdict as Replies
-use Rattle.zy_pcap.specs.Flow.{flows_of, streams_of}
+use Rattle.zy_pcap.specs.Flow.{flows_of, streams_of_flows}
 use Rattle.zy_pcap.specs.Packet.{Packet}
 use Rattle.zy_pcap.specs.Packets.{packets}
-use Rattle.zy_pcap.specs.Packets.Found.{Packets, Bad}
+use Rattle.zy_pcap.specs.Packets.FoundPackets.{Packets, Bad}
 use Rattle.zy_journal.specs.declared.journal.Journal.{Journal}
 use Rattle.zy_journal_reader.specs.Verdict as Journals
 use Rattle.zy_input.specs.declared.parts.Parts.{Parts}
@@ -29,12 +29,12 @@ use Rattle.zy_read.specs.declared.stop.Stop.TheVariants.{Refused, ReadFault, NoM
 -- ---- parts
 
 -- the text is a capture
-abbrev pub IsCapture : List ℕ → Type 0
-IsCapture text = Captures.is_good (Captures.verdict text) ≡ true
+abbrev pub IsCaptureText : List ℕ → Type 0
+IsCaptureText text = Captures.is_good (Captures.verdict text) ≡ true
 
 -- the text is a journal
-abbrev pub IsJournal : List ℕ → Type 0
-IsJournal text = Journals.is_good (Journals.verdict text) ≡ true
+abbrev pub IsJournalText : List ℕ → Type 0
+IsJournalText text = Journals.is_good_journal (Journals.journal_verdict text) ≡ true
 
 -- the text is a capture with these streams
 pub record HasStreams (text : List ℕ) (streams : List (List (List ℕ))) : Type 0 where
@@ -48,28 +48,28 @@ pub record HasStreams (text : List ℕ) (streams : List (List (List ℕ))) : Typ
 pub record HasPackets (port : ℕ) (text : List ℕ) (streams : List (List (List ℕ))) : Type 0 where
   pub given : List Packet
   pub good : packets port text ≡ Packets given
-  pub joined : streams ≡ streams_of (flows_of given)
+  pub joined : streams ≡ streams_of_flows (flows_of given)
 
 -- the text is a capture with these streams, then this journal, and then a replies file with these outputs
-pub record AreParts (text : List ℕ) (streams : List (List (List ℕ))) (journal : Journal)
+pub record IsMadeOfParts (text : List ℕ) (streams : List (List (List ℕ))) (journal : Journal)
     (outputs : AllOutputs) : Type 0 where
   pub capture_text : List ℕ
   pub journal_text : List ℕ
   pub replies_text : List ℕ
   pub whole : text ≡ capture_text ++ (journal_text ++ replies_text)
   pub of_capture : HasStreams capture_text streams
-  pub of_journal : Journals.verdict journal_text ≡ Journals.Verdict.Good journal
+  pub of_journal : Journals.journal_verdict journal_text ≡ Journals.JournalVerdict.Good journal
   pub of_replies : Replies.verdict replies_text ≡ Replies.Verdict.Good outputs.version (items_of outputs)
 
 -- ---- faults
 
 -- no prefix of the text is a capture
 abbrev pub HasNoCapture : List ℕ → Type 0
-HasNoCapture text = (front back : List ℕ) → text ≡ front ++ back → ¬ IsCapture front
+HasNoCapture text = (front back : List ℕ) → text ≡ front ++ back → ¬ IsCaptureText front
 
 -- no prefix of the text is a journal
 abbrev pub HasNoJournal : List ℕ → Type 0
-HasNoJournal text = (front back : List ℕ) → text ≡ front ++ back → ¬ IsJournal front
+HasNoJournal text = (front back : List ℕ) → text ≡ front ++ back → ¬ IsJournalText front
 
 -- the text begins with no capture, and has this fault as one
 pub record HasCaptureFault (text : List ℕ) (fault : CaptureFault) : Type 0 where
@@ -81,9 +81,9 @@ pub record HasJournalFault (text : List ℕ) (fault : FileFault) : Type 0 where
   pub capture_text : List ℕ
   pub rest : List ℕ
   pub whole : text ≡ capture_text ++ rest
-  pub of_capture : IsCapture capture_text
+  pub of_capture : IsCaptureText capture_text
   pub none : HasNoJournal rest
-  pub bad : Journals.verdict rest ≡ Journals.Verdict.Bad fault
+  pub bad : Journals.journal_verdict rest ≡ Journals.JournalVerdict.Bad fault
 
 -- the text is a capture, then a journal, and then a text that has this fault as a replies file
 pub record HasRepliesFault (text : List ℕ) (fault : FileFault) : Type 0 where
@@ -91,8 +91,8 @@ pub record HasRepliesFault (text : List ℕ) (fault : FileFault) : Type 0 where
   pub journal_text : List ℕ
   pub rest : List ℕ
   pub whole : text ≡ capture_text ++ (journal_text ++ rest)
-  pub of_capture : IsCapture capture_text
-  pub of_journal : IsJournal journal_text
+  pub of_capture : IsCaptureText capture_text
+  pub of_journal : IsJournalText journal_text
   pub bad : Replies.verdict rest ≡ Replies.Verdict.Bad fault
 
 -- the first fault of the text; its place counts from the start of its part
@@ -112,7 +112,8 @@ IsPartFault refusal = (text : List ℕ) × HasPartFault text refusal
 -- has it, if that is known; or the count of faults rose, or is at its largest value; `NoMemory` needs no cause
 abbrev pub HasReadParts : {S : Type 0} → (S → Option (List ℕ)) → (S → ℕ) → S → S → Result Parts (Stop Refusal) → Type 0
 HasReadParts rest faults first now (Ok parts) =
-    (text : List ℕ) × ReadsAll (rest first) (rest now) text × AreParts text parts.streams parts.journal parts.outputs
+    (text : List ℕ) × ReadsAll (rest first) (rest now) text
+    × IsMadeOfParts text parts.streams parts.journal parts.outputs
     × AreOutputs parts.outputs
 HasReadParts rest faults first now (Err (Refused refusal)) =
     IsPartFault refusal × IfSome (rest first) (λ text. HasPartFault text refusal)
@@ -126,7 +127,7 @@ pub record HasGivenStreams (before after : Option (List ℕ)) (streams : List (L
   pub behind : List ℕ
   pub given : Consumes before after (text ++ behind)
   pub are : HasStreams text streams
-  pub all : IfSome before (λ told. IsCapture told → told ≡ text)
+  pub all : IfSome before (λ told. IsCaptureText told → told ≡ text)
 
 -- the streams are those of the capture that the source gave; or it has this fault; or the source's
 -- count of faults rose, or is at its largest value; `NoMemory` needs no cause
@@ -144,9 +145,10 @@ HasReadStreams rest faults first now (Err NoMemory) = ⊤
 abbrev pub HasReadJournal : {S : Type 0} → (S → Option (List ℕ)) → (S → ℕ) → S → S → Result Journal (Stop Refusal)
     → Type 0
 HasReadJournal rest faults first now (Ok journal) =
-    (text : List ℕ) × ReadsAll (rest first) (rest now) text × (Journals.verdict text ≡ Journals.Verdict.Good journal)
+    (text : List ℕ) × ReadsAll (rest first) (rest now) text
+    × (Journals.journal_verdict text ≡ Journals.JournalVerdict.Good journal)
 HasReadJournal rest faults first now (Err (Refused (OfJournal fault))) =
-    IfSome (rest first) (λ text. Journals.verdict text ≡ Journals.Verdict.Bad fault)
+    IfSome (rest first) (λ text. Journals.journal_verdict text ≡ Journals.JournalVerdict.Bad fault)
 HasReadJournal rest faults first now (Err (Refused other)) = ⊥
 HasReadJournal rest faults first now (Err ReadFault) = Rose (faults first) (faults now)
 HasReadJournal rest faults first now (Err NoMemory) = ⊤

@@ -42,12 +42,12 @@ IsLeft kind part (Err stop) = ⊤
 
 -- after the bytes that were taken, the part goes on or is whole, or has a fault whatever follows;
 -- `NoMemory` needs no cause
-abbrev pub Takes : {P T : Type 0} → Kind P T → P → List ℕ → Result Bool (Stop Refusal) → Type 0
-Takes kind now bytes (Ok false) = kind.stands now bytes × kind.goes_on bytes
-Takes kind now bytes (Ok true) = kind.stands now bytes × kind.whole bytes
-Takes kind now bytes (Err (Refused refusal)) = (more : List ℕ) → kind.faulty (bytes ++ more) refusal
-Takes kind now bytes (Err ReadFault) = ⊥
-Takes kind now bytes (Err NoMemory) = ⊤
+abbrev pub TakesInPart : {P T : Type 0} → Kind P T → P → List ℕ → Result Bool (Stop Refusal) → Type 0
+TakesInPart kind now bytes (Ok false) = kind.stands now bytes × kind.goes_on bytes
+TakesInPart kind now bytes (Ok true) = kind.stands now bytes × kind.whole bytes
+TakesInPart kind now bytes (Err (Refused refusal)) = (more : List ℕ) → kind.faulty (bytes ++ more) refusal
+TakesInPart kind now bytes (Err ReadFault) = ⊥
+TakesInPart kind now bytes (Err NoMemory) = ⊤
 
 -- what a whole part gives; `NoMemory` needs no cause
 abbrev pub EndsWhole : {P T : Type 0} → Kind P T → List ℕ → Result T (Stop Refusal) → Type 0
@@ -73,12 +73,12 @@ pub record HasFaultBehind {P T : Type 0} (kind : Kind P T) (before text : List �
 
 -- the cause of each stop in a part: the fault is one that a part of this kind may have, and that of
 -- the source's text, if that is known
-abbrev pub StopsBy : {P T S : Type 0} → Kind P T → (S → Option (List ℕ)) → (S → ℕ) → S → S → List ℕ → Stop Refusal
+abbrev pub StopsPartBy : {P T S : Type 0} → Kind P T → (S → Option (List ℕ)) → (S → ℕ) → S → S → List ℕ → Stop Refusal
     → Type 0
-StopsBy kind rest faults first now before (Refused refusal) =
+StopsPartBy kind rest faults first now before (Refused refusal) =
     ((text : List ℕ) × kind.faulty text refusal) × IfSome (rest first) (λ text. HasFaultBehind kind before text refusal)
-StopsBy kind rest faults first now before ReadFault = Rose (faults first) (faults now)
-StopsBy kind rest faults first now before NoMemory = ⊤
+StopsPartBy kind rest faults first now before ReadFault = Rose (faults first) (faults now)
+StopsPartBy kind rest faults first now before NoMemory = ⊤
 
 -- the reader was fed these bytes of the part, which goes on
 pub record IsReading {P T S : Type 0} (kind : Kind P T) (rest : S → Option (List ℕ)) (faults : S → ℕ) (first now : S)
@@ -88,7 +88,7 @@ pub record IsReading {P T S : Type 0} (kind : Kind P T) (rest : S → Option (Li
   pub goes_on : kind.goes_on bytes
 
 -- the reader was fed all bytes of the part, or of the source
-pub record HasStopped {P T S : Type 0} (kind : Kind P T) (rest : S → Option (List ℕ)) (faults : S → ℕ) (first now : S)
+pub record HasReadToEnd {P T S : Type 0} (kind : Kind P T) (rest : S → Option (List ℕ)) (faults : S → ℕ) (first now : S)
     (left before : List ℕ) (reader : P) : Type 0 where
   pub bytes : List ℕ
   pub given : HasGiven rest faults first now left (before ++ bytes)
@@ -96,22 +96,25 @@ pub record HasStopped {P T S : Type 0} (kind : Kind P T) (rest : S → Option (L
   pub end : kind.whole bytes ⊎ (kind.goes_on bytes × IsOver (rest now) left)
 
 -- the part goes on after further bytes, or is read no further
-abbrev pub Advances : {P T S : Type 0} → Kind P T → (S → Option (List ℕ)) → (S → ℕ) → S → S → List ℕ → List ℕ → List ℕ
+abbrev pub AdvancesPart : {P T S : Type 0} → Kind P T → (S → Option (List ℕ)) → (S → ℕ) → S → S → List ℕ → List ℕ
+    → List ℕ
     → P → Result Bool (Stop Refusal) → Type 0
-Advances kind rest faults first now left before bytes reader (Ok false) =
+AdvancesPart kind rest faults first now left before bytes reader (Ok false) =
     (more : List ℕ) × (0 < length more) × IsReading kind rest faults first now left before (bytes ++ more) reader
-Advances kind rest faults first now left before bytes reader (Ok true) =
-    HasStopped kind rest faults first now left before reader
-Advances kind rest faults first now left before bytes reader (Err stop) = StopsBy kind rest faults first now before stop
+AdvancesPart kind rest faults first now left before bytes reader (Ok true) =
+    HasReadToEnd kind rest faults first now left before reader
+AdvancesPart kind rest faults first now left before bytes reader (Err stop) =
+    StopsPartBy kind rest faults first now before stop
 
 -- the reader was fed the whole part, or all that is left of the source
-abbrev pub Feeds : {P T S : Type 0} → Kind P T → (S → Option (List ℕ)) → (S → ℕ) → S → S → List ℕ → List ℕ → P
+abbrev pub FeedsPart : {P T S : Type 0} → Kind P T → (S → Option (List ℕ)) → (S → ℕ) → S → S → List ℕ → List ℕ → P
     → Result ⊤ (Stop Refusal) → Type 0
-Feeds kind rest faults first now left before reader (Ok done) = HasStopped kind rest faults first now left before reader
-Feeds kind rest faults first now left before reader (Err stop) = StopsBy kind rest faults first now before stop
+FeedsPart kind rest faults first now left before reader (Ok done) =
+    HasReadToEnd kind rest faults first now left before reader
+FeedsPart kind rest faults first now left before reader (Err stop) = StopsPartBy kind rest faults first now before stop
 
 -- after what it gave before, the source gave a part: a whole one, or all that is left of the source
-pub record HasRead {P T S : Type 0} (kind : Kind P T) (rest : S → Option (List ℕ)) (faults : S → ℕ) (first now : S)
+pub record HasReadPart {P T S : Type 0} (kind : Kind P T) (rest : S → Option (List ℕ)) (faults : S → ℕ) (first now : S)
     (left before : List ℕ) (gave : T) : Type 0 where
   pub bytes : List ℕ
   pub given : HasGiven rest faults first now left (before ++ bytes)
@@ -121,8 +124,8 @@ pub record HasRead {P T S : Type 0} (kind : Kind P T) (rest : S → Option (List
 -- a part was read, or it is read no further
 abbrev pub Reads : {P T S : Type 0} → Kind P T → (S → Option (List ℕ)) → (S → ℕ) → S → S → List ℕ → List ℕ
     → Result T (Stop Refusal) → Type 0
-Reads kind rest faults first now left before (Ok gave) = HasRead kind rest faults first now left before gave
-Reads kind rest faults first now left before (Err stop) = StopsBy kind rest faults first now before stop
+Reads kind rest faults first now left before (Ok gave) = HasReadPart kind rest faults first now left before gave
+Reads kind rest faults first now left before (Err stop) = StopsPartBy kind rest faults first now before stop
 
 -- a part with which the source begins was read, or it is read no further
 abbrev pub ReadsAlone : {P T S : Type 0} → Kind P T → (S → Option (List ℕ)) → (S → ℕ) → S → S → Result T (Stop Refusal)
@@ -132,16 +135,16 @@ ReadsAlone kind rest faults first now result = (left : List ℕ) × Reads kind r
 -- ---- texts of a format
 
 -- the text is whole
-abbrev pub IsWhole : {P G F V : Type 0} → Format P G F V → (V → Bool) → List ℕ → Type 0
-IsWhole format good text = good (verdict_on format text) ≡ true
+abbrev pub IsWholeText : {P G F V : Type 0} → Format P G F V → (V → Bool) → List ℕ → Type 0
+IsWholeText format good text = good (verdict_on format text) ≡ true
 
 -- no fault was met in the text, and it is not whole
-abbrev pub GoesOn : {P G F V : Type 0} → Format P G F V → (V → Bool) → List ℕ → Type 0
-GoesOn format good text = (fault_met format text ≡ None) × (good (verdict_on format text) ≡ false)
+abbrev pub IsUnfinished : {P G F V : Type 0} → Format P G F V → (V → Bool) → List ℕ → Type 0
+IsUnfinished format good text = (fault_met format text ≡ None) × (good (verdict_on format text) ≡ false)
 
 -- no prefix of the text is whole
 abbrev pub HasNoWhole : {P G F V : Type 0} → Format P G F V → (V → Bool) → List ℕ → Type 0
-HasNoWhole format good text = (front back : List ℕ) → text ≡ front ++ back → ¬ IsWhole format good front
+HasNoWhole format good text = (front back : List ℕ) → text ≡ front ++ back → ¬ IsWholeText format good front
 
 -- the text has this fault, which is reported so, and no prefix of it is whole
 abbrev pub IsFaultyText : {P G F V : Type 0} → Format P G F V → (V → Bool) → (F → Refusal) → List ℕ → Refusal → Type 0
@@ -154,8 +157,8 @@ abbrev pub format_kind : {P T R G F V : Type 0} → Format R G F V → (V → Bo
     → (T → List ℕ → Type 0) → Kind P T
 format_kind format good refused stands gives = record {
   stands = stands;
-  goes_on = GoesOn format good;
-  whole = IsWhole format good;
+  goes_on = IsUnfinished format good;
+  whole = IsWholeText format good;
   gives = gives;
   faulty = IsFaultyText format good refused;
 }

@@ -1,11 +1,11 @@
 //! Reading the capture, whose records are added to streams.
 ghost use Rattle.std.specs.Prelude.{◌≡◌, ◌<◌, ◌≤◌, ◌++◌, ◌∷◌, [], ℕ, List, length, take, true, None, Ok, ⊤};
 ghost use Rattle.std.specs.Prelude.{OnOk};
-ghost use Rattle.zy_capture.specs.Standing.{StandsFor};
+ghost use Rattle.zy_capture.specs.Standing.{StandsForRecords};
 ghost use Rattle.zy_capture.specs.Streams.{with_record};
 ghost use Rattle.zy_capture.specs.Verdict.{Verdict, is_within_record};
 ghost use Rattle.zy_input.specs.declared.stop.Refusal.TheVariants.{Capture};
-ghost use Rattle.zy_input.specs.Reading.{Takes, IsPartOpen};
+ghost use Rattle.zy_input.specs.Reading.{TakesInPart, IsPartOpen};
 ghost use Rattle.zy_input.specs.Kinds.{MayKeep, capture_keeping, capture_kind};
 
 use crate::keep::{Keep, keep_taken};
@@ -27,7 +27,7 @@ pub(crate) struct CapturePart {
 impl CapturePart {
     // No byte was taken yet.
     pub(crate) fn new(alloc: Global) -> CapturePart
-        ensures reader { StandsFor result.reader [] [] }
+        ensures reader { StandsForRecords result.reader [] [] }
         ensures none { result.streams ≡ None }
     {
         CapturePart {
@@ -43,7 +43,7 @@ impl CapturePart {
         ensures count { result.count ≡ 1 }
         ensures value { (bytes : List ℕ) → capture_kind.stands self.old bytes
             → capture_kind.goes_on bytes
-            → Takes capture_kind self.new (bytes ++ byte ∷ []) result.answer }
+            → TakesInPart capture_kind self.new (bytes ++ byte ∷ []) result.answer }
     {
         let answer = self.reader.feed(byte);
         let done = self.reader.is_done();
@@ -59,7 +59,8 @@ impl CapturePart {
         ensures taken { (whole : _) → result.answer ≡ Ok whole → 0 < result.count }
         ensures value { (bytes : List ℕ) → capture_kind.stands self.old bytes
             → capture_kind.goes_on bytes → is_within_record bytes ≡ true
-            → Takes capture_kind self.new (bytes ++ take result.count next.now) result.answer }
+            → TakesInPart capture_kind self.new (bytes ++ take result.count next.now)
+            result.answer }
     {
         let fed = self.reader.feed_piece(next);
         let done = self.reader.is_done();

@@ -1,7 +1,7 @@
 //! Reading a journal.
 ghost use Rattle.std.specs.Prelude.{◌≡◌, ℕ, List, []};
 ghost use Rattle.zy_journal_reader.specs.Standing.{StandsForJournal};
-ghost use Rattle.zy_journal_reader.specs.Verdict.{verdict};
+ghost use Rattle.zy_journal_reader.specs.Verdict.{journal_verdict};
 ghost use Rattle.zy_input.specs.Kinds.{journal_kind, is_whole, StandsForJournalPart};
 ghost use Rattle.zy_input.specs.declared.journal_part.Until.{Until};
 
@@ -43,7 +43,7 @@ impl JournalPart {
     // Whether the journal is whole, whatever follows.
     fn is_whole(&self) -> bool
         ensures value { (until : Until) (bytes : List ℕ) → StandsForJournalPart until self.now bytes
-            → result ≡ is_whole until (verdict bytes) }
+            → result ≡ is_whole until (journal_verdict bytes) }
     {
         match self.until {
             Until::OwnEnd => self.reader.is_done(),

@@ -3,13 +3,13 @@ ghost use Rattle.std.specs.Prelude.{◌≡◌, ℕ, List};
 ghost use Rattle.zy_capture.specs.Outputs.{AllOutputs, AreOutputs};
 ghost use Rattle.zy_journal.specs.declared.journal.Journal.{Journal};
 ghost use Rattle.zy_input.specs.declared.stop.Refusal.{Refusal};
-ghost use Rattle.zy_input.specs.Parts.{AreParts, HasPartFault};
+ghost use Rattle.zy_input.specs.Parts.{IsMadeOfParts, HasPartFault};
 
 /// An input that has parts has no fault.
 pub fn parts_have_no_fault()
     ensures none { (text : List ℕ) (streams : List (List (List ℕ))) (journal : Journal)
         (outputs : AllOutputs) (refusal : Refusal)
-        → AreParts text streams journal outputs → ¬ HasPartFault text refusal }
+        → IsMadeOfParts text streams journal outputs → ¬ HasPartFault text refusal }
 {}
 
 /// An input has at most one first fault.
@@ -21,10 +21,10 @@ pub fn there_is_one_part_fault()
 /// An input gives one thing alone: its streams, its journal and its outputs are determined.
 pub fn an_input_has_one_set_of_parts()
     ensures streams { (text : List ℕ) (s t : List (List (List ℕ))) (j k : Journal)
-        (o p : AllOutputs) → AreParts text s j o → AreParts text t k p → s ≡ t }
+        (o p : AllOutputs) → IsMadeOfParts text s j o → IsMadeOfParts text t k p → s ≡ t }
     ensures journal { (text : List ℕ) (s t : List (List (List ℕ))) (j k : Journal)
-        (o p : AllOutputs) → AreParts text s j o → AreParts text t k p → j ≡ k }
+        (o p : AllOutputs) → IsMadeOfParts text s j o → IsMadeOfParts text t k p → j ≡ k }
     ensures outputs { (text : List ℕ) (s t : List (List (List ℕ))) (j k : Journal)
-        (o p : AllOutputs) → AreOutputs o → AreOutputs p → AreParts text s j o
-        → AreParts text t k p → o ≡ p }
+        (o p : AllOutputs) → AreOutputs o → AreOutputs p → IsMadeOfParts text s j o
+        → IsMadeOfParts text t k p → o ≡ p }
 {}

@@ -1,6 +1,6 @@
 //! Reading recorded packets.
 ghost use Rattle.std.specs.Prelude.{◌≡◌, ◌≤◌, [], ℕ};
-ghost use Rattle.zy_pcap.specs.Standing.{StandsFor};
+ghost use Rattle.zy_pcap.specs.Standing.{StandsForFile};
 ghost use Rattle.zy_input.specs.Kinds.{packets_kind};
 
 use crate::part::{Part, Taken};
@@ -19,7 +19,7 @@ impl PacketsPart {
     pub(crate) fn new(alloc: Global, port: u16) -> PacketsPart
         requires port { 1 ≤ port }
         ensures port { result.reader.port ≡ port }
-        ensures value { StandsFor result.reader [] }
+        ensures value { StandsForFile result.reader [] }
     {
         PacketsPart {
             reader: PcapReader::new(alloc, port),

@@ -1,7 +1,7 @@
 //! Reading one part of an input.
 ghost use Rattle.std.specs.Prelude.{◌≡◌, ◌<◌, ◌≤◌, ℕ, List, [], ◌++◌, length, take, Ok, OnOk};
-ghost use Rattle.zy_input.specs.Reading.{Kind, IsPartOpen, IsPartFed, IsLeft, IsReading, Takes, EndsWhole};
-ghost use Rattle.zy_input.specs.Reading.{EndsCut, Advances, Feeds, Reads, ReadsAlone};
+ghost use Rattle.zy_input.specs.Reading.{Kind, IsPartOpen, IsPartFed, IsLeft, IsReading, TakesInPart, EndsWhole};
+ghost use Rattle.zy_input.specs.Reading.{EndsCut, AdvancesPart, FeedsPart, Reads, ReadsAlone};
 
 use crate::stop::Stop;
 use std::alloc::Global;
@@ -34,7 +34,8 @@ pub(crate) trait Part: Drop {
         ensures taken { (whole : _) → result.answer ≡ Ok whole → 0 < result.count }
         ensures value { (setting : Setting) (bytes : List ℕ) → (kind setting).stands self.old bytes
             → (kind setting).goes_on bytes
-            → Takes (kind setting) self.new (bytes ++ take result.count next.now) result.answer };
+            → TakesInPart (kind setting) self.new (bytes ++ take result.count next.now)
+            result.answer };
 
     // What the bytes give that were taken, or what they lack.
     fn end(self) -> Result<Self::Gives, Stop>
@@ -94,7 +95,7 @@ fn feed_all<P: Part, S: Source>(
     requires goes { IsPartOpen P.kind part.old }
     ensures value { (setting : P.Setting) (first : S) (before : List ℕ)
         → IsReading (P.kind setting) S.rest S.faults first source.old pieces.old before [] part.old
-        → Feeds (P.kind setting) S.rest S.faults first source.new pieces.new before part.new result }
+        → FeedsPart (P.kind setting) S.rest S.faults first source.new pieces.new before part.new result }
     ensures fed { OnOk result (IsPartFed P.kind part.new) }
     ensures count { S.faults source.old ≤ S.faults source.new }
 {
@@ -119,7 +120,7 @@ fn advance<P: Part, S: Source>(
     ensures left { IsLeft P.kind part.new result }
     ensures value { (setting : P.Setting) (first : S) (before bytes : List ℕ)
         → IsReading (P.kind setting) S.rest S.faults first source.old pieces.old before bytes part.old
-        → Advances (P.kind setting) S.rest S.faults first source.new pieces.new before bytes part.new
+        → AdvancesPart (P.kind setting) S.rest S.faults first source.new pieces.new before bytes part.new
         result }
     ensures count { S.faults source.old ≤ S.faults source.new }
 {

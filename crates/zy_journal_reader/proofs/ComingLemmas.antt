@@ -12,7 +12,7 @@ use Rattle.zy_journal_reader.specs.declared.due.Due.TheVariants.{Byte, Number, L
 use Rattle.zy_journal_reader.specs.declared.due.ByteField.TheVariants.{KeyLength, ReplyCode}
 use Rattle.zy_journal_reader.specs.declared.due.NumberField.TheVariants.{Flags, ValueLength}
 use Rattle.zy_journal_reader.specs.declared.due.LongField.TheVariants.{CallNumber}
-use Rattle.zy_journal_reader.specs.Fields.{at_key, at_flags, at_number, at_value}
+use Rattle.zy_journal_reader.specs.Fields.{after_call_code, at_flags, at_number, at_value}
 use Rattle.zy_journal_reader.specs.Steps.{ReadState}
 use Rattle.zy_journal_reader.proofs.CallLemmas.{fields_in, call_in, key_bytes, flags_bytes, to_flags, to_number, to_value, KeyKnown, FlagsKnown, NumberKnown, ValueKnown, no_bytes, no_field, call_text_is, call_is}
 use Rattle.zy_journal_reader.proofs.SoFar.{front, head, Kept, HeadKnown, IsReadTo}
@@ -95,7 +95,7 @@ flags_come p d text comes key = go (fields_in d).flags refl
         key (no_field (λ n. n < 2 ^ 32) (fields_in d).flags d.flags none)
 
 -- its key is due, or what comes after it
-pub key_comes : (p : ReadState) (d : Draft) (text : List ℕ) → Comes p d (code_of d.kind ∷ []) text → IsReadTo (at_key (fields_in d)) (behind p d (at_key (fields_in d))) text
+pub key_comes : (p : ReadState) (d : Draft) (text : List ℕ) → Comes p d (code_of d.kind ∷ []) text → IsReadTo (after_call_code (fields_in d)) (behind p d (after_call_code (fields_in d))) text
 key_comes p d text comes = go (fields_in d).key refl
   where
     go : (b : Bool) → (fields_in d).key ≡ b → IsReadTo (if b then Byte KeyLength else at_flags (fields_in d)) (behind p d (if b then Byte KeyLength else at_flags (fields_in d))) text

@@ -14,7 +14,7 @@ use Rattle.zy_journal_reader.specs.declared.due.Due.{Due}
 use Rattle.zy_journal_reader.specs.declared.due.Due.TheVariants.{Byte, Number}
 use Rattle.zy_journal_reader.specs.declared.due.ByteField.TheVariants.{Tag, CallCode, KeyLength, ReplyCode}
 use Rattle.zy_journal_reader.specs.declared.due.NumberField.TheVariants.{HoldCount}
-use Rattle.zy_journal_reader.specs.Fields.{entry_of, hold_of}
+use Rattle.zy_journal_reader.specs.Fields.{entry_read, hold_of}
 use Rattle.zy_journal_reader.specs.Steps.{ReadState, Done, ends_entry, ends_hold, lawful_byte, after_byte}
 use Rattle.zy_journal_reader.proofs.CallLemmas.{call_in, plain_text, plain_within, plain_fits}
 use Rattle.zy_journal_reader.proofs.SoFar.{front, head, before, Kept, StampKnown, HeadKnown, CallKnown, Known, Leads}
@@ -38,7 +38,7 @@ pub entry_on : (p : ReadState) (reply : CallReply) (text : List ℕ) → text �
     → Kept p.entries p.holds p.past → CallKnown p.past p.draft p.holds → IsReply reply → FitsReply reply → Leads text (ends_entry p reply)
 unfolding entry_text entry_head
 entry_on p reply text is kept known within fits =
-    let e : Entry = entry_of p.draft reply in
+    let e : Entry = entry_read p.draft reply in
     let h : HeadKnown p.past p.draft p.holds = known.0 in
     let s : StampKnown p.past p.draft p.holds = h.0.0.0.0 in
     let spelled : text ≡ front p.entries p.holds ++ entry_text e =

@@ -32,11 +32,11 @@ use Rattle.zy_journal_reader.specs.declared.due.NumberField.{NumberField}
 use Rattle.zy_journal_reader.specs.declared.due.NumberField.TheVariants as N
 use Rattle.zy_journal_reader.specs.declared.due.LongField.{LongField}
 use Rattle.zy_journal_reader.specs.declared.due.LongField.TheVariants as L
-use Rattle.zy_journal_reader.specs.Steps.{ReadState, Done, shape, lawful_byte, lawful_number, lawful_long, after_byte, after_four, after_eight, after_bytes, one, four, eight, judged, is_last, journal_fields, journal_limit}
+use Rattle.zy_journal_reader.specs.Steps.{ReadState, Done, journal_shape, lawful_byte, lawful_number, lawful_long, after_byte, after_four, after_eight, after_bytes, one, number_byte, long_byte, journal_judged, is_last, journal_fields, journal_limit}
 use Rattle.zy_journal_reader.specs.Verdict.{journal_in, IsReadable}
 use Rattle.zy_read.specs.Bytes.{AreBytes}
-use Rattle.zy_journal_reader.specs.LawfulFields.{last_one, number_text, range, EntryField, shape_of, before, IsLawful, IsLawfulUpTo, HoldField, before_in_hold, IsLawfulInHold, IsHoldUpTo}
-use Rattle.zy_journal_reader.specs.Faults.{IsBadMagic, IsWrong}
+use Rattle.zy_journal_reader.specs.LawfulFields.{last_one, number_text, range, EntryField, shape_of, before, IsLawfulNumber, IsLawfulUpTo, HoldField, before_in_hold, IsLawfulInHold, IsHoldUpTo}
+use Rattle.zy_journal_reader.specs.Faults.{IsBadJournalMagic, IsWrongJournal}
 use Rattle.zy_journal_reader.specs.LawfulFields.{EntryField as E}
 use Rattle.zy_journal_reader.specs.LawfulFields.{HoldField as H}
 use Rattle.zy_journal_reader.proofs.CallLemmas.{fields_in, call_in, key_bytes, flags_bytes, number_bytes, call_is}
@@ -69,7 +69,7 @@ record IsUnlawful (p : ReadState) (text : List ℕ) (n : ℕ) (field number : Li
 
 -- a field of an entry
 in_entry : (field : EntryField) (e : Entry) (p : ReadState) (text bytes rest : List ℕ) (n : ℕ) → IsUnlawful p text n bytes (number_text (shape_of field) n) (range (shape_of field)) → p.holds ≡ [] → text ≡ front p.entries p.holds ++ before field e
-    → IsLawfulUpTo field (last_one p.entries) e → (IsLawful field (last_one p.entries) e n → ⊥) → IsWrong (text ++ (bytes ++ rest)) (length text)
+    → IsLawfulUpTo field (last_one p.entries) e → (IsLawfulNumber field (last_one p.entries) e n → ⊥) → IsWrongJournal (text ++ (bytes ++ rest)) (length text)
 in_entry field e p text bytes rest n u none is lawful wrong = inr (inr (inl (record {
   journal = journal_in p;
   no_hold = none;
@@ -92,7 +92,7 @@ in_entry field e p text bytes rest n u none is lawful wrong = inr (inr (inl (rec
 
 -- a field of a hold
 in_hold : (field : HoldField) (h : Hold) (p : ReadState) (text bytes rest : List ℕ) (n : ℕ) → IsUnlawful p text n bytes (to_be_bytes w32 n) (2 ^ 32) → text ≡ front p.entries p.holds ++ before_in_hold field h
-    → IsHoldUpTo field (last_one p.holds) h → (IsLawfulInHold field (last_one p.holds) n → ⊥) → IsWrong (text ++ (bytes ++ rest)) (length text)
+    → IsHoldUpTo field (last_one p.holds) h → (IsLawfulInHold field (last_one p.holds) n → ⊥) → IsWrongJournal (text ++ (bytes ++ rest)) (length text)
 in_hold field h p text bytes rest n u is lawful wrong = inr (inr (inr (inl (record {
   journal = journal_in p;
   field = field;
@@ -126,7 +126,7 @@ magic_split (suc (suc (suc (suc (suc (suc zero)))))) within = refl
 magic_split (suc (suc (suc (suc (suc (suc (suc zero))))))) within = refl
 magic_split (suc (suc (suc (suc (suc (suc (suc (suc at)))))))) within = absurd (omega (arith, within))
 
-from_magic : (p : ReadState) (text rest : List ℕ) (byte : ℕ) → IsReadTo (Byte B.Magic) p text → lawful_byte B.Magic p (length text) byte ≡ false → IsBadMagic (text ++ byte ∷ rest) (length text)
+from_magic : (p : ReadState) (text rest : List ℕ) (byte : ℕ) → IsReadTo (Byte B.Magic) p text → lawful_byte B.Magic p (length text) byte ≡ false → IsBadJournalMagic (text ++ byte ∷ rest) (length text)
 from_magic p text rest byte read wrong =
     let at : ℕ = length text in
     record {
@@ -146,7 +146,7 @@ from_magic p text rest byte read wrong =
 no_entry : (holds : List Hold) (byte : ℕ) → (byte == 69 || byte == 72 || (byte == 74 && length holds == 0)) ≡ false → holds ≡ [] → byte ≡ 74 → ⊥
 no_entry holds byte wrong none is = let zero_is : length holds ≡ 0 = ap (λ (l : List Hold). length l) none in grind (arith, nat_tests, wrong, zero_is, is)
 
-from_byte : (field : ByteField) (p : ReadState) (text rest : List ℕ) (byte : ℕ) → byte < 256 → length text + 1 ≤ journal_limit → IsReadTo (Byte field) p text → lawful_byte field p (length text) byte ≡ false → IsWrong (text ++ byte ∷ rest) (length text)
+from_byte : (field : ByteField) (p : ReadState) (text rest : List ℕ) (byte : ℕ) → byte < 256 → length text + 1 ≤ journal_limit → IsReadTo (Byte field) p text → lawful_byte field p (length text) byte ≡ false → IsWrongJournal (text ++ byte ∷ rest) (length text)
 unfolding entry_head
 from_byte B.Magic p text rest byte small room read wrong = inl (from_magic p text rest byte read wrong)
 from_byte B.Tag p text rest byte small room read wrong =
@@ -203,7 +203,7 @@ unfolding entry_head
 to_found_is d = ap (λ (l : List ℕ). head d ++ (call_text (call_in d) ++ hit_code ∷ (to_be_bytes w32 d.found_flags ++ l))) (sym (append-nil (to_be_bytes w64 d.found_unique)))
 
 from_four : (field : NumberField) (p : ReadState) (text bytes rest : List ℕ) (n : ℕ) → text ≡ front p.entries p.holds ++ SoFar.before (Number field) p.draft → SoFar.Known (Number field) p.past p.draft p.holds → IsUnlawful p text n bytes (to_be_bytes w32 n) (2 ^ 32) → lawful_number field p n ≡ false
-    → IsWrong (text ++ (bytes ++ rest)) (length text)
+    → IsWrongJournal (text ++ (bytes ++ rest)) (length text)
 unfolding entry_head
 from_four N.Shard p text bytes rest n is known u wrong =
     let d : Draft = p.draft in
@@ -250,7 +250,7 @@ from_four N.HoldCount p text bytes rest n is known u wrong =
 -- ---- numbers of eight bytes
 
 from_eight : (field : LongField) (p : ReadState) (text bytes rest : List ℕ) (n : ℕ) → text ≡ front p.entries p.holds ++ SoFar.before (Long field) p.draft → SoFar.Known (Long field) p.past p.draft p.holds → IsUnlawful p text n bytes (to_be_bytes w64 n) (2 ^ 64) → lawful_long field p n ≡ false
-    → IsWrong (text ++ (bytes ++ rest)) (length text)
+    → IsWrongJournal (text ++ (bytes ++ rest)) (length text)
 from_eight L.Stamp p text bytes rest n is known u wrong =
     in_entry E.Stamp (entry_with p.draft Calls.Flush Replies.Miss) p text bytes rest n u known is tt
     (λ lawful. let yes = stamp_is n p.past.stamp lawful.0 lawful.1 (not_below (last_one p.entries) p.past.stamp n u.kept.stamp_is lawful.2) in cc)
@@ -265,14 +265,14 @@ from_eight field p text bytes rest n is known u wrong = cc
 
 -- the field is wrong at its place, and the text has that fault
 abbrev IsFaulty : List ℕ → List ℕ → List ℕ → FileFault → Done → Type 0
-IsFaulty text bytes rest fault done = done ≡ Wrong fault → (fault ≡ Form (length text)) × IsWrong (text ++ (bytes ++ rest)) (length text)
+IsFaulty text bytes rest fault done = done ≡ Wrong fault → (fault ≡ Form (length text)) × IsWrongJournal (text ++ (bytes ++ rest)) (length text)
 
 not_wrong : (done : Done) (fault : FileFault) → IsRight done → done ≡ Wrong fault → ⊥
 not_wrong (Wrong found) fault right is = right
 not_wrong (Then next) fault right is = cc
 not_wrong (Gives next item) fault right is = cc
 
-said : (text bytes rest : List ℕ) (fault : FileFault) → IsWrong (text ++ (bytes ++ rest)) (length text) → IsFaulty text bytes rest fault (Wrong (Form (length text)))
+said : (text bytes rest : List ℕ) (fault : FileFault) → IsWrongJournal (text ++ (bytes ++ rest)) (length text) → IsFaulty text bytes rest fault (Wrong (Form (length text)))
 said text bytes rest fault wrong is = let same : fault ≡ Form (length text) = cc in (same, wrong)
 
 one_faulty : (field : ByteField) (p : ReadState) (text rest : List ℕ) (byte : ℕ) (fault : FileFault) → byte < 256 → length text + 1 ≤ journal_limit → IsReadTo (Byte field) p text → IsFaulty text (byte ∷ []) rest fault (one field p (length text) byte)
@@ -281,14 +281,14 @@ one_faulty field p text rest byte fault small room read =
     (λ right is. absurd (not_wrong (after_byte field p (length text) byte) fault (byte_right field p (length text) byte) is))
     (λ wrong. said text (byte ∷ []) rest fault (from_byte field p text rest byte small room read wrong))
 
-four_faulty : (field : NumberField) (p : ReadState) (text bytes rest : List ℕ) (fault : FileFault) → AreBytes bytes → length bytes ≡ 4 → length text + length bytes ≤ journal_limit → IsReadTo (Number field) p text → IsFaulty text bytes rest fault (four field p (length text) (from_be_bytes w32 bytes))
+four_faulty : (field : NumberField) (p : ReadState) (text bytes rest : List ℕ) (fault : FileFault) → AreBytes bytes → length bytes ≡ 4 → length text + length bytes ≤ journal_limit → IsReadTo (Number field) p text → IsFaulty text bytes rest fault (number_byte field p (length text) (from_be_bytes w32 bytes))
 four_faulty field p text bytes rest fault all size room read =
     let n : ℕ = from_be_bytes w32 bytes in
     chosen (IsFaulty text bytes rest fault) (lawful_number field p n) _ _
     (λ right is. absurd (not_wrong (after_four field p n) fault (four_right field p n) is))
     (λ wrong. said text bytes rest fault (from_four field p text bytes rest n read.bytes read.known (record { kept = read.kept; room = room; whole = four_is bytes size all; fits = four_small bytes size all }) wrong))
 
-eight_faulty : (field : LongField) (p : ReadState) (text bytes rest : List ℕ) (fault : FileFault) → AreBytes bytes → length bytes ≡ 8 → length text + length bytes ≤ journal_limit → IsReadTo (Long field) p text → IsFaulty text bytes rest fault (eight field p (length text) (from_be_bytes w64 bytes))
+eight_faulty : (field : LongField) (p : ReadState) (text bytes rest : List ℕ) (fault : FileFault) → AreBytes bytes → length bytes ≡ 8 → length text + length bytes ≤ journal_limit → IsReadTo (Long field) p text → IsFaulty text bytes rest fault (long_byte field p (length text) (from_be_bytes w64 bytes))
 eight_faulty field p text bytes rest fault all size room read =
     let n : ℕ = from_be_bytes w64 bytes in
     chosen (IsFaulty text bytes rest fault) (lawful_long field p n) _ _
@@ -296,7 +296,7 @@ eight_faulty field p text bytes rest fault all size room read =
     (λ wrong. said text bytes rest fault (from_eight field p text bytes rest n read.bytes read.known (record { kept = read.kept; room = room; whole = eight_is bytes size all; fits = eight_small bytes size all }) wrong))
 
 -- a byte after the end
-trailing : (p : ReadState) (text bytes rest : List ℕ) → length bytes ≡ 1 → length text ≤ journal_limit → IsReadTo Nothing p text → IsWrong (text ++ (bytes ++ rest)) (length text)
+trailing : (p : ReadState) (text bytes rest : List ℕ) → length bytes ≡ 1 → length text ≤ journal_limit → IsReadTo Nothing p text → IsWrongJournal (text ++ (bytes ++ rest)) (length text)
 trailing p text bytes rest size short read =
     inr (inr (inr (inr (record {
       journal = journal_in p;
@@ -313,8 +313,8 @@ room_there : (due : Due) (p : ReadState) (count : ℕ) → p.due ≡ due → is_
 room_there due p count is open_still (inl end_is) = absurd (let ended : is_last due ≡ true = subst (λ (d : Due). is_last d ≡ true) is end_is in cc)
 room_there due p count is open_still (inr few) = few
 
-faulty : (due : Due) (p : ReadState) (text bytes rest : List ℕ) (fault : FileFault) → p.due ≡ due → AreBytes bytes → length bytes ≡ width_of (shape due p.draft.size) → length text ≤ journal_limit → HasRoom journal_fields p (length text + length bytes) → IsReadTo due p text
-    → IsFaulty text bytes rest fault (judged due p (length text) bytes)
+faulty : (due : Due) (p : ReadState) (text bytes rest : List ℕ) (fault : FileFault) → p.due ≡ due → AreBytes bytes → length bytes ≡ width_of (journal_shape due p.draft.size) → length text ≤ journal_limit → HasRoom journal_fields p (length text + length bytes) → IsReadTo due p text
+    → IsFaulty text bytes rest fault (journal_judged due p (length text) bytes)
 faulty (Byte field) p text bytes rest fault is all size short room read =
     let byte : ℕ = get_or bytes 0 0 in
     subst (λ (l : List ℕ). IsFaulty text l rest fault (one field p (length text) byte)) (sym (one_byte bytes size))
@@ -328,7 +328,7 @@ faulty Nothing p text bytes rest fault is all size short room read = said text b
 pub record HasWrong (text : List ℕ) (fault : FileFault) : Type 0 where
   pub at : ℕ
   pub is : fault ≡ Form at
-  pub wrong : IsWrong text at
+  pub wrong : IsWrongJournal text at
 
 pub misjudged_wrong : (text : List ℕ) (p : ReadState) (fault : FileFault) → AreBytes text → IsMisjudged journal_fields text p fault → HasWrong text fault
 misjudged_wrong text p fault all has =
@@ -336,4 +336,4 @@ misjudged_wrong text p fault all has =
     let each : AreBytes (before_it ++ (has.field ++ has.rest)) = subst AreBytes has.begins.text_is all in
     let of_field : AreBytes has.field = bytes_front has.field has.rest (bytes_back before_it (has.field ++ has.rest) each) in
     let two = faulty p.due p before_it has.field has.rest fault refl of_field has.size has.begins.short has.room (reached text p has.given (has.field ++ has.rest) has.begins all) has.wrong in
-    record { at = length before_it; is = two.0; wrong = subst (λ (l : List ℕ). IsWrong l (length before_it)) (sym has.begins.text_is) two.1 }
+    record { at = length before_it; is = two.0; wrong = subst (λ (l : List ℕ). IsWrongJournal l (length before_it)) (sym has.begins.text_is) two.1 }

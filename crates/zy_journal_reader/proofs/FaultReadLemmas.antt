@@ -23,12 +23,12 @@ use Rattle.zy_journal_reader.specs.Fields.{fresh}
 use Rattle.zy_journal_reader.specs.declared.due.ByteField.TheVariants as B
 use Rattle.zy_journal_reader.specs.declared.due.NumberField.TheVariants as N
 use Rattle.zy_journal_reader.specs.declared.due.LongField.TheVariants as L
-use Rattle.zy_journal_reader.specs.Steps.{ReadState, start, shape, judged, journal_fields, journal_limit}
-use Rattle.zy_journal_reader.specs.Verdict.{good, verdict, IsReadable}
-use Rattle.zy_journal_reader.specs.Verdict.Verdict.{Bad}
-use Rattle.zy_journal_reader.specs.Laws.{lawful}
-use Rattle.zy_journal_reader.specs.LawfulFields.{last_after, last_one, number_text, range, EntryField, shape_of, before, IsLawful, IsLawfulUpTo, HoldField, before_in_hold, IsLawfulInHold, IsHoldUpTo}
-use Rattle.zy_journal_reader.specs.Faults.{front_text, IsBadMagic, IsBadTag, IsBadEntry, IsBadHold, IsTrailing, IsWrong}
+use Rattle.zy_journal_reader.specs.Steps.{ReadState, journal_start, journal_shape, journal_judged, journal_fields, journal_limit}
+use Rattle.zy_journal_reader.specs.Verdict.{good_journal, journal_verdict, IsReadable}
+use Rattle.zy_journal_reader.specs.Verdict.JournalVerdict.{Bad}
+use Rattle.zy_journal_reader.specs.Laws.{journal_lawful}
+use Rattle.zy_journal_reader.specs.LawfulFields.{last_after, last_one, number_text, range, EntryField, shape_of, before, IsLawfulNumber, IsLawfulUpTo, HoldField, before_in_hold, IsLawfulInHold, IsHoldUpTo}
+use Rattle.zy_journal_reader.specs.Faults.{journal_front, IsBadJournalMagic, IsBadJournalTag, IsBadEntry, IsBadHold, FollowsJournal, IsWrongJournal}
 use Rattle.zy_journal_reader.specs.LawfulFields.{EntryField as E}
 use Rattle.zy_journal_reader.specs.LawfulFields.{HoldField as H}
 use Rattle.zy_journal_reader.specs.Found.{and_entry, and_hold}
@@ -46,20 +46,20 @@ use Rattle.zy_journal_reader.proofs.LeadsLemmas.{Leads, tag_goes, shard_goes, co
 record IsRefused (q : ReadState) (text field : List ℕ) : Type 0 where
   pub due : Due
   pub leads : Leads q fresh (Byte B.Tag) text due
-  pub size : length field ≡ width_of (shape due leads.draft.size)
-  pub wrong : (at : ℕ) → judged due (place q leads.draft due) at field ≡ Wrong (Form at)
+  pub size : length field ≡ width_of (journal_shape due leads.draft.size)
+  pub wrong : (at : ℕ) → journal_judged due (place q leads.draft due) at field ≡ Wrong (Form at)
 
 -- the same after the records of a journal
-refused_bad : (text : List ℕ) (journal : Journal) (at : ℕ) (record_text field rest : List ℕ) → IsReadable journal → text ≡ front_text journal ++ (record_text ++ (field ++ rest)) → at ≡ length (front_text journal) + length record_text → at + length field ≤ journal_limit
-    → IsRefused (after_records journal) record_text field → verdict text ≡ Bad (Form at)
+refused_bad : (text : List ℕ) (journal : Journal) (at : ℕ) (record_text field rest : List ℕ) → IsReadable journal → text ≡ journal_front journal ++ (record_text ++ (field ++ rest)) → at ≡ length (journal_front journal) + length record_text → at + length field ≤ journal_limit
+    → IsRefused (after_records journal) record_text field → journal_verdict text ≡ Bad (Form at)
 refused_bad text journal at record_text field rest readable whole place_is room refused =
-    let x : List ℕ = front_text journal ++ record_text in
+    let x : List ℕ = journal_front journal ++ record_text in
     let q : ReadState = after_records journal in
     let s : ReadState = place q refused.leads.draft refused.due in
-    let sizes : length x ≡ at = length-append (front_text journal) record_text ∙ sym place_is in
-    let over : Over start 0 x s [] = over_join journal_fields start (place q fresh (Byte B.Tag)) s 0 (front_text journal) record_text [] [] (front_over journal readable) (refused.leads.there_goes.over (0 + length (front_text journal))) in
-    let same : text ≡ x ++ (field ++ rest) = whole ∙ sym (append_assoc (front_text journal) record_text (field ++ rest)) in
-    fault_bad journal_fields lawful good Bad text s (Form at)
+    let sizes : length x ≡ at = length-append (journal_front journal) record_text ∙ sym place_is in
+    let over : Over journal_start 0 x s [] = over_join journal_fields journal_start (place q fresh (Byte B.Tag)) s 0 (journal_front journal) record_text [] [] (front_over journal readable) (refused.leads.there_goes.over (0 + length (journal_front journal))) in
+    let same : text ≡ x ++ (field ++ rest) = whole ∙ sym (append_assoc (journal_front journal) record_text (field ++ rest)) in
+    fault_bad journal_fields journal_lawful good_journal Bad text s (Form at)
     (inl (over_misjudged journal_fields text s (Form at) x field rest [] over (omega (arith, sizes, room)) same refused.size (inr (omega (arith, sizes, room)))
     (refused.wrong (length x) ∙ ap (λ (n : ℕ). Wrong (Form n)) sizes)))
 
@@ -87,16 +87,16 @@ holds_shard [] p = refl
 holds_shard (h ∷ hs) p = holds_shard hs (and_hold p h)
 
 stamp_after : (journal : Journal) → (after_records journal).past.stamp ≡ stamp_of (last_one journal.entries)
-stamp_after journal = holds_stamp journal.holds (with_entries start journal.entries) ∙ entries_stamp journal.entries start None refl
+stamp_after journal = holds_stamp journal.holds (with_entries journal_start journal.entries) ∙ entries_stamp journal.entries journal_start None refl
 
 shard_after : (journal : Journal) → (after_records journal).past.shard ≡ shard_of (last_one journal.entries)
-shard_after journal = holds_shard journal.holds (with_entries start journal.entries) ∙ entries_shard journal.entries start None refl
+shard_after journal = holds_shard journal.holds (with_entries journal_start journal.entries) ∙ entries_shard journal.entries journal_start None refl
 
 conn_after : (journal : Journal) → (after_records journal).past.conn ≡ conn_of (last_one journal.holds)
-conn_after journal = holds_conn journal.holds (with_entries start journal.entries) None (entries_past journal.entries start)
+conn_after journal = holds_conn journal.holds (with_entries journal_start journal.entries) None (entries_past journal.entries journal_start)
 
 no_holds : (journal : Journal) → journal.holds ≡ [] → (after_records journal).holds ≡ []
-no_holds journal none = ap (λ (hs : List Hold). (with_holds (with_entries start journal.entries) hs).holds) none ∙ entries_keep journal.entries start
+no_holds journal none = ap (λ (hs : List Hold). (with_holds (with_entries journal_start journal.entries) hs).holds) none ∙ entries_keep journal.entries journal_start
 
 -- ---- the fields of an entry
 
@@ -106,10 +106,10 @@ false_of true never = absurd (never refl)
 false_of false never = refl
 
 -- a refusal after bytes that lead to a field
-refused_by : {q : ReadState} {due : Due} {text field : List ℕ} (leads : Leads q fresh (Byte B.Tag) text due) → length field ≡ width_of (shape due leads.draft.size) → ((at : ℕ) → judged due (place q leads.draft due) at field ≡ Wrong (Form at)) → IsRefused q text field
+refused_by : {q : ReadState} {due : Due} {text field : List ℕ} (leads : Leads q fresh (Byte B.Tag) text due) → length field ≡ width_of (journal_shape due leads.draft.size) → ((at : ℕ) → journal_judged due (place q leads.draft due) at field ≡ Wrong (Form at)) → IsRefused q text field
 refused_by {q} {due} leads size wrong = record { due = due; leads = leads; size = size; wrong = wrong }
 
-entry_refused : (field : EntryField) (q : ReadState) (last : Option Entry) (e : Entry) (n : ℕ) → q.holds ≡ [] → q.past.stamp ≡ stamp_of last → q.past.shard ≡ shard_of last → IsLawfulUpTo field last e → (IsLawful field last e n → ⊥) → n < range (shape_of field)
+entry_refused : (field : EntryField) (q : ReadState) (last : Option Entry) (e : Entry) (n : ℕ) → q.holds ≡ [] → q.past.stamp ≡ stamp_of last → q.past.shard ≡ shard_of last → IsLawfulUpTo field last e → (IsLawfulNumber field last e n → ⊥) → n < range (shape_of field)
     → IsRefused q (before field e) (number_text (shape_of field) n)
 entry_refused E.Stamp q last e n none stamp shard known wrong fits =
     refused_by (record { draft = fresh; there_goes = tag_goes q none }) refl
@@ -157,7 +157,7 @@ entry_refused E.FoundLength q last e n none stamp shard known wrong fits =
     refused_by leads refl
     (λ at. four_wrong q leads.draft N.FoundLength n at fits (false_of (nat_le n value_limit) (λ yes. wrong (most_true n value_limit yes))))
 
-entry_bad : (text : List ℕ) (at : ℕ) → IsBadEntry text at → verdict text ≡ Bad (Form at)
+entry_bad : (text : List ℕ) (at : ℕ) → IsBadEntry text at → journal_verdict text ≡ Bad (Form at)
 entry_bad text at has =
     refused_bad text has.journal at (before has.field has.entry) (number_text (shape_of has.field) has.number) has.rest has.front.readable has.front.whole (has.place ∙ ap (λ (n : ℕ). n + length (before has.field has.entry)) has.front.place) has.within
     (entry_refused has.field (after_records has.journal) (last_one has.journal.entries) has.entry has.number (no_holds has.journal has.no_hold) (stamp_after has.journal) (shard_after has.journal) has.lawful has.wrong has.fits)
@@ -189,14 +189,14 @@ hold_refused H.OfCount q last h n conn known wrong fits =
     refused_by (record { draft = record fresh { conn = h.conn; core = h.core }; there_goes = count_goes q h (not_falling last q.past.conn h.conn conn known.0.1) known.0.0 known.1 }) refl
     (λ at. four_wrong q (record fresh { conn = h.conn; core = h.core }) N.HoldCount n at fits (false_of (nat_le 1 n && nat_le n 64) (λ yes. wrong (between_true n 1 64 yes))))
 
-hold_bad : (text : List ℕ) (at : ℕ) → IsBadHold text at → verdict text ≡ Bad (Form at)
+hold_bad : (text : List ℕ) (at : ℕ) → IsBadHold text at → journal_verdict text ≡ Bad (Form at)
 hold_bad text at has =
     refused_bad text has.journal at (before_in_hold has.field has.hold) (to_be_bytes w32 has.number) has.rest has.front.readable has.front.whole (has.place ∙ ap (λ (n : ℕ). n + length (before_in_hold has.field has.hold)) has.front.place) has.within
     (hold_refused has.field (after_records has.journal) (last_one has.journal.holds) has.hold has.number (conn_after has.journal) has.lawful has.wrong has.fits)
 
 -- ---- the magic and tags
 
-magic_begun : (at : ℕ) → at < 8 → Over start 0 (take at magic) start []
+magic_begun : (at : ℕ) → at < 8 → Over journal_start 0 (take at magic) journal_start []
 magic_begun zero within = record { parts = []; runs = (refl, refl); text_is = refl }
 magic_begun (suc zero) within = record { parts = (90 ∷ []) ∷ []; runs = (refl, (refl, refl)); text_is = refl }
 magic_begun (suc (suc zero)) within = record { parts = (90 ∷ []) ∷ (89 ∷ []) ∷ []; runs = (refl, (refl, (refl, refl))); text_is = refl }
@@ -212,24 +212,24 @@ index_is : (front : List ℕ) (x : ℕ) (others : List ℕ) → slice_index (fro
 index_is [] x others = refl
 index_is (y ∷ front) x others = index_is front x others
 
-magic_bad : (text : List ℕ) (at : ℕ) → IsBadMagic text at → verdict text ≡ Bad (Form at)
+magic_bad : (text : List ℕ) (at : ℕ) → IsBadJournalMagic text at → journal_verdict text ≡ Bad (Form at)
 magic_bad text at has =
     let front_is : has.front ≡ take at magic = sym (take_at has.front (has.right ∷ has.others) at (sym has.place)) ∙ ap (λ (l : List ℕ). take at l) (sym has.begins) in
     let right_is : slice_index magic at ≡ has.right = ap (λ (l : List ℕ). slice_index l at) has.begins ∙ ap (λ (n : ℕ). slice_index (has.front ++ has.right ∷ has.others) n) has.place ∙ index_is has.front has.right has.others in
     let within : at < 8 = omega (arith, ap (λ (l : List ℕ). length l) has.begins, length-append has.front (has.right ∷ has.others), has.place) in
     let differs : (has.byte == slice_index magic at) ≡ false = false_of (has.byte == slice_index magic at) (λ yes. has.differs (eqb-true has.byte (slice_index magic at) yes ∙ right_is)) in
     let sizes : length (take at magic) ≡ at = ap (λ (l : List ℕ). length l) (sym front_is) ∙ sym has.place in
-    fault_bad journal_fields lawful good Bad text start (Form at)
-    (inl (over_misjudged journal_fields text start (Form at) (take at magic) (has.byte ∷ []) has.rest [] (magic_begun at within) (omega (arith, sizes, within)) (has.whole ∙ ap (λ (l : List ℕ). l ++ has.byte ∷ has.rest) front_is) refl (inr (omega (arith, sizes, within)))
-    (ap (λ (n : ℕ). judged (Byte B.Magic) start n (has.byte ∷ [])) sizes ∙ one_wrong start fresh B.Magic has.byte at differs)))
+    fault_bad journal_fields journal_lawful good_journal Bad text journal_start (Form at)
+    (inl (over_misjudged journal_fields text journal_start (Form at) (take at magic) (has.byte ∷ []) has.rest [] (magic_begun at within) (omega (arith, sizes, within)) (has.whole ∙ ap (λ (l : List ℕ). l ++ has.byte ∷ has.rest) front_is) refl (inr (omega (arith, sizes, within)))
+    (ap (λ (n : ℕ). journal_judged (Byte B.Magic) journal_start n (has.byte ∷ [])) sizes ∙ one_wrong journal_start fresh B.Magic has.byte at differs)))
 
 holds_after : (journal : Journal) → (after_records journal).holds ≡ journal.holds
-holds_after journal = holds_read journal.holds (with_entries start journal.entries) ∙ ap (λ (l : List Hold). l ++ journal.holds) (entries_keep journal.entries start)
+holds_after journal = holds_read journal.holds (with_entries journal_start journal.entries) ∙ ap (λ (l : List Hold). l ++ journal.holds) (entries_keep journal.entries journal_start)
 
 no_tag : (byte count : ℕ) → (byte ≡ 69 → ⊥) → (byte ≡ 72 → ⊥) → (byte ≡ 74 → count ≡ 0 → ⊥) → (byte == 69 || byte == 72 || (byte == 74 && count == 0)) ≡ false
 no_tag byte count no_end no_hold no_entry = grind (arith, nat_tests)
 
-tag_bad : (text : List ℕ) (at : ℕ) → IsBadTag text at → verdict text ≡ Bad (Form at)
+tag_bad : (text : List ℕ) (at : ℕ) → IsBadJournalTag text at → journal_verdict text ≡ Bad (Form at)
 tag_bad text at has =
     let q : ReadState = after_records has.journal in
     let none : Leads q fresh (Byte B.Tag) [] (Byte B.Tag) = record { draft = fresh; there_goes = stays q fresh (Byte B.Tag) } in
@@ -240,18 +240,18 @@ tag_bad text at has =
 
 -- ---- the end
 
-trailing_bad : (text : List ℕ) (at : ℕ) → IsTrailing text at → verdict text ≡ Bad (Form at)
+trailing_bad : (text : List ℕ) (at : ℕ) → FollowsJournal text at → journal_verdict text ≡ Bad (Form at)
 trailing_bad text at has =
     let b : List ℕ = journal_bytes has.journal in
     let s : ReadState = at_end has.journal in
-    fault_bad journal_fields lawful good Bad text s (Form at)
+    fault_bad journal_fields journal_lawful good_journal Bad text s (Form at)
     (inl (over_misjudged journal_fields text s (Form at) b (has.byte ∷ []) has.rest (tt ∷ []) (whole_over has.journal has.readable) (omega (arith, has.place, has.within)) has.whole refl (inl refl)
     (ap (λ (n : ℕ). Wrong (Form n)) (sym has.place))))
 
 -- ---- all faults
 
 -- a text is bad with a wrong field that it has
-pub wrong_bad : (text : List ℕ) (at : ℕ) → IsWrong text at → verdict text ≡ Bad (Form at)
+pub wrong_bad : (text : List ℕ) (at : ℕ) → IsWrongJournal text at → journal_verdict text ≡ Bad (Form at)
 wrong_bad text at (inl has) = magic_bad text at has
 wrong_bad text at (inr (inl has)) = tag_bad text at has
 wrong_bad text at (inr (inr (inl has))) = entry_bad text at has

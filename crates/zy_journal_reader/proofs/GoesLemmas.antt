@@ -22,7 +22,7 @@ use Rattle.zy_journal_reader.specs.declared.due.ByteField.TheVariants.{Tag, Call
 use Rattle.zy_journal_reader.specs.declared.due.NumberField.TheVariants.{Flags, ValueLength, FoundFlags, FoundLength}
 use Rattle.zy_journal_reader.specs.declared.due.LongField.TheVariants.{CallNumber, FoundUnique, ReplyNumber, Gets, Sets, Hits, Misses, Items}
 use Rattle.zy_journal_reader.specs.declared.due.BytesField.TheVariants.{Key, Value, FoundValue}
-use Rattle.zy_journal_reader.specs.Fields.{fresh, at_key, at_flags, at_number, at_value, entry_of}
+use Rattle.zy_journal_reader.specs.Fields.{fresh, after_call_code, at_flags, at_number, at_value, entry_read}
 use Rattle.zy_journal_reader.specs.Steps.{ReadState}
 use Rattle.zy_journal_reader.proofs.CallLemmas.{plain_text}
 use Rattle.zy_journal_reader.proofs.PlaceLemmas.{Goes, both, to, stays, one_byte, four_bytes, eight_bytes, all_bytes}
@@ -115,11 +115,11 @@ key_there true p d key is = key_goes p (plain d) key is
 key_there false p d key is = stays p (plain d) (at_flags (fields_of d.kind))
 
 -- the code of a call
-pub code_goes : (p : ReadState) (d : Draft) (kind : CallKind) → Goes p d (Byte CallCode) (code_of kind ∷ []) p (record d { kind = kind }) (at_key (fields_of kind))
+pub code_goes : (p : ReadState) (d : Draft) (kind : CallKind) → Goes p d (Byte CallCode) (code_of kind ∷ []) p (record d { kind = kind }) (after_call_code (fields_of kind))
 code_goes p d kind =
-    one_byte p p d (record d { kind = kind }) CallCode (at_key (fields_of kind)) (code_of kind)
+    one_byte p p d (record d { kind = kind }) CallCode (after_call_code (fields_of kind)) (code_of kind)
     (λ at. between (code_of kind) 1 last_call_code (code_within kind).0 (code_within kind).1)
-    (λ at. ap (λ (k : CallKind). to p (record d { kind = k }) (at_key (fields_of k))) (kind_back kind))
+    (λ at. ap (λ (k : CallKind). to p (record d { kind = k }) (after_call_code (fields_of k))) (kind_back kind))
 
 pub call_goes : (p : ReadState) (d : Draft) (kind : CallKind) (key : List ℕ) (flags number : ℕ) (value : List ℕ) → IsCall (call_of kind key flags number value) → FitsCall (call_of kind key flags number value)
     → Goes p (plain d) (Byte CallCode) (call_text (call_of kind key flags number value)) p (known kind key flags number value (plain d)) (Byte ReplyCode)
@@ -147,7 +147,7 @@ call_goes p d kind key flags number value is fits =
 
 -- the lists with the entry that was read
 abbrev pub after : ReadState → Draft → CallReply → ReadState
-after p d reply = record p { entries = p.entries ++ entry_of d reply ∷ []; past = record p.past { stamp = d.stamp; shard = d.shard } }
+after p d reply = record p { entries = p.entries ++ entry_read d reply ∷ []; past = record p.past { stamp = d.stamp; shard = d.shard } }
 
 -- a reply without fields
 pub plain_goes : (p : ReadState) (d : Draft) (code : ℕ) → 1 ≤ code → code ≤ last_reply_code → (code == hit_code) ≡ false → (code == number_code) ≡ false → (code == tally_code) ≡ false

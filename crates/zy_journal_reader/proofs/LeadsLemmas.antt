@@ -19,7 +19,7 @@ use Rattle.zy_journal_reader.specs.declared.due.Due.TheVariants.{Byte, Number, L
 use Rattle.zy_journal_reader.specs.declared.due.ByteField.TheVariants as B
 use Rattle.zy_journal_reader.specs.declared.due.NumberField.TheVariants as N
 use Rattle.zy_journal_reader.specs.declared.due.LongField.TheVariants as L
-use Rattle.zy_journal_reader.specs.Fields.{fresh, at_key, at_flags, at_number, at_value}
+use Rattle.zy_journal_reader.specs.Fields.{fresh, after_call_code, at_flags, at_number, at_value}
 use Rattle.zy_journal_reader.specs.Steps.{ReadState}
 use Rattle.zy_journal_reader.specs.LawfulFields.{before}
 use Rattle.zy_journal_reader.specs.LawfulFields.{EntryField as E}
@@ -75,7 +75,7 @@ after_code q d =
     of_kinds (λ (call : Call). IsSome (key_of call) → Leads q d (Byte B.CallCode) (call_code call ∷ []) (Byte B.KeyLength))
     (λ kind key flags number value some.
     let has = call_has kind key flags number value in
-    let due_is : at_key (fields_of kind) ≡ Byte B.KeyLength = ap (λ (b : Bool). if b then Byte B.KeyLength else at_flags (fields_of kind)) (there_some (key_of (call_of kind key flags number value)) (fields_of kind).key key has.key_is some) in
+    let due_is : after_call_code (fields_of kind) ≡ Byte B.KeyLength = ap (λ (b : Bool). if b then Byte B.KeyLength else at_flags (fields_of kind)) (there_some (key_of (call_of kind key flags number value)) (fields_of kind).key key has.key_is some) in
     record {
       draft = record d { kind = kind };
       there_goes = subst (λ (l : List ℕ). Goes q d (Byte B.CallCode) l q (record d { kind = kind }) (Byte B.KeyLength)) (ap (λ (k : CallKind). code_of k ∷ []) (sym has.kind_is))

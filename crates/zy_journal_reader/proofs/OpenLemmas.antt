@@ -15,7 +15,7 @@ use Rattle.zy_journal_reader.specs.declared.due.LongField.{LongField}
 use Rattle.zy_journal_reader.specs.declared.due.LongField.TheVariants as L
 use Rattle.zy_journal_reader.specs.declared.due.BytesField.{BytesField}
 use Rattle.zy_journal_reader.specs.declared.due.BytesField.TheVariants as S
-use Rattle.zy_journal_reader.specs.Steps.{ReadState, Done, lawful_byte, lawful_number, lawful_long, after_byte, after_four, after_eight, after_bytes, judged}
+use Rattle.zy_journal_reader.specs.Steps.{ReadState, Done, lawful_byte, lawful_number, lawful_long, after_byte, after_four, after_eight, after_bytes, journal_judged}
 use Rattle.zy_journal_reader.proofs.CallLemmas.{either}
 
 -- ---- fields that are no faults
@@ -97,7 +97,7 @@ then_quiet (Gives next item) is = absurd is
 then_quiet (Wrong fault) is = absurd is
 
 -- no field but a tag gives a record
-pub quiet : (due : Due) (p : ReadState) (at : ℕ) (field : List ℕ) → due ≢ Byte B.Tag → IsQuiet (judged due p at field)
+pub quiet : (due : Due) (p : ReadState) (at : ℕ) (field : List ℕ) → due ≢ Byte B.Tag → IsQuiet (journal_judged due p at field)
 quiet (Byte code) p at field no_tag =
     let byte : ℕ = get_or field 0 0 in
     either IsQuiet (lawful_byte code p at byte) _ _ (then_quiet (after_byte code p at byte) (byte_then code p at byte (λ is. no_tag (rw is refl)))) tt

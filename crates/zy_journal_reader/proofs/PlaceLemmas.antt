@@ -13,7 +13,7 @@ use Rattle.zy_journal_reader.specs.declared.due.ByteField.{ByteField}
 use Rattle.zy_journal_reader.specs.declared.due.NumberField.{NumberField}
 use Rattle.zy_journal_reader.specs.declared.due.LongField.{LongField}
 use Rattle.zy_journal_reader.specs.declared.due.BytesField.{BytesField}
-use Rattle.zy_journal_reader.specs.Steps.{ReadState, Done, lawful_byte, after_byte, lawful_number, after_four, lawful_long, after_eight, after_bytes, four, eight, judged, journal_fields}
+use Rattle.zy_journal_reader.specs.Steps.{ReadState, Done, lawful_byte, after_byte, lawful_number, after_four, lawful_long, after_eight, after_bytes, number_byte, long_byte, journal_judged, journal_fields}
 
 -- ---- places
 
@@ -58,31 +58,31 @@ one_byte p q d e field next byte right after = record {
 }
 
 -- a field of one byte that is wrong
-pub one_wrong : (p : ReadState) (d : Draft) (field : ByteField) (byte at : ℕ) → lawful_byte field (place p d (Byte field)) at byte ≡ false → judged (Byte field) (place p d (Byte field)) at (byte ∷ []) ≡ Wrong (Form at)
+pub one_wrong : (p : ReadState) (d : Draft) (field : ByteField) (byte at : ℕ) → lawful_byte field (place p d (Byte field)) at byte ≡ false → journal_judged (Byte field) (place p d (Byte field)) at (byte ∷ []) ≡ Wrong (Form at)
 one_wrong p d field byte at wrong = decided (lawful_byte field (place p d (Byte field)) at byte) false (after_byte field (place p d (Byte field)) at byte) at wrong
 
 -- a number of four bytes
-four_judged : (s : ReadState) (field : NumberField) (n at : ℕ) (right : Bool) → n < 2 ^ 32 → lawful_number field s n ≡ right → judged (Number field) s at (to_be_bytes w32 n) ≡ (if right then after_four field s n else Wrong (Form at))
-four_judged s field n at right small is = ap (λ (m : ℕ). four field s at m) (from_be_bytes-to_be_bytes_4 n small) ∙ decided (lawful_number field s n) right (after_four field s n) at is
+four_judged : (s : ReadState) (field : NumberField) (n at : ℕ) (right : Bool) → n < 2 ^ 32 → lawful_number field s n ≡ right → journal_judged (Number field) s at (to_be_bytes w32 n) ≡ (if right then after_four field s n else Wrong (Form at))
+four_judged s field n at right small is = ap (λ (m : ℕ). number_byte field s at m) (from_be_bytes-to_be_bytes_4 n small) ∙ decided (lawful_number field s n) right (after_four field s n) at is
 
 pub four_bytes : (p q : ReadState) (d e : Draft) (field : NumberField) (next : Due) (n : ℕ) → n < 2 ^ 32 → lawful_number field (place p d (Number field)) n ≡ true → after_four field (place p d (Number field)) n ≡ to q e next → Goes p d (Number field) (to_be_bytes w32 n) q e next
 four_bytes p q d e field next n small right after = record {
   over = λ at. over_then journal_fields (place p d (Number field)) (place q e next) at (to_be_bytes w32 n) refl (four_judged (place p d (Number field)) field n at true small right ∙ after);
 }
 
-pub four_wrong : (p : ReadState) (d : Draft) (field : NumberField) (n at : ℕ) → n < 2 ^ 32 → lawful_number field (place p d (Number field)) n ≡ false → judged (Number field) (place p d (Number field)) at (to_be_bytes w32 n) ≡ Wrong (Form at)
+pub four_wrong : (p : ReadState) (d : Draft) (field : NumberField) (n at : ℕ) → n < 2 ^ 32 → lawful_number field (place p d (Number field)) n ≡ false → journal_judged (Number field) (place p d (Number field)) at (to_be_bytes w32 n) ≡ Wrong (Form at)
 four_wrong p d field n at small wrong = four_judged (place p d (Number field)) field n at false small wrong
 
 -- a number of eight bytes
-eight_judged : (s : ReadState) (field : LongField) (n at : ℕ) (right : Bool) → n < 2 ^ 64 → lawful_long field s n ≡ right → judged (Long field) s at (to_be_bytes w64 n) ≡ (if right then after_eight field s n else Wrong (Form at))
-eight_judged s field n at right small is = ap (λ (m : ℕ). eight field s at m) (from_be_bytes-to_be_bytes_8 n small) ∙ decided (lawful_long field s n) right (after_eight field s n) at is
+eight_judged : (s : ReadState) (field : LongField) (n at : ℕ) (right : Bool) → n < 2 ^ 64 → lawful_long field s n ≡ right → journal_judged (Long field) s at (to_be_bytes w64 n) ≡ (if right then after_eight field s n else Wrong (Form at))
+eight_judged s field n at right small is = ap (λ (m : ℕ). long_byte field s at m) (from_be_bytes-to_be_bytes_8 n small) ∙ decided (lawful_long field s n) right (after_eight field s n) at is
 
 pub eight_bytes : (p q : ReadState) (d e : Draft) (field : LongField) (next : Due) (n : ℕ) → n < 2 ^ 64 → lawful_long field (place p d (Long field)) n ≡ true → after_eight field (place p d (Long field)) n ≡ to q e next → Goes p d (Long field) (to_be_bytes w64 n) q e next
 eight_bytes p q d e field next n small right after = record {
   over = λ at. over_then journal_fields (place p d (Long field)) (place q e next) at (to_be_bytes w64 n) refl (eight_judged (place p d (Long field)) field n at true small right ∙ after);
 }
 
-pub eight_wrong : (p : ReadState) (d : Draft) (field : LongField) (n at : ℕ) → n < 2 ^ 64 → lawful_long field (place p d (Long field)) n ≡ false → judged (Long field) (place p d (Long field)) at (to_be_bytes w64 n) ≡ Wrong (Form at)
+pub eight_wrong : (p : ReadState) (d : Draft) (field : LongField) (n at : ℕ) → n < 2 ^ 64 → lawful_long field (place p d (Long field)) n ≡ false → journal_judged (Long field) (place p d (Long field)) at (to_be_bytes w64 n) ≡ Wrong (Form at)
 eight_wrong p d field n at small wrong = eight_judged (place p d (Long field)) field n at false small wrong
 
 -- a whole key or value that is not empty

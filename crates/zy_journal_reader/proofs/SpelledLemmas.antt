@@ -25,11 +25,11 @@ use Rattle.zy_journal_reader.specs.declared.due.ByteField.TheVariants.{Tag, Call
 use Rattle.zy_journal_reader.specs.declared.due.NumberField.TheVariants.{Shard, Connection, Part, HoldConnection, HoldCore, HoldCount}
 use Rattle.zy_journal_reader.specs.declared.due.LongField.TheVariants.{Stamp, Index}
 use Rattle.zy_journal_reader.specs.Fields.{fresh}
-use Rattle.zy_journal_reader.specs.Steps.{ReadState, start, journal_fields, journal_limit}
-use Rattle.zy_journal_reader.specs.Verdict.{good, verdict, journal_in, IsReadable, SpellsJournal}
-use Rattle.zy_journal_reader.specs.Verdict.Verdict.{Good, Bad}
-use Rattle.zy_journal_reader.specs.Laws.{lawful}
-use Rattle.zy_journal_reader.specs.Faults.{front_text}
+use Rattle.zy_journal_reader.specs.Steps.{ReadState, journal_start, journal_fields, journal_limit}
+use Rattle.zy_journal_reader.specs.Verdict.{good_journal, journal_verdict, journal_in, IsReadable, SpellsJournal}
+use Rattle.zy_journal_reader.specs.Verdict.JournalVerdict.{Good, Bad}
+use Rattle.zy_journal_reader.specs.Laws.{journal_lawful}
+use Rattle.zy_journal_reader.specs.Faults.{journal_front}
 use Rattle.zy_journal_reader.specs.Found.{and_entry, and_hold}
 use Rattle.zy_journal_reader.proofs.PlaceLemmas.{Over, place, Goes, both, stays, one_byte, four_bytes, eight_bytes}
 use Rattle.zy_journal_reader.proofs.GoesLemmas.{between, below_is, stamp_is, shard_is, conn_is, plain, known, call_goes, after, reply_goes}
@@ -153,10 +153,10 @@ holds_keep (h ∷ hs) p = holds_keep hs (and_hold p h)
 
 -- the state after the records of a journal
 abbrev pub after_records : Journal → ReadState
-after_records journal = with_holds (with_entries start journal.entries) journal.holds
+after_records journal = with_holds (with_entries journal_start journal.entries) journal.holds
 
 -- the magic
-pub magic_over : Over start 0 magic (place start fresh (Byte Tag)) []
+pub magic_over : Over journal_start 0 magic (place journal_start fresh (Byte Tag)) []
 magic_over = record {
   parts = (90 ∷ []) ∷ (89 ∷ []) ∷ (71 ∷ []) ∷ (74 ∷ []) ∷ (82 ∷ []) ∷ (78 ∷ []) ∷ (49 ∷ []) ∷ (10 ∷ []) ∷ [];
   runs = (refl, (refl, (refl, (refl, (refl, (refl, (refl, (refl, (refl, refl)))))))));
@@ -164,38 +164,38 @@ magic_over = record {
 }
 
 -- the magic and the records
-pub front_over : (journal : Journal) → IsReadable journal → Over start 0 (front_text journal) (place (after_records journal) fresh (Byte Tag)) []
+pub front_over : (journal : Journal) → IsReadable journal → Over journal_start 0 (journal_front journal) (place (after_records journal) fresh (Byte Tag)) []
 front_over journal readable =
     let entries : List ℕ = flat_map entry_text journal.entries in
     let holds : List ℕ = flat_map hold_text journal.holds in
-    let p : ReadState = with_entries start journal.entries in
-    let first = entries_go journal.entries start None refl readable.valid.entries readable.fits readable.valid.ordered (λ e some behind. inl some) in
-    let second = holds_go journal.holds p readable.valid.holds (subst (λ (n : ℕ). AreByConnection n journal.holds) (sym (entries_past journal.entries start)) readable.valid.rising) in
-    over_join journal_fields start (place start fresh (Byte Tag)) (place (after_records journal) fresh (Byte Tag)) 0 magic (entries ++ holds) [] [] magic_over ((both entries holds first second).over (0 + length magic))
+    let p : ReadState = with_entries journal_start journal.entries in
+    let first = entries_go journal.entries journal_start None refl readable.valid.entries readable.fits readable.valid.ordered (λ e some behind. inl some) in
+    let second = holds_go journal.holds p readable.valid.holds (subst (λ (n : ℕ). AreByConnection n journal.holds) (sym (entries_past journal.entries journal_start)) readable.valid.rising) in
+    over_join journal_fields journal_start (place journal_start fresh (Byte Tag)) (place (after_records journal) fresh (Byte Tag)) 0 magic (entries ++ holds) [] [] magic_over ((both entries holds first second).over (0 + length magic))
 
 -- the state at the end
 abbrev pub at_end : Journal → ReadState
 at_end journal = place (after_records journal) fresh Nothing
 
-pub front_end : (journal : Journal) → front_text journal ++ 69 ∷ [] ≡ journal_bytes journal
+pub front_end : (journal : Journal) → journal_front journal ++ 69 ∷ [] ≡ journal_bytes journal
 unfolding journal_bytes
 front_end journal =
     append_assoc magic (flat_map entry_text journal.entries ++ flat_map hold_text journal.holds) (69 ∷ []) ∙ ap (λ (l : List ℕ). magic ++ l) (append_assoc (flat_map entry_text journal.entries) (flat_map hold_text journal.holds) (69 ∷ []))
 
-pub whole_over : (journal : Journal) → IsReadable journal → Over start 0 (journal_bytes journal) (at_end journal) (tt ∷ [])
+pub whole_over : (journal : Journal) → IsReadable journal → Over journal_start 0 (journal_bytes journal) (at_end journal) (tt ∷ [])
 whole_over journal readable =
     let s : ReadState = place (after_records journal) fresh (Byte Tag) in
-    subst (λ (l : List ℕ). Over start 0 l (at_end journal) (tt ∷ [])) (front_end journal)
-    (over_join journal_fields start s (at_end journal) 0 (front_text journal) (69 ∷ []) [] (tt ∷ []) (front_over journal readable)
-    (over_gives journal_fields s (at_end journal) tt (0 + length (front_text journal)) (69 ∷ []) refl refl))
+    subst (λ (l : List ℕ). Over journal_start 0 l (at_end journal) (tt ∷ [])) (front_end journal)
+    (over_join journal_fields journal_start s (at_end journal) 0 (journal_front journal) (69 ∷ []) [] (tt ∷ []) (front_over journal readable)
+    (over_gives journal_fields s (at_end journal) tt (0 + length (journal_front journal)) (69 ∷ []) refl refl))
 
 -- what was read of it is the journal
 pub end_is : (journal : Journal) → journal_in (at_end journal) ≡ journal
 end_is journal =
-    let p : ReadState = with_entries start journal.entries in
+    let p : ReadState = with_entries journal_start journal.entries in
     let q : ReadState = with_holds p journal.holds in
-    let entries_are : q.entries ≡ journal.entries = holds_keep journal.holds p ∙ entries_read journal.entries start in
-    let holds_are : q.holds ≡ journal.holds = holds_read journal.holds p ∙ ap (λ (l : List Hold). l ++ journal.holds) (entries_keep journal.entries start) in
+    let entries_are : q.entries ≡ journal.entries = holds_keep journal.holds p ∙ entries_read journal.entries journal_start in
+    let holds_are : q.holds ≡ journal.holds = holds_read journal.holds p ∙ ap (λ (l : List Hold). l ++ journal.holds) (entries_keep journal.entries journal_start) in
     ap (λ (l : List Entry). record { entries = l; holds = q.holds }) entries_are ∙ ap (λ (l : List Hold). record { entries = journal.entries; holds = l }) holds_are
 
 -- a spelling is whole fields that lead to the end
@@ -207,6 +207,6 @@ spells_whole text journal spells = record {
 }
 
 -- a spelling is good
-pub spells_good : (text : List ℕ) (journal : Journal) → SpellsJournal text journal → verdict text ≡ Good journal
+pub spells_good : (text : List ℕ) (journal : Journal) → SpellsJournal text journal → journal_verdict text ≡ Good journal
 spells_good text journal spells =
-    whole_good journal_fields lawful good Bad text (at_end journal) (tt ∷ []) (spells_whole text journal spells) ∙ ap (λ (j : Journal). Good j) (end_is journal)
+    whole_good journal_fields journal_lawful good_journal Bad text (at_end journal) (tt ∷ []) (spells_whole text journal spells) ∙ ap (λ (j : Journal). Good j) (end_is journal)

@@ -25,10 +25,10 @@ use Rattle.zy_journal_reader.specs.declared.due.ByteField.{ByteField}
 use Rattle.zy_journal_reader.specs.declared.due.ByteField.TheVariants.{Magic, Tag, CallCode, KeyLength, ReplyCode}
 use Rattle.zy_journal_reader.specs.declared.due.NumberField.{NumberField}
 use Rattle.zy_journal_reader.specs.declared.due.LongField.{LongField}
-use Rattle.zy_journal_reader.specs.Steps.{ReadState, Done, start, shape, lawful_byte, lawful_number, lawful_long, after_byte, one, four, eight, judged, is_last, journal_fields, journal_limit}
-use Rattle.zy_journal_reader.specs.Verdict.{Verdict, good, verdict, journal_in, SpellsJournal}
-use Rattle.zy_journal_reader.specs.Verdict.Verdict.{Good, Bad}
-use Rattle.zy_journal_reader.specs.Laws.{lawful}
+use Rattle.zy_journal_reader.specs.Steps.{ReadState, Done, journal_start, journal_shape, lawful_byte, lawful_number, lawful_long, after_byte, one, number_byte, long_byte, journal_judged, is_last, journal_fields, journal_limit}
+use Rattle.zy_journal_reader.specs.Verdict.{JournalVerdict, good_journal, journal_verdict, journal_in, SpellsJournal}
+use Rattle.zy_journal_reader.specs.Verdict.JournalVerdict.{Good, Bad}
+use Rattle.zy_journal_reader.specs.Laws.{journal_lawful}
 use Rattle.zy_journal_reader.proofs.SoFar.{front, before, Kept, IsReadTo, LeadTo, Leads}
 use Rattle.zy_journal_reader.proofs.TestLemmas.{between_true, not_last, chosen, four_is, eight_is, four_small, eight_small, further, one_byte}
 use Rattle.zy_journal_reader.proofs.EndLemmas.{Ends, tag_on, code_on, key_length_on, reply_code_on}
@@ -64,14 +64,14 @@ from_byte CallCode p text byte read right =
 from_byte KeyLength p text byte read right = key_length_on p (length text) byte (text ++ byte ∷ []) (ends_on (Byte KeyLength) p (byte ∷ []) text read.bytes read) right
 from_byte ReplyCode p text byte read right = reply_code_on p (length text) byte (text ++ byte ∷ []) (ends_on (Byte ReplyCode) p (byte ∷ []) text read.bytes read) right
 
-from_number : (field : NumberField) (p : ReadState) (text bytes : List ℕ) → AreBytes bytes → length bytes ≡ 4 → IsReadTo (Number field) p text → Leads (text ++ bytes) (four field p (length text) (from_be_bytes w32 bytes))
+from_number : (field : NumberField) (p : ReadState) (text bytes : List ℕ) → AreBytes bytes → length bytes ≡ 4 → IsReadTo (Number field) p text → Leads (text ++ bytes) (number_byte field p (length text) (from_be_bytes w32 bytes))
 from_number field p text bytes all size read =
     let n : ℕ = from_be_bytes w32 bytes in
     chosen (Leads (text ++ bytes)) (lawful_number field p n) _ _
     (λ right. four_on field p n (text ++ bytes) (subst (λ (l : List ℕ). Ends (Number field) p l (text ++ bytes)) (sym (four_is bytes size all)) (ends_on (Number field) p bytes text read.bytes read)) (four_small bytes size all) right)
     (λ wrong. tt)
 
-from_long : (field : LongField) (p : ReadState) (text bytes : List ℕ) → AreBytes bytes → length bytes ≡ 8 → IsReadTo (Long field) p text → Leads (text ++ bytes) (eight field p (length text) (from_be_bytes w64 bytes))
+from_long : (field : LongField) (p : ReadState) (text bytes : List ℕ) → AreBytes bytes → length bytes ≡ 8 → IsReadTo (Long field) p text → Leads (text ++ bytes) (long_byte field p (length text) (from_be_bytes w64 bytes))
 from_long field p text bytes all size read =
     let n : ℕ = from_be_bytes w64 bytes in
     chosen (Leads (text ++ bytes)) (lawful_long field p n) _ _
@@ -81,7 +81,7 @@ from_long field p text bytes all size read =
 -- ---- a whole text
 
 -- a whole field leads on
-keeps : (due : Due) (p : ReadState) (text bytes : List ℕ) → AreBytes bytes → length bytes ≡ width_of (shape due p.draft.size) → IsReadTo due p text → Leads (text ++ bytes) (judged due p (length text) bytes)
+keeps : (due : Due) (p : ReadState) (text bytes : List ℕ) → AreBytes bytes → length bytes ≡ width_of (journal_shape due p.draft.size) → IsReadTo due p text → Leads (text ++ bytes) (journal_judged due p (length text) bytes)
 keeps (Byte field) p text bytes all size read =
     let byte : ℕ = get_or bytes 0 0 in
     subst (λ (l : List ℕ). Leads (text ++ l) (one field p (length text) byte)) (sym (one_byte bytes size))
@@ -104,8 +104,8 @@ nothing_kept = record { ordered = tt; entries = tt; fits = tt; rising = tt; hold
 -- where the whole fields lead with which a text begins
 pub reached : (text : List ℕ) (p : ReadState) (given : List ⊤) (rest : List ℕ) (begins : Begins journal_fields text p given rest) → AreBytes text → IsReadTo p.due p (concat begins.parts)
 reached text p given rest begins all =
-    runs_keep journal_fields AreBytes LeadTo (λ s before bytes gave each holds size. any_given (before ++ bytes) gave (judged s.due s (length before) bytes) (keeps s.due s before bytes each size holds))
-    begins.parts start p [] 0 [] given refl (byte_parts begins.parts (bytes_front (concat begins.parts) rest (subst AreBytes begins.text_is all)))
+    runs_keep journal_fields AreBytes LeadTo (λ s before bytes gave each holds size. any_given (before ++ bytes) gave (journal_judged s.due s (length before) bytes) (keeps s.due s before bytes each size holds))
+    begins.parts journal_start p [] 0 [] given refl (byte_parts begins.parts (bytes_front (concat begins.parts) rest (subst AreBytes begins.text_is all)))
     (record { bytes = refl; kept = nothing_kept; field = (omega arith, refl, refl); known = tt }) begins.runs
 
 -- ---- the end
@@ -127,7 +127,7 @@ spells p text short read = record {
   short = short;
 }
 
-good_of : (text : List ℕ) (journal : Journal) (found : Verdict) → AreBytes text → found ≡ Good journal → IsOutcome journal_fields good Bad text found → SpellsJournal text journal
+good_of : (text : List ℕ) (journal : Journal) (found : JournalVerdict) → AreBytes text → found ≡ Good journal → IsOutcome journal_fields good_journal Bad text found → SpellsJournal text journal
 good_of text journal found all is (inl whole) =
     let p : ReadState = whole.0 in
     let begins = whole.1.1.begins in
@@ -140,5 +140,5 @@ good_of text journal found all is (inr (inl cut)) = let said = cut.1 in cc
 good_of text journal found all is (inr (inr has)) = let said = has.1.2 in cc
 
 -- a good text is a spelling
-pub good_spells : (text : List ℕ) (journal : Journal) → AreBytes text → verdict text ≡ Good journal → SpellsJournal text journal
-good_spells text journal all is = good_of text journal (verdict text) all is (outcome journal_fields lawful good Bad text)
+pub good_spells : (text : List ℕ) (journal : Journal) → AreBytes text → journal_verdict text ≡ Good journal → SpellsJournal text journal
+good_spells text journal all is = good_of text journal (journal_verdict text) all is (outcome journal_fields journal_lawful good_journal Bad text)

@@ -11,26 +11,27 @@ use Rattle.zy_journal.specs.declared.journal.Journal.{Journal}
 use Rattle.zy_journal.specs.Journal.{magic, entry_text, hold_text, journal_bytes}
 use Rattle.zy_journal_reader.specs.Steps.{journal_limit}
 use Rattle.zy_journal_reader.specs.Verdict.{IsReadable, SpellsJournal}
-use Rattle.zy_journal_reader.specs.LawfulFields.{last_one, number_text, range, EntryField, shape_of, before, IsLawful}
+use Rattle.zy_journal_reader.specs.LawfulFields.{last_one, number_text, range, EntryField, shape_of, before}
+use Rattle.zy_journal_reader.specs.LawfulFields.{IsLawfulNumber}
 use Rattle.zy_journal_reader.specs.LawfulFields.{IsLawfulUpTo, HoldField, before_in_hold, IsLawfulInHold, IsHoldUpTo}
 
 -- ---- beginnings
 
 -- the bytes of a journal up to its end, or up to a further record
-abbrev pub front_text : Journal → List ℕ
-front_text journal = magic ++ (flat_map entry_text journal.entries ++ flat_map hold_text journal.holds)
+abbrev pub journal_front : Journal → List ℕ
+journal_front journal = magic ++ (flat_map entry_text journal.entries ++ flat_map hold_text journal.holds)
 
 -- a text goes on with `tail` after the records of a journal, which have `at` bytes with the magic
 -- before them
-pub record GoesOn (text : List ℕ) (journal : Journal) (at : ℕ) (tail : List ℕ) : Type 0 where
+pub record JournalGoesOn (text : List ℕ) (journal : Journal) (at : ℕ) (tail : List ℕ) : Type 0 where
   pub readable : IsReadable journal
-  pub whole : text ≡ front_text journal ++ tail
-  pub place : at ≡ length (front_text journal)
+  pub whole : text ≡ journal_front journal ++ tail
+  pub place : at ≡ length (journal_front journal)
 
 -- ---- a field that is wrong
 
 -- the text has the first bytes of the magic, and then another byte than the magic
-pub record IsBadMagic (text : List ℕ) (at : ℕ) : Type 0 where
+pub record IsBadJournalMagic (text : List ℕ) (at : ℕ) : Type 0 where
   pub front : List ℕ
   pub right : ℕ
   pub others : List ℕ
@@ -42,11 +43,11 @@ pub record IsBadMagic (text : List ℕ) (at : ℕ) : Type 0 where
   pub differs : byte ≡ right → ⊥
 
 -- where a record or the end is expected, there is another byte, or an entry after a hold
-pub record IsBadTag (text : List ℕ) (at : ℕ) : Type 0 where
+pub record IsBadJournalTag (text : List ℕ) (at : ℕ) : Type 0 where
   pub journal : Journal
   pub byte : ℕ
   pub rest : List ℕ
-  pub front : GoesOn text journal at (byte ∷ rest)
+  pub front : JournalGoesOn text journal at (byte ∷ rest)
   pub no_entry : journal.holds ≡ [] → byte ≡ 74 → ⊥
   pub no_hold : byte ≡ 72 → ⊥
   pub no_end : byte ≡ 69 → ⊥
@@ -61,9 +62,9 @@ pub record IsBadEntry (text : List ℕ) (at : ℕ) : Type 0 where
   pub number : ℕ
   pub tag_at : ℕ
   pub rest : List ℕ
-  pub front : GoesOn text journal tag_at (before field entry ++ (number_text (shape_of field) number ++ rest))
+  pub front : JournalGoesOn text journal tag_at (before field entry ++ (number_text (shape_of field) number ++ rest))
   pub lawful : IsLawfulUpTo field (last_one journal.entries) entry
-  pub wrong : IsLawful field (last_one journal.entries) entry number → ⊥
+  pub wrong : IsLawfulNumber field (last_one journal.entries) entry number → ⊥
   pub fits : number < range (shape_of field)
   pub place : at ≡ tag_at + length (before field entry)
   pub within : at + length (number_text (shape_of field) number) ≤ journal_limit
@@ -76,7 +77,7 @@ pub record IsBadHold (text : List ℕ) (at : ℕ) : Type 0 where
   pub number : ℕ
   pub tag_at : ℕ
   pub rest : List ℕ
-  pub front : GoesOn text journal tag_at (before_in_hold field hold ++ (to_be_bytes w32 number ++ rest))
+  pub front : JournalGoesOn text journal tag_at (before_in_hold field hold ++ (to_be_bytes w32 number ++ rest))
   pub lawful : IsHoldUpTo field (last_one journal.holds) hold
   pub wrong : IsLawfulInHold field (last_one journal.holds) number → ⊥
   pub fits : number < 2 ^ 32
@@ -84,7 +85,7 @@ pub record IsBadHold (text : List ℕ) (at : ℕ) : Type 0 where
   pub within : at + 4 ≤ journal_limit
 
 -- a byte follows a journal
-pub record IsTrailing (text : List ℕ) (at : ℕ) : Type 0 where
+pub record FollowsJournal (text : List ℕ) (at : ℕ) : Type 0 where
   pub journal : Journal
   pub byte : ℕ
   pub rest : List ℕ
@@ -96,33 +97,34 @@ pub record IsTrailing (text : List ℕ) (at : ℕ) : Type 0 where
 -- ---- faults
 
 -- a field of the text is wrong, or a byte comes after the end
-abbrev pub IsWrong : List ℕ → ℕ → Type 0
-IsWrong text at =
-    IsBadMagic text at ⊎ (IsBadTag text at ⊎ (IsBadEntry text at ⊎ (IsBadHold text at ⊎ IsTrailing text at)))
+abbrev pub IsWrongJournal : List ℕ → ℕ → Type 0
+IsWrongJournal text at =
+    IsBadJournalMagic text at ⊎ (IsBadJournalTag text at
+    ⊎ (IsBadEntry text at ⊎ (IsBadHold text at ⊎ FollowsJournal text at)))
 
 -- the text is no journal, but nothing in it is wrong, and it is not longer than one may be
-pub record IsBegun (text : List ℕ) : Type 0 where
+pub record IsBegunJournal (text : List ℕ) : Type 0 where
   pub short : length text ≤ journal_limit
   pub no_journal : (journal : Journal) → SpellsJournal text journal → ⊥
-  pub none_wrong : (at : ℕ) → IsWrong text at → ⊥
+  pub none_wrong : (at : ℕ) → IsWrongJournal text at → ⊥
 
 -- the text ends before the end byte
-pub record IsTruncated (text : List ℕ) (at : ℕ) : Type 0 where
+pub record IsTruncatedJournal (text : List ℕ) (at : ℕ) : Type 0 where
   pub place : at ≡ length text
-  pub begun : IsBegun text
+  pub begun : IsBegunJournal text
 
 -- the text has a further byte after the largest number that a journal may have, and these do not
 -- reach the end byte
-pub record IsTooLong (text : List ℕ) : Type 0 where
+pub record IsTooLongJournal (text : List ℕ) : Type 0 where
   pub front : List ℕ
   pub byte : ℕ
   pub rest : List ℕ
   pub whole : text ≡ front ++ byte ∷ rest
   pub most : length front ≡ journal_limit
-  pub begun : IsBegun front
+  pub begun : IsBegunJournal front
 
 -- the text has this fault
-abbrev pub HasFault : List ℕ → FileFault → Type 0
-HasFault text (Form at) = IsWrong text at
-HasFault text (Truncated at) = IsTruncated text at
-HasFault text TooLong = IsTooLong text
+abbrev pub HasFaultAsJournal : List ℕ → FileFault → Type 0
+HasFaultAsJournal text (Form at) = IsWrongJournal text at
+HasFaultAsJournal text (Truncated at) = IsTruncatedJournal text at
+HasFaultAsJournal text TooLong = IsTooLongJournal text

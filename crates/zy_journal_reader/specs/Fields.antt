@@ -29,8 +29,8 @@ abbrev pub at_flags : CallFields → Due
 at_flags fields = if fields.flags then Number Flags else at_number fields
 
 -- what comes after its code
-abbrev pub at_key : CallFields → Due
-at_key fields = if fields.key then Byte KeyLength else at_flags fields
+abbrev pub after_call_code : CallFields → Due
+after_call_code fields = if fields.key then Byte KeyLength else at_flags fields
 
 -- ---- records
 
@@ -59,8 +59,8 @@ fresh = record {
 }
 
 -- the entry that was read, with this reply
-abbrev pub entry_of : Draft → CallReply → Entry
-entry_of d reply = record {
+abbrev pub entry_read : Draft → CallReply → Entry
+entry_read d reply = record {
   tag = record { conn = d.conn; index = d.index; part = d.part };
   shard = d.shard;
   call = call_of d.kind d.key d.flags d.number d.value;
@@ -76,11 +76,11 @@ hold_of d count = record { core = d.core; conn = d.conn; count = count }
 
 -- where a byte of the magic is expected, its place is within it; there, and where a record may begin, nothing of one was
 -- read
-abbrev pub IsWithin : Due → ℕ → Draft → Type 0
-IsWithin (Byte Magic) at d = (at < 8) × (d ≡ fresh)
-IsWithin (Byte Tag) at d = d ≡ fresh
-IsWithin due at d = ⊤
+abbrev pub IsInBounds : Due → ℕ → Draft → Type 0
+IsInBounds (Byte Magic) at d = (at < 8) × (d ≡ fresh)
+IsInBounds (Byte Tag) at d = d ≡ fresh
+IsInBounds due at d = ⊤
 
 -- this may be expected at any place, whatever was read
 abbrev pub IsOpenAnywhere : Due → Type 0
-IsOpenAnywhere due = (at : ℕ) (d : Draft) → IsWithin due at d
+IsOpenAnywhere due = (at : ℕ) (d : Draft) → IsInBounds due at d

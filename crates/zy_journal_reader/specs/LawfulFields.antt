@@ -99,16 +99,16 @@ IsNotBelow None stamp = ⊤
 IsNotBelow (Some last) stamp = last.stamp ≤ stamp
 
 -- which numbers are lawful there, after the last entry before this one
-abbrev pub IsLawful : EntryField → Option Entry → Entry → ℕ → Type 0
-IsLawful Stamp last e n = (0 < n) × (n < stamp_limit) × IsNotBelow last n
-IsLawful Shard last e n = (n < shard_limit) × IsBehind last (record e { shard = n })
-IsLawful Connection last e n = n < connection_limit
-IsLawful Command last e n = n < command_limit
-IsLawful CallCode last e n = (1 ≤ n) × (n ≤ last_call_code)
-IsLawful KeyLength last e n = (1 ≤ n) × (n ≤ key_limit)
-IsLawful ValueLength last e n = n ≤ value_limit
-IsLawful ReplyCode last e n = (1 ≤ n) × (n ≤ last_reply_code)
-IsLawful FoundLength last e n = n ≤ value_limit
+abbrev pub IsLawfulNumber : EntryField → Option Entry → Entry → ℕ → Type 0
+IsLawfulNumber Stamp last e n = (0 < n) × (n < stamp_limit) × IsNotBelow last n
+IsLawfulNumber Shard last e n = (n < shard_limit) × IsBehind last (record e { shard = n })
+IsLawfulNumber Connection last e n = n < connection_limit
+IsLawfulNumber Command last e n = n < command_limit
+IsLawfulNumber CallCode last e n = (1 ≤ n) × (n ≤ last_call_code)
+IsLawfulNumber KeyLength last e n = (1 ≤ n) × (n ≤ key_limit)
+IsLawfulNumber ValueLength last e n = n ≤ value_limit
+IsLawfulNumber ReplyCode last e n = (1 ≤ n) × (n ≤ last_reply_code)
+IsLawfulNumber FoundLength last e n = n ≤ value_limit
 
 -- the entry is one that may come after the last one
 pub record IsNextEntry (last : Option Entry) (e : Entry) : Type 0 where
@@ -120,7 +120,7 @@ pub record IsNextEntry (last : Option Entry) (e : Entry) : Type 0 where
 -- that may come next
 abbrev pub IsLawfulUpTo : EntryField → Option Entry → Entry → Type 0
 IsLawfulUpTo Stamp last e = ⊤
-IsLawfulUpTo Shard last e = IsLawful Stamp last e e.stamp
+IsLawfulUpTo Shard last e = IsLawfulNumber Stamp last e e.stamp
 IsLawfulUpTo field last e = IsNextEntry last e × HasField field e
 
 -- ---- the fields of a hold, which are numbers of four bytes

@@ -7,7 +7,7 @@ use Rattle.zy_read.specs.declared.shape.Shape.TheVariants.{Byte, Four, Eight, Ru
 use Rattle.zy_journal_reader.specs.declared.due.Due.{Due}
 use Rattle.zy_journal_reader.specs.declared.due.Due.TheVariants as Dues
 use Rattle.zy_journal_reader.specs.Standing.{takes_memory, FitsPlace, Wants}
-use Rattle.zy_journal_reader.specs.Steps.{ReadState, shape, is_last, judged, journal_fields}
+use Rattle.zy_journal_reader.specs.Steps.{ReadState, journal_shape, is_last, journal_judged, journal_fields}
 
 some : (kind : Shape) → 0 < width_of kind
 some Byte = omega arith
@@ -15,26 +15,27 @@ some Four = omega arith
 some Eight = omega arith
 some (Run others) = omega arith
 
-one : (due : Due) (size : ℕ) → is_last due ≡ true → width_of (shape due size) ≡ 1
+one : (due : Due) (size : ℕ) → is_last due ≡ true → width_of (journal_shape due size) ≡ 1
 one Dues.Nothing size is = refl
 one due size is = cc
 
-ends : (due : Due) (s : ReadState) (at : ℕ) (field : List ℕ) → is_last due ≡ true → IsWrong (judged due s at field)
+ends : (due : Due) (s : ReadState) (at : ℕ) (field : List ℕ) → is_last due ≡ true
+    → IsWrong (journal_judged due s at field)
 ends Dues.Nothing s at field is = tt
 ends due s at field is = cc
 
 -- so it is a format of fields
-pub lawful : IsLawful journal_fields
-lawful = record {
-  some = λ s. some (shape s.due s.draft.size);
+pub journal_lawful : IsLawful journal_fields
+journal_lawful = record {
+  some = λ s. some (journal_shape s.due s.draft.size);
   one = λ s. one s.due s.draft.size;
   ends = λ s at field. ends s.due s at field;
 }
 
-pub widths : (s : ReadState) → journal_fields.width s ≡ width_of (shape s.due s.draft.size)
-widths s = refl
+pub journal_widths : (s : ReadState) → journal_fields.width s ≡ width_of (journal_shape s.due s.draft.size)
+journal_widths s = refl
 
-run_wants : (due : Due) (size others : ℕ) → shape due size ≡ Run others → takes_memory due ≡ true
+run_wants : (due : Due) (size others : ℕ) → journal_shape due size ≡ Run others → takes_memory due ≡ true
 run_wants (Dues.Byte field) size others is = cc
 run_wants (Dues.Number field) size others is = cc
 run_wants (Dues.Long field) size others is = cc
@@ -42,11 +43,11 @@ run_wants (Dues.Bytes field) size others is = refl
 run_wants Dues.Nothing size others is = cc
 
 -- a key or a value may need memory
-pub runs : (s : ReadState) (others : ℕ) → shape s.due s.draft.size ≡ Run others → Wants s
+pub runs : (s : ReadState) (others : ℕ) → journal_shape s.due s.draft.size ≡ Run others → Wants s
 runs s others is = run_wants s.due s.draft.size others is
 
-pub few : journal_fields.limit < 2 ^ 64 - 1
-few = omega arith
+pub journal_few : journal_fields.limit < 2 ^ 64 - 1
+journal_few = omega arith
 
-pub begins : FitsPlace journal_fields.start 0
-begins = (omega arith, refl)
+pub journal_begins : FitsPlace journal_fields.start 0
+journal_begins = (omega arith, refl)

@@ -34,7 +34,7 @@ use Rattle.zy_journal_reader.specs.declared.due.LongField.TheVariants.{Stamp, In
 use Rattle.zy_journal_reader.specs.declared.due.LongField.TheVariants.{ReplyNumber, Gets, Sets, Hits, Misses, Items}
 use Rattle.zy_journal_reader.specs.declared.due.BytesField.{BytesField}
 use Rattle.zy_journal_reader.specs.declared.due.BytesField.TheVariants.{Key, Value, FoundValue}
-use Rattle.zy_journal_reader.specs.Fields.{at_key, at_flags, at_number, at_value, fresh, entry_of, hold_of}
+use Rattle.zy_journal_reader.specs.Fields.{after_call_code, at_flags, at_number, at_value, fresh, entry_read, hold_of}
 
 -- ---- how far a text was read
 
@@ -51,12 +51,12 @@ pub record ReadState : Type 0 where
   pub past : Past
 
 -- where a text was read up to some byte
-abbrev pub Progress : Type 0
-Progress = Place ReadState FileFault
+abbrev pub JournalProgress : Type 0
+JournalProgress = Place ReadState FileFault
 
 -- before the first field
-abbrev pub start : ReadState
-start = record {
+abbrev pub journal_start : ReadState
+journal_start = record {
   due = Byte Magic;
   draft = fresh;
   entries = [];
@@ -75,23 +75,23 @@ journal_limit = 2 ^ 63 - 1
 -- ---- what a field may do
 
 -- this is expected after the field
-abbrev pub goes : ReadState → Due → Done
-goes s due = Then (record s { due = due })
+abbrev pub goes_to : ReadState → Due → Done
+goes_to s due = Then (record s { due = due })
 
 -- the same, with more known of the record
 abbrev pub knows : ReadState → Draft → Due → Done
-knows s draft due = goes (record s { draft = draft }) due
+knows s draft due = goes_to (record s { draft = draft }) due
 
 -- the field is a length, and `size` bytes are expected after it
-abbrev pub begins : ReadState → BytesField → ℕ → Done
-begins s field size = goes (record s { draft = record s.draft { size = size } }) (Bytes field)
+abbrev pub begins_bytes : ReadState → BytesField → ℕ → Done
+begins_bytes s field size = goes_to (record s { draft = record s.draft { size = size } }) (Bytes field)
 
 -- the state after an entry, which has this reply
 abbrev pub after_entry : ReadState → CallReply → ReadState
 after_entry s reply = record s {
   due = Byte Tag;
   draft = fresh;
-  entries = s.entries ++ entry_of s.draft reply ∷ [];
+  entries = s.entries ++ entry_read s.draft reply ∷ [];
   past = record s.past { stamp = s.draft.stamp; shard = s.draft.shard };
 }
 
@@ -113,8 +113,8 @@ abbrev pub ends_hold : ReadState → ℕ → Done
 ends_hold s count = Then (after_hold s count)
 
 -- the field ends the journal
-abbrev pub ends : ReadState → Done
-ends s = Gives (record s { due = Nothing }) tt
+abbrev pub ends_journal : ReadState → Done
+ends_journal s = Gives (record s { due = Nothing }) tt
 
 -- ---- fields of one byte
 
@@ -128,14 +128,16 @@ lawful_byte ReplyCode s at byte = nat_le 1 byte && nat_le byte last_reply_code
 
 -- what a lawful one does
 abbrev pub after_byte : ByteField → ReadState → ℕ → ℕ → Done
-after_byte Magic s at byte = if at == 7 then goes s (Byte Tag) else goes s (Byte Magic)
+after_byte Magic s at byte = if at == 7 then goes_to s (Byte Tag) else goes_to s (Byte Magic)
 after_byte Tag s at byte =
-    if byte == 69 then ends s else if byte == 72 then goes s (Number HoldConnection) else goes s (Long Stamp)
-after_byte CallCode s at byte = knows s (record s.draft { kind = kind_of byte }) (at_key (fields_of (kind_of byte)))
-after_byte KeyLength s at byte = begins s Key byte
+    if byte == 69 then ends_journal s else if byte == 72 then goes_to s (Number HoldConnection)
+    else goes_to s (Long Stamp)
+after_byte CallCode s at byte =
+    knows s (record s.draft { kind = kind_of byte }) (after_call_code (fields_of (kind_of byte)))
+after_byte KeyLength s at byte = begins_bytes s Key byte
 after_byte ReplyCode s at byte =
-    if byte == hit_code then goes s (Number FoundFlags) else if byte == number_code then goes s (Long ReplyNumber)
-    else if byte == tally_code then goes s (Long Gets) else ends_entry s (plain_reply byte)
+    if byte == hit_code then goes_to s (Number FoundFlags) else if byte == number_code then goes_to s (Long ReplyNumber)
+    else if byte == tally_code then goes_to s (Long Gets) else ends_entry s (plain_reply byte)
 
 -- ---- numbers of four bytes
 
@@ -159,10 +161,11 @@ after_four Connection s n = knows s (record s.draft { conn = n }) (Long Index)
 after_four Part s n = knows s (record s.draft { part = n }) (Byte CallCode)
 after_four Flags s n = knows s (record s.draft { flags = n }) (at_number (fields_of s.draft.kind))
 after_four ValueLength s n =
-    if n == 0 then knows s (record s.draft { value = [] }) (Byte ReplyCode) else begins s Value n
+    if n == 0 then knows s (record s.draft { value = [] }) (Byte ReplyCode) else begins_bytes s Value n
 after_four FoundFlags s n = knows s (record s.draft { found_flags = n }) (Long FoundUnique)
 after_four FoundLength s n =
-    if n == 0 then ends_entry s (Replies.Hit s.draft.found_flags s.draft.found_unique []) else begins s FoundValue n
+    if n == 0 then ends_entry s (Replies.Hit s.draft.found_flags s.draft.found_unique [])
+    else begins_bytes s FoundValue n
 after_four HoldConnection s n = knows s (record s.draft { conn = n }) (Number HoldCore)
 after_four HoldCore s n = knows s (record s.draft { core = n }) (Number HoldCount)
 after_four HoldCount s n = ends_hold s n
@@ -214,29 +217,29 @@ abbrev pub one : ByteField → ReadState → ℕ → ℕ → Done
 one field s at byte = if lawful_byte field s at byte then after_byte field s at byte else Wrong (Form at)
 
 -- a number of four bytes
-abbrev pub four : NumberField → ReadState → ℕ → ℕ → Done
-four field s at n = if lawful_number field s n then after_four field s n else Wrong (Form at)
+abbrev pub number_byte : NumberField → ReadState → ℕ → ℕ → Done
+number_byte field s at n = if lawful_number field s n then after_four field s n else Wrong (Form at)
 
 -- a number of eight bytes
-abbrev pub eight : LongField → ReadState → ℕ → ℕ → Done
-eight field s at n = if lawful_long field s n then after_eight field s n else Wrong (Form at)
+abbrev pub long_byte : LongField → ReadState → ℕ → ℕ → Done
+long_byte field s at n = if lawful_long field s n then after_eight field s n else Wrong (Form at)
 
 -- a whole field, where this is expected
-abbrev pub judged : Due → ReadState → ℕ → List ℕ → Done
-judged (Byte field) s at bytes = one field s at (get_or bytes 0 0)
-judged (Number field) s at bytes = four field s at (from_be_bytes w32 bytes)
-judged (Long field) s at bytes = eight field s at (from_be_bytes w64 bytes)
-judged (Bytes field) s at bytes = after_bytes field s bytes
-judged Nothing s at bytes = Wrong (Form at)
+abbrev pub journal_judged : Due → ReadState → ℕ → List ℕ → Done
+journal_judged (Byte field) s at bytes = one field s at (get_or bytes 0 0)
+journal_judged (Number field) s at bytes = number_byte field s at (from_be_bytes w32 bytes)
+journal_judged (Long field) s at bytes = long_byte field s at (from_be_bytes w64 bytes)
+journal_judged (Bytes field) s at bytes = after_bytes field s bytes
+journal_judged Nothing s at bytes = Wrong (Form at)
 
 -- ---- the fields
 
 -- the shape of the field that is expected, of which a key or a value has so many bytes
-abbrev pub shape : Due → ℕ → Shape
-shape (Number field) size = Shapes.Four
-shape (Long field) size = Shapes.Eight
-shape (Bytes field) size = Shapes.Run (size - 1)
-shape due size = Shapes.Byte
+abbrev pub journal_shape : Due → ℕ → Shape
+journal_shape (Number field) size = Shapes.Four
+journal_shape (Long field) size = Shapes.Eight
+journal_shape (Bytes field) size = Shapes.Run (size - 1)
+journal_shape due size = Shapes.Byte
 
 -- the end was read
 abbrev pub is_last : Due → Bool
@@ -246,9 +249,9 @@ is_last due = false
 -- the fields of a journal
 abbrev pub journal_fields : Fields ReadState ⊤ FileFault
 journal_fields = record {
-  start = start;
-  width = λ s. width_of (shape s.due s.draft.size);
-  judge = λ s at field. judged s.due s at field;
+  start = journal_start;
+  width = λ s. width_of (journal_shape s.due s.draft.size);
+  judge = λ s at field. journal_judged s.due s at field;
   is_end = λ s. is_last s.due;
   limit = journal_limit;
   too_long = TooLong;

@@ -9,39 +9,39 @@ use Rattle.zy_read.specs.Format.{Format, Reading, read_on, fault_met, verdict_on
 use Rattle.zy_journal.specs.declared.journal.Journal.{Journal}
 use Rattle.zy_journal.specs.Journal.{IsJournal, journal_bytes}
 use Rattle.zy_read.specs.Fields.{step, format_of}
-use Rattle.zy_journal_reader.specs.Steps.{ReadState, Progress, journal_fields, journal_limit}
+use Rattle.zy_journal_reader.specs.Steps.{ReadState, JournalProgress, journal_fields, journal_limit}
 
 -- ---- a whole text
 
 -- what a whole text is: the journal that it spells, or its first fault
-pub data Verdict : Type 0 where
-  Good : Journal → Verdict
-  Bad : FileFault → Verdict
+pub data JournalVerdict : Type 0 where
+  Good : Journal → JournalVerdict
+  Bad : FileFault → JournalVerdict
 
 -- the journal that was read
 abbrev pub journal_in : ReadState → Journal
 journal_in s = record { entries = s.entries; holds = s.holds }
 
 -- the verdict on a text that ends at its end
-abbrev pub good : ReadState → List ⊤ → Verdict
-good s given = Good (journal_in s)
+abbrev pub good_journal : ReadState → List ⊤ → JournalVerdict
+good_journal s given = Good (journal_in s)
 
 -- the format of journals; what a text gives is that the journal ended
-abbrev pub journals : Format Progress ⊤ FileFault Verdict
-journals = format_of journal_fields good Bad
+abbrev pub journals : Format JournalProgress ⊤ FileFault JournalVerdict
+journals = format_of journal_fields good_journal Bad
 
 -- the verdict on a whole text
-abbrev pub verdict : List ℕ → Verdict
-verdict text = verdict_on journals text
+abbrev pub journal_verdict : List ℕ → JournalVerdict
+journal_verdict text = verdict_on journals text
 
 -- the text is a journal
-abbrev pub is_good : Verdict → Bool
-is_good (Good journal) = true
-is_good (Bad fault) = false
+abbrev pub is_good_journal : JournalVerdict → Bool
+is_good_journal (Good journal) = true
+is_good_journal (Bad fault) = false
 
 -- the fault that was met in a text
-abbrev pub fault_of : List ℕ → Option FileFault
-fault_of text = fault_met journals text
+abbrev pub journal_fault : List ℕ → Option FileFault
+journal_fault text = fault_met journals text
 
 -- ---- spellings
 
@@ -59,5 +59,5 @@ pub record SpellsJournal (text : List ℕ) (journal : Journal) : Type 0 where
 -- ---- for proofs
 
 -- what is read of the rest of a text
-abbrev pub read_from : Progress → List ℕ → Reading Progress ⊤
-read_from p text = read_on (step journal_fields) p text
+abbrev pub journal_read_from : JournalProgress → List ℕ → Reading JournalProgress ⊤
+journal_read_from p text = read_on (step journal_fields) p text

@@ -4,8 +4,8 @@ use Rattle.zy_base.specs.declared.file_fault.FileFault.{FileFault}
 use Rattle.zy_journal_reader.specs.declared.due.Due.TheVariants as Dues
 use Rattle.zy_journal_reader.specs.declared.due.ByteField.TheVariants as Fields
 use Rattle.zy_read.specs.Fields.{at_state}
-use Rattle.zy_journal_reader.specs.Steps.{start}
-use Rattle.zy_journal_reader.specs.Verdict.{read_from}
+use Rattle.zy_journal_reader.specs.Steps.{journal_start}
+use Rattle.zy_journal_reader.specs.Verdict.{journal_read_from}
 
 -- the magic, followed by this
 abbrev pub with_magic : List ℕ → List ℕ
@@ -25,5 +25,6 @@ abbrev pub behind_hold : List ℕ → List ℕ
 behind_hold text = with_magic (codes "H\0\0\0\u{1}\0\0\0\0\0\0\0\u{1}" ++ text)
 
 -- the fault that a text meets after the first `at` bytes of a journal, where a record is expected
-abbrev pub met_behind : ℕ → List ℕ → Option FileFault
-met_behind at text = (read_from (at_state (record start { due = Dues.Byte Fields.Tag }) at) text).last.fault
+abbrev pub met_in_journal : ℕ → List ℕ → Option FileFault
+met_in_journal at text =
+    (journal_read_from (at_state (record journal_start { due = Dues.Byte Fields.Tag }) at) text).last.fault

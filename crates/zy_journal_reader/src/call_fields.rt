@@ -1,13 +1,13 @@
 //! What comes next in a call, by the fields that its kind has.
 ghost use Rattle.std.specs.Prelude.{◌≡◌};
-ghost use Rattle.zy_journal_reader.specs.Fields.{at_key, at_flags, at_number, at_value, IsOpenAnywhere};
+ghost use Rattle.zy_journal_reader.specs.Fields.{after_call_code, at_flags, at_number, at_value, IsOpenAnywhere};
 
 use crate::due::{ByteField, Due, LongField, NumberField};
 use zy_base::CallFields;
 
 // What comes after the code: the key, or what comes where there is none.
 pub(crate) fn at_key(fields: CallFields) -> Due
-    ensures value { result ≡ at_key fields }
+    ensures value { result ≡ after_call_code fields }
     ensures open { IsOpenAnywhere result }
 {
     if fields.key {

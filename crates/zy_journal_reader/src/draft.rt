@@ -1,6 +1,6 @@
 //! The record that is being read.
 ghost use Rattle.std.specs.Prelude.{◌≡◌};
-ghost use Rattle.zy_journal_reader.specs.Fields.{fresh, entry_of};
+ghost use Rattle.zy_journal_reader.specs.Fields.{fresh, entry_read};
 
 use std::alloc::Global;
 use zy_base::{Blob, CallKind, CallReply, Entry, Tag, Tallied};
@@ -62,7 +62,7 @@ impl Draft {
 
     // The entry that was read, with this reply.
     pub(crate) fn into_entry(self, reply: CallReply) -> Entry
-        ensures value { result ≡ entry_of self reply }
+        ensures value { result ≡ entry_read self reply }
     {
         Entry {
             tag: Tag {

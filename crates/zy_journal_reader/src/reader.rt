@@ -3,8 +3,8 @@ ghost use Rattle.std.specs.Prelude.{◌≡◌, ◌+◌, ◌<◌, ◌≤◌, [], 
 ghost use Rattle.std.specs.Prelude.{true, false};
 ghost use Rattle.zy_read.specs.Standing.{given_in, Feeds, FeedsAs, TellsFault, TellsLasting, AnswersBy};
 ghost use Rattle.zy_read.specs.declared.not_taken.NotTaken.TheVariants.{NoMemory};
-ghost use Rattle.zy_journal_reader.specs.Verdict.{journals, verdict, is_good};
-ghost use Rattle.zy_journal_reader.specs.Standing.{StandsForJournal, EndsBy, MayWant};
+ghost use Rattle.zy_journal_reader.specs.Verdict.{journals, journal_verdict, is_good_journal};
+ghost use Rattle.zy_journal_reader.specs.Standing.{StandsForJournal, EndsJournalBy, MayWant};
 
 use crate::state::JournalState;
 use std::alloc::Global;
@@ -20,9 +20,9 @@ pub struct JournalReader {
 }
 
 impl Model for JournalReader {
-    ghost use Rattle.zy_journal_reader.specs.Steps.{Progress};
+    ghost use Rattle.zy_journal_reader.specs.Steps.{JournalProgress};
 
-    ghost Value = { Progress };
+    ghost Value = { JournalProgress };
 
     ghost view = { λ r. r.reader };
 }
@@ -77,7 +77,8 @@ impl JournalReader {
     #[tactic(auto, using(zy_read::proofs::Feeding::verdict_here))]
     /// True exactly where the end was read and no fault was met.
     pub fn is_done(&self) -> bool
-        ensures value { AnswersBy journals self.now (λ b. is_good (verdict b)) result }
+        ensures value { AnswersBy journals self.now (λ b. is_good_journal (journal_verdict b))
+            result }
     {
         self.reader.end().is_ok()
     }
@@ -85,7 +86,7 @@ impl JournalReader {
     #[tactic(auto, using(zy_read::proofs::Feeding::verdict_here))]
     /// The journal whose bytes were fed, or their fault.
     pub fn end(self) -> Result<Journal, FileFault>
-        ensures value { EndsBy self result }
+        ensures value { EndsJournalBy self result }
     {
         match self.reader.end() {
             Ok(()) => Ok(self.reader.into_state().into_journal()),

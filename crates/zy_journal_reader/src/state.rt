@@ -1,10 +1,11 @@
 //! What was read of a journal, and what its fields do.
 ghost use Rattle.std.specs.Prelude.{◌≡◌, ◌-◌, ◌+◌, ◌∷◌, [], ℕ, length};
-ghost use Rattle.zy_journal_reader.specs.Steps.{journal_fields, shape, start};
-ghost use Rattle.zy_journal_reader.specs.Verdict.{Verdict, good, journal_in};
-ghost use Rattle.zy_journal_reader.specs.Verdict.Verdict.{Bad};
+ghost use Rattle.zy_journal_reader.specs.Steps.{journal_fields, journal_shape, journal_start};
+ghost use Rattle.zy_journal_reader.specs.Verdict.{JournalVerdict, good_journal, journal_in};
+ghost use Rattle.zy_journal_reader.specs.Verdict.JournalVerdict.{Bad};
 ghost use Rattle.zy_journal_reader.specs.Standing.{FitsPlace, Wants};
-ghost use Rattle.zy_journal_reader.specs.Laws.{widths, runs, lawful, few, begins};
+ghost use Rattle.zy_journal_reader.specs.Laws.{journal_widths, runs, journal_lawful, journal_few};
+ghost use Rattle.zy_journal_reader.specs.Laws.{journal_begins};
 
 mod codes;
 mod contents;
@@ -51,7 +52,7 @@ impl Model for JournalState {
 impl JournalState {
     // Before the first byte.
     pub(crate) fn new(alloc: Global) -> JournalState
-        ensures value { result ≡ start }
+        ensures value { result ≡ journal_start }
     {
         JournalState {
             due: Due::Byte(ByteField::Magic),
@@ -79,15 +80,15 @@ impl FieldFormat for JournalState {
 
     type Fault = FileFault;
 
-    ghost Verdict = { Verdict };
+    ghost Verdict = { JournalVerdict };
 
     ghost fields = { journal_fields };
 
-    ghost good = { good };
+    ghost good = { good_journal };
 
     ghost bad = { Bad };
 
-    ghost shape_of = { λ s. shape s.due s.draft.size };
+    ghost shape_of = { λ s. journal_shape s.due s.draft.size };
 
     ghost Fits = { FitsPlace };
 
@@ -191,13 +192,13 @@ impl FieldFormat for JournalState {
         }
     }
 
-    ghost widths = { widths };
+    ghost widths = { journal_widths };
 
     ghost runs = { runs };
 
-    ghost lawful = { lawful };
+    ghost lawful = { journal_lawful };
 
-    ghost few = { few };
+    ghost few = { journal_few };
 
-    ghost begins = { begins };
+    ghost begins = { journal_begins };
 }

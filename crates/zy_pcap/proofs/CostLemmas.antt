@@ -7,8 +7,8 @@ use Rattle.std.proofs.lemmas.Bool.Decides.{nat_tests}
 use Rattle.zy_pcap.specs.declared.slot.Slot.{Slot}
 use Rattle.zy_pcap.specs.declared.slot.Slot.TheVariants.{Known, New, Full}
 use Rattle.zy_pcap.specs.Packet.{Packet}
-use Rattle.zy_pcap.specs.Session.{Session, begun_by, begins, current, sessions_by, with_packet}
-use Rattle.zy_pcap.specs.Flow.{Flow, Flows, flow_at, sessions_in, slot_of, keys_of, put_at, grown, joined_at, joined, flows_after, flows_of}
+use Rattle.zy_pcap.specs.Session.{Session, session_begun_by, begins, current, sessions_by, with_packet}
+use Rattle.zy_pcap.specs.Flow.{Flow, Flows, flow_at, sessions_in, slot_of, flow_keys, put_at, grown_flow, joined_at, flows_with, flows_after, flows_of}
 
 -- ---- costs
 
@@ -50,8 +50,8 @@ module _ (c : ℕ) (w : Packet → ℕ) where
       omega (arith, cost)
   session_set (session ∷ sessions) (suc i) old new is = omega (arith, session_set sessions i old new is)
 
-  begun_cost : (sessions : List Session) (packet : Packet) → sessions_cost c w (sessions ++ begun_by packet ∷ []) ≤ sessions_cost c w sessions + (c + w packet)
-  begun_cost sessions packet = omega (arith, sessions_append sessions (begun_by packet ∷ []))
+  begun_cost : (sessions : List Session) (packet : Packet) → sessions_cost c w (sessions ++ session_begun_by packet ∷ []) ≤ sessions_cost c w sessions + (c + w packet)
+  begun_cost sessions packet = omega (arith, sessions_append sessions (session_begun_by packet ∷ []))
 
   next_cost : (sessions : List Session) (session : Session) (packet : Packet) → current sessions ≡ Some session
       → sessions_cost c w (slice_set sessions (length sessions - 1) (record session { packets = session.packets ++ packet ∷ [] })) ≤ sessions_cost c w sessions + (c + w packet)
@@ -107,14 +107,14 @@ module _ (c : ℕ) (w : Packet → ℕ) where
 
   joined_by : (slot : Slot) (flows : Flows) (packet : Packet) → flows_cost c w (joined_at slot flows packet) ≤ flows_cost c w flows + (c + w packet)
   joined_by (Known number) flows packet =
-      omega (arith, put_cost flows number (grown (sessions_in (flow_at flows number)) packet), with_cost (sessions_in (flow_at flows number)) packet)
-  joined_by (New number) flows packet = omega (arith, put_cost flows number (grown [] packet), with_cost [] packet)
+      omega (arith, put_cost flows number (grown_flow (sessions_in (flow_at flows number)) packet), with_cost (sessions_in (flow_at flows number)) packet)
+  joined_by (New number) flows packet = omega (arith, put_cost flows number (grown_flow [] packet), with_cost [] packet)
   joined_by Full flows packet = omega arith
 
   after_cost : (flows : Flows) (packets : List Packet) → flows_cost c w (flows_after flows packets) ≤ flows_cost c w flows + packets_cost (λ (packet : Packet). c + w packet) packets
   after_cost flows [] = omega arith
   after_cost flows (packet ∷ packets) =
-      omega (arith, joined_by (slot_of (keys_of flows) packet.flow) flows packet, after_cost (joined flows packet) packets)
+      omega (arith, joined_by (slot_of (flow_keys flows) packet.flow) flows packet, after_cost (flows_with flows packet) packets)
 
   pub flows_few : (packets : List Packet) → flows_cost c w (flows_of packets) ≤ packets_cost (λ (packet : Packet). c + w packet) packets
   unfolding flows_of

@@ -6,7 +6,7 @@ use Rattle.std.proofs.lemmas.Bool.{cases_eq}
 use Rattle.std.proofs.lemmas.Bool.Decides.{nat_tests}
 use Rattle.zy_read.specs.Bytes.{AreBytes}
 use Rattle.zy_pcap.specs.Packet.{Packet}
-use Rattle.zy_pcap.specs.Session.{offset, byte_from, byte_of, byte_at, first_of, longest_from, longest}
+use Rattle.zy_pcap.specs.Session.{offset, byte_from, byte_of, byte_at, byte_or_other, longest_from, longest}
 use Rattle.zy_pcap.specs.Sizes.{payload_bytes}
 
 -- ---- how many offsets have a byte
@@ -37,7 +37,7 @@ both_few : (h f g : ℕ → Option ℕ) (at n : ℕ) → ((d : ℕ) → one_if (
 both_few h f g at zero most = omega arith
 both_few h f g at (suc n) most = omega (arith, most at, both_few h f g (at + 1) n most)
 
-one_first : (a b : Option ℕ) → one_if (first_of a b) ≤ one_if a + one_if b
+one_first : (a b : Option ℕ) → one_if (byte_or_other a b) ≤ one_if a + one_if b
 one_first None b = omega arith
 one_first (Some x) b = omega arith
 
@@ -104,7 +104,7 @@ small_choice : (test : Bool) (byte : ℕ) (rest : Option ℕ) → byte < 256 →
 small_choice true byte rest small others = small
 small_choice false byte rest small others = others
 
-small_first : (a b : Option ℕ) → IsSmall a → IsSmall b → IsSmall (first_of a b)
+small_first : (a b : Option ℕ) → IsSmall a → IsSmall b → IsSmall (byte_or_other a b)
 small_first None b one other = other
 small_first (Some x) b one other = one
 

@@ -4,8 +4,8 @@ use Rattle.std.specs.Prelude.{Some, None}
 use Rattle.std.proofs.lemmas.Bool.{cases_lt, cases_eq}
 use Rattle.std.proofs.lemmas.Bool.Decides.{nat_tests}
 use Rattle.std.proofs.lemmas.List.{get_or-take, get_or-drop, length-take-le, length-drop}
-use Rattle.zy_pcap.specs.Session.{first_of}
-use Rattle.zy_pcap.specs.Chunk.{covered, alone}
+use Rattle.zy_pcap.specs.Session.{byte_or_other}
+use Rattle.zy_pcap.specs.Chunk.{covered, lone_byte}
 
 -- ---- where they are
 
@@ -20,7 +20,7 @@ covered_above bytes from at above = grind (arith, nat_tests)
 
 -- ---- parts
 
-pub covered_parts : (bytes : List ℕ) (n m from at : ℕ) → n + m ≤ length bytes → covered (take (n + m) bytes) from at ≡ first_of (covered (take n bytes) from at) (covered (take m (drop n bytes)) (from + n) at)
+pub covered_parts : (bytes : List ℕ) (n m from at : ℕ) → n + m ≤ length bytes → covered (take (n + m) bytes) from at ≡ byte_or_other (covered (take n bytes) from at) (covered (take m (drop n bytes)) (from + n) at)
 covered_parts bytes n m from at within =
     let whole : length (take (n + m) bytes) ≡ n + m = length-take-le (n + m) bytes within in
     let front : length (take n bytes) ≡ n = length-take-le n bytes (omega (arith, within)) in
@@ -38,7 +38,7 @@ covered_parts bytes n m from at within =
     ]
 
 -- one further byte
-pub covered_more : (bytes : List ℕ) (n from at : ℕ) → n < length bytes → covered (take (n + 1) bytes) from at ≡ first_of (covered (take n bytes) from at) (alone (from + n) (get_or bytes n 0) at)
+pub covered_more : (bytes : List ℕ) (n from at : ℕ) → n < length bytes → covered (take (n + 1) bytes) from at ≡ byte_or_other (covered (take n bytes) from at) (lone_byte (from + n) (get_or bytes n 0) at)
 covered_more bytes n from at within =
     let whole : length (take (n + 1) bytes) ≡ n + 1 = length-take-le (n + 1) bytes (omega (arith, within)) in
     let front : length (take n bytes) ≡ n = length-take-le n bytes (omega (arith, within)) in

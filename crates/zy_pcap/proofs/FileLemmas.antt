@@ -8,12 +8,12 @@ use Rattle.zy_pcap.specs.declared.due.Due.{Due}
 use Rattle.zy_pcap.specs.declared.due.Due.TheVariants as Dues
 use Rattle.zy_pcap.specs.declared.judged.Judged.{Judged}
 use Rattle.zy_pcap.specs.declared.judged.Judged.TheVariants.{Passed, Refused, Taken}
-use Rattle.zy_pcap.specs.Steps.{Place, Move, move, taken, judged, major, minor, number_in, then_due, then_more, then_record, broken, grown_by, is_open, is_full, file_limit, frame_limit}
+use Rattle.zy_pcap.specs.Steps.{FilePlace, Move, move, move_at, judged_number, major, minor, ordered_number, then_due, then_more, then_record, broken, frame_grown, is_open_file, is_full_file, file_limit, frame_limit}
 use Rattle.zy_pcap.specs.Steps.Move.{Goes, Ends}
 use Rattle.zy_pcap.specs.Frame.{judge}
 use Rattle.zy_pcap.specs.Packet.{Packet, packet_in}
-use Rattle.zy_pcap.specs.Packets.{Progress, nothing_read, frame_fault, packets_with, settled, moved, step, read_on, read, found_at, packets}
-use Rattle.zy_pcap.specs.Packets.Found.{Packets, Bad}
+use Rattle.zy_pcap.specs.Packets.{FileProgress, nothing_read, frame_fault, packets_with, record_settled, after_move, file_step, file_read_on, read, found_at, packets}
+use Rattle.zy_pcap.specs.Packets.FoundPackets.{Packets, Bad}
 use Rattle.zy_pcap.specs.Made.{pcap_capture}
 use Rattle.zy_pcap.specs.Sizes.{file_header, record_bytes}
 use Rattle.zy_pcap.proofs.CostLemmas.{packets_cost, packets_append}
@@ -23,11 +23,11 @@ use Rattle.zy_pcap.proofs.FitLemmas.{FitsIn, chosen, not_less, judge_fits}
 -- ---- what the bytes that were read hold
 
 -- this number of bytes was read, and a file may have it
-abbrev Counted : Place → ℕ → Type 0
+abbrev Counted : FilePlace → ℕ → Type 0
 Counted p n = (p.at ≡ n) × (n ≤ file_limit)
 
 -- by what is expected: the packets, and the part that was begun, are within these bytes
-abbrev Within : Due → Place → List Packet → ℕ → Type 0
+abbrev Within : Due → FilePlace → List Packet → ℕ → Type 0
 Within Dues.Magic p given n = Counted p n × (record_bytes given ≤ 0) × (length p.field ≤ n)
 Within Dues.Version p given n = Counted p n × (record_bytes given ≤ 0) × (4 + length p.field ≤ n)
 Within (Dues.Settings left) p given n = Counted p n × (record_bytes given ≤ 0) × (20 ≤ n + left)
@@ -41,7 +41,7 @@ Within (Dues.Frame size) p given n =
 Within (Dues.Broken fault) p given n = ⊤
 
 -- a move leads to such a place, or ends a record whose frame is within the bytes
-abbrev Leads : Place → List Packet → ℕ → Move → Type 0
+abbrev Leads : FilePlace → List Packet → ℕ → Move → Type 0
 Leads p given n (Goes q) = Within q.due q given n
 Leads p given n (Ends frame) =
     (p.at + 1 ≡ n) × (n ≤ file_limit) × (24 + record_bytes given ≤ p.begun) × (p.begun + 16 + length frame ≤ n) × (length frame ≤ frame_limit)
@@ -54,15 +54,15 @@ has_room at is = grind (arith, nat_tests)
 one_more : (field : List ℕ) (byte : ℕ) → length (field ++ byte ∷ []) ≡ length field + 1
 one_more field byte = length-append field (byte ∷ [])
 
-counted_on : (p : Place) (n : ℕ) → Counted p n → p.at < file_limit → (p.at + 1 ≡ n + 1) × (n + 1 ≤ file_limit)
+counted_on : (p : FilePlace) (n : ℕ) → Counted p n → p.at < file_limit → (p.at + 1 ≡ n + 1) × (n + 1 ≤ file_limit)
 counted_on p n counted room = (omega (arith, counted.0), omega (arith, counted.0, room))
 
 -- one of several places
-abbrev IsPlace : List Packet → ℕ → Place → Type 0
+abbrev IsPlace : List Packet → ℕ → FilePlace → Type 0
 IsPlace given n q = Within q.due q given n
 
-module _ (p : Place) (given : List Packet) (byte n : ℕ) (counted : (p.at + 1 ≡ n + 1) × (n + 1 ≤ file_limit)) where
-  magic_judged : (number : ℕ) → record_bytes given ≤ 0 → 3 ≤ n → IsPlace given (n + 1) (judged Dues.Magic p number)
+module _ (p : FilePlace) (given : List Packet) (byte n : ℕ) (counted : (p.at + 1 ≡ n + 1) × (n + 1 ≤ file_limit)) where
+  magic_judged : (number : ℕ) → record_bytes given ≤ 0 → 3 ≤ n → IsPlace given (n + 1) (judged_number Dues.Magic p number)
   magic_judged number none long =
       chosen (IsPlace given (n + 1)) (number == 0xa1b2c3d4) (then_due p Dues.Version)
       (if number == 0xd4c3b2a1 then then_due (record p { is_big = false }) Dues.Version else broken p (Faults.Magic 0))
@@ -70,61 +70,61 @@ module _ (p : Place) (given : List Packet) (byte n : ℕ) (counted : (p.at + 1 �
       chosen (IsPlace given (n + 1)) (number == 0xd4c3b2a1) (then_due (record p { is_big = false }) Dues.Version) (broken p (Faults.Magic 0))
       (λ is. (counted, none, omega (arith, long))) (λ no. tt))
 
-  version_judged : (number : ℕ) → record_bytes given ≤ 0 → 7 ≤ n → IsPlace given (n + 1) (judged Dues.Version p number)
+  version_judged : (number : ℕ) → record_bytes given ≤ 0 → 7 ≤ n → IsPlace given (n + 1) (judged_number Dues.Version p number)
   version_judged number none long =
       chosen (IsPlace given (n + 1)) (major p.is_big number == 2 && minor p.is_big number == 4) (then_due p (Dues.Settings 12))
       (broken p (Faults.Version (major p.is_big number) (minor p.is_big number)))
       (λ is. (counted, none, omega (arith, long))) (λ no. tt)
 
-  link_judged : (number : ℕ) → record_bytes given ≤ 0 → 23 ≤ n → IsPlace given (n + 1) (judged Dues.LinkType p number)
+  link_judged : (number : ℕ) → record_bytes given ≤ 0 → 23 ≤ n → IsPlace given (n + 1) (judged_number Dues.LinkType p number)
   link_judged number none long =
       chosen (IsPlace given (n + 1)) (number == 1) (then_record p) (broken p (Faults.LinkType number))
       (λ is. (counted, omega (arith, none, long, counted.0), omega (arith, counted.0))) (λ no. tt)
 
-  captured_judged : (number : ℕ) → 24 + record_bytes given ≤ p.begun → p.begun + 11 ≤ n → IsPlace given (n + 1) (judged Dues.Captured p number)
+  captured_judged : (number : ℕ) → 24 + record_bytes given ≤ p.begun → p.begun + 11 ≤ n → IsPlace given (n + 1) (judged_number Dues.Captured p number)
   captured_judged number first long =
       chosen (IsPlace given (n + 1)) (nat_lt frame_limit number) (broken p (Faults.RecordLength p.begun number)) (then_due p (Dues.Original 4 number))
       (λ no. tt) (λ is. (counted, first, omega (arith, long), not_less frame_limit number is))
 
-  magic_leads : p.due ≡ Dues.Magic → Within Dues.Magic p given n → Leads p given (n + 1) (taken Dues.Magic p byte)
+  magic_leads : p.due ≡ Dues.Magic → Within Dues.Magic p given n → Leads p given (n + 1) (move_at Dues.Magic p byte)
   magic_leads is within =
-      let number : ℕ = number_in p.is_big (p.field ++ byte ∷ []) in
-      chosen (Leads p given (n + 1)) (nat_lt (length p.field) 3) (Goes (then_more p byte)) (Goes (judged Dues.Magic p number))
+      let number : ℕ = ordered_number p.is_big (p.field ++ byte ∷ []) in
+      chosen (Leads p given (n + 1)) (nat_lt (length p.field) 3) (Goes (then_more p byte)) (Goes (judged_number Dues.Magic p number))
       (λ more. subst (λ (d : Due). Within d (then_more p byte) given (n + 1)) (sym is) (counted, within.1, omega (arith, within.2, one_more p.field byte)))
       (λ last. magic_judged number within.1 (omega (arith, within.2, not_less (length p.field) 3 last)))
 
-  version_leads : p.due ≡ Dues.Version → Within Dues.Version p given n → Leads p given (n + 1) (taken Dues.Version p byte)
+  version_leads : p.due ≡ Dues.Version → Within Dues.Version p given n → Leads p given (n + 1) (move_at Dues.Version p byte)
   version_leads is within =
-      let number : ℕ = number_in p.is_big (p.field ++ byte ∷ []) in
-      chosen (Leads p given (n + 1)) (nat_lt (length p.field) 3) (Goes (then_more p byte)) (Goes (judged Dues.Version p number))
+      let number : ℕ = ordered_number p.is_big (p.field ++ byte ∷ []) in
+      chosen (Leads p given (n + 1)) (nat_lt (length p.field) 3) (Goes (then_more p byte)) (Goes (judged_number Dues.Version p number))
       (λ more. subst (λ (d : Due). Within d (then_more p byte) given (n + 1)) (sym is) (counted, within.1, omega (arith, within.2, one_more p.field byte)))
       (λ last. version_judged number within.1 (omega (arith, within.2, not_less (length p.field) 3 last)))
 
-  link_leads : p.due ≡ Dues.LinkType → Within Dues.LinkType p given n → Leads p given (n + 1) (taken Dues.LinkType p byte)
+  link_leads : p.due ≡ Dues.LinkType → Within Dues.LinkType p given n → Leads p given (n + 1) (move_at Dues.LinkType p byte)
   link_leads is within =
-      let number : ℕ = number_in p.is_big (p.field ++ byte ∷ []) in
-      chosen (Leads p given (n + 1)) (nat_lt (length p.field) 3) (Goes (then_more p byte)) (Goes (judged Dues.LinkType p number))
+      let number : ℕ = ordered_number p.is_big (p.field ++ byte ∷ []) in
+      chosen (Leads p given (n + 1)) (nat_lt (length p.field) 3) (Goes (then_more p byte)) (Goes (judged_number Dues.LinkType p number))
       (λ more. subst (λ (d : Due). Within d (then_more p byte) given (n + 1)) (sym is) (counted, within.1, omega (arith, within.2, one_more p.field byte)))
       (λ last. link_judged number within.1 (omega (arith, within.2, not_less (length p.field) 3 last)))
 
-  captured_leads : p.due ≡ Dues.Captured → Within Dues.Captured p given n → Leads p given (n + 1) (taken Dues.Captured p byte)
+  captured_leads : p.due ≡ Dues.Captured → Within Dues.Captured p given n → Leads p given (n + 1) (move_at Dues.Captured p byte)
   captured_leads is within =
-      let number : ℕ = number_in p.is_big (p.field ++ byte ∷ []) in
-      chosen (Leads p given (n + 1)) (nat_lt (length p.field) 3) (Goes (then_more p byte)) (Goes (judged Dues.Captured p number))
+      let number : ℕ = ordered_number p.is_big (p.field ++ byte ∷ []) in
+      chosen (Leads p given (n + 1)) (nat_lt (length p.field) 3) (Goes (then_more p byte)) (Goes (judged_number Dues.Captured p number))
       (λ more. subst (λ (d : Due). Within d (then_more p byte) given (n + 1)) (sym is) (counted, within.1, omega (arith, within.2, one_more p.field byte)))
       (λ last. captured_judged number within.1 (omega (arith, within.2, not_less (length p.field) 3 last)))
 
-  settings_leads : (left : ℕ) → Within (Dues.Settings left) p given n → Leads p given (n + 1) (taken (Dues.Settings left) p byte)
+  settings_leads : (left : ℕ) → Within (Dues.Settings left) p given n → Leads p given (n + 1) (move_at (Dues.Settings left) p byte)
   settings_leads left within =
       chosen (IsPlace given (n + 1)) (nat_lt 1 left) (then_due p (Dues.Settings (left - 1))) (then_due p Dues.LinkType)
       (λ more. (counted, within.1, omega (arith, within.2))) (λ last. (counted, within.1, omega (arith, within.2, not_less 1 left last)))
 
-  time_leads : (left : ℕ) → Within (Dues.Time left) p given n → Leads p given (n + 1) (taken (Dues.Time left) p byte)
+  time_leads : (left : ℕ) → Within (Dues.Time left) p given n → Leads p given (n + 1) (move_at (Dues.Time left) p byte)
   time_leads left within =
       chosen (IsPlace given (n + 1)) (nat_lt 1 left) (then_due p (Dues.Time (left - 1))) (then_due p Dues.Captured)
       (λ more. (counted, within.1, omega (arith, within.2))) (λ last. (counted, within.1, omega (arith, within.2, not_less 1 left last)))
 
-  original_leads : (left size : ℕ) → Within (Dues.Original left size) p given n → Leads p given (n + 1) (taken (Dues.Original left size) p byte)
+  original_leads : (left size : ℕ) → Within (Dues.Original left size) p given n → Leads p given (n + 1) (move_at (Dues.Original left size) p byte)
   original_leads left size within =
       chosen (Leads p given (n + 1)) (nat_lt 1 left) (Goes (then_due p (Dues.Original (left - 1) size))) (if size == 0 then Ends [] else Goes (then_due p (Dues.Frame size)))
       (λ more. (counted, within.1, omega (arith, within.2), within.3)) (λ last.
@@ -135,17 +135,17 @@ module _ (p : Place) (given : List Packet) (byte n : ℕ) (counted : (p.at + 1 �
       positive : (size : ℕ) → (size == 0) ≡ false → 0 < size
       positive size is = grind (arith, nat_tests)
 
-  frame_leads : (size : ℕ) → p.due ≡ Dues.Frame size → Within (Dues.Frame size) p given n → Leads p given (n + 1) (taken (Dues.Frame size) p byte)
+  frame_leads : (size : ℕ) → p.due ≡ Dues.Frame size → Within (Dues.Frame size) p given n → Leads p given (n + 1) (move_at (Dues.Frame size) p byte)
   frame_leads size is within =
-      chosen (Leads p given (n + 1)) (nat_lt (length p.frame + 1) size) (Goes (grown_by p (byte ∷ []))) (Ends (p.frame ++ byte ∷ []))
-      (λ more. subst (λ (d : Due). Within d (grown_by p (byte ∷ [])) given (n + 1)) (sym is)
+      chosen (Leads p given (n + 1)) (nat_lt (length p.frame + 1) size) (Goes (frame_grown p (byte ∷ []))) (Ends (p.frame ++ byte ∷ []))
+      (λ more. subst (λ (d : Due). Within d (frame_grown p (byte ∷ [])) given (n + 1)) (sym is)
       (counted, within.1, omega (arith, within.2, one_more p.frame byte), within.3, omega (arith, one_more p.frame byte, less (length p.frame + 1) size more)))
       (λ last. (counted.0, counted.1, within.1, omega (arith, within.2, one_more p.frame byte), omega (arith, within.3, within.4, one_more p.frame byte)))
     where
       less : (a b : ℕ) → nat_lt a b ≡ true → a < b
       less a b is = grind (arith, nat_tests)
 
-taken_leads : (due : Due) (p : Place) (given : List Packet) (byte n : ℕ) → p.due ≡ due → (is_open due && nat_le file_limit p.at) ≡ false → Within due p given n → Leads p given (n + 1) (taken due p byte)
+taken_leads : (due : Due) (p : FilePlace) (given : List Packet) (byte n : ℕ) → p.due ≡ due → (is_open_file due && nat_le file_limit p.at) ≡ false → Within due p given n → Leads p given (n + 1) (move_at due p byte)
 taken_leads Dues.Magic p given byte n is room within = magic_leads p given byte n (counted_on p n within.0 (has_room p.at room)) is within
 taken_leads Dues.Version p given byte n is room within = version_leads p given byte n (counted_on p n within.0 (has_room p.at room)) is within
 taken_leads (Dues.Settings left) p given byte n is room within = settings_leads p given byte n (counted_on p n within.0 (has_room p.at room)) left within
@@ -156,9 +156,9 @@ taken_leads (Dues.Original left size) p given byte n is room within = original_l
 taken_leads (Dues.Frame size) p given byte n is room within = frame_leads p given byte n (counted_on p n within.0 (has_room p.at room)) size is within
 taken_leads (Dues.Broken fault) p given byte n is room within = subst (λ (d : Due). Within d p given (n + 1)) (sym is) tt
 
-move_leads : (p : Place) (given : List Packet) (byte n : ℕ) → Within p.due p given n → Leads p given (n + 1) (move p byte)
+move_leads : (p : FilePlace) (given : List Packet) (byte n : ℕ) → Within p.due p given n → Leads p given (n + 1) (move p byte)
 move_leads p given byte n within =
-    chosen (Leads p given (n + 1)) (is_full p) (Goes (broken p Faults.PcapTooLong)) (taken p.due p byte)
+    chosen (Leads p given (n + 1)) (is_full_file p) (Goes (broken p Faults.PcapTooLong)) (move_at p.due p byte)
     (λ full. tt) (λ room. taken_leads p.due p given byte n refl room within)
 
 -- ---- the end of a record
@@ -179,14 +179,14 @@ with_few frame given (Taken segment) fits short saves =
 with_few frame given Passed fits short saves = (omega arith, saves)
 with_few frame given (Refused fault) fits short saves = (omega arith, saves)
 
-abbrev Stands : Progress → ℕ → Type 0
+abbrev Stands : FileProgress → ℕ → Type 0
 Stands p n = Within p.place.due p.place p.packets n × Saves p.packets
 
-settled_stands : (p : Progress) (fault : Option PcapFault) (given : List Packet) (n : ℕ) → p.place.at + 1 ≡ n → n ≤ file_limit → 24 + record_bytes given ≤ n → Saves given → Saves p.packets → Stands (settled p fault given) n
+settled_stands : (p : FileProgress) (fault : Option PcapFault) (given : List Packet) (n : ℕ) → p.place.at + 1 ≡ n → n ≤ file_limit → 24 + record_bytes given ≤ n → Saves given → Saves p.packets → Stands (record_settled p fault given) n
 settled_stands p None given n at short first saves before = (((at, short), omega (arith, first, at), omega (arith, at)), saves)
 settled_stands p (Some fault) given n at short first saves before = (tt, before)
 
-moved_stands : (port : ℕ) (p : Progress) (m : Move) (n : ℕ) → Leads p.place p.packets n m → Saves p.packets → Stands (moved port p m) n
+moved_stands : (port : ℕ) (p : FileProgress) (m : Move) (n : ℕ) → Leads p.place p.packets n m → Saves p.packets → Stands (after_move port p m) n
 moved_stands port p (Goes q) n leads saves = (leads, saves)
 moved_stands port p (Ends frame) n leads saves =
     let found : Judged = judge port p.place.begun frame in
@@ -196,12 +196,12 @@ moved_stands port p (Ends frame) n leads saves =
 
 -- ---- a whole file
 
-reads : (port : ℕ) (p : Progress) (bytes : List ℕ) (n : ℕ) → Stands p n → Stands (read_on port p bytes) (n + length bytes)
-unfolding read_on
+reads : (port : ℕ) (p : FileProgress) (bytes : List ℕ) (n : ℕ) → Stands p n → Stands (file_read_on port p bytes) (n + length bytes)
+unfolding file_read_on
 reads port p [] n stands = (let same : n + 0 ≡ n = omega arith in rw same stands)
 reads port p (byte ∷ bytes) n stands =
     let same : n + length (byte ∷ bytes) ≡ n + 1 + length bytes = omega arith in
-    rw same (reads port (step port p byte) bytes (n + 1) (moved_stands port p (move p.place byte) (n + 1) (move_leads p.place p.packets byte n stands.0) stands.1))
+    rw same (reads port (file_step port p byte) bytes (n + 1) (moved_stands port p (move p.place byte) (n + 1) (move_leads p.place p.packets byte n stands.0) stands.1))
 
 read_stands : (port : ℕ) (bytes : List ℕ) → Stands (read port bytes) (length bytes)
 unfolding read
@@ -215,7 +215,7 @@ pub record Holds (given : List Packet) (n : ℕ) : Type 0 where
   pub records : file_header + record_bytes given ≤ n
   pub saves : packets_cost capture_bytes given ≤ record_bytes given
 
-time_held : (left : ℕ) (p : Progress) (given : List Packet) (n : ℕ) (test : Bool) → (left == 8) ≡ test → found_at (Dues.Time left) p ≡ Packets given → Within (Dues.Time left) p.place p.packets n → Saves p.packets → Holds given n
+time_held : (left : ℕ) (p : FileProgress) (given : List Packet) (n : ℕ) (test : Bool) → (left == 8) ≡ test → found_at (Dues.Time left) p ≡ Packets given → Within (Dues.Time left) p.place p.packets n → Saves p.packets → Holds given n
 time_held left p given n false is found within saves =
     let bad : Bad (Faults.PcapTruncated p.place.at) ≡ Packets given = rw is at found in cc
 time_held left p given n true is found within saves =
@@ -224,7 +224,7 @@ time_held left p given n true is found within saves =
     let eight : left ≡ 8 = grind (arith, nat_tests) in
     subst (λ (l : List Packet). Holds l n) same (record { short = within.0.1; records = omega (arith, within.1, within.2, eight); saves = saves })
 
-held_by : (due : Due) (p : Progress) (given : List Packet) (n : ℕ) → found_at due p ≡ Packets given → Within due p.place p.packets n → Saves p.packets → Holds given n
+held_by : (due : Due) (p : FileProgress) (given : List Packet) (n : ℕ) → found_at due p ≡ Packets given → Within due p.place p.packets n → Saves p.packets → Holds given n
 held_by Dues.Magic p given n found within saves = cc
 held_by Dues.Version p given n found within saves = cc
 held_by (Dues.Settings left) p given n found within saves = cc

@@ -6,7 +6,7 @@ use Rattle.std.proofs.lemmas.List.{length-take}
 use Rattle.zy_pcap.specs.declared.pcap_fault.PcapFault.TheVariants.{Ipv6, Vlan, Fragment, Short, Missing}
 use Rattle.zy_pcap.specs.declared.judged.Judged.{Judged}
 use Rattle.zy_pcap.specs.declared.judged.Judged.TheVariants.{Passed, Refused, Taken}
-use Rattle.zy_pcap.specs.Frame.{short_at, ip, ip_size, tcp, tcp_size, total, payload_size, is_syn, segment, judge_payload, judge_tcp, judge_ip, judge_ipv6, judge_type, judge}
+use Rattle.zy_pcap.specs.Frame.{short_at, ip, ip_size, tcp, tcp_size, total, payload_size, is_syn, segment_in, judge_payload, judge_tcp, judge_ip, judge_ipv6, judge_type, judge}
 
 -- a fact of either way that a test goes
 pub chosen : {S : Type 0} (P : S → Type 0) (test : Bool) (x y : S) → (test ≡ true → P x) → (test ≡ false → P y) → P (if test then x else y)
@@ -40,22 +40,22 @@ payload_fits : (at : ℕ) (frame : List ℕ) → 20 ≤ ip_size frame → tcp fr
 payload_fits at frame head long =
     chosen (FitsIn frame) (nat_lt (tcp_size frame) 20) (Refused (Short at))
     (if nat_lt (total frame) (ip_size frame + tcp_size frame) then Refused (Short at)
-    else if payload_size frame == 0 then (if is_syn frame then Taken (segment frame) else Passed)
+    else if payload_size frame == 0 then (if is_syn frame then Taken (segment_in frame) else Passed)
     else if nat_lt (length frame) (ip + total frame) then Refused (Missing at)
-    else Taken (segment frame))
+    else Taken (segment_in frame))
     (λ short. tt) (λ rest.
     chosen (FitsIn frame) (nat_lt (total frame) (ip_size frame + tcp_size frame)) (Refused (Short at))
-    (if payload_size frame == 0 then (if is_syn frame then Taken (segment frame) else Passed)
+    (if payload_size frame == 0 then (if is_syn frame then Taken (segment_in frame) else Passed)
     else if nat_lt (length frame) (ip + total frame) then Refused (Missing at)
-    else Taken (segment frame))
+    else Taken (segment_in frame))
     (λ short. tt) (λ within.
-    chosen (FitsIn frame) (payload_size frame == 0) (if is_syn frame then Taken (segment frame) else Passed)
-    (if nat_lt (length frame) (ip + total frame) then Refused (Missing at) else Taken (segment frame))
-    (λ none. chosen (FitsIn frame) (is_syn frame) (Taken (segment frame)) Passed
-    (λ syn. syn_fits frame (segment frame).begin (payload_size frame) (ip_size frame) (equal_by (payload_size frame) 0 none) head long) (λ other. tt))
-    (λ some. chosen (FitsIn frame) (nat_lt (length frame) (ip + total frame)) (Refused (Missing at)) (Taken (segment frame))
+    chosen (FitsIn frame) (payload_size frame == 0) (if is_syn frame then Taken (segment_in frame) else Passed)
+    (if nat_lt (length frame) (ip + total frame) then Refused (Missing at) else Taken (segment_in frame))
+    (λ none. chosen (FitsIn frame) (is_syn frame) (Taken (segment_in frame)) Passed
+    (λ syn. syn_fits frame (segment_in frame).begin (payload_size frame) (ip_size frame) (equal_by (payload_size frame) 0 none) head long) (λ other. tt))
+    (λ some. chosen (FitsIn frame) (nat_lt (length frame) (ip + total frame)) (Refused (Missing at)) (Taken (segment_in frame))
     (λ missing. tt)
-    (λ whole. whole_fits frame (segment frame).begin (total frame) (ip_size frame) (tcp_size frame) head (not_less (tcp_size frame) 20 rest)
+    (λ whole. whole_fits frame (segment_in frame).begin (total frame) (ip_size frame) (tcp_size frame) head (not_less (tcp_size frame) 20 rest)
     (not_less (total frame) (ip_size frame + tcp_size frame) within) (not_less (length frame) (ip + total frame) whole)))))
 
 -- ---- the headers

@@ -13,10 +13,10 @@ use Rattle.zy_pcap.specs.declared.slot.Slot.TheVariants.{Known, New, Full}
 use Rattle.zy_pcap.specs.declared.kept_session.KeptSession.{KeptSession}
 use Rattle.zy_pcap.specs.declared.kept_flow.KeptFlow.{KeptFlow}
 use Rattle.zy_pcap.specs.Packet.{Packet, packet_with}
-use Rattle.zy_pcap.specs.Session.{Session, begun_by, begins, current, first_by, sessions_by, with_packet}
-use Rattle.zy_pcap.specs.Flow.{Flow, Flows, Keys, put_at, grown, slot_of, key_in, keys_of, flow_at, length_fault, flow_fault, joined}
+use Rattle.zy_pcap.specs.Session.{Session, session_begun_by, begins, current, first_by, sessions_by, with_packet}
+use Rattle.zy_pcap.specs.Flow.{Flow, Flows, Keys, put_at, grown_flow, slot_of, key_in, flow_keys, flow_at, length_fault, flow_fault, flows_with}
 use Rattle.zy_pcap.specs.Pairs.{BothOrNone, AllPairs}
-use Rattle.zy_pcap.specs.Kept.{KeepsSession, KeepsFlow, KeepsFlows, kept_key, kept_keys, ends, continues_by, continues, session_fault, session_next, MeetsSession, MeetsSessions, MeetsFlows, BeginsSession, GoesOn, Begins}
+use Rattle.zy_pcap.specs.Kept.{KeepsSession, KeepsFlow, KeepsFlows, kept_key, kept_keys, ends, continues_by, continues, session_fault, session_next, MeetsSession, MeetsSessions, MeetsFlows, BeginsSession, MeetsFlow, BeginsFlow}
 use Rattle.zy_pcap.proofs.PairLemmas.{pairs_length, pairs_get, pairs_set, pairs_append}
 use Rattle.zy_pcap.proofs.MeetLemmas.{begun_ends}
 
@@ -112,7 +112,7 @@ begins_by (Some last) (Some session) segment payload ends_it both =
     let is : begins session.first (packet_with segment payload) ≡ true = sym (ends_is last session segment payload both) ∙ not_false (ends last segment) ends_it in rw is refl
 
 next_by : (kept : Option KeptSession) (found : Option Session) (sessions : List Session) (segment : Segment) (payload : List ℕ) → continues_by kept segment ≡ false → BothOrNone KeepsSession kept found
-    → sessions_by found sessions (packet_with segment payload) ≡ sessions ++ begun_by (packet_with segment payload) ∷ []
+    → sessions_by found sessions (packet_with segment payload) ≡ sessions ++ session_begun_by (packet_with segment payload) ∷ []
 next_by None None sessions segment payload ends_it both = refl
 next_by None (Some session) sessions segment payload ends_it both = absurd both
 next_by (Some last) None sessions segment payload ends_it both = absurd both
@@ -125,9 +125,9 @@ flow_begins kept new segment payload at (Ok u) ends_it few begun = λ sessions p
     let packet : Packet = packet_with segment payload in
     let both = current_keeps kept sessions pairs in
     let first : first_by (current sessions) packet ≡ packet = begins_by (slice_get kept (length kept - 1)) (current sessions) segment payload ends_it both in
-    let next : with_packet sessions packet ≡ sessions ++ begun_by packet ∷ [] = next_by (slice_get kept (length kept - 1)) (current sessions) sessions segment payload ends_it both in (
+    let next : with_packet sessions packet ≡ sessions ++ session_begun_by packet ∷ [] = next_by (slice_get kept (length kept - 1)) (current sessions) sessions segment payload ends_it both in (
       rw (first, begun_ends packet few) refl,
-      rw (begun.1.0, next) (pairs_append KeepsSession kept (begun.0 ∷ []) sessions (begun_by packet ∷ []) pairs (begun.1.1, tt)),
+      rw (begun.1.0, next) (pairs_append KeepsSession kept (begun.0 ∷ []) sessions (session_begun_by packet ∷ []) pairs (begun.1.1, tt)),
     )
 flow_begins kept new segment payload at (Err (Fault fault)) ends_it few begun = absurd begun
 flow_begins kept new segment payload at (Err NoMemory) ends_it few begun = λ sessions pairs. rw begun pairs
@@ -140,7 +140,7 @@ key_pair None (Some flow) both = absurd both
 key_pair (Some kept) None both = absurd both
 key_pair (Some kept) (Some flow) both = ap (λ (key : List ℕ). Some key) both.key
 
-keys_same : (kept : List (Option KeptFlow)) (flows : Flows) → KeepsFlows kept flows → kept_keys kept ≡ keys_of flows
+keys_same : (kept : List (Option KeptFlow)) (flows : Flows) → KeepsFlows kept flows → kept_keys kept ≡ flow_keys flows
 keys_same [] [] pairs = refl
 keys_same [] (flow ∷ flows) pairs = absurd pairs
 keys_same (k ∷ kept) [] pairs = absurd pairs
@@ -166,10 +166,10 @@ is_some_flow : (kept : KeptFlow) (found : Option Flow) → BothOrNone KeepsFlow 
 is_some_flow kept None both = absurd both
 is_some_flow kept (Some flow) both = (flow, (refl, both))
 
-fault_known : (flows : Flows) (flow : Flow) (packet : Packet) (number at : ℕ) → slot_of (keys_of flows) packet.flow ≡ Known number → flow_at flows number ≡ Some flow → flow_fault flows packet at ≡ length_fault flow.sessions packet at
+fault_known : (flows : Flows) (flow : Flow) (packet : Packet) (number at : ℕ) → slot_of (flow_keys flows) packet.flow ≡ Known number → flow_at flows number ≡ Some flow → flow_fault flows packet at ≡ length_fault flow.sessions packet at
 fault_known flows flow packet number at slot is = rw (slot, is) refl
 
-next_known : (flows : Flows) (flow : Flow) (packet : Packet) (number : ℕ) → slot_of (keys_of flows) packet.flow ≡ Known number → flow_at flows number ≡ Some flow → joined flows packet ≡ put_at flows number (grown flow.sessions packet)
+next_known : (flows : Flows) (flow : Flow) (packet : Packet) (number : ℕ) → slot_of (flow_keys flows) packet.flow ≡ Known number → flow_at flows number ≡ Some flow → flows_with flows packet ≡ put_at flows number (grown_flow flow.sessions packet)
 next_known flows flow packet number slot is = rw (slot, is) refl
 
 -- the flows, where that of the packet is known
@@ -177,21 +177,21 @@ record Knows (kept : List (Option KeptFlow)) (flow : KeptFlow) (packet : Packet)
   known : Flow
   keeps : KeepsFlow flow known
   fault : flow_fault flows packet at ≡ length_fault known.sessions packet at
-  next : joined flows packet ≡ slice_set flows number (Some (grown known.sessions packet))
+  next : flows_with flows packet ≡ slice_set flows number (Some (grown_flow known.sessions packet))
 
 put_within : {X : Type 0} (xs : List (Option X)) (place : ℕ) (x : X) → place < length xs → put_at xs place x ≡ slice_set xs place (Some x)
 put_within xs place x within = (let yes : nat_lt place (length xs) ≡ true = grind (arith, nat_tests) in rw yes refl)
 
 knows : (kept : List (Option KeptFlow)) (flow : KeptFlow) (packet : Packet) (number at : ℕ) (flows : Flows) → slot_of (kept_keys kept) packet.flow ≡ Known number → get_or kept number None ≡ Some flow → number < length kept → KeepsFlows kept flows → Knows kept flow packet number at flows
 knows kept flow packet number at flows slot is within pairs =
-    let slot_is : slot_of (keys_of flows) packet.flow ≡ Known number = ap (λ (keys : Keys). slot_of keys packet.flow) (sym (keys_same kept flows pairs)) ∙ slot in
+    let slot_is : slot_of (flow_keys flows) packet.flow ≡ Known number = ap (λ (keys : Keys). slot_of keys packet.flow) (sym (keys_same kept flows pairs)) ∙ slot in
     let found = is_some_flow flow (get_or flows number None) (subst (λ (o : Option KeptFlow). BothOrNone KeepsFlow o (get_or flows number None)) is (pairs_at kept flows number pairs)) in
     let inside : number < length flows = omega (arith, within, pairs_length (BothOrNone KeepsFlow) kept flows pairs) in
     record {
       known = found.0;
       keeps = found.1.1;
       fault = fault_known flows found.0 packet number at slot_is found.1.0;
-      next = next_known flows found.0 packet number slot_is found.1.0 ∙ put_within flows number (grown found.0.sessions packet) inside;
+      next = next_known flows found.0 packet number slot_is found.1.0 ∙ put_within flows number (grown_flow found.0.sessions packet) inside;
     }
 
 both_same : (kept : Option KeptFlow) (known : Option Flow) (flow next : KeptFlow) → kept ≡ Some flow → BothOrNone KeepsFlow kept known → ((other : Flow) → KeepsFlow flow other → KeepsFlow next other) → BothOrNone KeepsFlow (Some next) known
@@ -207,13 +207,13 @@ put_same (k ∷ kept) (known ∷ flows) flow next zero is pairs other = (both_sa
 put_same (k ∷ kept) (known ∷ flows) flow next (suc number) is pairs other = (pairs.0, put_same kept flows flow next number is pairs.1 other)
 
 pub flows_known : (kept new : List (Option KeptFlow)) (flow : KeptFlow) (packet : Packet) (number at : ℕ) (result : Result ⊤ (NotTaken PcapFault)) → slot_of (kept_keys kept) packet.flow ≡ Known number → get_or kept number None ≡ Some flow → flow.key ≡ packet.flow → number < length kept
-    → GoesOn number packet at kept new result → MeetsFlows packet at kept new result
+    → MeetsFlow number packet at kept new result → MeetsFlows packet at kept new result
 flows_known kept new flow packet number at (Ok u) slot is key within goes_on = λ flows pairs.
     let k = knows kept flow packet number at flows slot is within pairs in
     let gone = goes_on flow is in
     let met = gone.1.2 k.known.sessions k.keeps.sessions in (
       k.fault ∙ met.0,
-      rw (gone.1.0, k.next) (pairs_set (BothOrNone KeepsFlow) kept flows number (Some gone.0) (Some (grown k.known.sessions packet)) pairs (record { key = gone.1.1 ∙ key; sessions = met.1 })),
+      rw (gone.1.0, k.next) (pairs_set (BothOrNone KeepsFlow) kept flows number (Some gone.0) (Some (grown_flow k.known.sessions packet)) pairs (record { key = gone.1.1 ∙ key; sessions = met.1 })),
     )
 flows_known kept new flow packet number at (Err (Fault fault)) slot is key within goes_on = λ flows pairs.
     let k = knows kept flow packet number at flows slot is within pairs in
@@ -241,17 +241,17 @@ pairs_put kept flows number k flow pairs here =
           (pairs_append (BothOrNone KeepsFlow) (replicate (number - length kept) None) (Some k ∷ []) (replicate (number - length kept) None) (Some flow ∷ []) (pairs_none (number - length kept)) (here, tt)))
     ]
 
-slot_same : (kept : List (Option KeptFlow)) (flows : Flows) (packet : Packet) (slot : Slot) → KeepsFlows kept flows → slot_of (kept_keys kept) packet.flow ≡ slot → slot_of (keys_of flows) packet.flow ≡ slot
+slot_same : (kept : List (Option KeptFlow)) (flows : Flows) (packet : Packet) (slot : Slot) → KeepsFlows kept flows → slot_of (kept_keys kept) packet.flow ≡ slot → slot_of (flow_keys flows) packet.flow ≡ slot
 slot_same kept flows packet slot pairs is = ap (λ (keys : Keys). slot_of keys packet.flow) (sym (keys_same kept flows pairs)) ∙ is
 
-pub flows_new : (kept new : List (Option KeptFlow)) (packet : Packet) (number at : ℕ) (result : Result ⊤ (NotTaken PcapFault)) → slot_of (kept_keys kept) packet.flow ≡ New number → Begins number packet kept new result → MeetsFlows packet at kept new result
+pub flows_new : (kept new : List (Option KeptFlow)) (packet : Packet) (number at : ℕ) (result : Result ⊤ (NotTaken PcapFault)) → slot_of (kept_keys kept) packet.flow ≡ New number → BeginsFlow number packet kept new result → MeetsFlows packet at kept new result
 flows_new kept new packet number at (Ok u) slot begun = λ flows pairs.
-    let is : slot_of (keys_of flows) packet.flow ≡ New number = slot_same kept flows packet (New number) pairs slot in
-    (rw is refl, rw (begun.1.0, is) (pairs_put kept flows number begun.0 (grown [] packet) pairs begun.1.1))
+    let is : slot_of (flow_keys flows) packet.flow ≡ New number = slot_same kept flows packet (New number) pairs slot in
+    (rw is refl, rw (begun.1.0, is) (pairs_put kept flows number begun.0 (grown_flow [] packet) pairs begun.1.1))
 flows_new kept new packet number at (Err (Fault fault)) slot begun = absurd begun
 flows_new kept new packet number at (Err NoMemory) slot begun = λ flows pairs. rw begun pairs
 
 pub flows_full : (kept : List (Option KeptFlow)) (packet : Packet) (at : ℕ) → slot_of (kept_keys kept) packet.flow ≡ Full → MeetsFlows packet at kept kept (Err (Fault (FlowCount at)))
 flows_full kept packet at slot = λ flows pairs.
-    let is : slot_of (keys_of flows) packet.flow ≡ Full = slot_same kept flows packet Full pairs slot in
+    let is : slot_of (flow_keys flows) packet.flow ≡ Full = slot_same kept flows packet Full pairs slot in
     (rw is refl, pairs)

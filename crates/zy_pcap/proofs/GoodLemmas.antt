@@ -12,19 +12,19 @@ use Rattle.zy_pcap.specs.declared.slot.Slot.{Slot}
 use Rattle.zy_pcap.specs.declared.slot.Slot.TheVariants.{Known, New, Full}
 use Rattle.zy_pcap.specs.Packet.{Packet}
 use Rattle.zy_pcap.specs.Kept.{IsNumber}
-use Rattle.zy_pcap.specs.Flow.{Flows, Keys, group_of, is_same, slot_from, slot_of, keys_of, put_at, grown, joined_at, joined, flow_at, sessions_in, flows_after, flows_of, streams_of, streams_in}
+use Rattle.zy_pcap.specs.Flow.{Flows, Keys, group_of_flow, is_same_flow, slot_from, slot_of, flow_keys, put_at, grown_flow, joined_at, flows_with, flow_at, sessions_in, flows_after, flows_of, streams_of_flows, streams_of_flow}
 use Rattle.zy_pcap.specs.Made.{segments_of, session_records, connection_records, records_from, capture_of, pcap_capture}
 
 -- ---- connection numbers
 
-here_by : (keys : Keys) (key other : List ℕ) (number left : ℕ) (same : Bool) → slice_index_or keys number None ≡ Some other → is_same other key ≡ same → number < 4096 → IsNumber (slot_from keys key (number + 128) left)
+here_by : (keys : Keys) (key other : List ℕ) (number left : ℕ) (same : Bool) → slice_index_or keys number None ≡ Some other → is_same_flow other key ≡ same → number < 4096 → IsNumber (slot_from keys key (number + 128) left)
     → IsNumber (slot_from keys key number (suc left))
 here_by keys key other number left true there is low rest = rw (there, slot_from) (rw is low)
 here_by keys key other number left false there is low rest = rw (there, slot_from) (rw is rest)
 
 number_by : (keys : Keys) (key : List ℕ) (number left : ℕ) (found : Option (List ℕ)) → slice_index_or keys number None ≡ found → number < 4096 → IsNumber (slot_from keys key (number + 128) left) → IsNumber (slot_from keys key number (suc left))
 number_by keys key number left None is low rest = rw (is, slot_from) low
-number_by keys key number left (Some other) is low rest = here_by keys key other number left (is_same other key) is refl low rest
+number_by keys key number left (Some other) is low rest = here_by keys key other number left (is_same_flow other key) is refl low rest
 
 number_within : (keys : Keys) (key : List ℕ) (number left : ℕ) → number + 128 * left < 4224 → IsNumber (slot_from keys key number left)
 number_within keys key number zero low = tt
@@ -33,7 +33,7 @@ number_within keys key number (suc left) low =
 
 slot_within : (keys : Keys) (key : List ℕ) → IsNumber (slot_of keys key)
 unfolding slot_of
-slot_within keys key = number_within keys key (group_of key) 32 (omega arith)
+slot_within keys key = number_within keys key (group_of_flow key) 32 (omega arith)
 
 -- ---- the count
 
@@ -51,13 +51,13 @@ put_few xs place x few low =
     ]
 
 joined_few : (slot : Slot) (flows : Flows) (packet : Packet) → IsNumber slot → length flows ≤ 4096 → length (joined_at slot flows packet) ≤ 4096
-joined_few (Known number) flows packet low few = put_few flows number (grown (sessions_in (flow_at flows number)) packet) few low
-joined_few (New number) flows packet low few = put_few flows number (grown [] packet) few low
+joined_few (Known number) flows packet low few = put_few flows number (grown_flow (sessions_in (flow_at flows number)) packet) few low
+joined_few (New number) flows packet low few = put_few flows number (grown_flow [] packet) few low
 joined_few Full flows packet low few = few
 
 after_few : (flows : Flows) (packets : List Packet) → length flows ≤ 4096 → length (flows_after flows packets) ≤ 4096
 after_few flows [] few = few
-after_few flows (packet ∷ packets) few = after_few (joined flows packet) packets (joined_few (slot_of (keys_of flows) packet.flow) flows packet (slot_within (keys_of flows) packet.flow) few)
+after_few flows (packet ∷ packets) few = after_few (flows_with flows packet) packets (joined_few (slot_of (flow_keys flows) packet.flow) flows packet (slot_within (flow_keys flows) packet.flow) few)
 
 flows_few : (packets : List Packet) → length (flows_of packets) ≤ 4096
 unfolding flows_of
@@ -91,12 +91,12 @@ records_lawful count conn (sessions ∷ streams) within =
 -- ---- the capture
 
 pub capture_spells : (packets : List Packet) → length (pcap_capture packets) ≤ capture_limit
-    → Spells (pcap_capture packets) 2 (length (streams_of (flows_of packets))) (records_from 0 (streams_of (flows_of packets)))
+    → Spells (pcap_capture packets) 2 (length (streams_of_flows (flows_of packets))) (records_from 0 (streams_of_flows (flows_of packets)))
 unfolding capture_of
 capture_spells packets short =
-    let streams : List (List (List ℕ)) = streams_of (flows_of packets) in
+    let streams : List (List (List ℕ)) = streams_of_flows (flows_of packets) in
     record {
-      valid = record { known = inr refl; few = omega (arith, flows_few packets, length-map (flows_of packets) streams_in); lawful = records_lawful (length streams) 0 streams (omega arith) };
+      valid = record { known = inr refl; few = omega (arith, flows_few packets, length-map (flows_of packets) streams_of_flow); lawful = records_lawful (length streams) 0 streams (omega arith) };
       spelled = refl;
       short = short;
     }

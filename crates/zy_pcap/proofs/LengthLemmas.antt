@@ -5,8 +5,8 @@ use Rattle.zy_capture.specs.declared.record.Record.{Record}
 use Rattle.zy_capture.specs.declared.record.Record.TheVariants as Kinds
 use Rattle.zy_capture.specs.Capture.{spelled, spelling, segment_limit}
 use Rattle.zy_pcap.specs.Packet.{Packet}
-use Rattle.zy_pcap.specs.Session.{Session, stream}
-use Rattle.zy_pcap.specs.Flow.{Flows, sessions_in, streams_in, streams_of, flows_of}
+use Rattle.zy_pcap.specs.Session.{Session, session_stream}
+use Rattle.zy_pcap.specs.Flow.{Flows, sessions_in, streams_of_flow, streams_of_flows, flows_of}
 use Rattle.zy_pcap.specs.Made.{segments_of, session_records, connection_records, records_from, capture_of, pcap_capture}
 use Rattle.zy_pcap.specs.Sizes.{payload_bytes}
 use Rattle.zy_pcap.proofs.CountLemmas.{stream_few}
@@ -64,28 +64,28 @@ added : (packets : List Packet) → payload_bytes packets + 9 * packets_cost seg
 added [] = omega arith
 added (packet ∷ packets) = omega (arith, added packets)
 
-session_few : (conn : ℕ) (session : Session) → length (flat_map spelled (session_records conn (stream session))) ≤ packets_cost segment_bytes session.packets
+session_few : (conn : ℕ) (session : Session) → length (flat_map spelled (session_records conn (session_stream session))) ≤ packets_cost segment_bytes session.packets
 session_few conn session =
-    let few : length (stream session) ≤ payload_bytes session.packets = stream_few session.first session.packets in
-    let most : length (stream session) ≤ 65535 * packets_cost segments_for session.packets = omega (arith, few, payloads_fit session.packets) in
-    omega (arith, few, added session.packets, segments_few conn (length (stream session)) (stream session) (packets_cost segments_for session.packets) most)
+    let few : length (session_stream session) ≤ payload_bytes session.packets = stream_few session.first session.packets in
+    let most : length (session_stream session) ≤ 65535 * packets_cost segments_for session.packets = omega (arith, few, payloads_fit session.packets) in
+    omega (arith, few, added session.packets, segments_few conn (length (session_stream session)) (session_stream session) (packets_cost segments_for session.packets) most)
 
 close_on : (conn : ℕ) (more : List Record) → length (flat_map spelled (Kinds.Close conn ∷ more)) ≡ 5 + length (flat_map spelled more)
 close_on conn more = omega arith
 
-connection_few : (conn : ℕ) (sessions : List Session) → length (flat_map spelled (connection_records conn (map stream sessions))) ≤ sessions_cost 5 segment_bytes sessions
+connection_few : (conn : ℕ) (sessions : List Session) → length (flat_map spelled (connection_records conn (map session_stream sessions))) ≤ sessions_cost 5 segment_bytes sessions
 connection_few conn [] = omega arith
 connection_few conn (session ∷ []) = omega (arith, session_few conn session)
 connection_few conn (session ∷ next ∷ sessions) =
-    let rest : List Record = connection_records conn (map stream (next ∷ sessions)) in
-    omega (arith, flat_length (session_records conn (stream session)) (Kinds.Close conn ∷ rest), close_on conn rest, session_few conn session, connection_few conn (next ∷ sessions))
+    let rest : List Record = connection_records conn (map session_stream (next ∷ sessions)) in
+    omega (arith, flat_length (session_records conn (session_stream session)) (Kinds.Close conn ∷ rest), close_on conn rest, session_few conn session, connection_few conn (next ∷ sessions))
 
 -- ---- the capture
 
-records_few : (conn : ℕ) (flows : Flows) → length (flat_map spelled (records_from conn (streams_of flows))) ≤ flows_cost 5 segment_bytes flows
+records_few : (conn : ℕ) (flows : Flows) → length (flat_map spelled (records_from conn (streams_of_flows flows))) ≤ flows_cost 5 segment_bytes flows
 records_few conn [] = omega arith
 records_few conn (flow ∷ flows) =
-    omega (arith, flat_length (connection_records conn (streams_in flow)) (records_from (conn + 1) (streams_of flows)), connection_few conn (sessions_in flow), records_few (conn + 1) flows)
+    omega (arith, flat_length (connection_records conn (streams_of_flow flow)) (records_from (conn + 1) (streams_of_flows flows)), connection_few conn (sessions_in flow), records_few (conn + 1) flows)
 
 spelling_length : (count : ℕ) (items : List Record) → length (spelling 2 count items) ≡ 13 + length (flat_map spelled items)
 unfolding spelling
@@ -98,4 +98,4 @@ capture_bytes packet = 5 + segment_bytes packet
 pub capture_few : (packets : List Packet) → length (pcap_capture packets) ≤ 13 + packets_cost capture_bytes packets
 unfolding capture_of
 capture_few packets =
-    omega (arith, spelling_length (length (streams_of (flows_of packets))) (records_from 0 (streams_of (flows_of packets))), records_few 0 (flows_of packets), flows_few 5 segment_bytes packets)
+    omega (arith, spelling_length (length (streams_of_flows (flows_of packets))) (records_from 0 (streams_of_flows (flows_of packets))), records_few 0 (flows_of packets), flows_few 5 segment_bytes packets)

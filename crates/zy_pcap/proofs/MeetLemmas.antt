@@ -9,18 +9,18 @@ use Rattle.zy_pcap.specs.declared.pcap_fault.PcapFault.TheVariants.{FlowLength}
 use Rattle.zy_pcap.specs.declared.judged.Segment.{Segment}
 use Rattle.zy_pcap.specs.declared.kept_session.KeptSession.{KeptSession}
 use Rattle.zy_pcap.specs.Packet.{Packet, packet_with}
-use Rattle.zy_pcap.specs.Session.{Session, number_after, first_number, reaches, byte_of, first_of, byte_at, begun_by}
-use Rattle.zy_pcap.specs.Chunk.{Held, byte_held, covered, HoldsSame, HoldsBoth}
+use Rattle.zy_pcap.specs.Session.{Session, number_after, first_number, reaches, byte_of, byte_or_other, byte_at, session_begun_by}
+use Rattle.zy_pcap.specs.Chunk.{HeldBytes, byte_held, covered, HoldsSame, HoldsBoth}
 use Rattle.zy_pcap.specs.Kept.{KeepsSession, Adds, MeetsSession, apart, session_next}
 use Rattle.zy_pcap.proofs.ChunkLemmas.{first_none, first_assoc}
 use Rattle.zy_pcap.proofs.SessionLemmas.{start, near_ends, before_ends, far_reaches, byte_near, byte_before, none_covered}
 
 -- ---- one further packet
 
-byte_at_last : (first : Packet) (packets : List Packet) (packet : Packet) (at : ℕ) → byte_at first (packets ++ packet ∷ []) at ≡ first_of (byte_at first packets at) (byte_of first packet at)
+byte_at_last : (first : Packet) (packets : List Packet) (packet : Packet) (at : ℕ) → byte_at first (packets ++ packet ∷ []) at ≡ byte_or_other (byte_at first packets at) (byte_of first packet at)
 byte_at_last first [] packet at = first_none (byte_of first packet at)
 byte_at_last first (other ∷ packets) packet at =
-    ap (first_of (byte_of first other at)) (byte_at_last first packets packet at)
+    ap (byte_or_other (byte_of first other at)) (byte_at_last first packets packet at)
     ∙ sym (first_assoc (byte_of first other at) (byte_at first packets at) (byte_of first packet at))
 
 -- what was added is what the packet has
@@ -29,8 +29,8 @@ added_keeps : (old new : KeptSession) (session : Session) (packet : Packet) (mor
 added_keeps old new session packet more keeps sequence syn both same = record {
   sequence = sequence ∙ keeps.sequence;
   syn = syn ∙ keeps.syn;
-  bytes = λ at low. both at ∙ ap (λ (b : Option ℕ). first_of b (more at)) (keeps.bytes at low)
-      ∙ ap (first_of (byte_at session.first session.packets at)) (sym (same at low))
+  bytes = λ at low. both at ∙ ap (λ (b : Option ℕ). byte_or_other b (more at)) (keeps.bytes at low)
+      ∙ ap (byte_or_other (byte_at session.first session.packets at)) (sym (same at low))
       ∙ sym (byte_at_last session.first session.packets packet at);
 }
 
@@ -75,13 +75,13 @@ meets_before old new segment payload bytes at offset (Err NoMemory) same before 
 pub meets_nothing : (old : KeptSession) (segment : Segment) (payload : List ℕ) (at offset : ℕ) → offset ≡ start_by old segment → 2 ^ 31 ≤ offset → length payload < 65536 → length payload ≤ 2 ^ 32 - offset → MeetsSession (packet_with segment payload) at old old (Ok tt)
 meets_nothing old segment payload at offset same before few all =
     let none : drop (2 ^ 32 - offset) payload ≡ [] = drop_all (2 ^ 32 - offset) payload all in
-    meets_before old old segment payload [] at offset (Ok tt) same before few (sym none) (refl, refl, λ d. sym (ap (first_of (byte_held old.bytes d)) (none_covered 0 d) ∙ first_none (byte_held old.bytes d)))
+    meets_before old old segment payload [] at offset (Ok tt) same before few (sym none) (refl, refl, λ d. sym (ap (byte_or_other (byte_held old.bytes d)) (none_covered 0 d) ∙ first_none (byte_held old.bytes d)))
 
 -- there is no payload
 pub meets_empty : (old : KeptSession) (segment : Segment) (payload : List ℕ) (at : ℕ) → length payload ≡ 0 → MeetsSession (packet_with segment payload) at old old (Ok tt)
 meets_empty old segment (byte ∷ payload) at none = absurd (omega (arith, none))
 meets_empty old segment [] at none = λ session keeps.
-    (refl, added_keeps old old session (packet_with segment []) (covered [] 0) keeps refl refl (λ d. sym (ap (first_of (byte_held old.bytes d)) (none_covered 0 d) ∙ first_none (byte_held old.bytes d))) (λ d low. sym (none_covered 0 d)))
+    (refl, added_keeps old old session (packet_with segment []) (covered [] 0) keeps refl refl (λ d. sym (ap (byte_or_other (byte_held old.bytes d)) (none_covered 0 d) ∙ first_none (byte_held old.bytes d))) (λ d low. sym (none_covered 0 d)))
 
 pub meets_far : (old : KeptSession) (segment : Segment) (payload : List ℕ) (at offset : ℕ) → offset ≡ start_by old segment → offset < 2 ^ 31 → 0 < length payload → 2 ^ 30 < offset + length payload → MeetsSession (packet_with segment payload) at old old (Err (Fault (FlowLength at)))
 meets_far old segment payload at offset same low some far = λ session keeps.
@@ -96,15 +96,15 @@ apart_same n few = (let whole : n + (2 ^ 32 - n) ≡ 2 ^ 32 = omega (arith, few)
 start_zero : (packet : Packet) → start packet packet ≡ 0
 start_zero packet = apart_same (first_number packet) (omega arith)
 
-pub begun_keeps : (segment : Segment) (payload : List ℕ) (old new : Held) → length payload < 65536 → ((at : ℕ) → byte_held old at ≡ None) → HoldsBoth (byte_held old) (byte_held new) (covered payload 0)
-    → KeepsSession (record { sequence = segment.sequence; is_syn = segment.is_syn; bytes = new }) (begun_by (packet_with segment payload))
+pub begun_keeps : (segment : Segment) (payload : List ℕ) (old new : HeldBytes) → length payload < 65536 → ((at : ℕ) → byte_held old at ≡ None) → HoldsBoth (byte_held old) (byte_held new) (covered payload 0)
+    → KeepsSession (record { sequence = segment.sequence; is_syn = segment.is_syn; bytes = new }) (session_begun_by (packet_with segment payload))
 begun_keeps segment payload old new few none both =
     let packet : Packet = packet_with segment payload in
     let zero_is : start packet packet ≡ 0 = start_zero packet in
     record {
       sequence = refl;
       syn = refl;
-      bytes = λ at low. both at ∙ ap (λ (b : Option ℕ). first_of b (covered payload 0 at)) (none at)
+      bytes = λ at low. both at ∙ ap (λ (b : Option ℕ). byte_or_other b (covered payload 0 at)) (none at)
           ∙ ap (λ (n : ℕ). covered payload n at) (sym zero_is) ∙ sym (byte_near packet packet at (omega (arith, zero_is, few)))
           ∙ sym (first_none (byte_of packet packet at));
     }

@@ -3,8 +3,8 @@ use Rattle.std.proofs.Common.{◌≡◌, ℕ, zero, suc, ◌+◌, ◌^◌, ◌<�
 use Rattle.std.specs.Prelude.{Option, Some, None}
 use Rattle.zy_pcap.specs.declared.kept_session.KeptSession.{KeptSession}
 use Rattle.zy_pcap.specs.declared.kept_flow.KeptFlow.{KeptFlow}
-use Rattle.zy_pcap.specs.Session.{Session, byte_at, longest_from, longest, stream}
-use Rattle.zy_pcap.specs.Flow.{Flow, Flows, streams_in, streams_of}
+use Rattle.zy_pcap.specs.Session.{Session, byte_at, longest_from, longest, session_stream}
+use Rattle.zy_pcap.specs.Flow.{Flow, Flows, streams_of_flow, streams_of_flows}
 use Rattle.zy_pcap.specs.Pairs.{BothOrNone, AllPairs}
 use Rattle.zy_pcap.specs.Chunk.{byte_held}
 use Rattle.zy_pcap.specs.Kept.{KeepsSession, KeepsFlow, KeepsFlows}
@@ -25,30 +25,30 @@ pub same_longest : (f g : ℕ → Option ℕ) → ((d : ℕ) → f d ≡ g d) �
 unfolding longest
 same_longest f g same = longest_same f g 0 (2 ^ 31) (λ d low. same d)
 
-stream_same : (kept : KeptSession) (session : Session) → KeepsSession kept session → kept_stream kept ≡ stream session
+stream_same : (kept : KeptSession) (session : Session) → KeepsSession kept session → kept_stream kept ≡ session_stream session
 unfolding longest
 stream_same kept session keeps = longest_same (byte_held kept.bytes) (byte_at session.first session.packets) 0 (2 ^ 31) (λ d low. keeps.bytes d (omega (arith, low)))
 
-sessions_same : (kept : List KeptSession) (sessions : List Session) → AllPairs KeepsSession kept sessions → map kept_stream kept ≡ map stream sessions
+sessions_same : (kept : List KeptSession) (sessions : List Session) → AllPairs KeepsSession kept sessions → map kept_stream kept ≡ map session_stream sessions
 sessions_same [] [] pairs = refl
 sessions_same [] (session ∷ sessions) pairs = absurd pairs
 sessions_same (k ∷ kept) [] pairs = absurd pairs
 sessions_same (k ∷ kept) (session ∷ sessions) pairs =
-    ap (λ (s : List ℕ). s ∷ map kept_stream kept) (stream_same k session pairs.0) ∙ ap (λ (l : List (List ℕ)). stream session ∷ l) (sessions_same kept sessions pairs.1)
+    ap (λ (s : List ℕ). s ∷ map kept_stream kept) (stream_same k session pairs.0) ∙ ap (λ (l : List (List ℕ)). session_stream session ∷ l) (sessions_same kept sessions pairs.1)
 
-flow_same : (kept : Option KeptFlow) (flow : Option Flow) → BothOrNone KeepsFlow kept flow → streams_by kept ≡ streams_in flow
+flow_same : (kept : Option KeptFlow) (flow : Option Flow) → BothOrNone KeepsFlow kept flow → streams_by kept ≡ streams_of_flow flow
 flow_same None None both = refl
 flow_same None (Some flow) both = absurd both
 flow_same (Some kept) None both = absurd both
 flow_same (Some kept) (Some flow) both = sessions_same kept.sessions.items flow.sessions both.sessions
 
-pub streams_same : (kept : List (Option KeptFlow)) (flows : Flows) → KeepsFlows kept flows → kept_streams kept ≡ streams_of flows
+pub streams_same : (kept : List (Option KeptFlow)) (flows : Flows) → KeepsFlows kept flows → kept_streams kept ≡ streams_of_flows flows
 unfolding kept_streams
 streams_same [] [] pairs = refl
 streams_same [] (flow ∷ flows) pairs = absurd pairs
 streams_same (k ∷ kept) [] pairs = absurd pairs
 streams_same (k ∷ kept) (flow ∷ flows) pairs =
-    ap (λ (s : List (List ℕ)). s ∷ kept_streams kept) (flow_same k flow pairs.0) ∙ ap (λ (l : List (List (List ℕ))). streams_in flow ∷ l) (streams_same kept flows pairs.1)
+    ap (λ (s : List (List ℕ)). s ∷ kept_streams kept) (flow_same k flow pairs.0) ∙ ap (λ (l : List (List (List ℕ))). streams_of_flow flow ∷ l) (streams_same kept flows pairs.1)
 
 pub streams_length : (kept : List (Option KeptFlow)) → length (kept_streams kept) ≡ length kept
 unfolding kept_streams

@@ -6,13 +6,13 @@ use Rattle.std.proofs.lemmas.Grind.{flat_map-append}
 use Rattle.std.proofs.lemmas.List.{append-nil, length-drop}
 use Rattle.zy_capture.specs.declared.record.Record.{Record}
 use Rattle.zy_capture.specs.declared.record.Record.TheVariants as Kinds
-use Rattle.zy_capture.specs.Capture.{segment_limit, magic, spelled, spelling}
+use Rattle.zy_capture.specs.Capture.{segment_limit, capture_magic, spelled, spelling}
 use Rattle.zy_capture.specs.Replies.{numbered_from}
 use Rattle.zy_pcap.specs.declared.kept_flow.KeptFlow.{KeptFlow}
 use Rattle.zy_pcap.specs.Session.{longest_from, longest}
 use Rattle.zy_pcap.specs.Made.{capture_of, segments_of, session_records, connection_records, records_from}
 use Rattle.zy_pcap.specs.Streams.{kept_stream, streams_by, kept_streams}
-use Rattle.zy_pcap.specs.Texts.{start_text, close_text, head_text, segment_text, stream_text, session_text, kept_connection}
+use Rattle.zy_pcap.specs.Texts.{start_text, close_text, segment_head, segment_text, stream_text, text_of_session, kept_connection}
 use Rattle.zy_pcap.proofs.StreamLemmas.{streams_length}
 use Rattle.zy_pcap.proofs.RunLemmas.{few_from, longer, nothing_there, Segment, segment_taken}
 
@@ -46,14 +46,14 @@ unfolding stream_text
 stream_none conn = refl
 
 -- a segment is its beginning and its bytes
-pub segment_is : (conn : ℕ) (bytes : List ℕ) → head_text conn (length bytes) ++ bytes ≡ segment_text conn bytes
-unfolding head_text segment_text
+pub segment_is : (conn : ℕ) (bytes : List ℕ) → segment_head conn (length bytes) ++ bytes ≡ segment_text conn bytes
+unfolding segment_head segment_text
 segment_is conn bytes = refl
 
 -- ---- sessions
 
 later : (conn number : ℕ) (session : List ℕ) (sessions : List (List ℕ))
-    → flat_map spelled (Kinds.Close conn ∷ connection_records conn (session ∷ sessions)) ≡ numbered_from (session_text conn) (suc number) (session ∷ sessions)
+    → flat_map spelled (Kinds.Close conn ∷ connection_records conn (session ∷ sessions)) ≡ numbered_from (text_of_session conn) (suc number) (session ∷ sessions)
 unfolding stream_text close_text
 later conn number session [] = sym (append-nil (spelled (Kinds.Close conn) ++ flat_map spelled (session_records conn session)))
 later conn number session (next ∷ sessions) =
@@ -61,10 +61,10 @@ later conn number session (next ∷ sessions) =
     let here : List ℕ = flat_map spelled (session_records conn session) in
     ap (λ (l : List ℕ). close ++ l) (flat_map-append spelled (session_records conn session) (Kinds.Close conn ∷ connection_records conn (next ∷ sessions))
     ∙ ap (λ (l : List ℕ). here ++ l) (later conn (suc number) next sessions))
-    ∙ sym (append_assoc close here (numbered_from (session_text conn) (suc (suc number)) (next ∷ sessions)))
-    ∙ ap (λ (n : ℕ). (close ++ here) ++ numbered_from (session_text conn) n (next ∷ sessions)) (sym (add-one (suc number)))
+    ∙ sym (append_assoc close here (numbered_from (text_of_session conn) (suc (suc number)) (next ∷ sessions)))
+    ∙ ap (λ (n : ℕ). (close ++ here) ++ numbered_from (text_of_session conn) n (next ∷ sessions)) (sym (add-one (suc number)))
 
-pub connection_is : (conn : ℕ) (sessions : List (List ℕ)) → flat_map spelled (connection_records conn sessions) ≡ numbered_from (session_text conn) 0 sessions
+pub connection_is : (conn : ℕ) (sessions : List (List ℕ)) → flat_map spelled (connection_records conn sessions) ≡ numbered_from (text_of_session conn) 0 sessions
 unfolding stream_text close_text
 connection_is conn [] = refl
 connection_is conn (session ∷ []) = sym (append-nil (flat_map spelled (session_records conn session)))
@@ -73,11 +73,11 @@ connection_is conn (session ∷ next ∷ sessions) =
     ∙ ap (λ (l : List ℕ). flat_map spelled (session_records conn session) ++ l) (later conn 0 next sessions)
 
 -- by the number of a session
-pub first_session : (conn number : ℕ) (stream : List ℕ) → number ≡ 0 → session_text conn number stream ≡ stream_text conn stream
+pub first_session : (conn number : ℕ) (stream : List ℕ) → number ≡ 0 → text_of_session conn number stream ≡ stream_text conn stream
 first_session conn zero stream is = refl
 first_session conn (suc number) stream is = absurd (omega (arith, is))
 
-pub later_session : (conn number : ℕ) (stream : List ℕ) → (number ≡ 0 → ⊥) → session_text conn number stream ≡ close_text conn ++ stream_text conn stream
+pub later_session : (conn number : ℕ) (stream : List ℕ) → (number ≡ 0 → ⊥) → text_of_session conn number stream ≡ close_text conn ++ stream_text conn stream
 later_session conn zero stream other = absurd (other refl)
 later_session conn (suc number) stream other = refl
 
@@ -91,7 +91,7 @@ numbered_made text made number (x ∷ xs) = ap (λ (l : List ℕ). text number (
 flow_is : (conn : ℕ) (flow : Option KeptFlow) → kept_connection conn flow ≡ flat_map spelled (connection_records conn (streams_by flow))
 flow_is conn None = refl
 flow_is conn (Some flow) =
-    numbered_made (session_text conn) kept_stream 0 flow.sessions.items ∙ sym (connection_is conn (map kept_stream flow.sessions.items))
+    numbered_made (text_of_session conn) kept_stream 0 flow.sessions.items ∙ sym (connection_is conn (map kept_stream flow.sessions.items))
 
 -- the records of all connections, as they are written
 pub records_are : (number : ℕ) (flows : List (Option KeptFlow)) → numbered_from kept_connection number flows ≡ flat_map spelled (records_from number (kept_streams flows))
@@ -108,9 +108,9 @@ pub capture_is : (flows : List (Option KeptFlow)) → start_text (length flows) 
 unfolding start_text capture_of spelling
 capture_is flows =
     let records : List ℕ = flat_map spelled (records_from 0 (kept_streams flows)) in
-    append_assoc (magic 2) (to_be_bytes w32 (length flows)) (numbered_from kept_connection 0 flows ++ 69 ∷ [])
-    ∙ ap (λ (l : List ℕ). magic 2 ++ to_be_bytes w32 (length flows) ++ l ++ 69 ∷ []) (records_are 0 flows)
-    ∙ ap (λ (n : ℕ). magic 2 ++ to_be_bytes w32 n ++ records ++ 69 ∷ []) (sym (streams_length flows))
+    append_assoc (capture_magic 2) (to_be_bytes w32 (length flows)) (numbered_from kept_connection 0 flows ++ 69 ∷ [])
+    ∙ ap (λ (l : List ℕ). capture_magic 2 ++ to_be_bytes w32 (length flows) ++ l ++ 69 ∷ []) (records_are 0 flows)
+    ∙ ap (λ (n : ℕ). capture_magic 2 ++ to_be_bytes w32 n ++ records ++ 69 ∷ []) (sym (streams_length flows))
 
 pub capture_written : (flows : List (Option KeptFlow)) (streams : List (List (List ℕ))) (count : ℕ) → kept_streams flows ≡ streams → count ≡ length streams → start_text count ++ (numbered_from kept_connection 0 flows ++ 69 ∷ []) ≡ capture_of streams
 capture_written flows streams count are is =

@@ -5,8 +5,8 @@ use Rattle.zy_pcap.specs.Packet.{Packet}
 use Rattle.zy_pcap.specs.Session.{byte_of, byte_at, longest}
 
 -- the stream of these packets, in a session that began with the first one
-abbrev pub stream_of : Packet → List Packet → List ℕ
-stream_of first packets = longest (byte_at first packets)
+abbrev pub stream_of_packets : Packet → List Packet → List ℕ
+stream_of_packets first packets = longest (byte_at first packets)
 
 -- where the packet has a byte, one of the others has one, of whatever value
 abbrev pub IsCovered : Packet → List Packet → Packet → Type 0

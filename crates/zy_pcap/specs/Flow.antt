@@ -9,7 +9,7 @@ use Rattle.zy_pcap.specs.declared.pcap_fault.PcapFault.TheVariants.{FlowCount, F
 use Rattle.zy_pcap.specs.declared.slot.Slot.{Slot}
 use Rattle.zy_pcap.specs.declared.slot.Slot.TheVariants.{Known, New, Full}
 use Rattle.zy_pcap.specs.Packet.{Packet}
-use Rattle.zy_pcap.specs.Session.{Session, with_packet, current, first_by, reaches, stream}
+use Rattle.zy_pcap.specs.Session.{Session, with_packet, current, first_by, reaches, session_stream}
 
 -- ---- flows
 
@@ -43,12 +43,12 @@ abbrev pub group_limit : ℕ
 group_limit = 32
 
 -- the group of a flow
-abbrev pub group_of : List ℕ → ℕ
-group_of key = toeplitz key % group_count
+abbrev pub group_of_flow : List ℕ → ℕ
+group_of_flow key = toeplitz key % group_count
 
 -- two flows are the same
-abbrev pub is_same : List ℕ → List ℕ → Bool
-is_same key other = pointwise nat_eq key other
+abbrev pub is_same_flow : List ℕ → List ℕ → Bool
+is_same_flow key other = pointwise nat_eq key other
 
 -- the flow to which each number was given
 abbrev pub Keys : Type 0
@@ -61,12 +61,12 @@ slot_from keys key number zero = Full
 slot_from keys key number (suc left) =
     elim (slice_index_or keys number None) [
       | None ↦ New number
-      | Some other ↦ if is_same other key then Known number else slot_from keys key (number + group_count) left
+      | Some other ↦ if is_same_flow other key then Known number else slot_from keys key (number + group_count) left
     ]
 
 -- the connection number of a flow
 unfoldable pub slot_of : Keys → List ℕ → Slot
-slot_of keys key = slot_from keys key (group_of key) group_limit
+slot_of keys key = slot_from keys key (group_of_flow key) group_limit
 
 -- the key of a flow
 abbrev pub key_in : Option Flow → Option (List ℕ)
@@ -74,8 +74,8 @@ key_in None = None
 key_in (Some flow) = Some flow.key
 
 -- the flow to which each number was given
-abbrev pub keys_of : Flows → Keys
-keys_of flows = map key_in flows
+abbrev pub flow_keys : Flows → Keys
+flow_keys flows = map key_in flows
 
 -- ---- one further packet
 
@@ -86,18 +86,18 @@ put_at xs place x =
     else xs ++ (replicate (place - length xs) None ++ Some x ∷ [])
 
 -- the flow of a packet with this further packet
-abbrev pub grown : List Session → Packet → Flow
-grown sessions packet = record { key = packet.flow; sessions = with_packet sessions packet }
+abbrev pub grown_flow : List Session → Packet → Flow
+grown_flow sessions packet = record { key = packet.flow; sessions = with_packet sessions packet }
 
 -- the flows with a further packet, whose flow has this number
 abbrev pub joined_at : Slot → Flows → Packet → Flows
-joined_at (Known number) flows packet = put_at flows number (grown (sessions_in (flow_at flows number)) packet)
-joined_at (New number) flows packet = put_at flows number (grown [] packet)
+joined_at (Known number) flows packet = put_at flows number (grown_flow (sessions_in (flow_at flows number)) packet)
+joined_at (New number) flows packet = put_at flows number (grown_flow [] packet)
 joined_at Full flows packet = flows
 
 -- the flows with a further packet
-abbrev pub joined : Flows → Packet → Flows
-joined flows packet = joined_at (slot_of (keys_of flows) packet.flow) flows packet
+abbrev pub flows_with : Flows → Packet → Flows
+flows_with flows packet = joined_at (slot_of (flow_keys flows) packet.flow) flows packet
 
 -- the fault of a packet whose record is at a place, after these sessions of its flow
 abbrev pub length_fault : List Session → Packet → ℕ → Option PcapFault
@@ -113,12 +113,12 @@ flow_fault_at Full flows packet at = Some (FlowCount at)
 
 -- the fault of a packet after some others
 abbrev pub flow_fault : Flows → Packet → ℕ → Option PcapFault
-flow_fault flows packet at = flow_fault_at (slot_of (keys_of flows) packet.flow) flows packet at
+flow_fault flows packet at = flow_fault_at (slot_of (flow_keys flows) packet.flow) flows packet at
 
 -- the flows after further packets
 abbrev pub flows_after : Flows → List Packet → Flows
 flows_after flows [] = flows
-flows_after flows (packet ∷ packets) = flows_after (joined flows packet) packets
+flows_after flows (packet ∷ packets) = flows_after (flows_with flows packet) packets
 
 -- the flows of some packets; their number is the greatest number given plus one, or 0
 unfoldable pub flows_of : List Packet → Flows
@@ -127,9 +127,9 @@ flows_of packets = flows_after [] packets
 -- ---- streams
 
 -- the streams of a connection's sessions
-abbrev pub streams_in : Option Flow → List (List ℕ)
-streams_in flow = map stream (sessions_in flow)
+abbrev pub streams_of_flow : Option Flow → List (List ℕ)
+streams_of_flow flow = map session_stream (sessions_in flow)
 
 -- the streams of all connections
-abbrev pub streams_of : Flows → List (List (List ℕ))
-streams_of flows = map streams_in flows
+abbrev pub streams_of_flows : Flows → List (List (List ℕ))
+streams_of_flows flows = map streams_of_flow flows

@@ -58,8 +58,8 @@ abbrev pub flow_at : List ℕ → List ℕ
 flow_at frame = take 8 (drop 26 frame) ++ take 4 (drop (tcp frame) frame)
 
 -- the packet of a frame
-abbrev pub segment : List ℕ → Segment
-segment frame =
+abbrev pub segment_in : List ℕ → Segment
+segment_in frame =
     record {
       flow = flow_at frame;
       sequence = number_at frame (tcp frame + 4);
@@ -73,9 +73,9 @@ abbrev pub judge_payload : ℕ → List ℕ → Judged
 judge_payload at frame =
     if nat_lt (tcp_size frame) 20 then Refused (Short at)
     else if nat_lt (total frame) (ip_size frame + tcp_size frame) then Refused (Short at)
-    else if payload_size frame == 0 then (if is_syn frame then Taken (segment frame) else Passed)
+    else if payload_size frame == 0 then (if is_syn frame then Taken (segment_in frame) else Passed)
     else if nat_lt (length frame) (ip + total frame) then Refused (Missing at)
-    else Taken (segment frame)
+    else Taken (segment_in frame)
 
 -- an IP packet that has TCP and is no fragment, by its port
 abbrev pub judge_tcp : ℕ → ℕ → List ℕ → Judged

@@ -12,8 +12,8 @@ use Rattle.zy_pcap.specs.declared.slot.Slot.{Slot}
 use Rattle.zy_pcap.specs.declared.slot.Slot.TheVariants.{Known, New, Full}
 use Rattle.zy_pcap.specs.declared.kept_flow.KeptFlow.{KeptFlow}
 use Rattle.zy_pcap.specs.Packet.{Packet}
-use Rattle.zy_pcap.specs.Session.{Session, reaches, byte_at, begun_by, with_packet}
-use Rattle.zy_pcap.specs.Flow.{Flow, Flows, Keys, put_at, grown, length_fault, flow_fault, joined}
+use Rattle.zy_pcap.specs.Session.{Session, reaches, byte_at, session_begun_by, with_packet}
+use Rattle.zy_pcap.specs.Flow.{Flow, Flows, Keys, put_at, grown_flow, length_fault, flow_fault, flows_with}
 use Rattle.zy_pcap.specs.Chunk.{byte_held, covered, HoldsSame, HoldsBoth}
 use Rattle.zy_pcap.specs.Pairs.{BothOrNone, AllPairs}
 
@@ -95,7 +95,7 @@ MeetsSession packet at old new result =
 -- a packet began a session, or memory was refused
 abbrev pub BeginsSession : Packet → List KeptSession → List KeptSession → Result ⊤ (NotTaken PcapFault) → Type 0
 BeginsSession packet old new (Ok u) =
-    (kept : KeptSession) × ((new ≡ old ++ kept ∷ []) × KeepsSession kept (begun_by packet))
+    (kept : KeptSession) × ((new ≡ old ++ kept ∷ []) × KeepsSession kept (session_begun_by packet))
 BeginsSession packet old new (Err (Fault fault)) = ⊥
 BeginsSession packet old new (Err NoMemory) = new ≡ old
 
@@ -110,7 +110,7 @@ MeetsSessions packet at old new result =
 abbrev pub MeetsFlows : Packet → ℕ → List (Option KeptFlow) → List (Option KeptFlow) → Result ⊤ (NotTaken PcapFault)
     → Type 0
 MeetsFlows packet at old new result =
-    MeetsAs KeepsFlows (λ flows. flow_fault flows packet at) (λ flows. joined flows packet) old new result
+    MeetsAs KeepsFlows (λ flows. flow_fault flows packet at) (λ flows. flows_with flows packet) old new result
 
 -- ---- connection numbers
 
@@ -127,17 +127,17 @@ IsHolder flows key (New number) = slice_index_or (kept_keys flows) number None �
 IsHolder flows key Full = ⊤
 
 -- a packet comes to the flow of a number, and all others are as they were
-abbrev pub GoesOn : ℕ → Packet → ℕ → List (Option KeptFlow) → List (Option KeptFlow) → Result ⊤ (NotTaken PcapFault)
+abbrev pub MeetsFlow : ℕ → Packet → ℕ → List (Option KeptFlow) → List (Option KeptFlow) → Result ⊤ (NotTaken PcapFault)
     → Type 0
-GoesOn number packet at old new result =
+MeetsFlow number packet at old new result =
     (flow : KeptFlow) → slice_index_or old number None ≡ Some flow
     → (next : KeptFlow) × ((new ≡ slice_set old number (Some next)) × (next.key ≡ flow.key)
     × MeetsSessions packet at flow.sessions.items next.sessions.items result)
 
 -- a flow that a packet begins has a number, or memory was refused
-abbrev pub Begins : ℕ → Packet → List (Option KeptFlow) → List (Option KeptFlow) → Result ⊤ (NotTaken PcapFault)
+abbrev pub BeginsFlow : ℕ → Packet → List (Option KeptFlow) → List (Option KeptFlow) → Result ⊤ (NotTaken PcapFault)
     → Type 0
-Begins number packet old new (Ok u) =
-    (flow : KeptFlow) × ((new ≡ put_at old number flow) × KeepsFlow flow (grown [] packet))
-Begins number packet old new (Err (Fault fault)) = ⊥
-Begins number packet old new (Err NoMemory) = new ≡ old
+BeginsFlow number packet old new (Ok u) =
+    (flow : KeptFlow) × ((new ≡ put_at old number flow) × KeepsFlow flow (grown_flow [] packet))
+BeginsFlow number packet old new (Err (Fault fault)) = ⊥
+BeginsFlow number packet old new (Err NoMemory) = new ≡ old

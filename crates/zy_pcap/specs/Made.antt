@@ -6,7 +6,7 @@ use Rattle.zy_capture.specs.Capture.{segment_limit, spelling}
 use Rattle.zy_capture.specs.Verdict.{Verdict}
 use Rattle.zy_capture.specs.Verdict.Verdict.{Good}
 use Rattle.zy_pcap.specs.Packet.{Packet}
-use Rattle.zy_pcap.specs.Flow.{flows_of, streams_of}
+use Rattle.zy_pcap.specs.Flow.{flows_of, streams_of_flows}
 
 -- ---- records
 
@@ -42,8 +42,9 @@ capture_of streams = spelling 2 (length streams) (records_from 0 streams)
 
 -- the capture of some packets
 abbrev pub pcap_capture : List Packet → List ℕ
-pcap_capture packets = capture_of (streams_of (flows_of packets))
+pcap_capture packets = capture_of (streams_of_flows (flows_of packets))
 
 -- the verdict on it, where it is good: its version, the number of connections, and the records of their streams
 abbrev pub pcap_verdict : List Packet → Verdict
-pcap_verdict packets = Good 2 (length (streams_of (flows_of packets))) (records_from 0 (streams_of (flows_of packets)))
+pcap_verdict packets =
+    Good 2 (length (streams_of_flows (flows_of packets))) (records_from 0 (streams_of_flows (flows_of packets)))

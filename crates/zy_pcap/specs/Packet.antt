@@ -27,6 +27,6 @@ abbrev pub packet_in : List ℕ → Segment → Packet
 packet_in frame segment = packet_with segment (slice_range frame segment.begin (segment.begin + segment.size))
 
 -- the payload of a packet is within its frame, and has at most 65,535 bytes
-abbrev pub IsHeld : List ℕ → Judged → Type 0
-IsHeld frame (Taken segment) = (segment.begin + segment.size ≤ length frame) × (segment.size < 65536)
-IsHeld frame judged = ⊤
+abbrev pub IsCarried : List ℕ → Judged → Type 0
+IsCarried frame (Taken segment) = (segment.begin + segment.size ≤ length frame) × (segment.size < 65536)
+IsCarried frame judged = ⊤

@@ -11,8 +11,8 @@ pub record Session : Type 0 where
   pub packets : List Packet
 
 -- the session that a packet begins
-abbrev pub begun_by : Packet → Session
-begun_by packet = record { first = packet; packets = packet ∷ [] }
+abbrev pub session_begun_by : Packet → Session
+session_begun_by packet = record { first = packet; packets = packet ∷ [] }
 
 -- a SYN packet begins a new session where the current one began without SYN, or with another sequence number
 abbrev pub begins : Packet → Packet → Bool
@@ -29,9 +29,9 @@ first_by (Some session) packet = if begins session.first packet then packet else
 
 -- the sessions with one further packet, where this is the current one
 abbrev pub sessions_by : Option Session → List Session → Packet → List Session
-sessions_by None sessions packet = sessions ++ begun_by packet ∷ []
+sessions_by None sessions packet = sessions ++ session_begun_by packet ∷ []
 sessions_by (Some session) sessions packet =
-    if begins session.first packet then sessions ++ begun_by packet ∷ []
+    if begins session.first packet then sessions ++ session_begun_by packet ∷ []
     else slice_set sessions (length sessions - 1) (record session { packets = session.packets ++ packet ∷ [] })
 
 -- the sessions of a flow with one further packet
@@ -78,14 +78,14 @@ abbrev pub byte_of : Packet → Packet → ℕ → Option ℕ
 byte_of first packet at = byte_from first packet 0 packet.payload at
 
 -- the first one if it exists, otherwise the second one
-abbrev pub first_of : Option ℕ → Option ℕ → Option ℕ
-first_of None other = other
-first_of (Some byte) other = Some byte
+abbrev pub byte_or_other : Option ℕ → Option ℕ → Option ℕ
+byte_or_other None other = other
+byte_or_other (Some byte) other = Some byte
 
 -- the byte at an offset, of the first one of some packets that has it
 abbrev pub byte_at : Packet → List Packet → ℕ → Option ℕ
 byte_at first [] at = None
-byte_at first (packet ∷ packets) at = first_of (byte_of first packet at) (byte_at first packets at)
+byte_at first (packet ∷ packets) at = byte_or_other (byte_of first packet at) (byte_at first packets at)
 
 -- the bytes from an offset on, up to the first one that is missing, and at most `count`
 abbrev pub longest_from : (ℕ → Option ℕ) → ℕ → ℕ → List ℕ
@@ -98,5 +98,5 @@ unfoldable pub longest : (ℕ → Option ℕ) → List ℕ
 longest byte = longest_from byte 0 (2 ^ 31)
 
 -- the stream of a session
-abbrev pub stream : Session → List ℕ
-stream session = longest (byte_at session.first session.packets)
+abbrev pub session_stream : Session → List ℕ
+session_stream session = longest (byte_at session.first session.packets)

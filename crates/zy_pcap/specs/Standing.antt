@@ -4,39 +4,39 @@ use Rattle.zy_read.specs.declared.not_taken.NotTaken.{NotTaken}
 use Rattle.zy_read.specs.declared.not_taken.NotTaken.TheVariants.{Fault, NoMemory}
 use Rattle.zy_pcap.specs.declared.pcap_fault.PcapFault.{PcapFault}
 use Rattle.zy_pcap.specs.declared.kept_flow.KeptFlow.{KeptFlow}
-use Rattle.zy_pcap.specs.Steps.{Place}
-use Rattle.zy_pcap.specs.Flow.{flows_of, streams_of}
-use Rattle.zy_pcap.specs.Packets.{Found, read, packets, fault_met}
-use Rattle.zy_pcap.specs.Packets.Found.{Packets, Bad}
+use Rattle.zy_pcap.specs.Steps.{FilePlace}
+use Rattle.zy_pcap.specs.Flow.{flows_of, streams_of_flows}
+use Rattle.zy_pcap.specs.Packets.{FoundPackets, read, packets, file_fault_met}
+use Rattle.zy_pcap.specs.Packets.FoundPackets.{Packets, Bad}
 use Rattle.zy_pcap.specs.Kept.{KeepsFlows}
 
 -- a reader: its port, how far it is, and what it keeps
-pub record Reading : Type 0 where
+pub record PcapReading : Type 0 where
   pub port : ℕ
-  pub place : Place
+  pub place : FilePlace
   pub kept : List (Option KeptFlow)
 
 -- these bytes were fed, one after another
-unfoldable pub StandsFor : Reading → List ℕ → Type 0
-StandsFor r fed = (r.place ≡ (read r.port fed).place) × KeepsFlows r.kept (flows_of (read r.port fed).packets)
+unfoldable pub StandsForFile : PcapReading → List ℕ → Type 0
+StandsForFile r fed = (r.place ≡ (read r.port fed).place) × KeepsFlows r.kept (flows_of (read r.port fed).packets)
 
 -- whatever bytes led to the old reader, these further bytes lead to the new one
-abbrev pub Feeds : Reading → Reading → List ℕ → Type 0
-Feeds old new bytes = (b : List ℕ) → StandsFor old b → StandsFor new (b ++ bytes)
+abbrev pub FeedsFile : PcapReading → PcapReading → List ℕ → Type 0
+FeedsFile old new bytes = (b : List ℕ) → StandsForFile old b → StandsForFile new (b ++ bytes)
 
 -- after these further bytes, this is the fault that was met
-abbrev pub Meets : Reading → List ℕ → Option PcapFault → Type 0
-Meets old bytes fault = (b : List ℕ) → StandsFor old b → fault_met old.port (b ++ bytes) ≡ fault
+abbrev pub Meets : PcapReading → List ℕ → Option PcapFault → Type 0
+Meets old bytes fault = (b : List ℕ) → StandsForFile old b → file_fault_met old.port (b ++ bytes) ≡ fault
 
 -- after these further bytes, this is the fault of every longer file
-abbrev pub Lasts : Reading → List ℕ → PcapFault → Type 0
+abbrev pub Lasts : PcapReading → List ℕ → PcapFault → Type 0
 Lasts old bytes fault =
-    (b more : List ℕ) → StandsFor old b → packets old.port (b ++ (bytes ++ more)) ≡ Bad fault
+    (b more : List ℕ) → StandsForFile old b → packets old.port (b ++ (bytes ++ more)) ≡ Bad fault
 
 -- the bytes were fed; none of them if memory was refused
-abbrev pub FeedsAs : Reading → Reading → List ℕ → Result ⊤ (NotTaken PcapFault) → Type 0
-FeedsAs old new bytes (Err NoMemory) = Feeds old new []
-FeedsAs old new bytes answer = Feeds old new bytes
+abbrev pub FeedsFileAs : PcapReading → PcapReading → List ℕ → Result ⊤ (NotTaken PcapFault) → Type 0
+FeedsFileAs old new bytes (Err NoMemory) = FeedsFile old new []
+FeedsFileAs old new bytes answer = FeedsFile old new bytes
 
 -- the number of bytes taken, when the byte after `before` others was refused
 abbrev pub taken_before : ℕ → NotTaken PcapFault → ℕ
@@ -44,22 +44,22 @@ taken_before before (Fault fault) = before + 1
 taken_before before NoMemory = before
 
 -- the answer is the fault that was met
-abbrev pub TellsFault : Reading → List ℕ → Result ⊤ (NotTaken PcapFault) → Type 0
-TellsFault old bytes (Ok u) = Meets old bytes None
-TellsFault old bytes (Err (Fault fault)) = Meets old bytes (Some fault)
-TellsFault old bytes (Err NoMemory) = ⊤
+abbrev pub TellsFileFault : PcapReading → List ℕ → Result ⊤ (NotTaken PcapFault) → Type 0
+TellsFileFault old bytes (Ok u) = Meets old bytes None
+TellsFileFault old bytes (Err (Fault fault)) = Meets old bytes (Some fault)
+TellsFileFault old bytes (Err NoMemory) = ⊤
 
 -- a fault that an answer reports lasts
-abbrev pub TellsLasting : Reading → List ℕ → Result ⊤ (NotTaken PcapFault) → Type 0
-TellsLasting old bytes (Err (Fault fault)) = Lasts old bytes fault
-TellsLasting old bytes answer = ⊤
+abbrev pub TellsLastingFault : PcapReading → List ℕ → Result ⊤ (NotTaken PcapFault) → Type 0
+TellsLastingFault old bytes (Err (Fault fault)) = Lasts old bytes fault
+TellsLastingFault old bytes answer = ⊤
 
 -- an answer at the end of a file is its streams, or its first fault
-abbrev pub FinishesAs : Found → Result (List (List (List ℕ))) PcapFault → Type 0
-FinishesAs (Packets given) (Ok streams) = streams ≡ streams_of (flows_of given)
+abbrev pub FinishesAs : FoundPackets → Result (List (List (List ℕ))) PcapFault → Type 0
+FinishesAs (Packets given) (Ok streams) = streams ≡ streams_of_flows (flows_of given)
 FinishesAs (Bad fault) (Err met) = met ≡ fault
 FinishesAs found answer = ⊥
 
 -- the answer at the end of the bytes that were fed
-abbrev pub FinishesBy : Reading → Result (List (List (List ℕ))) PcapFault → Type 0
-FinishesBy r answer = (b : List ℕ) → StandsFor r b → FinishesAs (packets r.port b) answer
+abbrev pub FinishesBy : PcapReading → Result (List (List (List ℕ))) PcapFault → Type 0
+FinishesBy r answer = (b : List ℕ) → StandsForFile r b → FinishesAs (packets r.port b) answer

@@ -18,8 +18,8 @@ unfoldable pub close_text : ℕ → List ℕ
 close_text conn = spelled (Kinds.Close conn)
 
 -- the beginning of a segment, with its length
-unfoldable pub head_text : ℕ → ℕ → List ℕ
-head_text conn size = 83 ∷ (to_be_bytes w32 conn ++ to_be_bytes w32 size)
+unfoldable pub segment_head : ℕ → ℕ → List ℕ
+segment_head conn size = 83 ∷ (to_be_bytes w32 conn ++ to_be_bytes w32 size)
 
 -- a segment
 unfoldable pub segment_text : ℕ → List ℕ → List ℕ
@@ -30,13 +30,13 @@ unfoldable pub stream_text : ℕ → List ℕ → List ℕ
 stream_text conn bytes = flat_map spelled (session_records conn bytes)
 
 -- a session of this number, after a close record where it is not the first one
-abbrev pub session_text : ℕ → ℕ → List ℕ → List ℕ
-session_text conn zero bytes = stream_text conn bytes
-session_text conn (suc number) bytes = close_text conn ++ stream_text conn bytes
+abbrev pub text_of_session : ℕ → ℕ → List ℕ → List ℕ
+text_of_session conn zero bytes = stream_text conn bytes
+text_of_session conn (suc number) bytes = close_text conn ++ stream_text conn bytes
 
 -- the same of a session that is kept
 abbrev pub kept_text : ℕ → ℕ → KeptSession → List ℕ
-kept_text conn number session = session_text conn number (kept_stream session)
+kept_text conn number session = text_of_session conn number (kept_stream session)
 
 -- the sessions of a connection's flow
 abbrev pub kept_connection : ℕ → Option KeptFlow → List ℕ

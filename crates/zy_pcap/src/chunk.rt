@@ -1,6 +1,6 @@
 //! Some of 64 bytes.
 ghost use Rattle.std.specs.Prelude.{◌≡◌, ℕ, ◌+◌, ◌<◌, ◌≤◌, None, length, true};
-ghost use Rattle.zy_pcap.specs.Chunk.{byte_in, covered, alone, HoldsBoth, AreThere};
+ghost use Rattle.zy_pcap.specs.Chunk.{byte_in, covered, lone_byte, HoldsBoth, AreThere};
 
 /// Some of 64 bytes: bit i of `have` says whether byte i is there.
 #[derive(Clone, Copy)]
@@ -24,7 +24,7 @@ impl Chunk {
     // A byte is there, the one that was there or else this one.
     pub(crate) fn put(&mut self, place: usize, byte: u8)
         requires within { place < 64 }
-        ensures value { HoldsBoth (byte_in self.old) (byte_in self.new) (alone place byte) }
+        ensures value { HoldsBoth (byte_in self.old) (byte_in self.new) (lone_byte place byte) }
     {
         if (self.have >> place) % 2 == 0 {
             self.have |= 1 << place;

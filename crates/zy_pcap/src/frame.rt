@@ -1,7 +1,7 @@
 //! What a frame is, by its headers.
 ghost use Rattle.std.specs.Prelude.{◌≡◌, ◌+◌, ◌<◌, ◌≤◌, length, slice_index, IsTrue};
 ghost use Rattle.zy_pcap.specs.Frame as frames;
-ghost use Rattle.zy_pcap.specs.Packet.{IsHeld};
+ghost use Rattle.zy_pcap.specs.Packet.{IsCarried};
 
 use crate::judged::{Judged, Segment};
 use crate::pcap_fault::PcapFault;
@@ -12,7 +12,7 @@ const IP: usize = 14;
 #[tactic(auto, unfolding(crate::specs::Frame::judge))]
 pub(crate) fn judge(port: u16, at: u64, frame: &[u8]) -> Judged
     ensures value { result ≡ frames.judge port at frame.now }
-    ensures held { IsHeld frame.now result }
+    ensures held { IsCarried frame.now result }
 {
     if frame.len() < IP {
         return Judged::Refused(PcapFault::Short { at });
@@ -44,7 +44,7 @@ fn number_at(frame: &[u8], at: usize) -> u32
 // An IPv6 packet.
 fn judge_ipv6(port: u16, at: u64, frame: &[u8]) -> Judged
     ensures value { result ≡ frames.judge_ipv6 port at frame.now }
-    ensures held { IsHeld frame.now result }
+    ensures held { IsCarried frame.now result }
 {
     if frame.len() >= 58 && frame[20] == 6 && short_at(frame, 56) == port {
         Judged::Refused(PcapFault::Ipv6 { at })
@@ -56,7 +56,7 @@ fn judge_ipv6(port: u16, at: u64, frame: &[u8]) -> Judged
 // An IP packet.
 fn judge_ip(port: u16, at: u64, frame: &[u8]) -> Judged
     ensures value { result ≡ frames.judge_ip port at frame.now }
-    ensures held { IsHeld frame.now result }
+    ensures held { IsCarried frame.now result }
 {
     if frame.len() < IP + 20 || frame[IP] / 16 != 4 || frame[IP] % 16 < 5 {
         return Judged::Refused(PcapFault::Short { at });
@@ -74,7 +74,7 @@ fn judge_ip(port: u16, at: u64, frame: &[u8]) -> Judged
 fn judge_tcp(port: u16, at: u64, frame: &[u8]) -> Judged
     requires header { frames.ip + 20 ≤ length frame.now }
     ensures value { result ≡ frames.judge_tcp port at frame.now }
-    ensures held { IsHeld frame.now result }
+    ensures held { IsCarried frame.now result }
 {
     let size = (frame[IP] % 16) as usize * 4;
     if (short_at(frame, IP + 2) as usize) < size + 20 || frame.len() < IP + size + 20 {
@@ -90,7 +90,7 @@ fn judge_tcp(port: u16, at: u64, frame: &[u8]) -> Judged
 fn judge_payload(at: u64, frame: &[u8]) -> Judged
     requires header { frames.tcp frame.now + 20 ≤ length frame.now }
     ensures value { result ≡ frames.judge_payload at frame.now }
-    ensures held { IsHeld frame.now result }
+    ensures held { IsCarried frame.now result }
 {
     let total = short_at(frame, IP + 2) as usize;
     let before = (frame[IP] % 16) as usize * 4;

@@ -3,7 +3,7 @@ ghost use Rattle.std.specs.Prelude.{◌≡◌, ℕ, ◌+◌, ◌/◌, ◌%◌, �
 ghost use Rattle.std.specs.Prelude.{OnErr};
 ghost use Rattle.std.specs.BTreeMap.{get};
 ghost use Rattle.std.specs.Ordering.{nat_cmp};
-ghost use Rattle.zy_pcap.specs.Chunk.{held, covered, HoldsSame, HoldsBoth, HoldsFrom, AreThere, HasChunks, KeepsChunks};
+ghost use Rattle.zy_pcap.specs.Chunk.{held_at, covered, HoldsSame, HoldsBoth, HoldsFrom, AreThere, HasChunks, KeepsChunks};
 
 use crate::chunk::Chunk;
 use std::alloc::Global;
@@ -18,9 +18,9 @@ pub(crate) struct KeptBytes {
 
 impl KeptBytes {
     // No bytes. Takes no memory.
-    #[tactic(auto, unfolding(crate::specs::Chunk::held_in))]
+    #[tactic(auto, unfolding(crate::specs::Chunk::byte_in_chunks))]
     pub(crate) fn new(alloc: Global) -> KeptBytes
-        ensures none { (at : ℕ) → held result.chunks at ≡ None }
+        ensures none { (at : ℕ) → held_at result.chunks at ≡ None }
     {
         KeptBytes {
             chunks: BTreeMap::new(alloc),
@@ -31,9 +31,9 @@ impl KeptBytes {
     // as before.
     pub(crate) fn add(&mut self, from: u32, bytes: &[u8]) -> Result<(), NoMemory>
         requires within { from + length bytes.now ≤ 2 ^ 31 }
-        ensures ok { OnOk result (HoldsBoth (held self.old.chunks) (held self.new.chunks)
+        ensures ok { OnOk result (HoldsBoth (held_at self.old.chunks) (held_at self.new.chunks)
             (covered bytes.now from)) }
-        ensures err { OnErr result (HoldsSame (held self.old.chunks) (held self.new.chunks)) }
+        ensures err { OnErr result (HoldsSame (held_at self.old.chunks) (held_at self.new.chunks)) }
     {
         let end = from + bytes.len() as u32;
         if let Err(refused) = self.make_room(from / 64, end.div_ceil(64)) {
@@ -46,7 +46,7 @@ impl KeptBytes {
     // There are all chunks from the first number to before the second one.
     fn make_room(&mut self, first: u32, end: u32) -> Result<(), NoMemory>
         requires end { end < 2 ^ 26 }
-        ensures same { HoldsSame (held self.old.chunks) (held self.new.chunks) }
+        ensures same { HoldsSame (held_at self.old.chunks) (held_at self.new.chunks) }
         ensures ok { OnOk result (HasChunks self.new.chunks first end) }
     {
         for number in first..end {
@@ -59,7 +59,7 @@ impl KeptBytes {
 
     // There is a chunk.
     fn make_chunk(&mut self, number: u32) -> Result<(), NoMemory>
-        ensures same { HoldsSame (held self.old.chunks) (held self.new.chunks) }
+        ensures same { HoldsSame (held_at self.old.chunks) (held_at self.new.chunks) }
         ensures kept { KeepsChunks self.old.chunks self.new.chunks }
         ensures ok { OnOk result (IsSome (get nat_cmp self.new.chunks number)) }
     {
@@ -76,7 +76,7 @@ impl KeptBytes {
     fn fill(&mut self, from: u32, bytes: &[u8])
         requires within { from + length bytes.now ≤ 2 ^ 31 }
         requires room { HasChunks self.old.chunks (from / 64) ((from + length bytes.now + 63) / 64) }
-        ensures value { HoldsBoth (held self.old.chunks) (held self.new.chunks)
+        ensures value { HoldsBoth (held_at self.old.chunks) (held_at self.new.chunks)
             (covered bytes.now from) }
     {
         let mut done = 0;
@@ -93,7 +93,7 @@ impl KeptBytes {
         requires within { from < 2 ^ 31 }
         requires fits { from % 64 + length bytes.now ≤ 64 }
         requires some { IsSome (get nat_cmp self.old.chunks (from / 64)) }
-        ensures value { HoldsBoth (held self.old.chunks) (held self.new.chunks)
+        ensures value { HoldsBoth (held_at self.old.chunks) (held_at self.new.chunks)
             (covered bytes.now from) }
         ensures kept { KeepsChunks self.old.chunks self.new.chunks }
     {
@@ -113,8 +113,8 @@ impl KeptBytes {
     // Some bytes that are there from an offset on, in a row.
     pub(crate) fn part(&self, at: usize) -> &[u8]
         requires within { at < 2 ^ 31 }
-        ensures there { AreThere (held self.now.chunks) at result.now }
-        ensures none { length result.now ≡ 0 → held self.now.chunks at ≡ None }
+        ensures there { AreThere (held_at self.now.chunks) at result.now }
+        ensures none { length result.now ≡ 0 → held_at self.now.chunks at ≡ None }
         ensures few { length result.now ≤ 64 }
     {
         match self.chunks.get(&((at / 64) as u32)) {
@@ -127,7 +127,7 @@ impl KeptBytes {
     pub(crate) fn forget(&mut self, end: usize)
         requires some { 0 < end }
         requires within { end ≤ 2 ^ 31 }
-        ensures rest { HoldsFrom end (held self.old.chunks) (held self.new.chunks) }
+        ensures rest { HoldsFrom end (held_at self.old.chunks) (held_at self.new.chunks) }
     {
         let number = ((end - 1) / 64) as u32;
         if self.is_done(number, end) {
@@ -140,7 +140,7 @@ impl KeptBytes {
         requires some { 0 < end }
         requires number { number ≡ (end - 1) / 64 }
         ensures value { result ≡ true → (at : ℕ) → end ≤ at → at / 64 ≡ number
-            → held self.now.chunks at ≡ None }
+            → held_at self.now.chunks at ≡ None }
     {
         match self.chunks.get(&number) {
             Some(chunk) => end % 64 == 0 || chunk.is_done(end % 64),

@@ -26,7 +26,7 @@ impl KeptFlow {
     ) -> Result<KeptFlow, NoMemory>
         requires few { length payload.now < 65536 }
         ensures value { IfOk result (λ kept.
-            KeepsFlow kept (flows.grown [] (packet_with segment.now payload.now))) }
+            KeepsFlow kept (flows.grown_flow [] (packet_with segment.now payload.now))) }
     {
         let mut sessions = match Vec::with_capacity(alloc, 1) {
             Ok(sessions) => sessions,

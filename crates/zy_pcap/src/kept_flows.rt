@@ -3,7 +3,8 @@ ghost use Rattle.std.specs.Prelude.{◌≡◌, ◌+◌, ◌<◌, ◌≤◌, [], 
 ghost use Rattle.std.specs.List.{slice_index_or};
 ghost use Rattle.zy_pcap.specs.Packet.{packet_with};
 ghost use Rattle.zy_pcap.specs.Flow.{slot_of, put_at};
-ghost use Rattle.zy_pcap.specs.Kept.{MeetsFlows, GoesOn, Begins, kept_keys, IsNumber, IsHolder};
+ghost use Rattle.zy_pcap.specs.Kept.{MeetsFlows, MeetsFlow, BeginsFlow, kept_keys, IsNumber};
+ghost use Rattle.zy_pcap.specs.Kept.{IsHolder};
 
 use crate::judged::Segment;
 use crate::kept_flow::KeptFlow;
@@ -98,7 +99,7 @@ impl KeptFlows {
     ) -> Result<(), PcapFeed>
         requires few { length payload.now < 65536 }
         requires within { number < length self.old.flows.items }
-        ensures value { GoesOn number (packet_with segment.now payload.now) at
+        ensures value { MeetsFlow number (packet_with segment.now payload.now) at
             self.old.flows.items self.new.flows.items result }
         ensures limit { length self.new.flows.items ≡ length self.old.flows.items }
     {
@@ -113,7 +114,7 @@ impl KeptFlows {
         requires few { length payload.now < 65536 }
         requires limit { length self.old.flows.items ≤ 4096 }
         requires number { number < 4096 }
-        ensures value { Begins number (packet_with segment.now payload.now)
+        ensures value { BeginsFlow number (packet_with segment.now payload.now)
             self.old.flows.items self.new.flows.items result }
         ensures limit { length self.new.flows.items ≤ 4096 }
     {

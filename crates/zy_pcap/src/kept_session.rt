@@ -1,7 +1,7 @@
 //! What is kept of a session.
 ghost use Rattle.std.specs.Prelude.{◌≡◌, ◌+◌, ◌<◌, ◌≤◌, ◌^◌, length, IfOk};
 ghost use Rattle.zy_pcap.specs.Packet.{packet_with};
-ghost use Rattle.zy_pcap.specs.Session.{number_after, begun_by};
+ghost use Rattle.zy_pcap.specs.Session.{number_after, session_begun_by};
 ghost use Rattle.zy_pcap.specs.Kept.{KeepsSession, MeetsSession, Adds, apart, ends};
 
 use crate::judged::Segment;
@@ -41,7 +41,7 @@ impl KeptSession {
     ) -> Result<KeptSession, NoMemory>
         requires few { length payload.now < 65536 }
         ensures value { IfOk result (λ kept.
-            KeepsSession kept (begun_by (packet_with segment.now payload.now))) }
+            KeepsSession kept (session_begun_by (packet_with segment.now payload.now))) }
     {
         let mut bytes = KeptStream::new(alloc);
         if let Err(refused) = bytes.add(0, payload) {

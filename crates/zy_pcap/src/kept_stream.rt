@@ -20,9 +20,9 @@ pub(crate) struct KeptStream {
 }
 
 impl Model for KeptStream {
-    ghost use Rattle.zy_pcap.specs.Chunk.{Held};
+    ghost use Rattle.zy_pcap.specs.Chunk.{HeldBytes};
 
-    ghost Value = { Held };
+    ghost Value = { HeldBytes };
 
     ghost view = { λ s. record { front = s.front.items; chunks = s.rest.chunks.entries } };
 }

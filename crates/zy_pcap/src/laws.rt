@@ -4,13 +4,13 @@ ghost use Rattle.zy_capture.specs.Capture.{capture_limit};
 ghost use Rattle.zy_read.specs.Bytes.{AreBytes};
 ghost use Rattle.zy_capture.specs.Verdict.{verdict};
 ghost use Rattle.zy_capture.specs.Verdict.Verdict.{Good};
-ghost use Rattle.zy_pcap.specs.Flow.{flows_of, streams_of};
+ghost use Rattle.zy_pcap.specs.Flow.{flows_of, streams_of_flows};
 ghost use Rattle.zy_pcap.specs.declared.pcap_fault.PcapFault.TheVariants as Faults;
 ghost use Rattle.zy_pcap.specs.Packet.{Packet};
-ghost use Rattle.zy_pcap.specs.Copies.{stream_of, IsCovered, Agree};
+ghost use Rattle.zy_pcap.specs.Copies.{stream_of_packets, IsCovered, Agree};
 ghost use Rattle.zy_pcap.specs.Made.{pcap_capture, pcap_verdict, records_from};
 ghost use Rattle.zy_pcap.specs.Packets.{packets};
-ghost use Rattle.zy_pcap.specs.Packets.Found.{Packets, Bad};
+ghost use Rattle.zy_pcap.specs.Packets.FoundPackets.{Packets, Bad};
 ghost use Rattle.zy_pcap.specs.Steps.{file_limit};
 ghost use Rattle.zy_pcap.specs.Sizes.{payload_bytes, file_header, record_bytes};
 ghost use Rattle.zy_pcap.specs.Worked.{worked_file, worked_packets, worked_capture};
@@ -34,10 +34,11 @@ pub fn the_worked_faults_are_told()
 pub fn a_copy_changes_no_stream()
     ensures covered { (first packet : Packet) (before after : List Packet)
         → IsCovered first before packet
-        → stream_of first (before ++ packet ∷ after) ≡ stream_of first (before ++ after) }
+        → stream_of_packets first (before ++ packet ∷ after)
+        ≡ stream_of_packets first (before ++ after) }
     ensures copy { (first packet : Packet) (before between after : List Packet)
-        → stream_of first ((before ++ packet ∷ between) ++ packet ∷ after)
-        ≡ stream_of first ((before ++ packet ∷ between) ++ after) }
+        → stream_of_packets first ((before ++ packet ∷ between) ++ packet ∷ after)
+        ≡ stream_of_packets first ((before ++ packet ∷ between) ++ after) }
 {}
 
 /// Two packets of a session may be exchanged, where they have the same byte at each offset at which
@@ -45,8 +46,8 @@ pub fn a_copy_changes_no_stream()
 pub fn the_order_of_packets_changes_no_stream()
     ensures order { (first one other : Packet) (before after : List Packet)
         → Agree first one other
-        → stream_of first (before ++ one ∷ other ∷ after)
-        ≡ stream_of first (before ++ other ∷ one ∷ after) }
+        → stream_of_packets first (before ++ one ∷ other ∷ after)
+        ≡ stream_of_packets first (before ++ other ∷ one ∷ after) }
 {}
 
 /// The capture of recorded packets is good, where it has bytes alone and is not too long: its count is
@@ -54,8 +55,8 @@ pub fn the_order_of_packets_changes_no_stream()
 pub fn the_capture_of_packets_is_good()
     ensures good { (packets : List Packet) → AreBytes (pcap_capture packets)
         → length (pcap_capture packets) ≤ capture_limit
-        → verdict (pcap_capture packets) ≡ Good 2 (length (streams_of (flows_of packets)))
-        (records_from 0 (streams_of (flows_of packets))) }
+        → verdict (pcap_capture packets) ≡ Good 2 (length (streams_of_flows (flows_of packets)))
+        (records_from 0 (streams_of_flows (flows_of packets))) }
 {
     a_capture_is_good_exactly_where_it_is_a_spelling();
 }
@@ -63,7 +64,7 @@ pub fn the_capture_of_packets_is_good()
 /// A stream is not longer than the payloads of its packets.
 pub fn a_stream_is_no_longer_than_its_payloads()
     ensures value { (first : Packet) (packets : List Packet)
-        → length (stream_of first packets) ≤ payload_bytes packets }
+        → length (stream_of_packets first packets) ≤ payload_bytes packets }
 {}
 
 /// A file has at most 4,294,967,295 bytes, among them its header and, for each packet, the headers of

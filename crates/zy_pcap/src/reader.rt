@@ -1,8 +1,8 @@
 //! The reader of recorded packets.
 ghost use Rattle.std.specs.Prelude.{◌≡◌, ◌<◌, ◌≤◌, [], ◌∷◌, length, take, IsOk};
 ghost use Rattle.zy_pcap.specs.Steps.{file_limit};
-ghost use Rattle.zy_pcap.specs.Standing.{StandsFor, Feeds, FeedsAs, TellsFault, TellsLasting, FinishesBy};
-ghost use Rattle.zy_pcap.specs.Step.{Follows, MeetsFrame, PlaceIs};
+ghost use Rattle.zy_pcap.specs.Standing.{StandsForFile, FeedsFile, FeedsFileAs, TellsFileFault, TellsLastingFault, FinishesBy};
+ghost use Rattle.zy_pcap.specs.Step.{AnswersByte, MeetsFrame, PlaceIs};
 
 use crate::due::Due;
 use crate::fed::Fed;
@@ -26,15 +26,15 @@ pub struct PcapReader {
 
 impl Model for PcapReader {
     ghost use Rattle.std.specs.Prelude.{◌≤◌, length};
-    ghost use Rattle.zy_pcap.specs.Standing.{Reading};
-    ghost use Rattle.zy_pcap.specs.Moves.{IsPart};
+    ghost use Rattle.zy_pcap.specs.Standing.{PcapReading};
+    ghost use Rattle.zy_pcap.specs.Moves.{IsPartOfFrame};
 
-    ghost Value = { Reading };
+    ghost Value = { PcapReading };
 
     ghost view = { λ r. record { port = r.port; place = r.records; kept = r.kept.flows.items } };
 
     ghost invariant = { λ r. (length r.kept.flows.items ≤ 4096)
-        × IsPart r.records.due r.records.frame };
+        × IsPartOfFrame r.records.due r.records.frame };
 }
 
 impl PcapReader {
@@ -43,7 +43,7 @@ impl PcapReader {
     pub fn new(alloc: Global, port: u16) -> PcapReader
         requires port { 1 ≤ port }
         ensures port { result.port ≡ port }
-        ensures value { StandsFor result [] }
+        ensures value { StandsForFile result [] }
     {
         PcapReader {
             port,
@@ -57,9 +57,9 @@ impl PcapReader {
     /// After a fault each call answers that same fault. May answer `NoMemory`; then no byte was taken.
     pub fn feed(&mut self, byte: u8) -> Result<(), PcapFeed>
         ensures port { self.new.port ≡ self.old.port }
-        ensures fed { FeedsAs self.old self.new (byte ∷ []) result }
-        ensures exact { TellsFault self.old (byte ∷ []) result }
-        ensures lasts { TellsLasting self.old (byte ∷ []) result }
+        ensures fed { FeedsFileAs self.old self.new (byte ∷ []) result }
+        ensures exact { TellsFileFault self.old (byte ∷ []) result }
+        ensures lasts { TellsLastingFault self.old (byte ∷ []) result }
     {
         self.step(byte)
     }
@@ -72,9 +72,9 @@ impl PcapReader {
         ensures port { self.new.port ≡ self.old.port }
         ensures within { result.taken ≤ length bytes.now }
         ensures none { IsOk result.answer → result.taken ≡ length bytes.now }
-        ensures fed { Feeds self.old self.new (take result.taken bytes.now) }
-        ensures exact { TellsFault self.old (take result.taken bytes.now) result.answer }
-        ensures lasts { TellsLasting self.old (take result.taken bytes.now) result.answer }
+        ensures fed { FeedsFile self.old self.new (take result.taken bytes.now) }
+        ensures exact { TellsFileFault self.old (take result.taken bytes.now) result.answer }
+        ensures lasts { TellsLastingFault self.old (take result.taken bytes.now) result.answer }
     {
         let mut at = 0;
         while at < bytes.len() {
@@ -96,7 +96,7 @@ impl PcapReader {
         requires some { 0 < length bytes.now }
         ensures port { self.new.port ≡ self.old.port }
         ensures within { result < length bytes.now }
-        ensures fed { Feeds self.old self.new (take result bytes.now) }
+        ensures fed { FeedsFile self.old self.new (take result bytes.now) }
     {
         let run = self.records.room().min(bytes.len() - 1);
         self.records.append_run(&bytes[..run]);
@@ -106,7 +106,7 @@ impl PcapReader {
     // Takes the next byte.
     fn step(&mut self, byte: u8) -> Result<(), PcapFeed>
         ensures port { self.new.port ≡ self.old.port }
-        ensures value { Follows self.old self.new byte result }
+        ensures value { AnswersByte self.old self.new byte result }
     {
         let before = self.records.frame().len();
         match self.records.take(byte) {

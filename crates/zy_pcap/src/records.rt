@@ -1,7 +1,7 @@
 //! The reader of a file's header and of its records.
 ghost use Rattle.std.specs.Prelude.{◌≡◌, ◌+◌, ◌<◌, ◌≤◌, length, take};
-ghost use Rattle.zy_pcap.specs.Steps.{start, grown_by, then_record, broken, file_limit};
-ghost use Rattle.zy_pcap.specs.Moves.{IsPart, run_room};
+ghost use Rattle.zy_pcap.specs.Steps.{file_start, frame_grown, then_record, broken, file_limit};
+ghost use Rattle.zy_pcap.specs.Moves.{IsPartOfFrame, run_room};
 
 mod steps;
 
@@ -26,10 +26,10 @@ pub(crate) struct Records {
 
 impl Model for Records {
     ghost use Rattle.std.specs.Prelude.{◌≤◌, vec_capacity};
-    ghost use Rattle.zy_pcap.specs.Steps.{Place, file_limit};
-    ghost use Rattle.zy_pcap.specs.Moves.{IsWithin};
+    ghost use Rattle.zy_pcap.specs.Steps.{FilePlace, file_limit};
+    ghost use Rattle.zy_pcap.specs.Moves.{IsWithinFrame};
 
-    ghost Value = { Place };
+    ghost Value = { FilePlace };
 
     ghost view = { λ r. record {
       due = r.due;
@@ -41,13 +41,13 @@ impl Model for Records {
     } };
 
     ghost invariant = { λ r. (r.at ≤ file_limit)
-        × IsWithin r.due r.frame.items (vec_capacity r.frame) };
+        × IsWithinFrame r.due r.frame.items (vec_capacity r.frame) };
 }
 
 impl Records {
     // No byte was read. Takes no memory.
     pub(crate) fn new(alloc: Global) -> Records
-        ensures value { result ≡ start }
+        ensures value { result ≡ file_start }
     {
         Records {
             due: Due::Magic,
@@ -116,7 +116,7 @@ impl Records {
 
     // How many bytes of a frame come next, apart from its last one; 0 where none is due.
     pub(crate) fn room(&self) -> usize
-        requires part { IsPart self.now.due self.now.frame }
+        requires part { IsPartOfFrame self.now.due self.now.frame }
         ensures value { result ≤ run_room self.now }
     {
         match self.due {
@@ -131,8 +131,9 @@ impl Records {
     // Takes bytes of a frame, and not its last one; or none.
     pub(crate) fn append_run(&mut self, bytes: &[u8])
         requires fits { length bytes.now ≤ run_room self.old }
-        ensures value { self.new ≡ grown_by self.old bytes.now }
-        ensures part { IsPart self.old.due self.old.frame → IsPart self.new.due self.new.frame }
+        ensures value { self.new ≡ frame_grown self.old bytes.now }
+        ensures part { IsPartOfFrame self.old.due self.old.frame
+            → IsPartOfFrame self.new.due self.new.frame }
     {
         let _ = self.frame.extend_from_slice(bytes);
         self.at += bytes.len() as u64;

@@ -1,6 +1,6 @@
 //! The bytes of a number in either order.
 ghost use Rattle.std.specs.Prelude.{◌≡◌, ◌<◌, [], ◌∷◌, ◌++◌, length};
-ghost use Rattle.zy_pcap.specs.Steps.{number_in};
+ghost use Rattle.zy_pcap.specs.Steps.{ordered_number};
 
 use std::marker::Model;
 
@@ -59,7 +59,7 @@ impl Word {
     // The number, this byte being its last.
     pub(crate) fn number(&self, byte: u8, is_big: bool) -> u32
         requires whole { length self.now ≡ 3 }
-        ensures value { result ≡ number_in is_big (self.now ++ byte ∷ []) }
+        ensures value { result ≡ ordered_number is_big (self.now ++ byte ∷ []) }
     {
         let bytes = [self.bytes[0], self.bytes[1], self.bytes[2], byte];
         if is_big {

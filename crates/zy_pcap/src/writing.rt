@@ -5,7 +5,7 @@ ghost use Rattle.zy_capture.specs.Replies.{numbered_from};
 ghost use Rattle.zy_pcap.specs.Session.{longest_from, longest};
 ghost use Rattle.zy_pcap.specs.Chunk.{byte_held};
 ghost use Rattle.zy_pcap.specs.Made.{capture_of};
-ghost use Rattle.zy_pcap.specs.Texts.{start_text, close_text, head_text, segment_text, stream_text, session_text};
+ghost use Rattle.zy_pcap.specs.Texts.{start_text, close_text, segment_head, segment_text, stream_text, text_of_session};
 ghost use Rattle.zy_pcap.specs.Texts.{kept_text, kept_connection};
 
 use crate::flows::Flows;
@@ -82,7 +82,7 @@ fn write_session<K: Sink>(
     stream: &KeptStream,
 ) -> Result<(), Failed>
     ensures writes { Writes K.holds K.faults K.finishes sink.old sink.new result
-        (session_text conn session (longest (byte_held stream.now))) }
+        (text_of_session conn session (longest (byte_held stream.now))) }
 {
     if session == 0 {
         return write_stream(sink, conn, stream);
@@ -135,9 +135,9 @@ fn write_segment<K: Sink>(
 }
 
 // The beginning of a segment.
-#[tactic(auto, unfolding(crate::specs::Texts::head_text))]
+#[tactic(auto, unfolding(crate::specs::Texts::segment_head))]
 fn write_head<K: Sink>(sink: &mut K, conn: u32, size: u32) -> Result<(), Failed>
-    ensures writes { Writes K.holds K.faults K.finishes sink.old sink.new result (head_text conn size) }
+    ensures writes { Writes K.holds K.faults K.finishes sink.old sink.new result (segment_head conn size) }
 {
     let number = conn.to_be_bytes();
     let length = size.to_be_bytes();

@@ -8,7 +8,7 @@ use Rattle.zy_base.specs.Order.{of_connection}
 use Rattle.mc_reply.specs.Texts.{texts_from}
 use Rattle.zy_frame.specs.Cut.{commands_of}
 use Rattle.zy_run.specs.Commands.{commands_over}
-use Rattle.zy_run.specs.Output.{commands_before, output, outputs_of}
+use Rattle.zy_run.specs.Output.{commands_before, session_output, connection_outputs}
 use Rattle.mc_parse.specs.Plain.{IsPlain}
 use Rattle.zy_base.specs.Told.{all_told}
 use Rattle.mc_reply.proofs.ToldLemmas.{texts-told}
@@ -38,16 +38,16 @@ plain_session zero (stream ∷ streams) within plain = each-front IsPlain (comma
 plain_session (suc session) (stream ∷ streams) within plain = plain_session session streams (omega arith) (each-back IsPlain (commands_of stream) (commands_over streams) plain)
 
 output-told : (conn session : ℕ) (streams : List (List ℕ)) (es : List Entry) → session < length streams → AllByRecursion IsPlain (commands_over streams)
-    → concat (texts_from (commands_before session streams) (commands_of (slice_index_or streams session [])) (all_told (of_connection conn es))) ≡ output conn session streams es
+    → concat (texts_from (commands_before session streams) (commands_of (slice_index_or streams session [])) (all_told (of_connection conn es))) ≡ session_output conn session streams es
 output-told conn session streams es within plain =
     ap concat (texts-told (commands_before session streams) (commands_of (slice_index_or streams session [])) (of_connection conn es) (plain_session session streams within plain))
 
 -- the outputs of a connection whose commands are plain depend on its entries without uniques alone
 pub outputs-same : (conn : ℕ) (streams : List (List ℕ)) (es others : List Entry) → All IsPlain (commands_over streams)
-    → all_told (of_connection conn es) ≡ all_told (of_connection conn others) → outputs_of conn streams es ≡ outputs_of conn streams others
+    → all_told (of_connection conn es) ≡ all_told (of_connection conn others) → connection_outputs conn streams es ≡ connection_outputs conn streams others
 outputs-same conn streams es others plain same =
     let each : AllByRecursion IsPlain (commands_over streams) = recursion_from_All IsPlain (commands_over streams) plain in
-    map-range_same (λ session. output conn session streams es) (λ session. output conn session streams others) 0 (length streams)
+    map-range_same (λ session. session_output conn session streams es) (λ session. session_output conn session streams others) 0 (length streams)
     (λ session low high.
     sym (output-told conn session streams es (omega arith) each)
     ∙ ap (λ (l : List Entry). concat (texts_from (commands_before session streams) (commands_of (slice_index_or streams session [])) l)) same

@@ -16,7 +16,7 @@ use Rattle.mc_parse.specs.Calls.{Due, due, due_of, dues_of, IsDueOn}
 use Rattle.mc_parse.proofs.CallLemmas.{due_within}
 use Rattle.zy_run.specs.Commands.{commands_over}
 use Rattle.zy_run.specs.Run.{AreOfConnections, IsRun}
-use Rattle.zy_run.specs.Output.{outputs_of, all_outputs}
+use Rattle.zy_run.specs.Output.{connection_outputs, all_outputs}
 use Rattle.mc_parse.specs.Plain.{all_keys_of, IsPlain}
 use Rattle.zy_run.specs.Apart.{commands_of_all, AreApart}
 use Rattle.mc_parse.specs.Plain.{IsDueOwn, bare}
@@ -81,7 +81,7 @@ module _ (count conn : ℕ) (commands : ℕ → List Command) (apart : AreApart 
 
 -- the outputs of a connection are those that it has alone
 pub outputs-alone : (shards others count conn : ℕ) (streams : ℕ → List (List ℕ)) (es : List Entry) → 1 ≤ others → conn < count → AreApart count (commands_of_all streams)
-    → IsRun shards es count (commands_of_all streams) → outputs_of conn (streams conn) es ≡ outputs_of conn (streams conn) (alone others conn (commands_over (streams conn)))
+    → IsRun shards es count (commands_of_all streams) → connection_outputs conn (streams conn) es ≡ connection_outputs conn (streams conn) (alone others conn (commands_over (streams conn)))
 outputs-alone shards others count conn streams es some within apart run =
     outputs-same conn (streams conn) es (alone others conn (commands_over (streams conn))) (apart.plain conn within)
     (run_told count conn (commands_of_all streams) apart within shards es run ∙ told_anywhere count conn (commands_of_all streams) apart within shards others
@@ -91,7 +91,7 @@ outputs-alone shards others count conn streams es some within apart run =
 pub all_outputs-same : (shards others count : ℕ) (streams : ℕ → List (List ℕ)) (es fs : List Entry) → AreApart count (commands_of_all streams)
     → IsRun shards es count (commands_of_all streams) → IsRun others fs count (commands_of_all streams) → all_outputs count streams es ≡ all_outputs count streams fs
 all_outputs-same shards others count streams es fs apart run other =
-    map-range_same (λ conn. outputs_of conn (streams conn) es) (λ conn. outputs_of conn (streams conn) fs) 0 count (λ conn low high.
+    map-range_same (λ conn. connection_outputs conn (streams conn) es) (λ conn. connection_outputs conn (streams conn) fs) 0 count (λ conn low high.
     let within : conn < count = omega arith in
     outputs-same conn (streams conn) es fs (apart.plain conn within)
     (run_told count conn (commands_of_all streams) apart within shards es run ∙ told_anywhere count conn (commands_of_all streams) apart within shards others

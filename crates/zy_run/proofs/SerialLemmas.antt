@@ -13,7 +13,7 @@ use Rattle.zy_base.proofs.EntryLemmas.{of_connection-here}
 use Rattle.mc_parse.specs.declared.command.Command.{Command}
 use Rattle.mc_parse.specs.declared.shard_call.ShardCall.{ShardCall}
 use Rattle.mc_parse.specs.Calls.{Due, calls_of, tagged, due, due_from, due_at, due_of, dues_of, IsDueOn}
-use Rattle.zy_run.specs.Serial.{answered, entry_of, all_due, alone}
+use Rattle.zy_run.specs.Serial.{answered, made_entry, all_due, alone}
 use Rattle.mc_parse.proofs.PlainLemmas.{each-append}
 
 -- ---- the entries
@@ -21,18 +21,18 @@ use Rattle.mc_parse.proofs.PlainLemmas.{each-append}
 -- they are the entries of the expected calls
 pub dues_of-answered : (shards : ℕ) (states : ℕ → State) (stamp : ℕ) (dues : List Due) → dues_of (answered shards states stamp dues) ≡ dues
 dues_of-answered shards states stamp [] = refl
-dues_of-answered shards states stamp (due ∷ dues) = ap (λ (l : List Due). due ∷ l) (dues_of-answered shards (states_after shards states (entry_of states stamp due)) (stamp + 1) dues)
+dues_of-answered shards states stamp (due ∷ dues) = ap (λ (l : List Due). due ∷ l) (dues_of-answered shards (states_after shards states (made_entry states stamp due)) (stamp + 1) dues)
 
 -- they are legal
 pub legal-answered : (shards : ℕ) (states : ℕ → State) (stamp : ℕ) (dues : List Due) → AllByRecursion (IsDueOn shards) dues → IsLegalFrom shards states (answered shards states stamp dues)
 legal-answered shards states stamp [] within = tt
-legal-answered shards states stamp (due ∷ dues) within = (within.0, refl, legal-answered shards (states_after shards states (entry_of states stamp due)) (stamp + 1) dues within.1)
+legal-answered shards states stamp (due ∷ dues) within = (within.0, refl, legal-answered shards (states_after shards states (made_entry states stamp due)) (stamp + 1) dues within.1)
 
 -- they are in the order of their stamps
 pub ordered-answered : (shards : ℕ) (states : ℕ → State) (stamp : ℕ) (before : Entry) (dues : List Due) → before.stamp < stamp → IsOrdered (Some before) (answered shards states stamp dues)
 ordered-answered shards states stamp before [] above = tt
 ordered-answered shards states stamp before (due ∷ dues) above =
-    (inl above, ordered-answered shards (states_after shards states (entry_of states stamp due)) (stamp + 1) (entry_of states stamp due) dues (omega arith))
+    (inl above, ordered-answered shards (states_after shards states (made_entry states stamp due)) (stamp + 1) (made_entry states stamp due) dues (omega arith))
 
 -- ---- the expected calls of one connection
 
@@ -41,9 +41,9 @@ pub own-answered : (conn shards : ℕ) (states : ℕ → State) (stamp : ℕ) (d
     → dues_of (of_connection conn (answered shards states stamp dues)) ≡ filter (λ due. due.tag.conn == conn) dues
 own-answered conn shards states stamp [] = refl
 own-answered conn shards states stamp (due ∷ dues) =
-    let rest : List Entry = answered shards (states_after shards states (entry_of states stamp due)) (stamp + 1) dues in
-    go (due.tag.conn == conn) (entry_of states stamp due) (of_connection conn rest) (filter (λ (d : Due). d.tag.conn == conn) dues)
-    (own-answered conn shards (states_after shards states (entry_of states stamp due)) (stamp + 1) dues)
+    let rest : List Entry = answered shards (states_after shards states (made_entry states stamp due)) (stamp + 1) dues in
+    go (due.tag.conn == conn) (made_entry states stamp due) (of_connection conn rest) (filter (λ (d : Due). d.tag.conn == conn) dues)
+    (own-answered conn shards (states_after shards states (made_entry states stamp due)) (stamp + 1) dues)
   where
     go : (b : Bool) (e : Entry) (es : List Entry) (dues : List Due) → dues_of es ≡ dues → dues_of (cond b (e ∷ es) es) ≡ cond b (due_of e ∷ dues) dues
     go true e es dues is = ap (λ (l : List Due). due_of e ∷ l) is
@@ -115,8 +115,8 @@ own-all_due shards count conn commands within = own_due shards conn commands 0 c
 answered-own : (conn shards : ℕ) (states : ℕ → State) (stamp : ℕ) (dues : List Due) → AllByRecursion (λ due. due.tag.conn ≡ conn) dues → of_connection conn (answered shards states stamp dues) ≡ answered shards states stamp dues
 answered-own conn shards states stamp [] of = refl
 answered-own conn shards states stamp (due ∷ dues) of =
-    of_connection-here conn (entry_of states stamp due) (answered shards (states_after shards states (entry_of states stamp due)) (stamp + 1) dues) of.0
-    ∙ ap (λ (l : List Entry). entry_of states stamp due ∷ l) (answered-own conn shards (states_after shards states (entry_of states stamp due)) (stamp + 1) dues of.1)
+    of_connection-here conn (made_entry states stamp due) (answered shards (states_after shards states (made_entry states stamp due)) (stamp + 1) dues) of.0
+    ∙ ap (λ (l : List Entry). made_entry states stamp due ∷ l) (answered-own conn shards (states_after shards states (made_entry states stamp due)) (stamp + 1) dues of.1)
 
 -- all entries of a connection that is alone are its own
 pub own-alone : (shards conn : ℕ) (commands : List Command) → of_connection conn (alone shards conn commands) ≡ alone shards conn commands

@@ -13,8 +13,8 @@ use Rattle.mc_parse.proofs.CallLemmas.{due_within}
 use Rattle.zy_run.specs.Run.{AreOfConnections, IsRun}
 use Rattle.zy_run.specs.Output.{all_outputs}
 use Rattle.zy_run.specs.Apart.{commands_of_all, AreApart}
-use Rattle.zy_run.specs.Serial.{answered, entry_of, made, all_due, serial}
-use Rattle.zy_run.specs.Summary.{bytes_in, count_of_commands, summary, summary_of_run}
+use Rattle.zy_run.specs.Serial.{answered, made_entry, made, all_due, serial}
+use Rattle.zy_run.specs.Summary.{count_of_bytes, count_of_commands, summary, summary_of_run}
 use Rattle.mc_parse.proofs.PlainLemmas.{each-append}
 use Rattle.zy_run.proofs.RunLemmas.{all_outputs-same, length-run}
 use Rattle.zy_run.proofs.SerialLemmas.{legal-answered, ordered-answered, own-answered, own-all_due, due_from_of}
@@ -31,7 +31,7 @@ each_due P shards commands first (suc n) each =
 
 connections-answered : (count shards : ℕ) (states : ℕ → State) (stamp : ℕ) (dues : List Due) → AllByRecursion (λ due. due.tag.conn < count) dues → AreOfConnections count (answered shards states stamp dues)
 connections-answered count shards states stamp [] of = tt
-connections-answered count shards states stamp (due ∷ dues) of = (of.0, connections-answered count shards (states_after shards states (entry_of states stamp due)) (stamp + 1) dues of.1)
+connections-answered count shards states stamp (due ∷ dues) of = (of.0, connections-answered count shards (states_after shards states (made_entry states stamp due)) (stamp + 1) dues of.1)
 
 below_of : (count conn : ℕ) (dues : List Due) → conn < count → AllByRecursion (λ due. due.tag.conn ≡ conn) dues → AllByRecursion (λ due. due.tag.conn < count) dues
 below_of count conn [] within of = tt
@@ -50,7 +50,7 @@ serial_is_run shards count commands some = record {
 made_ordered : (shards : ℕ) (dues : List Due) → IsOrdered None (made shards dues)
 made_ordered shards [] = tt
 made_ordered shards (due ∷ dues) =
-    (tt, ordered-answered shards (states_after shards (λ number. empty_state) (entry_of (λ number. empty_state) 1 due)) 2 (entry_of (λ number. empty_state) 1 due) dues (omega arith))
+    (tt, ordered-answered shards (states_after shards (λ number. empty_state) (made_entry (λ number. empty_state) 1 due)) 2 (made_entry (λ number. empty_state) 1 due) dues (omega arith))
 
 -- its entries are in the order of their stamps
 pub serial_ordered : (shards count : ℕ) (commands : ℕ → List Command) → IsOrdered None (serial shards count commands)
@@ -63,7 +63,7 @@ pub summary-run : (shards others count : ℕ) (streams : ℕ → List (List ℕ)
     → summary_of_run count streams es ≡ summary others count streams
 summary-run shards others count streams es some apart run =
     let serials : IsRun others (serial others count (commands_of_all streams)) count (commands_of_all streams) = serial_is_run others count (commands_of_all streams) some in
-    ap (λ (n : ℕ). record { commands = count_of_commands count (commands_of_all streams); calls = n; reply_bytes = bytes_in (all_outputs count streams es) })
+    ap (λ (n : ℕ). record { commands = count_of_commands count (commands_of_all streams); calls = n; reply_bytes = count_of_bytes (all_outputs count streams es) })
     (length-run shards others count (commands_of_all streams) es (serial others count (commands_of_all streams)) apart run serials)
-    ∙ ap (λ (outputs : List (List (List ℕ))). record { commands = count_of_commands count (commands_of_all streams); calls = length (serial others count (commands_of_all streams)); reply_bytes = bytes_in outputs })
+    ∙ ap (λ (outputs : List (List (List ℕ))). record { commands = count_of_commands count (commands_of_all streams); calls = length (serial others count (commands_of_all streams)); reply_bytes = count_of_bytes outputs })
     (all_outputs-same shards others count streams es (serial others count (commands_of_all streams)) apart run serials)

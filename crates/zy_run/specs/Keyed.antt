@@ -13,8 +13,8 @@ abbrev pub IsEntryOwn : ℕ → ℕ → (ℕ → List (List ℕ)) → Entry → 
 IsEntryOwn shards count keys e = IsDueOwn shards count keys (due_of e)
 
 -- at each of these keys, a store and a single shard have the same, apart from uniques
-abbrev pub Agree : ℕ → List (List ℕ) → (ℕ → State) → State → Type 0
-Agree shards keys states single =
+abbrev pub AgreeAtKeys : ℕ → List (List ℕ) → (ℕ → State) → State → Type 0
+AgreeAtKeys shards keys states single =
     (key : List ℕ) → Contains keys key → seen_at key (states (shard_of key shards)) ≡ seen_at key single
 
 -- the entries of expected calls that are made one after another on one shard, without shards,

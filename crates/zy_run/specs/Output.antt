@@ -13,15 +13,16 @@ commands_before session streams = length (commands_over (take session streams))
 
 -- the output of a session: the texts of its commands, joined, each from the replies of its own
 -- entries; commands are numbered over all sessions of the connection
-abbrev pub output : ℕ → ℕ → List (List ℕ) → List Entry → List ℕ
-output conn session streams es =
+abbrev pub session_output : ℕ → ℕ → List (List ℕ) → List Entry → List ℕ
+session_output conn session streams es =
     concat (texts_from (commands_before session streams) (commands_of (slice_index_or streams session []))
     (of_connection conn es))
 
 -- the outputs of all sessions of a connection with these streams
-abbrev pub outputs_of : ℕ → List (List ℕ) → List Entry → List (List ℕ)
-outputs_of conn streams es = map (λ session. output conn session streams es) (range_with_len 0 (length streams))
+abbrev pub connection_outputs : ℕ → List (List ℕ) → List Entry → List (List ℕ)
+connection_outputs conn streams es =
+    map (λ session. session_output conn session streams es) (range_with_len 0 (length streams))
 
 -- the outputs of all sessions of the first `count` connections
 abbrev pub all_outputs : ℕ → (ℕ → List (List ℕ)) → List Entry → List (List (List ℕ))
-all_outputs count streams es = map (λ conn. outputs_of conn (streams conn) es) (range_with_len 0 count)
+all_outputs count streams es = map (λ conn. connection_outputs conn (streams conn) es) (range_with_len 0 count)

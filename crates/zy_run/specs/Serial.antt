@@ -9,8 +9,8 @@ use Rattle.mc_parse.specs.Calls.{Due, due}
 
 -- the entry of an expected call, with the reply that its shard gives in its present state, and this
 -- stamp
-abbrev pub entry_of : (ℕ → State) → ℕ → Due → Entry
-entry_of states stamp due =
+abbrev pub made_entry : (ℕ → State) → ℕ → Due → Entry
+made_entry states stamp due =
     record {
       tag = due.tag;
       shard = due.call.shard;
@@ -24,8 +24,8 @@ entry_of states stamp due =
 abbrev pub answered : ℕ → (ℕ → State) → ℕ → List Due → List Entry
 answered shards states stamp [] = []
 answered shards states stamp (due ∷ dues) =
-    entry_of states stamp due
-    ∷ answered shards (states_after shards states (entry_of states stamp due)) (stamp + 1) dues
+    made_entry states stamp due
+    ∷ answered shards (states_after shards states (made_entry states stamp due)) (stamp + 1) dues
 
 -- the entries of expected calls that are made one after another on empty shards; the stamp of each
 -- is its place, from 1 on

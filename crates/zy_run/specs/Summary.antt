@@ -13,15 +13,15 @@ abbrev pub count_of_commands : ℕ → (ℕ → List Command) → ℕ
 count_of_commands count commands = sum_by (λ conn. length (commands conn)) (range_with_len 0 count)
 
 -- the number of bytes in the outputs of all sessions of all connections
-abbrev pub bytes_in : List (List (List ℕ)) → ℕ
-bytes_in outputs = sum_by (λ sessions. sum_by length sessions) outputs
+abbrev pub count_of_bytes : List (List (List ℕ)) → ℕ
+count_of_bytes outputs = sum_by (λ sessions. sum_by length sessions) outputs
 
 -- the summary of a run: its commands, its entries, and the bytes of its outputs
 abbrev pub summary_of_run : ℕ → (ℕ → List (List ℕ)) → List Entry → Summary
 summary_of_run count streams es = record {
   commands = count_of_commands count (commands_of_all streams);
   calls = length es;
-  reply_bytes = bytes_in (all_outputs count streams es);
+  reply_bytes = count_of_bytes (all_outputs count streams es);
 }
 
 -- the summary of the serial run on `shards` shards

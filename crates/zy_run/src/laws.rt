@@ -9,7 +9,7 @@ ghost use Rattle.zy_capture.specs.Streams.{closes, sessions_of, no_bytes, with_r
 ghost use Rattle.mc_parse.specs.declared.command.Command.{Command};
 ghost use Rattle.zy_run.specs.Commands.{streams_in, commands_in, commands_held};
 ghost use Rattle.zy_run.specs.Run.{IsRun};
-ghost use Rattle.zy_run.specs.Output.{output, outputs_of, all_outputs};
+ghost use Rattle.zy_run.specs.Output.{session_output, connection_outputs, all_outputs};
 ghost use Rattle.zy_run.specs.Spans.{Spans};
 ghost use Rattle.zy_run.specs.Worked.{worked_records, worked_entries, worked_outputs, worked_holds};
 ghost use Rattle.mc_parse.specs.Plain.{keys_of};
@@ -45,10 +45,11 @@ pub fn a_connection_has_a_session()
 /// A connection has one output for each of its sessions, each in its place.
 pub fn each_session_has_its_output()
     ensures count { (conn : ℕ) (streams : List (List ℕ)) (es : List Entry)
-        → length (outputs_of conn streams es) ≡ length streams }
+        → length (connection_outputs conn streams es) ≡ length streams }
     ensures value { (conn session : ℕ) (streams : List (List ℕ)) (es : List Entry)
         → session < length streams
-        → slice_index_or (outputs_of conn streams es) session [] ≡ output conn session streams es }
+        → slice_index_or (connection_outputs conn streams es) session []
+        ≡ session_output conn session streams es }
 {}
 
 /// If the commands of connections are apart, two runs of them have the same outputs, whatever the
@@ -67,8 +68,9 @@ pub fn a_connection_is_answered_as_if_alone()
     ensures value { (shards others count conn : ℕ) (streams : ℕ → List (List ℕ)) (es : List Entry)
         → 1 ≤ others → conn < count → AreApart count (commands_of_all streams)
         → IsRun shards es count (commands_of_all streams)
-        → outputs_of conn (streams conn) es
-        ≡ outputs_of conn (streams conn) (alone others conn (commands_of_all streams conn)) }
+        → connection_outputs conn (streams conn) es
+        ≡ connection_outputs conn (streams conn)
+        (alone others conn (commands_of_all streams conn)) }
 {}
 
 /// The serial run is a run, and its entries are in the order of their stamps.

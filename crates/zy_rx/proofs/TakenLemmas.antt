@@ -7,18 +7,18 @@ use Rattle.zy_capture.specs.declared.record.Record.{Record}
 use Rattle.zy_capture.specs.declared.record.Record.TheVariants as Kinds
 use Rattle.zy_rx.specs.declared.rx.Rx.{Rx}
 use Rattle.zy_rx.specs.declared.rx.Rx.TheVariants.{Segment, Close, End}
-use Rattle.zy_rx.specs.Session.{Sessions, no_sessions, with_bytes, with_close, takes_in, sessions_from, sessions_of}
-use Rattle.zy_rx.specs.Routing.{item_of, is_for, items_for, offered_to}
+use Rattle.zy_rx.specs.Session.{Sessions, no_sessions, with_bytes, with_close, takes_in, sessions_from, received_by}
+use Rattle.zy_rx.specs.Routing.{offered_item, is_for, items_for, offered_to}
 
 -- ---- one further item is offered
 
-pub items_for-push : (cores core : ℕ) (records : List Record) (last : Record) → is_for cores core (item_of last) ≡ true → items_for cores core (records ++ last ∷ []) ≡ items_for cores core records ++ item_of last ∷ []
+pub items_for-push : (cores core : ℕ) (records : List Record) (last : Record) → is_for cores core (offered_item last) ≡ true → items_for cores core (records ++ last ∷ []) ≡ items_for cores core records ++ offered_item last ∷ []
 items_for-push cores core records last here =
-    ap (filter (is_for cores core)) (map-append item_of records (last ∷ [])) ∙ filter-push (is_for cores core) (map item_of records) (item_of last) here
+    ap (filter (is_for cores core)) (map-append offered_item records (last ∷ [])) ∙ filter-push (is_for cores core) (map offered_item records) (offered_item last) here
 
-pub items_for-push_other : (cores core : ℕ) (records : List Record) (last : Record) → is_for cores core (item_of last) ≡ false → items_for cores core (records ++ last ∷ []) ≡ items_for cores core records
+pub items_for-push_other : (cores core : ℕ) (records : List Record) (last : Record) → is_for cores core (offered_item last) ≡ false → items_for cores core (records ++ last ∷ []) ≡ items_for cores core records
 items_for-push_other cores core records last other =
-    ap (filter (is_for cores core)) (map-append item_of records (last ∷ [])) ∙ filter-push_other (is_for cores core) (map item_of records) (item_of last) other
+    ap (filter (is_for cores core)) (map-append offered_item records (last ∷ [])) ∙ filter-push_other (is_for cores core) (map offered_item records) (offered_item last) other
 
 -- ---- the end
 
@@ -61,9 +61,9 @@ end_is_among conn s (x ∷ xs) live ended = go (is_end x) refl (λ still. end_is
 -- no record is offered as the end
 pub no_end : (cores core : ℕ) (records : List Record) → has_end (items_for cores core records) ≡ false
 no_end cores core [] = refl
-no_end cores core (r ∷ records) = go (is_for cores core (item_of r)) r (no_end cores core records)
+no_end cores core (r ∷ records) = go (is_for cores core (offered_item r)) r (no_end cores core records)
   where
-    go : (b : Bool) (r : Record) → has_end (items_for cores core records) ≡ false → has_end (cond b (item_of r ∷ items_for cores core records) (items_for cores core records)) ≡ false
+    go : (b : Bool) (r : Record) → has_end (items_for cores core records) ≡ false → has_end (cond b (offered_item r ∷ items_for cores core records) (items_for cores core records)) ≡ false
     go true (Kinds.Segment s) rest = rest
     go true (Kinds.Close conn) rest = rest
     go false r rest = rest
@@ -86,10 +86,10 @@ none_known (x ∷ xs) known (y ∷ ys) is none some =
     go true is none some same f = absurd (cc)
     go false is none some same f = f none (sym (ap (λ b. b || has_end xs) (ap is_end same ∙ is)) ∙ some)
 
-pub none_left : (cores core conn : ℕ) (records : List Record) (taken known : List Rx) → taken ++ known ≡ offered_to cores core records → (sessions_of conn taken).ended ≡ true → known ≡ []
+pub none_left : (cores core conn : ℕ) (records : List Record) (taken known : List Rx) → taken ++ known ≡ offered_to cores core records → (received_by conn taken).ended ≡ true → known ≡ []
 none_left cores core conn records taken known is ended =
     none_known taken known (items_for cores core records) is (no_end cores core records) (end_is_among conn no_sessions taken refl ended)
 
-pub all_taken : (cores core conn : ℕ) (records : List Record) (taken known : List Rx) → taken ++ known ≡ offered_to cores core records → (sessions_of conn taken).ended ≡ true → taken ≡ offered_to cores core records
+pub all_taken : (cores core conn : ℕ) (records : List Record) (taken known : List Rx) → taken ++ known ≡ offered_to cores core records → (received_by conn taken).ended ≡ true → taken ≡ offered_to cores core records
 all_taken cores core conn records taken known is ended =
     sym (append-nil taken) ∙ ap (λ (l : List Rx). taken ++ l) (sym (none_left cores core conn records taken known is ended)) ∙ is

@@ -37,5 +37,5 @@ sessions_from conn s [] = s
 sessions_from conn s (x ∷ xs) = sessions_from conn (takes_in conn s x) xs
 
 -- what a connection received among these items
-abbrev pub sessions_of : ℕ → List Rx → Sessions
-sessions_of conn items = sessions_from conn no_sessions items
+abbrev pub received_by : ℕ → List Rx → Sessions
+received_by conn items = sessions_from conn no_sessions items

@@ -13,8 +13,8 @@ use Rattle.zy_run.specs.Commands.{streams_in, commands_in}
 use Rattle.zy_run.specs.Output.{all_outputs}
 use Rattle.zy_run.specs.Spans.{held_of, AreHoldsOf, Spans}
 use Rattle.zy_run.specs.declared.summary.Summary.{Summary}
-use Rattle.zy_run.specs.Summary.{count_of_commands, bytes_in, summary_of_run}
-use Rattle.zy_serving.specs.Headline.{outputs_of}
+use Rattle.zy_run.specs.Summary.{count_of_commands, count_of_bytes, summary_of_run}
+use Rattle.zy_serving.specs.Headline.{outputs_of_records}
 use Rattle.zy_self.specs.Numbers.{all_held}
 
 -- the same is added up for each number
@@ -86,10 +86,10 @@ held_in_all holds count commands spans =
 
 -- the numbers of a served run
 pub numbers_of : (commands calls bytes : ℕ) (holds : List Hold) (entries : List Entry) (outputs : AllOutputs) (count version : ℕ) (records : List Record)
-    → commands ≡ all_held holds → calls ≡ length entries → bytes ≡ bytes_in outputs.sessions
-    → Spans holds count (commands_in records) → outputs ≡ outputs_of version count records entries
+    → commands ≡ all_held holds → calls ≡ length entries → bytes ≡ count_of_bytes outputs.sessions
+    → Spans holds count (commands_in records) → outputs ≡ outputs_of_records version count records entries
     → record { commands = commands; calls = calls; reply_bytes = bytes } ≡ summary_of_run count (streams_in records) entries
 numbers_of commands calls bytes holds entries outputs count version records held made sent spans are =
     let all : commands ≡ count_of_commands count (commands_in records) = held ∙ held_in_all holds count (commands_in records) spans in
-    let told : bytes ≡ bytes_in (all_outputs count (streams_in records) entries) = sent ∙ ap (λ (o : AllOutputs). bytes_in o.sessions) are in
+    let told : bytes ≡ count_of_bytes (all_outputs count (streams_in records) entries) = sent ∙ ap (λ (o : AllOutputs). count_of_bytes o.sessions) are in
     rw (all, made, told) refl

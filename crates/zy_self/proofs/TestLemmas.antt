@@ -11,10 +11,10 @@ use Rattle.zy_run.specs.Run.{IsRun}
 use Rattle.zy_run.specs.Spans.{Spans}
 use Rattle.zy_run.specs.declared.summary.Summary.{Summary}
 use Rattle.zy_run.specs.Summary.{summary, summary_of_run}
-use Rattle.zy_gen.specs.Traffic.{records_of}
+use Rattle.zy_gen.specs.Traffic.{traffic_records}
 use Rattle.zy_command_line.specs.declared.request.Traffic.{Traffic}
 use Rattle.zy_command_line.specs.declared.request.Run.{Run}
-use Rattle.zy_serving.specs.Headline.{IsServed, outputs_of}
+use Rattle.zy_serving.specs.Headline.{IsServed, outputs_of_records}
 use Rattle.zy_self.specs.Tested.{IsTested, traffic_bytes}
 
 good_count : {a b c d : ℕ} {r s : List Record} → Good a b r ≡ Good c d s → b ≡ d
@@ -24,11 +24,11 @@ good_records : {a b c d : ℕ} {r s : List Record} → Good a b r ≡ Good c d s
 good_records e = cc
 
 pub tested_of : (traffic : Traffic) (run : Run) (records : List Record) (journal : Journal) (outputs : AllOutputs) (numbers : Summary)
-    → records ≡ records_of traffic.number traffic.conns traffic.commands
+    → records ≡ traffic_records traffic.number traffic.conns traffic.commands
     → verdict (traffic_bytes traffic) ≡ Good 1 traffic.conns records
     → ((es : List Entry) → IsRun run.shards es traffic.conns (commands_in records) → summary_of_run traffic.conns (streams_in records) es ≡ summary run.shards traffic.conns (streams_in records))
     → IsServed run (traffic_bytes traffic) journal outputs
-    → ((count version : ℕ) (records : List Record) → Spans journal.holds count (commands_in records) → outputs ≡ outputs_of version count records journal.entries → numbers ≡ summary_of_run count (streams_in records) journal.entries)
+    → ((count version : ℕ) (records : List Record) → Spans journal.holds count (commands_in records) → outputs ≡ outputs_of_records version count records journal.entries → numbers ≡ summary_of_run count (streams_in records) journal.entries)
     → IsTested traffic run journal numbers
 tested_of traffic run records journal outputs numbers records_are good all served told =
     let same : Good served.version served.count served.records ≡ Good 1 traffic.conns records = sym served.capture ∙ good in

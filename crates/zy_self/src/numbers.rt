@@ -5,8 +5,8 @@ ghost use Rattle.zy_capture.specs.declared.record.Record.{Record};
 ghost use Rattle.zy_capture.specs.Streams.{sessions_of};
 ghost use Rattle.zy_run.specs.Commands.{streams_in, commands_in};
 ghost use Rattle.zy_run.specs.Spans.{Spans};
-ghost use Rattle.zy_run.specs.Summary.{bytes_in, summary_of_run};
-ghost use Rattle.zy_serving.specs.Headline.{outputs_of};
+ghost use Rattle.zy_run.specs.Summary.{count_of_bytes, summary_of_run};
+ghost use Rattle.zy_serving.specs.Headline.{outputs_of_records};
 ghost use Rattle.zy_self.specs.Numbers.{all_held};
 
 use zy_base::{Hold, NoMemory};
@@ -18,7 +18,7 @@ use zy_run::Summary;
 pub(crate) fn summary_of(done: &Finished) -> Result<Summary, NoMemory>
     ensures value { IfOk result (λ summary. (count version : ℕ) (records : List Record)
         → Spans done.now.journal.holds count (commands_in records)
-        → done.now.outputs ≡ outputs_of version count records done.now.journal.entries
+        → done.now.outputs ≡ outputs_of_records version count records done.now.journal.entries
         → summary ≡ summary_of_run count (streams_in records) done.now.journal.entries) }
 {
     let Some(calls) = done.journal.count() else {
@@ -44,7 +44,7 @@ fn all_held(holds: &[Hold]) -> Result<u64, NoMemory>
 
 // How many bytes the outputs of all connections have.
 fn all_bytes(outputs: &Outputs) -> Result<u64, NoMemory>
-    ensures value { IfOk result (λ n. n ≡ bytes_in outputs.now.sessions) }
+    ensures value { IfOk result (λ n. n ≡ count_of_bytes outputs.now.sessions) }
 {
     let mut total = 0;
     for conn in 0..outputs.count() {

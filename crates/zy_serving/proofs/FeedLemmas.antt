@@ -8,12 +8,12 @@ use Rattle.zy_capture.specs.declared.capture_fault.CaptureFault.{CaptureFault}
 use Rattle.zy_feed.specs.declared.stage.Stage.{Stage}
 use Rattle.zy_feed.specs.declared.stage.Stage.TheVariants.{Cutting, Ended}
 use Rattle.zy_feed.specs.declared.intake.Header.{Header}
-use Rattle.zy_feed.specs.Reads.{Intake, HasBegun, StopsBy}
-use Rattle.zy_feed.specs.Feeding.{feeding, stop_in, AreUnsent, HasFedAll, Leads}
+use Rattle.zy_feed.specs.Reads.{Intake, HasBegun, StopsIntakeBy}
+use Rattle.zy_feed.specs.Feeding.{feeding, stop_in, AreUnsent, HasFedAll, LeadsTo}
 use Rattle.zy_feed.proofs.WholeLemmas.{fed_all, has_cause, counts_on}
 
 -- what it was made of, and what it is later
-module _ {S : Type 0} (rest : S → Option (List ℕ)) (faults : S → ℕ) (first : S) (header : Header) (given now later : S) (intake made further : Intake) (inlets ends after : List Offering) (stage stage' : Stage) (begins : HasBegun rest faults first given intake header) (unsent : AreUnsent (sent_by inlets)) (same : now ≡ given) (is : made ≡ intake) (are : ends ≡ inlets) (cutting : stage ≡ Cutting) (leads : Leads rest faults (feeding now made ends stage) (feeding later further after stage')) where
+module _ {S : Type 0} (rest : S → Option (List ℕ)) (faults : S → ℕ) (first : S) (header : Header) (given now later : S) (intake made further : Intake) (inlets ends after : List Offering) (stage stage' : Stage) (begins : HasBegun rest faults first given intake header) (unsent : AreUnsent (sent_by inlets)) (same : now ≡ given) (is : made ≡ intake) (are : ends ≡ inlets) (cutting : stage ≡ Cutting) (leads : LeadsTo rest faults (feeding now made ends stage) (feeding later further after stage')) where
   begun : HasBegun rest faults first now made header
   begun = subst (λ (s : S). HasBegun rest faults first s made header) (sym same) (subst (λ (i : Intake). HasBegun rest faults first given i header) (sym is) begins)
 
@@ -23,7 +23,7 @@ module _ {S : Type 0} (rest : S → Option (List ℕ)) (faults : S → ℕ) (fir
   pub fed : stage' ≡ Ended → HasFedAll rest faults first later header (sent_by after)
   fed ended = fed_all rest faults first header (feeding now made ends stage) (feeding later further after stage') begun none cutting ended leads
 
-  pub stopped : (stop : Stop CaptureFault) → stop_in stage' ≡ Some stop → StopsBy rest faults first later stop
+  pub stopped : (stop : Stop CaptureFault) → stop_in stage' ≡ Some stop → StopsIntakeBy rest faults first later stop
   stopped stop broken = (has_cause rest faults first header (feeding now made ends stage) (feeding later further after stage') stop begun none cutting broken leads).cause
 
   pub counted : faults first ≤ faults later

@@ -16,14 +16,14 @@ use Rattle.zy_finish.specs.Received.{AllSent}
 use Rattle.zy_feed.specs.Reads.{Intake, HasBegun}
 use Rattle.std.specs.List.{AllByRecursion}
 use Rattle.zy_command_line.specs.declared.request.Run.{Run}
-use Rattle.zy_finish.specs.Finish.{IsFinished, IsHoldBy}
-use Rattle.zy_serving.specs.Headline.{IsServed, outputs_of}
+use Rattle.zy_finish.specs.Finish.{IsResultOfRun, IsHoldBy}
+use Rattle.zy_serving.specs.Headline.{IsServed, outputs_of_records}
 use Rattle.zy_serving.specs.Seen.{side}
 use Rattle.zy_serving.specs.Runs.{RunsTo}
 
 pub served_of : (asked : Run) (version count : ℕ) (records : List Record) (bytes : List ℕ) (done : Finished)
     → ((text : List ℕ) (version count : ℕ) (items : List Record) → AreBytes text → verdict text ≡ Good version count items ↔ Spells text version count items)
-    → verdict bytes ≡ Good version count records → AreBytes bytes → IsFinished asked.shards version count records done
+    → verdict bytes ≡ Good version count records → AreBytes bytes → IsResultOfRun asked.shards version count records done
     → AllByRecursion (IsHoldBy asked.cores) done.journal.holds → IsServed asked bytes done.journal done.outputs
 served_of asked version count records bytes done exactly good small is held = record {
   version = version;
@@ -44,7 +44,7 @@ served_of asked version count records bytes done exactly good small is held = re
 pub runs_to : {S : Type 0} (rest : S → Option (List ℕ)) (faults : S → ℕ) (asked : Run) (source source' : S) (header : Header) (sents : List (List Rx)) (done : Finished)
     → ((text : List ℕ) (version count : ℕ) (items : List Record) → AreBytes text → verdict text ≡ Good version count items ↔ Spells text version count items)
     → HasFedAll rest faults source source' header sents
-    → ((records : List Record) → IsCapture header.version header.count records → AllSent sents records → IsFinished asked.shards header.version header.count records done)
+    → ((records : List Record) → IsCapture header.version header.count records → AllSent sents records → IsResultOfRun asked.shards header.version header.count records done)
     → AllByRecursion (IsHoldBy asked.cores) done.journal.holds → RunsTo asked (side rest faults source source') (Ok done)
 runs_to rest faults asked source source' header sents done exactly fed finished held =
     let is = finished fed.records fed.lawful fed.sent in

@@ -22,8 +22,9 @@ use Rattle.zy_command_line.specs.declared.request.Out.{Out}
 use Rattle.zy_command_line.specs.declared.request.Out.TheVariants.{Replies, Both}
 
 -- the outputs of all connections of these records, by the replies in the entries
-abbrev pub outputs_of : ℕ → ℕ → List Record → List Entry → AllOutputs
-outputs_of version count records es = record { version = version; sessions = all_outputs count (streams_in records) es }
+abbrev pub outputs_of_records : ℕ → ℕ → List Record → List Entry → AllOutputs
+outputs_of_records version count records es =
+    record { version = version; sessions = all_outputs count (streams_in records) es }
 
 -- what is written before the replies: nothing, or the journal
 abbrev pub front : Out → Journal → List ℕ
@@ -54,7 +55,7 @@ pub record IsServed (asked : Run) (bytes : List ℕ) (journal : Journal) (output
   -- each is by one of the cores that were asked for, and is of 1 to 64 commands
   pub held : AllByRecursion (IsHoldBy asked.cores) journal.holds
   -- the outputs are exactly each session's replies in that order
-  pub replies : outputs ≡ outputs_of version count records journal.entries
+  pub replies : outputs ≡ outputs_of_records version count records journal.entries
   -- the journal is within the bounds of its format, so it can be written and read again
   pub readable : IsReadable journal
   -- so are the outputs

@@ -26,8 +26,8 @@ side bytes faults old new = record {
 }
 
 -- what is seen of these two
-abbrev pub seen : Side → Side → Seen
-seen source sink = record { source = source; sink = sink }
+abbrev pub both_sides : Side → Side → Seen
+both_sides source sink = record { source = source; sink = sink }
 
 -- the count of faults rose, or is at its last value
 abbrev pub HasRisen : Side → Type 0
@@ -38,8 +38,8 @@ abbrev pub NoneRose : Seen → Type 0
 NoneRose call = (HasRisen call.source → ⊥) × (HasRisen call.sink → ⊥)
 
 -- this was written
-abbrev pub Takes : Side → List ℕ → Type 0
-Takes sink bytes = Grew sink.before sink.after bytes
+abbrev pub WasWritten : Side → List ℕ → Type 0
+WasWritten sink bytes = Grew sink.before sink.after bytes
 
 -- a prefix of this was written
 abbrev pub TakesPart : Side → List ℕ → Type 0

@@ -1,11 +1,12 @@
 //! Driving the cores of a run while its capture is fed.
 ghost use Rattle.std.specs.Prelude.{◌≡◌, ◌≤◌, ◌<◌, length, IfOk, IfErr};
-ghost use Rattle.zy_feed.specs.Reads.{HasBegun, StopsBy};
+ghost use Rattle.zy_feed.specs.Reads.{HasBegun, StopsIntakeBy};
 ghost use Rattle.zy_feed.specs.Feeding.{HasFedAll};
 ghost use Rattle.zy_rx.specs.Feed.{rings_of, sent_by};
 ghost use Rattle.zy_command_line.specs.Range.{IsRunnable};
 ghost use Rattle.zy_core.specs.Cores.{AreCores, AreInlets, EachSettled, identities};
-ghost use Rattle.zy_drive.specs.Drive.{rest_of, IsSettled, IsBroken, cores_of};
+ghost use Rattle.zy_drive.specs.Drive.{idle_turns_before_rest, IsSettledRun, IsBrokenRun};
+ghost use Rattle.zy_drive.specs.Drive.{returned_cores};
 ghost use Rattle.zy_serving.specs.Running.{IsPrepared, IsDriven};
 
 use crate::running::Running;
@@ -42,7 +43,7 @@ pub(crate) fn drive_capture<R: Threads + Wait + Sync, S: Source, G: Gate + Sync>
     ensures fed { (first : S) → HasBegun S.rest S.faults first source.old intake running.header
         → IfOk result (λ ran. HasFedAll S.rest S.faults first source.new running.header (sent_by ran.inlets)) }
     ensures stopped { (first : S) → HasBegun S.rest S.faults first source.old intake running.header
-        → IfErr result (λ stop. StopsBy S.rest S.faults first source.new stop) }
+        → IfErr result (λ stop. StopsIntakeBy S.rest S.faults first source.new stop) }
     ensures count { (first : S) → HasBegun S.rest S.faults first source.old intake running.header
         → S.faults first ≤ S.faults source.new }
 
@@ -102,9 +103,10 @@ pub(crate) fn drive_cores<R: Threads + Wait + Sync, F: Feeder, G: Gate + Sync>(
     requires count { length shared.now.rings ≡ run.cores }
     requires inlets { AreInlets (rings_of (F.inlets feeder.old)) (identities cores) }
     requires fresh { ¬ F.ended feeder.old × ¬ F.broken feeder.old }
-    ensures settled { IsSettled result → F.ended feeder.new × EachSettled (cores_of result) }
-    ensures broken { IsBroken result → F.broken feeder.new }
-    ensures same { identities (cores_of result) ≡ identities cores }
+    ensures settled { IsSettledRun result
+        → F.ended feeder.new × EachSettled (returned_cores result) }
+    ensures broken { IsBrokenRun result → F.broken feeder.new }
+    ensures same { identities (returned_cores result) ≡ identities cores }
     ensures leads { F.leads feeder.old feeder.new }
     ensures rings { rings_of (F.inlets feeder.new) ≡ rings_of (F.inlets feeder.old) }
 {
@@ -129,9 +131,10 @@ fn drive_threads<R: Threads + Wait + Sync, F: Feeder, G: Gate + Sync>(
     requires cores { AreCores shared.now (identities cores) }
     requires count { length shared.now.rings ≡ run.cores }
     requires fresh { ¬ F.ended feeder.old × ¬ F.broken feeder.old }
-    ensures settled { IsSettled result → F.ended feeder.new × EachSettled (cores_of result) }
-    ensures broken { IsBroken result → F.broken feeder.new }
-    ensures same { identities (cores_of result) ≡ identities cores }
+    ensures settled { IsSettledRun result
+        → F.ended feeder.new × EachSettled (returned_cores result) }
+    ensures broken { IsBrokenRun result → F.broken feeder.new }
+    ensures same { identities (returned_cores result) ≡ identities cores }
     ensures leads { F.leads feeder.old feeder.new }
     ensures rings { rings_of (F.inlets feeder.new) ≡ rings_of (F.inlets feeder.old) }
 {
@@ -161,7 +164,7 @@ fn drive_threads<R: Threads + Wait + Sync, F: Feeder, G: Gate + Sync>(
 // left for a feeder that stays apart, and no core rests.
 fn first_group<R: Threads>(rt: &R, run: Run) -> FirstGroup
     ensures caller { result ≡ FirstGroup.Caller
-        → (1 < run.threads) × (rest_of run.threads run.cores run.rest ≡ 0) }
+        → (1 < run.threads) × (idle_turns_before_rest run.threads run.cores run.rest ≡ 0) }
 {
     if run.threads == 1 || rest_of(run.threads, run.cores as usize, run.rest) != 0 {
         return FirstGroup::Thread;

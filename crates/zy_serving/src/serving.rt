@@ -6,7 +6,7 @@ ghost use Rattle.zy_capture.specs.Capture.{IsCapture};
 ghost use Rattle.zy_rx.specs.Feed.{sent_by};
 ghost use Rattle.zy_command_line.specs.Range.{IsRunnable};
 ghost use Rattle.zy_finish.specs.Received.{AllSent};
-ghost use Rattle.zy_finish.specs.Finish.{IsFinished, IsHoldBy};
+ghost use Rattle.zy_finish.specs.Finish.{IsResultOfRun, IsHoldBy};
 ghost use Rattle.zy_serving.specs.Seen.{side};
 ghost use Rattle.zy_serving.specs.Runs.{RunsTo};
 ghost use Rattle.zy_serving.specs.Running.{IsDriven};
@@ -56,7 +56,7 @@ fn finish_run(alloc: Global, driven: Running) -> Result<Finished, NoMemory>
     requires driven { IsDriven driven }
     ensures finished { IfOk result (λ finished. (records : List Record)
         → IsCapture driven.header.version driven.header.count records → AllSent (sent_by driven.inlets) records
-        → IsFinished driven.shared.store.shards driven.header.version driven.header.count records finished) }
+        → IsResultOfRun driven.shared.store.shards driven.header.version driven.header.count records finished) }
     ensures held { IfOk result (λ finished. AllByRecursion (IsHoldBy (length driven.cores)) finished.journal.holds) }
 {
     let Running {

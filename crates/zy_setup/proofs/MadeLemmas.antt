@@ -10,7 +10,7 @@ use Rattle.zy_home.specs.Home.{Homed, HomeStands, IsMade}
 use Rattle.zy_setup.specs.declared.own_connections.OwnConnections.{OwnConnections}
 use Rattle.zy_setup.specs.declared.core_parts.CoreParts.{CoreParts}
 use Rattle.zy_setup.specs.Ready.{IsNewHome, AreNewPasses, AreReady}
-use Rattle.zy_setup.specs.Make.{Gives, no_passes, HasPasses, AreMade}
+use Rattle.zy_setup.specs.Make.{GivesPass, no_passes, HasPasses, AreMade}
 use Rattle.zy_setup.proofs.PassLemmas.{push_at, push_below, passes_next, passes_none, length-no_passes, passes_all}
 
 -- nothing is made yet
@@ -45,7 +45,7 @@ new_home store rings rings' core cores count places ring first pass blocks h rin
 -- one further core
 module _ (store : TableId) (cores count : ℕ) (made made' : CoreParts) (are : AreMade store cores count made) (home : Homed) (ring : Ringed) (pass : Held Blocked)
     (homes_are : made'.homes.items ≡ made.homes.items ++ home ∷ []) (rings_are : made'.rings ≡ made.rings ++ ring ∷ [])
-    (passes' : List (PassList Blocked)) (passes_are : made'.passes.items ≡ passes') (gives : Gives (length made.homes.items) pass made.passes.items passes') (size : length passes' ≡ length made.passes.items)
+    (passes' : List (PassList Blocked)) (passes_are : made'.passes.items ≡ passes') (gives : GivesPass (length made.homes.items) pass made.passes.items passes') (size : length passes' ≡ length made.passes.items)
     (new : IsNewHome made'.rings (label_of store cores) cores (length made.homes.items) home) (counted : home.count ≡ count)
     (table : pass.table ≡ ring.id) (labelled : pass.label ≡ label_of store cores) (empty : pass.hand ≡ []) where
   home_at : (core : ℕ) (h : Homed) → (slice_get made.homes.items core ≡ Some h) ⊎ ((core ≡ length made.homes.items) × (home ≡ h)) → IsNewHome made'.rings (label_of store cores) cores core h
@@ -76,7 +76,7 @@ module _ (store : TableId) (cores count : ℕ) (made made' : CoreParts) (are : A
     counts = λ core h at. count_at core h (push_at made.homes.items home core h (ap (λ l. slice_get l core) (sym homes_are) ∙ at));
     passes = λ core p p_at. subst (λ l. HasPasses (label_of store cores) l core p) (sym rings_are)
         (passes_next (label_of store cores) made.rings ring pass table labelled empty made.passes.items passes'
-        (subst (λ n. Gives n pass made.passes.items passes') (sym are.same) gives) are.passes core p (ap (λ l. slice_get l core) (sym passes_are) ∙ p_at));
+        (subst (λ n. GivesPass n pass made.passes.items passes') (sym are.same) gives) are.passes core p (ap (λ l. slice_get l core) (sym passes_are) ∙ p_at));
   }
 
 -- the parts of all cores, when all are made

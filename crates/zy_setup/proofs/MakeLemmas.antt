@@ -12,9 +12,9 @@ use Rattle.zy_core.specs.Core.{Cored, Identity, Fits, cored, identity_of}
 use Rattle.zy_core.specs.Cores.{identities}
 use Rattle.zy_rx.specs.Feed.{rings_of}
 use Rattle.zy_setup.specs.declared.making.Making.{Making}
-use Rattle.zy_setup.specs.Ready.{AreReady, IsNewHome, AreNewPasses, IsFresh}
+use Rattle.zy_setup.specs.Ready.{AreReady, IsNewHome, AreNewPasses, IsUnusedRing}
 use Rattle.zy_setup.specs.Station.{stations_of, stations_in, station_of, station_in, rings_in}
-use Rattle.zy_setup.specs.Progress.{Adds, HasMade, HasMadeAll}
+use Rattle.zy_setup.specs.Progress.{AddsCore, HasMadeCores, HasMadeAll}
 use Rattle.zy_setup.proofs.FitLemmas.{all_fit}
 use Rattle.zy_setup.proofs.ListLemmas.{map_at, of_map, map_push, length_push, length_map, each_push}
 
@@ -41,7 +41,7 @@ module _ (shared : Sharing) (homes : List Homed) where
 
   -- no core was made
   pub made_none : (m : Making) (passes : List (PassList Blocked)) → m.cores ≡ [] → m.inlets.items ≡ [] → m.root ≡ control.rooted shared.control.id 0 (length shared.rings)
-      → AreReady shared.rings shared.store homes passes → HasMade shared homes m homes passes
+      → AreReady shared.rings shared.store homes passes → HasMadeCores shared homes m homes passes
   made_none m passes cores inlets root ready =
       let z : length m.inlets.items ≡ 0 = ap length inlets in
       record {
@@ -59,7 +59,7 @@ module _ (shared : Sharing) (homes : List Homed) where
 
   -- the next core was made
   pub made_next : (m m' : Making) (h : Homed) (left : List Homed) (p : PassList Blocked) (ps : List (PassList Blocked))
-      → HasMade shared homes m (h ∷ left) (p ∷ ps) → Adds shared h m m' → HasMade shared homes m' left ps
+      → HasMadeCores shared homes m (h ∷ left) (p ∷ ps) → AddsCore shared h m m' → HasMadeCores shared homes m' left ps
   made_next m m' h left p ps has adds =
       let n : length m'.inlets.items ≡ length m.inlets.items + 1 = ap length adds.inlets ∙ length_push m.inlets.items adds.inlet in
       let new = has.each_home 0 (length m.inlets.items) h refl (omega arith) in
@@ -76,13 +76,13 @@ module _ (shared : Sharing) (homes : List Homed) where
             ∙ ap (λ (x : Homed). stations_in (identities m.cores) ++ station_of x ∷ stations_of left) adds.home_is ∙ has.same;
         numbers = λ i c at. each_push (λ (k : ℕ) (x : Cored). x.home.core ≡ k) m.cores adds.core has.numbers at_end i c (ap (λ l. slice_get l i) (sym adds.cores) ∙ at);
         each = λ i c at. each_push (λ (k : ℕ) (x : Cored). Fits shared (identity_of x)) m.cores adds.core has.each adds.fits i c (ap (λ l. slice_get l i) (sym adds.cores) ∙ at);
-        fresh = λ i o at. each_push (λ (k : ℕ) (x : Offering). IsFresh x) m.inlets.items adds.inlet has.fresh adds.fresh i o (ap (λ l. slice_get l i) (sym adds.inlets) ∙ at);
+        fresh = λ i o at. each_push (λ (k : ℕ) (x : Offering). IsUnusedRing x) m.inlets.items adds.inlet has.fresh adds.fresh i o (ap (λ l. slice_get l i) (sym adds.inlets) ∙ at);
         each_home = λ i core x at is. has.each_home (suc i) core x at (omega arith);
         each_passes = λ i core x at is. has.each_passes (suc i) core x at (omega arith);
       }
 
   -- all were made
-  pub made_all : (m : Making) (passes : List (PassList Blocked)) → 1 ≤ length shared.rings → length shared.rings ≤ 64 → HasMade shared homes m [] passes → HasMadeAll shared homes m
+  pub made_all : (m : Making) (passes : List (PassList Blocked)) → 1 ≤ length shared.rings → length shared.rings ≤ 64 → HasMadeCores shared homes m [] passes → HasMadeAll shared homes m
   made_all m passes some few has =
       let n : length m.inlets.items ≡ length shared.rings = let near = has.count in omega arith in
       let ids : length (identities m.cores) ≡ length shared.rings = length_map identity_of m.cores ∙ sym (as_many m.inlets.items m.cores has.rings) ∙ n in

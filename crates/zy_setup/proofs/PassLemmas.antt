@@ -13,7 +13,7 @@ use Rattle.zy_steal.specs.Steal.{PassList, ArePasses, pass_list, AreIdle, seats_
 use Rattle.zy_steal.proofs.OrderLemmas.{other-below, other-above}
 use Rattle.zy_conn.specs.Block.{Blocked}
 use Rattle.zy_setup.proofs.ListLemmas.{get_seam}
-use Rattle.zy_setup.specs.Make.{with_pass, Gives, no_passes, others_among, HasPasses}
+use Rattle.zy_setup.specs.Make.{with_further_pass, GivesPass, no_passes, others_among, HasPasses}
 
 -- ---- the last of a list
 
@@ -40,9 +40,9 @@ push_below xs x i y below e = go (push_at xs x i y e)
 
 module _ (core : ℕ) (first now : Held Blocked) (same : now ≡ record first { out = now.out }) where
   module _ (before passes : List (PassList Blocked)) (n : ℕ)
-      (done : (k : ℕ) → k < n → slice_get passes k ≡ option_map (with_pass core (newly_given first) k) (slice_get before k))
+      (done : (k : ℕ) → k < n → slice_get passes k ≡ option_map (with_further_pass core (newly_given first) k) (slice_get before k))
       (rest : (k : ℕ) → n ≤ k → slice_get passes k ≡ slice_get before k) (within : n < length passes) (x : PassList Blocked) (is : x ≡ get_or passes n x)
-      (x' : PassList Blocked) (gives : x' ≡ with_pass core (newly_given now) n x) where
+      (x' : PassList Blocked) (gives : x' ≡ with_further_pass core (newly_given now) n x) where
     at : slice_get passes n ≡ Some x
     at = get_at passes n x x within is
 
@@ -130,18 +130,18 @@ module _ (label : Name) (rings : List Ringed) (ring : Ringed) (pass : Held Block
           last_ring r e = let s : Some ring ≡ Some r = sym (get_seam rings [] ring) ∙ e in cc
 
   -- each core, when the passes were given
-  module _ (before after : List (PassList Blocked)) (gives : Gives (length rings) pass before after)
+  module _ (before after : List (PassList Blocked)) (gives : GivesPass (length rings) pass before after)
       (each : (core : ℕ) (p : PassList Blocked) → slice_get before core ≡ Some p → HasPasses label rings core p) where
-    from : (core : ℕ) (o : Option (PassList Blocked)) (q : PassList Blocked) → slice_get before core ≡ o → option_map (with_pass (length rings) pass core) o ≡ Some q → HasPasses label (rings ++ ring ∷ []) core q
+    from : (core : ℕ) (o : Option (PassList Blocked)) (q : PassList Blocked) → slice_get before core ≡ o → option_map (with_further_pass (length rings) pass core) o ≡ Some q → HasPasses label (rings ++ ring ∷ []) core q
     from core None q is e = absurd (cc)
     from core (Some p) q is e = dite (ℕ_discrete core (length rings))
         (λ same.
-        let kept : with_pass (length rings) pass core p ≡ p = ap (λ b. if b then p else pass_list p.core (p.items ++ pass ∷ [])) (eq-eqb core (length rings) same) in
+        let kept : with_further_pass (length rings) pass core p ≡ p = ap (λ b. if b then p else pass_list p.core (p.items ++ pass ∷ [])) (eq-eqb core (length rings) same) in
         let both : Some p ≡ Some q = ap Some (sym kept) ∙ e in
         let one : p ≡ q = cc in
         subst (HasPasses label (rings ++ ring ∷ []) core) one (subst (λ n. HasPasses label (rings ++ ring ∷ []) n p) (sym same) (passes_here p (subst (λ n. HasPasses label rings n p) same (each core p is)))))
         (λ other.
-        let more : with_pass (length rings) pass core p ≡ pass_list p.core (p.items ++ pass ∷ []) = ap (λ b. if b then p else pass_list p.core (p.items ++ pass ∷ [])) (ne_eqb core (length rings) other) in
+        let more : with_further_pass (length rings) pass core p ≡ pass_list p.core (p.items ++ pass ∷ []) = ap (λ b. if b then p else pass_list p.core (p.items ++ pass ∷ [])) (ne_eqb core (length rings) other) in
         let both : Some (pass_list p.core (p.items ++ pass ∷ [])) ≡ Some q = ap Some (sym more) ∙ e in
         let one : pass_list p.core (p.items ++ pass ∷ []) ≡ q = cc in
         subst (HasPasses label (rings ++ ring ∷ []) core) one (passes_other core p other (each core p is)))

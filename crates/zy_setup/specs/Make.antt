@@ -52,14 +52,14 @@ pub record AreOwns (store : TableId) (cores conn : ℕ) (owns : List OwnConnecti
 -- ---- passes
 
 -- the passes of a core, with one further pass on the ring of another core
-abbrev pub with_pass : ℕ → Held Blocked → ℕ → PassList Blocked → PassList Blocked
-with_pass core pass other passes =
+abbrev pub with_further_pass : ℕ → Held Blocked → ℕ → PassList Blocked → PassList Blocked
+with_further_pass core pass other passes =
     if other == core then passes else pass_list passes.core (passes.items ++ pass ∷ [])
 
 -- each other core got such a pass on the ring of this one
-abbrev pub Gives : ℕ → Held Blocked → List (PassList Blocked) → List (PassList Blocked) → Type 0
-Gives core pass before after =
-    (other : ℕ) → slice_get after other ≡ option_map (with_pass core pass other) (slice_get before other)
+abbrev pub GivesPass : ℕ → Held Blocked → List (PassList Blocked) → List (PassList Blocked) → Type 0
+GivesPass core pass before after =
+    (other : ℕ) → slice_get after other ≡ option_map (with_further_pass core pass other) (slice_get before other)
 
 -- `cores` cores, each without a pass
 abbrev pub no_passes : ℕ → List (PassList Blocked)

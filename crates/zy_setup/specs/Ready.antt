@@ -38,10 +38,10 @@ pub record AreReady (rings : List Ringed) (store : Stored) (homes : List Homed)
       → AreNewPasses rings (label_of store.id (length rings)) core p
 
 -- nothing was offered to a receive ring of 256 slots, and all of them are free
-pub record IsFresh (inlet : Offering) : Type 0 where
+pub record IsUnusedRing (inlet : Offering) : Type 0 where
   pub unused : inlet ≡ offering inlet.ring [] 256
   pub slots : inlet.ring.capacity ≡ 256
 
 -- the same of the receive ring of each core
-abbrev pub AreFresh : List Offering → Type 0
-AreFresh inlets = (core : ℕ) (inlet : Offering) → slice_get inlets core ≡ Some inlet → IsFresh inlet
+abbrev pub AreUnusedRings : List Offering → Type 0
+AreUnusedRings inlets = (core : ℕ) (inlet : Offering) → slice_get inlets core ≡ Some inlet → IsUnusedRing inlet

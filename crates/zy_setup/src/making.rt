@@ -5,9 +5,9 @@ ghost use Rattle.zy_control.specs.Pass.{rooted};
 ghost use Rattle.zy_core.specs.Cores.{identities, AreCores, AreInlets};
 ghost use Rattle.zy_rx.specs.Feed.{rings_of, sent_by};
 ghost use Rattle.zy_feed.specs.Feeding.{AreUnsent};
-ghost use Rattle.zy_setup.specs.Ready.{AreReady, IsNewHome, AreNewPasses, AreFresh};
+ghost use Rattle.zy_setup.specs.Ready.{AreReady, IsNewHome, AreNewPasses, AreUnusedRings};
 ghost use Rattle.zy_setup.specs.Station.{stations_of, stations_in, rings_in};
-ghost use Rattle.zy_setup.specs.Progress.{Adds, HasMadeAll};
+ghost use Rattle.zy_setup.specs.Progress.{AddsCore, HasMadeAll};
 
 use mc_store::StoreTable;
 use std::alloc::Global;
@@ -56,7 +56,7 @@ pub fn make(
 
     // Nothing was sent, and there is room.
     ensures unsent { IfOk result (λ made. AreUnsent (sent_by made.inlets)) }
-    ensures fresh { IfOk result (λ made. AreFresh made.inlets) }
+    ensures fresh { IfOk result (λ made. AreUnusedRings made.inlets) }
 {
     match Shared::new(alloc, rings, store) {
         Ok((shared, root)) => make_cores(alloc, shared, root, homes, passes),
@@ -85,7 +85,7 @@ fn make_cores(
     ensures rings { IfOk result (λ made. rings_of made.inlets ≡ rings_in (identities made.cores)) }
     ensures shared { IfOk result (λ made. made.shared ≡ shared) }
     ensures unsent { IfOk result (λ made. AreUnsent (sent_by made.inlets)) }
-    ensures fresh { IfOk result (λ made. AreFresh made.inlets) }
+    ensures fresh { IfOk result (λ made. AreUnusedRings made.inlets) }
 {
     let mut making = Making {
         root,
@@ -158,7 +158,7 @@ impl Making {
             (length shared.now.rings) (length self.old.inlets.items) home }
         requires passes { AreNewPasses shared.now.rings (label_of shared.now.store.id (length shared.now.rings))
             (length self.old.inlets.items) passes }
-        ensures ok { OnOk result (Adds shared.now home self.old self.new) }
+        ensures ok { OnOk result (AddsCore shared.now home self.old self.new) }
     {
         let number = self.inlets.len() as u32;
         let (inlet, outlet) = match ring(alloc, SLOTS) {

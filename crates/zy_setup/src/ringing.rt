@@ -2,7 +2,7 @@
 ghost use Rattle.std.specs.Prelude.{◌≡◌, ◌≤◌, ◌<◌, length, IfOk, OnOk};
 ghost use Rattle.zy_conn.specs.Block.{label_of};
 ghost use Rattle.zy_shuffle.specs.Pass.{HasAll, newly_held, newly_given};
-ghost use Rattle.zy_setup.specs.Make.{Gives, with_pass};
+ghost use Rattle.zy_setup.specs.Make.{GivesPass, with_further_pass};
 
 use mc_store::StoreTable;
 use std::alloc::Global;
@@ -53,7 +53,7 @@ pub(crate) fn give_passes(
 ) -> Result<(), NoMemory>
     requires table { home.old.table ≡ ring.now.id }
     ensures home { home.new ≡ record home.old { out = home.new.out } }
-    ensures gives { OnOk result (Gives core (newly_given home.old) passes.old passes.new) }
+    ensures gives { OnOk result (GivesPass core (newly_given home.old) passes.old passes.new) }
 {
     for other in 0..passes.len() {
         give_pass(ring, home, core as usize, other, &mut passes[other])?;
@@ -71,7 +71,7 @@ fn give_pass(
 ) -> Result<(), NoMemory>
     requires table { home.old.table ≡ ring.now.id }
     ensures home { home.new ≡ record home.old { out = home.new.out } }
-    ensures gives { OnOk result (passes.new ≡ with_pass core (newly_given home.old) other passes.old) }
+    ensures gives { OnOk result (passes.new ≡ with_further_pass core (newly_given home.old) other passes.old) }
 {
     if other == core {
         return Ok(());

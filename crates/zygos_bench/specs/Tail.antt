@@ -8,7 +8,7 @@ use Rattle.zygos_bench.specs.declared.tail.feeder.Stage.{Stage}
 use Rattle.zygos_bench.specs.declared.tail.feeder.Stage.TheVariants as Stages
 
 -- what a step's answer means for inlets and stage
-pub record StepsTo (before after : List Offering) (stage : Stage) (fed : Fed) : Type 0 where
+pub record StepSays (before after : List Offering) (stage : Stage) (fed : Fed) : Type 0 where
   pub offered : fed ≡ Answers.Offered → HasOffered before after
   pub kept : fed ≢ Answers.Offered → sent_by after ≡ sent_by before
   pub full : fed ≡ Answers.Full → HasNoRoom after

@@ -15,13 +15,13 @@ use Rattle.zy_journal.specs.Journal.{journal_bytes}
 use Rattle.zy_journal_reader.specs.Steps.{journal_limit}
 use Rattle.zy_journal_reader.proofs.WholeLemmas.{good_spells as journal_spells}
 use Rattle.zy_journal_reader.proofs.SpelledLemmas.{spells_good as journal_good}
-use Rattle.zy_input.specs.Parts.{AreParts}
+use Rattle.zy_input.specs.Parts.{IsMadeOfParts}
 use Rattle.zy_input.proofs.DivisionLemmas.{one_streams, one_journal, one_outputs}
 use Rattle.zy_check.specs.declared.verdict.Verdict.{Verdict}
 use Rattle.zy_check.specs.declared.verdict.Verdict.TheVariants.{Yes}
-use Rattle.zy_check.specs.Given.{given}
+use Rattle.zy_check.specs.Given.{all_given}
 use Rattle.zy_check.specs.Cause.{HasVerdict}
-use Rattle.zy_check.specs.OfRun.{AreOfRun, given_of}
+use Rattle.zy_check.specs.OfRun.{AreOfRun, given_by_records}
 use Rattle.zy_check.proofs.FileVerdictLemmas.{of_records, of_streams}
 use Rattle.zy_check.proofs.OneVerdictLemmas.{one_verdict}
 use Rattle.zy_check.proofs.RunVerdictLemmas.{run_is_right}
@@ -33,7 +33,7 @@ use Rattle.zy_command_line.specs.declared.request.Out.{Out}
 use Rattle.zy_command_line.specs.declared.request.Out.TheVariants.{Both}
 use Rattle.zy_command_line.specs.declared.request.Request.{Request}
 use Rattle.zy_command_line.specs.declared.request.Request.TheVariants as Requests
-use Rattle.zy_serving.specs.Seen.{Seen, Takes, OfReported, OfTold}
+use Rattle.zy_serving.specs.Seen.{Seen, WasWritten, OfReported, OfTold}
 use Rattle.zy_serving.specs.Headline.{IsServed, IsWritten, written}
 use Rattle.zygos_run.specs.Checked.{IsChecked}
 use Rattle.zygos_run.specs.Served.{HeadlineHolds}
@@ -51,7 +51,7 @@ module _ (asked : Run) (bytes : List ℕ) (journal : Journal) (outputs : AllOutp
   pub short_replies : length (replies_bytes outputs) < replies_limit
   short_replies = replies_short asked.shards is.version is.count bytes is.records journal outputs lawful.1 is.spelled of_run is.readable.valid is.readable.fits
 
-  served_parts : AreParts (bytes ++ written Both journal outputs) (with_records (no_bytes is.count) is.records) journal outputs
+  served_parts : IsMadeOfParts (bytes ++ written Both journal outputs) (with_records (no_bytes is.count) is.records) journal outputs
   served_parts = record {
     capture_text = bytes;
     journal_text = journal_bytes journal;
@@ -70,27 +70,27 @@ module _ (asked : Run) (bytes : List ℕ) (journal : Journal) (outputs : AllOutp
     outputs = outputs;
     parts = served_parts;
     lawful = is.lawful;
-    verdict_is = run_is_right (given_of asked.shards is.count is.records journal outputs) (of_records asked.shards is.count is.records journal outputs of_run);
+    verdict_is = run_is_right (given_by_records asked.shards is.count is.records journal outputs) (of_records asked.shards is.count is.records journal outputs of_run);
   }
 
 -- the headline is of a run
 pub headline_run : (request : Option Request) (call : Seen) (journal : Journal) → HeadlineHolds request call journal
-    → (asked : Run) × (out : Out) × (request ≡ Some (Requests.Run asked out)) × OfTold call.source (λ bytes. IsWritten asked out bytes journal (Takes call.sink))
+    → (asked : Run) × (out : Out) × (request ≡ Some (Requests.Run asked out)) × OfTold call.source (λ bytes. IsWritten asked out bytes journal (WasWritten call.sink))
 headline_run None call journal holds = absurd holds
 headline_run (Some (Requests.Run asked out)) call journal holds = (asked, out, refl, holds)
 headline_run (Some request) call journal holds = absurd holds
 
 pub run_headline : (request : Option Request) (call : Seen) (journal : Journal)
-    → ((asked : Run) × (out : Out) × (request ≡ Some (Requests.Run asked out)) × OfTold call.source (λ bytes. IsWritten asked out bytes journal (Takes call.sink)))
+    → ((asked : Run) × (out : Out) × (request ≡ Some (Requests.Run asked out)) × OfTold call.source (λ bytes. IsWritten asked out bytes journal (WasWritten call.sink)))
     → HeadlineHolds request call journal
 run_headline request call journal run = subst (λ r. HeadlineHolds r call journal) (sym run.2) run.3
 
 -- what the headline says of bytes that are reported
 written_of : (asked : Run) (out : Out) (call : Seen) (bytes : List ℕ) (journal : Journal) (request : Option Request) → request ≡ Some (Requests.Run asked out) → call.source.before ≡ Some bytes
-    → HeadlineHolds request call journal → IsWritten asked out bytes journal (Takes call.sink)
+    → HeadlineHolds request call journal → IsWritten asked out bytes journal (WasWritten call.sink)
 written_of asked out call bytes journal request is told holds =
     let run : HeadlineHolds (Some (Requests.Run asked out)) call journal = subst (λ r. HeadlineHolds r call journal) is holds in
-    (subst (λ (before : Option (List ℕ)). OfReported before call.source.after (λ b. IsWritten asked out b journal (Takes call.sink))) told run).1
+    (subst (λ (before : Option (List ℕ)). OfReported before call.source.after (λ b. IsWritten asked out b journal (WasWritten call.sink))) told run).1
 
 pub certified_of : (asked : Run) (out : Out) (call : Seen) (bytes : List ℕ) (journal : Journal) (request : Option Request) → (request ≡ Some (Requests.Run asked out) → IsRunnable asked)
     → request ≡ Some (Requests.Run asked out) → call.source.before ≡ Some bytes → HeadlineHolds request call journal → IsCertified asked out bytes journal call.sink
@@ -109,15 +109,15 @@ one_checked shards bytes a b x y =
     let streams = one_streams bytes y.streams x.streams y.journal x.journal y.outputs x.outputs y.parts x.parts in
     let journal = one_journal bytes y.streams x.streams y.journal x.journal y.outputs x.outputs y.parts x.parts in
     let outputs = one_outputs bytes y.streams x.streams y.journal x.journal y.outputs x.outputs y.lawful x.lawful y.parts x.parts in
-    one_verdict (given shards x.streams x.journal x.outputs) a b x.verdict_is
-    (subst (λ (o : AllOutputs). HasVerdict (given shards x.streams x.journal o) b) outputs
-    (subst (λ (j : Journal). HasVerdict (given shards x.streams j y.outputs) b) journal
-    (subst (λ (s : List (List (List ℕ))). HasVerdict (given shards s y.journal y.outputs) b) streams y.verdict_is)))
+    one_verdict (all_given shards x.streams x.journal x.outputs) a b x.verdict_is
+    (subst (λ (o : AllOutputs). HasVerdict (all_given shards x.streams x.journal o) b) outputs
+    (subst (λ (j : Journal). HasVerdict (all_given shards x.streams j y.outputs) b) journal
+    (subst (λ (s : List (List (List ℕ))). HasVerdict (all_given shards s y.journal y.outputs) b) streams y.verdict_is)))
 
-pub some_checked : (shards : ℕ) (bytes : List ℕ) (streams : List (List (List ℕ))) (journal : Journal) (outputs : AllOutputs) → AreParts bytes streams journal outputs → AreOutputs outputs
+pub some_checked : (shards : ℕ) (bytes : List ℕ) (streams : List (List (List ℕ))) (journal : Journal) (outputs : AllOutputs) → IsMadeOfParts bytes streams journal outputs → AreOutputs outputs
     → (v : Verdict) × IsChecked shards bytes v
 some_checked shards bytes streams journal outputs parts lawful =
-    let found = some_verdict (given shards streams journal outputs) in
+    let found = some_verdict (all_given shards streams journal outputs) in
     (found.0, record { streams = streams; journal = journal; outputs = outputs; parts = parts; lawful = lawful; verdict_is = found.1 })
 
 pub checked_run : (shards : ℕ) (bytes : List ℕ) → 1 ≤ shards → AreBytes bytes → IsChecked shards bytes Yes → IsInputOfRun shards bytes
@@ -141,5 +141,5 @@ checked_run shards bytes some small is =
       of_journal = journal;
       of_replies = replies_spell p.replies_text is.outputs.version (items_of is.outputs) (bytes_back p.journal_text p.replies_text rest) p.of_replies;
       run = of_streams shards c.count c.records is.journal is.outputs some journal.readable.valid is.lawful
-          (subst (λ (s : List (List (List ℕ))). HasVerdict (given shards s is.journal is.outputs) Yes) c.joined is.verdict_is);
+          (subst (λ (s : List (List (List ℕ))). HasVerdict (all_given shards s is.journal is.outputs) Yes) c.joined is.verdict_is);
     }

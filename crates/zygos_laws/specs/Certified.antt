@@ -11,7 +11,7 @@ use Rattle.zy_check.specs.OfRun.{AreOfRun}
 use Rattle.zy_command_line.specs.declared.request.Run.{Run}
 use Rattle.zy_command_line.specs.declared.request.Out.{Out}
 use Rattle.zy_command_line.specs.declared.request.Out.TheVariants.{Both}
-use Rattle.zy_serving.specs.Seen.{Side, Takes}
+use Rattle.zy_serving.specs.Seen.{Side, WasWritten}
 use Rattle.zy_serving.specs.Headline.{written}
 use Rattle.zygos_run.specs.Checked.{IsChecked}
 
@@ -36,5 +36,5 @@ pub record IsInputOfRun (shards : ℕ) (bytes : List ℕ) : Type 0 where
 -- behind it is yes
 pub record IsCertified (asked : Run) (out : Out) (bytes : List ℕ) (journal : Journal) (sink : Side) : Type 0 where
   pub outputs : AllOutputs
-  pub wrote : Takes sink (written out journal outputs)
+  pub wrote : WasWritten sink (written out journal outputs)
   pub checks : IsChecked asked.shards (bytes ++ written Both journal outputs) Yes

@@ -8,7 +8,7 @@ ghost use Rattle.zy_journal.specs.Journal.{journal_bytes};
 ghost use Rattle.zy_journal_reader.specs.Steps.{journal_limit};
 ghost use Rattle.zy_check.specs.declared.verdict.Verdict.{Verdict};
 ghost use Rattle.zy_check.specs.declared.verdict.Verdict.TheVariants.{Yes};
-ghost use Rattle.zy_input.specs.Parts.{AreParts};
+ghost use Rattle.zy_input.specs.Parts.{IsMadeOfParts};
 ghost use Rattle.zy_command_line.specs.Grammar.{Word};
 ghost use Rattle.zy_command_line.specs.Range.{AreShards};
 ghost use Rattle.zy_command_line.specs.Request.{request_of};
@@ -17,7 +17,7 @@ ghost use Rattle.zy_command_line.specs.declared.request.Out.{Out};
 ghost use Rattle.zy_command_line.specs.declared.request.Out.TheVariants.{Both};
 ghost use Rattle.zy_command_line.specs.declared.request.Request.{Request};
 ghost use Rattle.zy_command_line.specs.declared.request.Request.TheVariants as Requests;
-ghost use Rattle.zy_serving.specs.Seen.{Seen, Takes, OfTold};
+ghost use Rattle.zy_serving.specs.Seen.{Seen, WasWritten, OfTold};
 ghost use Rattle.zy_serving.specs.Headline.{IsServed, IsWritten, written};
 ghost use Rattle.zygos_run.specs.Checked.{IsChecked};
 ghost use Rattle.zygos_run.specs.Served.{HeadlineHolds};
@@ -29,7 +29,7 @@ pub fn the_headline_is_of_a_run()
     ensures run { (request : Option Request) (call : Seen) (journal : Journal)
         → HeadlineHolds request call journal
         ↔ ((asked : Run) × (out : Out) × (request ≡ Some (Requests.Run asked out))
-        × OfTold call.source (λ bytes. IsWritten asked out bytes journal (Takes call.sink))) }
+        × OfTold call.source (λ bytes. IsWritten asked out bytes journal (WasWritten call.sink))) }
 {}
 
 /// The text of a served run's journal has fewer than 2^63 - 1 bytes, and so has its replies file.
@@ -58,7 +58,7 @@ pub fn what_is_served_checks()
 /// On an input there is one verdict, if it has parts.
 pub fn an_input_has_one_verdict()
     ensures some { (shards : ℕ) (bytes : List ℕ) (streams : List (List (List ℕ)))
-        (journal : Journal) (outputs : AllOutputs) → AreParts bytes streams journal outputs
+        (journal : Journal) (outputs : AllOutputs) → IsMadeOfParts bytes streams journal outputs
         → AreOutputs outputs → (v : Verdict) × IsChecked shards bytes v }
     ensures same { (shards : ℕ) (bytes : List ℕ) (a b : Verdict)
         → IsChecked shards bytes a → IsChecked shards bytes b → a ≡ b }

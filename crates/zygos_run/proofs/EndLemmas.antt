@@ -9,17 +9,17 @@ use Rattle.zy_capture.specs.Verdict as Captures
 use Rattle.zy_journal.specs.declared.journal.Journal.{Journal as OneJournal}
 use Rattle.zy_input.specs.declared.stop.Refusal.{Refusal}
 use Rattle.zy_input.specs.declared.stop.Refusal.TheVariants.{Capture, Journal, Pcap}
-use Rattle.zy_input.specs.Parts.{AreParts, HasPartFault}
+use Rattle.zy_input.specs.Parts.{IsMadeOfParts, HasPartFault}
 use Rattle.zy_read.proofs.SourceLemmas.{told_all}
 use Rattle.zy_command_line.specs.declared.request.Request.{Request}
 use Rattle.zy_command_line.specs.declared.request.Request.TheVariants.{Run, Check, Gen, Pcap as PcapOf, Report, SelfTest}
 use Rattle.zy_pcap.specs.Packet.{Packet}
 use Rattle.zy_pcap.specs.Packets as Recorded
 use Rattle.zy_journal_reader.specs.Verdict as Journals
-use Rattle.zy_serving.specs.Seen.{Side, Seen, NoneRose, Takes, OfGiven, OfReported, OfTold}
+use Rattle.zy_serving.specs.Seen.{Side, Seen, NoneRose, WasWritten, OfGiven, OfReported, OfTold}
 use Rattle.zygos_run.specs.declared.answer.Answer.{Answer}
 use Rattle.zygos_run.specs.declared.answer.Answer.TheVariants.{Served, Checked, Made, Tested, Usage, Refused, ReadFault, WriteFault, OutOfMemory}
-use Rattle.zygos_run.specs.Input.{Input, HasFault, IsFaultless, IsRefusedFor}
+use Rattle.zygos_run.specs.Input.{Input, HasInputFault, IsFaultless, IsRefusedFor}
 use Rattle.zygos_run.specs.Input.Input.{CaptureInput, CheckInput, PacketsInput, JournalInput}
 use Rattle.zygos_run.specs.Task.{Task, task_of, input_of}
 use Rattle.zygos_run.specs.Ends.{OfInput, CarriesOut, IsFaultOf, Ends}
@@ -29,27 +29,27 @@ use Rattle.zygos_run.specs.Served.{IsToldGood, IsToldBad, IsDone, IsDoneOr, IsRe
 
 -- parts of a check's input have no fault
 abbrev pub PartsHaveNone : Type 0
-PartsHaveNone = (text : List ℕ) (streams : List (List (List ℕ))) (journal : OneJournal) (outputs : AllOutputs) (refusal : Refusal) → AreParts text streams journal outputs → HasPartFault text refusal → ⊥
+PartsHaveNone = (text : List ℕ) (streams : List (List (List ℕ))) (journal : OneJournal) (outputs : AllOutputs) (refusal : Refusal) → IsMadeOfParts text streams journal outputs → HasPartFault text refusal → ⊥
 
 -- a check's input has one fault at most
 abbrev pub PartsHaveOne : Type 0
 PartsHaveOne = (text : List ℕ) (first second : Refusal) → HasPartFault text first → HasPartFault text second → first ≡ second
 
 -- a capture, recorded packets and a journal have no fault as such
-capture_faultless : (bytes : List ℕ) (version count : ℕ) (records : List Record) → Captures.verdict bytes ≡ Captures.Verdict.Good version count records → (refusal : Refusal) → HasFault CaptureInput refusal bytes → ⊥
+capture_faultless : (bytes : List ℕ) (version count : ℕ) (records : List Record) → Captures.verdict bytes ≡ Captures.Verdict.Good version count records → (refusal : Refusal) → HasInputFault CaptureInput refusal bytes → ⊥
 capture_faultless bytes version count records good (Capture fault) bad = let both : Captures.Verdict.Good version count records ≡ Captures.Verdict.Bad fault = sym good ∙ bad in cc
 capture_faultless bytes version count records good refusal bad = bad
 
-packets_faultless : (port : ℕ) (bytes : List ℕ) (given : List Packet) → Recorded.packets port bytes ≡ Recorded.Found.Packets given → (refusal : Refusal) → HasFault (PacketsInput port) refusal bytes → ⊥
-packets_faultless port bytes given good (Pcap fault) bad = let both : Recorded.Found.Packets given ≡ Recorded.Found.Bad fault = sym good ∙ bad in cc
+packets_faultless : (port : ℕ) (bytes : List ℕ) (given : List Packet) → Recorded.packets port bytes ≡ Recorded.FoundPackets.Packets given → (refusal : Refusal) → HasInputFault (PacketsInput port) refusal bytes → ⊥
+packets_faultless port bytes given good (Pcap fault) bad = let both : Recorded.FoundPackets.Packets given ≡ Recorded.FoundPackets.Bad fault = sym good ∙ bad in cc
 packets_faultless port bytes given good refusal bad = bad
 
-journal_faultless : (bytes : List ℕ) (journal : OneJournal) → Journals.verdict bytes ≡ Journals.Verdict.Good journal → (refusal : Refusal) → HasFault JournalInput refusal bytes → ⊥
-journal_faultless bytes journal good (Journal fault) bad = let both : Journals.Verdict.Good journal ≡ Journals.Verdict.Bad fault = sym good ∙ bad in cc
+journal_faultless : (bytes : List ℕ) (journal : OneJournal) → Journals.journal_verdict bytes ≡ Journals.JournalVerdict.Good journal → (refusal : Refusal) → HasInputFault JournalInput refusal bytes → ⊥
+journal_faultless bytes journal good (Journal fault) bad = let both : Journals.JournalVerdict.Good journal ≡ Journals.JournalVerdict.Bad fault = sym good ∙ bad in cc
 journal_faultless bytes journal good refusal bad = bad
 
 -- an input has one fault at most
-one_fault : PartsHaveOne → (input : Input) (bytes : List ℕ) (first second : Refusal) → HasFault input first bytes → HasFault input second bytes → first ≡ second
+one_fault : PartsHaveOne → (input : Input) (bytes : List ℕ) (first second : Refusal) → HasInputFault input first bytes → HasInputFault input second bytes → first ≡ second
 one_fault one CaptureInput bytes (Capture f) (Capture g) x y =
     let both : Captures.Verdict.Bad f ≡ Captures.Verdict.Bad g = sym x ∙ y in
     let same : f ≡ g = cc in ap (λ h. Capture h) same
@@ -57,12 +57,12 @@ one_fault one CaptureInput bytes (Capture f) second x y = absurd y
 one_fault one CaptureInput bytes first second x y = absurd x
 one_fault one CheckInput bytes first second x y = one bytes first second x y
 one_fault one (PacketsInput port) bytes (Pcap f) (Pcap g) x y =
-    let both : Recorded.Found.Bad f ≡ Recorded.Found.Bad g = sym x ∙ y in
+    let both : Recorded.FoundPackets.Bad f ≡ Recorded.FoundPackets.Bad g = sym x ∙ y in
     let same : f ≡ g = cc in ap (λ h. Pcap h) same
 one_fault one (PacketsInput port) bytes (Pcap f) second x y = absurd y
 one_fault one (PacketsInput port) bytes first second x y = absurd x
 one_fault one JournalInput bytes (Journal f) (Journal g) x y =
-    let both : Journals.Verdict.Bad f ≡ Journals.Verdict.Bad g = sym x ∙ y in
+    let both : Journals.JournalVerdict.Bad f ≡ Journals.JournalVerdict.Bad g = sym x ∙ y in
     let same : f ≡ g = cc in ap (λ h. Journal h) same
 one_fault one JournalInput bytes (Journal f) second x y = absurd y
 one_fault one JournalInput bytes first second x y = absurd x
@@ -88,13 +88,13 @@ told : (source : Side) (reads : Option Input) (P : List ℕ → Type 0) → OfIn
 told source None P given = given
 told source (Some input) P given = reported source.before source.after given.0 P given.1.0 given.1.1 given.2
 
-told_found : (call : Seen) (task : Task) (found : Option task.Found) → IsSomeAnd found (λ f. OfInput task.reads (OfGiven call.source) (λ bytes. task.Does bytes f (Takes call.sink)))
-    → IsSomeAnd found (λ f. OfInput task.reads (OfTold call.source) (λ bytes. task.Does bytes f (Takes call.sink)))
+told_found : (call : Seen) (task : Task) (found : Option task.Found) → IsSomeAnd found (λ f. OfInput task.reads (OfGiven call.source) (λ bytes. task.Does bytes f (WasWritten call.sink)))
+    → IsSomeAnd found (λ f. OfInput task.reads (OfTold call.source) (λ bytes. task.Does bytes f (WasWritten call.sink)))
 told_found call task None has = has
-told_found call task (Some f) has = told call.source task.reads (λ bytes. task.Does bytes f (Takes call.sink)) has
+told_found call task (Some f) has = told call.source task.reads (λ bytes. task.Does bytes f (WasWritten call.sink)) has
 
 -- what was carried out of the bytes that the source gave was carried out of all that it reported
-pub told_of : (request : Option Request) (call : Seen) (answer : Answer) → CarriesOut request answer (OfGiven call.source) (Takes call.sink) → CarriesOut request answer (OfTold call.source) (Takes call.sink)
+pub told_of : (request : Option Request) (call : Seen) (answer : Answer) → CarriesOut request answer (OfGiven call.source) (WasWritten call.sink) → CarriesOut request answer (OfTold call.source) (WasWritten call.sink)
 told_of None call answer has = has
 told_of (Some asked) call answer has = told_found call (task_of asked) ((task_of asked).found_in answer) has
 
@@ -117,10 +117,10 @@ found_some : {T : Type 0} (found : Option T) (P : T → Type 0) → IsSomeAnd fo
 found_some None P has = absurd has
 found_some (Some f) P has = refl
 
-done : (request : Option Request) (call : Seen) (answer : Answer) → CarriesOut request answer (OfGiven call.source) (Takes call.sink) → IsDone request answer
+done : (request : Option Request) (call : Seen) (answer : Answer) → CarriesOut request answer (OfGiven call.source) (WasWritten call.sink) → IsDone request answer
 done None call answer has = has
 done (Some asked) call answer has =
-    found_some ((task_of asked).found_in answer) (λ f. OfInput (task_of asked).reads (OfGiven call.source) (λ bytes. (task_of asked).Does bytes f (Takes call.sink))) has
+    found_some ((task_of asked).found_in answer) (λ f. OfInput (task_of asked).reads (OfGiven call.source) (λ bytes. (task_of asked).Does bytes f (WasWritten call.sink))) has
 
 -- good input is not refused
 good_input : (reads : Option Input) (reported : Option (List ℕ)) (refusal : Refusal) → IfSome reads (λ input. IsSomeAnd reported (λ bytes. IsFaultless input bytes)) → IsSomeAnd reads (λ input. IsRefusedFor input reported refusal) → ⊥
@@ -147,29 +147,29 @@ done_of request call OutOfMemory good none ends = inr refl
 
 module _ (call : Seen) (text : List ℕ) (refusal : Refusal) (is_told : call.source.before ≡ Some text) where
   -- of such an input nothing is done
-  bad_input : (reads : Option Input) (P : List ℕ → Type 0) → ((bytes : List ℕ) → P bytes → IfSome reads (λ input. IsFaultless input bytes)) → IsSomeAnd reads (λ input. HasFault input refusal text) → OfInput reads (OfGiven call.source) P → ⊥
+  bad_input : (reads : Option Input) (P : List ℕ → Type 0) → ((bytes : List ℕ) → P bytes → IfSome reads (λ input. IsFaultless input bytes)) → IsSomeAnd reads (λ input. HasInputFault input refusal text) → OfInput reads (OfGiven call.source) P → ⊥
   bad_input None P clean bad has = bad
   bad_input (Some input) P clean bad has =
       let all = told_all call.source.before call.source.after has.0 P has.1.0 has.1.1 has.2 in
       let of_text : P text = rw is_told at all in
       clean text of_text refusal bad
 
-  bad_found : PartsHaveNone → (asked : Request) (found : Option (task_of asked).Found) → IsSomeAnd (task_of asked).reads (λ input. HasFault input refusal text)
-      → IsSomeAnd found (λ f. OfInput (task_of asked).reads (OfGiven call.source) (λ bytes. (task_of asked).Does bytes f (Takes call.sink))) → ⊥
+  bad_found : PartsHaveNone → (asked : Request) (found : Option (task_of asked).Found) → IsSomeAnd (task_of asked).reads (λ input. HasInputFault input refusal text)
+      → IsSomeAnd found (λ f. OfInput (task_of asked).reads (OfGiven call.source) (λ bytes. (task_of asked).Does bytes f (WasWritten call.sink))) → ⊥
   bad_found parts asked None bad has = has
   bad_found parts asked (Some f) bad has =
-      bad_input (task_of asked).reads (λ bytes. (task_of asked).Does bytes f (Takes call.sink)) (λ bytes does. faultless parts asked bytes f (Takes call.sink) does) bad has
+      bad_input (task_of asked).reads (λ bytes. (task_of asked).Does bytes f (WasWritten call.sink)) (λ bytes does. faultless parts asked bytes f (WasWritten call.sink) does) bad has
 
-  not_done : PartsHaveNone → (request : Option Request) (answer : Answer) → IsToldBad request (Some text) refusal → CarriesOut request answer (OfGiven call.source) (Takes call.sink) → ⊥
+  not_done : PartsHaveNone → (request : Option Request) (answer : Answer) → IsToldBad request (Some text) refusal → CarriesOut request answer (OfGiven call.source) (WasWritten call.sink) → ⊥
   not_done parts None answer bad has = bad
   not_done parts (Some asked) answer bad has = bad_found parts asked ((task_of asked).found_in answer) bad has
 
   -- and it is refused for this fault
-  same_refusal : PartsHaveOne → (reads : Option Input) (other : Refusal) → IsSomeAnd reads (λ input. HasFault input refusal text) → IsSomeAnd reads (λ input. IsRefusedFor input call.source.before other) → other ≡ refusal
+  same_refusal : PartsHaveOne → (reads : Option Input) (other : Refusal) → IsSomeAnd reads (λ input. HasInputFault input refusal text) → IsSomeAnd reads (λ input. IsRefusedFor input call.source.before other) → other ≡ refusal
   same_refusal one None other bad refused = absurd bad
   same_refusal one (Some input) other bad refused =
       let cause = refused.1 in
-      let is : HasFault input other text = rw is_told at cause in
+      let is : HasInputFault input other text = rw is_told at cause in
       one_fault one input text other refusal is bad
 
   refused_told : (request : Option Request) (answer : Answer) → PartsHaveNone → PartsHaveOne → IsToldBad request (Some text) refusal → NoneRose call → Ends request call answer → IsRefusedOr refusal answer

@@ -2,9 +2,9 @@
 use Rattle.std.specs.Prelude.{ℕ, List}
 use Rattle.zy_capture.specs.Outputs.{AllOutputs, AreOutputs}
 use Rattle.zy_journal.specs.declared.journal.Journal.{Journal}
-use Rattle.zy_input.specs.Parts.{AreParts}
+use Rattle.zy_input.specs.Parts.{IsMadeOfParts}
 use Rattle.zy_check.specs.declared.verdict.Verdict.{Verdict as Certified}
-use Rattle.zy_check.specs.Given.{given}
+use Rattle.zy_check.specs.Given.{all_given}
 use Rattle.zy_check.specs.Cause.{HasVerdict}
 
 -- the bytes are a capture, a journal and a replies file, one after the other, and this is the verdict on them
@@ -12,6 +12,6 @@ pub record IsChecked (shards : ℕ) (bytes : List ℕ) (verdict : Certified) : T
   pub streams : List (List (List ℕ))
   pub journal : Journal
   pub outputs : AllOutputs
-  pub parts : AreParts bytes streams journal outputs
+  pub parts : IsMadeOfParts bytes streams journal outputs
   pub lawful : AreOutputs outputs
-  pub verdict_is : HasVerdict (given shards streams journal outputs) verdict
+  pub verdict_is : HasVerdict (all_given shards streams journal outputs) verdict

@@ -5,7 +5,7 @@ use Rattle.zy_run.specs.declared.summary.Summary.{Summary}
 use Rattle.zy_input.specs.declared.stop.Refusal.{Refusal}
 use Rattle.zy_check.specs.declared.verdict.Verdict.{Verdict as Certified}
 use Rattle.zy_command_line.specs.declared.request.Request.{Request}
-use Rattle.zy_serving.specs.Seen.{Seen, HasRisen, Takes, TakesPart, OfGiven}
+use Rattle.zy_serving.specs.Seen.{Seen, HasRisen, WasWritten, TakesPart, OfGiven}
 use Rattle.zygos_run.specs.declared.answer.Answer.{Answer}
 use Rattle.zygos_run.specs.declared.answer.Answer.TheVariants.{Served, Checked, Made, Tested, Usage, Refused, ReadFault, WriteFault, OutOfMemory}
 use Rattle.zygos_run.specs.Input.{Input, IsRefusedFor}
@@ -33,21 +33,21 @@ CarriesOut request answer Of Writes =
 
 -- a run was asked for, it was served of the bytes that the source gave, and all of it was written
 abbrev pub HasServed : Option Request → Seen → Journal → Type 0
-HasServed request call journal = CarriesOut request (Served journal) (OfGiven call.source) (Takes call.sink)
+HasServed request call journal = CarriesOut request (Served journal) (OfGiven call.source) (WasWritten call.sink)
 
 -- a check was asked for, this is the verdict on the bytes that the source gave, and its line was written
 abbrev pub HasChecked : Option Request → Seen → Certified → Type 0
-HasChecked request call verdict = CarriesOut request (Checked verdict) (OfGiven call.source) (Takes call.sink)
+HasChecked request call verdict = CarriesOut request (Checked verdict) (OfGiven call.source) (WasWritten call.sink)
 
 -- traffic was asked for, and its capture was written; or that of the recorded packets that the source gave; or the
 -- report on the journal that it gave
-abbrev pub HasMade : Option Request → Seen → Type 0
-HasMade request call = CarriesOut request Made (OfGiven call.source) (Takes call.sink)
+abbrev pub HasMadeOutput : Option Request → Seen → Type 0
+HasMadeOutput request call = CarriesOut request Made (OfGiven call.source) (WasWritten call.sink)
 
 -- a test run was asked for, this is its journal, these are its numbers, and their line was written
 abbrev pub HasTested : Option Request → Seen → Journal → Summary → Type 0
 HasTested request call journal numbers =
-    CarriesOut request (Tested journal numbers) (OfGiven call.source) (Takes call.sink)
+    CarriesOut request (Tested journal numbers) (OfGiven call.source) (WasWritten call.sink)
 
 -- what was asked for was done of bytes that the source gave, if it reads any, and a prefix of what is expected was
 -- written
@@ -75,7 +75,7 @@ ReadsNothing request = IsNone (input_of request)
 abbrev pub Ends : Option Request → Seen → Answer → Type 0
 Ends request call (Served journal) = HasServed request call journal
 Ends request call (Checked verdict) = HasChecked request call verdict
-Ends request call Made = HasMade request call
+Ends request call Made = HasMadeOutput request call
 Ends request call (Tested journal numbers) = HasTested request call journal numbers
 Ends request call Usage = request ≡ None
 Ends request call (Refused refusal) = IsFaultOf request call.source.before refusal

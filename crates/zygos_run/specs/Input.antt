@@ -24,18 +24,18 @@ MayHaveFault JournalInput (Journal fault) = ⊤
 MayHaveFault input refusal = ⊥
 
 -- the bytes have this fault as an input of this kind
-abbrev pub HasFault : Input → Refusal → List ℕ → Type 0
-HasFault CaptureInput (Capture fault) bytes = Captures.verdict bytes ≡ Captures.Verdict.Bad fault
-HasFault CheckInput refusal bytes = HasPartFault bytes refusal
-HasFault (PacketsInput port) (Pcap fault) bytes = Recorded.packets port bytes ≡ Recorded.Found.Bad fault
-HasFault JournalInput (Journal fault) bytes = Journals.verdict bytes ≡ Journals.Verdict.Bad fault
-HasFault input refusal bytes = ⊥
+abbrev pub HasInputFault : Input → Refusal → List ℕ → Type 0
+HasInputFault CaptureInput (Capture fault) bytes = Captures.verdict bytes ≡ Captures.Verdict.Bad fault
+HasInputFault CheckInput refusal bytes = HasPartFault bytes refusal
+HasInputFault (PacketsInput port) (Pcap fault) bytes = Recorded.packets port bytes ≡ Recorded.FoundPackets.Bad fault
+HasInputFault JournalInput (Journal fault) bytes = Journals.journal_verdict bytes ≡ Journals.JournalVerdict.Bad fault
+HasInputFault input refusal bytes = ⊥
 
 -- such an input is refused for this fault: it may have it, and the bytes have it where they are reported
 abbrev pub IsRefusedFor : Input → Option (List ℕ) → Refusal → Type 0
 IsRefusedFor input reported refusal =
-    MayHaveFault input refusal × IfSome reported (λ bytes. HasFault input refusal bytes)
+    MayHaveFault input refusal × IfSome reported (λ bytes. HasInputFault input refusal bytes)
 
 -- the bytes have no fault as an input of this kind
 abbrev pub IsFaultless : Input → List ℕ → Type 0
-IsFaultless input bytes = (refusal : Refusal) → HasFault input refusal bytes → ⊥
+IsFaultless input bytes = (refusal : Refusal) → HasInputFault input refusal bytes → ⊥

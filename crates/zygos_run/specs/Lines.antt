@@ -125,9 +125,9 @@ plain_line OutOfMemory = codes "zygos: out of memory\n"
 plain_line answer = []
 
 -- the line on standard error
-abbrev pub line_of : Answer → List ℕ
-line_of (Refused refusal) = refusal_line refusal
-line_of answer = plain_line answer
+abbrev pub answer_line : Answer → List ℕ
+answer_line (Refused refusal) = refusal_line refusal
+answer_line answer = plain_line answer
 
 -- ---- what is written of a check
 

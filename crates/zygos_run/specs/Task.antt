@@ -11,7 +11,7 @@ use Rattle.zygos_run.specs.declared.answer.Answer.{Answer}
 use Rattle.zygos_run.specs.declared.answer.Answer.TheVariants.{Served, Checked, Made, Tested}
 use Rattle.zygos_run.specs.Lines.{verdict_line, summary_line}
 use Rattle.zygos_run.specs.Checked.{IsChecked}
-use Rattle.zygos_run.specs.Recorded.{IsRecorded}
+use Rattle.zygos_run.specs.Recorded.{IsOfRecordedPackets}
 use Rattle.zygos_run.specs.Reported.{IsReported}
 use Rattle.zygos_run.specs.Input.{Input}
 use Rattle.zygos_run.specs.Input.Input.{CaptureInput, CheckInput, PacketsInput, JournalInput}
@@ -81,7 +81,7 @@ task_of (Pcap port) = record {
   reads = Some (PacketsInput port);
   Found = ⊤;
   found_in = only_made;
-  Does = λ bytes found Writes. IsRecorded port bytes Writes;
+  Does = λ bytes found Writes. IsOfRecordedPackets port bytes Writes;
 }
 task_of Report = record {
   reads = Some JournalInput;

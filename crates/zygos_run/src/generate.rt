@@ -2,7 +2,7 @@
 ghost use Rattle.std.specs.Prelude.{◌≡◌, ◌≤◌, Some};
 ghost use Rattle.zy_command_line.specs.Range.{IsMakeable};
 ghost use Rattle.zy_command_line.specs.declared.request.Request.TheVariants as Requests;
-ghost use Rattle.zy_serving.specs.Seen.{Side, side, seen};
+ghost use Rattle.zy_serving.specs.Seen.{Side, side, both_sides};
 ghost use Rattle.zygos_run.specs.Finish.{FinishesOnce};
 ghost use Rattle.zygos_run.specs.Ends.{Ends, LeavesSink};
 
@@ -18,7 +18,7 @@ pub(crate) fn make_traffic<K: Sink>(alloc: Global, traffic: Traffic, sink: &mut 
     requires makeable { IsMakeable traffic }
     ensures writes { K.faults sink.old ≤ K.faults sink.new }
     ensures ends { (source : Side) → Ends (Some (Requests.Gen traffic))
-        (seen source (side K.holds K.faults sink.old sink.new)) result }
+        (both_sides source (side K.holds K.faults sink.old sink.new)) result }
     ensures sink_kept { LeavesSink result → sink.new ≡ sink.old }
     ensures finished { FinishesOnce result (K.finishes sink.old) (K.finishes sink.new) (K.is_finished sink.new) }
 {

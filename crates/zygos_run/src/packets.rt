@@ -4,11 +4,11 @@ ghost use Rattle.zy_base.specs.Outside.{WritesLast};
 ghost use Rattle.zy_command_line.specs.Range.{IsPort};
 ghost use Rattle.zy_command_line.specs.declared.request.Request.TheVariants as Requests;
 ghost use Rattle.zy_pcap.specs.Made.{capture_of};
-ghost use Rattle.zy_serving.specs.Seen.{side, seen, OfGiven};
+ghost use Rattle.zy_serving.specs.Seen.{side, both_sides, OfGiven};
 ghost use Rattle.zy_input.specs.Parts.{HasReadPackets};
 ghost use Rattle.zygos_run.specs.Finish.{FinishesOnce};
 ghost use Rattle.zygos_run.specs.Ends.{Ends, LeavesSink};
-ghost use Rattle.zygos_run.specs.Recorded.{IsRecorded};
+ghost use Rattle.zygos_run.specs.Recorded.{IsOfRecordedPackets};
 
 use crate::answer::Answer;
 use std::alloc::Global;
@@ -27,7 +27,7 @@ pub(crate) fn make_packets<S: Source, K: Sink>(
     ensures reads { S.faults source.old ≤ S.faults source.new }
     ensures writes { K.faults sink.old ≤ K.faults sink.new }
     ensures ends { Ends (Some (Requests.Pcap port))
-        (seen (side S.rest S.faults source.old source.new) (side K.holds K.faults sink.old sink.new)) result }
+        (both_sides (side S.rest S.faults source.old source.new) (side K.holds K.faults sink.old sink.new)) result }
     ensures sink_kept { LeavesSink result → sink.new ≡ sink.old }
     ensures finished { FinishesOnce result (K.finishes sink.old) (K.finishes sink.new) (K.is_finished sink.new) }
 {
@@ -60,7 +60,7 @@ fn read_flows<S: Source>(alloc: Global, port: u16, source: &mut S) -> Result<Flo
     requires port { IsPort port }
     ensures reads { S.faults source.old ≤ S.faults source.new }
     ensures ok { IfOk result (λ streams. OfGiven (side S.rest S.faults source.old source.new)
-        (λ bytes. IsRecorded port bytes (λ capture. capture ≡ capture_of streams))) }
+        (λ bytes. IsOfRecordedPackets port bytes (λ capture. capture ≡ capture_of streams))) }
     ensures err { IfErr result
         (λ stop. HasReadPackets port S.rest S.faults source.old source.new (Err stop)) }
 {

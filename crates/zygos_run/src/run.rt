@@ -6,7 +6,7 @@ ghost use Rattle.zy_capture.specs.Replies.{replies_bytes};
 ghost use Rattle.zy_journal.specs.Journal.{IsJournal};
 ghost use Rattle.zy_command_line.specs.Range.{IsRunnable};
 ghost use Rattle.zy_command_line.specs.declared.request.Request.TheVariants as Requests;
-ghost use Rattle.zy_serving.specs.Seen.{side, seen};
+ghost use Rattle.zy_serving.specs.Seen.{side, both_sides};
 ghost use Rattle.zygos_run.specs.Finish.{FinishesOnce};
 ghost use Rattle.zygos_run.specs.Ends.{Ends, LeavesSink};
 ghost use Rattle.zy_serving.specs.Headline.{front, written};
@@ -39,7 +39,7 @@ pub(crate) fn run_capture<R: Threads + Wait + Sync, S: Source, K: Sink, G: Gate 
     ensures reads { S.faults source.old ≤ S.faults source.new }
     ensures writes { K.faults sink.old ≤ K.faults sink.new }
     ensures ends { Ends (Some (Requests.Run run out))
-        (seen (side S.rest S.faults source.old source.new) (side K.holds K.faults sink.old sink.new)) result }
+        (both_sides (side S.rest S.faults source.old source.new) (side K.holds K.faults sink.old sink.new)) result }
     ensures sink_kept { LeavesSink result → sink.new ≡ sink.old }
     ensures finished { FinishesOnce result (K.finishes sink.old) (K.finishes sink.new) (K.is_finished sink.new) }
 {

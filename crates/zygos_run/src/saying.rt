@@ -1,7 +1,7 @@
 //! The line on standard error that reports an answer.
 ghost use Rattle.std.specs.Prelude.{◌≡◌};
 ghost use Rattle.zy_base.specs.Outside.{Writes};
-ghost use Rattle.zygos_run.specs.Lines.{line_of, plain_line, fault_line, fault_text, fault_middle, journal_text, replies_text, file_line, pcap_number};
+ghost use Rattle.zygos_run.specs.Lines.{answer_line, plain_line, fault_line, fault_text, fault_middle, journal_text, replies_text, file_line, pcap_number};
 ghost use Rattle.zygos_run.specs.Said.{Said};
 
 use crate::answer::Answer;
@@ -14,13 +14,13 @@ use zy_pcap::PcapFault;
 /// Writes the line of the answer. A failure here is ignored.
 pub(crate) fn say<E: Sink>(says: &mut E, answer: &Answer)
     ensures said { Said (E.holds says.old) (E.holds says.new) (E.faults says.old) (E.faults says.new)
-        (line_of answer.now) }
+        (answer_line answer.now) }
 {
     let _ = say_line(says, answer);
 }
 
 fn say_line<E: Sink>(says: &mut E, answer: &Answer) -> Result<(), Failed>
-    ensures writes { Writes E.holds E.faults E.finishes says.old says.new result (line_of answer.now) }
+    ensures writes { Writes E.holds E.faults E.finishes says.old says.new result (answer_line answer.now) }
 {
     match answer {
         Answer::Refused(Refusal::Capture(fault)) => say_fault(says, *fault),

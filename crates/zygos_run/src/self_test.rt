@@ -3,7 +3,7 @@ ghost use Rattle.std.specs.Prelude.{◌≡◌, ◌≤◌, Some};
 ghost use Rattle.zy_base.specs.Outside.{WritesLast};
 ghost use Rattle.zy_command_line.specs.Range.{IsMakeable, IsRunnable};
 ghost use Rattle.zy_command_line.specs.declared.request.Request.TheVariants as Requests;
-ghost use Rattle.zy_serving.specs.Seen.{Side, side, seen};
+ghost use Rattle.zy_serving.specs.Seen.{Side, side, both_sides};
 ghost use Rattle.zygos_run.specs.Finish.{FinishesOnce};
 ghost use Rattle.zygos_run.specs.Ends.{Ends, LeavesSink};
 ghost use Rattle.zygos_run.specs.Lines.{summary_line};
@@ -32,7 +32,7 @@ pub(crate) fn test_traffic<R: Threads + Wait + Sync, K: Sink, G: Gate + Sync>(
     requires runnable { IsRunnable run }
     ensures writes { K.faults sink.old ≤ K.faults sink.new }
     ensures ends { (source : Side) → Ends (Some (Requests.SelfTest traffic run))
-        (seen source (side K.holds K.faults sink.old sink.new)) result }
+        (both_sides source (side K.holds K.faults sink.old sink.new)) result }
     ensures sink_kept { LeavesSink result → sink.new ≡ sink.old }
     ensures finished { FinishesOnce result (K.finishes sink.old) (K.finishes sink.new) (K.is_finished sink.new) }
 {

@@ -2,9 +2,9 @@
 ghost use Rattle.std.specs.Prelude.{◌≡◌, ◌≤◌, None};
 ghost use Rattle.zy_base.specs.Outside.{Rose};
 ghost use Rattle.zy_command_line.specs.Request.{request_of};
-ghost use Rattle.zygos_run.specs.Lines.{line_of};
-ghost use Rattle.zy_serving.specs.Seen.{side, seen, NoneRose};
-ghost use Rattle.zygos_run.specs.Ends.{HasServed, HasChecked, HasMade, HasTested, HasPart};
+ghost use Rattle.zygos_run.specs.Lines.{answer_line};
+ghost use Rattle.zy_serving.specs.Seen.{side, both_sides, NoneRose};
+ghost use Rattle.zygos_run.specs.Ends.{HasServed, HasChecked, HasMadeOutput, HasTested, HasPart};
 ghost use Rattle.zygos_run.specs.Ends.{IsFaultOf, ReadsInput, ReadsNothing, LeavesSink};
 ghost use Rattle.zygos_run.specs.Served.{HeadlineHolds, CheckHolds, MadeHolds, IsToldGood, IsToldBad};
 ghost use Rattle.zygos_run.specs.Served.{IsDoneOr, IsRefusedOr, IsUsageOr};
@@ -45,21 +45,21 @@ pub fn serve<R: Threads + Wait + Sync, S: Source, K: Sink, E: Sink, G: Gate + Sy
 ) -> Answer
     // The headline.
     ensures headline { (j : _) → result ≡ Answer.Served j → HeadlineHolds (request_of words.now)
-        (seen (side S.rest S.faults source.old source.new) (side K.holds K.faults sink.old sink.new)) j }
+        (both_sides (side S.rest S.faults source.old source.new) (side K.holds K.faults sink.old sink.new)) j }
     ensures served { (j : _) → result ≡ Answer.Served j → HasServed (request_of words.now)
-        (seen (side S.rest S.faults source.old source.new) (side K.holds K.faults sink.old sink.new)) j }
+        (both_sides (side S.rest S.faults source.old source.new) (side K.holds K.faults sink.old sink.new)) j }
 
     // The other commands.
     ensures verdict { (v : _) → result ≡ Answer.Checked v → CheckHolds (request_of words.now)
-        (seen (side S.rest S.faults source.old source.new) (side K.holds K.faults sink.old sink.new)) v }
+        (both_sides (side S.rest S.faults source.old source.new) (side K.holds K.faults sink.old sink.new)) v }
     ensures checked { (v : _) → result ≡ Answer.Checked v → HasChecked (request_of words.now)
-        (seen (side S.rest S.faults source.old source.new) (side K.holds K.faults sink.old sink.new)) v }
-    ensures made { result ≡ Answer.Made → HasMade (request_of words.now)
-        (seen (side S.rest S.faults source.old source.new) (side K.holds K.faults sink.old sink.new)) }
+        (both_sides (side S.rest S.faults source.old source.new) (side K.holds K.faults sink.old sink.new)) v }
+    ensures made { result ≡ Answer.Made → HasMadeOutput (request_of words.now)
+        (both_sides (side S.rest S.faults source.old source.new) (side K.holds K.faults sink.old sink.new)) }
     ensures reported { result ≡ Answer.Made → MadeHolds (request_of words.now)
-        (seen (side S.rest S.faults source.old source.new) (side K.holds K.faults sink.old sink.new)) }
+        (both_sides (side S.rest S.faults source.old source.new) (side K.holds K.faults sink.old sink.new)) }
     ensures tested { (j m : _) → result ≡ Answer.Tested j m → HasTested (request_of words.now)
-        (seen (side S.rest S.faults source.old source.new) (side K.holds K.faults sink.old sink.new)) j m }
+        (both_sides (side S.rest S.faults source.old source.new) (side K.holds K.faults sink.old sink.new)) j m }
 
     // The other answers, each with its cause.
     ensures usage { result ≡ Answer.Usage → request_of words.now ≡ None }
@@ -70,14 +70,14 @@ pub fn serve<R: Threads + Wait + Sync, S: Source, K: Sink, E: Sink, G: Gate + Sy
         → ReadsInput (request_of words.now) × Rose (S.faults source.old) (S.faults source.new) }
     ensures write_fault { result ≡ Answer.WriteFault → Rose (K.faults sink.old) (K.faults sink.new) }
     ensures write_part { result ≡ Answer.WriteFault → HasPart (request_of words.now)
-        (seen (side S.rest S.faults source.old source.new) (side K.holds K.faults sink.old sink.new)) }
+        (both_sides (side S.rest S.faults source.old source.new) (side K.holds K.faults sink.old sink.new)) }
 
     // When the answer must come, unless memory runs out.
     ensures complete { IsToldGood (request_of words.now) (S.rest source.old)
-        → NoneRose (seen (side S.rest S.faults source.old source.new) (side K.holds K.faults sink.old sink.new))
+        → NoneRose (both_sides (side S.rest S.faults source.old source.new) (side K.holds K.faults sink.old sink.new))
         → IsDoneOr (request_of words.now) result }
     ensures refuses { (r : _) → IsToldBad (request_of words.now) (S.rest source.old) r
-        → NoneRose (seen (side S.rest S.faults source.old source.new) (side K.holds K.faults sink.old sink.new))
+        → NoneRose (both_sides (side S.rest S.faults source.old source.new) (side K.holds K.faults sink.old sink.new))
         → IsRefusedOr r result }
 
     // What stays.
@@ -90,7 +90,7 @@ pub fn serve<R: Threads + Wait + Sync, S: Source, K: Sink, E: Sink, G: Gate + Sy
     ensures finished { FinishesOnce result (K.finishes sink.old) (K.finishes sink.new) (K.is_finished sink.new) }
 
     // The line on standard error.
-    ensures said { Said (E.holds says.old) (E.holds says.new) (E.faults says.old) (E.faults says.new) (line_of result) }
+    ensures said { Said (E.holds says.old) (E.holds says.new) (E.faults says.old) (E.faults says.new) (answer_line result) }
 {
     parts_have_no_fault();
     there_is_one_part_fault();

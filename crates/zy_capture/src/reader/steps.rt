@@ -8,7 +8,7 @@ ghost use Rattle.zy_capture.specs.Capture.{capture_limit};
 ghost use Rattle.zy_capture.specs.Steps.{fields, to, after_field, broken_by};
 ghost use Rattle.zy_capture.specs.Verdict.{Verdict, captures, good};
 ghost use Rattle.zy_capture.specs.Verdict.Verdict.{Bad};
-ghost use Rattle.zy_capture.specs.Standing.{Takes, IsWithin, IsFour, IsLengthEnd};
+ghost use Rattle.zy_capture.specs.Standing.{Takes, IsDueInBounds, IsFour, IsLengthEnd};
 
 use super::Reader;
 use crate::capture_fault::{CaptureFault, FeedFault};
@@ -111,7 +111,7 @@ impl Reader {
     fn go_on(&mut self, due: Due)
         requires none { self.old.fault ≡ None }
         requires room { self.old.at < capture_limit }
-        requires within { IsWithin due (self.old.at + 1) [] [] 0 }
+        requires within { IsDueInBounds due (self.old.at + 1) [] [] 0 }
         ensures value { self.new ≡ after_field self.old (to self.old.state due) }
     {
         self.state.due = due;

@@ -1,7 +1,7 @@
 //! Carries one command out, from where it is to its end.
 ghost use Rattle.std.specs.Prelude.{◌≡◌, ◌+◌, ◌≤◌, OnErr, IfOk, MatchOption};
 ghost use Rattle.zy_conn.specs.Work.{idle};
-ghost use Rattle.zy_conn.specs.Step.{IsGoing, IsWhole, Goes, StopsBy};
+ghost use Rattle.zy_conn.specs.Step.{IsGoing, IsAllMade, StepsOn, StopsBy};
 
 use super::Work;
 use crate::calling::Made;
@@ -15,9 +15,9 @@ impl Work {
         requires table { self.old.table ≡ store.now.id }
         requires shards { store.now.shards ≡ self.old.table.slots }
         requires going { IsGoing self.old.begun }
-        ensures goes { Goes self.old self.new }
+        ensures goes { StepsOn self.old self.new }
         ensures finished { self.new.finished ≡ self.old.finished }
-        ensures made { IfOk result (λ stop. MatchOption stop (IsWhole self.new.begun) (StopsBy self.old self.new)) }
+        ensures made { IfOk result (λ stop. MatchOption stop (IsAllMade self.new.begun) (StopsBy self.old self.new)) }
     {
         loop {
             match self.call(store) {
@@ -37,7 +37,7 @@ impl Work {
         core: u32,
     ) -> Result<Option<HoldEnd>, NoMemory>
         requires table { self.old.table ≡ store.now.id }
-        ensures goes { Goes self.old self.new }
+        ensures goes { StepsOn self.old self.new }
         ensures none { IfOk result (λ stop. MatchOption stop ((self.new.finished ≡ self.old.finished + 1)
             × (self.new.begun ≡ idle))
             (λ end. (self.new.finished ≡ self.old.finished) × StopsBy self.old self.new end)) }

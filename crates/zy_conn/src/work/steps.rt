@@ -4,7 +4,7 @@ ghost use Rattle.zy_calls.specs.Batch.{with_text};
 ghost use Rattle.mc_reply.specs.Text.{text};
 ghost use Rattle.mc_reply.specs.Answers.{AnswerCommand};
 ghost use Rattle.zy_conn.specs.Work.{idle};
-ghost use Rattle.zy_conn.specs.Step.{IsGoing, IsWhole, Goes, StopsBy, MadeFrom};
+ghost use Rattle.zy_conn.specs.Step.{IsGoing, IsAllMade, StepsOn, StopsBy, MadeFrom};
 
 use super::Work;
 use crate::answer::Answer;
@@ -29,7 +29,7 @@ impl Work {
         requires shards { shards ≡ self.old.table.slots }
         requires some { 1 ≤ shards }
         requires few { shards ≤ 256 }
-        ensures goes { Goes self.old self.new }
+        ensures goes { StepsOn self.old self.new }
         ensures finished { self.new.finished ≡ self.old.finished }
         ensures begun { IfOk result (λ stop. MatchOption stop (IsGoing self.new.begun) (StopsBy self.old self.new)) }
     {
@@ -64,7 +64,7 @@ impl Work {
         requires shards { shards ≡ self.old.table.slots }
         requires some { 1 ≤ shards }
         requires few { shards ≤ 256 }
-        ensures goes { Goes self.old self.new }
+        ensures goes { StepsOn self.old self.new }
         ensures finished { self.new.finished ≡ self.old.finished }
         ensures going { OnOk result (self.old.begun ≢ idle → IsGoing self.new.begun) }
     {
@@ -85,7 +85,7 @@ impl Work {
         requires table { self.old.table ≡ store.now.id }
         requires shards { store.now.shards ≡ self.old.table.slots }
         requires going { IsGoing self.old.begun }
-        ensures goes { Goes self.old self.new }
+        ensures goes { StepsOn self.old self.new }
         ensures finished { self.new.finished ≡ self.old.finished }
         ensures going { IsGoing self.new.begun }
         ensures made { IfOk result (MadeFrom self.old self.new) }
@@ -104,8 +104,8 @@ impl Work {
 
     /// Finishes the command in progress: its text is appended to the batch.
     pub(crate) fn finish(&mut self) -> Result<(), NoMemory>
-        requires whole { IsWhole self.old.begun }
-        ensures goes { Goes self.old self.new }
+        requires whole { IsAllMade self.old.begun }
+        ensures goes { StepsOn self.old self.new }
         ensures ok { OnOk result ((self.new.finished ≡ self.old.finished + 1) × (self.new.begun ≡ idle)) }
         ensures err { OnErr result (self.new.finished ≡ self.old.finished) }
     {

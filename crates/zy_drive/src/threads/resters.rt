@@ -3,7 +3,7 @@ ghost use Rattle.std.specs.Prelude.{◌≡◌, ◌≤◌, length, vec_len, vec_c
 ghost use Rattle.zy_park.specs.Pass.{Bells, GaveNone};
 ghost use Rattle.zy_core.specs.Cores.{identities};
 ghost use Rattle.zy_drive.specs.Group.{AllAt, CanRest};
-ghost use Rattle.zy_drive.specs.Drive.{rest_of};
+ghost use Rattle.zy_drive.specs.Drive.{idle_turns_before_rest};
 
 use crate::threads::group::Group;
 use crate::threads::resting::Rester;
@@ -106,7 +106,7 @@ fn seat_all(bells: &Bells, root: &mut BellRoot, passes: &mut Vec<BellPass>) -> R
 /// After how many idle turns in a row the cores of a run rest, if `rest` is asked for; 0 if none does. A
 /// core rests only if it has a thread of its own and there are others to ring it.
 pub fn rest_of(threads: u32, cores: usize, rest: u32) -> u32
-    ensures value { result ≡ rest_of threads cores rest }
+    ensures value { result ≡ idle_turns_before_rest threads cores rest }
 {
     if threads > 1 && threads as usize == cores {
         rest

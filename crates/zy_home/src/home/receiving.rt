@@ -1,10 +1,10 @@
 //! Receiving items.
 ghost use Rattle.std.specs.Prelude.{◌≡◌, ◌<◌, ◌^◌, ◌||◌, ℕ, IfSome, IfNone, List, [], ◌∷◌, ◌++◌, true, false, Ok, OnOk, OnErr, is_err, Some, slice_get, length};
 ghost use Rattle.zy_rx.specs.declared.rx.Rx.{Rx};
-ghost use Rattle.zy_rx.specs.Session.{sessions_of};
+ghost use Rattle.zy_rx.specs.Session.{received_by};
 ghost use Rattle.zy_home.specs.Link.{Link, IsFor, conn_of};
 ghost use Rattle.zy_home.specs.Own.{IsOfOthers, is_end};
-ghost use Rattle.zy_home.specs.Home.{HomeStands, Keeps, SameHome, StandsMore};
+ghost use Rattle.zy_home.specs.Home.{HomeStands, IsSoundHome, SameHome, StandsMore};
 ghost use Rattle.zy_home.specs.Place.{Forwards, SameHand, ComesTo};
 
 use super::Home;
@@ -70,7 +70,7 @@ impl Home {
     pub(super) fn place_for(&self, item: &Rx) -> Option<usize>
         ensures some { IfSome result (λ at. ComesTo self.now at item.now) }
         ensures none { IfNone result ((at : ℕ) → ComesTo self.now at item.now → ⊥) }
-        ensures keeps { Keeps self.now }
+        ensures keeps { IsSoundHome self.now }
     {
         if self.ended {
             return None;

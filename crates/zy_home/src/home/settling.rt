@@ -3,7 +3,7 @@ ghost use Rattle.std.specs.Prelude.{◌≡◌, ◌<◌, ◌^◌, List, true, fal
 ghost use Rattle.zy_shuffle.specs.Run.{was_held};
 ghost use Rattle.zy_conn.specs.Block.{label_of};
 ghost use Rattle.zy_home.specs.Home.{SameHome, StandsHome, all_here};
-ghost use Rattle.zy_home.specs.Place.{IsOut, Settles, PutsBack, StaysIn, Looked, CollectsTo, OwnsTo};
+ghost use Rattle.zy_home.specs.Place.{IsOut, Settles, PutsBack, StaysIn, OnlyLooked, CollectsTo, OwnsTo};
 
 use super::Home;
 use crate::own::Own;
@@ -48,7 +48,7 @@ impl Home {
         requires few { self.old.pass.count < 2 ^ 63 }
         requires live { self.old.refused ≡ false }
         ensures value { IfOk result (CollectsTo ring.now.places self.old self.new) }
-        ensures still { all_here self.old.blocks ≡ true → Looked self.old self.new }
+        ensures still { all_here self.old.blocks ≡ true → OnlyLooked self.old self.new }
         ensures stands { OnOk result (StandsHome self.old self.new) }
         ensures same { SameHome self.old self.new × (self.new.ended ≡ self.old.ended) }
         ensures refused { self.new.refused ≡ is_err result }
@@ -79,7 +79,7 @@ impl Home {
         requires live { self.old.refused ≡ false }
         requires store { self.old.pass.label ≡ label_of store.now.id self.old.cores }
         ensures value { IfOk result (OwnsTo ring.now.places self.old self.new) }
-        ensures still { all_here self.old.blocks ≡ true → Looked self.old self.new }
+        ensures still { all_here self.old.blocks ≡ true → OnlyLooked self.old self.new }
         ensures stands { OnOk result (StandsHome self.old self.new) }
         ensures same { SameHome self.old self.new × (self.new.ended ≡ self.old.ended) }
         ensures refused { self.new.refused ≡ is_err result }

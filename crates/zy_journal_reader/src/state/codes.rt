@@ -4,8 +4,8 @@ ghost use Rattle.zy_read.specs.Fields.Judged.{Then};
 ghost use Rattle.zy_read.specs.FieldReading.{Judges};
 ghost use Rattle.zy_journal_reader.specs.declared.due.Due.TheVariants as Dues;
 ghost use Rattle.zy_journal_reader.specs.declared.due.ByteField.TheVariants as Codes;
-ghost use Rattle.zy_journal_reader.specs.Steps.{lawful_byte, after_byte, begins};
-ghost use Rattle.zy_journal_reader.specs.Standing.{Takes, FitsPlace, Wants};
+ghost use Rattle.zy_journal_reader.specs.Steps.{lawful_byte, after_byte, begins_bytes};
+ghost use Rattle.zy_journal_reader.specs.Standing.{TakesStep, FitsPlace, Wants};
 
 use super::JournalState;
 use crate::call_fields::at_key;
@@ -73,7 +73,8 @@ impl JournalState {
 
     // The tag of a record, or the end.
     fn take_tag(&mut self, byte: u8) -> Option<()>
-        ensures value { Takes (after_byte Codes.Tag self.old 0 byte) self.old self.new (Ok result) }
+        ensures value { TakesStep (after_byte Codes.Tag self.old 0 byte) self.old self.new
+            (Ok result) }
     {
         match byte {
             b'E' => {
@@ -89,7 +90,7 @@ impl JournalState {
     // The code of a reply.
     fn take_reply_code(&mut self, alloc: Global, byte: u8) -> Result<Option<()>, FileFeed>
         requires due { self.old.due ≡ Dues.Byte Codes.ReplyCode }
-        ensures value { Takes (after_byte Codes.ReplyCode self.old 0 byte) self.old self.new result }
+        ensures value { TakesStep (after_byte Codes.ReplyCode self.old 0 byte) self.old self.new result }
     {
         if byte == HIT_CODE {
             self.due = Due::Number(NumberField::FoundFlags);
@@ -105,7 +106,7 @@ impl JournalState {
 
     // A length that is not 0.
     pub(super) fn begin_bytes(&mut self, field: BytesField, size: u32)
-        ensures value { begins self.old field size ≡ Then self.new }
+        ensures value { begins_bytes self.old field size ≡ Then self.new }
     {
         self.draft.size = size;
         self.due = Due::Bytes(field);

@@ -2,7 +2,7 @@
 ghost use Rattle.std.specs.Prelude.{◌≡◌, ℕ};
 ghost use Rattle.zy_journal_reader.specs.declared.due.Due.TheVariants as Dues;
 ghost use Rattle.zy_journal_reader.specs.Steps.{after_bytes};
-ghost use Rattle.zy_journal_reader.specs.Standing.{Takes};
+ghost use Rattle.zy_journal_reader.specs.Standing.{TakesStep};
 
 use super::JournalState;
 use crate::call_fields::at_flags;
@@ -20,7 +20,7 @@ impl JournalState {
         all: Blob,
     ) -> Result<Option<()>, FileFeed>
         requires due { self.old.due ≡ Dues.Bytes field }
-        ensures value { Takes (after_bytes field self.old all) self.old self.new result }
+        ensures value { TakesStep (after_bytes field self.old all) self.old self.new result }
     {
         match field {
             BytesField::Key => {

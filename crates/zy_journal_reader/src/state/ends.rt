@@ -1,8 +1,8 @@
 //! The ends of entries and holds.
 ghost use Rattle.std.specs.Prelude.{◌≡◌, ◌<◌, ◌≤◌, ◌+◌, ℕ, [], ◌∷◌, ◌++◌, true, vec_len, vec_capacity};
-ghost use Rattle.zy_journal_reader.specs.Fields.{fresh, entry_of};
+ghost use Rattle.zy_journal_reader.specs.Fields.{fresh, entry_read};
 ghost use Rattle.zy_journal_reader.specs.Steps.{ends_entry, ends_hold};
-ghost use Rattle.zy_journal_reader.specs.Standing.{Takes, takes_memory};
+ghost use Rattle.zy_journal_reader.specs.Standing.{TakesStep, takes_memory};
 
 use super::JournalState;
 use crate::draft::Draft;
@@ -20,7 +20,7 @@ impl JournalState {
         reply: CallReply,
     ) -> Result<Option<()>, FileFeed>
         requires due { takes_memory self.old.due ≡ true }
-        ensures value { Takes (ends_entry self.old reply) self.old self.new result }
+        ensures value { TakesStep (ends_entry self.old reply) self.old self.new result }
     {
         if self.entries.reserve(1).is_err() {
             return Err(FileFeed::NoMemory);
@@ -35,7 +35,7 @@ impl JournalState {
     // The field ends a hold, which needs memory.
     pub(super) fn end_hold(&mut self, alloc: Global, count: u32) -> Result<Option<()>, FileFeed>
         requires due { takes_memory self.old.due ≡ true }
-        ensures value { Takes (ends_hold self.old count) self.old self.new result }
+        ensures value { TakesStep (ends_hold self.old count) self.old self.new result }
     {
         let hold = Hold {
             core: self.draft.core,
@@ -55,7 +55,7 @@ impl JournalState {
 // Appends the entry that was read, for which there is room, and leaves nothing read.
 fn add_entry(entries: &mut Vec<Entry>, alloc: Global, draft: &mut Draft, reply: CallReply)
     requires room { vec_len entries.old < vec_capacity entries.old }
-    ensures entries { entries.new.items ≡ entries.old.items ++ entry_of draft.old reply ∷ [] }
+    ensures entries { entries.new.items ≡ entries.old.items ++ entry_read draft.old reply ∷ [] }
     ensures draft { draft.new ≡ fresh }
 {
     let read = mem::replace(draft, Draft::new(alloc));

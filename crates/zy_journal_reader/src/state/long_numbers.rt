@@ -3,7 +3,7 @@ ghost use Rattle.std.specs.Prelude.{◌≡◌, ℕ};
 ghost use Rattle.zy_journal_reader.specs.declared.due.Due.TheVariants as Dues;
 ghost use Rattle.zy_journal_reader.specs.declared.due.LongField.TheVariants as Longs;
 ghost use Rattle.zy_journal_reader.specs.Steps.{lawful_long, after_eight};
-ghost use Rattle.zy_journal_reader.specs.Standing.{Takes};
+ghost use Rattle.zy_journal_reader.specs.Standing.{TakesStep};
 
 use super::JournalState;
 use crate::call_fields::at_value;
@@ -39,7 +39,7 @@ impl JournalState {
         number: u64,
     ) -> Result<Option<()>, FileFeed>
         requires due { self.old.due ≡ Dues.Long field }
-        ensures value { Takes (after_eight field self.old number) self.old self.new result }
+        ensures value { TakesStep (after_eight field self.old number) self.old self.new result }
     {
         match field {
             LongField::Stamp => {
@@ -83,7 +83,8 @@ impl JournalState {
     // How many items there are, which ends a tally and its entry.
     fn end_tally(&mut self, alloc: Global, number: u64) -> Result<Option<()>, FileFeed>
         requires due { self.old.due ≡ Dues.Long Longs.Items }
-        ensures value { Takes (after_eight Longs.Items self.old number) self.old self.new result }
+        ensures value { TakesStep (after_eight Longs.Items self.old number)
+            self.old self.new result }
     {
         let counts = Tallied {
             items: number,

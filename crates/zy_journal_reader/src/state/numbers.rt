@@ -4,7 +4,7 @@ ghost use Rattle.zy_read.specs.Fields.Judged.{Then};
 ghost use Rattle.zy_journal_reader.specs.declared.due.Due.TheVariants as Dues;
 ghost use Rattle.zy_journal_reader.specs.declared.due.NumberField.TheVariants as Numbers;
 ghost use Rattle.zy_journal_reader.specs.Steps.{lawful_number, after_four};
-ghost use Rattle.zy_journal_reader.specs.Standing.{Takes};
+ghost use Rattle.zy_journal_reader.specs.Standing.{TakesStep};
 
 use super::JournalState;
 use crate::call_fields::at_number;
@@ -45,7 +45,7 @@ impl JournalState {
         number: u32,
     ) -> Result<Option<()>, FileFeed>
         requires due { self.old.due ≡ Dues.Number field }
-        ensures value { Takes (after_four field self.old number) self.old self.new result }
+        ensures value { TakesStep (after_four field self.old number) self.old self.new result }
     {
         match field {
             NumberField::Shard => {
@@ -99,7 +99,7 @@ impl JournalState {
     // The length of the value that a get found.
     fn begin_found(&mut self, alloc: Global, size: u32) -> Result<Option<()>, FileFeed>
         requires due { self.old.due ≡ Dues.Number Numbers.FoundLength }
-        ensures value { Takes (after_four Numbers.FoundLength self.old size) self.old self.new result }
+        ensures value { TakesStep (after_four Numbers.FoundLength self.old size) self.old self.new result }
     {
         if size == 0 {
             return self.end_entry(

@@ -2,10 +2,10 @@
 ghost use Rattle.std.specs.Prelude.{◌≡◌, ℕ, ◌<◌, [], length, take, true, false, Ok, Err};
 ghost use Rattle.zy_read.specs.declared.not_taken.NotTaken.TheVariants.{Fault};
 ghost use Rattle.zy_pcap.specs.declared.due.Due.TheVariants as Dues;
-ghost use Rattle.zy_pcap.specs.Steps.{then_due, broken, judged, number, settings, time, original, taken, move};
-ghost use Rattle.zy_pcap.specs.Steps.{is_full, file_limit};
+ghost use Rattle.zy_pcap.specs.Steps.{then_due, broken, judged_number, number_move, settings, time, original, move_at, move};
+ghost use Rattle.zy_pcap.specs.Steps.{is_full_file, file_limit};
 ghost use Rattle.zy_pcap.specs.Steps.Move.{Goes};
-ghost use Rattle.zy_pcap.specs.Moves.{Takes, IsPart, IsWithin, has_number};
+ghost use Rattle.zy_pcap.specs.Moves.{TakesMove, IsPartOfFrame, IsWithinFrame, has_number};
 
 use super::{FILE_LIMIT, Records};
 use crate::due::Due;
@@ -17,9 +17,9 @@ impl Records {
     // Takes the next byte; `true` at the last byte of a record, whose frame is whole then. The
     // caller ends the record, refuses it, or takes the byte out of the frame again.
     pub(crate) fn take(&mut self, byte: u8) -> Result<bool, PcapFeed>
-        requires part { IsPart self.old.due self.old.frame }
-        ensures value { Takes (move self.old byte) self.old self.new result }
-        ensures part { result ≡ Ok false → IsPart self.new.due self.new.frame }
+        requires part { IsPartOfFrame self.old.due self.old.frame }
+        ensures value { TakesMove (move self.old byte) self.old self.new result }
+        ensures part { result ≡ Ok false → IsPartOfFrame self.new.due self.new.frame }
         ensures room { result ≡ Ok true → self.old.at < file_limit }
         ensures front { result ≡ Ok true
             → take (length self.old.frame) self.new.frame ≡ self.old.frame }
@@ -39,7 +39,7 @@ impl Records {
 
     // The file has its most bytes.
     fn is_full(&self) -> bool
-        ensures value { result ≡ is_full self.now }
+        ensures value { result ≡ is_full_file self.now }
     {
         self.at >= FILE_LIMIT && !matches!(self.due, Due::Broken(_))
     }
@@ -56,7 +56,7 @@ impl Records {
     // The byte is the last one of its part.
     fn go_on(&mut self, due: Due)
         requires room { self.old.at < file_limit }
-        requires within { IsWithin due [] 0 }
+        requires within { IsWithinFrame due [] 0 }
         ensures value { self.new ≡ then_due self.old due }
     {
         self.due = due;
@@ -71,9 +71,9 @@ impl Records {
         requires due { self.old.due ≡ Dues.Frame size }
         requires part { length self.old.frame < size }
         requires room { self.old.at < file_limit }
-        ensures value { Takes (taken (Dues.Frame size) self.old byte) self.old self.new
+        ensures value { TakesMove (move_at (Dues.Frame size) self.old byte) self.old self.new
             (Ok result) }
-        ensures part { result ≡ false → IsPart self.new.due self.new.frame }
+        ensures part { result ≡ false → IsPartOfFrame self.new.due self.new.frame }
         ensures front { take (length self.old.frame) self.new.frame ≡ self.old.frame }
     {
         self.frame.push_reserved(byte);
@@ -87,7 +87,7 @@ impl Records {
     // A byte of a record's time.
     fn take_time(&mut self, left: u32) -> bool
         requires room { self.old.at < file_limit }
-        ensures value { Takes (time left self.old) self.old self.new (Ok result) }
+        ensures value { TakesMove (time left self.old) self.old self.new (Ok result) }
     {
         self.go_on(if left > 1 {
             Due::Time { left: left - 1 }
@@ -100,7 +100,7 @@ impl Records {
     // A byte of the header that is passed over.
     fn take_settings(&mut self, left: u32) -> bool
         requires room { self.old.at < file_limit }
-        ensures value { Takes (settings left self.old) self.old self.new (Ok result) }
+        ensures value { TakesMove (settings left self.old) self.old self.new (Ok result) }
     {
         self.go_on(if left > 1 {
             Due::Settings { left: left - 1 }
@@ -114,8 +114,8 @@ impl Records {
     fn take_original(&mut self, left: u32, size: u32) -> Result<bool, PcapFeed>
         requires due { self.old.due ≡ Dues.Original left size }
         requires room { self.old.at < file_limit }
-        ensures value { Takes (original left size self.old) self.old self.new result }
-        ensures part { result ≡ Ok false → IsPart self.new.due self.new.frame }
+        ensures value { TakesMove (original left size self.old) self.old self.new result }
+        ensures part { result ≡ Ok false → IsPartOfFrame self.new.due self.new.frame }
         ensures front { result ≡ Ok true
             → take (length self.old.frame) self.new.frame ≡ self.old.frame }
     {
@@ -139,9 +139,9 @@ impl Records {
         requires some { 0 < size }
         requires room { self.old.at < file_limit }
         requires none { self.old.frame ≡ [] }
-        ensures value { Takes (Goes (then_due self.old (Dues.Frame size))) self.old self.new
+        ensures value { TakesMove (Goes (then_due self.old (Dues.Frame size))) self.old self.new
             result }
-        ensures part { result ≡ Ok false → IsPart self.new.due self.new.frame }
+        ensures part { result ≡ Ok false → IsPartOfFrame self.new.due self.new.frame }
         ensures none { result ≡ Ok true → ⊥ }
     {
         if self.frame.reserve(size as usize).is_err() {
@@ -157,8 +157,9 @@ impl Records {
     fn take_number(&mut self, byte: u8) -> Result<bool, PcapFeed>
         requires due { has_number self.old.due ≡ true }
         requires room { self.old.at < file_limit }
-        ensures value { Takes (number self.old.due self.old byte) self.old self.new result }
-        ensures part { IsPart self.new.due self.new.frame }
+        ensures value { TakesMove (number_move self.old.due self.old byte)
+            self.old self.new result }
+        ensures part { IsPartOfFrame self.new.due self.new.frame }
         ensures none { result ≡ Ok true → ⊥ }
     {
         if self.field.len() < 3 {
@@ -180,8 +181,9 @@ impl Records {
     fn judge_magic(&mut self, number: u32) -> Result<bool, PcapFeed>
         requires due { self.old.due ≡ Dues.Magic }
         requires room { self.old.at < file_limit }
-        ensures value { Takes (Goes (judged Dues.Magic self.old number)) self.old self.new result }
-        ensures part { IsPart self.new.due self.new.frame }
+        ensures value { TakesMove (Goes (judged_number Dues.Magic self.old number))
+            self.old self.new result }
+        ensures part { IsPartOfFrame self.new.due self.new.frame }
     {
         match number {
             0xa1b2_c3d4 => {}
@@ -196,9 +198,10 @@ impl Records {
     fn judge_version(&mut self, number: u32) -> Result<bool, PcapFeed>
         requires due { self.old.due ≡ Dues.Version }
         requires room { self.old.at < file_limit }
-        ensures value { Takes (Goes (judged Dues.Version self.old number)) self.old self.new
+        ensures value { TakesMove (Goes (judged_number Dues.Version self.old number))
+            self.old self.new
             result }
-        ensures part { IsPart self.new.due self.new.frame }
+        ensures part { IsPartOfFrame self.new.due self.new.frame }
     {
         let high = (number / 65_536) as u16;
         let low = (number % 65_536) as u16;
@@ -218,9 +221,10 @@ impl Records {
     fn judge_link_type(&mut self, number: u32) -> Result<bool, PcapFeed>
         requires due { self.old.due ≡ Dues.LinkType }
         requires room { self.old.at < file_limit }
-        ensures value { Takes (Goes (judged Dues.LinkType self.old number)) self.old self.new
+        ensures value { TakesMove (Goes (judged_number Dues.LinkType self.old number))
+            self.old self.new
             result }
-        ensures part { IsPart self.new.due self.new.frame }
+        ensures part { IsPartOfFrame self.new.due self.new.frame }
     {
         if number != 1 {
             return self.fail(PcapFault::LinkType { number });
@@ -233,9 +237,10 @@ impl Records {
     fn judge_captured(&mut self, number: u32) -> Result<bool, PcapFeed>
         requires due { self.old.due ≡ Dues.Captured }
         requires room { self.old.at < file_limit }
-        ensures value { Takes (Goes (judged Dues.Captured self.old number)) self.old self.new
+        ensures value { TakesMove (Goes (judged_number Dues.Captured self.old number))
+            self.old self.new
             result }
-        ensures part { IsPart self.new.due self.new.frame }
+        ensures part { IsPartOfFrame self.new.due self.new.frame }
     {
         if number > FRAME_LIMIT {
             let at = self.begun;

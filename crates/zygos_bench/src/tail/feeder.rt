@@ -1,7 +1,7 @@
 //! The feeder: it offers requests at the times at which they are due.
 ghost use Rattle.std.specs.Prelude.{◌≡◌, ◌<◌, length, ⊤};
 ghost use Rattle.zygos_bench.specs.declared.tail.feeder.Stage.TheVariants as Stages;
-ghost use Rattle.zygos_bench.specs.Tail.{StepsTo};
+ghost use Rattle.zygos_bench.specs.Tail.{StepSays};
 
 use crate::clock::monotonic;
 use crate::tail::board::spin;
@@ -65,7 +65,7 @@ impl<'a, R: Clock> Arrivals<'a, R> {
 
     // Waits until the next request is due, and offers it.
     fn send(&mut self) -> Fed
-        ensures steps { StepsTo self.old.inlets.items self.new.inlets.items self.new.stage result }
+        ensures steps { StepSays self.old.inlets.items self.new.inlets.items self.new.stage result }
     {
         if self.times.is_over() {
             return self.end(0);
@@ -87,7 +87,7 @@ impl<'a, R: Clock> Arrivals<'a, R> {
 
     // Offers a request to this core. If it is handed back it is made anew in the next step.
     fn offer(&mut self, core: u32, item: Rx) -> Fed
-        ensures steps { StepsTo self.old.inlets.items self.new.inlets.items self.new.stage result }
+        ensures steps { StepSays self.old.inlets.items self.new.inlets.items self.new.stage result }
     {
         if core as usize >= self.inlets.len() {
             drop(item);
@@ -108,7 +108,7 @@ impl<'a, R: Clock> Arrivals<'a, R> {
 
     // Goes no further.
     fn stop(&mut self) -> Fed
-        ensures steps { StepsTo self.old.inlets.items self.new.inlets.items self.new.stage result }
+        ensures steps { StepSays self.old.inlets.items self.new.inlets.items self.new.stage result }
     {
         self.stage = Stage::Broken;
         Fed::Broken
@@ -116,7 +116,7 @@ impl<'a, R: Clock> Arrivals<'a, R> {
 
     // Offers the end to this core, where there is one.
     fn end(&mut self, core: u32) -> Fed
-        ensures steps { StepsTo self.old.inlets.items self.new.inlets.items self.new.stage result }
+        ensures steps { StepSays self.old.inlets.items self.new.inlets.items self.new.stage result }
     {
         if core as usize >= self.inlets.len() {
             self.stage = Stage::Ended;

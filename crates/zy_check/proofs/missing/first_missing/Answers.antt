@@ -1,6 +1,6 @@
 use Rattle.std.proofs.Common.{length, sym, subst, arith}
 use Rattle.std.proofs.lemmas.Option.{slice_get_within}
-use Rattle.zy_check.specs.Track.{HasMade}
+use Rattle.zy_check.specs.Track.{HasMadeCalls}
 use Rattle.zy_check.specs.Cause.{IsMissing}
 use Rattle.zy_check.proofs.StepLemmas.{tracked_at, has_made, all_before, call_missing, ends_more, ends_whole, all_ended}
 use Rattle.zy_check.proofs.missing.first_missing.Goals as goal
@@ -16,7 +16,7 @@ returns-then-branch c =
     let near = c.loop-conn-test.true in
     let has = has_made g (length g.entries) tracks tracked conn c.index-tracks-conn.result c.go_on.new.self (omega arith) c.in_ok-go_on.ensures.kept in
     let missing = call_missing g conn c.go_on.new.self c.requires.right (ends_whole g tracks conn (omega arith) tracked c.loop-conn.invariant.ends)
-    (subst (HasMade g conn c.go_on.new.self) (all_before g conn) has) (c.in_ok-go_on.ensures.next c.if-branch.true) in
+    (subst (HasMadeCalls g conn c.go_on.new.self) (all_before g conn) has) (c.in_ok-go_on.ensures.next c.if-branch.true) in
     record { found = subst (IsMissing g conn) (sym c.commands-index.ensures.value) missing }
 
 pub loop-conn-preserved : goal.loop-conn-preserved

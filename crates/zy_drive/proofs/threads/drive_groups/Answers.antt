@@ -1,7 +1,7 @@
 use Rattle.std.proofs.Common.{◌≡◌, ◌∙◌, List, length, ap, sym, subst, arith, rules}
 use Rattle.zy_core.specs.Core.{Cored}
 use Rattle.zy_core.specs.Cores.{identities, EachFits}
-use Rattle.zy_drive.specs.Drive.{cores_of}
+use Rattle.zy_drive.specs.Drive.{returned_cores}
 use Rattle.zy_drive.specs.Seat.{all_of_groups, AllFit}
 use Rattle.zy_drive.proofs.GroupLemmas.{dealt_fit, gather_same, gather_settled}
 use Rattle.zy_drive.proofs.threads.drive_groups.Goals as goal
@@ -14,10 +14,10 @@ in_scope-lent-requires-clause-fits g c =
 pub returns-clause-settled : goal.returns-clause-settled
 returns-clause-settled g c = λ is.
     let all = c.in_scope-lent.ensures.settled (c.answer.ensures.settled is).1 in
-    gather_settled c.len-count.result c.in_scope-lent.result.1.groups.items (cores_of c.answer.result) all (c.answer.ensures.cores ∙ c.together.ensures.value)
+    gather_settled c.len-count.result c.in_scope-lent.result.1.groups.items (returned_cores c.answer.result) all (c.answer.ensures.cores ∙ c.together.ensures.value)
 
 pub returns-clause-same : goal.returns-clause-same
 returns-clause-same g c =
     let length_is : c.len-count.result ≡ length c.into_items-items.result.items = let ok = c.into_items-items.result.ok.0 in let len = c.len-count.ensures in omega arith in
-    gather_same c.len-count.result c.deal.new.groups.items c.in_scope-lent.result.1.groups.items c.into_items-items.result.items (cores_of c.answer.result) length_is c.deal.ensures.dealt c.in_scope-lent.ensures.same
+    gather_same c.len-count.result c.deal.new.groups.items c.in_scope-lent.result.1.groups.items c.into_items-items.result.items (returned_cores c.answer.result) length_is c.deal.ensures.dealt c.in_scope-lent.ensures.same
     (c.answer.ensures.cores ∙ c.together.ensures.value) ∙ ap identities c.into_items-items.ensures.value

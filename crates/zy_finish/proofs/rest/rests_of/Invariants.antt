@@ -2,8 +2,8 @@ use Rattle.std.proofs.Common.{◌≡◌, ◌≤◌, ◌+◌, ◌++◌, map, leng
 use Rattle.std.specs.Prelude.{vec_capacity}
 use Rattle.std.specs.List.{AllByRecursion}
 use Rattle.std.specs.Vec.Iter.{into_iter_items}
-use Rattle.zy_home.specs.Home.{Keeps}
-use Rattle.zy_finish.specs.Rest.{rest_of}
+use Rattle.zy_home.specs.Home.{IsSoundHome}
+use Rattle.zy_finish.specs.Rest.{rest_of_home}
 use Rattle.zy_finish.proofs.rest.rests_of.Given as goal
 
 -- what is left of the homes before this one, and the homes to come
@@ -11,6 +11,6 @@ abbrev pub invariant-loop-home : goal.invariant-loop-home
 invariant-loop-home l =
     (goal.iterator-loop-home).can_next l.home-iterator ×
     (goal.iterator-loop-home).is_finite l.home-iterator ×
-    (l.rests.items ++ map rest_of (into_iter_items l.home-iterator) ≡ map rest_of l.fn.homes.items) ×
+    (l.rests.items ++ map rest_of_home (into_iter_items l.home-iterator) ≡ map rest_of_home l.fn.homes.items) ×
     (length l.rests.items + length (into_iter_items l.home-iterator) ≤ vec_capacity l.rests) ×
-    (AllByRecursion Keeps (into_iter_items l.home-iterator) → AllByRecursion Keeps l.fn.homes.items)
+    (AllByRecursion IsSoundHome (into_iter_items l.home-iterator) → AllByRecursion IsSoundHome l.fn.homes.items)

@@ -1,5 +1,5 @@
 use Rattle.std.proofs.Common.{◌≡◌, drop}
-use Rattle.zy_finish.specs.Left.{cut_from, cut_at}
+use Rattle.zy_finish.specs.Left.{cut_from, session_texts}
 use Rattle.zy_finish.specs.Part.{HasAdded}
 use Rattle.zy_finish.proofs.sessions.add_parts.Given as goal
 
@@ -7,5 +7,5 @@ use Rattle.zy_finish.proofs.sessions.add_parts.Given as goal
 abbrev pub invariant-loop-end : goal.invariant-loop-end
 invariant-loop-end l = record {
   version : l.outputs.version ≡ 2;
-  added : HasAdded l.fn.outputs.sessions (cut_at l.ends l.output.texts) l.end-index (cut_from l.start (drop l.end-index l.ends) l.output.texts) l.outputs.sessions;
+  added : HasAdded l.fn.outputs.sessions (session_texts l.ends l.output.texts) l.end-index (cut_from l.start (drop l.end-index l.ends) l.output.texts) l.outputs.sessions;
 }

@@ -1,5 +1,5 @@
 use Rattle.std.proofs.Common.{refl, ◌∙◌}
-use Rattle.zy_rx.specs.Session.{sessions_of}
+use Rattle.zy_rx.specs.Session.{received_by}
 use Rattle.zy_home.proofs.LawLemmas.{ended_conns, home_finished}
 use Rattle.zy_home.proofs.laws.a_settled_home_is_finished.Goals as goal
 
@@ -7,4 +7,4 @@ pub returns-clause-conns : goal.returns-clause-conns
 returns-clause-conns c = λ h k. ended_conns h.links ∙ k.conns
 
 pub returns-clause-finished : goal.returns-clause-finished
-returns-clause-finished c = λ h items k settled stands. home_finished h items (λ conn. sessions_of conn items) k settled stands (λ conn own. refl)
+returns-clause-finished c = λ h items k settled stands. home_finished h items (λ conn. received_by conn items) k settled stands (λ conn own. refl)

@@ -1,6 +1,6 @@
 use Rattle.std.proofs.Common.{◌≡◌, ◌∙◌, ap, refl, rules}
 use Rattle.zy_capture.specs.Verdict.{verdict}
-use Rattle.zy_gen.specs.Traffic.{records_of}
+use Rattle.zy_gen.specs.Traffic.{traffic_records}
 use Rattle.zy_self.specs.Tested.{traffic_bytes}
 use Rattle.zy_self.proofs.TestLemmas.{tested_of}
 use Rattle.zy_self.proofs.testing.run_test.Goals as goal
@@ -13,7 +13,7 @@ certify-requires-clause-streams g c =
 pub returns : goal.returns
 returns g c =
     let traffic = c.args.traffic in
-    let records = records_of traffic.number traffic.conns traffic.commands in
+    let records = traffic_records traffic.number traffic.conns traffic.commands in
     let made = c.capture_of.ensures.traffic in record {
       tested = tested_of traffic c.args.run records c.in_ok-done.done.journal c.in_ok-done.done.outputs c.in_ok-summary.summary refl
           (c.generated_traffic_is_a_good_capture.ensures.good traffic.number traffic.conns traffic.commands made)

@@ -5,7 +5,7 @@ use Rattle.std.specs.List.{AllByRecursion}
 use Rattle.zy_home.specs.Home.{Homed}
 use Rattle.zy_core.specs.Core.{Cored}
 use Rattle.zy_setup.proofs.ListLemmas.{length_map}
-use Rattle.zy_finish.specs.Finish.{IsFinished, IsHoldBy}
+use Rattle.zy_finish.specs.Finish.{IsResultOfRun, IsHoldBy}
 use Rattle.zy_finish.specs.Over.{AreOver}
 use Rattle.zy_serving.proofs.OverLemmas.{over_of}
 use Rattle.zy_serving.proofs.serving.finish_run.Goals as goal
@@ -21,7 +21,7 @@ pub returns : goal.returns
 returns c = record {
   finished = λ records lawful sent.
       let shards : c.in-Ok.taken.store.shards ≡ c.args.driven.shared.store.shards = ap (λ (s : Stored). s.shards) c.in-Ok.ensures.store in
-      subst (λ (n : ℕ). IsFinished n c.args.driven.header.version c.args.driven.header.count records c.in_ok-finished.finished) shards
+      subst (λ (n : ℕ). IsResultOfRun n c.args.driven.header.version c.args.driven.header.count records c.in_ok-finished.finished) shards
       (c.in_ok-finished.ensures.finished records lawful (c.in-Ok.ensures.received c.requires.driven.settled records sent));
   held = subst (λ (n : ℕ). AllByRecursion (IsHoldBy n) c.in_ok-finished.finished.journal.holds)
       (ap (λ (l : List Homed). length l) c.in-Ok.ensures.homes ∙ length_map (λ (x : Cored). x.home) c.args.driven.cores) c.in_ok-finished.ensures.held;

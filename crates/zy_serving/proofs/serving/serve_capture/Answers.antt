@@ -5,7 +5,7 @@ use Rattle.zy_rx.specs.Feed.{sent_by}
 use Rattle.zy_feed.specs.declared.intake.Header.{Header}
 use Rattle.zy_finish.specs.Received.{AllSent}
 use Rattle.std.specs.List.{AllByRecursion}
-use Rattle.zy_finish.specs.Finish.{IsFinished, IsHoldBy}
+use Rattle.zy_finish.specs.Finish.{IsResultOfRun, IsHoldBy}
 use Rattle.zy_serving.proofs.ServedLemmas.{runs_to, begun_as}
 use Rattle.zy_serving.proofs.serving.serve_capture.Goals as goal
 
@@ -21,7 +21,7 @@ returns-clause-ends g c =
     let fed = c.in_ok-driven.ensures.fed c.args.source.now begun in
     runs_to g.S.Source.rest g.S.Source.faults c.args.run c.args.source.now c.drive_capture.new.source c.in-Ok.prepared.header (sent_by c.in_ok-driven.driven.inlets) c.in_ok-finished.finished c.a_capture_is_good_exactly_where_it_is_a_spelling.ensures.exactly fed
     (λ records lawful sent.
-    subst (λ (h : Header). IsFinished c.args.run.shards h.version h.count records c.in_ok-finished.finished) c.in_ok-driven.ensures.header
-    (subst (λ (n : ℕ). IsFinished n c.in_ok-driven.driven.header.version c.in_ok-driven.driven.header.count records c.in_ok-finished.finished) c.in_ok-driven.ensures.shards
+    subst (λ (h : Header). IsResultOfRun c.args.run.shards h.version h.count records c.in_ok-finished.finished) c.in_ok-driven.ensures.header
+    (subst (λ (n : ℕ). IsResultOfRun n c.in_ok-driven.driven.header.version c.in_ok-driven.driven.header.count records c.in_ok-finished.finished) c.in_ok-driven.ensures.shards
     (c.in_ok-finished.ensures.finished records (subst (λ (h : Header). IsCapture h.version h.count records) (sym c.in_ok-driven.ensures.header) lawful) sent)))
     (subst (λ (n : ℕ). AllByRecursion (IsHoldBy n) c.in_ok-finished.finished.journal.holds) c.in_ok-driven.ensures.cores c.in_ok-finished.ensures.held)

@@ -1,6 +1,6 @@
 use Rattle.std.proofs.Common.{refl, subst}
 use Rattle.zy_command_line.specs.Request.{request_of}
-use Rattle.zy_serving.specs.Seen.{Seen, side, seen}
+use Rattle.zy_serving.specs.Seen.{Seen, side, both_sides}
 use Rattle.zygos_run.specs.declared.answer.Answer.TheVariants.{Served, Checked, Made}
 use Rattle.zygos_run.specs.Ends.{Ends}
 use Rattle.zygos_run.proofs.EndLemmas.{told_of, unlawful_of, done_of, refused_of}
@@ -8,31 +8,31 @@ use Rattle.zygos_run.proofs.serving.serve.Goals as goal
 
 pub returns-clause-headline : goal.returns-clause-headline
 returns-clause-headline g c = λ j is.
-    let call : Seen = seen (side g.S.Source.rest g.S.Source.faults c.args.source.now c.carry_out-answer.new.source) (side g.K.Sink.holds g.K.Sink.faults c.args.sink.now c.carry_out-answer.new.sink) in
+    let call : Seen = both_sides (side g.S.Source.rest g.S.Source.faults c.args.source.now c.carry_out-answer.new.source) (side g.K.Sink.holds g.K.Sink.faults c.args.sink.now c.carry_out-answer.new.sink) in
     told_of (request_of c.args.words.now) call (Served j) (subst (λ a. Ends (request_of c.args.words.now) call a) is c.carry_out-answer.ensures.ends)
 
 pub returns-clause-verdict : goal.returns-clause-verdict
 returns-clause-verdict g c = λ v is.
-    let call : Seen = seen (side g.S.Source.rest g.S.Source.faults c.args.source.now c.carry_out-answer.new.source) (side g.K.Sink.holds g.K.Sink.faults c.args.sink.now c.carry_out-answer.new.sink) in
+    let call : Seen = both_sides (side g.S.Source.rest g.S.Source.faults c.args.source.now c.carry_out-answer.new.source) (side g.K.Sink.holds g.K.Sink.faults c.args.sink.now c.carry_out-answer.new.sink) in
     told_of (request_of c.args.words.now) call (Checked v) (subst (λ a. Ends (request_of c.args.words.now) call a) is c.carry_out-answer.ensures.ends)
 
 pub returns-clause-reported : goal.returns-clause-reported
 returns-clause-reported g c = λ is.
-    let call : Seen = seen (side g.S.Source.rest g.S.Source.faults c.args.source.now c.carry_out-answer.new.source) (side g.K.Sink.holds g.K.Sink.faults c.args.sink.now c.carry_out-answer.new.sink) in
+    let call : Seen = both_sides (side g.S.Source.rest g.S.Source.faults c.args.source.now c.carry_out-answer.new.source) (side g.K.Sink.holds g.K.Sink.faults c.args.sink.now c.carry_out-answer.new.sink) in
     told_of (request_of c.args.words.now) call Made (subst (λ a. Ends (request_of c.args.words.now) call a) is c.carry_out-answer.ensures.ends)
 
 pub returns-clause-unlawful : goal.returns-clause-unlawful
 returns-clause-unlawful g c = λ none.
-    let call : Seen = seen (side g.S.Source.rest g.S.Source.faults c.args.source.now c.carry_out-answer.new.source) (side g.K.Sink.holds g.K.Sink.faults c.args.sink.now c.carry_out-answer.new.sink) in
+    let call : Seen = both_sides (side g.S.Source.rest g.S.Source.faults c.args.source.now c.carry_out-answer.new.source) (side g.K.Sink.holds g.K.Sink.faults c.args.sink.now c.carry_out-answer.new.sink) in
     unlawful_of call c.carry_out-answer.result (subst (λ r. Ends r call c.carry_out-answer.result) none c.carry_out-answer.ensures.ends)
 
 pub returns-clause-complete : goal.returns-clause-complete
 returns-clause-complete g c = λ good none.
-    let call : Seen = seen (side g.S.Source.rest g.S.Source.faults c.args.source.now c.carry_out-answer.new.source) (side g.K.Sink.holds g.K.Sink.faults c.args.sink.now c.carry_out-answer.new.sink) in
+    let call : Seen = both_sides (side g.S.Source.rest g.S.Source.faults c.args.source.now c.carry_out-answer.new.source) (side g.K.Sink.holds g.K.Sink.faults c.args.sink.now c.carry_out-answer.new.sink) in
     done_of (request_of c.args.words.now) call c.carry_out-answer.result good none c.carry_out-answer.ensures.ends
 
 pub returns-clause-refuses : goal.returns-clause-refuses
 returns-clause-refuses g c = λ r bad none.
-    let call : Seen = seen (side g.S.Source.rest g.S.Source.faults c.args.source.now c.carry_out-answer.new.source) (side g.K.Sink.holds g.K.Sink.faults c.args.sink.now c.carry_out-answer.new.sink) in
+    let call : Seen = both_sides (side g.S.Source.rest g.S.Source.faults c.args.source.now c.carry_out-answer.new.source) (side g.K.Sink.holds g.K.Sink.faults c.args.sink.now c.carry_out-answer.new.sink) in
     refused_of (request_of c.args.words.now) call c.carry_out-answer.result (g.S.Source.rest c.args.source.now) r c.parts_have_no_fault.ensures.none c.there_is_one_part_fault.ensures.same
     refl bad none c.carry_out-answer.ensures.ends

@@ -1,6 +1,6 @@
 use Rattle.std.proofs.Common.{Option, None, ◌∙◌, subst, arith}
 use Rattle.zy_check.specs.Begun.{Begun}
-use Rattle.zy_check.specs.Track.{Stands}
+use Rattle.zy_check.specs.Track.{StandsAtSession}
 use Rattle.zy_check.proofs.TrackLemmas.{session_ended}
 use Rattle.zy_check.proofs.track.Track.begin.Goals as goal
 
@@ -10,7 +10,7 @@ returns-in-None-clause-kept c made has =
     let t = c.args.self.now in
     let next = c.end_session.new.self in
     let ends = c.end_session.ensures in
-    let h : Stands g c.args.conn t.session t.cursor None t.commands t.compared made = subst (λ (o : Option Begun). Stands g c.args.conn t.session t.cursor o t.commands t.compared made) c.requires.none has in
+    let h : StandsAtSession g c.args.conn t.session t.cursor None t.commands t.compared made = subst (λ (o : Option Begun). StandsAtSession g c.args.conn t.session t.cursor o t.commands t.compared made) c.requires.none has in
     let size = c.sessions.ensures.value in
     let more = c.if-sessions-self.false in
     let gave = rw c.in-None.is at c.in_ok-command.ensures.gave in

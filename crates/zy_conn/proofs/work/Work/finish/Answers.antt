@@ -1,7 +1,7 @@
 use Rattle.std.proofs.Common.{subst, sym, ap, ◌∙◌}
 use Rattle.mc_parse.specs.Calls.{calls_of}
 use Rattle.zy_conn.specs.Work.{Worked, going, start_of}
-use Rattle.zy_conn.specs.Step.{IsWhole}
+use Rattle.zy_conn.specs.Step.{IsAllMade}
 use Rattle.zy_conn.proofs.StepLemmas.{kept_ends_as}
 use Rattle.zy_conn.proofs.work.Work.finish.Goals as goal
 
@@ -10,7 +10,7 @@ invariant_of-self c =
     let slots = c.self.inside.pass.table.slots in
     let command = c.in-Going.command in
     kept_ends_as c.self.inside.pass _ _ _ _ _ _ c.self.inside.batch c.send-sent.new.batch c.set_finished.new.self c.self.invariant
-    (subst (λ (v : Worked). IsWhole v.begun) (sym c.self.view_is) c.requires.whole)
+    (subst (λ (v : Worked). IsAllMade v.begun) (sym c.self.view_is) c.requires.whole)
     (ap (λ b. start_of slots b c.clear.new.self.items) c.put.ensures.value)
     (going command (calls_of slots command) c.from_vec-replies.result)
     (ap (λ l. going command (calls_of slots command) l) (c.from_vec-replies.ensures.value ∙ ap (λ v. v.items) c.replace.ensures.value) ∙ sym (ap (λ b. start_of slots b c.self.inside.replies.items) c.in-Going.is))

@@ -1,10 +1,10 @@
 use Rattle.std.proofs.Common.{◌≡◌}
-use Rattle.zy_conn.specs.Step.{IsGoing, Goes, calls_left}
+use Rattle.zy_conn.specs.Step.{IsGoing, StepsOn, calls_left}
 use Rattle.zy_conn.proofs.work.Work.make_calls.Given as goal
 
 abbrev pub invariant-loop-end : goal.invariant-loop-end
 invariant-loop-end l = record {
-  goes : Goes l.fn.self l.self;
+  goes : StepsOn l.fn.self l.self;
   finished : l.self.finished ≡ l.fn.self.finished;
   going : IsGoing l.self.begun;
 }

@@ -1,12 +1,12 @@
 use Rattle.std.proofs.Common.{refl, sym, subst, List, Option}
 use Rattle.zy_conn.specs.Block.{Blocked}
-use Rattle.zy_home.specs.Home.{Keeps}
+use Rattle.zy_home.specs.Home.{IsSoundHome}
 use Rattle.zy_home.proofs.MakeLemmas.{made_conns, made_keeps, made_stands}
 use Rattle.zy_home.proofs.home.Home.new.Goals as goal
 
 pub invariant_of-result : goal.invariant_of-result
 invariant_of-result c =
-    subst (λ (bs : List (Option Blocked)). Keeps (record { core = c.args.core; cores = c.args.cores; count = c.args.count; pass = c.args.parts.pass; blocks = bs; links = c.fill.new.links.items; ended = _; refused = _ })) (sym c.fill.ensures.slots)
+    subst (λ (bs : List (Option Blocked)). IsSoundHome (record { core = c.args.core; cores = c.args.cores; count = c.args.count; pass = c.args.parts.pass; blocks = bs; links = c.fill.new.links.items; ended = _; refused = _ })) (sym c.fill.ensures.slots)
     (made_keeps c.args.core c.args.cores c.args.count c.args.parts.pass c.args.parts.blocks c.args.parts.inlets c.fill.new.links.items c.args.parts refl refl refl c.requires.parts c.fill.ensures.links c.requires.core c.requires.cores)
 
 pub returns-clause-ok : goal.returns-clause-ok

@@ -7,7 +7,7 @@ use Rattle.zy_input.specs.declared.capture_part.CapturePart.{CapturePart}
 use Rattle.zy_input.specs.declared.stop.Refusal.TheVariants.{Capture}
 use Rattle.zy_input.specs.Kinds.{capture_keeping, capture_kind, StandsForCapture}
 use Rattle.zy_input.specs.Parts.{HasStreams}
-use Rattle.zy_input.specs.Reading.{Takes}
+use Rattle.zy_input.specs.Reading.{TakesInPart}
 use Rattle.zy_input.proofs.CaptureLemmas.{fault_within}
 use Rattle.zy_input.proofs.KeepingLemmas.{keeping_on, taken_on}
 use Rattle.zy_input.proofs.LawfulLemmas.{stays}
@@ -24,7 +24,7 @@ returns-clause-value c bytes stands goes_on within =
     let fed = c.feed_piece-fed in
     let small : AreBytes c.args.next.now = each_byte c.args.next.now (λ i. omega (arith, c.type_inv.next i)) in
     let part : CapturePart = record { alloc = c.args.self.now.alloc; reader = fed.new.self; streams = c.keep_taken.new.made } in
-    subst (λ (count : ℕ). Takes capture_kind part (bytes ++ take count c.args.next.now) c.keep_taken.result.answer) (sym c.keep_taken.ensures.count)
+    subst (λ (count : ℕ). TakesInPart capture_kind part (bytes ++ take count c.args.next.now) c.keep_taken.result.answer) (sym c.keep_taken.ensures.count)
     (taken_on capture_keeping is_good (λ (f : CaptureFault). Capture f) StandsForCapture (λ streams text. HasStreams text streams) fed.new.self c.args.self.now.streams part.streams part (bytes ++ take fed.result.taken c.args.next.now) fed.result.answer c.keep_taken.result.answer c.is_done-done.result (λ kept. kept)
     (λ gave is. (keeping_on capture_keeping stays c.args.self.now.reader fed.new.self c.args.self.now.streams bytes c.args.next.now fed.result.taken gave fed.result.answer is stands small fed.ensures.fed fed.ensures.exact, refl)) c.is_done-done.ensures.value
     (λ fault is more. fault_within c.args.self.now fed.new.self bytes (take fed.result.taken c.args.next.now) more fed.result.answer fault is stands goes_on within fed.ensures.fed fed.ensures.exact) c.keep_taken.ensures.value)

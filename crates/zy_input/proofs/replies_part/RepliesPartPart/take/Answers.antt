@@ -6,7 +6,7 @@ use Rattle.zy_capture.specs.RepliesVerdict.{replies}
 use Rattle.zy_input.specs.declared.replies_part.RepliesPart.{RepliesPart}
 use Rattle.zy_input.specs.declared.stop.Refusal.TheVariants.{Replies as OfReplies}
 use Rattle.zy_input.specs.Kinds.{replies_keeping, replies_kind, StandsForRepliesPart, HasOutputs}
-use Rattle.zy_input.specs.Reading.{Takes, never}
+use Rattle.zy_input.specs.Reading.{TakesInPart, never}
 use Rattle.zy_input.proofs.FormatLemmas.{fault_ever}
 use Rattle.zy_input.proofs.KeepingLemmas.{keeping_on, taken_on}
 use Rattle.zy_input.proofs.OrderLemmas.{stays}
@@ -23,7 +23,7 @@ returns-clause-value c setting bytes stands goes_on =
     let fed = c.feed_piece-fed in
     let small : AreBytes c.args.next.now = each_byte c.args.next.now (λ i. omega (arith, c.type_inv.next i)) in
     let part : RepliesPart = record { alloc = c.args.self.now.alloc; reader = fed.new.self; outputs = c.keep_taken.new.made } in
-    subst (λ (count : ℕ). Takes replies_kind part (bytes ++ take count c.args.next.now) c.keep_taken.result.answer) (sym c.keep_taken.ensures.count)
+    subst (λ (count : ℕ). TakesInPart replies_kind part (bytes ++ take count c.args.next.now) c.keep_taken.result.answer) (sym c.keep_taken.ensures.count)
     (taken_on replies_keeping never (λ (f : FileFault). OfReplies f) StandsForRepliesPart HasOutputs fed.new.self c.args.self.now.outputs part.outputs part (bytes ++ take fed.result.taken c.args.next.now) fed.result.answer c.keep_taken.result.answer false (λ kept. kept)
     (λ gave is. (keeping_on replies_keeping stays c.args.self.now.reader fed.new.self c.args.self.now.outputs bytes c.args.next.now fed.result.taken gave fed.result.answer is stands small fed.ensures.fed fed.ensures.exact, refl)) (λ given b reads. refl)
     (λ fault is more. fault_ever replies (λ (f : FileFault). OfReplies f) c.args.self.now.reader stands.given bytes (take fed.result.taken c.args.next.now) more fed.result.answer fault is stands.reader fed.ensures.lasts) c.keep_taken.ensures.value)

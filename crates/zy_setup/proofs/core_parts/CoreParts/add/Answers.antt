@@ -5,7 +5,7 @@ use Rattle.zy_shuffle.specs.Pass.{Held, newly_given}
 use Rattle.zy_steal.specs.Steal.{PassList}
 use Rattle.zy_conn.specs.Block.{Blocked, label_of}
 use Rattle.zy_setup.specs.Ready.{IsNewHome}
-use Rattle.zy_setup.specs.Make.{Gives}
+use Rattle.zy_setup.specs.Make.{GivesPass}
 use Rattle.zy_setup.proofs.OwnLemmas.{places_few}
 use Rattle.zy_setup.proofs.MadeLemmas.{made_next, new_home}
 use Rattle.zy_setup.proofs.core_parts.CoreParts.add.Goals as goal
@@ -30,8 +30,8 @@ returns-clause-made c =
     let is = c.in-Ok-home_of.ensures.ok in
     made_next c.args.store.now.id c.args.cores c.args.count c.args.self.now c.keep.new.self c.requires.made c.in-Ok-home_of.home c.in-Ok.made.0 (newly_given c.in-Ok.made.1)
     homes rings c.give_passes.new.passes passes
-    (subst (λ (n : ℕ). Gives n (newly_given c.in-Ok.made.1) c.args.self.now.passes.items c.give_passes.new.passes) core
-    (subst (λ (l : List (PassList Blocked)). Gives c.len-core.result (newly_given c.in-Ok.made.1) l c.give_passes.new.passes) before c.in_default.ensures.gives))
+    (subst (λ (n : ℕ). GivesPass n (newly_given c.in-Ok.made.1) c.args.self.now.passes.items c.give_passes.new.passes) core
+    (subst (λ (l : List (PassList Blocked)). GivesPass c.len-core.result (newly_given c.in-Ok.made.1) l c.give_passes.new.passes) before c.in_default.ensures.gives))
     size
     (subst (λ (n : ℕ). IsNewHome c.keep.new.self.rings (label_of c.args.store.now.id c.args.cores) c.args.cores n c.in-Ok-home_of.home) core
     (new_home c.args.store.now.id c.args.self.now.rings c.keep.new.self.rings c.len-core.result c.args.cores c.args.count c.args.own.places c.in-Ok.made.0 c.in-Ok.made.1 c.give_passes.new.home _ c.in-Ok-home_of.home
