@@ -166,8 +166,8 @@ impl FieldFormat for JournalState {
         }
     }
 
-    #[tactic(auto, using(crate::proofs::PlacedLemmas::placed, crate::proofs::PlacedLemmas::run_due))]
     // A key or a value, copied so that it takes no more room than it needs, and a short one none.
+    #[tactic(auto, using(crate::proofs::PlacedLemmas::placed, crate::proofs::PlacedLemmas::run_due))]
     fn judge_run(
         &mut self,
         alloc: Global,

@@ -59,8 +59,8 @@ pub(crate) fn call_fields(bytes: &[u8]) -> Option<(CallBytes<'_>, &[u8])>
     Some((found, rest))
 }
 
-#[tactic(auto, using(crate::proofs::FoundLemmas::kind_found))]
 // The kind of a call by its code, and the bytes after that.
+#[tactic(auto, using(crate::proofs::FoundLemmas::kind_found))]
 fn kind_of(bytes: &[u8]) -> Option<(CallKind, &[u8])>
     ensures value { IfSome result (λ found. bytes.now ≡ code_of found.0 ∷ found.1.now) }
 {

@@ -7,8 +7,8 @@ ghost use Rattle.zy_journal_reader.specs.Found.{HasField};
 
 use zy_base::{KEY_LIMIT, VALUE_LIMIT};
 
-#[tactic(auto, using(crate::proofs::FoundLemmas::four_found))]
 // A number of four bytes.
+#[tactic(auto, using(crate::proofs::FoundLemmas::four_found))]
 pub(crate) fn four(bytes: &[u8]) -> Option<(u32, &[u8])>
     ensures value { IfSome result (λ found. bytes.now ≡ to_be_bytes w32 found.0 ++ found.1.now) }
     ensures fits { IfSome result (λ found. found.0 < 2 ^ 32) }
@@ -19,8 +19,8 @@ pub(crate) fn four(bytes: &[u8]) -> Option<(u32, &[u8])>
     Some((u32::from_be_bytes(*first), rest))
 }
 
-#[tactic(auto, using(crate::proofs::FoundLemmas::eight_found))]
 // A number of eight bytes.
+#[tactic(auto, using(crate::proofs::FoundLemmas::eight_found))]
 pub(crate) fn eight(bytes: &[u8]) -> Option<(u64, &[u8])>
     ensures value { IfSome result (λ found. bytes.now ≡ to_be_bytes w64 found.0 ++ found.1.now) }
     ensures fits { IfSome result (λ found. found.0 < 2 ^ 64) }

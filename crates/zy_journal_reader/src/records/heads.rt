@@ -43,8 +43,8 @@ impl Head {
     }
 }
 
-#[tactic(auto, using(crate::proofs::FoundLemmas::head_found))]
 // The head of an entry that may come next, and the bytes after it.
+#[tactic(auto, using(crate::proofs::FoundLemmas::head_found))]
 pub(crate) fn head_fields(past: Past, bytes: &[u8]) -> Option<(Head, &[u8])>
     ensures value { IfSome result (λ found. HasHead past bytes.now found.0 found.1.now) }
 {

@@ -7,8 +7,8 @@ use super::fields::{contents, eight, four};
 use std::alloc::Global;
 use zy_base::{Blob, CallReply, HIT_CODE, LAST_REPLY_CODE, NUMBER_CODE, TALLY_CODE, Tallied};
 
-#[tactic(auto, using(crate::proofs::FoundLemmas::plain_found))]
 // A reply; nothing if memory for it was refused.
+#[tactic(auto, using(crate::proofs::FoundLemmas::plain_found))]
 pub(crate) fn reply(alloc: Global, bytes: &[u8]) -> Option<(CallReply, &[u8])>
     ensures value { IfSome result (λ found. HasReply bytes.now found.0 found.1.now) }
 {
@@ -27,8 +27,8 @@ pub(crate) fn reply(alloc: Global, bytes: &[u8]) -> Option<(CallReply, &[u8])>
     }
 }
 
-#[tactic(auto, using(crate::proofs::FoundLemmas::hit_found))]
 // The fields of a hit.
+#[tactic(auto, using(crate::proofs::FoundLemmas::hit_found))]
 fn hit(alloc: Global, bytes: &[u8]) -> Option<(CallReply, &[u8])>
     ensures value { IfSome result (λ found. HasReply (hit_code ∷ bytes.now) found.0 found.1.now) }
 {
@@ -48,8 +48,8 @@ fn hit(alloc: Global, bytes: &[u8]) -> Option<(CallReply, &[u8])>
     }
 }
 
-#[tactic(auto, using(crate::proofs::FoundLemmas::number_found))]
 // The number that a value is now.
+#[tactic(auto, using(crate::proofs::FoundLemmas::number_found))]
 fn counted(bytes: &[u8]) -> Option<(CallReply, &[u8])>
     ensures value { IfSome result (λ found.
         HasReply (number_code ∷ bytes.now) found.0 found.1.now) }
@@ -58,8 +58,8 @@ fn counted(bytes: &[u8]) -> Option<(CallReply, &[u8])>
     Some((CallReply::Number { number }, rest))
 }
 
-#[tactic(auto, using(crate::proofs::FoundLemmas::tally_found))]
 // The numbers of a tally.
+#[tactic(auto, using(crate::proofs::FoundLemmas::tally_found))]
 fn tally(bytes: &[u8]) -> Option<(CallReply, &[u8])>
     ensures value { IfSome result (λ found. HasReply (tally_code ∷ bytes.now) found.0 found.1.now) }
 {

@@ -10,8 +10,8 @@ use std::alloc::Global;
 use zy_base::{Entry, Hold};
 
 impl JournalState {
-    #[tactic(auto, using(zy_read::proofs::OverLemmas::over_none))]
     // Takes lawful records one after another. Returns the number of their bytes.
+    #[tactic(auto, using(zy_read::proofs::OverLemmas::over_none))]
     pub(super) fn take_records(&mut self, alloc: Global, bytes: &[u8]) -> usize
         requires there { IsAtRecord self.old }
         ensures within { result ≤ length bytes.now }
@@ -29,9 +29,9 @@ impl JournalState {
         }
     }
 
-    #[tactic(auto, using(zy_read::proofs::OverLemmas::over_none))]
     // Takes the record that the bytes begin with, where it is lawful. Returns its size, or 0; if
     // memory for it was refused, 0.
+    #[tactic(auto, using(zy_read::proofs::OverLemmas::over_none))]
     fn take_record(&mut self, alloc: Global, bytes: &[u8]) -> usize
         requires there { IsAtRecord self.old }
         ensures within { result ≤ length bytes.now }
@@ -46,8 +46,8 @@ impl JournalState {
         }
     }
 
-    #[tactic(auto, using(crate::proofs::RecordLemmas::entry_over, zy_read::proofs::OverLemmas::over_none))]
     // Takes the entry that the bytes begin with.
+    #[tactic(auto, using(crate::proofs::RecordLemmas::entry_over, zy_read::proofs::OverLemmas::over_none))]
     fn take_entry(&mut self, alloc: Global, bytes: &[u8]) -> usize
         requires there { IsAtRecord self.old }
         requires holds { self.old.holds ≡ [] }
@@ -66,8 +66,8 @@ impl JournalState {
         }
     }
 
-    #[tactic(auto, using(crate::proofs::RecordLemmas::hold_over, zy_read::proofs::OverLemmas::over_none))]
     // Takes the hold that the bytes begin with.
+    #[tactic(auto, using(crate::proofs::RecordLemmas::hold_over, zy_read::proofs::OverLemmas::over_none))]
     fn take_hold(&mut self, bytes: &[u8]) -> usize
         requires there { IsAtRecord self.old }
         ensures within { result ≤ length bytes.now }
