@@ -9,7 +9,7 @@ use Rattle.std.proofs.lemmas.Bool.Decides.{nat_tests}
 use Rattle.zy_read.specs.Format.{Reading, read_on}
 use Rattle.zy_read.specs.Fields.{Judged, Fields, IsLawful, Place, at_state, step}
 use Rattle.zy_read.specs.Fields.Judged.{Then, Gives, Wrong as IsFault}
-use Rattle.zy_read.specs.Runs.{Begins, IsMisjudged}
+use Rattle.zy_read.specs.Runs.{Begins, IsMisjudged, RunsOver}
 use Rattle.zy_read.specs.declared.magic.MagicPart.{MagicPart}
 use Rattle.zy_read.specs.declared.magic.MagicPart.TheVariants.{Letters, Digit, LineFeed}
 use Rattle.zy_read.specs.declared.magic.MagicStep.{MagicStep}
@@ -17,7 +17,7 @@ use Rattle.zy_read.specs.declared.magic.MagicStep.TheVariants.{Next, Whole, Wron
 use Rattle.zy_read.specs.Magic.{letter, digit, line_feed, magic_step, IsInMagic, magic_before, magic_of, HasMagic, BeginsMagic, IsBadMagic, magic_judged, ReadsMagic}
 use Rattle.zy_read.proofs.MagicLemmas.{IsVersion, IsKnown, LeadsTo, letters_on, leads}
 use Rattle.zy_read.proofs.RunLemmas.{After, runs_keep, any_parts}
-use Rattle.zy_read.proofs.OverLemmas.{RunsOver, over_none, over_then, over_join, over_begins, over_misjudged}
+use Rattle.zy_read.proofs.OverLemmas.{over_none, over_then, over_join, over_begins, over_misjudged}
 use Rattle.zy_read.proofs.VerdictLemmas.{Leaves, state_kept, begins_read, text_reaches}
 
 -- ---- the fields of a magic

@@ -3,8 +3,7 @@ use Rattle.std.proofs.Common.{◌≡◌, ℕ, ◌+◌, ◌≤◌, List, [], ◌�
 use Rattle.std.specs.List.{concat}
 use Rattle.zy_read.specs.Fields.{Judged, Fields}
 use Rattle.zy_read.specs.Fields.Judged.{Then, Gives, Wrong}
-pub use Rattle.zy_read.specs.Runs.{RunsOver}
-use Rattle.zy_read.specs.Runs.{GoesOn, Begins, HasRoom, IsMisjudged}
+use Rattle.zy_read.specs.Runs.{RunsOver, GoesOn, Begins, HasRoom, IsMisjudged}
 use Rattle.zy_read.proofs.RunLemmas.{concat_append, concat_one, runs_join}
 
 pub over_none : {S G F : Type 0} (fields : Fields S G F) (s : S) (at : ℕ) → RunsOver fields s at [] s []
