@@ -11,7 +11,8 @@ use Rattle.zy_read.specs.declared.magic.MagicPart.{MagicPart}
 use Rattle.zy_read.specs.Magic.{ReadsMagic}
 use Rattle.zy_read.specs.Fields.Judged.{Then, Gives}
 use Rattle.zy_read.proofs.MagicFieldLemmas.{magic_over}
-use Rattle.zy_read.proofs.OverLemmas.{RunsOver, over_none, over_then, over_gives, over_join}
+use Rattle.zy_read.specs.Runs.{RunsOver}
+use Rattle.zy_read.proofs.OverLemmas.{over_none, over_then, over_gives, over_join}
 use Rattle.zy_capture.specs.declared.record.Record.{Record}
 use Rattle.zy_capture.specs.declared.record.Record.TheVariants as Kinds
 use Rattle.zy_capture.specs.declared.capture_fault.CaptureFault.TheVariants.{BadMagic}

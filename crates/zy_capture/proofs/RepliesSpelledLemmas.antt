@@ -10,7 +10,8 @@ use Rattle.zy_read.specs.declared.magic.MagicPart.{MagicPart}
 use Rattle.zy_read.specs.Magic.{ReadsMagic}
 use Rattle.zy_read.proofs.MagicLemmas.{IsVersion}
 use Rattle.zy_read.proofs.MagicFieldLemmas.{magic_over}
-use Rattle.zy_read.proofs.OverLemmas.{RunsOver, over_none, over_then, over_gives, over_join, over_begins}
+use Rattle.zy_read.specs.Runs.{RunsOver}
+use Rattle.zy_read.proofs.OverLemmas.{over_none, over_then, over_gives, over_join, over_begins}
 use Rattle.zy_read.proofs.VerdictLemmas.{whole_good}
 use Rattle.zy_capture.specs.declared.session_bytes.SessionBytes.{SessionBytes}
 use Rattle.zy_capture.specs.declared.replies_due.RepliesDue.{RepliesDue}

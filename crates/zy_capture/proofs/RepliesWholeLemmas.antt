@@ -37,7 +37,7 @@ use Rattle.zy_capture.proofs.ByteLemmas.{positive, chosen, assoc_twice}
 
 -- ---- what was read
 
--- the bytes up to the place where this is expected, which are so many
+-- the bytes up to the place `at`, where this is expected
 abbrev pub bytes_of : RepliesDue → RepliesState → List SessionBytes → ℕ → List ℕ
 bytes_of (Magic part) s given at = magic_before part letters at
 bytes_of Tag s given at = front_text s.version given

@@ -20,7 +20,7 @@ pub(crate) enum RepliesDue {
         conn: u32,
         session: u32,
     },
-    /// The output of this session: one byte and so many others.
+    /// The output of this session: one byte, and this number of others.
     Output {
         conn: u32,
         session: u32,

@@ -21,13 +21,16 @@ const LETTERS: &[u8; 6] = b"ZYGREP";
 
 const SESSION_LIMIT: u32 = 2_147_483_648;
 
-/// What is expected next, the version, or 0 before the magic was read, how many connections have an
-/// output, and how many sessions the last one of them has.
+/// What was read of a replies file, up to some field.
 #[derive(Clone, Copy)]
 pub(crate) struct RepliesState {
-    pub(crate) due: RepliesDue,
+    /// What is expected next.
+    due: RepliesDue,
+    /// The version, or 0 before the magic was read.
     pub(crate) version: u32,
+    /// How many connections have an output.
     connections: u32,
+    /// How many sessions the last one of them has.
     sessions: u32,
 }
 
@@ -225,6 +228,12 @@ impl FieldFormat for RepliesState {
             }
             _ => unreachable!(),
         }
+    }
+
+    // None.
+    #[tactic(auto, using(zy_read::proofs::OverLemmas::over_none))]
+    fn judge_front(&mut self, alloc: Global, at: u64, bytes: &[u8]) -> usize {
+        0
     }
 
     ghost widths = { widths };

@@ -1,13 +1,18 @@
 -- What is kept of a text while it is read, for all formats.
 use Rattle.std.proofs.Common.{◌≡◌, ℕ, List, [], ◌∷◌, ◌++◌, take, refl, sym, ◌∙◌, subst}
-use Rattle.std.specs.Prelude.{Option, None, Some, Result, Ok}
+use Rattle.std.specs.Prelude.{Option, None, Some, Result, Ok, Err, Bool, true, false, option_to_list}
 use Rattle.zy_read.specs.declared.not_taken.NotTaken.{NotTaken}
 use Rattle.zy_read.specs.Bytes.{AreBytes}
-use Rattle.zy_read.specs.Format.{given_by}
-use Rattle.zy_read.specs.Standing.{StandsAs, given_in, Feeds, TellsFault}
+use Rattle.zy_read.specs.Format.{given_by, fault_met, verdict_on}
+use Rattle.zy_read.specs.Standing.{StandsAs, given_in, Feeds, TellsFault, AnswersBy}
 use Rattle.zy_read.proofs.ByteLemmas.{bytes_append, bytes_take}
 use Rattle.zy_read.proofs.Feeding.{given_here}
-use Rattle.zy_input.specs.Keeping.{Keeper, KeepsRecords, KeepsSoFar, HasKept, IsKeeping, IsAdding}
+use Rattle.zy_input.specs.Keeping.{Keeper, KeepsRecords, KeepsSoFar, HasKept, IsKeeping, IsAdding, KeepsGiven, TakesBy}
+use Rattle.zy_input.specs.Reading.{TakesInPart, IsFaultyText, format_kind}
+use Rattle.zy_input.specs.declared.stop.Refusal.{Refusal}
+use Rattle.zy_read.specs.declared.stop.Stop.{Stop}
+use Rattle.zy_read.specs.declared.stop.Stop.TheVariants as Stops
+use Rattle.zy_read.specs.declared.not_taken.NotTaken.TheVariants.{Fault, NoMemory}
 
 -- before the first byte nothing is kept
 pub kept_none : {P G F V K : Type 0} (keeping : Keeper P G F V K) (reader : P) (kept : Option K) → StandsAs keeping.format reader [] [] → kept ≡ None → keeping.number_of [] ≡ None → HasKept keeping reader kept []
@@ -57,6 +62,36 @@ keeping_on {P} {G} {F} keeping stays old new kept bytes next count gave answer i
   clean = subst (λ (a : Result (Option G) (NotTaken F)). TellsFault keeping.format old (take count next) a) is tells has.given bytes has.reader;
   kept = kept_on keeping stays kept has.given bytes (take count next) has.small has.kept;
 }
+
+-- the records of this text are kept, but for the one that the reader gave
+abbrev pub KeepsAt : {P G F V K : Type 0} → Keeper P G F V K → P → Option K → Option G → List ℕ → Type 0
+KeepsAt keeping place made gave text = (is : IsKeeping keeping place made gave) × (is.bytes ≡ text)
+
+-- by the answer of the reader the part goes on, is whole, or is read no further
+pub taken_on : {P G F V K Part T : Type 0} (keeping : Keeper P G F V K) (good : V → Bool) (refused : F → Refusal) (stands : Part → List ℕ → Type 0) (gives : T → List ℕ → Type 0) (place : P) (before after : Option K) (part : Part) (text : List ℕ) (answer : Result (Option G) (NotTaken F)) (result : Result Bool (Stop Refusal)) (done : Bool)
+    → (HasKept keeping place after text → stands part text) → ((gave : Option G) → answer ≡ Ok gave → KeepsAt keeping place before gave text) → AnswersBy keeping.format place (λ b. good (verdict_on keeping.format b)) done
+    → ((fault : F) → answer ≡ Err (Fault fault) → (more : List ℕ) → IsFaultyText keeping.format good refused (text ++ more) (refused fault)) → TakesBy keeping refused place before after done answer result → TakesInPart (format_kind keeping.format good refused stands gives) part text result
+taken_on {P} {G} {F} {V} {K} {Part} {T} keeping good refused stands gives place before after part text answer result done here keeps answers faulty by = go answer result refl by
+  where
+    kept : (gave : Option G) → KeepsAt keeping place before gave text → KeepsGiven keeping place before after gave → stands part text
+    kept gave at given =
+        let is = at.0 in
+        here (subst (λ (l : List ℕ). HasKept keeping place after l) at.1 (record { given = is.given ++ option_to_list gave; reader = is.reader; small = is.small; kept = given is.given is.bytes is.reader is.kept }))
+
+    clean : (gave : Option G) → KeepsAt keeping place before gave text → fault_met keeping.format text ≡ None
+    clean gave at = subst (λ (l : List ℕ). fault_met keeping.format l ≡ None) at.1 at.0.clean
+
+    whole : (gave : Option G) (is : Bool) → KeepsAt keeping place before gave text → is ≡ done → good (verdict_on keeping.format text) ≡ is
+    whole gave is at same = subst (λ (l : List ℕ). good (verdict_on keeping.format l) ≡ is) at.1 (sym (same ∙ answers (at.0.given ++ option_to_list gave) at.0.bytes at.0.reader))
+
+    go : (a : Result (Option G) (NotTaken F)) (r : Result Bool (Stop Refusal)) → answer ≡ a → TakesBy keeping refused place before after done a r → TakesInPart (format_kind keeping.format good refused stands gives) part text r
+    go (Ok gave) (Ok true) same takes = (kept gave (keeps gave same) takes.1, whole gave true (keeps gave same) takes.0)
+    go (Ok gave) (Ok false) same takes = (kept gave (keeps gave same) takes.1, (clean gave (keeps gave same), whole gave false (keeps gave same) takes.0))
+    go (Ok gave) (Err Stops.NoMemory) same takes = tt
+    go (Ok gave) (Err (Stops.Refused refusal)) same takes = absurd takes
+    go (Ok gave) (Err Stops.ReadFault) same takes = absurd takes
+    go (Err (Fault fault)) r same takes = subst (λ (x : Result Bool (Stop Refusal)). TakesInPart (format_kind keeping.format good refused stands gives) part text x) (sym takes) (λ more. faulty fault same more)
+    go (Err NoMemory) r same takes = subst (λ (x : Result Bool (Stop Refusal)). TakesInPart (format_kind keeping.format good refused stands gives) part text x) (sym takes) tt
 
 -- ---- a further record
 

@@ -1,6 +1,12 @@
 -- What a part keeps of a text while it is read: of the records of a capture the streams, of those of a replies file the
 -- outputs. No public clause cites this module.
-use Rattle.std.specs.Prelude.{◌≡◌, ℕ, List, [], ◌∷◌, ◌++◌, Option, None, Some, option_to_list}
+use Rattle.std.specs.Prelude.{◌≡◌, ℕ, List, [], ◌∷◌, ◌++◌, Option, None, Some, option_to_list, Bool, Result}
+use Rattle.std.specs.Prelude.{Ok, Err, ⊤}
+use Rattle.zy_read.specs.declared.not_taken.NotTaken.{NotTaken}
+use Rattle.zy_read.specs.declared.not_taken.NotTaken.TheVariants as Answers
+use Rattle.zy_read.specs.declared.stop.Stop.{Stop}
+use Rattle.zy_read.specs.declared.stop.Stop.TheVariants.{Refused, NoMemory}
+use Rattle.zy_input.specs.declared.stop.Refusal.{Refusal}
 use Rattle.zy_read.specs.Bytes.{AreBytes}
 use Rattle.zy_read.specs.Format.{Format, fault_met}
 use Rattle.zy_read.specs.Standing.{StandsAs}
@@ -52,3 +58,20 @@ pub record IsAdding {P G F V K : Type 0} (keeping : Keeper P G F V K) (place : P
   pub small : AreBytes bytes
   pub clean : fault_met keeping.format bytes ≡ None
   pub kept : KeepsRecords keeping made (keeping.number_of bytes) given
+
+-- what the reader gave is kept
+abbrev pub KeepsGiven : {P G F V K : Type 0} → Keeper P G F V K → P → Option K → Option K → Option G → Type 0
+KeepsGiven {P} {G} keeping place old new gave =
+    (given : List G) (bytes : List ℕ) → StandsAs keeping.format place (given ++ option_to_list gave) bytes
+    → KeepsSoFar keeping old (keeping.number_of bytes) given
+    → KeepsRecords keeping new (keeping.number_of bytes) (given ++ option_to_list gave)
+
+-- by the answer of the reader what it gave is kept, or the part is read no further; `NoMemory` needs no cause
+abbrev pub TakesBy : {P G F V K : Type 0} → Keeper P G F V K → (F → Refusal) → P → Option K → Option K → Bool
+    → Result (Option G) (NotTaken F) → Result Bool (Stop Refusal) → Type 0
+TakesBy keeping refused place old new done (Ok gave) (Ok whole) =
+    (whole ≡ done) × KeepsGiven keeping place old new gave
+TakesBy keeping refused place old new done (Ok gave) (Err NoMemory) = ⊤
+TakesBy keeping refused place old new done (Ok gave) (Err stop) = ⊥
+TakesBy keeping refused place old new done (Err (Answers.Fault fault)) answer = answer ≡ Err (Refused (refused fault))
+TakesBy keeping refused place old new done (Err Answers.NoMemory) answer = answer ≡ Err NoMemory

@@ -1,22 +1,19 @@
 //! Reading the capture, whose records are added to streams.
 ghost use Rattle.std.specs.Prelude.{◌≡◌, ◌<◌, ◌≤◌, ◌++◌, ◌∷◌, [], ℕ, List, length, take, true, None, Ok, ⊤};
-ghost use Rattle.std.specs.Prelude.{OnOk, option_to_list};
-ghost use Rattle.zy_read.specs.Bytes.{AreBytes};
-ghost use Rattle.zy_capture.specs.declared.capture_fault.CaptureFault.{CaptureFault};
-ghost use Rattle.zy_capture.specs.declared.record.Record.{Record};
+ghost use Rattle.std.specs.Prelude.{OnOk};
 ghost use Rattle.zy_capture.specs.Standing.{StandsForRecords};
 ghost use Rattle.zy_capture.specs.Streams.{with_record};
-ghost use Rattle.zy_capture.specs.Verdict.{Verdict, fault_of, count_of, is_within_record};
+ghost use Rattle.zy_capture.specs.Verdict.{Verdict, is_within_record};
+ghost use Rattle.zy_input.specs.declared.stop.Refusal.TheVariants.{Capture};
 ghost use Rattle.zy_input.specs.Reading.{TakesInPart, IsPartOpen};
-ghost use Rattle.zy_input.specs.Keeping.{KeepsSoFar, IsKeeping};
 ghost use Rattle.zy_input.specs.Kinds.{MayKeep, capture_keeping, capture_kind};
 
-use crate::keep::{Keep, keep_next};
+use crate::keep::{Keep, keep_taken};
 use crate::part::{Part, Taken};
 use crate::stop::{Refusal, Stop};
 use std::alloc::Global;
 use zy_base::NoMemory;
-use zy_capture::{FeedFault, Reader, Record, Streams};
+use zy_capture::{CaptureFault, Reader, Record, Streams};
 use zy_read::Fed;
 
 /// The reader of the capture, and the streams of the records that it gave.
@@ -40,33 +37,18 @@ impl CapturePart {
         }
     }
 
-    // Keeps what the reader gave for some bytes. Gives whether the capture is whole.
-    fn go_on(&mut self, gave: Option<Record>) -> Result<bool, Stop>
-        requires keeping { IsKeeping capture_keeping self.old.reader self.old.streams gave }
-        ensures value { (given : List Record) (bytes : List ℕ)
-            → StandsForRecords self.old.reader (given ++ option_to_list gave) bytes
-            → AreBytes bytes → fault_of bytes ≡ None
-            → KeepsSoFar capture_keeping self.old.streams (count_of bytes) given
-            → TakesInPart capture_kind self.new bytes result }
-    {
-        match keep_next(self.alloc, &self.reader, &mut self.streams, gave) {
-            Ok(()) => Ok(self.reader.is_done()),
-            Err(NoMemory) => Err(Stop::NoMemory),
-        }
-    }
-
-    // Takes one byte. Gives whether the capture is whole.
-    fn take_byte(&mut self, byte: u8) -> Result<bool, Stop>
+    // Takes one byte.
+    fn take_byte(&mut self, byte: u8) -> Taken
         requires goes { IsPartOpen (λ (u : ⊤). capture_kind) self.old }
+        ensures count { result.count ≡ 1 }
         ensures value { (bytes : List ℕ) → capture_kind.stands self.old bytes
-            → capture_kind.goes_on bytes → TakesInPart capture_kind self.new (bytes ++ byte ∷ [])
-            result }
+            → capture_kind.goes_on bytes
+            → TakesInPart capture_kind self.new (bytes ++ byte ∷ []) result.answer }
     {
-        match self.reader.feed(byte) {
-            Ok(gave) => self.go_on(gave),
-            Err(FeedFault::Fault(fault)) => Err(Stop::Refused(Refusal::Capture(fault))),
-            Err(FeedFault::NoMemory) => Err(Stop::NoMemory),
-        }
+        let answer = self.reader.feed(byte);
+        let done = self.reader.is_done();
+        let fed = Fed { taken: 1, answer };
+        keep_taken(self.alloc, &self.reader, &mut self.streams, done, fed)
     }
 
     // Takes bytes of a record, up to its end at most.
@@ -80,21 +62,9 @@ impl CapturePart {
             → TakesInPart capture_kind self.new (bytes ++ take result.count next.now)
             result.answer }
     {
-        let Fed { taken, answer } = self.reader.feed_piece(next);
-        match answer {
-            Ok(gave) => Taken {
-                count: taken,
-                answer: self.go_on(gave),
-            },
-            Err(FeedFault::Fault(fault)) => Taken {
-                count: taken,
-                answer: Err(Stop::Refused(Refusal::Capture(fault))),
-            },
-            Err(FeedFault::NoMemory) => Taken {
-                count: taken,
-                answer: Err(Stop::NoMemory),
-            },
-        }
+        let fed = self.reader.feed_piece(next);
+        let done = self.reader.is_done();
+        keep_taken(self.alloc, &self.reader, &mut self.streams, done, fed)
     }
 }
 
@@ -110,10 +80,7 @@ impl Part for CapturePart {
         if self.reader.is_within_record() {
             return self.take_piece(next);
         }
-        Taken {
-            count: 1,
-            answer: self.take_byte(next[0]),
-        }
+        self.take_byte(next[0])
     }
 
     fn end(self) -> Result<Streams, Stop> {
@@ -138,11 +105,17 @@ impl Keep for Streams {
 
     type Item = Record;
 
-    ghost Fault = { CaptureFault };
+    type Fault = CaptureFault;
 
     ghost Verdict = { Verdict };
 
     ghost keeping = { capture_keeping };
+
+    ghost refused = { λ fault. Capture fault };
+
+    fn refusal(fault: CaptureFault) -> Refusal {
+        Refusal::Capture(fault)
+    }
 
     fn number(reader: &Reader) -> Option<u32> {
         reader.count()

@@ -1,11 +1,15 @@
 //! Keeping what a reader gives.
-ghost use Rattle.std.specs.Prelude.{◌≡◌, ◌++◌, ◌∷◌, [], ℕ, List, Option, Some, IfOk, OnOk, option_to_list};
+ghost use Rattle.std.specs.Prelude.{◌≡◌, ◌++◌, ◌∷◌, [], ℕ, List, Option, Some, Ok, IfOk, OnOk, option_to_list};
 ghost use Rattle.zy_read.specs.Bytes.{AreBytes};
 ghost use Rattle.zy_read.specs.Standing.{StandsAs, AnswersBy};
-ghost use Rattle.zy_input.specs.Keeping.{Keeper, KeepsRecords, KeepsSoFar, IsKeeping, IsAdding};
+ghost use Rattle.zy_input.specs.Keeping.{Keeper, KeepsRecords, KeepsSoFar, IsKeeping, IsAdding, TakesBy};
+ghost use Rattle.zy_input.specs.declared.stop.Refusal.{Refusal};
 
+use crate::part::Taken;
+use crate::stop::{Refusal, Stop};
 use std::alloc::Global;
 use zy_base::NoMemory;
+use zy_read::{Fed, NotTaken};
 
 /// What is kept of a text: of a capture its streams, of a replies file its outputs.
 pub(crate) trait Keep: Drop {
@@ -15,14 +19,21 @@ pub(crate) trait Keep: Drop {
     /// What the reader gives.
     type Item: Drop;
 
-    // A fault of the text.
-    ghost Fault: { Type 0 };
+    /// A fault of the text.
+    type Fault: Drop;
 
     // What a whole text is.
     ghost Verdict: { Type 0 };
 
     // What is kept of which records.
-    ghost keeping: { Keeper Self.Reader Self.Item Fault Verdict Self };
+    ghost keeping: { Keeper Self.Reader Self.Item Self.Fault Verdict Self };
+
+    // How a fault is reported.
+    ghost refused: { Self.Fault → Refusal };
+
+    // The fault as it is reported.
+    fn refusal(fault: Self::Fault) -> Refusal
+        ensures value { result ≡ refused fault };
 
     // The number with which the text begins, once it was read.
     fn number(reader: &Self::Reader) -> Option<u32>
@@ -41,8 +52,48 @@ pub(crate) trait Keep: Drop {
             → OnOk result (KeepsRecords keeping made.new number (given ++ item ∷ [])) };
 }
 
+// Keeps what the reader gave for the bytes that it took; `done` says whether the text is whole.
+pub(crate) fn keep_taken<K: Keep>(
+    alloc: Global,
+    reader: &K::Reader,
+    made: &mut Option<K>,
+    done: bool,
+    fed: Fed<K::Item, K::Fault>,
+) -> Taken
+    requires keeping { (gave : _) → fed.answer ≡ Ok gave
+        → IsKeeping K.keeping reader.now made.old gave }
+    ensures count { result.count ≡ fed.taken }
+    ensures value { TakesBy K.keeping K.refused reader.now made.old made.new done
+        fed.answer result.answer }
+{
+    let Fed {
+        taken: count,
+        answer,
+    } = fed;
+    match answer {
+        Ok(gave) => match keep_next(alloc, reader, made, gave) {
+            Ok(()) => Taken {
+                count,
+                answer: Ok(done),
+            },
+            Err(NoMemory) => Taken {
+                count,
+                answer: Err(Stop::NoMemory),
+            },
+        },
+        Err(NotTaken::Fault(fault)) => Taken {
+            count,
+            answer: Err(Stop::Refused(K::refusal(fault))),
+        },
+        Err(NotTaken::NoMemory) => Taken {
+            count,
+            answer: Err(Stop::NoMemory),
+        },
+    }
+}
+
 // Keeps what the reader gave.
-pub(crate) fn keep_next<K: Keep>(
+fn keep_next<K: Keep>(
     alloc: Global,
     reader: &K::Reader,
     made: &mut Option<K>,

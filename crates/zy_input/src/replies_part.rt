@@ -1,21 +1,16 @@
 //! Reading the replies file.
-ghost use Rattle.std.specs.Prelude.{◌≡◌, ◌++◌, [], ℕ, List, None, option_to_list, ⊤};
-ghost use Rattle.zy_read.specs.Bytes.{AreBytes};
-ghost use Rattle.zy_base.specs.declared.file_fault.FileFault.{FileFault};
-ghost use Rattle.zy_capture.specs.declared.session_bytes.SessionBytes.{SessionBytes};
+ghost use Rattle.std.specs.Prelude.{◌≡◌, [], None, ⊤};
 ghost use Rattle.zy_capture.specs.RepliesStanding.{StandsForReplies};
-ghost use Rattle.zy_capture.specs.RepliesVerdict.{Verdict, fault_of, version_of};
-ghost use Rattle.zy_input.specs.Reading.{TakesInPart};
-ghost use Rattle.zy_input.specs.Keeping.{KeepsSoFar, IsKeeping};
+ghost use Rattle.zy_capture.specs.RepliesVerdict.{Verdict};
+ghost use Rattle.zy_input.specs.declared.stop.Refusal.TheVariants.{Replies};
 ghost use Rattle.zy_input.specs.Kinds.{replies_keeping, replies_kind};
 
-use crate::keep::{Keep, keep_next};
+use crate::keep::{Keep, keep_taken};
 use crate::part::{Part, Taken};
 use crate::stop::{Refusal, Stop};
 use std::alloc::Global;
-use zy_base::NoMemory;
+use zy_base::{FileFault, NoMemory};
 use zy_capture::{Outputs, RepliesReader, SessionBytes};
-use zy_read::{Fed, FileFeed};
 
 /// The reader of the replies file, and the outputs that it gave.
 #[derive(Drop)]
@@ -37,21 +32,6 @@ impl RepliesPart {
             outputs: None,
         }
     }
-
-    // Keeps what the reader gave for some bytes. The file ends with the source.
-    fn go_on(&mut self, gave: Option<SessionBytes>) -> Result<bool, Stop>
-        requires keeping { IsKeeping replies_keeping self.old.reader self.old.outputs gave }
-        ensures value { (given : List SessionBytes) (bytes : List ℕ)
-            → StandsForReplies self.old.reader (given ++ option_to_list gave) bytes
-            → AreBytes bytes → fault_of bytes ≡ None
-            → KeepsSoFar replies_keeping self.old.outputs (version_of bytes) given
-            → TakesInPart replies_kind self.new bytes result }
-    {
-        match keep_next(self.alloc, &self.reader, &mut self.outputs, gave) {
-            Ok(()) => Ok(false),
-            Err(NoMemory) => Err(Stop::NoMemory),
-        }
-    }
 }
 
 impl Part for RepliesPart {
@@ -61,22 +41,10 @@ impl Part for RepliesPart {
 
     ghost kind = { λ u. replies_kind };
 
+    // The file ends with the source.
     fn take(&mut self, next: &[u8]) -> Taken {
-        let Fed { taken, answer } = self.reader.feed_piece(next);
-        match answer {
-            Ok(gave) => Taken {
-                count: taken,
-                answer: self.go_on(gave),
-            },
-            Err(FileFeed::Fault(fault)) => Taken {
-                count: taken,
-                answer: Err(Stop::Refused(Refusal::Replies(fault))),
-            },
-            Err(FileFeed::NoMemory) => Taken {
-                count: taken,
-                answer: Err(Stop::NoMemory),
-            },
-        }
+        let fed = self.reader.feed_piece(next);
+        keep_taken(self.alloc, &self.reader, &mut self.outputs, false, fed)
     }
 
     fn end(self) -> Result<Outputs, Stop> {
@@ -101,11 +69,17 @@ impl Keep for Outputs {
 
     type Item = SessionBytes;
 
-    ghost Fault = { FileFault };
+    type Fault = FileFault;
 
     ghost Verdict = { Verdict };
 
     ghost keeping = { replies_keeping };
+
+    ghost refused = { λ fault. Replies fault };
+
+    fn refusal(fault: FileFault) -> Refusal {
+        Refusal::Replies(fault)
+    }
 
     fn number(reader: &RepliesReader) -> Option<u32> {
         reader.version()

@@ -31,10 +31,11 @@ use Rattle.zy_journal_reader.specs.LawfulFields.{last_after, last_one, number_te
 use Rattle.zy_journal_reader.specs.Faults.{journal_front, IsBadJournalMagic, IsBadJournalTag, IsBadEntry, IsBadHold, FollowsJournal, IsWrongJournal}
 use Rattle.zy_journal_reader.specs.LawfulFields.{EntryField as E}
 use Rattle.zy_journal_reader.specs.LawfulFields.{HoldField as H}
+use Rattle.zy_journal_reader.specs.Found.{and_entry, and_hold}
 use Rattle.zy_journal_reader.proofs.SoFar.{stamp_of, shard_of, conn_of, ComesAfter}
 use Rattle.zy_journal_reader.proofs.PlaceLemmas.{Over, place, Goes, both, stays, one_byte, four_bytes, one_wrong, four_wrong, eight_wrong}
 use Rattle.zy_journal_reader.proofs.GoesLemmas.{below_is, conn_is}
-use Rattle.zy_journal_reader.proofs.SpelledLemmas.{with_entry, with_entries, entries_keep, holds_read, entries_past, with_hold, with_holds, head_of, head_goes, after_records, front_over, at_end, whole_over}
+use Rattle.zy_journal_reader.proofs.SpelledLemmas.{with_entries, entries_keep, holds_read, entries_past, with_holds, head_of, head_goes, after_records, front_over, at_end, whole_over}
 use Rattle.zy_journal_reader.proofs.TestLemmas.{between_true, below_true, most_true, stamp_true, shard_true, conn_true, no_items}
 use Rattle.zy_journal_reader.proofs.LawfulLemmas.{comes_behind, behind_comes, not_below, above_is, not_falling, rises}
 use Rattle.zy_journal_reader.proofs.LeadsLemmas.{Leads, tag_goes, shard_goes, connection_goes, command_goes, to_value, to_found, after_code, before_value, before_reply, before_found, after_head}
@@ -67,23 +68,23 @@ refused_bad text journal at record_text field rest readable whole place_is room 
 -- what is kept of them
 entries_stamp : (es : List Entry) (p : ReadState) (last : Option Entry) → p.past.stamp ≡ stamp_of last → (with_entries p es).past.stamp ≡ stamp_of (last_after last es)
 entries_stamp [] p last is = is
-entries_stamp (e ∷ es) p last is = entries_stamp es (with_entry p e) (Some e) refl
+entries_stamp (e ∷ es) p last is = entries_stamp es (and_entry p e) (Some e) refl
 
 entries_shard : (es : List Entry) (p : ReadState) (last : Option Entry) → p.past.shard ≡ shard_of last → (with_entries p es).past.shard ≡ shard_of (last_after last es)
 entries_shard [] p last is = is
-entries_shard (e ∷ es) p last is = entries_shard es (with_entry p e) (Some e) refl
+entries_shard (e ∷ es) p last is = entries_shard es (and_entry p e) (Some e) refl
 
 holds_conn : (hs : List Hold) (p : ReadState) (last : Option Hold) → p.past.conn ≡ conn_of last → (with_holds p hs).past.conn ≡ conn_of (last_after last hs)
 holds_conn [] p last is = is
-holds_conn (h ∷ hs) p last is = holds_conn hs (with_hold p h) (Some h) refl
+holds_conn (h ∷ hs) p last is = holds_conn hs (and_hold p h) (Some h) refl
 
 holds_stamp : (hs : List Hold) (p : ReadState) → (with_holds p hs).past.stamp ≡ p.past.stamp
 holds_stamp [] p = refl
-holds_stamp (h ∷ hs) p = holds_stamp hs (with_hold p h)
+holds_stamp (h ∷ hs) p = holds_stamp hs (and_hold p h)
 
 holds_shard : (hs : List Hold) (p : ReadState) → (with_holds p hs).past.shard ≡ p.past.shard
 holds_shard [] p = refl
-holds_shard (h ∷ hs) p = holds_shard hs (with_hold p h)
+holds_shard (h ∷ hs) p = holds_shard hs (and_hold p h)
 
 stamp_after : (journal : Journal) → (after_records journal).past.stamp ≡ stamp_of (last_one journal.entries)
 stamp_after journal = holds_stamp journal.holds (with_entries journal_start journal.entries) ∙ entries_stamp journal.entries journal_start None refl

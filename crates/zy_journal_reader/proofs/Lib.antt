@@ -16,3 +16,5 @@ pub mod LeadsLemmas
 pub mod FaultReadLemmas
 pub mod BegunLemmas
 pub mod PlacedLemmas
+pub mod FoundLemmas
+pub mod RecordLemmas

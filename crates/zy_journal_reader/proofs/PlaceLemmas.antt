@@ -5,7 +5,8 @@ use Rattle.std.specs.Int.{to_be_bytes, w32, w64}
 use Rattle.std.proofs.lemmas.Nat.{from_be_bytes-to_be_bytes_4, from_be_bytes-to_be_bytes_8}
 use Rattle.zy_base.specs.declared.file_fault.FileFault.TheVariants.{Form}
 use Rattle.zy_read.specs.Fields.Judged.{Then, Wrong}
-use Rattle.zy_read.proofs.OverLemmas.{RunsOver, over_none, over_then, over_join}
+use Rattle.zy_read.specs.Runs.{RunsOver}
+use Rattle.zy_read.proofs.OverLemmas.{over_none, over_then, over_join}
 use Rattle.zy_journal_reader.specs.declared.draft.Draft.{Draft}
 use Rattle.zy_journal_reader.specs.declared.due.Due.{Due}
 use Rattle.zy_journal_reader.specs.declared.due.Due.TheVariants.{Byte, Number, Long, Bytes}

@@ -30,6 +30,7 @@ use Rattle.zy_journal_reader.specs.Verdict.{good_journal, journal_verdict, journ
 use Rattle.zy_journal_reader.specs.Verdict.JournalVerdict.{Good, Bad}
 use Rattle.zy_journal_reader.specs.Laws.{journal_lawful}
 use Rattle.zy_journal_reader.specs.Faults.{journal_front}
+use Rattle.zy_journal_reader.specs.Found.{and_entry, and_hold}
 use Rattle.zy_journal_reader.proofs.PlaceLemmas.{Over, place, Goes, both, stays, one_byte, four_bytes, eight_bytes}
 use Rattle.zy_journal_reader.proofs.GoesLemmas.{between, below_is, stamp_is, shard_is, conn_is, plain, known, call_goes, after, reply_goes}
 
@@ -66,31 +67,27 @@ head_goes p e none is fits comes =
     (both index part (eight_bytes p p d3 d4 Index (Number Part) e.tag.index (omega (arith, is.few_commands)) (below_is e.tag.index (2 ^ 40) is.few_commands) refl)
     (four_bytes p p d4 (head_of e) Part (Byte CallCode) e.tag.part fits.part refl refl)))))
 
--- the lists with one further entry
-abbrev pub with_entry : ReadState → Entry → ReadState
-with_entry p e = record p { entries = p.entries ++ e ∷ []; past = record p.past { stamp = e.stamp; shard = e.shard } }
-
 -- the entry of which this was read before its call
 abbrev pub entry_with : Draft → Call → CallReply → Entry
 entry_with d call reply = record { tag = record { conn = d.conn; index = d.index; part = d.part }; shard = d.shard; call = call; reply = reply; stamp = d.stamp }
 
 -- what was read of an entry is the entry
 pub is_whole : (p : ReadState) (d : Draft) (kind : CallKind) (key : List ℕ) (flags number : ℕ) (value : List ℕ) (reply : CallReply)
-    → after p (known kind key flags number value (plain d)) reply ≡ with_entry p (entry_with d (call_of kind key flags number value) reply)
-is_whole p d kind key flags number value reply = ap (λ (call : Call). with_entry p (entry_with d call reply)) (call_same kind key flags number value d.key d.flags d.number d.value)
+    → after p (known kind key flags number value (plain d)) reply ≡ and_entry p (entry_with d (call_of kind key flags number value) reply)
+is_whole p d kind key flags number value reply = ap (λ (call : Call). and_entry p (entry_with d call reply)) (call_same kind key flags number value d.key d.flags d.number d.value)
 
 -- the call of an entry and its reply
 pub call_and_reply : (p : ReadState) (d : Draft) (reply : CallReply) → IsReply reply → FitsReply reply → (call : Call) → IsCall call → FitsCall call
-    → Goes p (plain d) (Byte CallCode) (call_text call ++ reply_text reply) (with_entry p (entry_with d call reply)) fresh (Byte Tag)
+    → Goes p (plain d) (Byte CallCode) (call_text call ++ reply_text reply) (and_entry p (entry_with d call reply)) fresh (Byte Tag)
 call_and_reply p d reply within fits =
-    of_kinds (λ (call : Call). IsCall call → FitsCall call → Goes p (plain d) (Byte CallCode) (call_text call ++ reply_text reply) (with_entry p (entry_with d call reply)) fresh (Byte Tag))
+    of_kinds (λ (call : Call). IsCall call → FitsCall call → Goes p (plain d) (Byte CallCode) (call_text call ++ reply_text reply) (and_entry p (entry_with d call reply)) fresh (Byte Tag))
     (λ kind key flags number value is small.
     let call : Call = call_of kind key flags number value in
     let e : Draft = known kind key flags number value (plain d) in
     both (call_text call) (reply_text reply) (call_goes p d kind key flags number value is small)
     (subst (λ (q : ReadState). Goes p e (Byte ReplyCode) (reply_text reply) q fresh (Byte Tag)) (is_whole p d kind key flags number value reply) (reply_goes p e reply within fits)))
 
-pub entry_goes : (p : ReadState) (e : Entry) → p.holds ≡ [] → IsEntry e → FitsEntry e → ComesAfter p.past e → Goes p fresh (Byte Tag) (entry_text e) (with_entry p e) fresh (Byte Tag)
+pub entry_goes : (p : ReadState) (e : Entry) → p.holds ≡ [] → IsEntry e → FitsEntry e → ComesAfter p.past e → Goes p fresh (Byte Tag) (entry_text e) (and_entry p e) fresh (Byte Tag)
 unfolding entry_text
 entry_goes p e none is fits comes =
     both (entry_head e) (call_text e.call ++ reply_text e.reply) (head_goes p e none is fits comes) (call_and_reply p (head_of e) e.reply is.reply fits.reply e.call is.call fits.call)
@@ -98,22 +95,18 @@ entry_goes p e none is fits comes =
 -- the lists with further entries
 abbrev pub with_entries : ReadState → List Entry → ReadState
 with_entries p [] = p
-with_entries p (e ∷ es) = with_entries (with_entry p e) es
+with_entries p (e ∷ es) = with_entries (and_entry p e) es
 
 pub entries_go : (es : List Entry) (p : ReadState) (before : Option Entry) → p.holds ≡ [] → AllByRecursion IsEntry es → AllByRecursion FitsEntry es → IsOrdered before es
     → ((e : Entry) → 0 < e.stamp → IsBehind before e → ComesAfter p.past e) → Goes p fresh (Byte Tag) (flat_map entry_text es) (with_entries p es) fresh (Byte Tag)
 entries_go [] p before none all fits ordered comes = stays p fresh (Byte Tag)
 entries_go (e ∷ es) p before none all fits ordered comes =
     both (entry_text e) (flat_map entry_text es) (entry_goes p e none all.0 fits.0 (comes e all.0.some_stamp ordered.0))
-    (entries_go es (with_entry p e) (Some e) none all.1 fits.1 ordered.1 (λ x some behind. behind))
+    (entries_go es (and_entry p e) (Some e) none all.1 fits.1 ordered.1 (λ x some behind. behind))
 
 -- ---- holds
 
--- the lists with one further hold
-abbrev pub with_hold : ReadState → Hold → ReadState
-with_hold p h = record p { holds = p.holds ++ h ∷ []; past = record p.past { conn = h.conn } }
-
-pub hold_goes : (p : ReadState) (h : Hold) → IsHold h → p.past.conn ≤ h.conn → Goes p fresh (Byte Tag) (hold_text h) (with_hold p h) fresh (Byte Tag)
+pub hold_goes : (p : ReadState) (h : Hold) → IsHold h → p.past.conn ≤ h.conn → Goes p fresh (Byte Tag) (hold_text h) (and_hold p h) fresh (Byte Tag)
 unfolding hold_text
 hold_goes p h is after_last =
     let d1 : Draft = record fresh { conn = h.conn } in
@@ -124,39 +117,39 @@ hold_goes p h is after_last =
     both (72 ∷ []) (conn ++ (core ++ count)) (one_byte p p fresh fresh Tag (Number HoldConnection) 72 (λ at. refl) (λ at. refl))
     (both conn (core ++ count) (four_bytes p p fresh d1 HoldConnection (Number HoldCore) h.conn (omega (arith, is.few_connections)) (conn_is h.conn p.past.conn after_last is.few_connections) refl)
     (both core count (four_bytes p p d1 d2 HoldCore (Number HoldCount) h.core (omega (arith, is.few_cores)) (below_is h.core 64 is.few_cores) refl)
-    (four_bytes p (with_hold p h) d2 fresh HoldCount (Byte Tag) h.count (omega (arith, is.few_commands)) (between h.count 1 64 is.some_commands is.few_commands) refl)))
+    (four_bytes p (and_hold p h) d2 fresh HoldCount (Byte Tag) h.count (omega (arith, is.few_commands)) (between h.count 1 64 is.some_commands is.few_commands) refl)))
 
 -- the lists with further holds
 abbrev pub with_holds : ReadState → List Hold → ReadState
 with_holds p [] = p
-with_holds p (h ∷ hs) = with_holds (with_hold p h) hs
+with_holds p (h ∷ hs) = with_holds (and_hold p h) hs
 
 pub holds_go : (hs : List Hold) (p : ReadState) → AllByRecursion IsHold hs → AreByConnection p.past.conn hs → Goes p fresh (Byte Tag) (flat_map hold_text hs) (with_holds p hs) fresh (Byte Tag)
 holds_go [] p all rising = stays p fresh (Byte Tag)
 holds_go (h ∷ hs) p all rising =
-    both (hold_text h) (flat_map hold_text hs) (hold_goes p h all.0 rising.0) (holds_go hs (with_hold p h) all.1 rising.1)
+    both (hold_text h) (flat_map hold_text hs) (hold_goes p h all.0 rising.0) (holds_go hs (and_hold p h) all.1 rising.1)
 
 -- ---- the whole
 
 pub entries_read : (es : List Entry) (p : ReadState) → (with_entries p es).entries ≡ p.entries ++ es
 entries_read [] p = sym (append-nil p.entries)
-entries_read (e ∷ es) p = entries_read es (with_entry p e) ∙ append_assoc p.entries (e ∷ []) es
+entries_read (e ∷ es) p = entries_read es (and_entry p e) ∙ append_assoc p.entries (e ∷ []) es
 
 pub entries_keep : (es : List Entry) (p : ReadState) → (with_entries p es).holds ≡ p.holds
 entries_keep [] p = refl
-entries_keep (e ∷ es) p = entries_keep es (with_entry p e)
+entries_keep (e ∷ es) p = entries_keep es (and_entry p e)
 
 pub entries_past : (es : List Entry) (p : ReadState) → (with_entries p es).past.conn ≡ p.past.conn
 entries_past [] p = refl
-entries_past (e ∷ es) p = entries_past es (with_entry p e)
+entries_past (e ∷ es) p = entries_past es (and_entry p e)
 
 pub holds_read : (hs : List Hold) (p : ReadState) → (with_holds p hs).holds ≡ p.holds ++ hs
 holds_read [] p = sym (append-nil p.holds)
-holds_read (h ∷ hs) p = holds_read hs (with_hold p h) ∙ append_assoc p.holds (h ∷ []) hs
+holds_read (h ∷ hs) p = holds_read hs (and_hold p h) ∙ append_assoc p.holds (h ∷ []) hs
 
 pub holds_keep : (hs : List Hold) (p : ReadState) → (with_holds p hs).entries ≡ p.entries
 holds_keep [] p = refl
-holds_keep (h ∷ hs) p = holds_keep hs (with_hold p h)
+holds_keep (h ∷ hs) p = holds_keep hs (and_hold p h)
 
 -- the state after the records of a journal
 abbrev pub after_records : Journal → ReadState

@@ -1,5 +1,5 @@
 -- What a record of a journal has, field by field: docs/FORMATS.md, "Journal".
-use Rattle.std.specs.Prelude.{ℕ, ◌<◌, if◌then◌else◌, [], ⊤}
+use Rattle.std.specs.Prelude.{◌≡◌, ℕ, ◌<◌, if◌then◌else◌, [], ⊤}
 use Rattle.zy_base.specs.declared.call_kind.CallKind.TheVariants.{Flush}
 use Rattle.zy_base.specs.declared.call_kind.CallFields.{CallFields}
 use Rattle.zy_base.specs.declared.call_reply.CallReply.{CallReply}
@@ -10,7 +10,7 @@ use Rattle.zy_base.specs.Code.{call_of}
 use Rattle.zy_journal_reader.specs.declared.draft.Draft.{Draft}
 use Rattle.zy_journal_reader.specs.declared.due.Due.{Due}
 use Rattle.zy_journal_reader.specs.declared.due.Due.TheVariants.{Byte, Number, Long}
-use Rattle.zy_journal_reader.specs.declared.due.ByteField.TheVariants.{Magic, KeyLength, ReplyCode}
+use Rattle.zy_journal_reader.specs.declared.due.ByteField.TheVariants.{Magic, Tag, KeyLength, ReplyCode}
 use Rattle.zy_journal_reader.specs.declared.due.NumberField.TheVariants.{Flags, ValueLength}
 use Rattle.zy_journal_reader.specs.declared.due.LongField.TheVariants.{CallNumber}
 
@@ -74,11 +74,13 @@ hold_of d count = record { core = d.core; conn = d.conn; count = count }
 
 -- ---- for the reader alone
 
--- where a byte of the magic is expected, its place is within it
-abbrev pub IsInBounds : Due → ℕ → Type 0
-IsInBounds (Byte Magic) at = at < 8
-IsInBounds due at = ⊤
+-- where a byte of the magic is expected, its place is within it; there, and where a record may begin, nothing of one was
+-- read
+abbrev pub IsInBounds : Due → ℕ → Draft → Type 0
+IsInBounds (Byte Magic) at d = (at < 8) × (d ≡ fresh)
+IsInBounds (Byte Tag) at d = d ≡ fresh
+IsInBounds due at d = ⊤
 
--- this may be expected at any place
+-- this may be expected at any place, whatever was read
 abbrev pub IsOpenAnywhere : Due → Type 0
-IsOpenAnywhere due = (at : ℕ) → IsInBounds due at
+IsOpenAnywhere due = (at : ℕ) (d : Draft) → IsInBounds due at d

@@ -50,4 +50,4 @@ pub journal_few : journal_fields.limit < 2 ^ 64 - 1
 journal_few = omega arith
 
 pub journal_begins : FitsPlace journal_fields.start 0
-journal_begins = omega arith
+journal_begins = (omega arith, refl)

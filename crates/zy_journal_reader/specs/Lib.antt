@@ -6,3 +6,4 @@ pub mod Faults
 pub mod Standing
 pub mod Worked
 pub mod Laws
+pub mod Found

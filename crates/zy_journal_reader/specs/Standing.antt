@@ -10,7 +10,7 @@ use Rattle.zy_journal_reader.specs.declared.due.Due.TheVariants.{Byte, Number, L
 use Rattle.zy_journal_reader.specs.declared.due.ByteField.TheVariants.{ReplyCode}
 use Rattle.zy_journal_reader.specs.declared.due.NumberField.TheVariants.{FoundLength, HoldCount}
 use Rattle.zy_journal_reader.specs.declared.due.LongField.TheVariants.{ReplyNumber, Items}
-use Rattle.zy_journal_reader.specs.Fields.{IsInBounds, IsOpenAnywhere}
+use Rattle.zy_journal_reader.specs.Fields.{IsInBounds}
 use Rattle.zy_journal_reader.specs.Steps.{ReadState, JournalProgress, Done}
 use Rattle.zy_journal_reader.specs.Verdict.{JournalVerdict, journals, journal_verdict}
 use Rattle.zy_journal_reader.specs.Verdict.JournalVerdict.{Good, Bad}
@@ -48,7 +48,7 @@ MayWant p byte = takes_memory p.state.due ≡ true
 
 -- the state may be that at this place
 abbrev pub FitsPlace : ReadState → ℕ → Type 0
-FitsPlace s at = IsInBounds s.due at
+FitsPlace s at = IsInBounds s.due at s.draft
 
 -- its field may need memory
 abbrev pub Wants : ReadState → Type 0
@@ -56,4 +56,4 @@ Wants s = takes_memory s.due ≡ true
 
 -- an answer and a new state, at which no place is told by what is expected, are those of a whole field
 abbrev pub TakesStep : Done → ReadState → ReadState → Result (Option ⊤) (NotTaken FileFault) → Type 0
-TakesStep done old new result = Judges (λ (s : ReadState) at. IsOpenAnywhere s.due) Wants done 0 old new result
+TakesStep done old new result = Judges (λ (s : ReadState) after. (at : ℕ) → FitsPlace s at) Wants done 0 old new result

@@ -7,6 +7,7 @@ mod due;
 mod laws;
 mod past;
 mod reader;
+mod records;
 mod state;
 
 pub use laws::{

@@ -74,8 +74,8 @@ impl JournalReader {
         feed_piece(&mut self.reader, bytes)
     }
 
-    #[tactic(auto, using(zy_read::proofs::Feeding::verdict_here))]
     /// True exactly where the end was read and no fault was met.
+    #[tactic(auto, using(zy_read::proofs::Feeding::verdict_here))]
     pub fn is_done(&self) -> bool
         ensures value { AnswersBy journals self.now (λ b. is_good_journal (journal_verdict b))
             result }
@@ -83,8 +83,8 @@ impl JournalReader {
         self.reader.end().is_ok()
     }
 
-    #[tactic(auto, using(zy_read::proofs::Feeding::verdict_here))]
     /// The journal whose bytes were fed, or their fault.
+    #[tactic(auto, using(zy_read::proofs::Feeding::verdict_here))]
     pub fn end(self) -> Result<Journal, FileFault>
         ensures value { EndsJournalBy self result }
     {

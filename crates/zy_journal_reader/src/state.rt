@@ -12,6 +12,7 @@ mod contents;
 mod ends;
 mod long_numbers;
 mod numbers;
+mod whole_records;
 
 use crate::draft::Draft;
 use crate::due::{ByteField, Due};
@@ -165,8 +166,8 @@ impl FieldFormat for JournalState {
         }
     }
 
-    #[tactic(auto, using(crate::proofs::PlacedLemmas::placed, crate::proofs::PlacedLemmas::run_due))]
     // A key or a value, copied so that it takes no more room than it needs, and a short one none.
+    #[tactic(auto, using(crate::proofs::PlacedLemmas::placed, crate::proofs::PlacedLemmas::run_due))]
     fn judge_run(
         &mut self,
         alloc: Global,
@@ -179,6 +180,15 @@ impl FieldFormat for JournalState {
                 Err(_) => Err(NotTaken::NoMemory),
             },
             _ => unreachable!(),
+        }
+    }
+
+    // Whole records, where one may begin.
+    #[tactic(auto, using(zy_read::proofs::OverLemmas::over_none))]
+    fn judge_front(&mut self, alloc: Global, at: u64, bytes: &[u8]) -> usize {
+        match self.due {
+            Due::Byte(ByteField::Tag) => self.take_records(alloc, bytes),
+            _ => 0,
         }
     }
 

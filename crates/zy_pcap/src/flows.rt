@@ -43,8 +43,8 @@ impl Flows {
         self.kept.flows.as_slice()
     }
 
-    #[tactic(auto, using(crate::proofs::StreamLemmas::streams_length))]
     /// The count of connections: the greatest number given plus one, or 0.
+    #[tactic(auto, using(crate::proofs::StreamLemmas::streams_length))]
     pub fn count(&self) -> u32
         ensures value { result ≡ length self.now }
         ensures limit { result ≤ 4096 }

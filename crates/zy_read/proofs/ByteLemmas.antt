@@ -16,9 +16,6 @@ pub bytes_append : (x y : List ℕ) → AreBytes x → AreBytes y → AreBytes (
 bytes_append [] y front back = back
 bytes_append (byte ∷ x) y front back = (front.0, bytes_append x y front.1 back)
 
-pub bytes_on : (bytes : List ℕ) (byte : ℕ) → AreBytes bytes → byte < 256 → AreBytes (bytes ++ byte ∷ [])
-bytes_on bytes byte all small = bytes_append bytes (byte ∷ []) all (small, tt)
-
 pub bytes_front : (x y : List ℕ) → AreBytes (x ++ y) → AreBytes x
 bytes_front [] y all = tt
 bytes_front (byte ∷ x) y all = (all.0, bytes_front x y all.1)

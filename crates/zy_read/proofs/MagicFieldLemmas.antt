@@ -9,7 +9,7 @@ use Rattle.std.proofs.lemmas.Bool.Decides.{nat_tests}
 use Rattle.zy_read.specs.Format.{Reading, read_on}
 use Rattle.zy_read.specs.Fields.{Judged, Fields, IsLawful, Place, at_state, step}
 use Rattle.zy_read.specs.Fields.Judged.{Then, Gives, Wrong as IsFault}
-use Rattle.zy_read.specs.Runs.{Begins, IsMisjudged}
+use Rattle.zy_read.specs.Runs.{Begins, IsMisjudged, RunsOver}
 use Rattle.zy_read.specs.declared.magic.MagicPart.{MagicPart}
 use Rattle.zy_read.specs.declared.magic.MagicPart.TheVariants.{Letters, Digit, LineFeed}
 use Rattle.zy_read.specs.declared.magic.MagicStep.{MagicStep}
@@ -17,7 +17,7 @@ use Rattle.zy_read.specs.declared.magic.MagicStep.TheVariants.{Next, Whole, Wron
 use Rattle.zy_read.specs.Magic.{letter, digit, line_feed, magic_step, IsInMagic, magic_before, magic_of, HasMagic, BeginsMagic, IsBadMagic, magic_judged, ReadsMagic}
 use Rattle.zy_read.proofs.MagicLemmas.{IsVersion, IsKnown, LeadsTo, letters_on, leads}
 use Rattle.zy_read.proofs.RunLemmas.{After, runs_keep, any_parts}
-use Rattle.zy_read.proofs.OverLemmas.{RunsOver, over_none, over_then, over_join, over_begins, over_misjudged}
+use Rattle.zy_read.proofs.OverLemmas.{over_none, over_then, over_join, over_begins, over_misjudged}
 use Rattle.zy_read.proofs.VerdictLemmas.{Leaves, state_kept, begins_read, text_reaches}
 
 -- ---- the fields of a magic
@@ -101,11 +101,11 @@ letter_there [] more at within = absurd (omega (arith, within))
 letter_there (first ∷ letters) more zero within = refl
 letter_there (first ∷ letters) more (suc at) within = letter_there letters more at (omega (arith, within))
 
-behind : (letters more : List ℕ) (at : ℕ) → get_or (letters ++ more) (length letters + at) 0 ≡ get_or more at 0
-behind [] more at = ap (λ (n : ℕ). get_or more n 0) (omega arith)
-behind (first ∷ letters) more at =
+after_letters : (letters more : List ℕ) (at : ℕ) → get_or (letters ++ more) (length letters + at) 0 ≡ get_or more at 0
+after_letters [] more at = ap (λ (n : ℕ). get_or more n 0) (omega arith)
+after_letters (first ∷ letters) more at =
     let there : suc (length letters) + at ≡ suc (length letters + at) = omega arith in
-    ap (λ (n : ℕ). get_or (first ∷ (letters ++ more)) n 0) there ∙ behind letters more at
+    ap (λ (n : ℕ). get_or (first ∷ (letters ++ more)) n 0) there ∙ after_letters letters more at
 
 -- a byte that is wrong continues no magic
 step_differs : (part : MagicPart) (letters : List ℕ) (at byte : ℕ) → length letters ≡ 6 → IsInMagic part at → magic_step part letters at byte ≡ Wrong → BeginsMagic letters (magic_before part letters at ++ byte ∷ []) → ⊥
@@ -115,12 +115,12 @@ step_differs Letters letters at byte six within wrong begins =
     let goes : magic_step Letters letters at byte ≡ (if at == 5 then Next Digit else Next Letters) = rw right refl in
     elim (at == 5) as (λ b. (if at == 5 then Next Digit else Next Letters) ≡ (if b then Next Digit else Next Letters) → ⊥) [ true ↦ λ is. cc | false ↦ λ is. cc ] refl
 step_differs Digit letters at byte six within wrong begins =
-    let same : byte ≡ 48 + begins.version = byte_there letters (magic_of letters begins.version) begins.rest byte 6 begins.whole (sym six) ∙ ap (λ (n : ℕ). get_or (magic_of letters begins.version) n 0) (omega (arith, six)) ∙ behind letters ((48 + begins.version) ∷ 10 ∷ []) 0 in
+    let same : byte ≡ 48 + begins.version = byte_there letters (magic_of letters begins.version) begins.rest byte 6 begins.whole (sym six) ∙ ap (λ (n : ℕ). get_or (magic_of letters begins.version) n 0) (omega (arith, six)) ∙ after_letters letters ((48 + begins.version) ∷ 10 ∷ []) 0 in
     let goes : magic_step Digit letters at byte ≡ Next (LineFeed begins.version) = ap (λ (b : ℕ). digit b) same ∙ digit_next begins.version begins.known in
     cc
 step_differs (LineFeed version) letters at byte six within wrong begins =
     let size : 7 ≡ length (letters ++ (48 + version) ∷ []) = omega (arith, six, length-append letters ((48 + version) ∷ [])) in
-    let same : byte ≡ 10 = byte_there (letters ++ (48 + version) ∷ []) (magic_of letters begins.version) begins.rest byte 7 begins.whole size ∙ ap (λ (n : ℕ). get_or (magic_of letters begins.version) n 0) (omega (arith, six)) ∙ behind letters ((48 + begins.version) ∷ 10 ∷ []) 1 in
+    let same : byte ≡ 10 = byte_there (letters ++ (48 + version) ∷ []) (magic_of letters begins.version) begins.rest byte 7 begins.whole size ∙ ap (λ (n : ℕ). get_or (magic_of letters begins.version) n 0) (omega (arith, six)) ∙ after_letters letters ((48 + begins.version) ∷ 10 ∷ []) 1 in
     let goes : magic_step (LineFeed version) letters at byte ≡ Whole version = ap (λ (b : ℕ). line_feed version b) same in
     cc
 

@@ -3,14 +3,8 @@ use Rattle.std.proofs.Common.{◌≡◌, ℕ, ◌+◌, ◌≤◌, List, [], ◌�
 use Rattle.std.specs.List.{concat}
 use Rattle.zy_read.specs.Fields.{Judged, Fields}
 use Rattle.zy_read.specs.Fields.Judged.{Then, Gives, Wrong}
-use Rattle.zy_read.specs.Runs.{GoesOn, Runs, Begins, HasRoom, IsMisjudged}
+use Rattle.zy_read.specs.Runs.{RunsOver, GoesOn, Begins, HasRoom, IsMisjudged}
 use Rattle.zy_read.proofs.RunLemmas.{concat_append, concat_one, runs_join}
-
--- a text is whole fields that lead from a state, at some place, to a state, and give these records
-pub record RunsOver {S G F : Type 0} (fields : Fields S G F) (s : S) (at : ℕ) (text : List ℕ) (last : S) (given : List G) : Type 0 where
-  pub parts : List (List ℕ)
-  pub runs : Runs fields s at parts last given
-  pub text_is : concat parts ≡ text
 
 pub over_none : {S G F : Type 0} (fields : Fields S G F) (s : S) (at : ℕ) → RunsOver fields s at [] s []
 over_none fields s at = record { parts = []; runs = (refl, refl); text_is = refl }

@@ -1,7 +1,7 @@
 -- Bytes that are fed in runs and one by one.
 use Rattle.std.proofs.Common.{◌≡◌, ℕ, ◌+◌, ◌<◌, List, [], ◌∷◌, length, take, drop, get_or, take-add, sym, subst}
 use Rattle.std.specs.Prelude.{Option, None, Some, Result, Ok, Err, option_to_list}
-use Rattle.std.proofs.lemmas.List.{take_more}
+use Rattle.std.proofs.lemmas.List.{take_more, drop-drop}
 use Rattle.zy_read.specs.declared.not_taken.NotTaken.{NotTaken}
 use Rattle.zy_read.specs.declared.not_taken.NotTaken.TheVariants.{Fault, NoMemory}
 use Rattle.zy_read.specs.Format.{Format, IsLasting}
@@ -12,6 +12,11 @@ use Rattle.zy_read.proofs.Feeding.{fed_on, fed, met_by, lasts_by}
 pub run_on : {P G F V : Type 0} (format : Format P G F V) (old between new : P) (bytes : List ℕ) (at run : ℕ) → Feeds format old between (take at bytes) [] → Feeds format between new (take run (drop at bytes)) [] → Feeds format old new (take (at + run) bytes) []
 run_on format old between new bytes at run first second =
     subst (λ (l : List ℕ). Feeds format old new l []) (sym (take-add at run bytes)) (fed_on format old between new (take at bytes) (take run (drop at bytes)) [] [] first second)
+
+-- a run after a run
+pub run_more : {P G F V : Type 0} (format : Format P G F V) (old between new : P) (bytes : List ℕ) (at first second : ℕ) → Feeds format old between (take first (drop at bytes)) [] → Feeds format between new (take second (drop (at + first) bytes)) [] → Feeds format old new (take (first + second) (drop at bytes)) []
+run_more format old between new bytes at first second one two =
+    run_on format old between new (drop at bytes) first second one (subst (λ (l : List ℕ). Feeds format between new (take second l) []) (sym (drop-drop first at bytes)) two)
 
 -- one byte after some first bytes
 pub byte_on : {P G F V : Type 0} (format : Format P G F V) (old between new : P) (bytes : List ℕ) (at : ℕ) (gave : List G) → at < length bytes → Feeds format old between (take at bytes) [] → Feeds format between new (get_or bytes at 0 ∷ []) gave → Feeds format old new (take (at + 1) bytes) gave

@@ -1,7 +1,8 @@
 //! A format whose texts are fields, one after another.
-ghost use Rattle.std.specs.Prelude.{◌≡◌, ◌+◌, ◌-◌, ◌<◌, ◌^◌, ◌∷◌, [], ℕ, List, length, Err, true};
+ghost use Rattle.std.specs.Prelude.{◌≡◌, ◌+◌, ◌-◌, ◌<◌, ◌≤◌, ◌^◌, ◌∷◌, [], ℕ, List, length, take, Err, true};
 ghost use Rattle.zy_read.specs.declared.not_taken.NotTaken.TheVariants.{NoMemory};
 ghost use Rattle.zy_read.specs.Fields.{Fields, IsLawful};
+ghost use Rattle.zy_read.specs.Runs.{RunsOver};
 ghost use Rattle.zy_read.specs.FieldReading.{width_of, Judges, IsQuiet};
 ghost use Rattle.zy_read.specs.declared.shape.Shape.{Shape as Shapes};
 ghost use Rattle.zy_read.specs.declared.shape.Shape.TheVariants as Kinds;
@@ -114,6 +115,14 @@ pub trait FieldFormat: Drop {
         ensures value { Judges Fits Wants (fields.judge self.old at bytes.old.items)
             (at + length bytes.old.items) self.old self.new result }
         ensures kept { result ≡ Err NoMemory → bytes.new.items ≡ bytes.old.items };
+
+    /// Takes whole fields at once, as many as it likes, with which the bytes from this place on
+    /// begin, and which give no record. Returns the number of their bytes.
+    fn judge_front(&mut self, alloc: Global, at: u64, bytes: &[u8]) -> usize
+        requires fits { Fits self.old at }
+        ensures within { result ≤ length bytes.now }
+        ensures runs { RunsOver fields self.old at (take result bytes.now) self.new [] }
+        ensures fits { Fits self.new (at + result) };
 
     /// A field has as many bytes as its shape says.
     ghost widths: { (s : Self) → fields.width s ≡ width_of (shape_of s) };

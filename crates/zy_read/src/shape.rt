@@ -9,6 +9,6 @@ pub enum Shape {
     Four,
     /// Eight, mostly a number.
     Eight,
-    /// One and so many others. They may need memory.
+    /// One byte, and this number of others. They may need memory.
     Run(u64),
 }

@@ -10,6 +10,27 @@ use crate::field_format::FieldFormat;
 use crate::shape::Shape;
 
 impl<S: FieldFormat> FieldReader<S> {
+    // Takes whole fields that the format takes at once, from some place on, but not the last byte of
+    // the piece. Returns the number of their bytes.
+    #[tactic(auto, using(crate::proofs::Feeding::fed_none))]
+    pub(super) fn take_front(&mut self, bytes: &[u8], at: usize) -> usize
+        requires place { at < length bytes.now }
+        ensures within { at + result < length bytes.now }
+        ensures fed { Feeds (format_of S.fields S.good S.bad) self.old self.new
+            (take result (drop at bytes.now)) [] }
+    {
+        if self.fault.is_some() || !self.is_between() {
+            return 0;
+        }
+        let room = self.state.limit() - self.at;
+        let most = room.min((bytes.len() - at - 1) as u64) as usize;
+        let run = self
+            .state
+            .judge_front(self.alloc, self.at, &bytes[at..at + most]);
+        self.at += run as u64;
+        run
+    }
+
     // Takes whole fields one after another, from some place on, but not the last byte of the piece.
     // Returns the number of their bytes.
     #[tactic(auto, using(crate::proofs::Feeding::fed_none))]

@@ -42,9 +42,11 @@ impl<S: FieldFormat> Reads for FieldReader<S> {
         }
     }
 
-    // Takes whole fields, and then bytes of a run, but not its last one.
+    // Takes whole fields, then those that the format takes at once, and then bytes of a run, but not
+    // its last one.
     fn take_run(&mut self, bytes: &[u8], at: usize) -> usize {
-        let run = self.take_fields(bytes, at);
+        let fields = self.take_fields(bytes, at);
+        let run = fields + self.take_front(bytes, at + fields);
         run + self.take_part(bytes, at + run)
     }
 

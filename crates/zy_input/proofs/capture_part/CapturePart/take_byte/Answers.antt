@@ -1,39 +1,45 @@
-use Rattle.std.proofs.Common.{◌++◌, ◌∷◌, [], refl, arith}
-use Rattle.zy_read.proofs.ByteLemmas.{bytes_on}
+use Rattle.std.proofs.Common.{◌++◌, ◌∷◌, [], refl, subst, arith}
+use Rattle.std.specs.Prelude.{Option, Result, Ok}
+use Rattle.zy_read.specs.declared.not_taken.NotTaken.{NotTaken}
+use Rattle.zy_read.specs.Standing.{FeedsAs, TellsFault}
+use Rattle.zy_capture.specs.declared.capture_fault.CaptureFault.{CaptureFault}
+use Rattle.zy_capture.specs.declared.record.Record.{Record}
 use Rattle.zy_capture.specs.Verdict.{captures, is_good}
-use Rattle.zy_input.specs.Kinds.{capture_keeping}
+use Rattle.zy_input.specs.declared.capture_part.CapturePart.{CapturePart}
+use Rattle.zy_input.specs.declared.stop.Refusal.TheVariants.{Capture}
+use Rattle.zy_input.specs.Kinds.{capture_keeping, StandsForCapture}
+use Rattle.zy_input.specs.Parts.{HasStreams}
 use Rattle.zy_input.proofs.FormatLemmas.{byte_fault}
 use Rattle.zy_input.proofs.CaptureLemmas.{once}
-use Rattle.zy_input.proofs.KeepingLemmas.{kept_on}
+use Rattle.zy_input.proofs.KeepingLemmas.{keeping_on, taken_on}
 use Rattle.zy_input.proofs.LawfulLemmas.{stays}
 use Rattle.zy_input.proofs.capture_part.CapturePart.take_byte.Goals as goal
 
-pub go_on-requires : goal.go_on-requires
-go_on-requires c =
-    let stands = c.requires.goes.2 in
-    let bytes = c.requires.goes.1 in
+pub keep_taken-requires : goal.keep_taken-requires
+keep_taken-requires c =
+    let fed = c.feed-answer in
+    let old = c.args.self.now.reader in
+    let byte = c.args.byte in
     record {
-      keeping = record {
-        given = stands.given;
-        bytes = bytes ++ c.args.byte ∷ [];
-        reader = c.in-Ok.ensures.fed stands.given bytes stands.reader;
-        small = bytes_on bytes c.args.byte stands.small (omega (arith, c.ranges.byte));
-        clean = c.in-Ok.ensures.exact stands.given bytes stands.reader;
-        kept = kept_on capture_keeping stays c.args.self.now.streams stands.given bytes (c.args.byte ∷ []) stands.small stands.kept;
-      };
+      keeping = λ gave is.
+          keeping_on capture_keeping stays old fed.new.self c.args.self.now.streams c.requires.goes.1 (byte ∷ []) 1 gave (Ok gave) refl c.requires.goes.2 (omega (arith, c.ranges.byte), tt)
+          (subst (λ (a : Result (Option Record) (NotTaken CaptureFault)). FeedsAs captures old fed.new.self (byte ∷ []) a) is fed.ensures.fed)
+          (subst (λ (a : Result (Option Record) (NotTaken CaptureFault)). TellsFault captures old (byte ∷ []) a) is fed.ensures.exact);
     }
 
-pub returns-in-Ok : goal.returns-in-Ok
-returns-in-Ok c = record {
-  value = λ bytes stands goes_on. c.go_on.ensures.value stands.given (bytes ++ c.args.byte ∷ []) (c.in-Ok.ensures.fed stands.given bytes stands.reader) (bytes_on bytes c.args.byte stands.small (omega (arith, c.ranges.byte))) (c.in-Ok.ensures.exact stands.given bytes stands.reader)
-      (kept_on capture_keeping stays c.args.self.now.streams stands.given bytes (c.args.byte ∷ []) stands.small stands.kept);
-}
-
-pub returns-in-Err-Fault : goal.returns-in-Err-Fault
-returns-in-Err-Fault c =
-    let exact = rw c.in-Err-Fault.field-0-is at c.in-Err-Fault.ensures.exact in
-    record {
-      value = λ bytes stands goes_on more.
-          let faulty = byte_fault captures is_good once c.args.self.now.reader stands.given bytes more c.args.byte c.in-Err-Fault.fault stands.reader goes_on exact in
-          (c.in-Err-Fault.fault, refl, faulty.0, faulty.1);
-    }
+pub returns-clause-value : goal.returns-clause-value
+returns-clause-value c bytes stands goes_on =
+    let fed = c.feed-answer in
+    let old = c.args.self.now.reader in
+    let byte = c.args.byte in
+    let part : CapturePart = record { alloc = c.args.self.now.alloc; reader = fed.new.self; streams = c.keep_taken.new.made } in
+    taken_on capture_keeping is_good (λ (f : CaptureFault). Capture f) StandsForCapture (λ streams text. HasStreams text streams) fed.new.self c.args.self.now.streams part.streams part (bytes ++ byte ∷ []) fed.result c.keep_taken.result.answer c.is_done-done.result (λ kept. kept)
+    (λ gave is. (
+      keeping_on capture_keeping stays old fed.new.self c.args.self.now.streams bytes (byte ∷ []) 1 gave (Ok gave) refl stands (omega (arith, c.ranges.byte), tt)
+          (subst (λ (a : Result (Option Record) (NotTaken CaptureFault)). FeedsAs captures old fed.new.self (byte ∷ []) a) is fed.ensures.fed)
+          (subst (λ (a : Result (Option Record) (NotTaken CaptureFault)). TellsFault captures old (byte ∷ []) a) is fed.ensures.exact),
+      refl,
+    )) c.is_done-done.ensures.value
+    (λ fault is more.
+    let faulty = byte_fault captures is_good once old stands.given bytes more byte fault stands.reader goes_on (subst (λ (a : Result (Option Record) (NotTaken CaptureFault)). TellsFault captures old (byte ∷ []) a) is fed.ensures.exact) in
+    (fault, refl, faulty.0, faulty.1)) c.keep_taken.ensures.value

@@ -1,5 +1,4 @@
 use Rattle.std.proofs.Common.{rules, ◌≡◌, ℕ, List, length, take, ◌∙◌, ap}
-use Rattle.zy_read.specs.Fields.{Place}
 use Rattle.zy_read.specs.Fields.Judged.{Then}
 use Rattle.zy_read.specs.FieldReading.{width_of}
 use Rattle.zy_read.proofs.TakenLemmas.{quiet_then, first_fed}
