@@ -29,7 +29,7 @@ pub(crate) fn measured<R: CpuClock, I: Read>(
     match which {
         1 => merging(rt, alloc, entries, shards),
         2 => writing(rt, alloc, entries),
-        _ => reading::count(input, alloc),
+        _ => reading::measured(rt, alloc, input),
     }
 }
 

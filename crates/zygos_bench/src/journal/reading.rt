@@ -1,15 +1,24 @@
 //! Reading a journal.
+use crate::clock::nanos;
 use crate::done::Done;
 use std::alloc::Global;
 use std::io::Read;
+use std::time::CpuClock;
 use zy_base::NoMemory;
 use zy_journal_reader::JournalReader;
 use zy_read::Fed;
 
-// Feeds the input to a reader, to its end, and gives how many entries were read.
-pub(crate) fn count<R: Read>(input: &mut R, alloc: Global) -> Result<Done, NoMemory> {
+/// Feeds the input to a reader, to its end: how many entries were read.
+pub(crate) fn measured<R: CpuClock, I: Read>(
+    rt: &R,
+    alloc: Global,
+    input: &mut I,
+) -> Result<Done, NoMemory> {
     let mut reader = JournalReader::new(alloc);
-    if let Err(e) = read_all(input, &mut reader) {
+    let start = nanos(rt);
+    let fed = read_all(input, &mut reader);
+    let spent = nanos(rt).saturating_sub(start);
+    if let Err(e) = fed {
         drop(reader);
         return Err(e);
     }
@@ -17,7 +26,10 @@ pub(crate) fn count<R: Read>(input: &mut R, alloc: Global) -> Result<Done, NoMem
         Ok(journal) => {
             let count = journal.count().unwrap_or(u64::MAX);
             drop(journal);
-            Ok(Done { count, nanos: 0 })
+            Ok(Done {
+                count,
+                nanos: spent,
+            })
         }
         Err(_) => Err(NoMemory),
     }
