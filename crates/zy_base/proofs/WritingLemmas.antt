@@ -1,6 +1,6 @@
 -- How a sink's bytes grow, write after write.
-use Rattle.std.proofs.Common.{◌≡◌, ◌⊎◌, inl, inr, ℕ, ◌+◌, ◌-◌, ◌≤◌, ◌<◌, List, [], ◌++◌, take-append-drop, length, take, drop, get_or, sym, ◌∙◌, ap, subst, arith, append_assoc, length-append}
-use Rattle.std.specs.Prelude.{flat_map, Bool, Option, Some, None, ⊤, Result, Ok, Err, is_ok, OnErr}
+use Rattle.std.proofs.Common.{◌≡◌, ◌⊎◌, inl, inr, ℕ, ◌+◌, ◌-◌, ◌≤◌, ◌<◌, refl, List, [], ◌++◌, take-append-drop, length, take, drop, get_or, sym, ◌∙◌, ap, subst, arith, append_assoc, length-append}
+use Rattle.std.specs.Prelude.{flat_map, Bool, Option, Some, None, ⊤, Result, Ok, Err, is_ok, IsErr, OnErr}
 use Rattle.std.proofs.Math.Seq.{take-add, take-append-add}
 use Rattle.std.proofs.lemmas.Grind.{flat_map-append}
 use Rattle.std.proofs.lemmas.List.{append-nil, drop_more, take_rest, take_all, take-append-le}
@@ -55,59 +55,105 @@ rose_later a b c le (inr last) = inr last
 
 -- ---- texts
 
--- a text that is written after one that was written whole
-pub writes_on : {K E : Type 0} (holds : K → Option (List ℕ)) (faults finishes : K → ℕ) (old between new : K) (result : Result ⊤ E) (x y : List ℕ) → Grew (holds old) (holds between) x → faults old ≤ faults between → finishes between ≡ finishes old
-    → Writes holds faults finishes between new result y → Writes holds faults finishes old new result (x ++ y)
-writes_on holds faults finishes old between new (Ok u) x y first le same second = record {
-  whole = grew_on (holds old) (holds between) (holds new) x y first second.whole;
-  part = tt;
-  count = omega (arith, le, second.count);
-  cause = tt;
-  unfinished = second.unfinished ∙ same;
-}
-writes_on holds faults finishes old between new (Err e) x y first le same second = record {
-  whole = tt;
-  part = part_of_second (holds old) (holds between) (holds new) x y first second.part;
-  count = omega (arith, le, second.count);
-  cause = rose_later (faults old) (faults between) (faults new) le second.cause;
-  unfinished = second.unfinished ∙ same;
-}
+-- since the first of two states of a sink, this text was written whole, and the sink was not finished
+pub record Written {K : Type 0} (holds : K → Option (List ℕ)) (faults finishes : K → ℕ) (old new : K) (text : List ℕ) : Type 0 where
+  pub grew : Grew (holds old) (holds new) text
+  pub count : faults old ≤ faults new
+  pub unfinished : finishes new ≡ finishes old
 
--- two texts, the first of which failed
-pub writes_no_more : {K E : Type 0} (holds : K → Option (List ℕ)) (faults finishes : K → ℕ) (old new : K) (e : E) (x y : List ℕ) → Writes holds faults finishes old new (Err e) x → Writes holds faults finishes old new (Err e) (x ++ y)
-writes_no_more holds faults finishes old new e x y first = record {
-  whole = tt;
-  part = part_of_first (holds old) (holds new) x y first.part;
-  count = first.count;
-  cause = first.cause;
-  unfinished = first.unfinished;
-}
+-- before the first write
+pub written_none : {K : Type 0} {holds : K → Option (List ℕ)} {faults finishes : K → ℕ} {old : K} → Written holds faults finishes old old []
+written_none {holds = holds} {old = old} = record { grew = grew_nothing (holds old); count = omega arith; unfinished = refl }
 
--- a last text that is written after one that was written whole
-pub writes_last_on : {K E : Type 0} (holds : K → Option (List ℕ)) (faults finishes : K → ℕ) (is_finished : K → Bool) (old between new : K) (result : Result ⊤ E) (x y : List ℕ) → Grew (holds old) (holds between) x → faults old ≤ faults between → finishes between ≡ finishes old
-    → WritesLast holds faults finishes is_finished between new result y → WritesLast holds faults finishes is_finished old new result (x ++ y)
-writes_last_on holds faults finishes is_finished old between new (Ok u) x y first le same second = record {
-  whole = grew_on (holds old) (holds between) (holds new) x y first second.whole;
+module _ {K : Type 0} {holds : K → Option (List ℕ)} {faults finishes : K → ℕ} {old new : K} {x : List ℕ} where
+  -- a call wrote the text
+  pub written_by : {E : Type 0} {u : ⊤} → Writes {E = E} holds faults finishes old new (Ok u) x → Written holds faults finishes old new x
+  written_by writes = record { grew = writes.whole; count = writes.count; unfinished = writes.unfinished }
+
+  -- a text that was written is what a call had to write
+  pub writes_all : {E : Type 0} {u : ⊤} → Written holds faults finishes old new x → Writes {E = E} holds faults finishes old new (Ok u) x
+  writes_all {u = tt} written = record { whole = written.grew; part = tt; count = written.count; cause = tt; unfinished = written.unfinished }
+
+  -- a text whose writing failed, with whatever error it is answered
+  pub failed_as : {E : Type 0} {result : Result ⊤ E} {e : E} → IsErr result → Writes holds faults finishes old new (Err e) x → Writes holds faults finishes old new result x
+  failed_as {result = Ok u} refused failed = absurd (cc)
+  failed_as {result = Err other} refused failed = record { whole = tt; part = failed.part; count = failed.count; cause = failed.cause; unfinished = failed.unfinished }
+
+  -- the same text, said otherwise
+  pub written_as : {y : List ℕ} → x ≡ y → Written holds faults finishes old new x → Written holds faults finishes old new y
+  written_as same written = subst (Written holds faults finishes old new) same written
+
+  pub writes_as : {E : Type 0} {result : Result ⊤ E} {y : List ℕ} → x ≡ y → Writes holds faults finishes old new result x → Writes holds faults finishes old new result y
+  writes_as {result = result} same writes = subst (Writes holds faults finishes old new result) same writes
+
+  -- two texts, the first of which failed, with whatever error it is answered
+  pub writes_cut : {E : Type 0} {result : Result ⊤ E} {e : E} (y : List ℕ) → IsErr result → Writes holds faults finishes old new (Err e) x → Writes holds faults finishes old new result (x ++ y)
+  writes_cut {result = Ok u} y refused failed = absurd (cc)
+  writes_cut {result = Err other} y refused failed = record {
+    whole = tt;
+    part = part_of_first (holds old) (holds new) x y failed.part;
+    count = failed.count;
+    cause = failed.cause;
+    unfinished = failed.unfinished;
+  }
+
+module _ {K : Type 0} {holds : K → Option (List ℕ)} {faults finishes : K → ℕ} {old between new : K} {x y : List ℕ} where
+  -- a text that is written after one that was written
+  pub writes_after : {E : Type 0} {result : Result ⊤ E} → Written holds faults finishes old between x → Writes holds faults finishes between new result y → Writes holds faults finishes old new result (x ++ y)
+  writes_after {result = Ok u} first second = record {
+    whole = grew_on (holds old) (holds between) (holds new) x y first.grew second.whole;
+    part = tt;
+    count = omega (arith, first.count, second.count);
+    cause = tt;
+    unfinished = second.unfinished ∙ first.unfinished;
+  }
+  writes_after {result = Err e} first second = record {
+    whole = tt;
+    part = part_of_second (holds old) (holds between) (holds new) x y first.grew second.part;
+    count = omega (arith, first.count, second.count);
+    cause = rose_later (faults old) (faults between) (faults new) first.count second.cause;
+    unfinished = second.unfinished ∙ first.unfinished;
+  }
+
+  -- the same, where the first was written by a call
+  pub writes_then : {E F : Type 0} {u : ⊤} {result : Result ⊤ F} → Writes {E = E} holds faults finishes old between (Ok u) x → Writes holds faults finishes between new result y → Writes holds faults finishes old new result (x ++ y)
+  writes_then first second = writes_after (written_by first) second
+
+  -- a text that a call wrote after one that was written
+  pub written_on : {E : Type 0} {u : ⊤} → Written holds faults finishes old between x → Writes {E = E} holds faults finishes between new (Ok u) y → Written holds faults finishes old new (x ++ y)
+  written_on first second = record {
+    grew = grew_on (holds old) (holds between) (holds new) x y first.grew second.whole;
+    count = omega (arith, first.count, second.count);
+    unfinished = second.unfinished ∙ first.unfinished;
+  }
+
+-- ---- last texts
+
+-- a last text that is written after one that a call wrote
+pub writes_last_then : {K E F : Type 0} {holds : K → Option (List ℕ)} {faults finishes : K → ℕ} {is_finished : K → Bool} {old between new : K} {u : ⊤} {result : Result ⊤ F} {x y : List ℕ}
+    → Writes {E = E} holds faults finishes old between (Ok u) x → WritesLast holds faults finishes is_finished between new result y → WritesLast holds faults finishes is_finished old new result (x ++ y)
+writes_last_then {holds = holds} {old = old} {between = between} {new = new} {result = Ok u} {x = x} {y = y} first second = record {
+  whole = grew_on (holds old) (holds between) (holds new) x y first.whole second.whole;
   part = tt;
-  count = omega (arith, le, second.count);
+  count = omega (arith, first.count, second.count);
   cause = tt;
-  finished = second.finished ∙ ap one_more same;
+  finished = second.finished ∙ ap one_more first.unfinished;
   last = second.last;
   broken = tt;
 }
-writes_last_on holds faults finishes is_finished old between new (Err e) x y first le same second = record {
+writes_last_then {holds = holds} {faults = faults} {finishes = finishes} {old = old} {between = between} {new = new} {result = Err e} {x = x} {y = y} first second = record {
   whole = tt;
-  part = part_of_second (holds old) (holds between) (holds new) x y first second.part;
-  count = omega (arith, le, second.count);
-  cause = rose_later (faults old) (faults between) (faults new) le second.cause;
+  part = part_of_second (holds old) (holds between) (holds new) x y first.whole second.part;
+  count = omega (arith, first.count, second.count);
+  cause = rose_later (faults old) (faults between) (faults new) first.count second.cause;
   finished = tt;
   last = tt;
-  broken = subst (λ (n : ℕ). (finishes new ≡ n) ⊎ (finishes new ≡ one_more n)) same second.broken;
+  broken = subst (λ (n : ℕ). (finishes new ≡ n) ⊎ (finishes new ≡ one_more n)) first.unfinished second.broken;
 }
 
 -- a text whose writing failed, and which was not finished
-pub writes_last_failed : {K E : Type 0} (holds : K → Option (List ℕ)) (faults finishes : K → ℕ) (is_finished : K → Bool) (old new : K) (e : E) (x : List ℕ) → Writes holds faults finishes old new (Err e) x → WritesLast holds faults finishes is_finished old new (Err e) x
-writes_last_failed holds faults finishes is_finished old new e x first = record {
+pub writes_last_failed : {K E : Type 0} {holds : K → Option (List ℕ)} {faults finishes : K → ℕ} {is_finished : K → Bool} {old new : K} {e : E} {x : List ℕ} → Writes holds faults finishes old new (Err e) x → WritesLast holds faults finishes is_finished old new (Err e) x
+writes_last_failed first = record {
   whole = tt;
   part = first.part;
   count = first.count;
@@ -118,41 +164,39 @@ writes_last_failed holds faults finishes is_finished old new e x first = record 
 }
 
 -- a text that was written whole, and then finished
-pub writes_finished : {K E : Type 0} (holds : K → Option (List ℕ)) (faults finishes : K → ℕ) (is_finished : K → Bool) (old between new : K) (result : Result ⊤ E) (x : List ℕ) → Grew (holds old) (holds between) x → faults old ≤ faults between → finishes between ≡ finishes old
+pub writes_finished : {K E : Type 0} {holds : K → Option (List ℕ)} {faults finishes : K → ℕ} {is_finished : K → Bool} {old between new : K} {result : Result ⊤ E} {x : List ℕ} → Written holds faults finishes old between x
     → Grew (holds between) (holds new) [] → faults between ≤ faults new → OnErr result (Rose (faults between) (faults new)) → finishes new ≡ one_more (finishes between) → is_finished new ≡ is_ok result → WritesLast holds faults finishes is_finished old new result x
-writes_finished holds faults finishes is_finished old between new (Ok u) x first le same still more cause once done = record {
-  whole = grew_same (holds old) (holds between) (holds new) x first still;
+writes_finished {holds = holds} {old = old} {between = between} {new = new} {result = Ok u} {x = x} first still more cause once done = record {
+  whole = grew_same (holds old) (holds between) (holds new) x first.grew still;
   part = tt;
-  count = omega (arith, le, more);
+  count = omega (arith, first.count, more);
   cause = tt;
-  finished = once ∙ ap one_more same;
+  finished = once ∙ ap one_more first.unfinished;
   last = done;
   broken = tt;
 }
-writes_finished holds faults finishes is_finished old between new (Err e) x first le same still more cause once done = record {
+writes_finished {holds = holds} {faults = faults} {old = old} {between = between} {new = new} {result = Err e} {x = x} first still more cause once done = record {
   whole = tt;
-  part = part_of_whole (holds old) (holds new) x (grew_same (holds old) (holds between) (holds new) x first still);
-  count = omega (arith, le, more);
-  cause = rose_later (faults old) (faults between) (faults new) le cause;
+  part = part_of_whole (holds old) (holds new) x (grew_same (holds old) (holds between) (holds new) x first.grew still);
+  count = omega (arith, first.count, more);
+  cause = rose_later (faults old) (faults between) (faults new) first.count cause;
   finished = tt;
   last = tt;
-  broken = inr (once ∙ ap one_more same);
+  broken = inr (once ∙ ap one_more first.unfinished);
 }
 
 -- ---- lists of pieces
 
 -- the pieces are those before one of them, that one, and those after it
 pieces_at : {P : Type 0} (text : P → List ℕ) (pieces : List P) (i : ℕ) (d : P) → i < length pieces
-    → (flat_map text (take i pieces) ++ text (get_or pieces i d)) ++ flat_map text (drop (i + 1) pieces) ≡ flat_map text pieces
+    → flat_map text (take i pieces) ++ (text (get_or pieces i d) ++ flat_map text (drop (i + 1) pieces)) ≡ flat_map text pieces
 pieces_at text pieces i d within =
-    append_assoc (flat_map text (take i pieces)) (text (get_or pieces i d)) (flat_map text (drop (i + 1) pieces))
-    ∙ ap (λ rest. flat_map text (take i pieces) ++ flat_map text rest) (sym (drop_more pieces i d within))
+    ap (λ rest. flat_map text (take i pieces) ++ flat_map text rest) (sym (drop_more pieces i d within))
     ∙ sym (flat_map-append text (take i pieces) (drop i pieces)) ∙ ap (flat_map text) (take-append-drop i pieces)
 
 -- one of several pieces failed after those before it were written whole
-pub pieces_failed : {K E P : Type 0} (holds : K → Option (List ℕ)) (faults finishes : K → ℕ) (old between new : K) (e : E) (text : P → List ℕ) (pieces : List P) (i : ℕ) (d : P) → i < length pieces
-    → Grew (holds old) (holds between) (flat_map text (take i pieces)) → faults old ≤ faults between → finishes between ≡ finishes old
-    → Writes holds faults finishes between new (Err e) (text (get_or pieces i d)) → Writes holds faults finishes old new (Err e) (flat_map text pieces)
-pieces_failed holds faults finishes old between new e text pieces i d within front count same here =
-    let so_far = writes_on holds faults finishes old between new (Err e) (flat_map text (take i pieces)) (text (get_or pieces i d)) front count same here in
-    subst (Writes holds faults finishes old new (Err e)) (pieces_at text pieces i d within) (writes_no_more holds faults finishes old new e _ (flat_map text (drop (i + 1) pieces)) so_far)
+pub pieces_failed : {K E P : Type 0} {holds : K → Option (List ℕ)} {faults finishes : K → ℕ} {old between new : K} {result : Result ⊤ E} {e : E} (text : P → List ℕ) (pieces : List P) (i : ℕ) (d : P) → IsErr result → i < length pieces
+    → Written holds faults finishes old between (flat_map text (take i pieces))
+    → Writes holds faults finishes between new (Err e) (text (get_or pieces i d)) → Writes holds faults finishes old new result (flat_map text pieces)
+pieces_failed text pieces i d refused within front here =
+    writes_as (pieces_at text pieces i d within) (writes_after front (writes_cut _ refused here))

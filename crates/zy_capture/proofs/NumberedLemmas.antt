@@ -1,9 +1,9 @@
 -- Texts of numbered things, written one after another.
-use Rattle.std.proofs.Common.{◌≡◌, ℕ, zero, suc, ◌+◌, ◌<◌, ◌≤◌, List, [], ◌∷◌, ◌++◌, length, take, drop, get_or, add-one, refl, sym, ◌∙◌, ap, subst, arith, append_assoc}
+use Rattle.std.proofs.Common.{◌≡◌, ℕ, zero, suc, ◌+◌, ◌<◌, ◌≤◌, List, [], ◌∷◌, ◌++◌, length, take, drop, get_or, add-one, refl, sym, ◌∙◌, ap, arith, append_assoc}
 use Rattle.std.specs.Prelude.{⊤, Option, Result, Ok, Err, IsErr}
 use Rattle.std.proofs.lemmas.List.{append-nil}
-use Rattle.zy_base.specs.Outside.{Grew, Writes}
-use Rattle.zy_base.proofs.WritingLemmas.{grew_on, writes_on, writes_no_more}
+use Rattle.zy_base.specs.Outside.{Writes}
+use Rattle.zy_base.proofs.WritingLemmas.{Written, written_as, written_on, writes_as, writes_after, writes_cut}
 use Rattle.zy_capture.specs.Replies.{numbered_from}
 
 -- the texts up to one, and that one
@@ -16,6 +16,13 @@ numbered-take text number (x ∷ xs) (suc i) d within =
     ∙ sym (append_assoc (text number x) (numbered_from text (number + 1) (take i xs)) (text (number + 1 + i) (get_or xs i d)))
     ∙ ap (λ (n : ℕ). (text number x ++ numbered_from text (number + 1) (take i xs)) ++ text n (get_or xs i d)) (omega arith)
 
+-- the same from the first number on
+numbered_upto : {X : Type 0} (text : ℕ → X → List ℕ) (xs : List X) (i : ℕ) (d : X) → i < length xs
+    → numbered_from text 0 (take (i + 1) xs) ≡ numbered_from text 0 (take i xs) ++ text i (get_or xs i d)
+numbered_upto text xs i d within =
+    ap (λ (n : ℕ). numbered_from text 0 (take n xs)) (add-one i) ∙ numbered-take text 0 xs i d within
+    ∙ ap (λ (n : ℕ). numbered_from text 0 (take i xs) ++ text n (get_or xs i d)) (omega arith)
+
 -- the texts up to some place, and those from there on
 numbered_split : {X : Type 0} (text : ℕ → X → List ℕ) (number : ℕ) (xs : List X) (i : ℕ) → i ≤ length xs
     → numbered_from text number (take i xs) ++ numbered_from text (number + i) (drop i xs) ≡ numbered_from text number xs
@@ -27,26 +34,22 @@ numbered_split text number (x ∷ xs) (suc i) within =
     ∙ ap (λ (n : ℕ). text number x ++ (numbered_from text (number + 1) (take i xs) ++ numbered_from text n (drop i xs))) (omega arith)
     ∙ ap (λ (l : List ℕ). text number x ++ l) (numbered_split text (number + 1) xs i (omega (arith, within)))
 
--- one of the texts failed after those before it were written whole
-pub numbered_failed : {K E X : Type 0} (holds : K → Option (List ℕ)) (faults finishes : K → ℕ) (old between new : K) (e : E) (text : ℕ → X → List ℕ) (xs : List X) (i : ℕ) (d : X) → i < length xs
-    → Grew (holds old) (holds between) (numbered_from text 0 (take i xs)) → faults old ≤ faults between → finishes between ≡ finishes old
-    → Writes holds faults finishes between new (Err e) (text i (get_or xs i d)) → Writes holds faults finishes old new (Err e) (numbered_from text 0 xs)
-numbered_failed holds faults finishes old between new e text xs i d within front count same here =
-    let so_far = writes_on holds faults finishes old between new (Err e) (numbered_from text 0 (take i xs)) (text i (get_or xs i d)) front count same here in
-    let upto : numbered_from text 0 (take (suc i) xs) ≡ numbered_from text 0 (take i xs) ++ text i (get_or xs i d) =
-    numbered-take text 0 xs i d within ∙ ap (λ (n : ℕ). numbered_from text 0 (take i xs) ++ text n (get_or xs i d)) (omega arith) in
-    subst (Writes holds faults finishes old new (Err e)) (numbered_split text 0 xs (suc i) (omega (arith, within)))
-    (writes_no_more holds faults finishes old new e (numbered_from text 0 (take (suc i) xs)) (numbered_from text (0 + suc i) (drop (suc i) xs)) (subst (Writes holds faults finishes old new (Err e)) (sym upto) so_far))
+-- the texts are those before one of them, that one, and those after it
+numbered_parts : {X : Type 0} (text : ℕ → X → List ℕ) (xs : List X) (i : ℕ) (d : X) → i < length xs
+    → numbered_from text 0 (take i xs) ++ (text i (get_or xs i d) ++ numbered_from text (0 + (i + 1)) (drop (i + 1) xs)) ≡ numbered_from text 0 xs
+numbered_parts text xs i d within =
+    sym (append_assoc (numbered_from text 0 (take i xs)) (text i (get_or xs i d)) (numbered_from text (0 + (i + 1)) (drop (i + 1) xs)))
+    ∙ ap (λ (l : List ℕ). l ++ numbered_from text (0 + (i + 1)) (drop (i + 1) xs)) (sym (numbered_upto text xs i d within))
+    ∙ numbered_split text 0 xs (i + 1) (omega (arith, within))
 
--- one further text was written whole
-pub numbered_on : {X : Type 0} (a b c : Option (List ℕ)) (text : ℕ → X → List ℕ) (xs : List X) (i : ℕ) (d : X) → i < length xs
-    → Grew a b (numbered_from text 0 (take i xs)) → Grew b c (text i (get_or xs i d)) → Grew a c (numbered_from text 0 (take (i + 1) xs))
-numbered_on a b c text xs i d within front here =
-    let upto : numbered_from text 0 (take (i + 1) xs) ≡ numbered_from text 0 (take i xs) ++ text i (get_or xs i d) =
-    ap (λ (n : ℕ). numbered_from text 0 (take n xs)) (add-one i) ∙ numbered-take text 0 xs i d within ∙ ap (λ (n : ℕ). numbered_from text 0 (take i xs) ++ text n (get_or xs i d)) (omega arith) in
-    subst (Grew a c) (sym upto) (grew_on a b c (numbered_from text 0 (take i xs)) (text i (get_or xs i d)) front here)
+module _ {K E X : Type 0} {holds : K → Option (List ℕ)} {faults finishes : K → ℕ} {old between new : K} (text : ℕ → X → List ℕ) (xs : List X) (i : ℕ) (d : X) where
+  -- one of the texts failed after those before it were written
+  pub numbered_failed : {result : Result ⊤ E} {e : E} → IsErr result → i < length xs → Written holds faults finishes old between (numbered_from text 0 (take i xs))
+      → Writes holds faults finishes between new (Err e) (text i (get_or xs i d)) → Writes holds faults finishes old new result (numbered_from text 0 xs)
+  numbered_failed refused within front here =
+      writes_as (numbered_parts text xs i d within) (writes_after front (writes_cut _ refused here))
 
--- a text whose writing failed, with whatever error it is answered
-pub failed_as : {K E : Type 0} (holds : K → Option (List ℕ)) (faults finishes : K → ℕ) (old new : K) (result : Result ⊤ E) (e : E) (text : List ℕ) → IsErr result → Writes holds faults finishes old new (Err e) text → Writes holds faults finishes old new result text
-failed_as holds faults finishes old new (Ok u) e text refused failed = absurd (cc)
-failed_as holds faults finishes old new (Err other) e text refused failed = record { whole = tt; part = failed.part; count = failed.count; cause = failed.cause; unfinished = failed.unfinished }
+  -- one further text was written
+  pub numbered_on : {u : ⊤} → i < length xs → Written holds faults finishes old between (numbered_from text 0 (take i xs))
+      → Writes {E = E} holds faults finishes between new (Ok u) (text i (get_or xs i d)) → Written holds faults finishes old new (numbered_from text 0 (take (i + 1) xs))
+  numbered_on within front here = written_as (sym (numbered_upto text xs i d within)) (written_on front here)

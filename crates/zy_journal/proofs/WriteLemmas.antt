@@ -1,10 +1,8 @@
 -- Texts that are written piece by piece.
-use Rattle.std.proofs.Common.{◌≡◌, ℕ, ◌≤◌, List, [], ◌∷◌, ◌++◌, refl, sym, ◌∙◌, ap, subst, append_assoc}
-use Rattle.std.specs.Prelude.{flat_map, ⊤, Option, Result, Ok, Err, IsErr}
+use Rattle.std.proofs.Common.{◌≡◌, ℕ, List, [], ◌∷◌, ◌++◌, refl, sym, ◌∙◌, ap, append_assoc}
+use Rattle.std.specs.Prelude.{flat_map}
 use Rattle.std.proofs.lemmas.List.{append-nil}
 use Rattle.std.proofs.lemmas.Grind.{flat_map-append}
-use Rattle.zy_base.specs.Outside.{Grew, Writes}
-use Rattle.zy_base.proofs.WritingLemmas.{grew_on, writes_on, writes_no_more}
 
 -- the pieces are these bytes
 pub text_3 : (x : ℕ) (a b c p q r : List ℕ) → a ≡ p → b ≡ q → c ≡ r → (x ∷ []) ++ (a ++ (b ++ (c ++ []))) ≡ x ∷ (p ++ (q ++ r))
@@ -22,32 +20,32 @@ numbers_5 a b c d e p q r s t one two three four five = rw (one, two, three, fou
 
 -- ---- what is taken one by one
 
--- of these things some were taken and written, and these are left
-pub record AreWritten {X : Type 0} (before after : Option (List ℕ)) (text : X → List ℕ) (all left : List X) : Type 0 where
+-- of these things some were taken, whose texts are this one, and these are left
+pub record AreTaken {X : Type 0} (text : X → List ℕ) (all left : List X) (bytes : List ℕ) : Type 0 where
   pub taken : List X
   pub split : all ≡ taken ++ left
-  pub grew : Grew before after (flat_map text taken)
+  pub text_is : bytes ≡ flat_map text taken
 
--- one thing more
-pub one_written : {X : Type 0} (before between after : Option (List ℕ)) (text : X → List ℕ) (all left rest : List X) (x : X) → AreWritten before between text all left → left ≡ x ∷ rest → Grew between after (text x) → AreWritten before after text all rest
-one_written before between after text all left rest x are is grew = record {
-  taken = are.taken ++ x ∷ [];
-  split = are.split ∙ ap (λ l. are.taken ++ l) is ∙ sym (append_assoc are.taken (x ∷ []) rest);
-  grew = subst (Grew before after) (sym (flat_map-append text are.taken (x ∷ []) ∙ ap (λ l. flat_map text are.taken ++ l) (append-nil (text x)))) (grew_on before between after (flat_map text are.taken) (text x) are.grew grew);
-}
+-- none was taken
+pub none_taken : {X : Type 0} (text : X → List ℕ) (all : List X) → AreTaken text all all []
+none_taken text all = record { taken = []; split = refl; text_is = refl }
 
-module _ {K E X : Type 0} (holds : K → Option (List ℕ)) (faults finishes : K → ℕ) (old between new : K) (text : X → List ℕ) (all left rest : List X) (x : X) where
-  -- the text of the next thing failed
-  pub next_failed : (e : E) → AreWritten (holds old) (holds between) text all left → left ≡ x ∷ rest → faults old ≤ faults between → finishes between ≡ finishes old
-      → Writes holds faults finishes between new (Err e) (text x) → Writes holds faults finishes old new (Err e) (flat_map text all)
-  next_failed e are is count same failed =
-      let whole : flat_map text all ≡ flat_map text are.taken ++ (text x ++ flat_map text rest) =
-      ap (flat_map text) (are.split ∙ ap (λ l. are.taken ++ l) is) ∙ flat_map-append text are.taken (x ∷ rest) in
-      subst (Writes holds faults finishes old new (Err e)) (sym whole)
-      (writes_on holds faults finishes old between new (Err e) (flat_map text are.taken) (text x ++ flat_map text rest) are.grew count same
-      (writes_no_more holds faults finishes between new e (text x) (flat_map text rest) failed))
+module _ {X : Type 0} {text : X → List ℕ} {all left rest : List X} {x : X} {bytes : List ℕ} where
+  -- one was taken
+  pub one_taken : AreTaken text all left bytes → left ≡ x ∷ rest → AreTaken text all rest (bytes ++ text x)
+  one_taken are is = record {
+    taken = are.taken ++ x ∷ [];
+    split = are.split ∙ ap (λ l. are.taken ++ l) is ∙ sym (append_assoc are.taken (x ∷ []) rest);
+    text_is = ap (λ l. l ++ text x) are.text_is ∙ sym (flat_map-append text are.taken (x ∷ []) ∙ ap (λ l. flat_map text are.taken ++ l) (append-nil (text x)));
+  }
 
--- a text whose writing failed, with whatever error it is answered
-pub failed_as : {K E : Type 0} (holds : K → Option (List ℕ)) (faults finishes : K → ℕ) (old new : K) (result : Result ⊤ E) (e : E) (text : List ℕ) → IsErr result → Writes holds faults finishes old new (Err e) text → Writes holds faults finishes old new result text
-failed_as holds faults finishes old new (Ok u) e text refused failed = absurd (cc)
-failed_as holds faults finishes old new (Err other) e text refused failed = record { whole = tt; part = failed.part; count = failed.count; cause = failed.cause; unfinished = failed.unfinished }
+  -- with one more and the rest, the texts are those of all
+  pub one_and_rest : AreTaken text all left bytes → left ≡ x ∷ rest → bytes ++ (text x ++ flat_map text rest) ≡ flat_map text all
+  one_and_rest are is =
+      ap (λ l. l ++ (text x ++ flat_map text rest)) are.text_is
+      ∙ sym (ap (flat_map text) (are.split ∙ ap (λ l. are.taken ++ l) is) ∙ flat_map-append text are.taken (x ∷ rest))
+
+-- where none is left, the texts are those of all
+pub all_taken : {X : Type 0} {text : X → List ℕ} {all left : List X} {bytes : List ℕ} → AreTaken text all left bytes → left ≡ [] → bytes ≡ flat_map text all
+all_taken {text = text} are is =
+    are.text_is ∙ ap (flat_map text) (sym (are.split ∙ ap (λ l. are.taken ++ l) is ∙ append-nil are.taken))

@@ -1,12 +1,10 @@
-use Rattle.std.proofs.Common.{◌≡◌, ◌≤◌, take}
+use Rattle.std.proofs.Common.{take}
 use Rattle.std.specs.Prelude.{flat_map}
-use Rattle.zy_base.specs.Outside.{Grew}
+use Rattle.zy_base.proofs.WritingLemmas.{Written}
 use Rattle.zy_base.proofs.writing.write_pieces.Given as goal
 
--- the pieces up to the place were taken
+-- the pieces up to the place were written
 abbrev pub invariant-loop-piece : goal.invariant-loop-piece
 invariant-loop-piece g l = record {
-  taken : Grew (g.K.Sink.holds l.initial.sink) (g.K.Sink.holds l.sink) (flat_map (λ piece. piece.now) (take l.piece-index l.pieces));
-  count : g.K.Sink.faults l.initial.sink ≤ g.K.Sink.faults l.sink;
-  unfinished : g.K.Sink.finishes l.sink ≡ g.K.Sink.finishes l.initial.sink;
+  written : Written g.K.Sink.holds g.K.Sink.faults g.K.Sink.finishes l.initial.sink l.sink (flat_map (λ piece. piece.now) (take l.piece-index l.pieces));
 }

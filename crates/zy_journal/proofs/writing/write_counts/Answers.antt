@@ -1,6 +1,6 @@
 use Rattle.std.proofs.Common.{ℕ, List, sym, ap, ◌∙◌, subst}
 use Rattle.std.specs.Int.{to_be_bytes, w64}
-use Rattle.zy_base.specs.Outside.{Writes}
+use Rattle.zy_base.proofs.WritingLemmas.{writes_as}
 use Rattle.zy_base.specs.declared.tallied.Tallied.{Tallied}
 use Rattle.zy_journal.specs.Journal.{counts_text, field_text}
 use Rattle.zy_journal.proofs.WriteLemmas.{numbers_5}
@@ -10,7 +10,7 @@ pub returns-in-Some : goal.returns-in-Some
 returns-in-Some g c =
     let counts : Tallied = c.in-Some.counts in
     record {
-      writes = subst (λ (l : List ℕ). Writes g.K.Sink.holds g.K.Sink.faults g.K.Sink.finishes c.args.sink.now c.write_pieces.new.sink c.write_pieces.result l)
+      writes = writes_as
           (numbers_5 c.to_be_bytes-gets.result c.to_be_bytes-sets.result c.to_be_bytes-hits.result c.to_be_bytes-misses.result c.to_be_bytes-items.result (to_be_bytes w64 counts.gets) (to_be_bytes w64 counts.sets) (to_be_bytes w64 counts.hits) (to_be_bytes w64 counts.misses) (to_be_bytes w64 counts.items) c.to_be_bytes-gets.ensures c.to_be_bytes-sets.ensures c.to_be_bytes-hits.ensures c.to_be_bytes-misses.ensures c.to_be_bytes-items.ensures
           ∙ sym (ap (field_text counts_text) c.in-Some.is))
           c.write_pieces.ensures.writes;

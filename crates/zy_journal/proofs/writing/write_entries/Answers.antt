@@ -1,23 +1,33 @@
-use Rattle.std.proofs.Common.{◌∙◌, arith, subst}
+use Rattle.std.proofs.Common.{[], ◌++◌, subst}
 use Rattle.std.specs.List.{AllByRecursion}
+use Rattle.zy_base.proofs.WritingLemmas.{written_none, written_on, writes_all, writes_after, writes_as, writes_cut}
 use Rattle.zy_journal.specs.Journal.{IsEntry, entry_text}
-use Rattle.zy_journal.proofs.WriteLemmas.{one_written, next_failed, failed_as}
+use Rattle.zy_journal.proofs.WriteLemmas.{none_taken, one_taken, one_and_rest, all_taken}
 use Rattle.zy_journal.proofs.writing.write_entries.Goals as goal
+
+pub loop-entry-init : goal.loop-entry-init
+loop-entry-init g c = record {
+  text = [];
+  written = written_none;
+  taken = none_taken entry_text c.args.entries;
+  fits = c.requires.fits;
+}
 
 pub returns-in_err-write_entry : goal.returns-in_err-write_entry
 returns-in_err-write_entry g c = record {
-  writes = failed_as g.K.Sink.holds g.K.Sink.faults g.K.Sink.finishes _ _ c.from_residual.result _ _ c.from_residual.ensures.0 (next_failed g.K.Sink.holds g.K.Sink.faults g.K.Sink.finishes c.args.sink.now c.loop-entry.sink c.write_entry.new.sink entry_text c.args.entries c.loop-entry.left c.next.new.self c.in-Some.entry.now
-      _ c.loop-entry.invariant.written c.in-Some.ensures.some c.loop-entry.invariant.count c.loop-entry.invariant.unfinished c.in_err-write_entry.ensures.writes);
+  writes = writes_as (one_and_rest c.loop-entry.invariant.taken c.in-Some.ensures.some)
+      (writes_after c.loop-entry.invariant.written (writes_cut _ c.from_residual.ensures.0 c.in_err-write_entry.ensures.writes));
 }
 
 pub loop-entry-preserved : goal.loop-entry-preserved
-loop-entry-preserved g c =
-    let before = c.loop-entry.invariant.count in
-    let more = c.write_entry.ensures.writes.count in
-    record {
-      written = one_written (g.K.Sink.holds c.args.sink.now) (g.K.Sink.holds c.loop-entry.sink) (g.K.Sink.holds c.write_entry.new.sink) entry_text c.args.entries c.loop-entry.left c.next.new.self c.in-Some.entry.now
-          c.loop-entry.invariant.written c.in-Some.ensures.some c.in_ok-write_entry.ensures.writes.whole;
-      count = omega (arith, before, more);
-      unfinished = c.write_entry.ensures.writes.unfinished ∙ c.loop-entry.invariant.unfinished;
-      fits = (subst (AllByRecursion IsEntry) c.in-Some.ensures.some c.loop-entry.invariant.fits).1;
-    }
+loop-entry-preserved g c = record {
+  text = c.loop-entry.invariant.text ++ entry_text c.in-Some.entry.now;
+  written = written_on c.loop-entry.invariant.written c.in_ok-write_entry.ensures.writes;
+  taken = one_taken c.loop-entry.invariant.taken c.in-Some.ensures.some;
+  fits = (subst (AllByRecursion IsEntry) c.in-Some.ensures.some c.loop-entry.invariant.fits).1;
+}
+
+pub returns : goal.returns
+returns g c = record {
+  writes = writes_as (all_taken c.loop-entry.invariant.taken c.in_default.ensures.none) (writes_all c.loop-entry.invariant.written);
+}

@@ -1,6 +1,6 @@
 use Rattle.std.proofs.Common.{ℕ, List, subst, ◌∙◌}
 use Rattle.std.specs.Int.{to_be_bytes, w32, w64}
-use Rattle.zy_base.specs.Outside.{Writes}
+use Rattle.zy_base.proofs.WritingLemmas.{writes_as}
 use Rattle.zy_journal.specs.Journal.{entry_head}
 use Rattle.zy_journal.proofs.WriteLemmas.{gathered_5}
 use Rattle.zy_journal.proofs.writing.write_head.Goals as goal
@@ -15,7 +15,7 @@ returns g c =
     c.new-head.ensures c.put.ensures.value c.put-2.ensures.value c.put-3.ensures.value c.put-4.ensures.value c.put-5.ensures.value c.put-6.ensures.value
     c.to_be_bytes.ensures c.to_be_bytes-2.ensures c.to_be_bytes-3.ensures c.to_be_bytes-4.ensures c.to_be_bytes-5.ensures in
     record {
-      writes = subst (λ (l : List ℕ). Writes g.K.Sink.holds g.K.Sink.faults g.K.Sink.finishes c.args.sink.now c.write_whole.new.sink c.write_whole.result l)
+      writes = writes_as
           (c.as_slice.ensures.value ∙ text)
           c.write_whole.ensures.writes;
     }

@@ -1,5 +1,5 @@
-use Rattle.std.proofs.Common.{◌≡◌, ◌-◌, ◌≤◌}
-use Rattle.zy_base.specs.Outside.{Grew}
+use Rattle.std.proofs.Common.{◌-◌, ◌≤◌}
+use Rattle.zy_base.proofs.WritingLemmas.{Written}
 use Rattle.zy_pcap.specs.Session.{longest_from}
 use Rattle.zy_pcap.specs.Chunk.{byte_held}
 use Rattle.zy_pcap.proofs.writing.write_run.Given as goal
@@ -8,9 +8,7 @@ use Rattle.zy_pcap.proofs.writing.write_run.Given as goal
 abbrev pub invariant-loop-done : goal.invariant-loop-done
 invariant-loop-done g l = record {
   within : l.done ≤ l.fn.size;
-  written : Grew (g.K.Sink.holds l.initial.sink) (g.K.Sink.holds l.sink) (longest_from (byte_held l.stream) l.at l.done);
-  count : g.K.Sink.faults l.initial.sink ≤ g.K.Sink.faults l.sink;
-  unfinished : g.K.Sink.finishes l.sink ≡ g.K.Sink.finishes l.initial.sink;
+  written : Written g.K.Sink.holds g.K.Sink.faults g.K.Sink.finishes l.initial.sink l.sink (longest_from (byte_held l.stream) l.at l.done);
 }
 
 abbrev pub decreases-loop-done : goal.decreases-loop-done

@@ -1,5 +1,5 @@
 use Rattle.std.proofs.Common.{◌≡◌, ℕ, List, ◌++◌, ◌-◌, ◌^◌, ◌≤◌}
-use Rattle.zy_base.specs.Outside.{Grew}
+use Rattle.zy_base.proofs.WritingLemmas.{Written}
 use Rattle.zy_pcap.specs.Session.{longest_from, longest}
 use Rattle.zy_pcap.specs.Chunk.{byte_held}
 use Rattle.zy_pcap.specs.Texts.{stream_text}
@@ -10,10 +10,8 @@ abbrev pub invariant-loop-at : goal.invariant-loop-at
 invariant-loop-at g l = record {
   within : l.at ≤ 2 ^ 31;
   text : List ℕ;
-  written : Grew (g.K.Sink.holds l.initial.sink) (g.K.Sink.holds l.sink) text;
+  written : Written g.K.Sink.holds g.K.Sink.faults g.K.Sink.finishes l.initial.sink l.sink text;
   left : text ++ stream_text l.fn.conn (longest_from (byte_held l.stream) l.at (2 ^ 31 - l.at)) ≡ stream_text l.fn.conn (longest (byte_held l.stream));
-  count : g.K.Sink.faults l.initial.sink ≤ g.K.Sink.faults l.sink;
-  unfinished : g.K.Sink.finishes l.sink ≡ g.K.Sink.finishes l.initial.sink;
 }
 
 abbrev pub decreases-loop-at : goal.decreases-loop-at
