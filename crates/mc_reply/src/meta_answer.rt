@@ -156,16 +156,12 @@ fn append_marked(
     let Some(more) = line.checked_add(code.len()) else {
         return Err(NoMemory);
     };
-    match out.reserve(more) {
-        Ok(mut reserved) => {
-            reserved.append(code);
-            put_marks(&mut reserved, key, found, letters);
-            reserved.append(LINE_END);
-            drop(mem::replace(out, reserved.into_blob()));
-            Ok(())
-        }
-        Err(e) => Err(e),
-    }
+    let mut reserved = out.reserve(more)?;
+    reserved.append(code);
+    put_marks(&mut reserved, key, found, letters);
+    reserved.append(LINE_END);
+    drop(mem::replace(out, reserved.into_blob()));
+    Ok(())
 }
 
 // Appends the size and the marks of an item as a line, and its value as another.
@@ -190,17 +186,13 @@ fn append_value(
     let Some(more) = lines.checked_add(7 + digits_of(found.bytes as u64)) else {
         return Err(NoMemory);
     };
-    match out.reserve(more) {
-        Ok(mut reserved) => {
-            reserved.append(b"VA ");
-            reserved.append_number(found.bytes as u64);
-            put_marks(&mut reserved, key, Some(found), letters);
-            reserved.append(LINE_END);
-            reserved.append(value);
-            reserved.append(LINE_END);
-            drop(mem::replace(out, reserved.into_blob()));
-            Ok(())
-        }
-        Err(e) => Err(e),
-    }
+    let mut reserved = out.reserve(more)?;
+    reserved.append(b"VA ");
+    reserved.append_number(found.bytes as u64);
+    put_marks(&mut reserved, key, Some(found), letters);
+    reserved.append(LINE_END);
+    reserved.append(value);
+    reserved.append(LINE_END);
+    drop(mem::replace(out, reserved.into_blob()));
+    Ok(())
 }

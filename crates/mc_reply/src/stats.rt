@@ -30,14 +30,10 @@ pub(crate) fn append_stats(out: &mut Blob, replies: &[CallReply]) -> Result<(), 
     ensures ok { OnOk result (out.new ≡ out.old ++ stats_text replies.now) }
     ensures err { OnErr result (out.new ≡ out.old) }
 {
-    match out.reserve(5 * LINE_ROOM + END.len()) {
-        Ok(mut reserved) => {
-            put_stats(&mut reserved, replies);
-            drop(mem::replace(out, reserved.into_blob()));
-            Ok(())
-        }
-        Err(e) => Err(e),
-    }
+    let mut reserved = out.reserve(5 * LINE_ROOM + END.len())?;
+    put_stats(&mut reserved, replies);
+    drop(mem::replace(out, reserved.into_blob()));
+    Ok(())
 }
 
 // Appends the lines, for which there is room.

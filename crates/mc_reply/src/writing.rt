@@ -51,9 +51,7 @@ fn append_number(out: &mut Blob, number: u64) -> Result<(), NoMemory>
     ensures err { OnErr result (out.new ≡ out.old) }
 {
     let length = out.bytes().len();
-    if let Err(e) = number_text(out, number) {
-        return Err(e);
-    }
+    number_text(out, number)?;
     match out.append(LINE_END) {
         Ok(()) => Ok(()),
         Err(e) => {
@@ -81,15 +79,11 @@ fn append_items(
     let Some(more) = items.checked_add(END.len()) else {
         return Err(NoMemory);
     };
-    match out.reserve(more) {
-        Ok(mut reserved) => {
-            put_items(&mut reserved, asked, keys, replies);
-            reserved.append(END);
-            drop(mem::replace(out, reserved.into_blob()));
-            Ok(())
-        }
-        Err(e) => Err(e),
-    }
+    let mut reserved = out.reserve(more)?;
+    put_items(&mut reserved, asked, keys, replies);
+    reserved.append(END);
+    drop(mem::replace(out, reserved.into_blob()));
+    Ok(())
 }
 
 // Appends the items that were found.

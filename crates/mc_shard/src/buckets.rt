@@ -104,13 +104,9 @@ fn make_buckets(buckets: &mut Vec<Bucket>) -> Result<(), NoMemory>
     if !buckets.is_empty() {
         return Ok(());
     }
-    match new_buckets(*buckets.allocator()) {
-        Ok(made) => {
-            drop(mem::replace(buckets, made));
-            Ok(())
-        }
-        Err(e) => Err(e),
-    }
+    let made = new_buckets(*buckets.allocator())?;
+    drop(mem::replace(buckets, made));
+    Ok(())
 }
 
 // Buckets without an item.

@@ -179,15 +179,11 @@ impl Contents {
         }) }
         ensures err { OnErr result (self.new ≡ self.old) }
     {
-        match self.items.insert(key, item) {
-            Ok(before) => {
-                count_put(&mut self.counts, before.is_some());
-                drop(before);
-                self.count += 1;
-                Ok(())
-            }
-            Err(e) => Err(e),
-        }
+        let before = self.items.insert(key, item)?;
+        count_put(&mut self.counts, before.is_some());
+        drop(before);
+        self.count += 1;
+        Ok(())
     }
 
     // Removes the item of the key.

@@ -34,10 +34,7 @@ impl Hashed {
         ensures value { IfOk result (λ key. key ≡ key_of call.now) }
     {
         match call.key() {
-            Some(key) => match Hashed::copy_of(key) {
-                Ok(key) => Ok(Some(key)),
-                Err(refused) => Err(refused),
-            },
+            Some(key) => Ok(Some(Hashed::copy_of(key)?)),
             None => Ok(None),
         }
     }
@@ -54,13 +51,9 @@ impl Hashed {
     fn copy_of(key: &Blob) -> Result<Hashed, NoMemory>
         ensures value { IfOk result (λ hashed. hashed ≡ key.now) }
     {
-        match key.copy() {
-            Ok(key) => {
-                let hash = hash_of(key.bytes());
-                Ok(Hashed { hash, key })
-            }
-            Err(refused) => Err(refused),
-        }
+        let key = key.copy()?;
+        let hash = hash_of(key.bytes());
+        Ok(Hashed { hash, key })
     }
 }
 

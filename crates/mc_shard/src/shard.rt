@@ -230,10 +230,8 @@ fn shared(call: &mut Call) -> Result<Option<Hashed>, NoMemory>
     ensures call { call.new ≡ call.old }
     ensures key { IfOk result (λ key. key ≡ key_of call.old) }
 {
-    match call.share() {
-        Ok(()) => Hashed::of_call(call),
-        Err(refused) => Err(refused),
-    }
+    call.share()?;
+    Hashed::of_call(call)
 }
 
 // Lets the copies of a call share its bytes, and gives one.
@@ -241,8 +239,6 @@ fn shared_copy(call: &mut Call) -> Result<Call, NoMemory>
     ensures call { call.new ≡ call.old }
     ensures copy { IfOk result (λ copy. copy ≡ call.old) }
 {
-    match call.share() {
-        Ok(()) => call.copy(),
-        Err(refused) => Err(refused),
-    }
+    call.share()?;
+    call.copy()
 }

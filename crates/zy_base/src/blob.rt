@@ -51,10 +51,8 @@ impl Blob {
     pub fn copy_of(alloc: Global, bytes: &[u8]) -> Result<Blob, NoMemory>
         ensures value { IfOk result (λ copy. copy ≡ bytes.now) }
     {
-        match copied(alloc, bytes) {
-            Ok(storage) => Ok(Blob { alloc, storage }),
-            Err(refused) => Err(refused),
-        }
+        let storage = copied(alloc, bytes)?;
+        Ok(Blob { alloc, storage })
     }
 
     /// The bytes of a vector, which is moved and not copied. Takes no memory.
@@ -81,13 +79,11 @@ impl Blob {
     pub fn copy(&self) -> Result<Blob, NoMemory>
         ensures value { IfOk result (λ copy. copy ≡ self.now) }
     {
-        match self.storage.copy(self.alloc) {
-            Ok(storage) => Ok(Blob {
-                alloc: self.alloc,
-                storage,
-            }),
-            Err(refused) => Err(refused),
-        }
+        let storage = self.storage.copy(self.alloc)?;
+        Ok(Blob {
+            alloc: self.alloc,
+            storage,
+        })
     }
 
     /// Lets copies share the bytes from now on.
@@ -145,13 +141,9 @@ impl Blob {
         ensures ok { OnOk result (self.new ≡ self.old ++ bytes.now) }
         ensures err { OnErr result (self.new ≡ self.old) }
     {
-        match joined(self.alloc, self.storage.bytes(), bytes) {
-            Ok(storage) => {
-                self.put(storage);
-                Ok(())
-            }
-            Err(refused) => Err(refused),
-        }
+        let storage = joined(self.alloc, self.storage.bytes(), bytes)?;
+        self.put(storage);
+        Ok(())
     }
 
     /// Cuts the end off, so that at most `len` bytes are left. Takes no memory.
@@ -204,13 +196,9 @@ impl Blob {
     fn make_room_in_vector(&mut self, more: usize) -> Result<(), NoMemory>
         ensures value { self.new ≡ self.old }
     {
-        match self.reserve(more) {
-            Ok(reserved) => {
-                self.put(Storage::Own(reserved.bytes));
-                Ok(())
-            }
-            Err(refused) => Err(refused),
-        }
+        let reserved = self.reserve(more)?;
+        self.put(Storage::Own(reserved.bytes));
+        Ok(())
     }
 
     // Replaces the bytes, and lets the former ones go.

@@ -230,10 +230,8 @@ fn share_both(key: &mut Blob, value: &mut Blob) -> Result<(), NoMemory>
     ensures key { key.new ≡ key.old }
     ensures value { value.new ≡ value.old }
 {
-    match key.share() {
-        Ok(()) => value.share(),
-        Err(refused) => Err(refused),
-    }
+    key.share()?;
+    value.share()
 }
 
 // A copy of a key and of a value.

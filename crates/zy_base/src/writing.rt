@@ -10,10 +10,7 @@ pub fn write_whole<K: Sink>(sink: &mut K, piece: &[u8]) -> Result<(), Failed>
 {
     let mut at = 0;
     while at < piece.len() {
-        match sink.write(&piece[at..]) {
-            Ok(taken) => at += taken,
-            Err(failed) => return Err(failed),
-        }
+        at += sink.write(&piece[at..])?;
     }
     Ok(())
 }
@@ -24,9 +21,7 @@ pub fn write_pieces<K: Sink>(sink: &mut K, pieces: &[&[u8]]) -> Result<(), Faile
         (flat_map (λ piece. piece.now) pieces.now) }
 {
     for piece in pieces {
-        if let Err(failed) = write_whole(sink, *piece) {
-            return Err(failed);
-        }
+        write_whole(sink, *piece)?;
     }
     Ok(())
 }

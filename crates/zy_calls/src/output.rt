@@ -65,13 +65,9 @@ impl Output {
         ensures batch { OnOk result (batch.new ≡ no_text batch.old.finished) }
         ensures err { OnErr result ((self.new ≡ self.old) × (batch.new ≡ batch.old)) }
     {
-        match self.texts.take_all(&mut batch.texts) {
-            Ok(()) => {
-                self.finished = batch.finished;
-                Ok(())
-            }
-            Err(e) => Err(e),
-        }
+        self.texts.take_all(&mut batch.texts)?;
+        self.finished = batch.finished;
+        Ok(())
     }
 
     /// The connection.

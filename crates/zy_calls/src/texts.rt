@@ -57,9 +57,7 @@ impl Texts {
         if self.ends.reserve(1).is_err() {
             return Err(NoMemory);
         }
-        if let Err(e) = self.bytes.append(text) {
-            return Err(e);
-        }
+        self.bytes.append(text)?;
         self.ends.push_reserved(self.bytes.bytes().len());
         Ok(())
     }
@@ -73,9 +71,7 @@ impl Texts {
         if self.ends.reserve(1).is_err() {
             return Err(NoMemory);
         }
-        if let Err(e) = writer.write(&mut self.bytes) {
-            return Err(e);
-        }
+        writer.write(&mut self.bytes)?;
         self.ends.push_reserved(self.bytes.bytes().len());
         Ok(())
     }
@@ -111,13 +107,9 @@ impl Texts {
             drop(mem::replace(self, mem::replace(other, none)));
             return Ok(());
         }
-        match self.append_copy(other) {
-            Ok(()) => {
-                other.clear();
-                Ok(())
-            }
-            Err(e) => Err(e),
-        }
+        self.append_copy(other)?;
+        other.clear();
+        Ok(())
     }
 
     // Appends copies of the texts of another list.
@@ -132,9 +124,7 @@ impl Texts {
         if start.checked_add(other.bytes.bytes().len()).is_none() {
             return Err(NoMemory);
         }
-        if let Err(e) = self.bytes.append(other.bytes.bytes()) {
-            return Err(e);
-        }
+        self.bytes.append(other.bytes.bytes())?;
         append_further(&mut self.ends, start, other.ends.as_slice());
         Ok(())
     }

@@ -28,9 +28,7 @@ impl Frame {
     pub fn copy(&self) -> Result<Frame, NoMemory>
         ensures value { IfOk result (λ copy. copy ≡ self.now) }
     {
-        match self.kind.copy() {
-            Ok(kind) => Ok(Frame { kind }),
-            Err(e) => Err(e),
-        }
+        let kind = self.kind.copy()?;
+        Ok(Frame { kind })
     }
 }

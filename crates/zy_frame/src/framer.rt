@@ -77,10 +77,7 @@ impl Framer {
         }
         let mut at = 0;
         while at < piece.len() {
-            match self.advance(&piece[at..], frames) {
-                Ok(taken) => at += taken,
-                Err(e) => return Err(e),
-            }
+            at += self.advance(&piece[at..], frames)?;
         }
         Ok(())
     }

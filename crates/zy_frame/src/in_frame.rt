@@ -73,9 +73,7 @@ pub(crate) fn grow_block(block: &mut Blob, left: usize, bytes: &[u8]) -> Result<
     ensures err { OnErr result (block.new ≡ block.old) }
 {
     if block.bytes().is_empty() {
-        if let Err(e) = block.make_room(left.min(BLOCK_ROOM)) {
-            return Err(e);
-        }
+        block.make_room(left.min(BLOCK_ROOM))?;
     }
     block.append(bytes)
 }

@@ -13,12 +13,8 @@ use zy_journal::Journal;
 pub fn report(alloc: Global, journal: &Journal) -> Result<Blob, NoMemory>
     ensures value { IfOk result (λ text. text ≡ report_of journal.now.entries) }
 {
-    match counts_by_shard(alloc, journal) {
-        Ok(counts) => {
-            let text = table(alloc, counts.as_slice());
-            drop(counts);
-            text
-        }
-        Err(refused) => Err(refused),
-    }
+    let counts = counts_by_shard(alloc, journal)?;
+    let text = table(alloc, counts.as_slice());
+    drop(counts);
+    text
 }

@@ -13,14 +13,10 @@ use zy_journal::{Journal, Walk};
 pub(crate) fn counts_by_shard(alloc: Global, journal: &Journal) -> Result<Vec<Tallied>, NoMemory>
     ensures value { IfOk result (λ counts. counts.items ≡ counts_by_shard journal.now.entries) }
 {
-    match tallies_of(alloc, journal) {
-        Ok(tallies) => {
-            let counts = counts_of(alloc, tallies.as_slice());
-            drop(tallies);
-            counts
-        }
-        Err(refused) => Err(refused),
-    }
+    let tallies = tallies_of(alloc, journal)?;
+    let counts = counts_of(alloc, tallies.as_slice());
+    drop(tallies);
+    counts
 }
 
 // The tallies of all shards.
@@ -53,9 +49,7 @@ fn add_all<'j>(
 {
     let mut left = entries;
     while let Some(entry) = left.next() {
-        if let Err(refused) = add(alloc, tallies, entry) {
-            return Err(refused);
-        }
+        add(alloc, tallies, entry)?;
     }
     Ok(())
 }
@@ -67,9 +61,7 @@ fn add<'j>(alloc: Global, tallies: &mut Vec<Tally<'j>>, entry: &'j Entry) -> Res
         → CountsAll tallies.new.items (es ++ entry.now ∷ [])) }
 {
     let shard = entry.shard as usize;
-    if let Err(refused) = make_up_to(alloc, tallies, shard) {
-        return Err(refused);
-    }
+    make_up_to(alloc, tallies, shard)?;
     tallies[shard].add(entry)
 }
 

@@ -22,9 +22,7 @@ pub(crate) fn write_line<K: Sink>(sink: &mut K, pieces: &[Piece]) -> Result<(), 
     ensures writes { Writes K.holds K.faults K.finishes sink.old sink.new result (flat_map piece_text pieces.now) }
 {
     for piece in pieces {
-        if let Err(failed) = write_piece(sink, *piece) {
-            return Err(failed);
-        }
+        write_piece(sink, *piece)?;
     }
     Ok(())
 }

@@ -48,15 +48,11 @@ fn make_report<S: Source>(alloc: Global, source: &mut S) -> Result<Blob, Stop>
     ensures ends { ReportsTo (side S.rest S.faults source.old source.new) result }
 {
     a_journal_is_good_exactly_where_it_is_a_spelling();
-    match read_journal(alloc, source) {
-        Ok(journal) => {
-            let made = report(alloc, &journal);
-            drop(journal);
-            match made {
-                Ok(table) => Ok(table),
-                Err(NoMemory) => Err(Stop::NoMemory),
-            }
-        }
-        Err(stop) => Err(stop),
+    let journal = read_journal(alloc, source)?;
+    let made = report(alloc, &journal);
+    drop(journal);
+    match made {
+        Ok(table) => Ok(table),
+        Err(NoMemory) => Err(Stop::NoMemory),
     }
 }

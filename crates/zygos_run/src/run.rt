@@ -61,10 +61,8 @@ fn write_all<K: Sink>(sink: &mut K, out: Out, done: &Finished) -> Result<(), Fai
     ensures writes { WritesLast K.holds K.faults K.finishes K.is_finished sink.old sink.new result
         (written out done.now.journal done.now.outputs) }
 {
-    match write_front(sink, out, &done.journal) {
-        Ok(()) => write_back(sink, &done.outputs),
-        Err(failed) => Err(failed),
-    }
+    write_front(sink, out, &done.journal)?;
+    write_back(sink, &done.outputs)
 }
 
 // Writes the replies, and finishes.

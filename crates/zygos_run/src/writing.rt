@@ -22,8 +22,6 @@ pub(crate) fn finish_written<K: Sink>(
         → Writes K.holds K.faults K.finishes first sink.old written text
         → WritesLast K.holds K.faults K.finishes K.is_finished first sink.new result text }
 {
-    match written {
-        Ok(()) => sink.finish(),
-        Err(failed) => Err(failed),
-    }
+    written?;
+    sink.finish()
 }

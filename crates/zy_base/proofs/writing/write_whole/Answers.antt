@@ -5,10 +5,10 @@ use Rattle.zy_base.proofs.writing.write_whole.Goals as goal
 
 pub loop-at-preserved : goal.loop-at-preserved
 loop-at-preserved g c = record {
-  within = grind (arith, common_steps, c.in-Ok.ensures.bound);
+  within = grind (arith, common_steps, c.in_ok-at.ensures.bound);
   written = record {
-    grew = grew_piece (g.K.Sink.holds c.args.sink.now) (g.K.Sink.holds c.loop-at.sink) (g.K.Sink.holds c.write.new.self) c.args.piece.now c.loop-at.at c.in-Ok.taken c.loop-at.invariant.written.grew c.in-Ok.ensures.bytes;
-    count = omega (arith, c.loop-at.invariant.written.count, c.in-Ok.ensures.count);
-    unfinished = c.in-Ok.ensures.unfinished ∙ c.loop-at.invariant.written.unfinished;
+    grew = grew_piece (g.K.Sink.holds c.args.sink.now) (g.K.Sink.holds c.loop-at.sink) (g.K.Sink.holds c.write.new.self) c.args.piece.now c.loop-at.at c.in_ok-at.field-0 c.loop-at.invariant.written.grew c.in_ok-at.ensures.bytes;
+    count = omega (arith, c.loop-at.invariant.written.count, c.in_ok-at.ensures.count);
+    unfinished = c.in_ok-at.ensures.unfinished ∙ c.loop-at.invariant.written.unfinished;
   };
 }

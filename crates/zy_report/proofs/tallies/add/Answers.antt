@@ -7,7 +7,7 @@ use Rattle.zy_report.proofs.tallies.add.Goals as goal
 
 pub returns : goal.returns
 returns c =
-    let size = c.in_default.ensures.size in
+    let size = c.in_ok-make_up_to.ensures.size in
     let within : c.args.entry.now.shard < length c.make_up_to.new.tallies.items = omega (arith, size) in
     let here = c.index_mut.ensures.value ∙ get_or_default c.make_up_to.new.tallies.items c.args.entry.now.shard _ none_kept within in
     record {

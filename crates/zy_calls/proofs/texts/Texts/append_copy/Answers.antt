@@ -14,7 +14,7 @@ invariant_of-self-2 c =
     let start = ap length c.bytes-start.ensures.value in
     (joined_as c.self.inside.bytes c.other.inside.bytes c.self.inside.ends.items c.other.inside.ends.items c.append.new.self c.append_further.new.ends.items
     c.self.invariant c.other.invariant
-    (c.in_default.ensures.ok ∙ ap (λ (bytes : List ℕ). c.self.inside.bytes ++ bytes) c.bytes-2.ensures.value)
+    (c.in_ok-append.ensures.ok ∙ ap (λ (bytes : List ℕ). c.self.inside.bytes ++ bytes) c.bytes-2.ensures.value)
     (c.append_further.ensures.value ∙ rw (c.reserve.ensures.items, start, c.as_slice.ensures.value) refl)).rise
 
 pub returns-clause-ok : goal.returns-clause-ok
@@ -22,6 +22,6 @@ returns-clause-ok c =
     let start = ap length c.bytes-start.ensures.value in
     (joined_as c.self.inside.bytes c.other.inside.bytes c.self.inside.ends.items c.other.inside.ends.items c.append.new.self c.append_further.new.ends.items
     c.self.invariant c.other.invariant
-    (c.in_default.ensures.ok ∙ ap (λ (bytes : List ℕ). c.self.inside.bytes ++ bytes) c.bytes-2.ensures.value)
+    (c.in_ok-append.ensures.ok ∙ ap (λ (bytes : List ℕ). c.self.inside.bytes ++ bytes) c.bytes-2.ensures.value)
     (c.append_further.ensures.value ∙ rw (c.reserve.ensures.items, start, c.as_slice.ensures.value) refl)).texts_are
     ∙ rw (c.self.view_is, c.other.view_is) refl

@@ -5,10 +5,10 @@ use Rattle.zy_calls.proofs.texts.Texts.push.Goals as goal
 pub invariant_of-self-2 : goal.invariant_of-self-2
 invariant_of-self-2 c =
     (pushed_as c.self.inside.bytes c.args.text.now c.self.inside.ends.items c.append.new.self c.push_reserved.new.self.items _ c.self.invariant
-    c.in_default.ensures.ok (c.push_reserved.ensures.items ∙ ap (λ (ends : List ℕ). ends ++ length c.bytes.result.now ∷ []) c.reserve.ensures.items) (ap length c.bytes.ensures.value)).rise
+    c.in_ok-append.ensures.ok (c.push_reserved.ensures.items ∙ ap (λ (ends : List ℕ). ends ++ length c.bytes.result.now ∷ []) c.reserve.ensures.items) (ap length c.bytes.ensures.value)).rise
 
 pub returns-clause-ok : goal.returns-clause-ok
 returns-clause-ok c =
     (pushed_as c.self.inside.bytes c.args.text.now c.self.inside.ends.items c.append.new.self c.push_reserved.new.self.items _ c.self.invariant
-    c.in_default.ensures.ok (c.push_reserved.ensures.items ∙ ap (λ (ends : List ℕ). ends ++ length c.bytes.result.now ∷ []) c.reserve.ensures.items) (ap length c.bytes.ensures.value)).texts_are
+    c.in_ok-append.ensures.ok (c.push_reserved.ensures.items ∙ ap (λ (ends : List ℕ). ends ++ length c.bytes.result.now ∷ []) c.reserve.ensures.items) (ap length c.bytes.ensures.value)).texts_are
     ∙ ap (λ (texts : List (List ℕ)). texts ++ c.args.text.now ∷ []) c.self.view_is
