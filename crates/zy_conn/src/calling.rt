@@ -34,10 +34,8 @@ pub(crate) fn next_call(
         replies.old.items pass.old replies.new.items pass.new)
         (λ _. (pass.new.calls ≡ pass.old.calls) × (replies.new.items ≡ replies.old.items)) }
 {
-    let next = match call_at(command, replies.len(), store.shards()) {
-        Ok(Some(next)) => next,
-        Ok(None) => return Ok(Made::Done),
-        Err(e) => return Err(e),
+    let Some(next) = call_at(command, replies.len(), store.shards())? else {
+        return Ok(Made::Done);
     };
     if pass.count() >= COMMAND_LIMIT {
         drop(next);

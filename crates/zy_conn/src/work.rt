@@ -145,13 +145,9 @@ impl Work {
         ensures texts { OnOk result (texts_taken self.new ≡ texts_taken self.old ++ self.old.batch) }
         ensures err { OnErr result ((self.new ≡ self.old) × (output.new ≡ output.old)) }
     {
-        match output.take_texts(&mut self.batch) {
-            Ok(()) => {
-                self.shown = self.batch.finished();
-                Ok(())
-            }
-            Err(e) => Err(e),
-        }
+        output.take_texts(&mut self.batch)?;
+        self.shown = self.batch.finished();
+        Ok(())
     }
 
     /// The pass, with what the work has kept.

@@ -97,10 +97,8 @@ impl Core {
         ensures still { is_settled self.old.home ≡ true → is_settled self.new.home ≡ true }
     {
         let mut looks = Looks::new();
-        match self.turn_over(shared, gate, &mut looks) {
-            Ok(came) => Ok(came.with(looks)),
-            Err(e) => Err(e),
-        }
+        let came = self.turn_over(shared, gate, &mut looks)?;
+        Ok(came.with(looks))
     }
 
     /// A turn over a table of looks that the caller owns: its looks at the other cores are noted over

@@ -72,10 +72,7 @@ impl Intake {
     fn new(alloc: Global) -> Result<Intake, NoMemory>
         ensures ok { IfOk result (λ intake. IsUnread intake) }
     {
-        let pieces = match Pieces::new(alloc) {
-            Ok(pieces) => pieces,
-            Err(NoMemory) => return Err(NoMemory),
-        };
+        let pieces = Pieces::new(alloc)?;
         Ok(Intake {
             reader: Reader::new(alloc),
             pieces,
@@ -95,11 +92,10 @@ impl Intake {
             if let Some(header) = self.header() {
                 return Ok(header);
             }
-            match self.advance(source, 1) {
-                Ok(Came::Nothing) => {}
-                Ok(Came::Record(_)) => unreachable!(),
-                Ok(Came::End) => unreachable!(),
-                Err(stop) => return Err(stop),
+            match self.advance(source, 1)? {
+                Came::Nothing => {}
+                Came::Record(_) => unreachable!(),
+                Came::End => unreachable!(),
             }
         }
         // No capture has this many bytes.
@@ -131,11 +127,10 @@ impl Intake {
         ensures count { S.faults source.old ≤ S.faults source.new }
     {
         for _ in 0..u64::MAX {
-            match self.advance(source, usize::MAX) {
-                Ok(Came::Nothing) => {}
-                Ok(Came::Record(record)) => return Ok(Some(record)),
-                Ok(Came::End) => return Ok(None),
-                Err(stop) => return Err(stop),
+            match self.advance(source, usize::MAX)? {
+                Came::Nothing => {}
+                Came::Record(record) => return Ok(Some(record)),
+                Came::End => return Ok(None),
             }
         }
         // No capture has this many bytes.

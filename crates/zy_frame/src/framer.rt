@@ -77,7 +77,10 @@ impl Framer {
         }
         let mut at = 0;
         while at < piece.len() {
-            at += self.advance(&piece[at..], frames)?;
+            match self.advance(&piece[at..], frames) {
+                Ok(taken) => at += taken,
+                Err(e) => return Err(e),
+            }
         }
         Ok(())
     }

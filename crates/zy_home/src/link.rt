@@ -103,9 +103,7 @@ impl Link {
         ensures kept { (self.new.inlet ≡ self.old.inlet) × (self.new.output ≡ self.old.output) }
     {
         let before = self.waiting.len();
-        if let Err(e) = self.framer.feed(bytes, &mut self.waiting) {
-            return Err(e);
-        }
+        self.framer.feed(bytes, &mut self.waiting)?;
         let given = self.waiting.len().saturating_sub(before) as u64;
         match self.cut.checked_add(given) {
             Some(cut) => self.cut = cut,
@@ -153,9 +151,7 @@ impl Link {
         ensures same { SameLink self.old self.new }
         ensures label { label_in block.new ≡ label_in block.old }
     {
-        if let Err(e) = block.send_to(&mut self.output) {
-            return Err(e);
-        }
+        block.send_to(&mut self.output)?;
         block.meet(&mut self.inlet);
         self.offer_waiting();
         block.meet(&mut self.inlet);

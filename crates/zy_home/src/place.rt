@@ -118,9 +118,7 @@ pub(crate) fn feed_at(
     ensures takes { OnOk result (TakesIn item.now link.old link.new) }
     ensures conn { conn_of link.new ≡ conn_of link.old }
 {
-    if let Err(e) = link.receive(item) {
-        return Err(e);
-    }
+    link.receive(item)?;
     match mem::replace(slot, None) {
         Some(block) => settle_at::<WasIdle>(ring, pass, slot, link, place, block),
         None => {
@@ -140,9 +138,7 @@ pub(crate) fn cut_at(slot: &Option<Block>, link: &mut Link, item: &Rx) -> Result
     ensures due { due_mark link.new ≡ due_mark link.old }
 {
     let waits = link.is_waiting();
-    if let Err(e) = link.receive(item) {
-        return Err(e);
-    }
+    link.receive(item)?;
     if slot.is_none() {
         link.offer_waiting();
         return Ok(false);

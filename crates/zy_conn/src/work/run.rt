@@ -20,11 +20,10 @@ impl Work {
         ensures made { IfOk result (λ stop. MatchOption stop (IsAllMade self.new.begun) (StopsBy self.old self.new)) }
     {
         loop {
-            match self.call(store) {
-                Ok(Made::Call) => {}
-                Ok(Made::Done) => return Ok(None),
-                Ok(Made::Stopped(end)) => return Ok(Some(end)),
-                Err(e) => return Err(e),
+            match self.call(store)? {
+                Made::Call => {}
+                Made::Done => return Ok(None),
+                Made::Stopped(end) => return Ok(Some(end)),
             }
         }
     }
@@ -43,19 +42,13 @@ impl Work {
             (λ end. (self.new.finished ≡ self.old.finished) × StopsBy self.old self.new end)) }
         ensures err { OnErr result (self.new.finished ≡ self.old.finished) }
     {
-        match self.begin(store.shards(), gate, core) {
-            Ok(None) => {}
-            Ok(Some(stop)) => return Ok(Some(stop)),
-            Err(e) => return Err(e),
+        if let Some(stop) = self.begin(store.shards(), gate, core)? {
+            return Ok(Some(stop));
         }
-        match self.make_calls(store) {
-            Ok(None) => {}
-            Ok(Some(stop)) => return Ok(Some(stop)),
-            Err(e) => return Err(e),
+        if let Some(stop) = self.make_calls(store)? {
+            return Ok(Some(stop));
         }
-        match self.finish() {
-            Ok(()) => Ok(None),
-            Err(e) => Err(e),
-        }
+        self.finish()?;
+        Ok(None)
     }
 }

@@ -36,10 +36,8 @@ impl Work {
         match &self.begun {
             Begun::Nothing => {}
             Begun::Raw(_) => {
-                return match self.read_again(shards) {
-                    Ok(()) => Ok(None),
-                    Err(e) => Err(e),
-                };
+                self.read_again(shards)?;
+                return Ok(None);
             }
             Begun::Going(_) => return Ok(None),
         }
@@ -53,10 +51,8 @@ impl Work {
         gate.pass(core, self.pass.conn(), index);
         let frame = self.frames.take_known();
         self.replies.clear();
-        match self.begun.read(self.alloc, frame) {
-            Ok(()) => Ok(None),
-            Err(e) => Err(e),
-        }
+        self.begun.read(self.alloc, frame)?;
+        Ok(None)
     }
 
     // Reads the command of the frame that is begun, for which there was no memory before.
@@ -115,16 +111,12 @@ impl Work {
         let replies = Replies::from_vec(mem::replace(&mut self.replies, Vec::new(self.alloc)));
         let sent = send(&mut self.batch, command, &replies);
         self.replies = replies.into_vec();
-        match sent {
-            Ok(()) => {
-                self.begun.put(Begun::Nothing);
-                self.replies.clear();
-                let finished = self.batch.finished();
-                self.batch.set_finished(finished + 1);
-                Ok(())
-            }
-            Err(e) => Err(e),
-        }
+        sent?;
+        self.begun.put(Begun::Nothing);
+        self.replies.clear();
+        let finished = self.batch.finished();
+        self.batch.set_finished(finished + 1);
+        Ok(())
     }
 }
 

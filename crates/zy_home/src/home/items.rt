@@ -73,18 +73,14 @@ impl Home {
     {
         let cut = self.cut_in(&first, touched);
         drop(first);
-        if let Err(e) = cut {
-            return Err(e);
-        }
+        cut?;
         for count in 1..ITEMS_AT_ONCE {
             let Some(item) = outlet.take() else {
                 return Ok(count);
             };
             let cut = self.cut_in(&item, touched);
             drop(item);
-            if let Err(e) = cut {
-                return Err(e);
-            }
+            cut?;
         }
         Ok(ITEMS_AT_ONCE)
     }
@@ -119,13 +115,8 @@ impl Home {
         ensures err { OnErr result (SameHand self.old self.new) }
         ensures same { SameFor 0 self.old self.new × (self.new.refused ≡ true) }
     {
-        match cut_at(&self.blocks[at], &mut self.links[at], item) {
-            Ok(true) => {}
-            Ok(false) => return Ok(()),
-            Err(e) => return Err(e),
-        }
-        if let Err(e) = touched.push(at) {
-            return Err(e);
+        if cut_at(&self.blocks[at], &mut self.links[at], item)? {
+            touched.push(at)?;
         }
         Ok(())
     }
@@ -143,9 +134,7 @@ impl Home {
         ensures same { SameFor 64 self.old self.new × (self.new.refused ≡ true) }
     {
         for at in 0..touched.items().len() {
-            if let Err(e) = self.settle_touched(ring, touched, at) {
-                return Err(e);
-            }
+            self.settle_touched(ring, touched, at)?;
         }
         Ok(())
     }
@@ -177,9 +166,7 @@ impl Home {
         let Some(block) = mem::replace(slot, None) else {
             return Ok(());
         };
-        if let Err(e) = settle_at::<WasIdle>(ring, pass, slot, link, place as u32, block) {
-            return Err(e);
-        }
+        settle_at::<WasIdle>(ring, pass, slot, link, place as u32, block)?;
         Ok(())
     }
 }

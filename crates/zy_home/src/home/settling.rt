@@ -59,10 +59,8 @@ impl Home {
         let Some((place, block)) = ring.collect(&mut self.pass) else {
             return Ok(false);
         };
-        match self.settle(ring, place, block) {
-            Ok(()) => Ok(true),
-            Err(e) => Err(e),
-        }
+        self.settle(ring, place, block)?;
+        Ok(true)
     }
 
     /// Claims once from the home's own queue. A block that was taken is held by the home's core, and
@@ -89,10 +87,10 @@ impl Home {
         let _places = ring.places();
         match ring.claim_home(&mut self.pass) {
             Claim::Took { place, mut block } => match block.hold(store, gate, self.core) {
-                Ok(held) => match self.settle(ring, place, block) {
-                    Ok(()) => Ok(Own::Took { held }),
-                    Err(e) => Err(e),
-                },
+                Ok(held) => {
+                    self.settle(ring, place, block)?;
+                    Ok(Own::Took { held })
+                }
                 Err(e) => {
                     put(&mut self.blocks[place as usize], Some(block));
                     self.refused = true;

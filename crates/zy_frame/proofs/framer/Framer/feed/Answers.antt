@@ -17,16 +17,16 @@ returns-in-Quit-clause-due c =
 pub returns-in-Refused-clause-first : goal.returns-in-Refused-clause-first
 returns-in-Refused-clause-first c = λ fed stands. appends_none c.args.self.now c.args.frames.now fed c.args.piece.now stands
 
-pub returns-in_err-at : goal.returns-in_err-at
-returns-in_err-at c = record {
+pub returns-in-Err : goal.returns-in-Err
+returns-in-Err c = record {
   fed = tt;
   due = tt;
   quit = λ is. absurd (c.in_default.not-Quit (quit_state c.self.inside.state (c.self.view_is ∙ is)));
   lasts = λ is. absurd (c.in_default.not-Quit (quit_state c.self.inside.state (c.self.view_is ∙ is)));
   none = λ is. absurd (c.in_default.not-Quit (quit_state c.self.inside.state (c.self.view_is ∙ is)));
-  first = λ fed stands. subst (AppendsFirst fed c.args.piece.now c.args.frames.now) (sym c.in_err-at.ensures.value.1)
+  first = λ fed stands. subst (AppendsFirst fed c.args.piece.now c.args.frames.now) (sym c.in-Err.ensures.value.1)
       (appends_first c.args.self.now c.loop-at.self c.args.frames.now c.loop-at.frames fed c.args.piece.now c.loop-at.at c.loop-at.invariant.1 stands);
-  refused = c.in_err-at.ensures.value.0;
+  refused = c.in-Err.ensures.value.0;
   stays = λ is. absurd (c.in_default.not-Refused (refused_state c.self.inside.state (c.self.view_is ∙ is)));
   kept = λ is. absurd (c.in_default.not-Refused (refused_state c.self.inside.state (c.self.view_is ∙ is)));
 }
