@@ -6,7 +6,7 @@ use Rattle.std.proofs.lemmas.List.{append-nil, take-take, length-take-le}
 use Rattle.zy_read.specs.declared.not_taken.NotTaken.{NotTaken}
 use Rattle.zy_read.specs.declared.not_taken.NotTaken.TheVariants.{Fault, NoMemory}
 use Rattle.zy_read.specs.Format.{read_on}
-use Rattle.zy_read.specs.Fields.{Judged, Fields, IsLawful, Place, at_state, moved, step, format_of}
+use Rattle.zy_read.specs.Fields.{Judged, Fields, IsLawful, Place, at_state, step, format_of}
 use Rattle.zy_read.specs.Fields.Judged.{Then}
 use Rattle.zy_read.specs.Runs.{GoesOn, Runs, RunsOver}
 use Rattle.zy_read.specs.FieldReading.{Judges, IsQuiet}

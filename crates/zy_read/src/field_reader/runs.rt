@@ -114,7 +114,7 @@ impl<S: FieldFormat> FieldReader<S> {
     }
 
     // Takes bytes of a run, but not its last one, where there is memory.
-    fn append(&mut self, others: u64, bytes: &[u8]) -> bool
+    pub(super) fn append(&mut self, others: u64, bytes: &[u8]) -> bool
         requires shape { S.shape_of self.old.state ≡ Kinds.Run others }
         requires fits { length self.old.seen + length bytes.now ≤ others }
         requires room { self.old.at + length bytes.now ≤ S.fields.limit }

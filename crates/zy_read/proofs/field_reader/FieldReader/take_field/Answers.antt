@@ -1,4 +1,4 @@
-use Rattle.std.proofs.Common.{rules, ◌-◌, ◌≤◌, ℕ, List, [], length, take}
+use Rattle.std.proofs.Common.{rules, ◌≤◌, ℕ, List, [], length, take}
 use Rattle.zy_read.specs.Runs.{RunsOver}
 use Rattle.zy_read.proofs.TakenLemmas.{front_fed}
 use Rattle.zy_read.proofs.field_reader.FieldReader.take_field.Goals as goal

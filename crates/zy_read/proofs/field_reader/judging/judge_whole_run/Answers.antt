@@ -2,7 +2,7 @@ use Rattle.std.proofs.Common.{rules, ◌≡◌, ◌+◌, ℕ, List, length, take
 use Rattle.zy_read.specs.Fields.Judged.{Then}
 use Rattle.zy_read.specs.FieldReading.{width_of}
 use Rattle.zy_read.proofs.TakenLemmas.{quiet_then, one_over}
-use Rattle.zy_read.proofs.field_reader.judging.judge_run.Goals as goal
+use Rattle.zy_read.proofs.field_reader.judging.judge_whole_run.Goals as goal
 
 pub returns-then-is_ok-clause-runs : goal.returns-then-is_ok-clause-runs
 returns-then-is_ok-clause-runs g c =
