@@ -1,5 +1,5 @@
 -- Whole fields that are fed at once.
-use Rattle.std.proofs.Common.{◌≡◌, ℕ, ◌+◌, ◌≤◌, true, false, List, [], ◌∷◌, length, take, refl, sym, ◌∙◌, ap, subst, arith}
+use Rattle.std.proofs.Common.{◌≡◌, ℕ, ◌+◌, ◌≤◌, true, false, List, [], length, take, sym, ◌∙◌, ap, subst, arith}
 use Rattle.std.specs.Prelude.{Option, None, Some, Result, Ok, Err, is_ok}
 use Rattle.std.specs.List.{concat}
 use Rattle.std.proofs.lemmas.List.{append-nil, take-take, length-take-le}
@@ -8,7 +8,7 @@ use Rattle.zy_read.specs.declared.not_taken.NotTaken.TheVariants.{Fault, NoMemor
 use Rattle.zy_read.specs.Format.{read_on}
 use Rattle.zy_read.specs.Fields.{Judged, Fields, IsLawful, Place, at_state, step, format_of}
 use Rattle.zy_read.specs.Fields.Judged.{Then}
-use Rattle.zy_read.specs.Runs.{GoesOn, Runs, RunsOver}
+use Rattle.zy_read.specs.Runs.{RunsOver}
 use Rattle.zy_read.specs.FieldReading.{Judges, IsQuiet}
 use Rattle.zy_read.specs.Standing.{Feeds}
 use Rattle.zy_read.proofs.Feeding.{fed_by}
@@ -25,18 +25,6 @@ pub judged_kept : {S G F : Type 0} (Fits : S → ℕ → Type 0) (Wants : S → 
 judged_kept Fits Wants judged after old new (Ok gave) judges refused = cc
 judged_kept Fits Wants judged after old new (Err (Fault fault)) judges refused = judges.1
 judged_kept Fits Wants judged after old new (Err NoMemory) judges refused = judges.0
-
--- no field
-pub none_over : {S G F : Type 0} (fields : Fields S G F) (s : S) (at : ℕ) → RunsOver fields s at [] s []
-none_over fields s at = record { parts = []; runs = (refl, refl); text_is = refl }
-
--- a whole field that gives no record
-pub one_over : {S G F : Type 0} (fields : Fields S G F) (s next : S) (at : ℕ) (field : List ℕ) → fields.judge s at field ≡ Then next → length field ≡ fields.width s → RunsOver fields s at field next []
-one_over {S} {G} {F} fields s next at field leads size = record {
-  parts = field ∷ [];
-  runs = (size, subst (λ (j : Judged S G F). GoesOn j (λ t rest. Runs fields t (at + length field) [] next rest) []) (sym leads) (refl, refl));
-  text_is = append-nil field;
-}
 
 -- whole fields that give no record are fed
 pub over_fed : {S G F V : Type 0} (fields : Fields S G F) (lawful : IsLawful fields) (good : S → List G → V) (bad : F → V) (p q : Place S F) (text : List ℕ) → p.fault ≡ None → p.seen ≡ [] → RunsOver fields p.state p.at text q.state [] → p.at + length text ≤ fields.limit → q ≡ at_state q.state (p.at + length text)

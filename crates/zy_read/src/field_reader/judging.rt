@@ -13,7 +13,7 @@ use std::alloc::Global;
 
 // Judges the next field where the bytes begin with all of it. Returns its size, or 0 where it is
 // wrong or memory for it is refused. A run is put into `payload`.
-#[tactic(auto, using(crate::proofs::TakenLemmas::quiet_then, crate::proofs::TakenLemmas::judged_kept, crate::proofs::TakenLemmas::none_over, crate::proofs::TakenLemmas::one_over))]
+#[tactic(auto, using(crate::proofs::TakenLemmas::quiet_then, crate::proofs::TakenLemmas::judged_kept, crate::proofs::OverLemmas::over_none, crate::proofs::OverLemmas::over_then))]
 pub(super) fn judge_whole<S: FieldFormat>(
     alloc: Global,
     state: &mut S,
@@ -46,7 +46,7 @@ pub(super) fn judge_whole<S: FieldFormat>(
 }
 
 // The same for a run. It needs memory.
-#[tactic(auto, using(crate::proofs::TakenLemmas::quiet_then, crate::proofs::TakenLemmas::judged_kept, crate::proofs::TakenLemmas::none_over, crate::proofs::TakenLemmas::one_over))]
+#[tactic(auto, using(crate::proofs::TakenLemmas::quiet_then, crate::proofs::TakenLemmas::judged_kept, crate::proofs::OverLemmas::over_none, crate::proofs::OverLemmas::over_then))]
 fn judge_whole_run<S: FieldFormat>(
     alloc: Global,
     state: &mut S,
