@@ -4,13 +4,14 @@ use Rattle.std.specs.Prelude.{if◌then◌else◌, Option, None, Some}
 use Rattle.zy_read.specs.Format.{Reading}
 use Rattle.zy_read.specs.Standing.{StandsAs}
 use Rattle.zy_read.specs.Fields.{ended_by}
+use Rattle.zy_read.specs.Magic.{version_in}
 use Rattle.zy_capture.specs.declared.record.Record.{Record}
 use Rattle.zy_capture.specs.declared.capture_fault.CaptureFault.{CaptureFault}
 use Rattle.zy_capture.specs.declared.capture_fault.CaptureFault.TheVariants.{Truncated}
 use Rattle.zy_capture.specs.declared.due.Due.{Due}
 use Rattle.zy_capture.specs.declared.due.Due.TheVariants.{Nothing}
 use Rattle.zy_capture.specs.Steps.{CaptureProgress, is_nothing, fields}
-use Rattle.zy_capture.specs.Verdict.{version_of, version_in, count_of, count_in, is_within_by, is_within_record, captures, good, is_good}
+use Rattle.zy_capture.specs.Verdict.{version_of, count_of, count_in, is_within_by, is_within_record, captures, good, is_good}
 use Rattle.zy_capture.specs.Verdict.Verdict.{Good, Bad}
 use Rattle.zy_capture.specs.Standing.{StandsForRecords}
 

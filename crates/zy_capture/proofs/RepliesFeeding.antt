@@ -1,6 +1,6 @@
 -- What a reader of replies files answers where the bytes fed end, and which bytes need memory.
 use Rattle.std.proofs.Common.{◌≡◌, ℕ, ◌<◌, ◌^◌, List, false, get_or, refl, ap, arith}
-use Rattle.std.specs.Prelude.{◌==◌, ◌&&◌, not, nat_lt, nat_le, ⊤}
+use Rattle.std.specs.Prelude.{◌==◌, ◌&&◌, not, nat_lt, nat_le}
 use Rattle.std.specs.Int.{from_be_bytes, w32}
 use Rattle.std.proofs.lemmas.Bool.Decides.{nat_tests}
 use Rattle.zy_read.specs.declared.magic.MagicStep.{MagicStep}
@@ -10,6 +10,7 @@ use Rattle.zy_read.specs.Format.{Reading}
 use Rattle.zy_read.specs.FieldReading.{MayNeed, IsQuiet}
 use Rattle.zy_read.specs.Standing.{StandsAs}
 use Rattle.zy_read.specs.declared.shape.Shape.TheVariants.{Run}
+use Rattle.zy_read.specs.Magic.{version_in}
 use Rattle.zy_capture.specs.declared.session_bytes.SessionBytes.{SessionBytes}
 use Rattle.zy_capture.specs.declared.replies_due.RepliesDue.{RepliesDue}
 use Rattle.zy_capture.specs.declared.replies_due.RepliesDue.TheVariants.{Magic, Tag, Connection, Session, Length, Output, Nothing}
@@ -17,7 +18,7 @@ use Rattle.zy_capture.specs.declared.replies_state.RepliesState.{RepliesState}
 use Rattle.zy_capture.specs.Replies.{letters, replies_limit}
 use Rattle.zy_capture.proofs.ByteLemmas.{chosen}
 use Rattle.zy_capture.specs.RepliesSteps.{RepliesPlace, shape, after_magic, may_come, due_session, judged, is_last, replies_fields}
-use Rattle.zy_capture.specs.RepliesVerdict.{version_of, version_in}
+use Rattle.zy_capture.specs.RepliesVerdict.{version_of}
 use Rattle.zy_capture.specs.RepliesStanding.{StandsForReplies, IsOfOutput, IsOutputDue}
 
 pub version_here : (p : RepliesPlace) (given : List SessionBytes) (b : List ℕ) → StandsForReplies p given b → version_of b ≡ version_in p.state.version

@@ -9,17 +9,18 @@ use Rattle.zy_read.specs.Format.{Reading, reading_of, verdict_on, fault_met, giv
 use Rattle.zy_read.specs.Fields.{at_state, ended_by}
 use Rattle.zy_read.proofs.MagicLemmas.{IsVersion}
 use Rattle.zy_read.proofs.OutcomeLemmas.{IsRead, text_read}
+use Rattle.zy_read.specs.Magic.{version_in}
+use Rattle.zy_read.proofs.MagicFieldLemmas.{known_version}
 use Rattle.zy_capture.specs.declared.session_bytes.SessionBytes.{SessionBytes}
 use Rattle.zy_capture.specs.declared.replies_due.RepliesDue.{RepliesDue}
 use Rattle.zy_capture.specs.declared.replies_due.RepliesDue.TheVariants.{Magic, Tag, Connection, Session, Length, Output, Nothing}
 use Rattle.zy_capture.specs.declared.replies_state.RepliesState.{RepliesState}
 use Rattle.zy_capture.specs.RepliesSteps.{RepliesPlace, start, is_last, replies_fields}
-use Rattle.zy_capture.specs.RepliesVerdict.{good, verdict, read_from, version_in, version_of, outputs_of, fault_of}
+use Rattle.zy_capture.specs.RepliesVerdict.{good, verdict, read_from, version_of, outputs_of, fault_of}
 use Rattle.zy_capture.specs.RepliesVerdict.Verdict.{Good, Bad}
 use Rattle.zy_capture.specs.RepliesLaws.{lawful}
 use Rattle.zy_capture.specs.SoFar.{IsRepliesSoFar}
 use Rattle.zy_capture.proofs.RepliesWholeLemmas.{IsReadTo, AreSoFar, reached}
-use Rattle.zy_capture.proofs.RepliesTellLemmas.{known_version}
 
 -- the version and the outputs of a replies file are read
 pub record Tells (text : List ℕ) (version : ℕ) (items : List SessionBytes) : Type 0 where

@@ -1,21 +1,18 @@
 -- The version that is read of a replies file is that of the magic with which it begins.
-use Rattle.std.proofs.Common.{◌≡◌, ◌≢◌, inl, inr, ℕ, ◌^◌, true, false, List, ◌++◌, get_or, refl, ◌∙◌, ap, subst, arith}
-use Rattle.std.specs.Prelude.{◌==◌, ◌&&◌, nat_lt, None, Some, ⊤}
+use Rattle.std.proofs.Common.{◌≡◌, ℕ, ◌^◌, List, ◌++◌, get_or, refl}
+use Rattle.std.specs.Prelude.{◌==◌, ◌&&◌, nat_lt, Some, ⊤}
 use Rattle.std.specs.Int.{from_be_bytes, w32, w64}
-use Rattle.std.proofs.lemmas.Bool.Decides.{nat_tests}
 use Rattle.zy_base.specs.declared.file_fault.FileFault.TheVariants.{Form}
 use Rattle.zy_read.specs.Format.{reading_of}
-use Rattle.zy_read.specs.Fields.{at_state}
-use Rattle.zy_read.proofs.MagicLemmas.{IsVersion}
 use Rattle.zy_read.proofs.MagicFieldLemmas as Magics
-use Rattle.zy_read.proofs.MagicFieldLemmas.{KnowsVersion, further}
+use Rattle.zy_read.proofs.MagicFieldLemmas.{KnowsVersion}
 use Rattle.zy_read.proofs.VerdictLemmas.{Leaves}
 use Rattle.zy_capture.specs.declared.replies_due.RepliesDue.{RepliesDue}
 use Rattle.zy_capture.specs.declared.replies_due.RepliesDue.TheVariants.{Magic, Tag, Connection, Session, Length, Output, Nothing}
 use Rattle.zy_capture.specs.declared.replies_state.RepliesState.{RepliesState}
 use Rattle.zy_capture.specs.Replies.{letters}
-use Rattle.zy_capture.specs.RepliesSteps.{start, may_come, due_session, judged, replies_fields}
-use Rattle.zy_capture.specs.RepliesVerdict.{read_from, version_in, version_of}
+use Rattle.zy_capture.specs.RepliesSteps.{may_come, due_session, judged, replies_fields}
+use Rattle.zy_capture.specs.RepliesVerdict.{version_of}
 use Rattle.zy_capture.specs.RepliesLaws.{lawful}
 use Rattle.zy_capture.specs.SoFar.{BeginsWithRepliesMagic}
 use Rattle.zy_capture.proofs.ByteLemmas.{chosen}
@@ -61,29 +58,15 @@ knows = record {
   stays = λ s at field past. judged_leaves s.version s.due s at field refl past;
 }
 
-pub known_version : (version : ℕ) → IsVersion version → version_in version ≡ Some version
-known_version version (inl one) = rw one refl
-known_version version (inr two) = rw two refl
-
-version_some : (found version : ℕ) → version_in found ≡ Some version → (found ≡ version) × (found ≢ 0)
-version_some found version is = elim (found == 0) as (λ t. (found == 0) ≡ t → (found ≡ version) × (found ≢ 0)) [
-  | true ↦ λ zero_is. let none : version_in found ≡ None = rw zero_is refl in cc
-  | false ↦ λ some_is.
-      let same : found ≡ version = (let told : version_in found ≡ Some found = rw some_is refl in cc) in
-      (same, λ zero_is. grind (arith, nat_tests, some_is, zero_is))
-] refl
-
 pub magic_told : (text : List ℕ) (version : ℕ) → BeginsWithRepliesMagic text version → version_of text ≡ Some version
 unfolding version_of reading_of
-magic_told text version begins =
-    ap (λ (v : ℕ). version_in v) (Magics.magic_told replies_fields lawful letters part_state after_state Form reads_magic known_in IsPastIn knows text version begins) ∙ known_version version begins.known
+magic_told = Magics.magic_told replies_fields lawful letters part_state after_state Form reads_magic known_in IsPastIn knows
 
 pub told_magic : (text : List ℕ) (version : ℕ) → version_of text ≡ Some version → BeginsWithRepliesMagic text version
 unfolding version_of reading_of
-told_magic text version is =
-    let told = version_some (read_from (at_state start 0) text).last.state.version version is in
-    subst (λ (v : ℕ). BeginsWithRepliesMagic text v) told.0 (Magics.told_magic replies_fields lawful letters part_state after_state Form reads_magic known_in IsPastIn knows text told.1)
+told_magic = Magics.told_magic replies_fields lawful letters part_state after_state Form reads_magic known_in IsPastIn knows
 
 -- the version of a text is that of every longer text
 pub version_stays : (text more : List ℕ) (version : ℕ) → version_of text ≡ Some version → version_of (text ++ more) ≡ Some version
-version_stays text more version is = magic_told (text ++ more) version (further letters text more version (told_magic text version is))
+unfolding version_of reading_of
+version_stays = Magics.version_stays replies_fields lawful letters part_state after_state Form reads_magic known_in IsPastIn knows

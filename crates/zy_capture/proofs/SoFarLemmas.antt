@@ -10,6 +10,8 @@ use Rattle.zy_read.specs.Format.{Reading, read_on, reading_of, fault_met, given_
 use Rattle.zy_read.specs.Fields.{at_state, step}
 use Rattle.zy_read.proofs.OutcomeLemmas.{IsRead, text_read}
 use Rattle.zy_read.proofs.VerdictLemmas.{begins_read}
+use Rattle.zy_read.specs.Magic.{version_in}
+use Rattle.zy_read.proofs.MagicFieldLemmas.{known_version}
 use Rattle.zy_capture.specs.declared.record.Record.{Record}
 use Rattle.zy_capture.specs.declared.record.Record.TheVariants as Kinds
 use Rattle.zy_capture.specs.declared.capture_fault.CaptureFault.{CaptureFault}
@@ -21,12 +23,12 @@ use Rattle.zy_capture.specs.Faults.{front_text}
 use Rattle.zy_capture.specs.Streams.{closes}
 use Rattle.zy_capture.specs.Steps.{CaptureProgress, state, fields}
 use Rattle.zy_capture.specs.Verdict.Verdict.{Good}
-use Rattle.zy_capture.specs.Verdict.{verdict, fault_of, version_in, version_of, count_in, count_of, records_of}
+use Rattle.zy_capture.specs.Verdict.{verdict, fault_of, version_of, count_in, count_of, records_of}
 use Rattle.zy_capture.specs.SoFar.{IsCaptureSoFar}
 use Rattle.zy_capture.proofs.ByteLemmas.{chosen}
 use Rattle.zy_capture.proofs.PlaceLemmas.{IsAt}
 use Rattle.zy_capture.proofs.WholeLemmas.{lawful, stands_there, good_spells, spells_whole}
-use Rattle.zy_capture.proofs.TellLemmas.{IsAfterSome, after_some, known_version}
+use Rattle.zy_capture.proofs.TellLemmas.{IsAfterSome, after_some}
 
 -- ---- a whole capture
 

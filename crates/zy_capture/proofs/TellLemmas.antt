@@ -1,17 +1,15 @@
 -- The version and the count that are read of a text are those with which it begins.
-use Rattle.std.proofs.Common.{◌≡◌, ◌≢◌, inl, inr, ℕ, ◌+◌, true, false, List, [], ◌∷◌, ◌++◌, length, refl, sym, ◌∙◌, ap, subst, arith, append_assoc}
-use Rattle.std.specs.Prelude.{◌==◌, ◌&&◌, nat_lt, None, Some, flat_map, ⊤}
+use Rattle.std.proofs.Common.{◌≡◌, ℕ, ◌+◌, List, [], ◌∷◌, ◌++◌, length, refl, sym, ◌∙◌, ap, subst, arith, append_assoc}
+use Rattle.std.specs.Prelude.{◌==◌, ◌&&◌, nat_lt, Some, flat_map, ⊤}
 use Rattle.std.specs.List.{concat}
 use Rattle.std.specs.Int.{to_be_bytes, w32}
-use Rattle.std.proofs.lemmas.Bool.Decides.{nat_tests}
 use Rattle.zy_read.specs.Bytes.{AreBytes}
 use Rattle.zy_read.specs.Lasting.{none_met}
 use Rattle.zy_read.specs.Format.{Reading, read_on, reading_of}
 use Rattle.zy_read.specs.Fields.{at_state, step}
 use Rattle.zy_read.specs.Runs.{Begins}
-use Rattle.zy_read.proofs.MagicLemmas.{IsVersion}
 use Rattle.zy_read.proofs.MagicFieldLemmas as Magics
-use Rattle.zy_read.proofs.MagicFieldLemmas.{KnowsVersion, further}
+use Rattle.zy_read.proofs.MagicFieldLemmas.{KnowsVersion}
 use Rattle.zy_read.proofs.OverLemmas.{over_begins}
 use Rattle.zy_read.proofs.VerdictLemmas.{Leaves, Reaches, text_reaches, begins_read, state_kept}
 use Rattle.zy_capture.specs.declared.record.Record.{Record}
@@ -22,7 +20,7 @@ use Rattle.zy_capture.specs.declared.capture_state.CaptureState.{CaptureState}
 use Rattle.zy_capture.specs.Capture.{letters, capture_magic, spelled, connection_limit, segment_limit}
 use Rattle.zy_capture.specs.Faults.{front_text}
 use Rattle.zy_capture.specs.Steps.{CaptureProgress, state, number, byte, judged, fields}
-use Rattle.zy_capture.specs.Verdict.{captures, version_in, version_of, count_in, count_of}
+use Rattle.zy_capture.specs.Verdict.{captures, version_of, count_in, count_of}
 use Rattle.zy_capture.specs.SoFar.{BeginsWithMagic, BeginsWithCount}
 use Rattle.zy_capture.proofs.ByteLemmas.{chosen, assoc_twice}
 use Rattle.zy_capture.proofs.PlaceLemmas.{IsAfter, IsAt}
@@ -116,28 +114,18 @@ knows = record {
   stays = λ s at field past. version_left s.version s.due s at field past refl;
 }
 
-pub known_version : (version : ℕ) → IsVersion version → version_in version ≡ Some version
-known_version version (inl one) = rw one refl
-known_version version (inr two) = rw two refl
-
-version_some : (found version : ℕ) → version_in found ≡ Some version → (found ≡ version) × (found ≢ 0)
-version_some found version is = elim (found == 0) as (λ t. (found == 0) ≡ t → (found ≡ version) × (found ≢ 0)) [
-  | true ↦ λ zero_is. let none : version_in found ≡ None = rw zero_is refl in cc
-  | false ↦ λ some_is.
-      let same : found ≡ version = (let told : version_in found ≡ Some found = rw some_is refl in cc) in
-      (same, λ zero_is. grind (arith, nat_tests, some_is, zero_is))
-] refl
-
 pub magic_told : (text : List ℕ) (version : ℕ) → BeginsWithMagic text version → version_of text ≡ Some version
 unfolding version_of reading_of
-magic_told text version begins =
-    ap (λ (v : ℕ). version_in v) (Magics.magic_told fields lawful letters part_state after_state BadMagic reads_magic known_in IsPastIn knows text version begins) ∙ known_version version begins.known
+magic_told = Magics.magic_told fields lawful letters part_state after_state BadMagic reads_magic known_in IsPastIn knows
 
 pub told_magic : (text : List ℕ) (version : ℕ) → version_of text ≡ Some version → BeginsWithMagic text version
 unfolding version_of reading_of
-told_magic text version is =
-    let told = version_some (reading_of captures text).last.state.version version is in
-    subst (BeginsWithMagic text) told.0 (Magics.told_magic fields lawful letters part_state after_state BadMagic reads_magic known_in IsPastIn knows text told.1)
+told_magic = Magics.told_magic fields lawful letters part_state after_state BadMagic reads_magic known_in IsPastIn knows
+
+-- the version of a text is that of every longer text
+pub version_stays : (text more : List ℕ) (version : ℕ) → version_of text ≡ Some version → version_of (text ++ more) ≡ Some version
+unfolding version_of reading_of
+version_stays = Magics.version_stays fields lawful letters part_state after_state BadMagic reads_magic known_in IsPastIn knows
 
 -- ---- the count
 
@@ -180,13 +168,7 @@ told_count text count all told =
     subst (λ (l : List ℕ). BeginsWithCount l count) (sym reached.begins.text_is)
     (count_at s.due s (concat reached.begins.parts) reached.rest reached.given count told (stands_there text s reached.given reached.rest all reached.begins))
 
--- ---- longer texts
-
--- the version of a text is that of every longer text
-pub version_stays : (text more : List ℕ) (version : ℕ) → version_of text ≡ Some version → version_of (text ++ more) ≡ Some version
-version_stays text more version is = magic_told (text ++ more) version (further letters text more version (told_magic text version is))
-
--- so is its count
+-- the count of a text is that of every longer text
 pub count_stays : (text more : List ℕ) (count : ℕ) → AreBytes text → count_of text ≡ Some count → count_of (text ++ more) ≡ Some count
 count_stays text more count small is =
     let begins = told_count text count small is in

@@ -105,7 +105,8 @@ pub record IsTrailing (text : List ℕ) (at : ℕ) : Type 0 where
 -- a byte or a number of the text is wrong, or comes after the end
 abbrev pub IsWrongReplies : List ℕ → ℕ → Type 0
 IsWrongReplies text at =
-    IsBadMagic letters text at ⊎ (IsBadTag text at ⊎ (IsBadConnection text at ⊎ (IsBadSession text at ⊎ IsTrailing text at)))
+    IsBadMagic letters text at
+    ⊎ (IsBadTag text at ⊎ (IsBadConnection text at ⊎ (IsBadSession text at ⊎ IsTrailing text at)))
 
 -- the text is no replies file, but nothing in it is wrong, and it is not longer than one may be
 pub record IsBegun (text : List ℕ) : Type 0 where

@@ -20,7 +20,8 @@ one : (due : RepliesDue) → is_last due ≡ true → width_of (shape due) ≡ 1
 one Nothing is = refl
 one due is = cc
 
-ends : (due : RepliesDue) (s : RepliesState) (at : ℕ) (field : List ℕ) → is_last due ≡ true → IsWrong (judged due s at field)
+ends : (due : RepliesDue) (s : RepliesState) (at : ℕ) (field : List ℕ) → is_last due ≡ true
+    → IsWrong (judged due s at field)
 ends Nothing s at field is = tt
 ends due s at field is = cc
 

@@ -1,4 +1,5 @@
--- The fields of a replies file, and what a whole one does, by what is expected: the table of docs/FORMATS.md, "Replies".
+-- The fields of a replies file, and what a whole one does, by what is expected: the table of docs/FORMATS.md,
+-- "Replies".
 use Rattle.std.specs.Prelude.{ℕ, ◌+◌, ◌-◌, ◌^◌, ◌==◌, ◌&&◌, ◌||◌, nat_lt, if◌then◌else◌, Bool, true, false}
 use Rattle.std.specs.Prelude.{List, [], get_or}
 use Rattle.std.specs.Int.{from_be_bytes, w32, w64}
@@ -48,8 +49,8 @@ gives s conn session bytes =
 -- where a byte of the magic leads
 abbrev pub after_magic : RepliesState → ℕ → MagicStep → Judged RepliesState SessionBytes FileFault
 after_magic s at step =
-    magic_judged (λ part. record s { due = Magic part }) (λ version. record s { due = Tag; version = version }) (Form at)
-    step
+    magic_judged (λ part. record s { due = Magic part }) (λ version. record s { due = Tag; version = version })
+    (Form at) step
 
 -- the tag of a record, or the end
 abbrev pub tag : RepliesState → ℕ → ℕ → Judged RepliesState SessionBytes FileFault

@@ -1,9 +1,11 @@
--- The verdict on a whole text as a replies file: the outputs that it spells, or its first fault. That it is good exactly
--- where it is a spelling, and bad exactly where it has a fault of specs/RepliesFaults.antt, are laws in src/laws.rt.
-use Rattle.std.specs.Prelude.{ℕ, ◌==◌, if◌then◌else◌, Bool, true, false, List, Option, None, Some}
+-- The verdict on a whole text as a replies file: the outputs that it spells, or its first fault. That it is good
+-- exactly where it is a spelling, and bad exactly where it has a fault of specs/RepliesFaults.antt, are laws in
+-- src/laws.rt.
+use Rattle.std.specs.Prelude.{ℕ, Bool, true, false, List, Option}
 use Rattle.zy_base.specs.declared.file_fault.FileFault.{FileFault}
 use Rattle.zy_read.specs.Fields.{step, format_of}
 use Rattle.zy_read.specs.Format.{Format, Reading, read_on, reading_of, given_by, fault_met, verdict_on}
+use Rattle.zy_read.specs.Magic.{version_in}
 use Rattle.zy_capture.specs.declared.session_bytes.SessionBytes.{SessionBytes}
 use Rattle.zy_capture.specs.declared.replies_state.RepliesState.{RepliesState}
 use Rattle.zy_capture.specs.RepliesSteps.{RepliesPlace, replies_fields}
@@ -33,10 +35,6 @@ is_good (Good version items) = true
 is_good (Bad fault) = false
 
 -- ---- what was met in a text, whatever follows
-
--- the version, where the magic was read whole; it is 0 before
-abbrev pub version_in : ℕ → Option ℕ
-version_in version = if version == 0 then None else Some version
 
 -- the outputs that are whole in a text, before its first fault
 abbrev pub outputs_of : List ℕ → List SessionBytes

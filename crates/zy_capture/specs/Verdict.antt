@@ -1,9 +1,10 @@
 -- The verdict on a whole text: the capture that it spells, or its first fault. A text is read from
 -- its first byte to its last. That it is good exactly where it is a spelling, and bad exactly where
 -- it has a fault of specs/Faults.antt, are laws in src/laws.rt.
-use Rattle.std.specs.Prelude.{ℕ, ◌==◌, if◌then◌else◌, Bool, true, false, List, Option, None, Some}
+use Rattle.std.specs.Prelude.{ℕ, Bool, true, false, List, Option, None, Some}
 use Rattle.zy_read.specs.Format.{Format, reading_of, given_by, fault_met, verdict_on}
 use Rattle.zy_read.specs.Fields.{format_of}
+use Rattle.zy_read.specs.Magic.{version_in}
 use Rattle.zy_capture.specs.declared.record.Record.{Record}
 use Rattle.zy_capture.specs.declared.capture_fault.CaptureFault.{CaptureFault}
 use Rattle.zy_capture.specs.declared.due.Due.{Due}
@@ -36,10 +37,6 @@ is_good (Good version count items) = true
 is_good (Bad fault) = false
 
 -- ---- what was met in a text, whatever follows
-
--- the version, where the magic was read whole; it is 0 before
-abbrev pub version_in : ℕ → Option ℕ
-version_in version = if version == 0 then None else Some version
 
 -- the connection count, where it was read whole and not refused
 abbrev pub count_in : Due → ℕ → Option ℕ

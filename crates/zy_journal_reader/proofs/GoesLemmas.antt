@@ -1,5 +1,5 @@
 -- Where the calls and the replies of a journal lead that are read whole.
-use Rattle.std.proofs.Common.{◌≡◌, ◌⊎◌, ℕ, ◌<◌, ◌≤◌, ◌^◌, Bool, true, false, List, [], ◌∷◌, ◌++◌, length, refl, sym, ap, subst, arith}
+use Rattle.std.proofs.Common.{◌≡◌, ◌⊎◌, ℕ, ◌<◌, ◌≤◌, ◌^◌, Bool, true, false, List, [], ◌∷◌, ◌++◌, length, refl, sym, ◌∙◌, ap, subst, arith, append_assoc}
 use Rattle.std.specs.Prelude.{◌==◌, ◌&&◌, ◌||◌, nat_lt, nat_le, if◌then◌else◌, Option, IfSome}
 use Rattle.std.specs.Int.{to_be_bytes, w32, w64}
 use Rattle.std.proofs.lemmas.List.{append-nil}
@@ -121,27 +121,52 @@ code_goes p d kind =
     (λ at. between (code_of kind) 1 last_call_code (code_within kind).0 (code_within kind).1)
     (λ at. ap (λ (k : CallKind). to p (record d { kind = k }) (after_call_code (fields_of k))) (kind_back kind))
 
+-- what is known after the fields of a call before its value
+abbrev pub known_front : CallKind → List ℕ → ℕ → ℕ → Draft → Draft
+known_front kind key flags number d = record d {
+  kind = kind;
+  key = either_of (fields_of kind).key key d.key;
+  flags = either_of (fields_of kind).flags flags d.flags;
+  number = either_of (fields_of kind).number number d.number;
+}
+
+-- these fields
+abbrev pub front_of : CallKind → List ℕ → ℕ → ℕ → List ℕ
+front_of kind key flags number =
+    code_of kind ∷ (field_text key_text (there (fields_of kind).key key) ++ (field_text (to_be_bytes w32) (there (fields_of kind).flags flags) ++ field_text (to_be_bytes w64) (there (fields_of kind).number number)))
+
+pub front_goes : (p : ReadState) (d : Draft) (kind : CallKind) (key : List ℕ) (flags number : ℕ) (value : List ℕ) → IsCall (call_of kind key flags number value) → FitsCall (call_of kind key flags number value)
+    → Goes p (plain d) (Byte CallCode) (front_of kind key flags number) p (known_front kind key flags number (plain d)) (at_value (fields_of kind))
+front_goes p d kind key flags number value is fits =
+    let call : Call = call_of kind key flags number value in
+    let has = call_has kind key flags number value in
+    let e1 : Draft = record (plain d) { kind = kind } in
+    let e2 : Draft = record e1 { key = either_of (fields_of kind).key key d.key } in
+    let e3 : Draft = record e2 { flags = either_of (fields_of kind).flags flags d.flags } in
+    let k : List ℕ = field_text key_text (there (fields_of kind).key key) in
+    let f : List ℕ = field_text (to_be_bytes w32) (there (fields_of kind).flags flags) in
+    let n : List ℕ = field_text (to_be_bytes w64) (there (fields_of kind).number number) in
+    both (code_of kind ∷ []) (k ++ (f ++ n)) (code_goes p (plain d) kind)
+    (both k (f ++ n) (key_there (fields_of kind).key p e1 key (subst (λ (o : Option (List ℕ)). IfSome o IsKey) has.key_is (key_within call is)))
+    (both f n (flags_there (fields_of kind).flags p e2 flags (subst (λ (o : Option ℕ). IfSome o (λ m. m < 2 ^ 32)) has.flags_are fits.0))
+    (number_there (fields_of kind).number p e3 number (subst (λ (o : Option ℕ). IfSome o (λ m. m < 2 ^ 64)) has.number_is fits.1))))
+
+-- a whole call
 pub call_goes : (p : ReadState) (d : Draft) (kind : CallKind) (key : List ℕ) (flags number : ℕ) (value : List ℕ) → IsCall (call_of kind key flags number value) → FitsCall (call_of kind key flags number value)
     → Goes p (plain d) (Byte CallCode) (call_text (call_of kind key flags number value)) p (known kind key flags number value (plain d)) (Byte ReplyCode)
 unfolding call_text
 call_goes p d kind key flags number value is fits =
     let call : Call = call_of kind key flags number value in
     let has = call_has kind key flags number value in
-    let e1 : Draft = record (plain d) { kind = kind } in
-    let e2 : Draft = record e1 { key = either_of (fields_of kind).key key d.key } in
-    let e3 : Draft = record e2 { flags = either_of (fields_of kind).flags flags d.flags } in
-    let e4 : Draft = record e3 { number = either_of (fields_of kind).number number d.number } in
     let k : List ℕ = field_text key_text (there (fields_of kind).key key) in
     let f : List ℕ = field_text (to_be_bytes w32) (there (fields_of kind).flags flags) in
     let n : List ℕ = field_text (to_be_bytes w64) (there (fields_of kind).number number) in
     let v : List ℕ = field_text value_text (there (fields_of kind).value value) in
     let spelled : call_text call ≡ code_of kind ∷ (k ++ (f ++ (n ++ v))) = rw (has.kind_is, has.key_is, has.flags_are, has.number_is, has.value_is) refl in
-    subst (λ (l : List ℕ). Goes p (plain d) (Byte CallCode) l p (known kind key flags number value (plain d)) (Byte ReplyCode)) (sym spelled)
-    (both (code_of kind ∷ []) (k ++ (f ++ (n ++ v))) (code_goes p (plain d) kind)
-    (both k (f ++ (n ++ v)) (key_there (fields_of kind).key p e1 key (subst (λ (o : Option (List ℕ)). IfSome o IsKey) has.key_is (key_within call is)))
-    (both f (n ++ v) (flags_there (fields_of kind).flags p e2 flags (subst (λ (o : Option ℕ). IfSome o (λ m. m < 2 ^ 32)) has.flags_are fits.0))
-    (both n v (number_there (fields_of kind).number p e3 number (subst (λ (o : Option ℕ). IfSome o (λ m. m < 2 ^ 64)) has.number_is fits.1))
-    (value_there (fields_of kind).value p e4 value (subst (λ (o : Option (List ℕ)). IfSome o IsValue) has.value_is (value_within call is)))))))
+    let parted : front_of kind key flags number ++ v ≡ call_text call = ap (λ (l : List ℕ). code_of kind ∷ l) (append_assoc k (f ++ n) v ∙ ap (λ (l : List ℕ). k ++ l) (append_assoc f n v)) ∙ sym spelled in
+    subst (λ (l : List ℕ). Goes p (plain d) (Byte CallCode) l p (known kind key flags number value (plain d)) (Byte ReplyCode)) parted
+    (both (front_of kind key flags number) v (front_goes p d kind key flags number value is fits)
+    (value_there (fields_of kind).value p (known_front kind key flags number (plain d)) value (subst (λ (o : Option (List ℕ)). IfSome o IsValue) has.value_is (value_within call is))))
 
 -- ---- replies
 

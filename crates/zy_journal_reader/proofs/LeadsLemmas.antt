@@ -1,6 +1,6 @@
 -- Where the first bytes of an entry lead.
 use Rattle.std.proofs.Common.{◌≡◌, ◌⊎◌, inl, inr, ℕ, ◌<◌, ◌≤◌, ◌^◌, Bool, true, false, List, [], ◌∷◌, ◌++◌, length, refl, sym, ◌∙◌, ap, subst, arith, append_assoc}
-use Rattle.std.specs.Prelude.{◌==◌, if◌then◌else◌, Option, None, IfSome, IsSome, is_some}
+use Rattle.std.specs.Prelude.{◌==◌, if◌then◌else◌, Option, None, IsSome, is_some}
 use Rattle.std.specs.Int.{to_be_bytes, w32, w64}
 use Rattle.std.proofs.lemmas.List.{append-nil}
 use Rattle.zy_base.specs.declared.call.Call.{Call}
@@ -10,8 +10,8 @@ use Rattle.zy_base.specs.declared.entry.Entry.{Entry}
 use Rattle.zy_base.specs.declared.hold.Hold.{Hold}
 use Rattle.zy_base.specs.Call.{key_of}
 use Rattle.zy_base.specs.Code.{code_of, fields_of, call_of, call_code, call_flags, call_number, call_value, reply_code, reply_flags, reply_number, reply_value, hit_code, plain_reply}
-use Rattle.zy_base.specs.Bounds.{IsKey, IsCall, FitsCall, FitsReply, FitsEntry}
-use Rattle.zy_base.proofs.CodeLemmas.{there, either_of, call_has, key_within, of_kinds, of_forms, plain_is}
+use Rattle.zy_base.specs.Bounds.{IsCall, FitsCall, FitsReply, FitsEntry}
+use Rattle.zy_base.proofs.CodeLemmas.{there, call_has, of_kinds, of_forms, plain_is}
 use Rattle.zy_journal.specs.Journal.{key_text, field_text, fields_text, call_text, entry_head, IsEntry}
 use Rattle.zy_journal_reader.specs.declared.draft.Draft.{Draft}
 use Rattle.zy_journal_reader.specs.declared.due.Due.{Due}
@@ -19,13 +19,13 @@ use Rattle.zy_journal_reader.specs.declared.due.Due.TheVariants.{Byte, Number, L
 use Rattle.zy_journal_reader.specs.declared.due.ByteField.TheVariants as B
 use Rattle.zy_journal_reader.specs.declared.due.NumberField.TheVariants as N
 use Rattle.zy_journal_reader.specs.declared.due.LongField.TheVariants as L
-use Rattle.zy_journal_reader.specs.Fields.{fresh, after_call_code, at_flags, at_number, at_value}
+use Rattle.zy_journal_reader.specs.Fields.{fresh, after_call_code, at_flags, at_value}
 use Rattle.zy_journal_reader.specs.Steps.{ReadState}
 use Rattle.zy_journal_reader.specs.LawfulFields.{before}
 use Rattle.zy_journal_reader.specs.LawfulFields.{EntryField as E}
 use Rattle.zy_journal_reader.proofs.SoFar.{ComesAfter}
 use Rattle.zy_journal_reader.proofs.PlaceLemmas.{Goes, both, one_byte, four_bytes, eight_bytes}
-use Rattle.zy_journal_reader.proofs.GoesLemmas.{below_is, stamp_is, shard_is, plain, known, call_goes, code_goes, key_there, flags_there, number_there}
+use Rattle.zy_journal_reader.proofs.GoesLemmas.{known_front, front_of, front_goes, below_is, stamp_is, shard_is, plain, known, call_goes, code_goes}
 use Rattle.zy_journal_reader.proofs.SpelledLemmas.{head_of, head_goes}
 
 -- ---- the fields before
@@ -92,24 +92,17 @@ before_value q d =
     (λ kind key flags number value is fits some.
     let call : Call = call_of kind key flags number value in
     let has = call_has kind key flags number value in
-    let e1 : Draft = record (plain d) { kind = kind } in
-    let e2 : Draft = record e1 { key = either_of (fields_of kind).key key d.key } in
-    let e3 : Draft = record e2 { flags = either_of (fields_of kind).flags flags d.flags } in
-    let e4 : Draft = record e3 { number = either_of (fields_of kind).number number d.number } in
     let k : List ℕ = field_text key_text (there (fields_of kind).key key) in
     let f : List ℕ = field_text (to_be_bytes w32) (there (fields_of kind).flags flags) in
     let n : List ℕ = field_text (to_be_bytes w64) (there (fields_of kind).number number) in
     let text : to_value call ≡ code_of kind ∷ (k ++ (f ++ (n ++ []))) = rw (has.kind_is, has.key_is, has.flags_are, has.number_is) refl in
-    let spelled_as : to_value call ≡ code_of kind ∷ (k ++ (f ++ n)) = text ∙ ap (λ (l : List ℕ). code_of kind ∷ (k ++ (f ++ l))) (append-nil n) in
+    let spelled_as : front_of kind key flags number ≡ to_value call = ap (λ (l : List ℕ). code_of kind ∷ (k ++ (f ++ l))) (sym (append-nil n)) ∙ sym text in
     let due_is : at_value (fields_of kind) ≡ Number N.ValueLength = ap (λ (b : Bool). if b then Number N.ValueLength else Byte B.ReplyCode) (there_some (call_value call) (fields_of kind).value value has.value_is some) in
-    let last : Goes q e3 (at_number (fields_of kind)) n q e4 (Number N.ValueLength) =
-    subst (λ (due : Due). Goes q e3 (at_number (fields_of kind)) n q e4 due) due_is (number_there (fields_of kind).number q e3 number (subst (λ (o : Option ℕ). IfSome o (λ m. m < 2 ^ 64)) has.number_is fits.1)) in
+    let e : Draft = known_front kind key flags number (plain d) in
     record {
-      draft = e4;
-      there_goes = subst (λ (l : List ℕ). Goes q (plain d) (Byte B.CallCode) l q e4 (Number N.ValueLength)) (sym spelled_as)
-          (both (code_of kind ∷ []) (k ++ (f ++ n)) (code_goes q (plain d) kind)
-          (both k (f ++ n) (key_there (fields_of kind).key q e1 key (subst (λ (o : Option (List ℕ)). IfSome o IsKey) has.key_is (key_within call is)))
-          (both f n (flags_there (fields_of kind).flags q e2 flags (subst (λ (o : Option ℕ). IfSome o (λ m. m < 2 ^ 32)) has.flags_are fits.0)) last)));
+      draft = e;
+      there_goes = subst (λ (l : List ℕ). Goes q (plain d) (Byte B.CallCode) l q e (Number N.ValueLength)) spelled_as
+          (subst (λ (due : Due). Goes q (plain d) (Byte B.CallCode) (front_of kind key flags number) q e due) due_is (front_goes q d kind key flags number value is fits));
     })
 
 -- a whole call

@@ -40,31 +40,15 @@ byte_then B.ReplyCode p at byte no_tag = either IsThen (byte == hit_code) _ _ tt
 four_then : (field : NumberField) (p : ReadState) (n : ℕ) → IsThen (after_four field p n)
 four_then N.ValueLength p n = either IsThen (n == 0) _ _ tt tt
 four_then N.FoundLength p n = either IsThen (n == 0) _ _ tt tt
-four_then N.Shard p n = tt
-four_then N.Connection p n = tt
-four_then N.Part p n = tt
-four_then N.Flags p n = tt
-four_then N.FoundFlags p n = tt
-four_then N.HoldConnection p n = tt
-four_then N.HoldCore p n = tt
-four_then N.HoldCount p n = tt
+four_then field p n = tt
 
 eight_then : (field : LongField) (p : ReadState) (n : ℕ) → IsThen (after_eight field p n)
 eight_then L.Stamp p n = tt
-eight_then L.Index p n = tt
-eight_then L.CallNumber p n = tt
-eight_then L.FoundUnique p n = tt
-eight_then L.ReplyNumber p n = tt
-eight_then L.Gets p n = tt
-eight_then L.Sets p n = tt
-eight_then L.Hits p n = tt
-eight_then L.Misses p n = tt
-eight_then L.Items p n = tt
+eight_then field p n = tt
 
 bytes_then : (field : BytesField) (p : ReadState) (content : List ℕ) → IsThen (after_bytes field p content)
 bytes_then S.Key p content = tt
-bytes_then S.Value p content = tt
-bytes_then S.FoundValue p content = tt
+bytes_then field p content = tt
 
 -- ---- they are right
 

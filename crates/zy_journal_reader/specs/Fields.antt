@@ -74,8 +74,8 @@ hold_of d count = record { core = d.core; conn = d.conn; count = count }
 
 -- ---- for the reader alone
 
--- where a byte of the magic is expected, its place is within it; there, and where a record may begin, nothing of one was
--- read
+-- where a byte of the magic is expected, its place is within it; there, and where a record may begin, nothing of a
+-- record was read
 abbrev pub IsInBounds : Due → ℕ → Draft → Type 0
 IsInBounds (Byte Magic) at d = (at < 8) × (d ≡ fresh)
 IsInBounds (Byte Tag) at d = d ≡ fresh

@@ -99,6 +99,10 @@ after_entry s reply = record s {
 abbrev pub ends_entry : ReadState → CallReply → Done
 ends_entry s reply = Then (after_entry s reply)
 
+-- the field ends an entry, whose get found this value
+abbrev pub ends_hit : ReadState → List ℕ → Done
+ends_hit s value = ends_entry s (Replies.Hit s.draft.found_flags s.draft.found_unique value)
+
 -- the state after a hold, which has this count
 abbrev pub after_hold : ReadState → ℕ → ReadState
 after_hold s count = record s {
@@ -164,8 +168,7 @@ after_four ValueLength s n =
     if n == 0 then knows s (record s.draft { value = [] }) (Byte ReplyCode) else begins_bytes s Value n
 after_four FoundFlags s n = knows s (record s.draft { found_flags = n }) (Long FoundUnique)
 after_four FoundLength s n =
-    if n == 0 then ends_entry s (Replies.Hit s.draft.found_flags s.draft.found_unique [])
-    else begins_bytes s FoundValue n
+    if n == 0 then ends_hit s [] else begins_bytes s FoundValue n
 after_four HoldConnection s n = knows s (record s.draft { conn = n }) (Number HoldCore)
 after_four HoldCore s n = knows s (record s.draft { core = n }) (Number HoldCount)
 after_four HoldCount s n = ends_hold s n
@@ -202,13 +205,9 @@ after_eight Items s n = ends_entry s (tally (record s.draft.counts { items = n }
 
 -- what a whole key or value does
 abbrev pub after_bytes : BytesField → ReadState → List ℕ → Done
-after_bytes Key s bytes =
-    knows s (record s.draft { key = bytes; size = 0 })
-    (at_flags (fields_of s.draft.kind))
-after_bytes Value s bytes =
-    knows s (record s.draft { value = bytes; size = 0 }) (Byte ReplyCode)
-after_bytes FoundValue s bytes =
-    ends_entry s (Replies.Hit s.draft.found_flags s.draft.found_unique bytes)
+after_bytes Key s bytes = knows s (record s.draft { key = bytes; size = 0 }) (at_flags (fields_of s.draft.kind))
+after_bytes Value s bytes = knows s (record s.draft { value = bytes; size = 0 }) (Byte ReplyCode)
+after_bytes FoundValue s bytes = ends_hit s bytes
 
 -- ---- a whole field, by what is expected
 

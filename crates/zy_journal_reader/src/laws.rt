@@ -95,7 +95,8 @@ pub fn worked_entries()
     ensures stamp { journal_verdict (with_magic (codes "J\u{10}\0\0\0\0\0\0\0")) ≡ Bad (Form 9) }
     ensures shard { journal_verdict (with_magic (codes "J\0\0\0\0\0\0\0\u{1}\0\0\u{1}\0"))
         ≡ Bad (Form 17) }
-    ensures connection { journal_verdict (with_magic (codes "J\0\0\0\0\0\0\0\u{1}\0\0\0\0\0\0\u{10}\0")) ≡ Bad (Form 21) }
+    ensures connection { journal_verdict (with_magic (codes "J\0\0\0\0\0\0\0\u{1}\0\0\0\0\0\0\u{10}\0"))
+        ≡ Bad (Form 21) }
     ensures falling { journal_verdict (behind_entry (codes "J\0\0\0\0\0\0\0\u{1}"))
         ≡ Bad (Form 40) }
     ensures same { journal_verdict (behind_entry (codes "J\0\0\0\0\0\0\0\u{2}\0\0\0\u{3}")) ≡ Bad (Form 48) }

@@ -1,7 +1,7 @@
 -- A format whose first fields are the bytes of a magic: the fields of the magic and of its beginnings, the byte that is
 -- wrong in it, and the version that is read.
 use Rattle.std.proofs.Common.{◌≡◌, ◌≢◌, ◌⊎◌, inl, inr, ℕ, zero, suc, ◌+◌, ◌<◌, ◌≤◌, true, false, List, [], ◌∷◌, ◌++◌, length, take, drop, get_or, refl, sym, ◌∙◌, ap, subst, arith, append_assoc, length-append, take-append-drop}
-use Rattle.std.specs.Prelude.{◌==◌, if◌then◌else◌, ⊤}
+use Rattle.std.specs.Prelude.{◌==◌, if◌then◌else◌, None, Some, ⊤}
 use Rattle.std.specs.List.{slice_index, concat}
 use Rattle.std.proofs.lemmas.List.{append-nil, take_all, take_at, length-take-le}
 use Rattle.std.proofs.lemmas.Bool.{eqb-true, eq-eqb}
@@ -14,7 +14,7 @@ use Rattle.zy_read.specs.declared.magic.MagicPart.{MagicPart}
 use Rattle.zy_read.specs.declared.magic.MagicPart.TheVariants.{Letters, Digit, LineFeed}
 use Rattle.zy_read.specs.declared.magic.MagicStep.{MagicStep}
 use Rattle.zy_read.specs.declared.magic.MagicStep.TheVariants.{Next, Whole, Wrong}
-use Rattle.zy_read.specs.Magic.{letter, digit, line_feed, magic_step, IsInMagic, magic_before, magic_of, HasMagic, BeginsMagic, IsBadMagic, magic_judged, ReadsMagic}
+use Rattle.zy_read.specs.Magic.{letter, digit, line_feed, magic_step, IsInMagic, magic_before, magic_of, HasMagic, BeginsMagic, IsBadMagic, magic_judged, ReadsMagic, version_in}
 use Rattle.zy_read.proofs.MagicLemmas.{IsVersion, IsKnown, LeadsTo, letters_on, leads}
 use Rattle.zy_read.proofs.RunLemmas.{After, runs_keep, any_parts}
 use Rattle.zy_read.proofs.OverLemmas.{over_none, over_then, over_join, over_begins, over_misjudged}
@@ -210,16 +210,16 @@ magic_misjudged {S} {G} {F} fields letters part_next after form reads text at ha
 -- ---- the version
 
 -- the version that a state knows is 0 within the magic, that of the magic after it, and no field changes it then
-pub record KnowsVersion {S G F : Type 0} (fields : Fields S G F) (part_next : MagicPart → S) (after : ℕ → S) (version_in : S → ℕ) (IsPast : S → Type 0) : Type 0 where
-  pub none : (part : MagicPart) → version_in (part_next part) ≡ 0
-  pub whole : (version : ℕ) → (version_in (after version) ≡ version) × IsPast (after version)
-  pub stays : (s : S) (at : ℕ) (field : List ℕ) → IsPast s → Leaves (λ next. (version_in next ≡ version_in s) × IsPast next) (fields.judge s at field)
+pub record KnowsVersion {S G F : Type 0} (fields : Fields S G F) (part_next : MagicPart → S) (after : ℕ → S) (known_in : S → ℕ) (IsPast : S → Type 0) : Type 0 where
+  pub none : (part : MagicPart) → known_in (part_next part) ≡ 0
+  pub whole : (version : ℕ) → (known_in (after version) ≡ version) × IsPast (after version)
+  pub stays : (s : S) (at : ℕ) (field : List ℕ) → IsPast s → Leaves (λ next. (known_in next ≡ known_in s) × IsPast next) (fields.judge s at field)
 
 -- the bytes are those of the magic before a part, or begin with the magic of the version
 abbrev IsAt : {S : Type 0} → List ℕ → (MagicPart → S) → (S → ℕ) → (S → Type 0) → S → List ℕ → Type 0
-IsAt letters part_next version_in IsPast s text =
+IsAt letters part_next known_in IsPast s text =
     ((part : MagicPart) × (s ≡ part_next part) × (text ≡ magic_before part letters (length text)) × IsInMagic part (length text) × IsKnown part)
-    ⊎ (IsPast s × HasMagic letters text (version_in s))
+    ⊎ (IsPast s × HasMagic letters text (known_in s))
 
 -- what follows a magic does not matter
 pub further : (letters text more : List ℕ) (version : ℕ) → HasMagic letters text version → HasMagic letters (text ++ more) version
@@ -229,18 +229,18 @@ further letters text more version has = record {
   whole = ap (λ (l : List ℕ). l ++ more) has.whole ∙ append_assoc (magic_of letters version) has.rest more;
 }
 
-magic_on : {S G F : Type 0} (fields : Fields S G F) (letters : List ℕ) (part_next : MagicPart → S) (after : ℕ → S) (version_in : S → ℕ) (IsPast : S → Type 0) (knows : KnowsVersion fields part_next after version_in IsPast) (fault : F) (text : List ℕ) (given : List G) (found : MagicStep) → LeadsTo letters (length text) text found
-    → After (λ s t g. IsAt letters part_next version_in IsPast s t) text given (magic_judged {G = G} part_next after fault found)
-magic_on fields letters part_next after version_in IsPast knows fault text given (Next part) on = inl (part, refl, on.2, on.0, on.1)
-magic_on fields letters part_next after version_in IsPast knows fault text given (Whole version) on =
+magic_on : {S G F : Type 0} (fields : Fields S G F) (letters : List ℕ) (part_next : MagicPart → S) (after : ℕ → S) (known_in : S → ℕ) (IsPast : S → Type 0) (knows : KnowsVersion fields part_next after known_in IsPast) (fault : F) (text : List ℕ) (given : List G) (found : MagicStep) → LeadsTo letters (length text) text found
+    → After (λ s t g. IsAt letters part_next known_in IsPast s t) text given (magic_judged {G = G} part_next after fault found)
+magic_on fields letters part_next after known_in IsPast knows fault text given (Next part) on = inl (part, refl, on.2, on.0, on.1)
+magic_on fields letters part_next after known_in IsPast knows fault text given (Whole version) on =
     inr ((knows.whole version).1, subst (HasMagic letters text) (sym (knows.whole version).0) (record { rest = []; known = on.0; whole = on.1 ∙ sym (append-nil (magic_of letters version)) }))
-magic_on fields letters part_next after version_in IsPast knows fault text given Wrong on = tt
+magic_on fields letters part_next after known_in IsPast knows fault text given Wrong on = tt
 
-past_on : {S G F : Type 0} (letters : List ℕ) (part_next : MagicPart → S) (version_in : S → ℕ) (IsPast : S → Type 0) (version : ℕ) (text : List ℕ) (given : List G) (judged : Judged S G F) → HasMagic letters text version → Leaves (λ next. (version_in next ≡ version) × IsPast next) judged
-    → After (λ s t g. IsAt letters part_next version_in IsPast s t) text given judged
-past_on letters part_next version_in IsPast version text given (Then next) has leaves = inr (leaves.1, subst (HasMagic letters text) (sym leaves.0) has)
-past_on letters part_next version_in IsPast version text given (Gives next item) has leaves = inr (leaves.1, subst (HasMagic letters text) (sym leaves.0) has)
-past_on letters part_next version_in IsPast version text given (IsFault fault) has leaves = tt
+past_on : {S G F : Type 0} (letters : List ℕ) (part_next : MagicPart → S) (known_in : S → ℕ) (IsPast : S → Type 0) (version : ℕ) (text : List ℕ) (given : List G) (judged : Judged S G F) → HasMagic letters text version → Leaves (λ next. (known_in next ≡ version) × IsPast next) judged
+    → After (λ s t g. IsAt letters part_next known_in IsPast s t) text given judged
+past_on letters part_next known_in IsPast version text given (Then next) has leaves = inr (leaves.1, subst (HasMagic letters text) (sym leaves.0) has)
+past_on letters part_next known_in IsPast version text given (Gives next item) has leaves = inr (leaves.1, subst (HasMagic letters text) (sym leaves.0) has)
+past_on letters part_next known_in IsPast version text given (IsFault fault) has leaves = tt
 
 -- a field of one byte
 pub one_byte : (field : List ℕ) → length field ≡ 1 → field ≡ get_or field 0 0 ∷ []
@@ -248,44 +248,66 @@ one_byte [] is = absurd (omega (arith, is))
 one_byte (byte ∷ []) is = refl
 one_byte (byte ∷ next ∷ field) is = absurd (omega (arith, is))
 
-at_keeps : {S G F : Type 0} (fields : Fields S G F) (letters : List ℕ) (part_next : MagicPart → S) (after : ℕ → S) (form : ℕ → F) (reads : ReadsMagic fields letters part_next after form) (version_in : S → ℕ) (IsPast : S → Type 0) (knows : KnowsVersion fields part_next after version_in IsPast)
-    (s : S) (text field : List ℕ) (given : List G) → length field ≡ fields.width s → IsAt letters part_next version_in IsPast s text → After (λ s t g. IsAt letters part_next version_in IsPast s t) (text ++ field) given (fields.judge s (length text) field)
-at_keeps {S} {G} {F} fields letters part_next after form reads version_in IsPast knows s text field given size (inl at) =
+at_keeps : {S G F : Type 0} (fields : Fields S G F) (letters : List ℕ) (part_next : MagicPart → S) (after : ℕ → S) (form : ℕ → F) (reads : ReadsMagic fields letters part_next after form) (known_in : S → ℕ) (IsPast : S → Type 0) (knows : KnowsVersion fields part_next after known_in IsPast)
+    (s : S) (text field : List ℕ) (given : List G) → length field ≡ fields.width s → IsAt letters part_next known_in IsPast s text → After (λ s t g. IsAt letters part_next known_in IsPast s t) (text ++ field) given (fields.judge s (length text) field)
+at_keeps {S} {G} {F} fields letters part_next after form reads known_in IsPast knows s text field given size (inl at) =
     let part : MagicPart = at.0 in
     let byte : ℕ = get_or field 0 0 in
     let found : MagicStep = magic_step part letters (length text) byte in
     let one : field ≡ byte ∷ [] = one_byte field (size ∙ ap (λ (t : S). fields.width t) at.1 ∙ reads.widths part) in
     let judged : fields.judge s (length text) field ≡ magic_judged {G = G} part_next after (form (length text)) found = ap (λ (t : S). fields.judge t (length text) field) at.1 ∙ ap (λ (l : List ℕ). fields.judge (part_next part) (length text) l) one ∙ reads.judges part (length text) byte in
-    subst (λ (j : Judged S G F). After (λ t l g. IsAt letters part_next version_in IsPast t l) (text ++ field) given j) (sym judged)
-    (subst (λ (l : List ℕ). After (λ t m g. IsAt letters part_next version_in IsPast t m) (text ++ l) given (magic_judged {G = G} part_next after (form (length text)) found)) (sym one)
-    (magic_on fields letters part_next after version_in IsPast knows (form (length text)) (text ++ byte ∷ []) given found
+    subst (λ (j : Judged S G F). After (λ t l g. IsAt letters part_next known_in IsPast t l) (text ++ field) given j) (sym judged)
+    (subst (λ (l : List ℕ). After (λ t m g. IsAt letters part_next known_in IsPast t m) (text ++ l) given (magic_judged {G = G} part_next after (form (length text)) found)) (sym one)
+    (magic_on fields letters part_next after known_in IsPast knows (form (length text)) (text ++ byte ∷ []) given found
     (subst (λ (n : ℕ). LeadsTo letters n (text ++ byte ∷ []) found) (sym (length-append text (byte ∷ [])))
     (subst (λ (l : List ℕ). LeadsTo letters (length text + 1) (l ++ byte ∷ []) found) (sym at.2) (leads part letters (length text) byte reads.six at.3 at.4)))))
-at_keeps fields letters part_next after form reads version_in IsPast knows s text field given size (inr past) =
-    past_on letters part_next version_in IsPast (version_in s) (text ++ field) given (fields.judge s (length text) field) (further letters text field (version_in s) past.1) (knows.stays s (length text) field past.0)
+at_keeps fields letters part_next after form reads known_in IsPast knows s text field given size (inr past) =
+    past_on letters part_next known_in IsPast (known_in s) (text ++ field) given (fields.judge s (length text) field) (further letters text field (known_in s) past.1) (knows.stays s (length text) field past.0)
+
+-- ---- the version that was read
+
+pub known_version : (version : ℕ) → IsVersion version → version_in version ≡ Some version
+known_version version (inl one) = rw one refl
+known_version version (inr two) = rw two refl
+
+version_some : (found version : ℕ) → version_in found ≡ Some version → (found ≡ version) × (found ≢ 0)
+version_some found version is = elim (found == 0) as (λ t. (found == 0) ≡ t → (found ≡ version) × (found ≢ 0)) [
+  | true ↦ λ zero_is. let none : version_in found ≡ None = rw zero_is refl in cc
+  | false ↦ λ some_is.
+      let same : found ≡ version = (let told : version_in found ≡ Some found = rw some_is refl in cc) in
+      (same, λ zero_is. grind (arith, nat_tests, some_is, zero_is))
+] refl
 
 -- a version that was read is that of the magic with which the text begins
-pub told_magic : {S G F : Type 0} (fields : Fields S G F) (lawful : IsLawful fields) (letters : List ℕ) (part_next : MagicPart → S) (after : ℕ → S) (form : ℕ → F) (reads : ReadsMagic fields letters part_next after form) (version_in : S → ℕ) (IsPast : S → Type 0) (knows : KnowsVersion fields part_next after version_in IsPast)
-    (text : List ℕ) → version_in (read_on (step fields) (at_state fields.start 0) text).last.state ≢ 0 → HasMagic letters text (version_in (read_on (step fields) (at_state fields.start 0) text).last.state)
-told_magic {S} {G} {F} fields lawful letters part_next after form reads version_in IsPast knows text some =
+pub told_magic : {S G F : Type 0} (fields : Fields S G F) (lawful : IsLawful fields) (letters : List ℕ) (part_next : MagicPart → S) (after : ℕ → S) (form : ℕ → F) (reads : ReadsMagic fields letters part_next after form) (known_in : S → ℕ) (IsPast : S → Type 0) (knows : KnowsVersion fields part_next after known_in IsPast)
+    (text : List ℕ) (version : ℕ) → version_in (known_in (read_on (step fields) (at_state fields.start 0) text).last.state) ≡ Some version → HasMagic letters text version
+told_magic {S} {G} {F} fields lawful letters part_next after form reads known_in IsPast knows text version is =
     let s : S = (read_on (step fields) (at_state fields.start 0) text).last.state in
     let reached = text_reaches fields lawful text in
     let front : List ℕ = concat reached.begins.parts in
     let six = reads.six in
-    elim (runs_keep fields (λ field. ⊤) (λ t l g. IsAt letters part_next version_in IsPast t l) (λ t l field g ok at size. at_keeps fields letters part_next after form reads version_in IsPast knows t l field g size at)
+    let found = version_some (known_in s) version is in
+    subst (HasMagic letters text) found.0
+    (elim (runs_keep fields (λ field. ⊤) (λ t l g. IsAt letters part_next known_in IsPast t l) (λ t l field g ok at size. at_keeps fields letters part_next after form reads known_in IsPast knows t l field g size at)
     reached.begins.parts fields.start s [] 0 [] reached.given refl (any_parts reached.begins.parts) (inl (Letters, reads.start_is, refl, omega arith, tt)) reached.begins.runs) [
-      | inl at ↦ absurd (some (ap (λ (t : S). version_in t) at.1 ∙ knows.none at.0))
-      | inr past ↦ subst (λ (l : List ℕ). HasMagic letters l (version_in s)) (sym reached.begins.text_is) (further letters front reached.rest (version_in s) past.1)
-    ]
+      | inl at ↦ absurd (found.1 (ap (λ (t : S). known_in t) at.1 ∙ knows.none at.0))
+      | inr past ↦ subst (λ (l : List ℕ). HasMagic letters l (known_in s)) (sym reached.begins.text_is) (further letters front reached.rest (known_in s) past.1)
+    ])
 
 -- the version of the magic with which a text begins is read
-pub magic_told : {S G F : Type 0} (fields : Fields S G F) (lawful : IsLawful fields) (letters : List ℕ) (part_next : MagicPart → S) (after : ℕ → S) (form : ℕ → F) (reads : ReadsMagic fields letters part_next after form) (version_in : S → ℕ) (IsPast : S → Type 0) (knows : KnowsVersion fields part_next after version_in IsPast)
-    (text : List ℕ) (version : ℕ) → HasMagic letters text version → version_in (read_on (step fields) (at_state fields.start 0) text).last.state ≡ version
-magic_told {S} {G} {F} fields lawful letters part_next after form reads version_in IsPast knows text version has =
-    let Past : S → Type 0 = λ s. (version_in s ≡ version) × IsPast s in
+pub magic_told : {S G F : Type 0} (fields : Fields S G F) (lawful : IsLawful fields) (letters : List ℕ) (part_next : MagicPart → S) (after : ℕ → S) (form : ℕ → F) (reads : ReadsMagic fields letters part_next after form) (known_in : S → ℕ) (IsPast : S → Type 0) (knows : KnowsVersion fields part_next after known_in IsPast)
+    (text : List ℕ) (version : ℕ) → HasMagic letters text version → version_in (known_in (read_on (step fields) (at_state fields.start 0) text).last.state) ≡ Some version
+magic_told {S} {G} {F} fields lawful letters part_next after form reads known_in IsPast knows text version has =
+    let Past : S → Type 0 = λ s. (known_in s ≡ version) × IsPast s in
     let six = reads.six in
     let room = reads.room in
     let size : length (magic_of letters version) ≡ 8 = omega (arith, six, length-append letters ((48 + version) ∷ 10 ∷ [])) in
     let begins : Begins fields text (after version) [] has.rest = over_begins fields text (after version) (magic_of letters version) has.rest [] (magic_over fields letters part_next after form reads version has.known) (omega (arith, size, room)) has.whole in
-    let kept = state_kept fields Past (λ s at field past. subst (λ (n : ℕ). Leaves (λ next. (version_in next ≡ n) × IsPast next) (fields.judge s at field)) past.0 (knows.stays s at field past.1)) has.rest (at_state (after version) (length (concat begins.parts))) (knows.whole version) in
-    ap (λ (r : Reading (Place S F) G). version_in r.last.state) (begins_read fields lawful text (after version) [] has.rest begins) ∙ kept.0
+    let kept = state_kept fields Past (λ s at field past. subst (λ (n : ℕ). Leaves (λ next. (known_in next ≡ n) × IsPast next) (fields.judge s at field)) past.0 (knows.stays s at field past.1)) has.rest (at_state (after version) (length (concat begins.parts))) (knows.whole version) in
+    ap (λ (r : Reading (Place S F) G). version_in (known_in r.last.state)) (begins_read fields lawful text (after version) [] has.rest begins) ∙ ap (λ (n : ℕ). version_in n) kept.0 ∙ known_version version has.known
+
+-- it is that of every longer text
+pub version_stays : {S G F : Type 0} (fields : Fields S G F) (lawful : IsLawful fields) (letters : List ℕ) (part_next : MagicPart → S) (after : ℕ → S) (form : ℕ → F) (reads : ReadsMagic fields letters part_next after form) (known_in : S → ℕ) (IsPast : S → Type 0) (knows : KnowsVersion fields part_next after known_in IsPast)
+    (text more : List ℕ) (version : ℕ) → version_in (known_in (read_on (step fields) (at_state fields.start 0) text).last.state) ≡ Some version → version_in (known_in (read_on (step fields) (at_state fields.start 0) (text ++ more)).last.state) ≡ Some version
+version_stays fields lawful letters part_next after form reads known_in IsPast knows text more version is =
+    magic_told fields lawful letters part_next after form reads known_in IsPast knows (text ++ more) version (further letters text more version (told_magic fields lawful letters part_next after form reads known_in IsPast knows text version is))

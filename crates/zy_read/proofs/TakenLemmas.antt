@@ -1,18 +1,18 @@
 -- Whole fields that are fed at once.
-use Rattle.std.proofs.Common.{◌≡◌, inr, ℕ, ◌+◌, ◌-◌, ◌≤◌, true, false, List, [], length, take, sym, ◌∙◌, ap, subst, arith}
+use Rattle.std.proofs.Common.{◌≡◌, ℕ, ◌+◌, ◌≤◌, true, false, List, [], length, take, sym, ◌∙◌, ap, subst, arith}
 use Rattle.std.specs.Prelude.{Option, None, Some, Result, Ok, Err, is_ok}
 use Rattle.std.specs.List.{concat}
 use Rattle.std.proofs.lemmas.List.{append-nil, take-take, length-take-le}
 use Rattle.zy_read.specs.declared.not_taken.NotTaken.{NotTaken}
 use Rattle.zy_read.specs.declared.not_taken.NotTaken.TheVariants.{Fault, NoMemory}
 use Rattle.zy_read.specs.Format.{read_on}
-use Rattle.zy_read.specs.Fields.{Judged, Fields, IsLawful, Place, at_state, moved, step, format_of}
+use Rattle.zy_read.specs.Fields.{Judged, Fields, IsLawful, Place, at_state, step, format_of}
 use Rattle.zy_read.specs.Fields.Judged.{Then}
 use Rattle.zy_read.specs.Runs.{RunsOver}
 use Rattle.zy_read.specs.FieldReading.{Judges, IsQuiet}
 use Rattle.zy_read.specs.Standing.{Feeds}
 use Rattle.zy_read.proofs.Feeding.{fed_by}
-use Rattle.zy_read.proofs.FieldLemmas.{goes_on, within, read_rest, runs_read}
+use Rattle.zy_read.proofs.FieldLemmas.{runs_read}
 
 -- a field that gives no record leads to a state
 pub quiet_then : {S G F : Type 0} (Fits : S → ℕ → Type 0) (Wants : S → Type 0) (judged : Judged S G F) (after : ℕ) (old new : S) (answer : Result (Option G) (NotTaken F)) → Judges Fits Wants judged after old new answer → is_ok answer ≡ true → IsQuiet judged → (judged ≡ Then new) × Fits new after
@@ -25,30 +25,6 @@ pub judged_kept : {S G F : Type 0} (Fits : S → ℕ → Type 0) (Wants : S → 
 judged_kept Fits Wants judged after old new (Ok gave) judges refused = cc
 judged_kept Fits Wants judged after old new (Err (Fault fault)) judges refused = judges.1
 judged_kept Fits Wants judged after old new (Err NoMemory) judges refused = judges.0
-
--- a whole field is fed
-pub whole_fed : {S G F V : Type 0} (fields : Fields S G F) (lawful : IsLawful fields) (good : S → List G → V) (bad : F → V) (p q : Place S F) (field : List ℕ) → p.fault ≡ None → p.seen ≡ [] → length field ≡ fields.width p.state → p.at + length field ≤ fields.limit
-    → fields.judge p.state p.at field ≡ Then q.state → q ≡ at_state q.state (p.at + length field) → Feeds (format_of fields good bad) p q field []
-unfolding read_on
-whole_fed {S} {G} {F} fields lawful good bad p q field none first size room leads same =
-    let here : p ≡ within p.state [] p.at = ap (λ (l : List ℕ). record { state = p.state; seen = l; at = p.at; fault = p.fault }) first ∙ ap (λ (o : Option F). record { state = p.state; seen = []; at = p.at; fault = o }) none in
-    let one = read_rest fields p.state field [] p.at (omega (arith, size, lawful.some p.state)) (omega (arith, size)) (inr room) in
-    let from_here : p.at - 0 ≡ p.at = omega arith in
-    let judged : fields.judge p.state (p.at - 0) field ≡ Then q.state = ap (λ (n : ℕ). fields.judge p.state n field) from_here ∙ leads in
-    fed_by (format_of fields good bad) p q field []
-    (ap (λ (x : Place S F). read_on (step fields) x field) here
-    ∙ ap (λ (l : List ℕ). read_on (step fields) (within p.state [] p.at) l) (sym (append-nil field))
-    ∙ one.reads []
-    ∙ ap (λ (j : Judged S G F). goes_on fields (moved one.last j) []) judged
-    ∙ ap (λ (n : ℕ). record { given = []; last = at_state q.state n }) one.place
-    ∙ ap (λ (x : Place S F). record { given = []; last = x }) (sym same))
-
--- the first bytes of a piece are a whole field
-pub first_fed : {S G F V : Type 0} (fields : Fields S G F) (lawful : IsLawful fields) (good : S → List G → V) (bad : F → V) (p q : Place S F) (bytes field : List ℕ) (size : ℕ) → field ≡ take size bytes → length field ≡ size → p.fault ≡ None → p.seen ≡ [] → fields.width p.state ≡ size → p.at + size ≤ fields.limit
-    → fields.judge p.state p.at field ≡ Then q.state → q ≡ at_state q.state (p.at + size) → Feeds (format_of fields good bad) p q (take size bytes) []
-first_fed {S} {G} {F} fields lawful good bad p q bytes field size is long none first wide room leads same =
-    subst (λ (l : List ℕ). Feeds (format_of fields good bad) p q l []) is
-    (whole_fed fields lawful good bad p q field none first (long ∙ sym wide) (omega (arith, long, room)) leads (same ∙ ap (λ (n : ℕ). at_state q.state (p.at + n)) (sym long)))
 
 -- whole fields that give no record are fed
 pub over_fed : {S G F V : Type 0} (fields : Fields S G F) (lawful : IsLawful fields) (good : S → List G → V) (bad : F → V) (p q : Place S F) (text : List ℕ) → p.fault ≡ None → p.seen ≡ [] → RunsOver fields p.state p.at text q.state [] → p.at + length text ≤ fields.limit → q ≡ at_state q.state (p.at + length text)

@@ -60,8 +60,8 @@ IsPlaced Fits None s at = Fits s at
 IsPlaced Fits (Some fault) s at = ⊤
 
 -- what is so of the parts of a reader
-pub record IsReader {S F : Type 0} (shape : S → Shape) (limit : ℕ) (Fits : S → ℕ → Type 0) (s : S) (field payload : List ℕ)
-    (at : ℕ) (fault : Option F) : Type 0 where
+pub record IsReader {S F : Type 0} (shape : S → Shape) (limit : ℕ) (Fits : S → ℕ → Type 0) (s : S)
+    (field payload : List ℕ) (at : ℕ) (fault : Option F) : Type 0 where
   pub part : IsPart (shape s) field payload
   pub place : IsPlaced Fits fault s (at - length (field ++ payload))
   pub count : length (field ++ payload) ≤ at
@@ -69,7 +69,7 @@ pub record IsReader {S F : Type 0} (shape : S → Shape) (limit : ℕ) (Fits : S
   pub few : limit < 2 ^ 64 - 1
 
 -- an answer and a new place are those of a step
-abbrev pub TakesField : {S G F V : Type 0} → Fields S G F → (S → List G → V) → (F → V) → (S → Type 0) → Step (Place S F) G
-    → Place S F → Place S F → ℕ → Result (Option G) (NotTaken F) → Type 0
+abbrev pub TakesField : {S G F V : Type 0} → Fields S G F → (S → List G → V) → (F → V) → (S → Type 0)
+    → Step (Place S F) G → Place S F → Place S F → ℕ → Result (Option G) (NotTaken F) → Type 0
 TakesField fields good bad Wants step old new byte answer =
     Follows (format_of fields good bad) (MayNeed fields Wants) step old new byte answer

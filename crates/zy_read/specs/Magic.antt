@@ -1,6 +1,6 @@
 -- The magic with which a text begins, byte after byte: six letters, the digit of a version, which is 1 or 2, and a line
 -- feed.
-use Rattle.std.specs.Prelude.{◌≡◌, ◌⊎◌, ℕ, ◌+◌, ◌<◌, ◌≤◌, ◌==◌, if◌then◌else◌, List, [], ◌∷◌, ◌++◌, length, take, ⊤}
+use Rattle.std.specs.Prelude.{◌≡◌, ◌⊎◌, ℕ, ◌+◌, ◌<◌, ◌≤◌, ◌==◌, if◌then◌else◌, List, [], ◌∷◌, ◌++◌, length, take, Option, None, Some, ⊤}
 use Rattle.std.specs.List.{slice_index}
 use Rattle.zy_read.specs.Fields.{Judged, Fields}
 use Rattle.zy_read.specs.Fields.Judged.{Then, Wrong as IsFault}
@@ -68,6 +68,10 @@ pub record IsBadMagic (letters text : List ℕ) (at : ℕ) : Type 0 where
   pub within : at < 8
   pub begins : BeginsMagic letters front
   pub differs : BeginsMagic letters (front ++ byte ∷ []) → ⊥
+
+-- the version of a magic that was read whole; the number is 0 before
+abbrev pub version_in : ℕ → Option ℕ
+version_in version = if version == 0 then None else Some version
 
 -- ---- fields
 

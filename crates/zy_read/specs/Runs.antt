@@ -20,8 +20,8 @@ Runs {S} {G} fields s at (field ∷ others) last given =
     × GoesOn (fields.judge s at field) (λ next rest. Runs fields next (at + length field) others last rest) given
 
 -- a text is whole fields that lead from a state, at some place, to a state, and give these records
-pub record RunsOver {S G F : Type 0} (fields : Fields S G F) (s : S) (at : ℕ) (text : List ℕ) (last : S) (given : List G)
-    : Type 0 where
+pub record RunsOver {S G F : Type 0} (fields : Fields S G F) (s : S) (at : ℕ) (text : List ℕ) (last : S)
+    (given : List G) : Type 0 where
   pub parts : List (List ℕ)
   pub runs : Runs fields s at parts last given
   pub text_is : concat parts ≡ text

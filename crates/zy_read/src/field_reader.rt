@@ -6,6 +6,7 @@ ghost use Rattle.zy_read.specs.Standing.{Follows};
 ghost use Rattle.zy_read.specs.declared.shape.Shape.TheVariants as Kinds;
 ghost use Rattle.zy_read.specs.FieldsLasting.{lasting};
 
+mod judging;
 mod runs;
 mod steps;
 

@@ -48,11 +48,16 @@ impl Reads for Reader {
         match self.state.due {
             Due::Payload { conn, others } => self.feed_payload(conn, others, byte),
             Due::Tag => self.feed_tag(byte),
-            Due::Connection => self.feed_connection(byte),
-            Due::Length { conn } => self.feed_length(conn, byte),
-            Due::Closed => self.feed_closed(byte),
             Due::Magic(part) => self.feed_magic(part, byte),
-            Due::Count => self.feed_count(byte),
+            Due::Count | Due::Connection | Due::Length { .. } | Due::Closed
+                if self.field.len() < 3 => {
+                self.keep(byte);
+                Ok(None)
+            }
+            Due::Connection => self.end_connection(byte),
+            Due::Length { conn } => self.end_length(conn, byte),
+            Due::Closed => self.end_closed(byte),
+            Due::Count => self.end_count(byte),
             Due::Nothing => self.refuse(CaptureFault::Trailing { at: self.at }),
         }
     }
@@ -182,17 +187,14 @@ impl Reader {
         Ok(None)
     }
 
-    // The connection count.
-    fn feed_count(&mut self, byte: u8) -> Result<Option<Record>, FeedFault>
+    // The last byte of the connection count.
+    fn end_count(&mut self, byte: u8) -> Result<Option<Record>, FeedFault>
         requires due { self.old.state.due ≡ Dues.Count }
+        requires last { length self.old.seen ≡ 3 }
         requires none { self.old.fault ≡ None }
         requires room { self.old.at < capture_limit }
         ensures value { Takes (field_step fields self.old byte) self.old self.new byte result }
     {
-        if self.field.len() < 3 {
-            self.keep(byte);
-            return Ok(None);
-        }
         let number = self.field.number(byte);
         if number > CONNECTION_LIMIT {
             return self.refuse(CaptureFault::ConnCount { number });
@@ -202,17 +204,14 @@ impl Reader {
         Ok(None)
     }
 
-    // The connection of a segment.
-    fn feed_connection(&mut self, byte: u8) -> Result<Option<Record>, FeedFault>
+    // The last byte of the connection of a segment.
+    fn end_connection(&mut self, byte: u8) -> Result<Option<Record>, FeedFault>
         requires due { self.old.state.due ≡ Dues.Connection }
+        requires last { length self.old.seen ≡ 3 }
         requires none { self.old.fault ≡ None }
         requires room { self.old.at < capture_limit }
         ensures value { Takes (field_step fields self.old byte) self.old self.new byte result }
     {
-        if self.field.len() < 3 {
-            self.keep(byte);
-            return Ok(None);
-        }
         let conn = self.field.number(byte);
         if conn >= self.state.count {
             return self.refuse(CaptureFault::ConnRange {
@@ -224,17 +223,14 @@ impl Reader {
         Ok(None)
     }
 
-    // The connection of a close record.
-    fn feed_closed(&mut self, byte: u8) -> Result<Option<Record>, FeedFault>
+    // The last byte of the connection of a close record.
+    fn end_closed(&mut self, byte: u8) -> Result<Option<Record>, FeedFault>
         requires due { self.old.state.due ≡ Dues.Closed }
+        requires last { length self.old.seen ≡ 3 }
         requires none { self.old.fault ≡ None }
         requires room { self.old.at < capture_limit }
         ensures value { Takes (field_step fields self.old byte) self.old self.new byte result }
     {
-        if self.field.len() < 3 {
-            self.keep(byte);
-            return Ok(None);
-        }
         let number = self.field.number(byte);
         if number >= self.state.count {
             return self.refuse(CaptureFault::ConnRange {
@@ -246,17 +242,14 @@ impl Reader {
         Ok(Some(Record::Close { conn: number }))
     }
 
-    // The length of a segment. Memory is needed at its last byte alone.
-    fn feed_length(&mut self, conn: u32, byte: u8) -> Result<Option<Record>, FeedFault>
+    // The last byte of the length of a segment. It needs memory.
+    fn end_length(&mut self, conn: u32, byte: u8) -> Result<Option<Record>, FeedFault>
         requires due { self.old.state.due ≡ Dues.Length conn }
+        requires last { length self.old.seen ≡ 3 }
         requires none { self.old.fault ≡ None }
         requires room { self.old.at < capture_limit }
         ensures value { Takes (field_step fields self.old byte) self.old self.new byte result }
     {
-        if self.field.len() < 3 {
-            self.keep(byte);
-            return Ok(None);
-        }
         let length = self.field.number(byte);
         if length > SEGMENT_LIMIT {
             let at = self.at - 3;

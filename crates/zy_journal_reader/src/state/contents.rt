@@ -8,7 +8,7 @@ use super::JournalState;
 use crate::call_fields::at_flags;
 use crate::due::{ByteField, BytesField, Due};
 use std::alloc::Global;
-use zy_base::{Blob, CallReply};
+use zy_base::Blob;
 use zy_read::FileFeed;
 
 impl JournalState {
@@ -33,14 +33,7 @@ impl JournalState {
                 self.draft.size = 0;
                 self.due = Due::Byte(ByteField::ReplyCode);
             }
-            BytesField::FoundValue => {
-                let reply = CallReply::Hit {
-                    flags: self.draft.found_flags,
-                    unique: self.draft.found_unique,
-                    value: all,
-                };
-                return self.end_entry(alloc, reply);
-            }
+            BytesField::FoundValue => return self.end_hit(alloc, all),
         }
         Ok(None)
     }

@@ -1,7 +1,7 @@
 //! The ends of entries and holds.
 ghost use Rattle.std.specs.Prelude.{◌≡◌, ◌<◌, ◌≤◌, ◌+◌, ℕ, [], ◌∷◌, ◌++◌, true, vec_len, vec_capacity};
 ghost use Rattle.zy_journal_reader.specs.Fields.{fresh, entry_read};
-ghost use Rattle.zy_journal_reader.specs.Steps.{ends_entry, ends_hold};
+ghost use Rattle.zy_journal_reader.specs.Steps.{ends_entry, ends_hit, ends_hold};
 ghost use Rattle.zy_journal_reader.specs.Standing.{TakesStep, takes_memory};
 
 use super::JournalState;
@@ -9,7 +9,7 @@ use crate::draft::Draft;
 use crate::due::{ByteField, Due};
 use std::alloc::Global;
 use std::mem;
-use zy_base::{CallReply, Entry, Hold};
+use zy_base::{Blob, CallReply, Entry, Hold};
 use zy_read::FileFeed;
 
 impl JournalState {
@@ -30,6 +30,19 @@ impl JournalState {
         add_entry(&mut self.entries, alloc, &mut self.draft, reply);
         self.due = Due::Byte(ByteField::Tag);
         Ok(None)
+    }
+
+    // The field ends the entry of a get that found this value, which needs memory.
+    pub(super) fn end_hit(&mut self, alloc: Global, value: Blob) -> Result<Option<()>, FileFeed>
+        requires due { takes_memory self.old.due ≡ true }
+        ensures value { TakesStep (ends_hit self.old value) self.old self.new result }
+    {
+        let reply = CallReply::Hit {
+            flags: self.draft.found_flags,
+            unique: self.draft.found_unique,
+            value,
+        };
+        self.end_entry(alloc, reply)
     }
 
     // The field ends a hold, which needs memory.

@@ -10,9 +10,7 @@ use super::JournalState;
 use crate::call_fields::at_number;
 use crate::due::{ByteField, BytesField, Due, LongField, NumberField};
 use std::alloc::Global;
-use zy_base::{
-    Blob, CONNECTION_LIMIT, CORE_LIMIT, CallReply, HOLD_LIMIT, SHARD_LIMIT, VALUE_LIMIT,
-};
+use zy_base::{Blob, CONNECTION_LIMIT, CORE_LIMIT, HOLD_LIMIT, SHARD_LIMIT, VALUE_LIMIT};
 use zy_read::FileFeed;
 
 impl JournalState {
@@ -102,14 +100,7 @@ impl JournalState {
         ensures value { TakesStep (after_four Numbers.FoundLength self.old size) self.old self.new result }
     {
         if size == 0 {
-            return self.end_entry(
-                alloc,
-                CallReply::Hit {
-                    flags: self.draft.found_flags,
-                    unique: self.draft.found_unique,
-                    value: Blob::new(alloc),
-                },
-            );
+            return self.end_hit(alloc, Blob::new(alloc));
         }
         self.begin_bytes(BytesField::FoundValue, size);
         Ok(None)

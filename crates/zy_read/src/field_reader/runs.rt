@@ -6,6 +6,7 @@ ghost use Rattle.zy_read.specs.Standing.{Feeds};
 ghost use Rattle.zy_read.specs.declared.shape.Shape.TheVariants as Kinds;
 
 use super::FieldReader;
+use super::judging::judge_whole;
 use crate::field_format::FieldFormat;
 use crate::shape::Shape;
 
@@ -63,13 +64,18 @@ impl<S: FieldFormat> FieldReader<S> {
             return 0;
         }
         let room = self.state.limit() - self.at;
-        match self.state.shape() {
-            Shape::Byte if room >= 1 => self.take_whole_byte(bytes),
-            Shape::Four if room >= 4 => self.take_whole_four(bytes),
-            Shape::Eight if room >= 8 => self.take_whole_eight(bytes),
-            Shape::Run(others) if room > others => self.take_whole_run(others, bytes),
-            _ => 0,
-        }
+        let most = room.min((bytes.len() - 1) as u64) as usize;
+        let bytes = &bytes[..most];
+        let size = judge_whole(
+            self.alloc,
+            &mut self.state,
+            &mut self.payload,
+            self.at,
+            bytes,
+        );
+        self.payload.clear();
+        self.at += size as u64;
+        size
     }
 
     // No byte of the next field was read.
@@ -77,116 +83,6 @@ impl<S: FieldFormat> FieldReader<S> {
         ensures value { result ≡ true → self.now.seen ≡ [] }
     {
         self.field.len() == 0 && self.payload.len() == 0
-    }
-
-    // The same for a field of one byte.
-    #[tactic(auto, using(crate::proofs::TakenLemmas::quiet_then, crate::proofs::TakenLemmas::judged_kept, crate::proofs::TakenLemmas::whole_fed, crate::proofs::Feeding::fed_none))]
-    fn take_whole_byte(&mut self, bytes: &[u8]) -> usize
-        requires shape { S.shape_of self.old.state ≡ Kinds.Byte }
-        requires open { self.old.fault ≡ None }
-        requires first { self.old.seen ≡ [] }
-        requires quiet { (at : ℕ) (field : List ℕ) → IsQuiet (S.fields.judge self.old.state at field) }
-        requires room { self.old.at + 1 ≤ S.fields.limit }
-        requires some { 0 < length bytes.now }
-        ensures within { result < length bytes.now }
-        ensures fed { Feeds (format_of S.fields S.good S.bad) self.old self.new
-            (take result bytes.now) [] }
-    {
-        if bytes.len() == 1 {
-            return 0;
-        }
-        let taken = self.state.judge_byte(self.alloc, self.at, bytes[0]).is_ok();
-        if !taken {
-            return 0;
-        }
-        self.at += 1;
-        1
-    }
-
-    // The same for a field of four.
-    #[tactic(auto, using(crate::proofs::TakenLemmas::quiet_then, crate::proofs::TakenLemmas::judged_kept, crate::proofs::TakenLemmas::first_fed, crate::proofs::Feeding::fed_none))]
-    fn take_whole_four(&mut self, bytes: &[u8]) -> usize
-        requires shape { S.shape_of self.old.state ≡ Kinds.Four }
-        requires open { self.old.fault ≡ None }
-        requires first { self.old.seen ≡ [] }
-        requires quiet { (at : ℕ) (field : List ℕ) → IsQuiet (S.fields.judge self.old.state at field) }
-        requires room { self.old.at + 4 ≤ S.fields.limit }
-        requires some { 0 < length bytes.now }
-        ensures within { result < length bytes.now }
-        ensures fed { Feeds (format_of S.fields S.good S.bad) self.old self.new
-            (take result bytes.now) [] }
-    {
-        let Some(first) = bytes.first_chunk::<4>() else {
-            return 0;
-        };
-        if bytes.len() == 4 {
-            return 0;
-        }
-        let taken = self.state.judge_four(self.alloc, self.at, *first).is_ok();
-        if !taken {
-            return 0;
-        }
-        self.at += 4;
-        4
-    }
-
-    // The same for a field of eight.
-    #[tactic(auto, using(crate::proofs::TakenLemmas::quiet_then, crate::proofs::TakenLemmas::judged_kept, crate::proofs::TakenLemmas::first_fed, crate::proofs::Feeding::fed_none))]
-    fn take_whole_eight(&mut self, bytes: &[u8]) -> usize
-        requires shape { S.shape_of self.old.state ≡ Kinds.Eight }
-        requires open { self.old.fault ≡ None }
-        requires first { self.old.seen ≡ [] }
-        requires quiet { (at : ℕ) (field : List ℕ) → IsQuiet (S.fields.judge self.old.state at field) }
-        requires room { self.old.at + 8 ≤ S.fields.limit }
-        requires some { 0 < length bytes.now }
-        ensures within { result < length bytes.now }
-        ensures fed { Feeds (format_of S.fields S.good S.bad) self.old self.new
-            (take result bytes.now) [] }
-    {
-        let Some(first) = bytes.first_chunk::<8>() else {
-            return 0;
-        };
-        if bytes.len() == 8 {
-            return 0;
-        }
-        let taken = self.state.judge_eight(self.alloc, self.at, *first).is_ok();
-        if !taken {
-            return 0;
-        }
-        self.at += 8;
-        8
-    }
-
-    // The same for a run. It needs memory.
-    #[tactic(auto, using(crate::proofs::TakenLemmas::quiet_then, crate::proofs::TakenLemmas::judged_kept, crate::proofs::TakenLemmas::first_fed, crate::proofs::Feeding::fed_none))]
-    fn take_whole_run(&mut self, others: u64, bytes: &[u8]) -> usize
-        requires shape { S.shape_of self.old.state ≡ Kinds.Run others }
-        requires open { self.old.fault ≡ None }
-        requires first { self.old.seen ≡ [] }
-        requires quiet { (at : ℕ) (field : List ℕ) → IsQuiet (S.fields.judge self.old.state at field) }
-        requires room { self.old.at + others < S.fields.limit }
-        requires some { 0 < length bytes.now }
-        ensures within { result < length bytes.now }
-        ensures fed { Feeds (format_of S.fields S.good S.bad) self.old self.new
-            (take result bytes.now) [] }
-    {
-        if bytes.len() as u64 - 1 <= others {
-            return 0;
-        }
-        let size = others as usize + 1;
-        if self.payload.extend_from_slice(&bytes[..size]).is_err() {
-            return 0;
-        }
-        let taken = self
-            .state
-            .judge_run(self.alloc, self.at, &mut self.payload)
-            .is_ok();
-        self.payload.clear();
-        if !taken {
-            return 0;
-        }
-        self.at += size as u64;
-        size
     }
 
     // Takes bytes of a run, from some place on, but not its last one; where memory is wanted for
@@ -218,7 +114,7 @@ impl<S: FieldFormat> FieldReader<S> {
     }
 
     // Takes bytes of a run, but not its last one, where there is memory.
-    fn append(&mut self, others: u64, bytes: &[u8]) -> bool
+    pub(super) fn append(&mut self, others: u64, bytes: &[u8]) -> bool
         requires shape { S.shape_of self.old.state ≡ Kinds.Run others }
         requires fits { length self.old.seen + length bytes.now ≤ others }
         requires room { self.old.at + length bytes.now ≤ S.fields.limit }

@@ -1,5 +1,5 @@
 //! The step of the reader of a format of fields at each byte, by the shape of the field.
-ghost use Rattle.std.specs.Prelude.{◌≡◌, ◌+◌, ◌-◌, ◌<◌, ◌≤◌, ◌++◌, ◌∷◌, [], List, length, None, Some, true, false};
+ghost use Rattle.std.specs.Prelude.{◌≡◌, ◌⊎◌, ◌+◌, ◌-◌, ◌<◌, ◌≤◌, ◌++◌, ◌∷◌, [], List, length, None, Some, true, false};
 ghost use Rattle.zy_read.specs.Fields.{Place, is_full, field_step, grown_by, format_of, refused};
 ghost use Rattle.zy_read.specs.FieldReading.{MayNeed, TakesField};
 ghost use Rattle.zy_read.specs.Standing.{Follows, Feeds};
@@ -7,6 +7,7 @@ ghost use Rattle.zy_read.specs.declared.shape.Shape.TheVariants as Kinds;
 ghost use Rattle.zy_read.specs.FieldsLasting.{lasting};
 
 use super::FieldReader;
+use super::judging::judge_last;
 use crate::field_format::FieldFormat;
 use crate::not_taken::NotTaken;
 use crate::reads::Reads;
@@ -35,10 +36,16 @@ impl<S: FieldFormat> Reads for FieldReader<S> {
             return Err(NotTaken::Fault(fault));
         }
         match self.state.shape() {
-            Shape::Byte => self.take_byte(byte),
-            Shape::Four => self.take_four(byte),
-            Shape::Eight => self.take_eight(byte),
-            Shape::Run(others) => self.take_payload(others, byte),
+            Shape::Four if self.field.len() < 3 => Ok(self.keep(byte)),
+            Shape::Eight if self.field.len() < 7 => Ok(self.keep(byte)),
+            Shape::Run(others) if (self.payload.len() as u64) < others => {
+                if self.append(others, &[byte]) {
+                    Ok(None)
+                } else {
+                    Err(NotTaken::NoMemory)
+                }
+            }
+            _ => self.end_field(byte),
         }
     }
 
@@ -54,122 +61,49 @@ impl<S: FieldFormat> Reads for FieldReader<S> {
 }
 
 impl<S: FieldFormat> FieldReader<S> {
-    // A field of one byte.
-    fn take_byte(&mut self, byte: u8) -> Result<Option<S::Gives>, NotTaken<S::Fault>>
-        requires shape { S.shape_of self.old.state ≡ Kinds.Byte }
-        requires open { self.old.fault ≡ None }
+    // Keeps a byte of a number that is not its last one.
+    fn keep(&mut self, byte: u8) -> Option<S::Gives>
+        requires number { (S.shape_of self.old.state ≡ Kinds.Four)
+            ⊎ (S.shape_of self.old.state ≡ Kinds.Eight) }
+        requires part { length self.old.seen + 1 < S.fields.width self.old.state }
         requires room { is_full S.fields self.old ≡ false }
-        ensures value { TakesField S.fields S.good S.bad S.Wants
-            (field_step S.fields self.old byte) self.old self.new byte result }
+        ensures value { self.new ≡ grown_by self.old (byte ∷ []) }
+        ensures none { result ≡ None }
     {
-        match self.state.judge_byte(self.alloc, self.at, byte) {
-            Ok(gave) => {
-                self.at += 1;
-                Ok(gave)
-            }
-            Err(NotTaken::Fault(fault)) => {
-                self.fault = Some(fault);
-                Err(NotTaken::Fault(fault))
-            }
-            Err(NotTaken::NoMemory) => Err(NotTaken::NoMemory),
-        }
+        self.field.push(byte);
+        self.at += 1;
+        None
     }
 
-    // A byte of a field of four.
-    fn take_four(&mut self, byte: u8) -> Result<Option<S::Gives>, NotTaken<S::Fault>>
-        requires shape { S.shape_of self.old.state ≡ Kinds.Four }
+    // Judges the field that a byte ends, and goes on after it, or keeps its fault.
+    fn end_field(&mut self, byte: u8) -> Result<Option<S::Gives>, NotTaken<S::Fault>>
         requires open { self.old.fault ≡ None }
         requires room { is_full S.fields self.old ≡ false }
+        requires last { length self.old.seen + 1 ≡ S.fields.width self.old.state }
         ensures value { TakesField S.fields S.good S.bad S.Wants
             (field_step S.fields self.old byte) self.old self.new byte result }
     {
-        if self.field.len() < 3 {
-            self.field.push(byte);
-            self.at += 1;
-            return Ok(None);
-        }
-        let bytes = self.field.four(byte);
-        match self.state.judge_four(self.alloc, self.at - 3, bytes) {
+        match judge_last(
+            self.alloc,
+            &mut self.state,
+            &self.field,
+            &mut self.payload,
+            self.at,
+            byte,
+        ) {
             Ok(gave) => {
                 self.field.clear();
-                self.at += 1;
-                Ok(gave)
-            }
-            Err(NotTaken::Fault(fault)) => {
-                self.field.clear();
-                self.fault = Some(fault);
-                Err(NotTaken::Fault(fault))
-            }
-            Err(NotTaken::NoMemory) => Err(NotTaken::NoMemory),
-        }
-    }
-
-    // A byte of a field of eight.
-    fn take_eight(&mut self, byte: u8) -> Result<Option<S::Gives>, NotTaken<S::Fault>>
-        requires shape { S.shape_of self.old.state ≡ Kinds.Eight }
-        requires open { self.old.fault ≡ None }
-        requires room { is_full S.fields self.old ≡ false }
-        ensures value { TakesField S.fields S.good S.bad S.Wants
-            (field_step S.fields self.old byte) self.old self.new byte result }
-    {
-        if self.field.len() < 7 {
-            self.field.push(byte);
-            self.at += 1;
-            return Ok(None);
-        }
-        let bytes = self.field.eight(byte);
-        match self.state.judge_eight(self.alloc, self.at - 7, bytes) {
-            Ok(gave) => {
-                self.field.clear();
-                self.at += 1;
-                Ok(gave)
-            }
-            Err(NotTaken::Fault(fault)) => {
-                self.field.clear();
-                self.fault = Some(fault);
-                Err(NotTaken::Fault(fault))
-            }
-            Err(NotTaken::NoMemory) => Err(NotTaken::NoMemory),
-        }
-    }
-
-    // A byte of a run. It needs memory.
-    fn take_payload(
-        &mut self,
-        others: u64,
-        byte: u8,
-    ) -> Result<Option<S::Gives>, NotTaken<S::Fault>>
-        requires shape { S.shape_of self.old.state ≡ Kinds.Run others }
-        requires open { self.old.fault ≡ None }
-        requires room { is_full S.fields self.old ≡ false }
-        ensures value { TakesField S.fields S.good S.bad S.Wants
-            (field_step S.fields self.old byte) self.old self.new byte result }
-    {
-        if self.payload.push(byte).is_err() {
-            return Err(NotTaken::NoMemory);
-        }
-        if self.payload.len() as u64 <= others {
-            self.at += 1;
-            return Ok(None);
-        }
-        match self
-            .state
-            .judge_run(self.alloc, self.at - others, &mut self.payload)
-        {
-            Ok(gave) => {
                 self.payload.clear();
                 self.at += 1;
                 Ok(gave)
             }
             Err(NotTaken::Fault(fault)) => {
+                self.field.clear();
                 self.payload.clear();
                 self.fault = Some(fault);
                 Err(NotTaken::Fault(fault))
             }
-            Err(NotTaken::NoMemory) => {
-                let _ = self.payload.pop();
-                Err(NotTaken::NoMemory)
-            }
+            Err(NotTaken::NoMemory) => Err(NotTaken::NoMemory),
         }
     }
 }
