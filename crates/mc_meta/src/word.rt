@@ -1,6 +1,6 @@
 //! The words of a line.
 ghost use Rattle.std.specs.Prelude.{◌≡◌, ◌≢◌, ◌<◌, ◌≤◌, ◌+◌, ℕ, [], ◌∷◌, length, IfSome, IfNone, drop, take, get_or};
-ghost use Rattle.mc_meta.specs.Words.{words_at, line_limit};
+ghost use Rattle.mc_meta.specs.Words.{words, words_at, line_limit};
 
 /// A word with its place, and the text after it with its own.
 #[derive(Clone, Copy)]
@@ -35,9 +35,11 @@ pub(crate) fn next_word(at: usize, text: &[u8]) -> Option<Split<'_>>
     })
 }
 
-// How many spaces a text begins with.
-fn count_spaces(text: &[u8]) -> usize
-    ensures value { (at : ℕ)
+/// How many spaces a text begins with. The text after them has the same words at the same places.
+#[tactic(auto, using(crate::proofs::PlaceLemmas::same_words))]
+pub fn count_spaces(text: &[u8]) -> usize
+    ensures value { words (drop result text.now) ≡ words text.now }
+    ensures places { (at : ℕ)
         → words_at (at + result) (drop result text.now) ≡ words_at at text.now }
     ensures within { result ≤ length text.now }
     ensures begun { result < length text.now → get_or text.now result 0 ≢ 32 }
@@ -50,13 +52,16 @@ fn count_spaces(text: &[u8]) -> usize
     text.len()
 }
 
-// The length of the word that a text begins with.
-fn word_length(text: &[u8]) -> usize
+/// The length of the word that a text begins with: the number of bytes before the first space, or
+/// of all bytes where there is none. The other words are those of the text after it.
+#[tactic(auto, using(crate::proofs::WordLemmas::word_ends_at, crate::proofs::WordLemmas::ended_whole))]
+pub fn word_length(text: &[u8]) -> usize
     requires some { 0 < length text.now }
     requires begun { get_or text.now 0 0 ≢ 32 }
     ensures some { 0 < result }
     ensures within { result ≤ length text.now }
-    ensures value { (at : ℕ) → words_at at text.now
+    ensures value { words text.now ≡ take result text.now ∷ words (drop result text.now) }
+    ensures places { (at : ℕ) → words_at at text.now
         ≡ record { from = at; text = take result text.now }
         ∷ words_at (at + result) (drop result text.now) }
 {
