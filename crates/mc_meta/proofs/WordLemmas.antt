@@ -48,7 +48,7 @@ put_all-choice true byte pieces = refl
 put_all-choice false byte [] = refl
 put_all-choice false byte (piece ∷ pieces) = refl
 
-put_all-none : (text : List ℕ) → pieces_of text ≡ put_all [] (pieces_of text)
+pub put_all-none : (text : List ℕ) → pieces_of text ≡ put_all [] (pieces_of text)
 put_all-none [] = refl
 put_all-none (byte ∷ bytes) = put_all-choice (byte == 32) byte (pieces_of bytes)
 
