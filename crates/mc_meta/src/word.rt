@@ -45,13 +45,14 @@ pub(crate) fn next_word(at: usize, text: &[u8]) -> Option<Split<'_>>
     if spaces == text.len() {
         return None;
     }
-    let from = &text[spaces..];
-    let end = word_length(from);
+    let from = at + spaces;
+    let words = &text[spaces..];
+    let (word, rest) = words.split_at(word_length(words));
     Some(Split {
-        from: at + spaces,
-        word: &from[..end],
-        to: at + spaces + end,
-        rest: &from[end..],
+        from,
+        word,
+        to: from + word.len(),
+        rest,
     })
 }
 
