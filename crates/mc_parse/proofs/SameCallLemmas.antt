@@ -23,12 +23,9 @@ use Rattle.mc_parse.specs.Meaning.{is_ended, value_of, line_command, block_comma
 use Rattle.mc_parse.specs.Calls.{due}
 use Rattle.mc_parse.specs.SameCalls.{spaced, AreWords, CallTheSame, AskTheSame}
 use Rattle.mc_parse.proofs.WordLemmas.{words-parted, words-one}
+use Rattle.mc_parse.proofs.ArityLemmas.{both}
 
 -- ---- words
-
-both : (a b : Bool) → a && b ≡ true → (a ≡ true) × (b ≡ true)
-both true b is = (refl, is)
-both false b is = absurd (cc)
 
 -- the words of spaced words are these
 words-spaced : (ws : List (List ℕ)) → AreWords ws → words (spaced ws) ≡ ws
