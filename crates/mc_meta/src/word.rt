@@ -21,7 +21,8 @@ impl Split<'_> {
     /// The place of the word.
     pub(crate) fn span(&self) -> Span
         requires places { self.now.to ≡ self.now.from + length self.now.word.now }
-        ensures value { result ≡ span_of (record { from = self.now.from; text = self.now.word.now }) }
+        ensures value { result
+            ≡ span_of (record { from = self.now.from; text = self.now.word.now }) }
     {
         Span {
             from: self.from,
