@@ -1,5 +1,5 @@
 mod NumberLemmas
-mod WordLemmas
+pub mod WordLemmas
 mod RoomLemmas
 pub mod PlaceLemmas
 pub mod KeyLemmas

@@ -23,6 +23,16 @@ pub words_at-texts : (at : ℕ) (text : List ℕ) → map text_of (words_at at t
 unfolding words words_at
 words_at-texts at text = texts_placed at (pieces_of text)
 
+-- where the text after some bytes has the same words at the same places, it has the same words
+pub same_words : (text : List ℕ) (count : ℕ) → ((at : ℕ) → words_at (at + count) (drop count text) ≡ words_at at text) → words (drop count text) ≡ words text
+same_words text count same = sym (words_at-texts (0 + count) (drop count text)) ∙ ap (map text_of) (same 0) ∙ words_at-texts 0 text
+
+-- where the first bytes of a text are its first word at its place, they are its first word
+pub first_word : (text : List ℕ) (size : ℕ) → ((at : ℕ) → words_at at text ≡ record { from = at; text = take size text } ∷ words_at (at + size) (drop size text))
+    → words text ≡ take size text ∷ words (drop size text)
+first_word text size first =
+    sym (words_at-texts 0 text) ∙ ap (map text_of) (first 0) ∙ ap (λ (more : List (List ℕ)). take size text ∷ more) (words_at-texts (0 + size) (drop size text))
+
 -- ---- places
 
 lies_at : (line : List ℕ) (at to : ℕ) (pieces : List (List ℕ)) → at ≡ to → AllByRecursion (IsInLine line) (placed at pieces) → AllByRecursion (IsInLine line) (placed to pieces)

@@ -16,10 +16,6 @@ pub words_at-space : (at : ℕ) (text : List ℕ) → words_at at (32 ∷ text) 
 unfolding words_at
 words_at-space at text = ap (λ (n : ℕ). filter is_placed_word (placed n (pieces_of text))) (omega arith)
 
--- no space was passed
-pub words_begin : (text : List ℕ) (at : ℕ) → words_at (at + 0) (drop 0 text) ≡ words_at at text
-words_begin text at = words_at-same (at + 0) at text (omega arith)
-
 -- the words after a space are those from the space on
 pub words_past : (text : List ℕ) (i : ℕ) → i < length text → get_or text i 0 ≡ 32 → ((at : ℕ) → words_at (at + i) (drop i text) ≡ words_at at text)
     → (at : ℕ) → words_at (at + (i + 1)) (drop (i + 1) text) ≡ words_at at text
@@ -52,7 +48,7 @@ put_all-choice true byte pieces = refl
 put_all-choice false byte [] = refl
 put_all-choice false byte (piece ∷ pieces) = refl
 
-put_all-none : (text : List ℕ) → pieces_of text ≡ put_all [] (pieces_of text)
+pub put_all-none : (text : List ℕ) → pieces_of text ≡ put_all [] (pieces_of text)
 put_all-none [] = refl
 put_all-none (byte ∷ bytes) = put_all-choice (byte == 32) byte (pieces_of bytes)
 

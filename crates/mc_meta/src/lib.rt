@@ -19,3 +19,4 @@ pub use letters::Letters;
 pub use meta_line::{MetaLine, Span};
 pub use number::read_small_number;
 pub use reading::read_meta;
+pub use word::{count_spaces, is_key, word_length};

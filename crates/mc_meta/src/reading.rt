@@ -5,9 +5,9 @@ ghost use Rattle.mc_meta.specs.Key.{key_of, IsKeyIn};
 ghost use Rattle.mc_meta.specs.Meta.{meta_line, line_of, noop_line, get_line, set_line, delete_line, set_with, agrees};
 
 use crate::flags::{Flags, read_flags};
-use crate::meta_line::{MetaLine, Span};
+use crate::meta_line::MetaLine;
 use crate::number::read_small_number;
-use crate::word::{Split, next_word};
+use crate::word::{Split, is_key, next_word};
 
 /// What a line says as a meta command. The line is given without the bytes that end it. The key that it
 /// has is a word of it. Takes no memory.
@@ -59,15 +59,12 @@ fn read_get(at: usize, text: &[u8]) -> MetaLine
     let Some(key) = next_word(at, text) else {
         return MetaLine::WrongCount;
     };
-    if key.word.len() > 250 {
+    if !is_key(key.word) {
         return MetaLine::Bad;
     }
     match read_flags(b"vkfcsq", key.to, key.rest) {
         Some(said) => MetaLine::Get {
-            key: Span {
-                from: key.from,
-                to: key.to,
-            },
+            key: key.span(),
             flags: said.marks,
         },
         None => MetaLine::Bad,
@@ -82,15 +79,12 @@ fn read_delete(at: usize, text: &[u8]) -> MetaLine
     let Some(key) = next_word(at, text) else {
         return MetaLine::WrongCount;
     };
-    if key.word.len() > 250 {
+    if !is_key(key.word) {
         return MetaLine::Bad;
     }
     match read_flags(b"kq", key.to, key.rest) {
         Some(said) => MetaLine::Delete {
-            key: Span {
-                from: key.from,
-                to: key.to,
-            },
+            key: key.span(),
             flags: said.marks,
         },
         None => MetaLine::Bad,
@@ -108,7 +102,7 @@ fn read_set(at: usize, text: &[u8]) -> MetaLine
     let Some(datalen) = next_word(key.to, key.rest) else {
         return MetaLine::WrongCount;
     };
-    if key.word.len() > 250 {
+    if !is_key(key.word) {
         return MetaLine::Bad;
     }
     match read_flags(b"FCMTkq", datalen.to, datalen.rest) {
@@ -130,10 +124,7 @@ fn set_with(key: Split<'_>, bytes: Option<u32>, said: Flags) -> MetaLine
         return MetaLine::Bad;
     }
     MetaLine::Set {
-        key: Span {
-            from: key.from,
-            to: key.to,
-        },
+        key: key.span(),
         bytes,
         flags: said.flags,
         unique: said.unique,

@@ -36,12 +36,7 @@ use Rattle.mc_parse.specs.Meaning.{is_ended, value_of, alone_meta, value_meta, v
 use Rattle.mc_parse.specs.Calls.{calls_of, get_calls, call_alone, meta_calls, on_shard, tagged, due_at, due_from}
 use Rattle.mc_parse.specs.Bounds.{IsMeta, IsCommand, IsShardCall, IsDueWithin}
 use Rattle.mc_parse.proofs.PlainLemmas.{each-append}
-
--- ---- lists
-
-both : (a b : Bool) → a && b ≡ true → (a ≡ true) × (b ≡ true)
-both true b is = (refl, is)
-both false b is = absurd (cc)
+use Rattle.mc_parse.proofs.ArityLemmas.{both}
 
 -- ---- words
 

@@ -104,24 +104,15 @@ unnamed_needs line word ws split none = go (bytes_eq word (codes "ms")) refl
 
 -- ---- noreply
 
--- a meta command does not take the word noreply
-pub meta-loud : (line : List ℕ) (said : MetaLine) → is_loud (meta_form line said) ≡ false
-meta-loud line Other = refl
-meta-loud line WrongCount = refl
-meta-loud line Bad = refl
-meta-loud line Noop = refl
-meta-loud line (Get key flags) = refl
-meta-loud line (Set key bytes flags unique mode marks) = refl
-meta-loud line (Delete key flags) = refl
-
-pub meta-quiet : (line : List ℕ) (said : MetaLine) → is_quiet (meta_form line said) ≡ false
-meta-quiet line Other = refl
-meta-quiet line WrongCount = refl
-meta-quiet line Bad = refl
-meta-quiet line Noop = refl
-meta-quiet line (Get key flags) = refl
-meta-quiet line (Set key bytes flags unique mode marks) = refl
-meta-quiet line (Delete key flags) = refl
+-- a meta command does not take the word noreply, and is never quiet
+meta-plain : (line : List ℕ) (said : MetaLine) → (is_loud (meta_form line said) ≡ false) × (is_quiet (meta_form line said) ≡ false)
+meta-plain line Other = (refl, refl)
+meta-plain line WrongCount = (refl, refl)
+meta-plain line Bad = (refl, refl)
+meta-plain line Noop = (refl, refl)
+meta-plain line (Get key flags) = (refl, refl)
+meta-plain line (Set key bytes flags unique mode marks) = (refl, refl)
+meta-plain line (Delete key flags) = (refl, refl)
 
 -- a line that is no meta command
 pub record IsPlainLine (line : List ℕ) : Type 0 where
@@ -143,7 +134,7 @@ plain_by line tests unknown meta is = go (words line) refl is
 
 -- a line to which noreply may be added is no meta command, and neither is one that asks for no answer
 pub loud_plain : (line : List ℕ) → is_loud (line_form line) ≡ true → IsPlainLine line
-loud_plain line loud = plain_by line is_loud refl (meta-loud line (meta_line line)) loud
+loud_plain line loud = plain_by line is_loud refl (meta-plain line (meta_line line)).0 loud
 
 pub quiet_plain : (line : List ℕ) → is_quiet (line_form line) ≡ true → IsPlainLine line
-quiet_plain line quiet = plain_by line is_quiet refl (meta-quiet line (meta_line line)) quiet
+quiet_plain line quiet = plain_by line is_quiet refl (meta-plain line (meta_line line)).1 quiet

@@ -3,6 +3,7 @@ use Rattle.std.proofs.Common.{◌≡◌, ℕ, Bool, true, false, ◌&&◌, not, 
 use Rattle.std.specs.Prelude.{◌==◌, codes, Option, None, Some, option_map}
 use Rattle.std.specs.List.{list_all}
 use Rattle.mc_meta.specs.declared.meta_line.Span.{Span}
+use Rattle.mc_meta.specs.declared.meta_line.MetaLine.{MetaLine}
 use Rattle.mc_meta.specs.declared.meta_line.MetaLine.TheVariants as Lines
 use Rattle.mc_meta.specs.Key.{bytes_in}
 use Rattle.mc_meta.specs.Number.{number_of, small_number_of, is_exptime}
@@ -22,12 +23,9 @@ use Rattle.mc_parse.specs.Meaning.{is_ended, value_of, line_command, block_comma
 use Rattle.mc_parse.specs.Calls.{due}
 use Rattle.mc_parse.specs.SameCalls.{spaced, AreWords, CallTheSame, AskTheSame}
 use Rattle.mc_parse.proofs.WordLemmas.{words-parted, words-one}
+use Rattle.mc_parse.proofs.ArityLemmas.{both}
 
 -- ---- words
-
-both : (a b : Bool) → a && b ≡ true → (a ≡ true) × (b ≡ true)
-both true b is = (refl, is)
-both false b is = absurd (cc)
 
 -- the words of spaced words are these
 words-spaced : (ws : List (List ℕ)) → AreWords ws → words (spaced ws) ≡ ws
@@ -103,25 +101,22 @@ delete_same true key = record {
 }
 delete_same false key = faults_same
 
-got_form : (line key : List ℕ) → words line ≡ codes "mg" ∷ key ∷ [] → line_form line ≡ (if is_key key then asks (metas (meta_gets key [])) false else faulty BadLine)
-got_form line key split = ap (form_in line) split ∙ by (get_said line key split)
+-- what a line says that says this of the place of its key
+keyed_form : (line key : List ℕ) (said : Span → MetaLine) (form : List ℕ → Form) → ((place : Span) → meta_form line (said place) ≡ form (bytes_in line place)) → SaysOf line key said
+    → meta_form line (meta_line line) ≡ (if is_key key then form key else faulty BadLine)
+keyed_form line key said form each says = ap (meta_form line) says.is ∙ go (is_key key)
   where
-    go : (place : Span) → bytes_in line place ≡ key → (short : Bool) → meta_form line (if short then Lines.Get place [] else Lines.Bad) ≡ (if short then asks (metas (meta_gets key [])) false else faulty BadLine)
-    go place text true = ap (λ (k : List ℕ). asks (metas (meta_gets k [])) false) text
-    go place text false = refl
+    go : (short : Bool) → meta_form line (if short then said says.place else Lines.Bad) ≡ (if short then form key else faulty BadLine)
+    go true = each says.place ∙ ap form says.text
+    go false = refl
 
-    by : SaysOf line key (λ place. Lines.Get place []) → meta_form line (meta_line line) ≡ (if is_key key then asks (metas (meta_gets key [])) false else faulty BadLine)
-    by said = ap (meta_form line) said.is ∙ go said.place said.text (is_key key)
+got_form : (line key : List ℕ) → words line ≡ codes "mg" ∷ key ∷ [] → line_form line ≡ (if is_key key then asks (metas (meta_gets key [])) false else faulty BadLine)
+got_form line key split =
+    ap (form_in line) split ∙ keyed_form line key (λ place. Lines.Get place []) (λ k. asks (metas (meta_gets k [])) false) (λ place. refl) (get_said line key split)
 
 deleted_form : (line key : List ℕ) → words line ≡ codes "md" ∷ key ∷ [] → line_form line ≡ (if is_key key then asks (metas (meta_deletes key [])) false else faulty BadLine)
-deleted_form line key split = ap (form_in line) split ∙ by (delete_said line key split)
-  where
-    go : (place : Span) → bytes_in line place ≡ key → (short : Bool) → meta_form line (if short then Lines.Delete place [] else Lines.Bad) ≡ (if short then asks (metas (meta_deletes key [])) false else faulty BadLine)
-    go place text true = ap (λ (k : List ℕ). asks (metas (meta_deletes k [])) false) text
-    go place text false = refl
-
-    by : SaysOf line key (λ place. Lines.Delete place []) → meta_form line (meta_line line) ≡ (if is_key key then asks (metas (meta_deletes key [])) false else faulty BadLine)
-    by said = ap (meta_form line) said.is ∙ go said.place said.text (is_key key)
+deleted_form line key split =
+    ap (form_in line) split ∙ keyed_form line key (λ place. Lines.Delete place []) (λ k. asks (metas (meta_deletes k [])) false) (λ place. refl) (delete_said line key split)
 
 -- `get` and `mg`
 pub gets_same : (key : List ℕ) → is_word key ≡ true → AskTheSame (spaced (codes "get" ∷ key ∷ [])) (spaced (codes "mg" ∷ key ∷ []))
@@ -201,39 +196,36 @@ cas_same false key flags bytes unique = faults_same
 stored_form : (line key flags bytes : List ℕ) → words line ≡ codes "ms" ∷ key ∷ bytes ∷ (70 ∷ flags) ∷ []
     → line_form line ≡ (if is_key key then meta_found key (small_number_of flags) (small_number_of bytes) else faulty BadLine)
 unfolding meta_found
-stored_form line key flags bytes split = ap (form_in line) split ∙ by (store_said line key flags bytes split)
+stored_form line key flags bytes split =
+    let size = small_number_of bytes in
+    let kept = small_number_of flags in
+    ap (form_in line) split ∙ keyed_form line key (stored_at kept size) (λ k. meta_found k kept size) (go kept size) (store_said line key flags bytes split)
   where
-    go : (place : Span) → bytes_in line place ≡ key → (short : Bool) (flags bytes : Option ℕ) → meta_form line (if short then stored_at flags bytes place else Lines.Bad) ≡ (if short then meta_found key flags bytes else faulty BadLine)
-    go place text true (Some flags) (Some bytes) = ap (λ (k : List ℕ). asks (metas (meta_stores Set k flags bytes [])) false) text
-    go place text true (Some flags) None = refl
-    go place text true None (Some bytes) = refl
-    go place text true None None = refl
-    go place text false flags bytes = refl
-
-    by : SaysOf line key (stored_at (small_number_of flags) (small_number_of bytes))
-        → meta_form line (meta_line line) ≡ (if is_key key then meta_found key (small_number_of flags) (small_number_of bytes) else faulty BadLine)
-    by said = ap (meta_form line) said.is ∙ go said.place said.text (is_key key) (small_number_of flags) (small_number_of bytes)
+    go : (flags bytes : Option ℕ) (place : Span) → meta_form line (stored_at flags bytes place) ≡ meta_found (bytes_in line place) flags bytes
+    go (Some flags) (Some bytes) place = refl
+    go (Some flags) None place = refl
+    go None (Some bytes) place = refl
+    go None None place = refl
 
 exchanged_form : (line key flags bytes unique : List ℕ) → words line ≡ codes "ms" ∷ key ∷ bytes ∷ (70 ∷ flags) ∷ (67 ∷ unique) ∷ []
     → line_form line ≡ (if is_key key then unique_found key (small_number_of flags) (small_number_of bytes) (number_of unique) else faulty BadLine)
 unfolding unique_found
-exchanged_form line key flags bytes unique split = ap (form_in line) split ∙ by (exchange_said line key flags bytes unique split)
+exchanged_form line key flags bytes unique split =
+    let size = small_number_of bytes in
+    let kept = small_number_of flags in
+    let only = number_of unique in
+    ap (form_in line) split
+    ∙ keyed_form line key (exchanged_at kept size only) (λ k. unique_found k kept size only) (go kept size only) (exchange_said line key flags bytes unique split)
   where
-    go : (place : Span) → bytes_in line place ≡ key → (short : Bool) (flags bytes unique : Option ℕ)
-        → meta_form line (if short then exchanged_at flags bytes unique place else Lines.Bad) ≡ (if short then unique_found key flags bytes unique else faulty BadLine)
-    go place text true (Some flags) (Some bytes) (Some unique) = ap (λ (k : List ℕ). asks (metas (meta_exchanges k flags bytes unique [])) false) text
-    go place text true (Some flags) (Some bytes) None = refl
-    go place text true (Some flags) None (Some unique) = refl
-    go place text true (Some flags) None None = refl
-    go place text true None (Some bytes) (Some unique) = refl
-    go place text true None (Some bytes) None = refl
-    go place text true None None (Some unique) = refl
-    go place text true None None None = refl
-    go place text false flags bytes unique = refl
-
-    by : SaysOf line key (exchanged_at (small_number_of flags) (small_number_of bytes) (number_of unique))
-        → meta_form line (meta_line line) ≡ (if is_key key then unique_found key (small_number_of flags) (small_number_of bytes) (number_of unique) else faulty BadLine)
-    by said = ap (meta_form line) said.is ∙ go said.place said.text (is_key key) (small_number_of flags) (small_number_of bytes) (number_of unique)
+    go : (flags bytes unique : Option ℕ) (place : Span) → meta_form line (exchanged_at flags bytes unique place) ≡ unique_found (bytes_in line place) flags bytes unique
+    go (Some flags) (Some bytes) (Some unique) place = refl
+    go (Some flags) (Some bytes) None place = refl
+    go (Some flags) None (Some unique) place = refl
+    go (Some flags) None None place = refl
+    go None (Some bytes) (Some unique) place = refl
+    go None (Some bytes) None place = refl
+    go None None (Some unique) place = refl
+    go None None None place = refl
 
 -- what `set` and `cas` say, where the exptime is one
 set_form : (line key flags exptime bytes : List ℕ) → words line ≡ codes "set" ∷ key ∷ flags ∷ exptime ∷ bytes ∷ [] → is_exptime exptime ≡ true

@@ -12,7 +12,8 @@ use crate::asking::{Ask, number_fault, read_ask};
 use crate::error_line::ErrorLine;
 use crate::line::Line;
 use crate::name::{Name, arity_of, name_of};
-use crate::word::{is_key, next_word};
+use crate::word::next_word;
+use mc_meta::is_key;
 
 /// The name that a line begins with, and the text after it.
 #[derive(Clone, Copy)]
