@@ -43,7 +43,8 @@ width_one : (due : Due) → is_nothing due ≡ true → width due ≡ 1
 width_one Nothing is = refl
 width_one due is = cc
 
-end_wrong : (due : Due) (s : CaptureState) (at : ℕ) (field : List ℕ) → is_nothing due ≡ true → IsWrong (judged due s at field)
+-- after the end each byte is wrong
+pub end_wrong : (due : Due) (s : CaptureState) (at : ℕ) (field : List ℕ) → is_nothing due ≡ true → IsWrong (judged due s at field)
 end_wrong Nothing s at field is = tt
 end_wrong due s at field is = cc
 
@@ -51,7 +52,7 @@ pub lawful : IsLawful fields
 lawful = record {
   some = λ s. width_some s.due;
   one = λ s is. width_one s.due is;
-  ends = λ s at field is. end_wrong s.due s at field is;
+  ends = λ s at field is full. end_wrong s.due s at field is;
 }
 
 -- ---- good texts

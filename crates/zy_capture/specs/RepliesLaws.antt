@@ -30,7 +30,7 @@ pub lawful : IsLawful replies_fields
 lawful = record {
   some = λ s. some (shape s.due);
   one = λ s. one s.due;
-  ends = λ s at field. ends s.due s at field;
+  ends = λ s at field is full. ends s.due s at field is;
 }
 
 pub widths : (s : RepliesState) → replies_fields.width s ≡ width_of (shape s.due)

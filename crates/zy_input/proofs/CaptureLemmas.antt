@@ -18,13 +18,13 @@ use Rattle.zy_capture.specs.declared.due.Due.TheVariants.{Connection, Length, Pa
 use Rattle.zy_capture.specs.declared.capture_state.CaptureState.{CaptureState}
 use Rattle.zy_capture.specs.Streams.{no_bytes, with_record}
 use Rattle.zy_capture.specs.Capture.{segment_limit}
-use Rattle.zy_capture.specs.Steps.{CaptureProgress, CaptureStep, Judgement, number, judged, fields}
+use Rattle.zy_capture.specs.Steps.{CaptureProgress, CaptureStep, Judgement, number, judged, is_nothing, fields}
 use Rattle.zy_capture.specs.Standing.{StandsForRecords, EndsAs}
 use Rattle.zy_capture.specs.Verdict.{captures, good as at_end, is_good, verdict, count_of, is_record_open, is_within_by, is_within_record}
 use Rattle.zy_capture.specs.Verdict.Verdict.{Good, Bad}
 use Rattle.zy_capture.proofs.ByteLemmas.{chosen}
 use Rattle.zy_capture.proofs.Feeding.{count_here, within_here, good_ended, good_count}
-use Rattle.zy_capture.proofs.WholeLemmas.{lawful}
+use Rattle.zy_capture.proofs.WholeLemmas.{end_wrong, lawful}
 use Rattle.zy_capture.proofs.AddLemmas.{records_on}
 use Rattle.zy_input.specs.declared.capture_part.CapturePart.{CapturePart}
 use Rattle.zy_input.specs.declared.stop.Refusal.TheVariants.{Capture}
@@ -40,7 +40,8 @@ use Rattle.zy_input.proofs.KeepingLemmas.{not_none, kept_here}
 closes : (p : CaptureProgress) (given : List Record) (byte : ℕ) → is_good (captures.ended p given) ≡ true → (fault : CaptureFault) × ((step fields p byte).next.fault ≡ Some fault)
 closes p given byte good =
     let ended = good_ended p given good in
-    end_closes fields lawful p byte ended.none (rw ended.due refl)
+    let is : is_nothing p.state.due ≡ true = rw ended.due refl in
+    end_closes fields lawful p byte ended.none is (λ at field. end_wrong p.state.due p.state at field is)
 
 -- a byte after a capture is a fault
 pub once : EndsOnce captures is_good

@@ -19,7 +19,8 @@ one : (due : Due) (size : ℕ) → is_last due ≡ true → width_of (journal_sh
 one Dues.Nothing size is = refl
 one due size is = cc
 
-ends : (due : Due) (s : ReadState) (at : ℕ) (field : List ℕ) → is_last due ≡ true
+-- after the end each byte is wrong
+pub ends : (due : Due) (s : ReadState) (at : ℕ) (field : List ℕ) → is_last due ≡ true
     → IsWrong (journal_judged due s at field)
 ends Dues.Nothing s at field is = tt
 ends due s at field is = cc
@@ -29,7 +30,7 @@ pub journal_lawful : IsLawful journal_fields
 journal_lawful = record {
   some = λ s. some (journal_shape s.due s.draft.size);
   one = λ s. one s.due s.draft.size;
-  ends = λ s at field. ends s.due s at field;
+  ends = λ s at field is full. ends s.due s at field is;
 }
 
 pub journal_widths : (s : ReadState) → journal_fields.width s ≡ width_of (journal_shape s.due s.draft.size)

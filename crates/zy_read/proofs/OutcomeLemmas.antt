@@ -4,7 +4,7 @@ use Rattle.std.proofs.Common.{◌≡◌, inl, inr, ℕ, ◌+◌, ◌-◌, ◌<�
 use Rattle.std.specs.Prelude.{◌&&◌, not, nat_lt, nat_le, if◌then◌else◌, Option, None, Some, option_to_list}
 use Rattle.std.specs.List.{concat}
 use Rattle.std.proofs.lemmas.List.{append-nil}
-use Rattle.std.proofs.lemmas.Bool.{ltb-true, ltb-false}
+use Rattle.std.proofs.lemmas.Bool.{ltb-true, ltb-false, cases_lt}
 use Rattle.std.proofs.lemmas.Bool.Decides.{nat_tests}
 use Rattle.zy_read.specs.Format.{Step, Reading, read_on}
 use Rattle.zy_read.specs.Fields.{Judged, Fields, IsWrong, IsLawful, Place, at_state, grown_by, moved, judged_at, field_step, is_full, step_by, step}
@@ -122,16 +122,25 @@ next_read {S} {G} fields lawful p given gave text byte next read few size goes =
       short = few;
     }
 
+-- after a whole field that is not wrong the text has at most its most bytes
+few_more : {S G F : Type 0} (fields : Fields S G F) (lawful : IsLawful fields) (p : Place S F) (given : List G) (text : List ℕ) (byte : ℕ) → (IsWrong (fields.judge p.state (p.at - length p.seen) (p.seen ++ byte ∷ [])) → ⊥) → IsReadTo fields p given text → fields.width p.state ≡ length p.seen + 1 → HasRoom fields p.state (p.at + 1)
+    → p.at + 1 ≤ fields.limit
+few_more fields lawful p given text byte right read size (inr few) = few
+few_more fields lawful p given text byte right read size (inl end_is) =
+    let one = lawful.one p.state end_is in
+    elim (cases_lt p.at fields.limit) [
+      | inl few ↦ omega (arith, few)
+      | inr full ↦ absurd (right (lawful.ends p.state (p.at - length p.seen) (p.seen ++ byte ∷ []) end_is (omega (arith, one, size, full))))
+    ]
+
 -- what a whole field does
 judged_leads : {S G F : Type 0} (fields : Fields S G F) (lawful : IsLawful fields) (p : Place S F) (given : List G) (text : List ℕ) (byte : ℕ) (judged : Judged S G F) → IsReadTo fields p given text → HasRoom fields p.state (p.at + 1) → fields.width p.state ≡ length p.seen + 1
     → fields.judge p.state (p.at - length p.seen) (p.seen ++ byte ∷ []) ≡ judged → Leads fields given (text ++ byte ∷ []) (moved p judged)
-judged_leads {S} {G} {F} fields lawful p given text byte (Then next) read (inl end_is) size is =
-    absurd (subst IsWrong is (lawful.ends p.state (p.at - length p.seen) (p.seen ++ byte ∷ []) end_is))
-judged_leads {S} {G} {F} fields lawful p given text byte (Gives next item) read (inl end_is) size is =
-    absurd (subst IsWrong is (lawful.ends p.state (p.at - length p.seen) (p.seen ++ byte ∷ []) end_is))
-judged_leads {S} {G} {F} fields lawful p given text byte (Then next) read (inr few) size is =
+judged_leads {S} {G} {F} fields lawful p given text byte (Then next) read room size is =
+    let few : p.at + 1 ≤ fields.limit = few_more fields lawful p given text byte (λ wrong. subst IsWrong is wrong) read size room in
     next_read fields lawful p given [] text byte next read few size (subst (λ (j : Judged S G F). GoesOn j (λ n rest. (next ≡ n) × (rest ≡ [])) []) (sym is) (refl, refl))
-judged_leads {S} {G} {F} fields lawful p given text byte (Gives next item) read (inr few) size is =
+judged_leads {S} {G} {F} fields lawful p given text byte (Gives next item) read room size is =
+    let few : p.at + 1 ≤ fields.limit = few_more fields lawful p given text byte (λ wrong. subst IsWrong is wrong) read size room in
     next_read fields lawful p given (item ∷ []) text byte next read few size (subst (λ (j : Judged S G F). GoesOn j (λ n rest. (next ≡ n) × (rest ≡ [])) (item ∷ [])) (sym is) ([], refl, (refl, refl)))
 judged_leads {S} {G} {F} fields lawful p given text byte (Wrong fault) read room size is =
     let all : p.at ≡ length (concat read.begins.parts) + length p.seen = sized fields p given text read in

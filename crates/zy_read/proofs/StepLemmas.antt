@@ -1,5 +1,5 @@
 -- What a byte of a text of fields does.
-use Rattle.std.proofs.Common.{◌≡◌, ℕ, ◌+◌, ◌-◌, Bool, true, false, [], ◌∷◌, ◌++◌, length, refl, arith}
+use Rattle.std.proofs.Common.{List, ◌≡◌, ℕ, ◌+◌, ◌-◌, Bool, true, false, [], ◌∷◌, ◌++◌, length, refl, arith}
 use Rattle.std.specs.Prelude.{nat_lt, if◌then◌else◌, Option, None, Some}
 use Rattle.std.proofs.lemmas.Bool.Decides.{nat_tests}
 use Rattle.zy_read.specs.Format.{Step}
@@ -26,9 +26,9 @@ wrong_met p (Then next) wrong = absurd wrong
 wrong_met p (Gives next item) wrong = absurd wrong
 wrong_met p (Wrong fault) wrong = (fault, refl)
 
--- after the end it is a fault
-pub end_closes : {S G F : Type 0} (fields : Fields S G F) (lawful : IsLawful fields) (p : Place S F) (byte : ℕ) → p.fault ≡ None → fields.is_end p.state ≡ true → (fault : F) × ((step fields p byte).next.fault ≡ Some fault)
-end_closes fields lawful p byte none is =
+-- where the text may end, and each further byte is wrong, it is a fault
+pub end_closes : {S G F : Type 0} (fields : Fields S G F) (lawful : IsLawful fields) (p : Place S F) (byte : ℕ) → p.fault ≡ None → fields.is_end p.state ≡ true → ((at : ℕ) (field : List ℕ) → IsWrong (fields.judge p.state at field)) → (fault : F) × ((step fields p byte).next.fault ≡ Some fault)
+end_closes fields lawful p byte none is wrong =
     let one : fields.width p.state ≡ 1 = lawful.one p.state is in
     let last : nat_lt (length p.seen + 1) 1 ≡ false = grind (arith, nat_tests) in
-    rw (none, is, one, last) (wrong_met p (judged_at fields p byte) (lawful.ends p.state (p.at - length p.seen) (p.seen ++ byte ∷ []) is))
+    rw (none, is, one, last) (wrong_met p (judged_at fields p byte) (wrong (p.at - length p.seen) (p.seen ++ byte ∷ [])))

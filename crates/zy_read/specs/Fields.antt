@@ -1,6 +1,6 @@
 -- A format whose texts are fields, one after another: its state says how many bytes the next field has, and judges the
 -- field when it is whole.
-use Rattle.std.specs.Prelude.{◌≡◌, ℕ, ◌+◌, ◌-◌, ◌<◌, ◌&&◌, not, nat_lt, nat_le, if◌then◌else◌, Bool, true}
+use Rattle.std.specs.Prelude.{◌≡◌, ℕ, ◌+◌, ◌-◌, ◌<◌, ◌≤◌, ◌&&◌, not, nat_lt, nat_le, if◌then◌else◌, Bool, true}
 use Rattle.std.specs.Prelude.{List, [], ◌∷◌, ◌++◌, length, Option, None, Some, ⊤}
 use Rattle.zy_read.specs.Format.{Format, Step}
 
@@ -29,11 +29,12 @@ abbrev pub IsWrong : {S G F : Type 0} → Judged S G F → Type 0
 IsWrong (Wrong fault) = ⊤
 IsWrong judged = ⊥
 
--- a field has a byte; after the end each byte is wrong
+-- a field has a byte; where a text may end, the next field is one byte, and it is wrong after the most bytes of a text
 pub record IsLawful {S G F : Type 0} (fields : Fields S G F) : Type 0 where
   pub some : (s : S) → 0 < fields.width s
   pub one : (s : S) → fields.is_end s ≡ true → fields.width s ≡ 1
-  pub ends : (s : S) (at : ℕ) (field : List ℕ) → fields.is_end s ≡ true → IsWrong (fields.judge s at field)
+  pub ends : (s : S) (at : ℕ) (field : List ℕ) → fields.is_end s ≡ true → fields.limit ≤ at
+      → IsWrong (fields.judge s at field)
 
 -- ---- the step at a byte
 
