@@ -1,6 +1,6 @@
 -- Where a file has bytes alone, so do the frames, the payloads of its packets, their streams and their capture.
 use Rattle.std.proofs.Common.{◌≡◌, ℕ, zero, suc, ◌+◌, ◌-◌, ◌<◌, ◌≤◌, List, [], ◌∷◌, ◌++◌, length, take, drop, map, flat_map, refl, subst, arith}
-use Rattle.std.specs.Prelude.{Option, Some, None, Bool, true, false, nat_lt, if◌then◌else◌, ◌==◌, ◌&&◌, slice_range}
+use Rattle.std.specs.Prelude.{Option, Some, None, Bool, true, false, nat_lt, nat_le, if◌then◌else◌, ◌==◌, ◌&&◌, slice_range, ⊤}
 use Rattle.std.specs.List.{AllByRecursion}
 use Rattle.std.specs.Int.{to_be_bytes, w32}
 use Rattle.std.proofs.lemmas.Bool.Decides.{nat_tests}
@@ -8,26 +8,29 @@ use Rattle.zy_capture.specs.declared.record.Record.{Record}
 use Rattle.zy_capture.specs.declared.record.Record.TheVariants as Kinds
 use Rattle.zy_capture.specs.Capture.{capture_magic, spelled, spelling, segment_limit}
 use Rattle.zy_read.specs.Bytes.{AreBytes}
+use Rattle.zy_read.specs.Fields.Judged.{Then, Gives, Wrong}
+use Rattle.zy_read.proofs.RunLemmas.{After, byte_parts}
 use Rattle.zy_read.proofs.ByteLemmas.{bytes_append, bytes_take, bytes_drop}
 use Rattle.zy_pcap.specs.declared.pcap_fault.PcapFault.{PcapFault}
 use Rattle.zy_pcap.specs.declared.pcap_fault.PcapFault.TheVariants as Faults
+use Rattle.zy_pcap.specs.declared.pcap_state.PcapState.{PcapState}
 use Rattle.zy_pcap.specs.declared.due.Due.{Due}
 use Rattle.zy_pcap.specs.declared.due.Due.TheVariants as Dues
 use Rattle.zy_pcap.specs.declared.judged.Judged.{Judged}
 use Rattle.zy_pcap.specs.declared.judged.Judged.TheVariants.{Passed, Refused, Taken}
-use Rattle.zy_pcap.specs.Steps.{FilePlace, Move, move, move_at, number_move, judged_number, major, minor, ordered_number, then_due, then_more, then_record, broken, frame_grown, is_full_file, frame_limit}
-use Rattle.zy_pcap.specs.Steps.Move.{Goes, Ends}
+use Rattle.zy_pcap.specs.Steps.{DueJudged, then_due, due_does, major, minor, ordered_number, file_limit, frame_limit}
 use Rattle.zy_pcap.specs.Frame.{judge}
 use Rattle.zy_pcap.specs.Packet.{Packet, packet_in}
 use Rattle.zy_pcap.specs.Session.{Session, session_stream}
 use Rattle.zy_pcap.specs.Flow.{Flows, sessions_in, streams_of_flow, streams_of_flows, flows_of}
-use Rattle.zy_pcap.specs.Packets.{FileProgress, nothing_read, frame_fault, packets_with, record_settled, after_move, file_step, file_read_on, read, found_at, packets}
-use Rattle.zy_pcap.specs.Packets.FoundPackets.{Packets, Bad}
+use Rattle.zy_pcap.specs.Packets.{FileState, FieldJudged, frame_fault, packets_with, record_settled, file_does, packets}
+use Rattle.zy_pcap.specs.Packets.FoundPackets.{Packets}
 use Rattle.zy_pcap.specs.Made.{segments_of, session_records, connection_records, records_from, capture_of, pcap_capture}
 use Rattle.zy_pcap.proofs.CountLemmas.{stream_small}
 use Rattle.zy_pcap.proofs.CostLemmas.{packets_cost, sessions_cost, flows_cost, flows_few}
 use Rattle.zy_pcap.proofs.LengthLemmas.{flat_append}
 use Rattle.zy_pcap.proofs.FitLemmas.{chosen}
+use Rattle.zy_pcap.proofs.WholeLemmas.{IsFile, file_of, file_text, file_keeps}
 
 -- ---- lists
 
@@ -47,110 +50,69 @@ one_more : (given : List Packet) (packet : Packet) → AreOfBytes given → AreB
 one_more [] packet small last = (last, tt)
 one_more (x ∷ given) packet small last = (small.0, one_more given packet small.1 last)
 
--- ---- one byte
+-- ---- a field
 
--- the frame that is read, or that ends, has bytes alone
-abbrev HasBytes : Move → Type 0
-HasBytes (Goes q) = AreBytes q.frame
-HasBytes (Ends frame) = AreBytes frame
+-- the frame that a field gives has bytes alone
+abbrev GivesBytes : DueJudged → Type 0
+GivesBytes (Gives next frame) = AreBytes frame
+GivesBytes judged = ⊤
 
-abbrev FrameSmall : FilePlace → Type 0
-FrameSmall q = AreBytes q.frame
-
-judged_small : (due : Due) (p : FilePlace) (number : ℕ) → AreBytes (judged_number due p number).frame
-judged_small Dues.Magic p number =
-    chosen FrameSmall (number == 0xa1b2c3d4) (then_due p Dues.Version)
-    (if number == 0xd4c3b2a1 then then_due (record p { is_big = false }) Dues.Version else broken p (Faults.Magic 0))
-    (λ is. tt) (λ other. chosen FrameSmall (number == 0xd4c3b2a1) (then_due (record p { is_big = false }) Dues.Version) (broken p (Faults.Magic 0)) (λ is. tt) (λ no. tt))
-judged_small Dues.Version p number =
-    chosen FrameSmall (major p.is_big number == 2 && minor p.is_big number == 4) (then_due p (Dues.Settings 12))
-    (broken p (Faults.Version (major p.is_big number) (minor p.is_big number))) (λ is. tt) (λ no. tt)
-judged_small Dues.LinkType p number = chosen FrameSmall (number == 1) (then_record p) (broken p (Faults.LinkType number)) (λ is. tt) (λ no. tt)
-judged_small Dues.Captured p number =
-    chosen FrameSmall (nat_lt frame_limit number) (broken p (Faults.RecordLength p.begun number)) (then_due p (Dues.Original 4 number)) (λ no. tt) (λ is. tt)
-judged_small (Dues.Settings left) p number = tt
-judged_small (Dues.Time left) p number = tt
-judged_small (Dues.Original left size) p number = tt
-judged_small (Dues.Frame size) p number = tt
-judged_small (Dues.Broken fault) p number = tt
-
-number_small : (due : Due) (p : FilePlace) (byte : ℕ) → AreBytes p.frame → HasBytes (number_move due p byte)
-number_small due p byte small =
-    chosen HasBytes (nat_lt (length p.field) 3) (Goes (then_more p byte)) (Goes (judged_number due p (ordered_number p.is_big (p.field ++ byte ∷ []))))
-    (λ more. small) (λ last. judged_small due p (ordered_number p.is_big (p.field ++ byte ∷ [])))
-
-byte_small : (due : Due) (p : FilePlace) (byte : ℕ) → byte < 256 → AreBytes p.frame → HasBytes (move_at due p byte)
-byte_small Dues.Magic p byte low small = number_small Dues.Magic p byte small
-byte_small Dues.Version p byte low small = number_small Dues.Version p byte small
-byte_small Dues.LinkType p byte low small = number_small Dues.LinkType p byte small
-byte_small Dues.Captured p byte low small = number_small Dues.Captured p byte small
-byte_small (Dues.Settings left) p byte low small =
-    chosen FrameSmall (nat_lt 1 left) (then_due p (Dues.Settings (left - 1))) (then_due p Dues.LinkType) (λ more. tt) (λ last. tt)
-byte_small (Dues.Time left) p byte low small =
-    chosen FrameSmall (nat_lt 1 left) (then_due p (Dues.Time (left - 1))) (then_due p Dues.Captured) (λ more. tt) (λ last. tt)
-byte_small (Dues.Original left size) p byte low small =
-    chosen HasBytes (nat_lt 1 left) (Goes (then_due p (Dues.Original (left - 1) size))) (if size == 0 then Ends [] else Goes (then_due p (Dues.Frame size)))
-    (λ more. tt) (λ last. chosen HasBytes (size == 0) (Ends []) (Goes (then_due p (Dues.Frame size))) (λ none. tt) (λ some. tt))
-byte_small (Dues.Frame size) p byte low small =
-    let next : AreBytes (p.frame ++ byte ∷ []) = bytes_append p.frame (byte ∷ []) small (low, tt) in
-    chosen HasBytes (nat_lt (length p.frame + 1) size) (Goes (frame_grown p (byte ∷ []))) (Ends (p.frame ++ byte ∷ [])) (λ more. next) (λ last. next)
-byte_small (Dues.Broken fault) p byte low small = small
-
-move_small : (p : FilePlace) (byte : ℕ) → byte < 256 → AreBytes p.frame → HasBytes (move p byte)
-move_small p byte low small =
-    chosen HasBytes (is_full_file p) (Goes (broken p Faults.PcapTooLong)) (move_at p.due p byte) (λ full. tt) (λ room. byte_small p.due p byte low small)
+does_small : (due : Due) (s : PcapState) (at : ℕ) (field : List ℕ) → AreBytes field → GivesBytes (due_does due s at field)
+does_small Dues.Magic s at field small =
+    let number : ℕ = ordered_number s.is_big field in
+    chosen GivesBytes (number == 0xa1b2c3d4) (Then (then_due s Dues.Version))
+    (if number == 0xd4c3b2a1 then Then (then_due (record s { is_big = false }) Dues.Version) else Wrong (Faults.Magic 0)) (λ is. tt) (λ other.
+    chosen GivesBytes (number == 0xd4c3b2a1) (Then (then_due (record s { is_big = false }) Dues.Version)) (Wrong (Faults.Magic 0)) (λ is. tt) (λ no. tt))
+does_small Dues.Version s at field small =
+    let number : ℕ = ordered_number s.is_big field in
+    chosen GivesBytes (major s.is_big number == 2 && minor s.is_big number == 4) (Then (then_due s Dues.Settings))
+    (Wrong (Faults.Version (major s.is_big number) (minor s.is_big number))) (λ is. tt) (λ no. tt)
+does_small Dues.Settings s at field small = tt
+does_small Dues.LinkType s at field small =
+    let number : ℕ = ordered_number s.is_big field in
+    chosen GivesBytes (number == 1) (Then (then_due s Dues.Begin)) (Wrong (Faults.LinkType number)) (λ is. tt) (λ no. tt)
+does_small Dues.Begin s at field small =
+    chosen GivesBytes (nat_le file_limit at) (Wrong Faults.PcapTooLong) (Then (record s { due = Dues.Time; begun = at })) (λ full. tt) (λ room. tt)
+does_small Dues.Time s at field small = tt
+does_small Dues.Captured s at field small =
+    let number : ℕ = ordered_number s.is_big field in
+    chosen GivesBytes (nat_lt frame_limit number) (Wrong (Faults.RecordLength s.begun number)) (Then (then_due s (Dues.Original number))) (λ no. tt) (λ is. tt)
+does_small (Dues.Original size) s at field small =
+    chosen GivesBytes (size == 0) (Gives (then_due s Dues.Begin) []) (Then (then_due s (Dues.Frame (size - 1)))) (λ none. tt) (λ some. tt)
+does_small (Dues.Frame others) s at field small = small
 
 -- ---- a whole file
 
--- what was read has bytes alone
-abbrev ReadSmall : FileProgress → Type 0
-ReadSmall p = AreBytes p.place.frame × AreOfBytes p.packets
+-- the packets so far have bytes alone
+abbrev ReadSmall : FileState → ℕ → Type 0
+ReadSmall s n = AreOfBytes s.packets
+
+-- so they have after a whole field
+abbrev SmallAfter : List ℕ → List ⊤ → FieldJudged → Type 0
+SmallAfter text gave judged = After (λ s l given. ReadSmall s (length l)) text gave judged
 
 with_small : (frame : List ℕ) (given : List Packet) (found : Judged) → AreBytes frame → AreOfBytes given → AreOfBytes (packets_with frame given found)
 with_small frame given (Taken segment) small before = one_more given (packet_in frame segment) before (range_small frame segment.begin (segment.begin + segment.size) small)
 with_small frame given Passed small before = before
 with_small frame given (Refused fault) small before = before
 
-settled_small : (p : FileProgress) (fault : Option PcapFault) (given : List Packet) → AreOfBytes given → AreOfBytes p.packets → ReadSmall (record_settled p fault given)
-settled_small p None given after before = (tt, after)
-settled_small p (Some fault) given after before = (tt, before)
+settled_small : (fault : Option PcapFault) (next : FileState) (text : List ℕ) (gave : List ⊤) → AreOfBytes next.packets → SmallAfter text gave (record_settled fault next)
+settled_small None next text gave small = small
+settled_small (Some fault) next text gave small = tt
 
-moved_small : (port : ℕ) (p : FileProgress) (m : Move) → HasBytes m → AreOfBytes p.packets → ReadSmall (after_move port p m)
-moved_small port p (Goes q) small before = (small, before)
-moved_small port p (Ends frame) small before =
-    let found : Judged = judge port p.place.begun frame in
-    settled_small p (frame_fault p.place.begun frame p.packets found) (packets_with frame p.packets found) (with_small frame p.packets found small before) before
-
-read_small : (port : ℕ) (p : FileProgress) (bytes : List ℕ) → AreBytes bytes → ReadSmall p → ReadSmall (file_read_on port p bytes)
-unfolding file_read_on
-read_small port p [] small before = before
-read_small port p (byte ∷ bytes) small before =
-    read_small port (file_step port p byte) bytes small.1 (moved_small port p (move p.place byte) (move_small p.place byte small.0 before.0) before.1)
-
-time_small : (left : ℕ) (p : FileProgress) (given : List Packet) (test : Bool) → (left == 8) ≡ test → found_at (Dues.Time left) p ≡ Packets given → AreOfBytes p.packets → AreOfBytes given
-time_small left p given false is found small =
-    let bad : Bad (Faults.PcapTruncated p.place.at) ≡ Packets given = rw is at found in cc
-time_small left p given true is found small =
-    let good : Packets p.packets ≡ Packets given = rw is at found in
-    let same : p.packets ≡ given = cc in
-    subst AreOfBytes same small
-
-found_small : (due : Due) (p : FileProgress) (given : List Packet) → found_at due p ≡ Packets given → AreOfBytes p.packets → AreOfBytes given
-found_small Dues.Magic p given found small = cc
-found_small Dues.Version p given found small = cc
-found_small (Dues.Settings left) p given found small = cc
-found_small Dues.LinkType p given found small = cc
-found_small (Dues.Time left) p given found small = time_small left p given (left == 8) refl found small
-found_small Dues.Captured p given found small = cc
-found_small (Dues.Original left size) p given found small = cc
-found_small (Dues.Frame size) p given found small = cc
-found_small (Dues.Broken fault) p given found small = cc
+judged_small : (port : ℕ) (s : FileState) (judged : DueJudged) (text : List ℕ) (gave : List ⊤) → GivesBytes judged → AreOfBytes s.packets → SmallAfter text gave (file_does port s judged)
+judged_small port s (Then next) text gave small before = before
+judged_small port s (Wrong fault) text gave small before = tt
+judged_small port s (Gives next frame) text gave small before =
+    let found : Judged = judge port s.records.begun frame in
+    settled_small (frame_fault s.records.begun frame s.packets found) (record { records = next; packets = packets_with frame s.packets found }) text gave (with_small frame s.packets found small before)
 
 packets_small : (port : ℕ) (bytes : List ℕ) (given : List Packet) → AreBytes bytes → packets port bytes ≡ Packets given → AreOfBytes given
-unfolding packets read
-packets_small port bytes given small found =
-    let all : ReadSmall (file_read_on port nothing_read bytes) = read_small port nothing_read bytes small (tt, tt) in
-    found_small (read port bytes).place.due (read port bytes) given found all.1
+packets_small port bytes given small is =
+    let file : IsFile port bytes given = file_of port bytes given is in
+    subst AreOfBytes file.same (file_keeps port bytes given file AreBytes ReadSmall
+    (λ s text field gave bytes before size. judged_small port s (due_does s.records.due s.records (length text) field) (text ++ field) gave (does_small s.records.due s.records (length text) field bytes) before)
+    (byte_parts file.whole.begins.parts (subst AreBytes (file_text port bytes given file) small)) tt)
 
 -- ---- the flows
 

@@ -4,11 +4,11 @@ mod CopyLemmas
 mod CostLemmas
 mod CountLemmas
 mod CoverLemmas
+mod DueLemmas
 mod FileLemmas
 mod FitLemmas
 mod FlowLemmas
 mod FrameLemmas
-mod FrontLemmas
 mod GoodLemmas
 mod HeldLemmas
 mod KeptLemmas
@@ -22,3 +22,4 @@ mod SessionLemmas
 mod SlotLemmas
 mod StreamLemmas
 mod TextLemmas
+mod WholeLemmas

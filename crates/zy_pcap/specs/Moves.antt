@@ -1,46 +1,84 @@
--- What the reader of records answers to a byte. No public clause cites this module.
-use Rattle.std.specs.Prelude.{◌≡◌, ℕ, ◌-◌, ◌<◌, ◌≤◌, min, Bool, true, false, List, [], length, Result, Ok, Err, ⊤}
+-- What the reader of records keeps, and what it answers to a byte. No public clause cites this module.
+use Rattle.std.specs.Prelude.{◌≡◌, ℕ, ◌+◌, ◌-◌, ◌<◌, ◌≤◌, Bool, true, false, List, []}
+use Rattle.std.specs.Prelude.{length, take, Option, None, Some, Result, Ok, Err, ⊤}
 use Rattle.zy_read.specs.declared.not_taken.NotTaken.{NotTaken}
 use Rattle.zy_read.specs.declared.not_taken.NotTaken.TheVariants.{Fault, NoMemory}
+use Rattle.zy_read.specs.Format.{Step}
+use Rattle.zy_read.specs.Fields.{at_state}
+use Rattle.zy_read.specs.Standing.{Feeds}
 use Rattle.zy_pcap.specs.declared.pcap_fault.PcapFault.{PcapFault}
 use Rattle.zy_pcap.specs.declared.due.Due.{Due}
 use Rattle.zy_pcap.specs.declared.due.Due.TheVariants as Dues
-use Rattle.zy_pcap.specs.Steps.{FilePlace, Move, is_open_file, file_limit}
-use Rattle.zy_pcap.specs.Steps.Move.{Goes, Ends}
+use Rattle.zy_pcap.specs.Steps.{FilePlace, then_due, due_width}
 
--- an answer and a new place are those of a move; at a record's last byte the frame is whole, and
+-- ---- what is kept
+
+-- the bytes that were read of the field, of those that are kept of a number and of a frame
+abbrev pub seen_of : Due → List ℕ → List ℕ → List ℕ
+seen_of (Dues.Frame others) field frame = frame
+seen_of due field frame = field
+
+-- the bytes that were read of a frame
+abbrev pub frame_of : Due → List ℕ → List ℕ
+frame_of (Dues.Frame others) seen = seen
+frame_of due seen = []
+
+-- the same at a place
+abbrev pub frame_at : FilePlace → List ℕ
+frame_at p = frame_of p.state.due p.seen
+
+-- the field is no frame
+abbrev pub IsWord : Due → Type 0
+IsWord (Dues.Frame others) = ⊥
+IsWord due = ⊤
+
+-- the field is a number of four bytes
+abbrev pub IsNumberDue : Due → Type 0
+IsNumberDue Dues.Magic = ⊤
+IsNumberDue Dues.Version = ⊤
+IsNumberDue Dues.LinkType = ⊤
+IsNumberDue Dues.Captured = ⊤
+IsNumberDue due = ⊥
+
+-- the bytes that are kept are those of the field, or of a whole frame; and there is room for a frame
+abbrev pub IsKept : Due → List ℕ → List ℕ → ℕ → Type 0
+IsKept (Dues.Frame others) field frame room = (field ≡ []) × (length frame ≤ others + 1) × (others + 1 ≤ room)
+IsKept due field frame room = (length field < due_width due) × (frame ≡ [])
+
+-- the same, where this fault was met or none; after one no byte is kept
+abbrev pub IsKeptBy : Option PcapFault → Due → List ℕ → List ℕ → ℕ → Type 0
+IsKeptBy None due field frame room = IsKept due field frame room
+IsKeptBy (Some fault) due field frame room = (field ≡ []) × (frame ≡ [])
+
+-- the field is not whole
+abbrev pub IsPart : FilePlace → Type 0
+IsPart p = length p.seen < due_width p.state.due
+
+-- ---- a byte
+
+-- the fault was met
+abbrev pub broken : FilePlace → PcapFault → FilePlace
+broken p fault = record p { seen = []; fault = Some fault }
+
+-- a record is expected after the byte
+abbrev pub then_record : FilePlace → FilePlace
+then_record p = at_state (then_due p.state Dues.Begin) (p.at + 1)
+
+-- the bytes of a frame before its last one; all of a number
+abbrev pub seen_before : Due → List ℕ → List ℕ
+seen_before (Dues.Frame others) seen = take (length seen - 1) seen
+seen_before due seen = seen
+
+-- the place before the last byte of a frame
+abbrev pub without_last : FilePlace → FilePlace
+without_last p = record p { seen = seen_before p.state.due p.seen }
+
+-- an answer and a new place are those of a step; at a record's last byte the frame is whole, and
 -- all else is as before
-abbrev pub TakesMove : Move → FilePlace → FilePlace → Result Bool (NotTaken PcapFault) → Type 0
-TakesMove (Goes q) old new (Ok is_end) = (is_end ≡ false) × (new ≡ q) × (is_open_file q.due ≡ true)
-TakesMove (Goes q) old new (Err (Fault fault)) = (new ≡ q) × (q.due ≡ Dues.Broken fault)
-TakesMove (Goes q) old new (Err NoMemory) = new ≡ old
-TakesMove (Ends frame) old new (Ok is_end) = (is_end ≡ true) × (new ≡ record old { frame = frame })
-TakesMove (Ends frame) old new (Err (Fault fault)) = ⊥
-TakesMove (Ends frame) old new (Err NoMemory) = new ≡ old
-
--- the bytes read of a frame are not more than it has, and there is room for all
-abbrev pub IsWithinFrame : Due → List ℕ → ℕ → Type 0
-IsWithinFrame (Dues.Frame size) frame room = (length frame ≤ size) × (size ≤ room)
-IsWithinFrame due frame room = frame ≡ []
-
--- the expected frame is not whole
-abbrev pub IsPartOfFrame : Due → List ℕ → Type 0
-IsPartOfFrame (Dues.Frame size) frame = length frame < size
-IsPartOfFrame due frame = ⊤
-
--- by what is due
-abbrev pub room_in : Due → FilePlace → ℕ
-room_in (Dues.Frame size) p = min (size - length p.frame - 1) (file_limit - p.at)
-room_in due p = 0
-
--- how many bytes of a frame may come next, apart from its last one
-abbrev pub run_room : FilePlace → ℕ
-run_room p = room_in p.due p
-
--- the expected byte is one of a number
-abbrev pub has_number : Due → Bool
-has_number Dues.Magic = true
-has_number Dues.Version = true
-has_number Dues.LinkType = true
-has_number Dues.Captured = true
-has_number due = false
+abbrev pub TakesMove : Step FilePlace (List ℕ) → FilePlace → FilePlace → Result Bool (NotTaken PcapFault) → Type 0
+TakesMove step old new (Ok false) = (step ≡ record { next = new; gave = None }) × (new.fault ≡ None)
+TakesMove step old new (Ok true) =
+    (step ≡ record { next = then_record old; gave = Some (frame_at new) })
+    × (new ≡ record old { seen = new.seen })
+TakesMove step old new (Err (Fault fault)) = (step ≡ record { next = new; gave = None }) × (new.fault ≡ Some fault)
+TakesMove step old new (Err NoMemory) = new ≡ old

@@ -1,27 +1,24 @@
--- The packets of a file, or its first fault, byte after byte.
-use Rattle.std.specs.Prelude.{ℕ, ◌==◌, if◌then◌else◌, List, [], ◌∷◌, ◌++◌, Option, None, Some}
+-- The packets of a file, or its first fault: what its fields do where each frame that they give is judged.
+use Rattle.std.specs.Prelude.{ℕ, List, [], ◌∷◌, ◌++◌, Option, None, Some, ⊤}
+use Rattle.zy_read.specs.Format.{Format, fault_met, verdict_on}
+use Rattle.zy_read.specs.Fields as Reads
+use Rattle.zy_read.specs.Fields.{Fields, Place, format_of}
+use Rattle.zy_read.specs.Fields.Judged.{Then, Gives, Wrong}
 use Rattle.zy_pcap.specs.declared.pcap_fault.PcapFault.{PcapFault}
-use Rattle.zy_pcap.specs.declared.pcap_fault.PcapFault.TheVariants.{PcapTruncated}
-use Rattle.zy_pcap.specs.declared.due.Due.{Due}
-use Rattle.zy_pcap.specs.declared.due.Due.TheVariants.{Time, Broken}
+use Rattle.zy_pcap.specs.declared.pcap_state.PcapState.{PcapState}
 use Rattle.zy_pcap.specs.declared.judged.Judged.{Judged}
 use Rattle.zy_pcap.specs.declared.judged.Judged.TheVariants.{Passed, Refused, Taken}
-use Rattle.zy_pcap.specs.Steps.{FilePlace, Move, file_start, move, then_record, broken}
-use Rattle.zy_pcap.specs.Steps.Move.{Goes, Ends}
+use Rattle.zy_pcap.specs.Steps.{DueJudged, frames}
 use Rattle.zy_pcap.specs.Frame.{judge}
 use Rattle.zy_pcap.specs.Packet.{Packet, packet_in}
 use Rattle.zy_pcap.specs.Flow.{flows_of, flow_fault}
 
--- ---- byte after byte
+-- ---- the end of a record
 
--- how far a file was read, and the packets before that place
-pub record FileProgress : Type 0 where
-  pub place : FilePlace
+-- the state of a file: that of its records, and the packets before
+pub record FileState : Type 0 where
+  pub records : PcapState
   pub packets : List Packet
-
--- before the first byte
-abbrev pub nothing_read : FileProgress
-nothing_read = record { place = file_start; packets = [] }
 
 -- the fault of a frame whose record is at a place, after some packets
 abbrev pub frame_fault : ℕ → List ℕ → List Packet → Judged → Option PcapFault
@@ -34,33 +31,40 @@ abbrev pub packets_with : List ℕ → List Packet → Judged → List Packet
 packets_with frame packets (Taken segment) = packets ++ packet_in frame segment ∷ []
 packets_with frame packets judged = packets
 
--- the end of a record: there is this fault, or the packets are these
-abbrev pub record_settled : FileProgress → Option PcapFault → List Packet → FileProgress
-record_settled p None packets = record { place = then_record p.place; packets = packets }
-record_settled p (Some fault) packets = record p { place = broken p.place fault }
+-- ---- the fields
 
--- the end of a record whose frame is this
-abbrev pub record_ended : FileProgress → List ℕ → Judged → FileProgress
-record_ended p frame judged =
-    record_settled p (frame_fault p.place.begun frame p.packets judged) (packets_with frame p.packets judged)
+-- what a whole field does
+abbrev pub FieldJudged : Type 0
+FieldJudged = Reads.Judged FileState ⊤ PcapFault
 
--- what a byte does that leads to a place or ends a record
-abbrev pub after_move : ℕ → FileProgress → Move → FileProgress
-after_move port p (Goes place) = record p { place = place }
-after_move port p (Ends frame) = record_ended p frame (judge port p.place.begun frame)
+-- the end of a record: it has this fault, or the state is next
+abbrev pub record_settled : Option PcapFault → FileState → FieldJudged
+record_settled None next = Then next
+record_settled (Some fault) next = Wrong fault
 
--- what a byte does
-abbrev pub file_step : ℕ → FileProgress → ℕ → FileProgress
-file_step port p byte = after_move port p (move p.place byte)
+-- the end of a record whose frame is this, where this is the next state of the records
+abbrev pub record_ended : FileState → PcapState → List ℕ → Judged → FieldJudged
+record_ended s next frame judged =
+    record_settled (frame_fault s.records.begun frame s.packets judged)
+    (record { records = next; packets = packets_with frame s.packets judged })
 
--- what is read of the rest of a file
-unfoldable pub file_read_on : ℕ → FileProgress → List ℕ → FileProgress
-file_read_on port p [] = p
-file_read_on port p (byte ∷ bytes) = file_read_on port (file_step port p byte) bytes
+-- what a field of the records does
+abbrev pub file_does : ℕ → FileState → DueJudged → FieldJudged
+file_does port s (Then next) = Then (record s { records = next })
+file_does port s (Gives next frame) = record_ended s next frame (judge port s.records.begun frame)
+file_does port s (Wrong fault) = Wrong fault
 
--- what is read of a file
-unfoldable pub read : ℕ → List ℕ → FileProgress
-read port bytes = file_read_on port nothing_read bytes
+-- the fields of a file with packets to a port
+abbrev pub packet_fields : ℕ → Fields FileState ⊤ PcapFault
+packet_fields port = record {
+  start = record { records = frames.start; packets = [] };
+  width = λ s. frames.width s.records;
+  judge = λ s at field. file_does port s (frames.judge s.records at field);
+  is_end = λ s. frames.is_end s.records;
+  limit = frames.limit;
+  too_long = frames.too_long;
+  truncated = frames.truncated;
+}
 
 -- ---- a whole file
 
@@ -69,22 +73,18 @@ pub data FoundPackets : Type 0 where
   Packets : List Packet → FoundPackets
   Bad : PcapFault → FoundPackets
 
--- a file that ends where this is expected; it may end where a record is expected and none of its
--- bytes was read
-abbrev pub found_at : Due → FileProgress → FoundPackets
-found_at (Time left) p = if left == 8 then Packets p.packets else Bad (PcapTruncated p.place.at)
-found_at (Broken fault) p = Bad fault
-found_at due p = Bad (PcapTruncated p.place.at)
+-- the packets of a file that ends before a record
+abbrev pub found : FileState → List ⊤ → FoundPackets
+found s given = Packets s.packets
+
+-- the format of recorded packets
+abbrev pub recorded : ℕ → Format (Place FileState PcapFault) ⊤ PcapFault FoundPackets
+recorded port = format_of (packet_fields port) found Bad
 
 -- the packets of a file to a port, or its first fault
-unfoldable pub packets : ℕ → List ℕ → FoundPackets
-packets port bytes = found_at (read port bytes).place.due (read port bytes)
-
--- the fault, where this is expected
-abbrev pub file_fault_in : Due → Option PcapFault
-file_fault_in (Broken fault) = Some fault
-file_fault_in due = None
+abbrev pub packets : ℕ → List ℕ → FoundPackets
+packets port bytes = verdict_on (recorded port) bytes
 
 -- the fault that was met in some bytes; their end is not a fault here
-unfoldable pub file_fault_met : ℕ → List ℕ → Option PcapFault
-file_fault_met port bytes = file_fault_in (read port bytes).place.due
+abbrev pub file_fault_met : ℕ → List ℕ → Option PcapFault
+file_fault_met port bytes = fault_met (recorded port) bytes

@@ -4,9 +4,11 @@ use Rattle.zy_read.specs.declared.not_taken.NotTaken.{NotTaken}
 use Rattle.zy_read.specs.declared.not_taken.NotTaken.TheVariants.{Fault, NoMemory}
 use Rattle.zy_pcap.specs.declared.pcap_fault.PcapFault.{PcapFault}
 use Rattle.zy_pcap.specs.declared.kept_flow.KeptFlow.{KeptFlow}
+use Rattle.zy_read.specs.Format.{reading_of}
+use Rattle.zy_read.specs.Fields.{Place}
 use Rattle.zy_pcap.specs.Steps.{FilePlace}
 use Rattle.zy_pcap.specs.Flow.{flows_of, streams_of_flows}
-use Rattle.zy_pcap.specs.Packets.{FoundPackets, read, packets, file_fault_met}
+use Rattle.zy_pcap.specs.Packets.{FileState, FoundPackets, recorded, packets, file_fault_met}
 use Rattle.zy_pcap.specs.Packets.FoundPackets.{Packets, Bad}
 use Rattle.zy_pcap.specs.Kept.{KeepsFlows}
 
@@ -16,9 +18,17 @@ pub record PcapReading : Type 0 where
   pub place : FilePlace
   pub kept : List (Option KeptFlow)
 
+-- the place without its packets
+abbrev pub bare : Place FileState PcapFault → FilePlace
+bare p = record { state = p.state.records; seen = p.seen; at = p.at; fault = p.fault }
+
+-- the reader is at this place, and keeps the flows of its packets
+abbrev pub IsAtPlace : PcapReading → Place FileState PcapFault → Type 0
+IsAtPlace r p = (r.place ≡ bare p) × KeepsFlows r.kept (flows_of p.state.packets)
+
 -- these bytes were fed, one after another
 unfoldable pub StandsForFile : PcapReading → List ℕ → Type 0
-StandsForFile r fed = (r.place ≡ (read r.port fed).place) × KeepsFlows r.kept (flows_of (read r.port fed).packets)
+StandsForFile r fed = IsAtPlace r (reading_of (recorded r.port) fed).last
 
 -- whatever bytes led to the old reader, these further bytes lead to the new one
 abbrev pub FeedsFile : PcapReading → PcapReading → List ℕ → Type 0

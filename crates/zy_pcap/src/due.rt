@@ -1,26 +1,41 @@
 //! What is expected next in recorded packets.
+ghost use Rattle.std.specs.Prelude.{◌≡◌};
+ghost use Rattle.zy_pcap.specs.Steps.{due_width};
 
-use crate::pcap_fault::PcapFault;
-
-/// What is expected next.
+/// The field that is expected next.
 #[derive(Clone, Copy)]
 pub(crate) enum Due {
     /// The magic.
     Magic,
     /// The two numbers of the version.
     Version,
-    /// `left` bytes of the header that are skipped.
-    Settings { left: u32 },
+    /// The bytes of the header that are skipped.
+    Settings,
     /// The link type.
     LinkType,
-    /// `left` bytes of a record's time; if `left` is eight, no record was begun.
-    Time { left: u32 },
+    /// The first byte of a record's time; no record was begun.
+    Begin,
+    /// The other bytes of a record's time.
+    Time,
     /// The captured length of a record.
     Captured,
-    /// `left` bytes of the original length of a record of this captured length.
-    Original { left: u32, size: u32 },
-    /// The bytes of a frame of this length.
-    Frame { size: u32 },
-    /// Nothing: there is this fault.
-    Broken(PcapFault),
+    /// The original length of a record of this captured length.
+    Original { size: u32 },
+    /// The bytes of a frame: one and this number of others.
+    Frame { others: u32 },
+}
+
+impl Due {
+    // How many bytes the field has.
+    pub(crate) fn width(self) -> usize
+        ensures value { result ≡ due_width self }
+    {
+        match self {
+            Due::Settings => 12,
+            Due::Begin => 1,
+            Due::Time => 7,
+            Due::Frame { others } => others as usize + 1,
+            _ => 4,
+        }
+    }
 }

@@ -1,5 +1,5 @@
 //! Laws over the definitions of recorded packets.
-ghost use Rattle.std.specs.Prelude.{◌≡◌, ◌≤◌, ◌+◌, ℕ, List, [], ◌∷◌, ◌++◌, length};
+ghost use Rattle.std.specs.Prelude.{◌≡◌, ◌≤◌, ◌+◌, ℕ, List, [], ◌∷◌, ◌++◌, length, ⊤};
 ghost use Rattle.zy_capture.specs.Capture.{capture_limit};
 ghost use Rattle.zy_read.specs.Bytes.{AreBytes};
 ghost use Rattle.zy_capture.specs.Verdict.{verdict};
@@ -9,7 +9,9 @@ ghost use Rattle.zy_pcap.specs.declared.pcap_fault.PcapFault.TheVariants as Faul
 ghost use Rattle.zy_pcap.specs.Packet.{Packet};
 ghost use Rattle.zy_pcap.specs.Copies.{stream_of_packets, IsCovered, Agree};
 ghost use Rattle.zy_pcap.specs.Made.{pcap_capture, pcap_verdict, records_from};
-ghost use Rattle.zy_pcap.specs.Packets.{packets};
+ghost use Rattle.zy_read.specs.Runs.{IsWhole, IsCut, HasFault, IsOutcome};
+ghost use Rattle.zy_pcap.specs.declared.pcap_fault.PcapFault.{PcapFault};
+ghost use Rattle.zy_pcap.specs.Packets.{FileState, packet_fields, found, packets};
 ghost use Rattle.zy_pcap.specs.Packets.FoundPackets.{Packets, Bad};
 ghost use Rattle.zy_pcap.specs.Steps.{file_limit};
 ghost use Rattle.zy_pcap.specs.Sizes.{payload_bytes, file_header, record_bytes};
@@ -27,6 +29,19 @@ pub fn the_worked_file_makes_its_capture()
 pub fn the_worked_faults_are_told()
     ensures empty { packets 1766 [] ≡ Bad (Faults.PcapTruncated 0) }
     ensures other { packets 1766 (10 ∷ 13 ∷ 13 ∷ 10 ∷ []) ≡ Bad (Faults.Magic 0) }
+{}
+
+/// Each file is whole fields up to the end of its header or of a record, or is cut, or has a fault, and
+/// its packets are those of the fields, or it is truncated, or has the fault.
+pub fn a_file_is_what_its_fields_say()
+    ensures only { (port : ℕ) (bytes : List ℕ)
+        → IsOutcome (packet_fields port) found Bad bytes (packets port bytes) }
+    ensures whole { (port : ℕ) (bytes : List ℕ) (s : FileState) (given : List ⊤)
+        → IsWhole (packet_fields port) bytes s given → packets port bytes ≡ Packets s.packets }
+    ensures cut { (port : ℕ) (bytes : List ℕ) → IsCut (packet_fields port) bytes
+        → packets port bytes ≡ Bad (Faults.PcapTruncated (length bytes)) }
+    ensures fault { (port : ℕ) (bytes : List ℕ) (s : FileState) (fault : PcapFault)
+        → HasFault (packet_fields port) bytes s fault → packets port bytes ≡ Bad fault }
 {}
 
 /// A packet changes no stream where each of its bytes has an offset at which an earlier packet of the

@@ -1,10 +1,10 @@
 //! The reader of recorded packets.
-ghost use Rattle.std.specs.Prelude.{◌≡◌, ◌<◌, ◌≤◌, [], ◌∷◌, length, take, IsOk};
+ghost use Rattle.std.specs.Prelude.{◌≡◌, ◌<◌, ◌≤◌, [], ◌∷◌, length, take, None, IsOk};
 ghost use Rattle.zy_pcap.specs.Steps.{file_limit};
 ghost use Rattle.zy_pcap.specs.Standing.{StandsForFile, FeedsFile, FeedsFileAs, TellsFileFault, TellsLastingFault, FinishesBy};
+ghost use Rattle.zy_pcap.specs.Moves.{frame_at};
 ghost use Rattle.zy_pcap.specs.Step.{AnswersByte, MeetsFrame, PlaceIs};
 
-use crate::due::Due;
 use crate::fed::Fed;
 use crate::flows::Flows;
 use crate::frame::judge;
@@ -27,19 +27,19 @@ pub struct PcapReader {
 impl Model for PcapReader {
     ghost use Rattle.std.specs.Prelude.{◌≤◌, length};
     ghost use Rattle.zy_pcap.specs.Standing.{PcapReading};
-    ghost use Rattle.zy_pcap.specs.Moves.{IsPartOfFrame};
+    ghost use Rattle.zy_pcap.specs.Moves.{IsPart};
 
     ghost Value = { PcapReading };
 
     ghost view = { λ r. record { port = r.port; place = r.records; kept = r.kept.flows.items } };
 
     ghost invariant = { λ r. (length r.kept.flows.items ≤ 4096)
-        × IsPartOfFrame r.records.due r.records.frame };
+        × IsPart r.records };
 }
 
 impl PcapReader {
     /// A reader to which no byte was fed, of packets to this port. Takes no memory.
-    #[tactic(auto, using(crate::proofs::ReadLemmas::begins_empty))]
+    #[tactic(auto, using(crate::proofs::ReadLemmas::begins))]
     pub fn new(alloc: Global, port: u16) -> PcapReader
         requires port { 1 ≤ port }
         ensures port { result.port ≡ port }
@@ -98,9 +98,7 @@ impl PcapReader {
         ensures within { result < length bytes.now }
         ensures fed { FeedsFile self.old self.new (take result bytes.now) }
     {
-        let run = self.records.room().min(bytes.len() - 1);
-        self.records.append_run(&bytes[..run]);
-        run
+        self.records.take_run(bytes)
     }
 
     // Takes the next byte.
@@ -108,51 +106,41 @@ impl PcapReader {
         ensures port { self.new.port ≡ self.old.port }
         ensures value { AnswersByte self.old self.new byte result }
     {
-        let before = self.records.frame().len();
         match self.records.take(byte) {
             Ok(false) => Ok(()),
-            Ok(true) => settle(&mut self.records, &mut self.kept, self.port, before),
+            Ok(true) => settle(&mut self.records, &mut self.kept, self.port),
             Err(refused) => Err(refused),
         }
     }
 
     /// The streams of all flows if the bytes that were fed are a whole file, and otherwise their
     /// first fault. Takes no memory.
-    #[tactic(auto, using(crate::proofs::ReadLemmas::finished, crate::proofs::ReadLemmas::finished_broken, crate::proofs::ReadLemmas::finished_within))]
+    #[tactic(auto, using(crate::proofs::ReadLemmas::finished, crate::proofs::ReadLemmas::finished_bad))]
     pub fn finish(self) -> Result<Flows, PcapFault>
         ensures value { FinishesBy self result }
     {
         let PcapReader { records, kept, .. } = self;
-        let due = records.due();
-        let at = records.at();
+        let end = records.end();
         drop(records);
-        match due {
-            Due::Time { left: 8 } => Ok(Flows::of(kept)),
-            Due::Broken(fault) => {
+        match end {
+            Ok(()) => Ok(Flows::of(kept)),
+            Err(fault) => {
                 drop(kept);
                 Err(fault)
-            }
-            _ => {
-                drop(kept);
-                Err(PcapFault::PcapTruncated { at })
             }
         }
     }
 }
 
-// Takes the record that has ended, whose frame is whole. If memory is refused, only `before` bytes
-// of the frame remain.
-fn settle(
-    records: &mut Records,
-    kept: &mut KeptFlows,
-    port: u16,
-    before: usize,
-) -> Result<(), PcapFeed>
+// Takes the record that has ended, whose frame is whole. If memory is refused, the last byte of the
+// frame is left.
+fn settle(records: &mut Records, kept: &mut KeptFlows, port: u16) -> Result<(), PcapFeed>
+    requires none { records.old.fault ≡ None }
     requires room { records.old.at < file_limit }
     requires limit { length kept.old.flows.items ≤ 4096 }
-    ensures place { PlaceIs before records.old records.new result }
-    ensures frame { MeetsFrame port records.old.begun records.old.frame kept.old.flows.items
-        kept.new.flows.items result }
+    ensures place { PlaceIs records.old records.new result }
+    ensures frame { MeetsFrame port records.old.state.begun (frame_at records.old)
+        kept.old.flows.items kept.new.flows.items result }
     ensures limit { length kept.new.flows.items ≤ 4096 }
 {
     match meet_frame(records, kept, port) {
@@ -165,7 +153,7 @@ fn settle(
             Err(PcapFeed::Fault(fault))
         }
         Err(PcapFeed::NoMemory) => {
-            records.cut_frame(before);
+            records.leave_last();
             Err(PcapFeed::NoMemory)
         }
     }
@@ -173,9 +161,10 @@ fn settle(
 
 // Takes the packet of a frame that is whole.
 fn meet_frame(records: &Records, kept: &mut KeptFlows, port: u16) -> Result<(), PcapFeed>
+    requires none { records.now.fault ≡ None }
     requires limit { length kept.old.flows.items ≤ 4096 }
-    ensures frame { MeetsFrame port records.now.begun records.now.frame kept.old.flows.items
-        kept.new.flows.items result }
+    ensures frame { MeetsFrame port records.now.state.begun (frame_at records.now)
+        kept.old.flows.items kept.new.flows.items result }
     ensures limit { length kept.new.flows.items ≤ 4096 }
 {
     let at = records.begun();

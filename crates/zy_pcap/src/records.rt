@@ -1,12 +1,17 @@
 //! The reader of a file's header and of its records.
-ghost use Rattle.std.specs.Prelude.{◌≡◌, ◌+◌, ◌<◌, ◌≤◌, length, take};
-ghost use Rattle.zy_pcap.specs.Steps.{file_start, frame_grown, then_record, broken, file_limit};
-ghost use Rattle.zy_pcap.specs.Moves.{IsPartOfFrame, run_room};
+ghost use Rattle.std.specs.Prelude.{◌≡◌, ◌+◌, ◌<◌, ◌≤◌, None, [], length, take};
+ghost use Rattle.zy_read.specs.Fields.{at_state, grown_by};
+ghost use Rattle.zy_read.specs.FieldReading.{EndsAt};
+ghost use Rattle.zy_pcap.specs.declared.due.Due.TheVariants as Dues;
+ghost use Rattle.zy_pcap.specs.Steps.{file_start, file_limit, frames};
+ghost use Rattle.zy_pcap.specs.Moves.{frame_at, IsPart, broken, then_record, without_last};
+ghost use Rattle.zy_pcap.specs.Step.{FeedsRecords};
 
 mod steps;
 
 use crate::due::Due;
 use crate::pcap_fault::PcapFault;
+use crate::pcap_state::PcapState;
 use crate::word::Word;
 use std::alloc::Global;
 use std::marker::Model;
@@ -16,125 +21,136 @@ const FILE_LIMIT: u64 = 4_294_967_295;
 /// Reads a file up to the end of each record.
 #[derive(Drop)]
 pub(crate) struct Records {
-    due: Due,
+    state: PcapState,
     field: Word,
     frame: Vec<u8>,
-    is_big: bool,
-    begun: u64,
     at: u64,
+    fault: Option<PcapFault>,
 }
 
 impl Model for Records {
     ghost use Rattle.std.specs.Prelude.{◌≤◌, vec_capacity};
     ghost use Rattle.zy_pcap.specs.Steps.{FilePlace, file_limit};
-    ghost use Rattle.zy_pcap.specs.Moves.{IsWithinFrame};
+    ghost use Rattle.zy_pcap.specs.Moves.{seen_of, IsKeptBy};
 
     ghost Value = { FilePlace };
 
     ghost view = { λ r. record {
-      due = r.due;
-      field = r.field;
-      frame = r.frame.items;
-      is_big = r.is_big;
-      begun = r.begun;
+      state = r.state;
+      seen = seen_of r.state.due r.field r.frame.items;
       at = r.at;
+      fault = r.fault;
     } };
 
     ghost invariant = { λ r. (r.at ≤ file_limit)
-        × IsWithinFrame r.due r.frame.items (vec_capacity r.frame) };
+        × IsKeptBy r.fault r.state.due r.field r.frame.items (vec_capacity r.frame) };
 }
 
 impl Records {
     // No byte was read. Takes no memory.
     pub(crate) fn new(alloc: Global) -> Records
-        ensures value { result ≡ file_start }
+        ensures value { result ≡ at_state file_start 0 }
     {
         Records {
-            due: Due::Magic,
+            state: PcapState {
+                due: Due::Magic,
+                is_big: true,
+                begun: 0,
+            },
             field: Word::new(),
             frame: Vec::new(alloc),
-            is_big: true,
-            begun: 0,
             at: 0,
+            fault: None,
         }
     }
 
-    // What is expected.
-    pub(crate) fn due(&self) -> Due
-        ensures value { result ≡ self.now.due }
+    // Whether a file may end here, and its fault otherwise.
+    pub(crate) fn end(&self) -> Result<(), PcapFault>
+        ensures value { EndsAt frames self.now result }
     {
-        self.due
+        match (self.fault, self.state.due) {
+            (Some(fault), _) => Err(fault),
+            (None, Due::Begin) => Ok(()),
+            (None, _) => Err(PcapFault::PcapTruncated { at: self.at }),
+        }
     }
 
-    // The place of the expected record.
+    // The place of the record that was begun.
     pub(crate) fn begun(&self) -> u64
-        ensures value { result ≡ self.now.begun }
+        ensures value { result ≡ self.now.state.begun }
     {
-        self.begun
-    }
-
-    // How many bytes were read.
-    pub(crate) fn at(&self) -> u64
-        ensures value { result ≡ self.now.at }
-    {
-        self.at
+        self.state.begun
     }
 
     // The bytes read of the expected frame.
     pub(crate) fn frame(&self) -> &[u8]
-        ensures value { result.now ≡ self.now.frame }
+        requires none { self.now.fault ≡ None }
+        ensures value { result.now ≡ frame_at self.now }
     {
         self.frame.as_slice()
     }
 
     // The record has ended.
     pub(crate) fn end_record(&mut self)
+        requires none { self.old.fault ≡ None }
         requires room { self.old.at < file_limit }
         ensures value { self.new ≡ then_record self.old }
     {
-        self.due = Due::Time { left: 8 };
+        self.state.due = Due::Begin;
         self.field.clear();
         self.frame.clear();
         self.at += 1;
-        self.begun = self.at;
     }
 
     // There is a fault.
     pub(crate) fn refuse(&mut self, fault: PcapFault)
         ensures value { self.new ≡ broken self.old fault }
     {
-        self.due = Due::Broken(fault);
+        self.field.clear();
         self.frame.clear();
+        self.fault = Some(fault);
     }
 
-    // Cuts the frame to its first `size` bytes.
-    pub(crate) fn cut_frame(&mut self, size: usize)
-        ensures value { self.new ≡ record self.old { frame = take size self.old.frame } }
+    // The last byte of a frame that is whole is not read.
+    pub(crate) fn leave_last(&mut self)
+        requires none { self.old.fault ≡ None }
+        ensures value { self.new ≡ without_last self.old }
     {
-        self.frame.truncate(size);
+        let rest = self.frame.len().saturating_sub(1);
+        self.frame.truncate(rest);
     }
 
-    // How many bytes of a frame come next, apart from its last one; 0 where none is due.
-    pub(crate) fn room(&self) -> usize
-        requires part { IsPartOfFrame self.now.due self.now.frame }
-        ensures value { result ≤ run_room self.now }
+    // Takes some first bytes of these, which are within a frame, and not the last one; maybe none.
+    // Gives how many.
+    #[tactic(auto, using(crate::proofs::FrameLemmas::none_fed))]
+    pub(crate) fn take_run(&mut self, bytes: &[u8]) -> usize
+        requires some { 0 < length bytes.now }
+        requires part { IsPart self.old }
+        ensures within { result < length bytes.now }
+        ensures part { IsPart self.new }
+        ensures fed { FeedsRecords self.old self.new (take result bytes.now) }
     {
-        match self.due {
-            Due::Frame { size } => {
-                let left = size as usize - self.frame.len() - 1;
-                left.min((FILE_LIMIT - self.at) as usize)
+        match self.state.due {
+            Due::Frame { others } if self.fault.is_none() => {
+                let left = others as usize - self.frame.len();
+                let room = (FILE_LIMIT - self.at) as usize;
+                let run = left.min(room).min(bytes.len() - 1);
+                self.append(others, &bytes[..run]);
+                run
             }
             _ => 0,
         }
     }
 
-    // Takes bytes of a frame, and not its last one; or none.
-    pub(crate) fn append_run(&mut self, bytes: &[u8])
-        requires fits { length bytes.now ≤ run_room self.old }
-        ensures value { self.new ≡ frame_grown self.old bytes.now }
-        ensures part { IsPartOfFrame self.old.due self.old.frame
-            → IsPartOfFrame self.new.due self.new.frame }
+    // Takes bytes of a frame, and not its last one.
+    fn append(&mut self, others: u32, bytes: &[u8])
+        requires due { self.old.state.due ≡ Dues.Frame others }
+        requires none { self.old.fault ≡ None }
+        requires fits { length self.old.seen + length bytes.now ≤ others }
+        requires room { self.old.at + length bytes.now ≤ file_limit }
+        ensures value { self.new ≡ grown_by self.old bytes.now }
     {
+        // There is room: it was taken at the end of the original length.
         let _ = self.frame.extend_from_slice(bytes);
         self.at += bytes.len() as u64;
     }

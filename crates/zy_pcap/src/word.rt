@@ -1,14 +1,15 @@
-//! The bytes of a number in either order.
+//! The bytes of a field, and its number in either order.
 ghost use Rattle.std.specs.Prelude.{◌≡◌, ◌<◌, [], ◌∷◌, ◌++◌, length};
 ghost use Rattle.zy_pcap.specs.Steps.{ordered_number};
 
 use std::marker::Model;
 
-/// The bytes that were read of a number of four bytes. Contracts see it as their list.
+/// The bytes that were read of a field of at most twelve bytes. Contracts see it as their list,
+/// which has at most eleven.
 #[derive(Drop)]
 pub(crate) struct Word {
     seen: usize,
-    bytes: [u8; 4],
+    bytes: [u8; 12],
 }
 
 impl Model for Word {
@@ -18,7 +19,7 @@ impl Model for Word {
 
     ghost view = { λ w. take w.seen w.bytes };
 
-    ghost invariant = { λ w. w.seen < 4 };
+    ghost invariant = { λ w. w.seen < 12 };
 }
 
 impl Word {
@@ -28,14 +29,14 @@ impl Word {
     {
         Word {
             seen: 0,
-            bytes: [0; 4],
+            bytes: [0; 12],
         }
     }
 
     // How many bytes were read.
     pub(crate) fn len(&self) -> usize
         ensures value { result ≡ length self.now }
-        ensures limit { result < 4 }
+        ensures limit { result < 12 }
     {
         self.seen
     }
@@ -49,14 +50,14 @@ impl Word {
 
     // One further byte.
     pub(crate) fn push(&mut self, byte: u8)
-        requires room { length self.old < 3 }
+        requires room { length self.old < 11 }
         ensures value { self.new ≡ self.old ++ byte ∷ [] }
     {
         self.bytes[self.seen] = byte;
         self.seen += 1;
     }
 
-    // The number, this byte being its last.
+    // The number of four bytes, this one the last.
     pub(crate) fn number(&self, byte: u8, is_big: bool) -> u32
         requires whole { length self.now ≡ 3 }
         ensures value { result ≡ ordered_number is_big (self.now ++ byte ∷ []) }

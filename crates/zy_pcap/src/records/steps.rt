@@ -1,11 +1,11 @@
 //! The step of the reader of records at each byte, by what is expected.
-ghost use Rattle.std.specs.Prelude.{◌≡◌, ℕ, ◌<◌, [], length, take, true, false, Ok, Err};
+ghost use Rattle.std.specs.Prelude.{◌≡◌, ℕ, ◌+◌, ◌-◌, ◌<◌, ◌≤◌, [], ◌∷◌, length, None, true, false, Ok, Err};
 ghost use Rattle.zy_read.specs.declared.not_taken.NotTaken.TheVariants.{Fault};
+ghost use Rattle.zy_read.specs.Fields.{at_state, grown_by, moved, judged_at, field_step, step};
 ghost use Rattle.zy_pcap.specs.declared.due.Due.TheVariants as Dues;
-ghost use Rattle.zy_pcap.specs.Steps.{then_due, broken, judged_number, number_move, settings, time, original, move_at, move};
-ghost use Rattle.zy_pcap.specs.Steps.{is_full_file, file_limit};
-ghost use Rattle.zy_pcap.specs.Steps.Move.{Goes};
-ghost use Rattle.zy_pcap.specs.Moves.{TakesMove, IsPartOfFrame, IsWithinFrame, has_number};
+ghost use Rattle.zy_pcap.specs.Steps.{file_limit, then_due, due_width, frames};
+ghost use Rattle.zy_pcap.specs.Steps.{magic_does, version_does, link_does, captured_does, original_does};
+ghost use Rattle.zy_pcap.specs.Moves.{IsWord, IsNumberDue, IsPart, broken, without_last, TakesMove};
 
 use super::{FILE_LIMIT, Records};
 use crate::due::Due;
@@ -15,33 +15,23 @@ const FRAME_LIMIT: u32 = 262_144;
 
 impl Records {
     // Takes the next byte; `true` at the last byte of a record, whose frame is whole then. The
-    // caller ends the record, refuses it, or takes the byte out of the frame again.
+    // caller ends the record, refuses it, or leaves its last byte.
+    #[tactic(auto, using(crate::proofs::DueLemmas::full_step))]
     pub(crate) fn take(&mut self, byte: u8) -> Result<bool, PcapFeed>
-        requires part { IsPartOfFrame self.old.due self.old.frame }
-        ensures value { TakesMove (move self.old byte) self.old self.new result }
-        ensures part { result ≡ Ok false → IsPartOfFrame self.new.due self.new.frame }
-        ensures room { result ≡ Ok true → self.old.at < file_limit }
-        ensures front { result ≡ Ok true
-            → take (length self.old.frame) self.new.frame ≡ self.old.frame }
+        requires part { IsPart self.old }
+        ensures value { TakesMove (step frames self.old byte) self.old self.new result }
+        ensures part { result ≡ Ok false → IsPart self.new }
+        ensures none { result ≡ Ok true → self.new.fault ≡ None }
+        ensures room { result ≡ Ok true → self.new.at < file_limit }
+        ensures front { result ≡ Ok true → without_last self.new ≡ self.old }
     {
-        if self.is_full() {
+        if let Some(fault) = self.fault {
+            return Err(PcapFeed::Fault(fault));
+        }
+        if self.at >= FILE_LIMIT {
             return self.fail(PcapFault::PcapTooLong);
         }
-        match self.due {
-            Due::Frame { size } => Ok(self.take_frame(size, byte)),
-            Due::Time { left } => Ok(self.take_time(left)),
-            Due::Original { left, size } => self.take_original(left, size),
-            Due::Settings { left } => Ok(self.take_settings(left)),
-            Due::Broken(fault) => Err(PcapFeed::Fault(fault)),
-            Due::Magic | Due::Version | Due::LinkType | Due::Captured => self.take_number(byte),
-        }
-    }
-
-    // The file has its most bytes.
-    fn is_full(&self) -> bool
-        ensures value { result ≡ is_full_file self.now }
-    {
-        self.at >= FILE_LIMIT && !matches!(self.due, Due::Broken(_))
+        self.take_open(byte)
     }
 
     // The byte is a fault.
@@ -53,141 +43,151 @@ impl Records {
         Err(PcapFeed::Fault(fault))
     }
 
-    // The byte is the last one of its part.
-    fn go_on(&mut self, due: Due)
+    // A byte where no fault was met.
+    fn take_open(&mut self, byte: u8) -> Result<bool, PcapFeed>
+        requires part { IsPart self.old }
+        requires none { self.old.fault ≡ None }
         requires room { self.old.at < file_limit }
-        requires within { IsWithinFrame due [] 0 }
-        ensures value { self.new ≡ then_due self.old due }
+        ensures value { TakesMove (field_step frames self.old byte) self.old self.new result }
+        ensures part { result ≡ Ok false → IsPart self.new }
+        ensures front { result ≡ Ok true → without_last self.new ≡ self.old }
     {
-        self.due = due;
-        self.field.clear();
-        self.frame.clear();
-        self.at += 1;
+        match self.state.due {
+            Due::Frame { others } => Ok(self.take_frame(others, byte)),
+            Due::Magic
+            | Due::Version
+            | Due::Settings
+            | Due::LinkType
+            | Due::Begin
+            | Due::Time
+            | Due::Captured
+            | Due::Original { .. } => self.take_word(byte),
+        }
     }
 
     // A byte of a frame.
-    #[tactic(auto, using(crate::proofs::FrontLemmas::take_front))]
-    fn take_frame(&mut self, size: u32, byte: u8) -> bool
-        requires due { self.old.due ≡ Dues.Frame size }
-        requires part { length self.old.frame < size }
+    #[tactic(auto, using(crate::proofs::DueLemmas::take_front))]
+    fn take_frame(&mut self, others: u32, byte: u8) -> bool
+        requires due { self.old.state.due ≡ Dues.Frame others }
+        requires part { length self.old.seen ≤ others }
+        requires none { self.old.fault ≡ None }
         requires room { self.old.at < file_limit }
-        ensures value { TakesMove (move_at (Dues.Frame size) self.old byte) self.old self.new
-            (Ok result) }
-        ensures part { result ≡ false → IsPartOfFrame self.new.due self.new.frame }
-        ensures front { take (length self.old.frame) self.new.frame ≡ self.old.frame }
+        ensures value { TakesMove (field_step frames self.old byte) self.old self.new (Ok result) }
+        ensures part { result ≡ false → IsPart self.new }
+        ensures front { result ≡ true → without_last self.new ≡ self.old }
     {
         self.frame.push_reserved(byte);
-        if self.frame.len() < size as usize {
+        if self.frame.len() <= others as usize {
             self.at += 1;
             return false;
         }
         true
     }
 
-    // A byte of a record's time.
-    fn take_time(&mut self, left: u32) -> bool
+    // A byte of a field that is no frame.
+    fn take_word(&mut self, byte: u8) -> Result<bool, PcapFeed>
+        requires word { IsWord self.old.state.due }
+        requires none { self.old.fault ≡ None }
         requires room { self.old.at < file_limit }
-        ensures value { TakesMove (time left self.old) self.old self.new (Ok result) }
+        ensures value { TakesMove (field_step frames self.old byte) self.old self.new result }
+        ensures part { result ≡ Ok false → IsPart self.new }
+        ensures same { result ≡ Ok true → self.new ≡ self.old }
     {
-        self.go_on(if left > 1 {
-            Due::Time { left: left - 1 }
-        } else {
-            Due::Captured
-        });
-        false
-    }
-
-    // A byte of the header that is passed over.
-    fn take_settings(&mut self, left: u32) -> bool
-        requires room { self.old.at < file_limit }
-        ensures value { TakesMove (settings left self.old) self.old self.new (Ok result) }
-    {
-        self.go_on(if left > 1 {
-            Due::Settings { left: left - 1 }
-        } else {
-            Due::LinkType
-        });
-        false
-    }
-
-    // A byte of an original length. Memory is needed at its last byte alone.
-    fn take_original(&mut self, left: u32, size: u32) -> Result<bool, PcapFeed>
-        requires due { self.old.due ≡ Dues.Original left size }
-        requires room { self.old.at < file_limit }
-        ensures value { TakesMove (original left size self.old) self.old self.new result }
-        ensures part { result ≡ Ok false → IsPartOfFrame self.new.due self.new.frame }
-        ensures front { result ≡ Ok true
-            → take (length self.old.frame) self.new.frame ≡ self.old.frame }
-    {
-        let _frame = &self.frame;
-        if left > 1 {
-            self.go_on(Due::Original {
-                left: left - 1,
-                size,
-            });
+        if self.field.len() + 1 < self.state.due.width() {
+            self.keep(byte);
             return Ok(false);
         }
-        if size == 0 {
-            self.frame.clear();
-            return Ok(true);
-        }
-        self.begin_frame(size)
+        self.end_word(byte)
     }
 
-    // The byte is the last one before a frame of this length.
-    fn begin_frame(&mut self, size: u32) -> Result<bool, PcapFeed>
-        requires some { 0 < size }
+    // The byte is not the last one of its field.
+    #[tactic(auto, using(crate::proofs::DueLemmas::word_seen, crate::proofs::DueLemmas::word_kept, crate::proofs::DueLemmas::word_short))]
+    fn keep(&mut self, byte: u8)
+        requires word { IsWord self.old.state.due }
+        requires short { length self.old.seen + 1 < due_width self.old.state.due }
+        requires none { self.old.fault ≡ None }
         requires room { self.old.at < file_limit }
-        requires none { self.old.frame ≡ [] }
-        ensures value { TakesMove (Goes (then_due self.old (Dues.Frame size))) self.old self.new
-            result }
-        ensures part { result ≡ Ok false → IsPartOfFrame self.new.due self.new.frame }
-        ensures none { result ≡ Ok true → ⊥ }
+        ensures value { self.new ≡ grown_by self.old (byte ∷ []) }
     {
-        if self.frame.reserve(size as usize).is_err() {
-            return Err(PcapFeed::NoMemory);
-        }
-        self.due = Due::Frame { size };
-        self.field.clear();
+        self.field.push(byte);
         self.at += 1;
-        Ok(false)
     }
 
-    // A byte of a number.
-    fn take_number(&mut self, byte: u8) -> Result<bool, PcapFeed>
-        requires due { has_number self.old.due ≡ true }
+    // The byte is the last one of its field.
+    #[tactic(auto, using(crate::proofs::DueLemmas::word_seen, crate::proofs::DueLemmas::word_kept))]
+    fn go_on(&mut self, due: Due)
+        requires word { IsWord due }
+        requires none { self.old.fault ≡ None }
         requires room { self.old.at < file_limit }
-        ensures value { TakesMove (number_move self.old.due self.old byte)
-            self.old self.new result }
-        ensures part { IsPartOfFrame self.new.due self.new.frame }
+        ensures value { self.new ≡ at_state (then_due self.old.state due) (self.old.at + 1) }
+    {
+        self.state.due = due;
+        self.field.clear();
+        self.frame.clear();
+        self.at += 1;
+    }
+
+    // The last byte of a field that is no frame.
+    fn end_word(&mut self, byte: u8) -> Result<bool, PcapFeed>
+        requires word { IsWord self.old.state.due }
+        requires last { length self.old.seen + 1 ≡ due_width self.old.state.due }
+        requires none { self.old.fault ≡ None }
+        requires room { self.old.at < file_limit }
+        ensures value { TakesMove (moved self.old (judged_at frames self.old byte)) self.old self.new result }
+        ensures part { result ≡ Ok false → IsPart self.new }
+        ensures same { result ≡ Ok true → self.new ≡ self.old }
+    {
+        match self.state.due {
+            Due::Settings => {
+                self.go_on(Due::LinkType);
+                Ok(false)
+            }
+            Due::Begin => {
+                self.state.begun = self.at;
+                self.go_on(Due::Time);
+                Ok(false)
+            }
+            Due::Time => {
+                self.go_on(Due::Captured);
+                Ok(false)
+            }
+            Due::Original { size } => self.end_original(size),
+            Due::Magic | Due::Version | Due::LinkType | Due::Captured => self.end_number(byte),
+            Due::Frame { .. } => unreachable!(),
+        }
+    }
+
+    // The last byte of a number.
+    fn end_number(&mut self, byte: u8) -> Result<bool, PcapFeed>
+        requires number { IsNumberDue self.old.state.due }
+        requires last { length self.old.seen ≡ 3 }
+        requires none { self.old.fault ≡ None }
+        requires room { self.old.at < file_limit }
+        ensures value { TakesMove (moved self.old (judged_at frames self.old byte)) self.old self.new result }
+        ensures part { result ≡ Ok false → IsPart self.new }
         ensures none { result ≡ Ok true → ⊥ }
     {
-        if self.field.len() < 3 {
-            self.field.push(byte);
-            self.at += 1;
-            return Ok(false);
-        }
-        let number = self.field.number(byte, self.is_big);
-        match self.due {
-            Due::Magic => self.judge_magic(number),
-            Due::Version => self.judge_version(number),
-            Due::LinkType => self.judge_link_type(number),
-            Due::Captured => self.judge_captured(number),
+        let number = self.field.number(byte, self.state.is_big);
+        match self.state.due {
+            Due::Magic => self.end_magic(number),
+            Due::Version => self.end_version(number),
+            Due::LinkType => self.end_link_type(number),
+            Due::Captured => self.end_captured(number),
             _ => unreachable!(),
         }
     }
 
     // The magic.
-    fn judge_magic(&mut self, number: u32) -> Result<bool, PcapFeed>
-        requires due { self.old.due ≡ Dues.Magic }
+    fn end_magic(&mut self, number: u32) -> Result<bool, PcapFeed>
+        requires none { self.old.fault ≡ None }
         requires room { self.old.at < file_limit }
-        ensures value { TakesMove (Goes (judged_number Dues.Magic self.old number))
-            self.old self.new result }
-        ensures part { IsPartOfFrame self.new.due self.new.frame }
+        ensures value { TakesMove (moved self.old (magic_does self.old.state number)) self.old self.new result }
+        ensures part { result ≡ Ok false → IsPart self.new }
+        ensures none { result ≡ Ok true → ⊥ }
     {
         match number {
             0xa1b2_c3d4 => {}
-            0xd4c3_b2a1 => self.is_big = false,
+            0xd4c3_b2a1 => self.state.is_big = false,
             _ => return self.fail(PcapFault::Magic { at: 0 }),
         }
         self.go_on(Due::Version);
@@ -195,17 +195,16 @@ impl Records {
     }
 
     // The version.
-    fn judge_version(&mut self, number: u32) -> Result<bool, PcapFeed>
-        requires due { self.old.due ≡ Dues.Version }
+    fn end_version(&mut self, number: u32) -> Result<bool, PcapFeed>
+        requires none { self.old.fault ≡ None }
         requires room { self.old.at < file_limit }
-        ensures value { TakesMove (Goes (judged_number Dues.Version self.old number))
-            self.old self.new
-            result }
-        ensures part { IsPartOfFrame self.new.due self.new.frame }
+        ensures value { TakesMove (moved self.old (version_does self.old.state number)) self.old self.new result }
+        ensures part { result ≡ Ok false → IsPart self.new }
+        ensures none { result ≡ Ok true → ⊥ }
     {
         let high = (number / 65_536) as u16;
         let low = (number % 65_536) as u16;
-        let (major, minor) = if self.is_big {
+        let (major, minor) = if self.state.is_big {
             (high, low)
         } else {
             (low, high)
@@ -213,43 +212,59 @@ impl Records {
         if major != 2 || minor != 4 {
             return self.fail(PcapFault::Version { major, minor });
         }
-        self.go_on(Due::Settings { left: 12 });
+        self.go_on(Due::Settings);
         Ok(false)
     }
 
     // The link type.
-    fn judge_link_type(&mut self, number: u32) -> Result<bool, PcapFeed>
-        requires due { self.old.due ≡ Dues.LinkType }
+    fn end_link_type(&mut self, number: u32) -> Result<bool, PcapFeed>
+        requires none { self.old.fault ≡ None }
         requires room { self.old.at < file_limit }
-        ensures value { TakesMove (Goes (judged_number Dues.LinkType self.old number))
-            self.old self.new
-            result }
-        ensures part { IsPartOfFrame self.new.due self.new.frame }
+        ensures value { TakesMove (moved self.old (link_does self.old.state number)) self.old self.new result }
+        ensures part { result ≡ Ok false → IsPart self.new }
+        ensures none { result ≡ Ok true → ⊥ }
     {
         if number != 1 {
             return self.fail(PcapFault::LinkType { number });
         }
-        self.end_record();
+        self.go_on(Due::Begin);
         Ok(false)
     }
 
     // The captured length of a record.
-    fn judge_captured(&mut self, number: u32) -> Result<bool, PcapFeed>
-        requires due { self.old.due ≡ Dues.Captured }
+    fn end_captured(&mut self, number: u32) -> Result<bool, PcapFeed>
+        requires none { self.old.fault ≡ None }
         requires room { self.old.at < file_limit }
-        ensures value { TakesMove (Goes (judged_number Dues.Captured self.old number))
-            self.old self.new
-            result }
-        ensures part { IsPartOfFrame self.new.due self.new.frame }
+        ensures value { TakesMove (moved self.old (captured_does self.old.state number)) self.old self.new result }
+        ensures part { result ≡ Ok false → IsPart self.new }
+        ensures none { result ≡ Ok true → ⊥ }
     {
         if number > FRAME_LIMIT {
-            let at = self.begun;
+            let at = self.state.begun;
             return self.fail(PcapFault::RecordLength { at, number });
         }
-        self.go_on(Due::Original {
-            left: 4,
-            size: number,
-        });
+        self.go_on(Due::Original { size: number });
+        Ok(false)
+    }
+
+    // The last byte of an original length. It needs memory.
+    fn end_original(&mut self, size: u32) -> Result<bool, PcapFeed>
+        requires due { self.old.state.due ≡ Dues.Original size }
+        requires none { self.old.fault ≡ None }
+        requires room { self.old.at < file_limit }
+        ensures value { TakesMove (moved self.old (original_does self.old.state size)) self.old self.new result }
+        ensures part { result ≡ Ok false → IsPart self.new }
+        ensures same { result ≡ Ok true → self.new ≡ self.old }
+    {
+        if size == 0 {
+            return Ok(true);
+        }
+        if self.frame.reserve(size as usize).is_err() {
+            return Err(PcapFeed::NoMemory);
+        }
+        self.state.due = Due::Frame { others: size - 1 };
+        self.field.clear();
+        self.at += 1;
         Ok(false)
     }
 }

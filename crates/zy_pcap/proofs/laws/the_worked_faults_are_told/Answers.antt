@@ -1,7 +1,7 @@
 use Rattle.std.proofs.Common.{refl}
-use Rattle.zy_pcap.specs.Packets.{file_read_on, read, packets}
+use Rattle.zy_read.specs.Format.{read_on, reading_of, verdict_on}
 use Rattle.zy_pcap.proofs.laws.the_worked_faults_are_told.Goals as goal
 
 pub returns : goal.returns
-unfolding file_read_on read packets
+unfolding read_on reading_of verdict_on
 returns c = record { empty = refl; other = refl }

@@ -5,7 +5,7 @@ pub returns-clause-fed : goal.returns-clause-fed
 returns-clause-fed c = fed c.args.self.now c.step.new.self c.args.byte c.step.result c.step.ensures.port c.step.ensures.value
 
 pub returns-clause-exact : goal.returns-clause-exact
-returns-clause-exact c = told c.args.self.now c.step.new.self c.args.byte c.step.result c.step.ensures.port c.step.ensures.value
+returns-clause-exact c = told c.args.self.now c.step.new.self c.args.byte c.step.result c.step.ensures.value
 
 pub returns-clause-lasts : goal.returns-clause-lasts
-returns-clause-lasts c = lasts c.args.self.now c.step.new.self c.args.byte c.step.result c.step.ensures.port c.step.ensures.value
+returns-clause-lasts c = lasts c.args.self.now c.step.new.self c.args.byte c.step.result c.step.ensures.value
