@@ -3,10 +3,11 @@ use Rattle.std.proofs.Common.{◌≡◌, ℕ, List, [], ◌++◌, refl, sym, ◌
 use Rattle.std.specs.Prelude.{Option, None, Result, Ok, Err, ⊤}
 use Rattle.zy_read.specs.declared.not_taken.NotTaken.{NotTaken}
 use Rattle.zy_read.specs.declared.not_taken.NotTaken.TheVariants.{Fault}
+use Rattle.zy_read.specs.Format.{read_on, reading_of, fault_met}
 use Rattle.zy_read.specs.declared.stop.Stop.{Stop}
 use Rattle.zy_read.specs.declared.stop.Stop.TheVariants.{Refused, ReadFault, NoMemory}
 use Rattle.zy_pcap.specs.declared.pcap_fault.PcapFault.{PcapFault}
-use Rattle.zy_pcap.specs.Packets.{FoundPackets, file_read_on, read, packets, file_fault_met}
+use Rattle.zy_pcap.specs.Packets.{FoundPackets, packets, file_fault_met}
 use Rattle.zy_pcap.specs.Packets.FoundPackets.{Packets, Bad}
 use Rattle.zy_pcap.specs.Standing.{PcapReading, StandsForFile, FeedsFile, TellsFileFault, TellsLastingFault, FinishesAs, FinishesBy}
 use Rattle.zy_input.specs.declared.packets_part.PacketsPart.{PacketsPart}
@@ -21,7 +22,7 @@ use Rattle.zy_input.proofs.PartLemmas.{if_some, read_all}
 
 -- before the first byte there is no fault
 pub no_fault : (port : ℕ) → file_fault_met port [] ≡ None
-unfolding file_fault_met read file_read_on
+unfolding fault_met reading_of read_on
 no_fault port = refl
 
 -- ---- further bytes
