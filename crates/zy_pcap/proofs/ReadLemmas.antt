@@ -99,21 +99,21 @@ refused_follows old new byte (Fault fault) kept takes = λ given keeps. still_af
 refused_follows old new byte NoMemory kept takes = λ given keeps. (takes, rw kept keeps)
 
 -- the end of a record
-pub ends_follows : (old new : PcapReading) (whole : FilePlace) (byte : ℕ) (result : Result ⊤ (NotTaken PcapFault)) → TakesMove (step frames old.place byte) old.place whole (Ok true) → without_last whole ≡ old.place
+pub ends_follows : (old new : PcapReading) (whole : FilePlace) (byte : ℕ) (result : Result ⊤ (NotTaken PcapFault)) → TakesMove (step frames old.place byte) old.place whole (Ok true)
     → PlaceIs whole new.place result → MeetsFrame old.port whole.state.begun (frame_at whole) old.kept new.kept result → AnswersByte old new byte result
-ends_follows old new whole byte (Ok u) takes front is meets = λ given keeps.
+ends_follows old new whole byte (Ok u) takes is meets = λ given keeps.
     let frame : List ℕ = frame_at whole in
-    let state_is : whole.state ≡ old.place.state = ap (λ (p : FilePlace). p.state) takes.1 in
+    let state_is : whole.state ≡ old.place.state = ap (λ (p : FilePlace). p.state) takes.rest in
     let met = subst (λ (s : PcapState). (frame_fault s.begun frame given (judge old.port s.begun frame) ≡ None) × KeepsPackets new.kept (packets_with frame given (judge old.port s.begun frame))) state_is (meets given keeps) in
-    subst (λ (q : Place FileState PcapFault). IsAfter new q None) (sym (after_is old byte given (then_record old.place) (Some frame) takes.0))
-    (rw met.0 ((is ∙ ap then_record takes.1, met.1), refl))
-ends_follows old new whole byte (Err (Fault fault)) takes front is meets = λ given keeps.
+    subst (λ (q : Place FileState PcapFault). IsAfter new q None) (sym (after_is old byte given (then_record old.place) (Some frame) takes.ends))
+    (rw met.0 ((is ∙ ap then_record takes.rest, met.1), refl))
+ends_follows old new whole byte (Err (Fault fault)) takes is meets = λ given keeps.
     let frame : List ℕ = frame_at whole in
-    let state_is : whole.state ≡ old.place.state = ap (λ (p : FilePlace). p.state) takes.1 in
+    let state_is : whole.state ≡ old.place.state = ap (λ (p : FilePlace). p.state) takes.rest in
     let met = subst (λ (s : PcapState). (frame_fault s.begun frame given (judge old.port s.begun frame) ≡ Some fault) × KeepsPackets new.kept given) state_is (meets given keeps) in
-    subst (λ (q : Place FileState PcapFault). IsAfter new q (Some fault)) (sym (after_is old byte given (then_record old.place) (Some frame) takes.0))
-    (rw met.0 ((is ∙ ap (λ (p : FilePlace). record p { seen = []; fault = Some fault }) takes.1, met.1), refl))
-ends_follows old new whole byte (Err NoMemory) takes front is meets = λ given keeps. (is ∙ front, meets given keeps)
+    subst (λ (q : Place FileState PcapFault). IsAfter new q (Some fault)) (sym (after_is old byte given (then_record old.place) (Some frame) takes.ends))
+    (rw met.0 ((is ∙ ap (λ (p : FilePlace). record p { seen = []; fault = Some fault }) takes.rest, met.1), refl))
+ends_follows old new whole byte (Err NoMemory) takes is meets = λ given keeps. (is ∙ takes.front, meets given keeps)
 
 -- ---- the clauses of a byte
 

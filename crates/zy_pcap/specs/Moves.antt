@@ -5,11 +5,12 @@ use Rattle.zy_read.specs.declared.not_taken.NotTaken.{NotTaken}
 use Rattle.zy_read.specs.declared.not_taken.NotTaken.TheVariants.{Fault, NoMemory}
 use Rattle.zy_read.specs.Format.{Step}
 use Rattle.zy_read.specs.Fields.{at_state}
-use Rattle.zy_read.specs.Standing.{Feeds}
+use Rattle.zy_read.specs.Fields.Judged.{Then, Wrong}
 use Rattle.zy_pcap.specs.declared.pcap_fault.PcapFault.{PcapFault}
 use Rattle.zy_pcap.specs.declared.due.Due.{Due}
 use Rattle.zy_pcap.specs.declared.due.Due.TheVariants as Dues
-use Rattle.zy_pcap.specs.Steps.{FilePlace, then_due, due_width}
+use Rattle.zy_pcap.specs.declared.pcap_state.PcapState.{PcapState}
+use Rattle.zy_pcap.specs.Steps.{FilePlace, DueJudged, then_due, due_width, file_limit}
 
 -- ---- what is kept
 
@@ -73,12 +74,24 @@ seen_before due seen = seen
 abbrev pub without_last : FilePlace → FilePlace
 without_last p = record p { seen = seen_before p.state.due p.seen }
 
--- an answer and a new place are those of a step; at a record's last byte the frame is whole, and
--- all else is as before
+-- the last byte of a record: its frame is whole, and all else is as before
+pub record IsRecordEnd (step : Step FilePlace (List ℕ)) (old new : FilePlace) : Type 0 where
+  pub ends : step ≡ record { next = then_record old; gave = Some (frame_at new) }
+  pub rest : new ≡ record old { seen = new.seen }
+  pub front : without_last new ≡ old
+  pub none : new.fault ≡ None
+  pub room : new.at < file_limit
+
+-- an answer and a new place are those of a step; `true` is for the last byte of a record
 abbrev pub TakesMove : Step FilePlace (List ℕ) → FilePlace → FilePlace → Result Bool (NotTaken PcapFault) → Type 0
-TakesMove step old new (Ok false) = (step ≡ record { next = new; gave = None }) × (new.fault ≡ None)
-TakesMove step old new (Ok true) =
-    (step ≡ record { next = then_record old; gave = Some (frame_at new) })
-    × (new ≡ record old { seen = new.seen })
+TakesMove step old new (Ok false) = (step ≡ record { next = new; gave = None }) × (new.fault ≡ None) × IsPart new
+TakesMove step old new (Ok true) = IsRecordEnd step old new
 TakesMove step old new (Err (Fault fault)) = (step ≡ record { next = new; gave = None }) × (new.fault ≡ Some fault)
 TakesMove step old new (Err NoMemory) = new ≡ old
+
+-- ---- a number
+
+-- an answer is what a field does that gives no frame
+abbrev pub DoesNext : DueJudged → Result PcapState PcapFault → Type 0
+DoesNext judged (Ok next) = (judged ≡ Then next) × IsWord next.due
+DoesNext judged (Err fault) = judged ≡ Wrong fault

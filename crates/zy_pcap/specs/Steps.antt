@@ -93,6 +93,13 @@ abbrev pub original_does : PcapState → ℕ → DueJudged
 original_does s size =
     if size == 0 then Gives (then_due s Dues.Begin) [] else Then (then_due s (Dues.Frame (size - 1)))
 
+-- a number of four bytes
+abbrev pub number_does : Due → PcapState → ℕ → DueJudged
+number_does Dues.Magic s number = magic_does s number
+number_does Dues.Version s number = version_does s number
+number_does Dues.LinkType s number = link_does s number
+number_does due s number = captured_does s number
+
 -- a whole field that begins at this place
 abbrev pub due_does : Due → PcapState → ℕ → List ℕ → DueJudged
 due_does Dues.Magic s at field = magic_does s (ordered_number s.is_big field)

@@ -96,10 +96,7 @@ impl Records {
         requires room { self.old.at < file_limit }
         ensures value { self.new ≡ then_record self.old }
     {
-        self.state.due = Due::Begin;
-        self.field.clear();
-        self.frame.clear();
-        self.at += 1;
+        self.go_on(self.state.to(Due::Begin));
     }
 
     // There is a fault.

@@ -17,7 +17,7 @@ returns-in-Ok-true-clause-value c =
     let is : c.take.result ≡ Ok true = cc in
     let takes = subst (λ (r : Result Bool (NotTaken PcapFault)). TakesMove (step frames c.self.inside.records c.args.byte) c.self.inside.records c.take.new.self r) is c.take.ensures.value in
     subst (λ (r : PcapReading). AnswersByte r new c.args.byte c.settle.result) c.self.view_is
-    (ends_follows old new c.take.new.self c.args.byte c.settle.result takes (c.take.ensures.front is) c.settle.ensures.place c.settle.ensures.frame)
+    (ends_follows old new c.take.new.self c.args.byte c.settle.result takes c.settle.ensures.place c.settle.ensures.frame)
 
 pub returns-in-Ok-false-clause-value : goal.returns-in-Ok-false-clause-value
 returns-in-Ok-false-clause-value c =
