@@ -60,25 +60,16 @@ GivesBytes judged = ⊤
 does_small : (due : Due) (s : PcapState) (at : ℕ) (field : List ℕ) → AreBytes field → GivesBytes (due_does due s at field)
 does_small Dues.Magic s at field small =
     let number : ℕ = ordered_number s.is_big field in
-    chosen GivesBytes (number == 0xa1b2c3d4) (Then (then_due s Dues.Version))
-    (if number == 0xd4c3b2a1 then Then (then_due (record s { is_big = false }) Dues.Version) else Wrong (Faults.Magic 0)) (λ is. tt) (λ other.
-    chosen GivesBytes (number == 0xd4c3b2a1) (Then (then_due (record s { is_big = false }) Dues.Version)) (Wrong (Faults.Magic 0)) (λ is. tt) (λ no. tt))
+    chosen GivesBytes (number == 0xa1b2c3d4) _ _ (λ is. tt) (λ other. chosen GivesBytes (number == 0xd4c3b2a1) _ _ (λ is. tt) (λ no. tt))
 does_small Dues.Version s at field small =
     let number : ℕ = ordered_number s.is_big field in
-    chosen GivesBytes (major s.is_big number == 2 && minor s.is_big number == 4) (Then (then_due s Dues.Settings))
-    (Wrong (Faults.Version (major s.is_big number) (minor s.is_big number))) (λ is. tt) (λ no. tt)
+    chosen GivesBytes (major s.is_big number == 2 && minor s.is_big number == 4) _ _ (λ is. tt) (λ no. tt)
 does_small Dues.Settings s at field small = tt
-does_small Dues.LinkType s at field small =
-    let number : ℕ = ordered_number s.is_big field in
-    chosen GivesBytes (number == 1) (Then (then_due s Dues.Begin)) (Wrong (Faults.LinkType number)) (λ is. tt) (λ no. tt)
-does_small Dues.Begin s at field small =
-    chosen GivesBytes (nat_le file_limit at) (Wrong Faults.PcapTooLong) (Then (record s { due = Dues.Time; begun = at })) (λ full. tt) (λ room. tt)
+does_small Dues.LinkType s at field small = chosen GivesBytes (ordered_number s.is_big field == 1) _ _ (λ is. tt) (λ no. tt)
+does_small Dues.Begin s at field small = chosen GivesBytes (nat_le file_limit at) _ _ (λ full. tt) (λ room. tt)
 does_small Dues.Time s at field small = tt
-does_small Dues.Captured s at field small =
-    let number : ℕ = ordered_number s.is_big field in
-    chosen GivesBytes (nat_lt frame_limit number) (Wrong (Faults.RecordLength s.begun number)) (Then (then_due s (Dues.Original number))) (λ no. tt) (λ is. tt)
-does_small (Dues.Original size) s at field small =
-    chosen GivesBytes (size == 0) (Gives (then_due s Dues.Begin) []) (Then (then_due s (Dues.Frame (size - 1)))) (λ none. tt) (λ some. tt)
+does_small Dues.Captured s at field small = chosen GivesBytes (nat_lt frame_limit (ordered_number s.is_big field)) _ _ (λ no. tt) (λ is. tt)
+does_small (Dues.Original size) s at field small = chosen GivesBytes (size == 0) _ _ (λ none. tt) (λ some. tt)
 does_small (Dues.Frame others) s at field small = small
 
 -- ---- a whole file

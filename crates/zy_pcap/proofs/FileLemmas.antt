@@ -11,7 +11,7 @@ use Rattle.zy_pcap.specs.declared.due.Due.{Due}
 use Rattle.zy_pcap.specs.declared.due.Due.TheVariants as Dues
 use Rattle.zy_pcap.specs.declared.judged.Judged.{Judged}
 use Rattle.zy_pcap.specs.declared.judged.Judged.TheVariants.{Passed, Refused, Taken}
-use Rattle.zy_pcap.specs.Steps.{DueJudged, then_due, due_width, magic_does, version_does, link_does, captured_does, due_does, is_begin, major, minor, ordered_number, file_limit, frame_limit}
+use Rattle.zy_pcap.specs.Steps.{DueJudged, then_due, due_width, magic_does, version_does, link_does, begin_does, captured_does, original_does, due_does, is_begin, major, minor, ordered_number, file_limit, frame_limit}
 use Rattle.zy_pcap.specs.Frame.{judge}
 use Rattle.zy_pcap.specs.Packet.{Packet, packet_in}
 use Rattle.zy_pcap.specs.Packets.{FileState, FieldJudged, frame_fault, packets_with, record_settled, record_ended, file_does, packet_fields, packets}
@@ -87,37 +87,28 @@ module _ (port : ℕ) (s : FileState) (text : List ℕ) (gave : List ⊤) (saves
 
   magic_stands : (number : ℕ) → record_bytes s.packets ≤ 0 → 4 ≤ length text → Does (magic_does s.records number)
   magic_stands number none long =
-      chosen Does (number == 0xa1b2c3d4) (Then (then_due s.records Dues.Version))
-      (if number == 0xd4c3b2a1 then Then (then_due (record (s.records) { is_big = false }) Dues.Version) else Wrong (Faults.Magic 0))
-      (λ is. ((none, long), saves)) (λ other.
-      chosen Does (number == 0xd4c3b2a1) (Then (then_due (record (s.records) { is_big = false }) Dues.Version)) (Wrong (Faults.Magic 0)) (λ is. ((none, long), saves)) (λ no. tt))
+      chosen Does (number == 0xa1b2c3d4) _ _ (λ is. ((none, long), saves)) (λ other. chosen Does (number == 0xd4c3b2a1) _ _ (λ is. ((none, long), saves)) (λ no. tt))
 
   version_stands : (number : ℕ) → record_bytes s.packets ≤ 0 → 8 ≤ length text → Does (version_does s.records number)
   version_stands number none long =
-      chosen Does (major s.records.is_big number == 2 && minor s.records.is_big number == 4) (Then (then_due s.records Dues.Settings))
-      (Wrong (Faults.Version (major s.records.is_big number) (minor s.records.is_big number))) (λ is. ((none, long), saves)) (λ no. tt)
+      chosen Does (major s.records.is_big number == 2 && minor s.records.is_big number == 4) _ _ (λ is. ((none, long), saves)) (λ no. tt)
 
   link_stands : (number : ℕ) → record_bytes s.packets ≤ 0 → 24 ≤ length text → Does (link_does s.records number)
-  link_stands number none long =
-      chosen Does (number == 1) (Then (then_due s.records Dues.Begin)) (Wrong (Faults.LinkType number)) (λ is. (omega (arith, none, long), saves)) (λ no. tt)
+  link_stands number none long = chosen Does (number == 1) _ _ (λ is. (omega (arith, none, long), saves)) (λ no. tt)
 
-  begin_stands : (at : ℕ) (field : List ℕ) → 24 + record_bytes s.packets ≤ at → at + 1 ≤ length text → Does (due_does Dues.Begin s.records at field)
-  begin_stands at field first long =
-      chosen Does (nat_le file_limit at) (Wrong Faults.PcapTooLong) (Then (record (s.records) { due = Dues.Time; begun = at })) (λ full. tt) (λ room. ((first, long), saves))
+  begin_stands : (at : ℕ) → 24 + record_bytes s.packets ≤ at → at + 1 ≤ length text → Does (begin_does s.records at)
+  begin_stands at first long = chosen Does (nat_le file_limit at) _ _ (λ full. tt) (λ room. ((first, long), saves))
 
   captured_stands : (number : ℕ) → Before s → s.records.begun + 12 ≤ length text → Does (captured_does s.records number)
-  captured_stands number first long =
-      chosen Does (nat_lt frame_limit number) (Wrong (Faults.RecordLength s.records.begun number)) (Then (then_due s.records (Dues.Original number)))
-      (λ no. tt) (λ is. ((first, long, not_less frame_limit number is), saves))
+  captured_stands number first long = chosen Does (nat_lt frame_limit number) _ _ (λ no. tt) (λ is. ((first, long, not_less frame_limit number is), saves))
 
-  original_stands : (size at : ℕ) (field : List ℕ) → Before s → s.records.begun + 16 ≤ length text → size ≤ frame_limit → Does (due_does (Dues.Original size) s.records at field)
-  original_stands size at field first long short =
-      chosen Does (size == 0) (Gives (then_due s.records Dues.Begin) []) (Then (then_due s.records (Dues.Frame (size - 1))))
-      (λ none. ended_stands port s [] text gave first (omega (arith, long)) (omega arith) saves)
+  positive : (size : ℕ) → (size == 0) ≡ false → 0 < size
+  positive size is = grind (arith, nat_tests)
+
+  original_stands : (size : ℕ) → Before s → s.records.begun + 16 ≤ length text → size ≤ frame_limit → Does (original_does s.records size)
+  original_stands size first long short =
+      chosen Does (size == 0) _ _ (λ none. ended_stands port s [] text gave first (omega (arith, long)) (omega arith) saves)
       (λ some. ((first, long, omega (arith, short, positive size some)), saves))
-    where
-      positive : (size : ℕ) → (size == 0) ≡ false → 0 < size
-      positive size is = grind (arith, nat_tests)
 
   -- after a whole field, which is the last part of the bytes
   field_stands : (due : Due) (at : ℕ) (field : List ℕ) → at + length field ≡ length text → length field ≡ due_width due → Within due s at → Does (due_does due s.records at field)
@@ -125,10 +116,10 @@ module _ (port : ℕ) (s : FileState) (text : List ℕ) (gave : List ⊤) (saves
   field_stands Dues.Version at field all size within = version_stands (ordered_number s.records.is_big field) within.0 (omega (arith, all, size, within.1))
   field_stands Dues.Settings at field all size within = ((within.0, omega (arith, all, size, within.1)), saves)
   field_stands Dues.LinkType at field all size within = link_stands (ordered_number s.records.is_big field) within.0 (omega (arith, all, size, within.1))
-  field_stands Dues.Begin at field all size within = begin_stands at field within (omega (arith, all, size))
+  field_stands Dues.Begin at field all size within = begin_stands at within (omega (arith, all, size))
   field_stands Dues.Time at field all size within = ((within.0, omega (arith, all, size, within.1)), saves)
   field_stands Dues.Captured at field all size within = captured_stands (ordered_number s.records.is_big field) within.0 (omega (arith, all, size, within.1))
-  field_stands (Dues.Original original) at field all size within = original_stands original at field within.0 (omega (arith, all, size, within.1)) within.2
+  field_stands (Dues.Original original) at field all size within = original_stands original within.0 (omega (arith, all, size, within.1)) within.2
   field_stands (Dues.Frame others) at field all size within = ended_stands port s field text gave within.0 (omega (arith, all, within.1)) (omega (arith, size, within.2)) saves
 
 -- ---- a whole file
