@@ -20,7 +20,7 @@ pub word_kept : (due : Due) (field : List ℕ) (room : ℕ) → IsWord due → l
 word_kept (Dues.Frame others) field room is short = absurd is
 word_kept due field room is short = (short, refl)
 
-pub word_short : (due : Due) → IsWord due → due_width due ≤ 12
+pub word_short : (due : Due) → IsWord due → due_width due ≤ 8
 word_short (Dues.Frame others) is = absurd is
 word_short due is = omega arith
 

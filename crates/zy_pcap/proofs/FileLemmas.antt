@@ -38,6 +38,7 @@ abbrev Within : Due → FileState → ℕ → Type 0
 Within Dues.Magic s n = record_bytes s.packets ≤ 0
 Within Dues.Version s n = (record_bytes s.packets ≤ 0) × (4 ≤ n)
 Within Dues.Settings s n = (record_bytes s.packets ≤ 0) × (8 ≤ n)
+Within Dues.MostCaptured s n = (record_bytes s.packets ≤ 0) × (16 ≤ n)
 Within Dues.LinkType s n = (record_bytes s.packets ≤ 0) × (20 ≤ n)
 Within Dues.Begin s n = 24 + record_bytes s.packets ≤ n
 Within Dues.Time s n = Before s × (s.records.begun + 1 ≤ n)
@@ -115,6 +116,7 @@ module _ (port : ℕ) (s : FileState) (text : List ℕ) (gave : List ⊤) (saves
   field_stands Dues.Magic at field all size within = magic_stands (ordered_number s.records.is_big field) within (omega (arith, all, size))
   field_stands Dues.Version at field all size within = version_stands (ordered_number s.records.is_big field) within.0 (omega (arith, all, size, within.1))
   field_stands Dues.Settings at field all size within = ((within.0, omega (arith, all, size, within.1)), saves)
+  field_stands Dues.MostCaptured at field all size within = ((within.0, omega (arith, all, size, within.1)), saves)
   field_stands Dues.LinkType at field all size within = link_stands (ordered_number s.records.is_big field) within.0 (omega (arith, all, size, within.1))
   field_stands Dues.Begin at field all size within = begin_stands at within (omega (arith, all, size))
   field_stands Dues.Time at field all size within = ((within.0, omega (arith, all, size, within.1)), saves)

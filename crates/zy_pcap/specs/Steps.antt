@@ -23,7 +23,7 @@ then_due s due = record s { due = due }
 
 -- how many bytes a field has
 abbrev pub due_width : Due → ℕ
-due_width Dues.Settings = 12
+due_width Dues.Settings = 8
 due_width Dues.Begin = 1
 due_width Dues.Time = 7
 due_width (Dues.Frame others) = others + 1
@@ -102,15 +102,13 @@ number_does due s number = captured_does s number
 
 -- a whole field that begins at this place
 abbrev pub due_does : Due → PcapState → ℕ → List ℕ → DueJudged
-due_does Dues.Magic s at field = magic_does s (ordered_number s.is_big field)
-due_does Dues.Version s at field = version_does s (ordered_number s.is_big field)
-due_does Dues.Settings s at field = Then (then_due s Dues.LinkType)
-due_does Dues.LinkType s at field = link_does s (ordered_number s.is_big field)
+due_does Dues.Settings s at field = Then (then_due s Dues.MostCaptured)
+due_does Dues.MostCaptured s at field = Then (then_due s Dues.LinkType)
 due_does Dues.Begin s at field = begin_does s at
 due_does Dues.Time s at field = Then (then_due s Dues.Captured)
-due_does Dues.Captured s at field = captured_does s (ordered_number s.is_big field)
 due_does (Dues.Original size) s at field = original_does s size
 due_does (Dues.Frame others) s at field = Gives (then_due s Dues.Begin) field
+due_does due s at field = number_does due s (ordered_number s.is_big field)
 
 -- the fields of a file, which give the frames of its records
 abbrev pub frames : Fields PcapState (List ℕ) PcapFault

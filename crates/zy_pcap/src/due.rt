@@ -9,8 +9,10 @@ pub(crate) enum Due {
     Magic,
     /// The two numbers of the version.
     Version,
-    /// The bytes of the header that are skipped.
+    /// The time zone and the accuracy of times, which are skipped.
     Settings,
+    /// The most bytes of a frame that were captured, which is skipped.
+    MostCaptured,
     /// The link type.
     LinkType,
     /// The first byte of a record's time; no record was begun.
@@ -31,7 +33,7 @@ impl Due {
         ensures value { result ≡ due_width self }
     {
         match self {
-            Due::Settings => 12,
+            Due::Settings => 8,
             Due::Begin => 1,
             Due::Time => 7,
             Due::Frame { others } => others as usize + 1,

@@ -18,7 +18,6 @@ mod pcap_state;
 mod reader;
 mod records;
 mod slot;
-mod word;
 mod writing;
 
 pub use fed::Fed;

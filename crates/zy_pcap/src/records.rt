@@ -12,9 +12,9 @@ mod steps;
 use crate::due::Due;
 use crate::pcap_fault::PcapFault;
 use crate::pcap_state::PcapState;
-use crate::word::Word;
 use std::alloc::Global;
 use std::marker::Model;
+use zy_read::Field;
 
 const FILE_LIMIT: u64 = 4_294_967_295;
 
@@ -22,7 +22,7 @@ const FILE_LIMIT: u64 = 4_294_967_295;
 #[derive(Drop)]
 pub(crate) struct Records {
     state: PcapState,
-    field: Word,
+    field: Field,
     frame: Vec<u8>,
     at: u64,
     fault: Option<PcapFault>,
@@ -57,7 +57,7 @@ impl Records {
                 is_big: true,
                 begun: 0,
             },
-            field: Word::new(),
+            field: Field::new(),
             frame: Vec::new(alloc),
             at: 0,
             fault: None,

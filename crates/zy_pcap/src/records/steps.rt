@@ -1,9 +1,9 @@
 //! The step of the reader of records at each byte, by what is expected.
-ghost use Rattle.std.specs.Prelude.{◌≡◌, ◌+◌, ◌<◌, ◌≤◌, ◌∷◌, [], length, None, false, Ok, Err};
+ghost use Rattle.std.specs.Prelude.{◌≡◌, ◌+◌, ◌<◌, ◌≤◌, ◌∷◌, ◌++◌, [], length, None, false, Ok, Err};
 ghost use Rattle.zy_read.specs.declared.not_taken.NotTaken.TheVariants.{Fault};
 ghost use Rattle.zy_read.specs.Fields.{at_state, grown_by, moved, judged_at, field_step, step};
 ghost use Rattle.zy_pcap.specs.declared.due.Due.TheVariants as Dues;
-ghost use Rattle.zy_pcap.specs.Steps.{file_limit, due_width, frames, original_does};
+ghost use Rattle.zy_pcap.specs.Steps.{file_limit, due_width, frames, ordered_number, original_does};
 ghost use Rattle.zy_pcap.specs.Moves.{IsWord, IsPart, broken, TakesMove};
 
 use super::{FILE_LIMIT, Records};
@@ -30,6 +30,7 @@ impl Records {
             Due::Magic
             | Due::Version
             | Due::Settings
+            | Due::MostCaptured
             | Due::LinkType
             | Due::Begin
             | Due::Time
@@ -102,7 +103,8 @@ impl Records {
     {
         let state = self.state;
         match state.due {
-            Due::Settings => self.go_on(state.to(Due::LinkType)),
+            Due::Settings => self.go_on(state.to(Due::MostCaptured)),
+            Due::MostCaptured => self.go_on(state.to(Due::LinkType)),
             Due::Begin => self.go_on(PcapState {
                 due: Due::Time,
                 begun: self.at,
@@ -111,8 +113,7 @@ impl Records {
             Due::Time => self.go_on(state.to(Due::Captured)),
             Due::Original { size } => return self.end_original(size),
             Due::Magic | Due::Version | Due::LinkType | Due::Captured => {
-                let number = self.field.number(byte, state.is_big);
-                match state.after_number(number) {
+                match state.after_number(self.number(byte)) {
                     Ok(next) => self.go_on(next),
                     Err(fault) => return self.fail(fault),
                 }
@@ -120,6 +121,21 @@ impl Records {
             Due::Frame { .. } => unreachable!(),
         }
         Ok(false)
+    }
+
+    // The number of four bytes, this one the last.
+    #[tactic(auto, using(crate::proofs::DueLemmas::word_seen))]
+    fn number(&self, byte: u8) -> u32
+        requires word { IsWord self.now.state.due }
+        requires last { length self.now.seen ≡ 3 }
+        ensures value { result ≡ ordered_number self.now.state.is_big (self.now.seen ++ byte ∷ []) }
+    {
+        let bytes = self.field.four(byte);
+        if self.state.is_big {
+            u32::from_be_bytes(bytes)
+        } else {
+            u32::from_le_bytes(bytes)
+        }
     }
 
     // The byte is the last one of its field, and this is the state after it.
