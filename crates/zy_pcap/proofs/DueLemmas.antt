@@ -8,15 +8,15 @@ use Rattle.zy_pcap.specs.declared.pcap_fault.PcapFault.TheVariants as Faults
 use Rattle.zy_pcap.specs.declared.due.Due.{Due}
 use Rattle.zy_pcap.specs.declared.due.Due.TheVariants as Dues
 use Rattle.zy_pcap.specs.Steps.{FilePlace, due_width, is_begin, file_limit, frames}
-use Rattle.zy_pcap.specs.Moves.{seen_of, IsWord, IsKept, IsPart, broken}
+use Rattle.zy_pcap.specs.Moves.{field_bytes, IsWord, KeepsField, IsPartOfField, broken}
 
 -- ---- the bytes that are kept
 
-pub word_seen : (due : Due) (field frame : List ℕ) → IsWord due → seen_of due field frame ≡ field
+pub word_seen : (due : Due) (field frame : List ℕ) → IsWord due → field_bytes due field frame ≡ field
 word_seen (Dues.Frame others) field frame is = absurd is
 word_seen due field frame is = refl
 
-pub word_kept : (due : Due) (field : List ℕ) (room : ℕ) → IsWord due → length field < due_width due → IsKept due field [] room
+pub word_kept : (due : Due) (field : List ℕ) (room : ℕ) → IsWord due → length field < due_width due → KeepsField due field [] room
 word_kept (Dues.Frame others) field room is short = absurd is
 word_kept due field room is short = (short, refl)
 
@@ -28,11 +28,6 @@ word_short due is = omega arith
 pub some_width : (due : Due) → 0 < due_width due
 some_width (Dues.Frame others) = omega arith
 some_width due = omega arith
-
--- where no byte is kept, none was seen
-pub nothing_seen : (due : Due) → seen_of due [] [] ≡ []
-nothing_seen (Dues.Frame others) = refl
-nothing_seen due = refl
 
 -- a list that grew by an element, without it
 pub take_front : (xs : List ℕ) (x : ℕ) → take (length (xs ++ x ∷ []) - 1) (xs ++ x ∷ []) ≡ xs
@@ -56,6 +51,6 @@ by_due Dues.Begin p byte is none full part most same =
 by_due due p byte is none full part most same = rw (none, is, most) refl
 
 -- a further byte after the most
-pub full_step : (p : FilePlace) (byte : ℕ) → p.fault ≡ None → file_limit ≤ p.at → IsPart p → step frames p byte ≡ record { next = broken p Faults.PcapTooLong; gave = None }
+pub full_step : (p : FilePlace) (byte : ℕ) → p.fault ≡ None → file_limit ≤ p.at → IsPartOfField p → step frames p byte ≡ record { next = broken p Faults.PcapTooLong; gave = None }
 full_step p byte none full part =
     by_due p.state.due p byte refl none full part (grind (arith, nat_tests)) (grind (arith, nat_tests))

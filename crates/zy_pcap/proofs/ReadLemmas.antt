@@ -17,14 +17,14 @@ use Rattle.zy_pcap.specs.declared.judged.Judged.TheVariants.{Taken}
 use Rattle.zy_pcap.specs.declared.judged.Segment.{Segment}
 use Rattle.zy_pcap.specs.declared.kept_flow.KeptFlow.{KeptFlow}
 use Rattle.zy_pcap.specs.Steps.{FilePlace, DueJudged, file_start, frames}
-use Rattle.zy_pcap.specs.Moves.{TakesMove, frame_at, then_record, without_last}
+use Rattle.zy_pcap.specs.Moves.{TakesMove, frame_read, then_record, without_last}
 use Rattle.zy_pcap.specs.Frame.{judge}
 use Rattle.zy_pcap.specs.Packet.{Packet, packet_in, packet_with}
 use Rattle.zy_pcap.specs.Flow.{Flows, flows_of, flows_after, flows_with}
 use Rattle.zy_pcap.specs.Kept.{MeetsFlows}
 use Rattle.zy_pcap.specs.Packets.{FileState, frame_fault, packets_with, record_ended, file_does, packet_fields, found, recorded, packets, file_fault_met}
 use Rattle.zy_pcap.specs.Packets.FoundPackets.{Packets, Bad}
-use Rattle.zy_pcap.specs.Standing.{PcapReading, bare, IsAtPlace, StandsForFile, FeedsFile, FeedsFileAs, TellsFileFault, TellsLastingFault, FinishesBy}
+use Rattle.zy_pcap.specs.Standing.{PcapReading, without_packets, IsAtPlace, StandsForFile, FeedsFile, FeedsFileAs, TellsFileFault, TellsLastingFault, FinishesBy}
 use Rattle.zy_pcap.specs.Streams.{kept_streams}
 use Rattle.zy_pcap.specs.Step.{with_packets, FeedsRecords, KeepsPackets, MeetsFrame, PlaceIs, IsAfter, place_after, AnswersByte}
 use Rattle.zy_pcap.proofs.StreamLemmas.{streams_same}
@@ -100,15 +100,15 @@ refused_follows old new byte NoMemory kept takes = λ given keeps. (takes, rw ke
 
 -- the end of a record
 pub ends_follows : (old new : PcapReading) (whole : FilePlace) (byte : ℕ) (result : Result ⊤ (NotTaken PcapFault)) → TakesMove (step frames old.place byte) old.place whole (Ok true)
-    → PlaceIs whole new.place result → MeetsFrame old.port whole.state.begun (frame_at whole) old.kept new.kept result → AnswersByte old new byte result
+    → PlaceIs whole new.place result → MeetsFrame old.port whole.state.begun (frame_read whole) old.kept new.kept result → AnswersByte old new byte result
 ends_follows old new whole byte (Ok u) takes is meets = λ given keeps.
-    let frame : List ℕ = frame_at whole in
+    let frame : List ℕ = frame_read whole in
     let state_is : whole.state ≡ old.place.state = ap (λ (p : FilePlace). p.state) takes.rest in
     let met = subst (λ (s : PcapState). (frame_fault s.begun frame given (judge old.port s.begun frame) ≡ None) × KeepsPackets new.kept (packets_with frame given (judge old.port s.begun frame))) state_is (meets given keeps) in
     subst (λ (q : Place FileState PcapFault). IsAfter new q None) (sym (after_is old byte given (then_record old.place) (Some frame) takes.ends))
     (rw met.0 ((is ∙ ap then_record takes.rest, met.1), refl))
 ends_follows old new whole byte (Err (Fault fault)) takes is meets = λ given keeps.
-    let frame : List ℕ = frame_at whole in
+    let frame : List ℕ = frame_read whole in
     let state_is : whole.state ≡ old.place.state = ap (λ (p : FilePlace). p.state) takes.rest in
     let met = subst (λ (s : PcapState). (frame_fault s.begun frame given (judge old.port s.begun frame) ≡ Some fault) × KeepsPackets new.kept given) state_is (meets given keeps) in
     subst (λ (q : Place FileState PcapFault). IsAfter new q (Some fault)) (sym (after_is old byte given (then_record old.place) (Some frame) takes.ends))
@@ -127,7 +127,7 @@ last_step port b byte =
     ap (λ (r : Reading (Place FileState PcapFault) ⊤). r.last) (fed_step (recorded port) (last_of port b) byte (reading_of (recorded port) b).given b refl)
 
 -- the state after a byte
-after : (old new : PcapReading) (byte : ℕ) (b : List ℕ) (fault : Option PcapFault) → old.place ≡ bare (last_of old.port b) → IsAfter new (place_after old byte (last_of old.port b).state.packets) fault → IsAfter new (last_of old.port (b ++ byte ∷ [])) fault
+after : (old new : PcapReading) (byte : ℕ) (b : List ℕ) (fault : Option PcapFault) → old.place ≡ without_packets (last_of old.port b) → IsAfter new (place_after old byte (last_of old.port b).state.packets) fault → IsAfter new (last_of old.port (b ++ byte ∷ [])) fault
 after old new byte b fault place is =
     let given : List Packet = (last_of old.port b).state.packets in
     subst (λ (q : Place FileState PcapFault). IsAfter new q fault)
@@ -178,10 +178,10 @@ pub finished : (r : PcapReading) (streams : List (List (List ℕ))) → EndsAt f
 unfolding StandsForFile verdict_on
 finished r streams ends is = λ b stood.
     let q : Place FileState PcapFault = last_of r.port b in
-    let here : EndsAt frames (bare q) (Ok tt) = subst (λ (p : FilePlace). EndsAt frames p (Ok tt)) stood.0 ends in
+    let here : EndsAt frames (without_packets q) (Ok tt) = subst (λ (p : FilePlace). EndsAt frames p (Ok tt)) stood.0 ends in
     rw (here.0, here.1) (is ∙ streams_same r.kept (flows_of q.state.packets) stood.1)
 
-bad_by : (port : ℕ) (met : Option PcapFault) (q : Place FileState PcapFault) (given : List ⊤) (fault : PcapFault) → EndsWith frames met (bare q) fault → ended_by met (packet_fields port) found Bad q given ≡ Bad fault
+bad_by : (port : ℕ) (met : Option PcapFault) (q : Place FileState PcapFault) (given : List ⊤) (fault : PcapFault) → EndsWith frames met (without_packets q) fault → ended_by met (packet_fields port) found Bad q given ≡ Bad fault
 bad_by port None q given fault ends = rw ends.0 (ap Bad (sym ends.1))
 bad_by port (Some met) q given fault ends = ap Bad ends
 

@@ -15,18 +15,18 @@ use Rattle.zy_pcap.specs.Steps.{FilePlace, DueJudged, then_due, due_width, file_
 -- ---- what is kept
 
 -- the bytes that were read of the field, of those that are kept of a number and of a frame
-abbrev pub seen_of : Due → List ℕ → List ℕ → List ℕ
-seen_of (Dues.Frame others) field frame = frame
-seen_of due field frame = field
+abbrev pub field_bytes : Due → List ℕ → List ℕ → List ℕ
+field_bytes (Dues.Frame others) field frame = frame
+field_bytes due field frame = field
 
 -- the bytes that were read of a frame
-abbrev pub frame_of : Due → List ℕ → List ℕ
-frame_of (Dues.Frame others) seen = seen
-frame_of due seen = []
+abbrev pub frame_bytes : Due → List ℕ → List ℕ
+frame_bytes (Dues.Frame others) seen = seen
+frame_bytes due seen = []
 
 -- the same at a place
-abbrev pub frame_at : FilePlace → List ℕ
-frame_at p = frame_of p.state.due p.seen
+abbrev pub frame_read : FilePlace → List ℕ
+frame_read p = frame_bytes p.state.due p.seen
 
 -- the field is no frame
 abbrev pub IsWord : Due → Type 0
@@ -42,18 +42,18 @@ IsNumberDue Dues.Captured = ⊤
 IsNumberDue due = ⊥
 
 -- the bytes that are kept are those of the field, or of a whole frame; and there is room for a frame
-abbrev pub IsKept : Due → List ℕ → List ℕ → ℕ → Type 0
-IsKept (Dues.Frame others) field frame room = (field ≡ []) × (length frame ≤ others + 1) × (others + 1 ≤ room)
-IsKept due field frame room = (length field < due_width due) × (frame ≡ [])
+abbrev pub KeepsField : Due → List ℕ → List ℕ → ℕ → Type 0
+KeepsField (Dues.Frame others) field frame room = (field ≡ []) × (length frame ≤ others + 1) × (others + 1 ≤ room)
+KeepsField due field frame room = (length field < due_width due) × (frame ≡ [])
 
 -- the same, where this fault was met or none; after one no byte is kept
-abbrev pub IsKeptBy : Option PcapFault → Due → List ℕ → List ℕ → ℕ → Type 0
-IsKeptBy None due field frame room = IsKept due field frame room
-IsKeptBy (Some fault) due field frame room = (field ≡ []) × (frame ≡ [])
+abbrev pub KeepsFieldBy : Option PcapFault → Due → List ℕ → List ℕ → ℕ → Type 0
+KeepsFieldBy None due field frame room = KeepsField due field frame room
+KeepsFieldBy (Some fault) due field frame room = (field ≡ []) × (frame ≡ [])
 
 -- the field is not whole
-abbrev pub IsPart : FilePlace → Type 0
-IsPart p = length p.seen < due_width p.state.due
+abbrev pub IsPartOfField : FilePlace → Type 0
+IsPartOfField p = length p.seen < due_width p.state.due
 
 -- ---- a byte
 
@@ -76,7 +76,7 @@ without_last p = record p { seen = seen_before p.state.due p.seen }
 
 -- the last byte of a record: its frame is whole, and all else is as before
 pub record IsRecordEnd (step : Step FilePlace (List ℕ)) (old new : FilePlace) : Type 0 where
-  pub ends : step ≡ record { next = then_record old; gave = Some (frame_at new) }
+  pub ends : step ≡ record { next = then_record old; gave = Some (frame_read new) }
   pub rest : new ≡ record old { seen = new.seen }
   pub front : without_last new ≡ old
   pub none : new.fault ≡ None
@@ -84,7 +84,7 @@ pub record IsRecordEnd (step : Step FilePlace (List ℕ)) (old new : FilePlace) 
 
 -- an answer and a new place are those of a step; `true` is for the last byte of a record
 abbrev pub TakesMove : Step FilePlace (List ℕ) → FilePlace → FilePlace → Result Bool (NotTaken PcapFault) → Type 0
-TakesMove step old new (Ok false) = (step ≡ record { next = new; gave = None }) × (new.fault ≡ None) × IsPart new
+TakesMove step old new (Ok false) = (step ≡ record { next = new; gave = None }) × (new.fault ≡ None) × IsPartOfField new
 TakesMove step old new (Ok true) = IsRecordEnd step old new
 TakesMove step old new (Err (Fault fault)) = (step ≡ record { next = new; gave = None }) × (new.fault ≡ Some fault)
 TakesMove step old new (Err NoMemory) = new ≡ old

@@ -19,12 +19,12 @@ pub record PcapReading : Type 0 where
   pub kept : List (Option KeptFlow)
 
 -- the place without its packets
-abbrev pub bare : Place FileState PcapFault → FilePlace
-bare p = record { state = p.state.records; seen = p.seen; at = p.at; fault = p.fault }
+abbrev pub without_packets : Place FileState PcapFault → FilePlace
+without_packets p = record { state = p.state.records; seen = p.seen; at = p.at; fault = p.fault }
 
 -- the reader is at this place, and keeps the flows of its packets
 abbrev pub IsAtPlace : PcapReading → Place FileState PcapFault → Type 0
-IsAtPlace r p = (r.place ≡ bare p) × KeepsFlows r.kept (flows_of p.state.packets)
+IsAtPlace r p = (r.place ≡ without_packets p) × KeepsFlows r.kept (flows_of p.state.packets)
 
 -- these bytes were fed, one after another
 unfoldable pub StandsForFile : PcapReading → List ℕ → Type 0

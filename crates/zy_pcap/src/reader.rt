@@ -2,7 +2,7 @@
 ghost use Rattle.std.specs.Prelude.{◌≡◌, ◌<◌, ◌≤◌, [], ◌∷◌, length, take, None, IsOk};
 ghost use Rattle.zy_pcap.specs.Steps.{file_limit};
 ghost use Rattle.zy_pcap.specs.Standing.{StandsForFile, FeedsFile, FeedsFileAs, TellsFileFault, TellsLastingFault, FinishesBy};
-ghost use Rattle.zy_pcap.specs.Moves.{frame_at};
+ghost use Rattle.zy_pcap.specs.Moves.{frame_read};
 ghost use Rattle.zy_pcap.specs.Step.{AnswersByte, MeetsFrame, PlaceIs};
 
 use crate::fed::Fed;
@@ -27,14 +27,14 @@ pub struct PcapReader {
 impl Model for PcapReader {
     ghost use Rattle.std.specs.Prelude.{◌≤◌, length};
     ghost use Rattle.zy_pcap.specs.Standing.{PcapReading};
-    ghost use Rattle.zy_pcap.specs.Moves.{IsPart};
+    ghost use Rattle.zy_pcap.specs.Moves.{IsPartOfField};
 
     ghost Value = { PcapReading };
 
     ghost view = { λ r. record { port = r.port; place = r.records; kept = r.kept.flows.items } };
 
     ghost invariant = { λ r. (length r.kept.flows.items ≤ 4096)
-        × IsPart r.records };
+        × IsPartOfField r.records };
 }
 
 impl PcapReader {
@@ -139,7 +139,7 @@ fn settle(records: &mut Records, kept: &mut KeptFlows, port: u16) -> Result<(), 
     requires room { records.old.at < file_limit }
     requires limit { length kept.old.flows.items ≤ 4096 }
     ensures place { PlaceIs records.old records.new result }
-    ensures frame { MeetsFrame port records.old.state.begun (frame_at records.old)
+    ensures frame { MeetsFrame port records.old.state.begun (frame_read records.old)
         kept.old.flows.items kept.new.flows.items result }
     ensures limit { length kept.new.flows.items ≤ 4096 }
 {
@@ -163,7 +163,7 @@ fn settle(records: &mut Records, kept: &mut KeptFlows, port: u16) -> Result<(), 
 fn meet_frame(records: &Records, kept: &mut KeptFlows, port: u16) -> Result<(), PcapFeed>
     requires none { records.now.fault ≡ None }
     requires limit { length kept.old.flows.items ≤ 4096 }
-    ensures frame { MeetsFrame port records.now.state.begun (frame_at records.now)
+    ensures frame { MeetsFrame port records.now.state.begun (frame_read records.now)
         kept.old.flows.items kept.new.flows.items result }
     ensures limit { length kept.new.flows.items ≤ 4096 }
 {

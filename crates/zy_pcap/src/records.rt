@@ -4,7 +4,7 @@ ghost use Rattle.zy_read.specs.Fields.{at_state, grown_by};
 ghost use Rattle.zy_read.specs.FieldReading.{EndsAt};
 ghost use Rattle.zy_pcap.specs.declared.due.Due.TheVariants as Dues;
 ghost use Rattle.zy_pcap.specs.Steps.{file_start, file_limit, frames};
-ghost use Rattle.zy_pcap.specs.Moves.{frame_at, IsPart, broken, then_record, without_last};
+ghost use Rattle.zy_pcap.specs.Moves.{frame_read, IsPartOfField, broken, then_record, without_last};
 ghost use Rattle.zy_pcap.specs.Step.{FeedsRecords};
 
 mod steps;
@@ -31,19 +31,19 @@ pub(crate) struct Records {
 impl Model for Records {
     ghost use Rattle.std.specs.Prelude.{◌≤◌, vec_capacity};
     ghost use Rattle.zy_pcap.specs.Steps.{FilePlace, file_limit};
-    ghost use Rattle.zy_pcap.specs.Moves.{seen_of, IsKeptBy};
+    ghost use Rattle.zy_pcap.specs.Moves.{field_bytes, KeepsFieldBy};
 
     ghost Value = { FilePlace };
 
     ghost view = { λ r. record {
       state = r.state;
-      seen = seen_of r.state.due r.field r.frame.items;
+      seen = field_bytes r.state.due r.field r.frame.items;
       at = r.at;
       fault = r.fault;
     } };
 
     ghost invariant = { λ r. (r.at ≤ file_limit)
-        × IsKeptBy r.fault r.state.due r.field r.frame.items (vec_capacity r.frame) };
+        × KeepsFieldBy r.fault r.state.due r.field r.frame.items (vec_capacity r.frame) };
 }
 
 impl Records {
@@ -85,7 +85,7 @@ impl Records {
     // The bytes read of the expected frame.
     pub(crate) fn frame(&self) -> &[u8]
         requires none { self.now.fault ≡ None }
-        ensures value { result.now ≡ frame_at self.now }
+        ensures value { result.now ≡ frame_read self.now }
     {
         self.frame.as_slice()
     }
@@ -122,9 +122,9 @@ impl Records {
     #[tactic(auto, using(crate::proofs::FrameLemmas::none_fed))]
     pub(crate) fn take_run(&mut self, bytes: &[u8]) -> usize
         requires some { 0 < length bytes.now }
-        requires part { IsPart self.old }
+        requires part { IsPartOfField self.old }
         ensures within { result < length bytes.now }
-        ensures part { IsPart self.new }
+        ensures part { IsPartOfField self.new }
         ensures fed { FeedsRecords self.old self.new (take result bytes.now) }
     {
         match self.state.due {

@@ -4,7 +4,7 @@ ghost use Rattle.zy_read.specs.declared.not_taken.NotTaken.TheVariants.{Fault};
 ghost use Rattle.zy_read.specs.Fields.{at_state, grown_by, moved, judged_at, field_step, step};
 ghost use Rattle.zy_pcap.specs.declared.due.Due.TheVariants as Dues;
 ghost use Rattle.zy_pcap.specs.Steps.{file_limit, due_width, frames, ordered_number, original_does};
-ghost use Rattle.zy_pcap.specs.Moves.{IsWord, IsPart, broken, TakesMove};
+ghost use Rattle.zy_pcap.specs.Moves.{IsWord, IsPartOfField, broken, TakesMove};
 
 use super::{FILE_LIMIT, Records};
 use crate::due::Due;
@@ -16,7 +16,7 @@ impl Records {
     // caller ends the record, refuses it, or leaves its last byte.
     #[tactic(auto, using(crate::proofs::DueLemmas::full_step))]
     pub(crate) fn take(&mut self, byte: u8) -> Result<bool, PcapFeed>
-        requires part { IsPart self.old }
+        requires part { IsPartOfField self.old }
         ensures value { TakesMove (step frames self.old byte) self.old self.new result }
     {
         if let Some(fault) = self.fault {
@@ -145,7 +145,7 @@ impl Records {
         requires none { self.old.fault ≡ None }
         requires room { self.old.at < file_limit }
         ensures value { self.new ≡ at_state next (self.old.at + 1) }
-        ensures part { IsPart self.new }
+        ensures part { IsPartOfField self.new }
     {
         self.state = next;
         self.field.clear();
