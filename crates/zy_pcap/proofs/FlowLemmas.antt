@@ -16,7 +16,7 @@ use Rattle.zy_pcap.specs.Packet.{Packet, packet_with}
 use Rattle.zy_pcap.specs.Session.{Session, session_begun_by, begins, current, first_by, sessions_by, with_packet}
 use Rattle.zy_pcap.specs.Flow.{Flow, Flows, Keys, put_at, grown_flow, slot_of, key_in, flow_keys, flow_at, length_fault, flow_fault, flows_with}
 use Rattle.zy_pcap.specs.Pairs.{BothOrNone, AllPairs}
-use Rattle.zy_pcap.specs.Kept.{KeepsSession, KeepsFlow, KeepsFlows, kept_key, kept_keys, ends, continues_by, continues, session_fault, session_next, MeetsSession, MeetsSessions, MeetsFlows, BeginsSession, MeetsFlow, BeginsFlow}
+use Rattle.zy_pcap.specs.Kept.{KeepsSession, KeepsFlow, KeepsFlows, kept_key, kept_keys, is_ended_by, continues_by, continues, session_fault, session_next, MeetsSession, MeetsSessions, MeetsFlows, BeginsSession, MeetsFlow, BeginsFlow}
 use Rattle.zy_pcap.proofs.PairLemmas.{pairs_length, pairs_get, pairs_set, pairs_append}
 use Rattle.zy_pcap.proofs.MeetLemmas.{begun_ends}
 
@@ -27,7 +27,7 @@ current_keeps kept sessions pairs =
     subst (λ (n : ℕ). BothOrNone KeepsSession (slice_get kept (length kept - 1)) (slice_get sessions (n - 1))) (pairs_length KeepsSession kept sessions pairs)
     (pairs_get KeepsSession kept sessions (length kept - 1) pairs)
 
-ends_is : (kept : KeptSession) (session : Session) (segment : Segment) (payload : List ℕ) → KeepsSession kept session → ends kept segment ≡ begins session.first (packet_with segment payload)
+ends_is : (kept : KeptSession) (session : Session) (segment : Segment) (payload : List ℕ) → KeepsSession kept session → is_ended_by kept segment ≡ begins session.first (packet_with segment payload)
 ends_is kept session segment payload keeps = rw (keeps.sequence, keeps.syn) refl
 
 -- the session of a packet that begins none
@@ -43,8 +43,8 @@ not_false : (b : Bool) → not b ≡ false → b ≡ true
 not_false true is = refl
 not_false false is = cc
 
-not_ends : (last : KeptSession) (segment : Segment) → continues_by (Some last) segment ≡ true → ends last segment ≡ false
-not_ends last segment goes = not_true (ends last segment) goes
+not_ends : (last : KeptSession) (segment : Segment) → continues_by (Some last) segment ≡ true → is_ended_by last segment ≡ false
+not_ends last segment goes = not_true (is_ended_by last segment) goes
 
 fault_goes : (sessions : List Session) (session : Session) (packet : Packet) (at : ℕ) → current sessions ≡ Some session → begins session.first packet ≡ false → length_fault sessions packet at ≡ session_fault packet at session
 fault_goes sessions session packet at is goes = rw (is, goes) refl
@@ -109,7 +109,7 @@ begins_by None None segment payload ends_it both = refl
 begins_by None (Some session) segment payload ends_it both = absurd both
 begins_by (Some last) None segment payload ends_it both = absurd both
 begins_by (Some last) (Some session) segment payload ends_it both =
-    let is : begins session.first (packet_with segment payload) ≡ true = sym (ends_is last session segment payload both) ∙ not_false (ends last segment) ends_it in rw is refl
+    let is : begins session.first (packet_with segment payload) ≡ true = sym (ends_is last session segment payload both) ∙ not_false (is_ended_by last segment) ends_it in rw is refl
 
 next_by : (kept : Option KeptSession) (found : Option Session) (sessions : List Session) (segment : Segment) (payload : List ℕ) → continues_by kept segment ≡ false → BothOrNone KeepsSession kept found
     → sessions_by found sessions (packet_with segment payload) ≡ sessions ++ session_begun_by (packet_with segment payload) ∷ []
@@ -117,7 +117,7 @@ next_by None None sessions segment payload ends_it both = refl
 next_by None (Some session) sessions segment payload ends_it both = absurd both
 next_by (Some last) None sessions segment payload ends_it both = absurd both
 next_by (Some last) (Some session) sessions segment payload ends_it both =
-    let is : begins session.first (packet_with segment payload) ≡ true = sym (ends_is last session segment payload both) ∙ not_false (ends last segment) ends_it in rw is refl
+    let is : begins session.first (packet_with segment payload) ≡ true = sym (ends_is last session segment payload both) ∙ not_false (is_ended_by last segment) ends_it in rw is refl
 
 pub flow_begins : (kept new : List KeptSession) (segment : Segment) (payload : List ℕ) (at : ℕ) (result : Result ⊤ (NotTaken PcapFault)) → continues_by (slice_get kept (length kept - 1)) segment ≡ false → length payload < 65536
     → BeginsSession (packet_with segment payload) kept new result → MeetsSessions (packet_with segment payload) at kept new result

@@ -50,13 +50,13 @@ abbrev pub apart : ℕ → ℕ → ℕ
 apart base number = (number + (2 ^ 32 - base)) % 2 ^ 32
 
 -- a packet begins a new session
-abbrev pub ends : KeptSession → Segment → Bool
-ends kept segment = segment.is_syn && not (kept.is_syn && (kept.sequence == segment.sequence))
+abbrev pub is_ended_by : KeptSession → Segment → Bool
+is_ended_by kept segment = segment.is_syn && not (kept.is_syn && (kept.sequence == segment.sequence))
 
 -- a packet goes on with this session
 abbrev pub continues_by : Option KeptSession → Segment → Bool
 continues_by None segment = false
-continues_by (Some session) segment = not (ends session segment)
+continues_by (Some session) segment = not (is_ended_by session segment)
 
 -- a packet goes on with the current session
 abbrev pub continues : List KeptSession → Segment → Bool

@@ -2,7 +2,7 @@
 ghost use Rattle.std.specs.Prelude.{◌≡◌, ◌+◌, ◌<◌, ◌≤◌, ◌^◌, length, IfOk};
 ghost use Rattle.zy_pcap.specs.Packet.{packet_with};
 ghost use Rattle.zy_pcap.specs.Session.{number_after, session_begun_by};
-ghost use Rattle.zy_pcap.specs.Kept.{KeepsSession, MeetsSession, Adds, apart, ends};
+ghost use Rattle.zy_pcap.specs.Kept.{KeepsSession, MeetsSession, Adds, apart, is_ended_by};
 
 use crate::judged::Segment;
 use crate::kept_stream::KeptStream;
@@ -57,7 +57,7 @@ impl KeptSession {
 
     // A packet begins a new session.
     pub(crate) fn is_ended_by(&self, segment: &Segment) -> bool
-        ensures value { result ≡ ends self.now segment.now }
+        ensures value { result ≡ is_ended_by self.now segment.now }
     {
         segment.is_syn && !(self.is_syn && self.sequence == segment.sequence)
     }
