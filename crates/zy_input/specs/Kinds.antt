@@ -1,6 +1,6 @@
 -- The kinds of parts: which bytes brought their readers to where they are, and what a text of each kind gives. No
 -- public clause cites this module.
-use Rattle.std.specs.Prelude.{◌≡◌, ℕ, ◌^◌, ◌<◌, Bool, List, length, None, ⊤}
+use Rattle.std.specs.Prelude.{◌≡◌, ℕ, ◌^◌, ◌<◌, Bool, List, length, ⊤}
 use Rattle.zy_base.specs.declared.file_fault.FileFault.{FileFault}
 use Rattle.zy_capture.specs.declared.capture_fault.CaptureFault.{CaptureFault}
 use Rattle.zy_capture.specs.declared.record.Record.{Record}
@@ -13,8 +13,7 @@ use Rattle.zy_capture.specs.Replies.{items_of}
 use Rattle.zy_capture.specs.RepliesSteps as RepliesSteps
 use Rattle.zy_capture.specs.Verdict as Captures
 use Rattle.zy_capture.specs.RepliesVerdict as Replies
-use Rattle.zy_pcap.specs.Packets.{file_fault_met, packets}
-use Rattle.zy_pcap.specs.Packets.FoundPackets.{Bad}
+use Rattle.zy_pcap.specs.Packets.{recorded}
 use Rattle.zy_pcap.specs.Standing.{StandsForFile}
 use Rattle.zy_journal.specs.declared.journal.Journal.{Journal}
 use Rattle.zy_journal_reader.specs.Standing.{StandsForJournal}
@@ -102,16 +101,7 @@ replies_kind = format_kind Replies.replies never (λ fault. OfReplies fault) Sta
 abbrev pub StandsForPackets : ℕ → PacketsPart → List ℕ → Type 0
 StandsForPackets port part bytes = (part.reader.port ≡ port) × StandsForFile part.reader bytes
 
--- the text has this fault as packets to the port
-abbrev pub IsFaultyPackets : ℕ → List ℕ → Refusal → Type 0
-IsFaultyPackets port text (Pcap fault) = packets port text ≡ Bad fault
-IsFaultyPackets port text refusal = ⊥
-
 abbrev pub packets_kind : ℕ → Kind PacketsPart (List (List (List ℕ)))
-packets_kind port = record {
-  stands = StandsForPackets port;
-  goes_on = λ text. file_fault_met port text ≡ None;
-  whole = λ text. ⊥;
-  gives = λ streams text. HasPackets port text streams;
-  faulty = IsFaultyPackets port;
-}
+packets_kind port =
+    format_kind (recorded port) never (λ fault. Pcap fault) (StandsForPackets port)
+    (λ streams text. HasPackets port text streams)
