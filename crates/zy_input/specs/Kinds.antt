@@ -24,7 +24,6 @@ use Rattle.zy_input.specs.declared.journal_part.Until.{Until}
 use Rattle.zy_input.specs.declared.journal_part.Until.TheVariants.{OwnEnd, SourceEnd}
 use Rattle.zy_input.specs.declared.packets_part.PacketsPart.{PacketsPart}
 use Rattle.zy_input.specs.declared.replies_part.RepliesPart.{RepliesPart}
-use Rattle.zy_input.specs.declared.stop.Refusal.{Refusal}
 use Rattle.zy_input.specs.declared.stop.Refusal.TheVariants.{Capture, Journal as OfJournal, Replies as OfReplies, Pcap}
 use Rattle.zy_input.specs.Parts.{HasStreams, HasPackets}
 use Rattle.zy_input.specs.Reading.{Kind, format_kind, never}

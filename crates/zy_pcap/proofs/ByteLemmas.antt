@@ -12,13 +12,12 @@ use Rattle.zy_read.specs.Fields.Judged.{Then, Gives, Wrong}
 use Rattle.zy_read.proofs.RunLemmas.{After, byte_parts}
 use Rattle.zy_read.proofs.ByteLemmas.{bytes_append, bytes_take, bytes_drop}
 use Rattle.zy_pcap.specs.declared.pcap_fault.PcapFault.{PcapFault}
-use Rattle.zy_pcap.specs.declared.pcap_fault.PcapFault.TheVariants as Faults
 use Rattle.zy_pcap.specs.declared.pcap_state.PcapState.{PcapState}
 use Rattle.zy_pcap.specs.declared.due.Due.{Due}
 use Rattle.zy_pcap.specs.declared.due.Due.TheVariants as Dues
 use Rattle.zy_pcap.specs.declared.judged.Judged.{Judged}
 use Rattle.zy_pcap.specs.declared.judged.Judged.TheVariants.{Passed, Refused, Taken}
-use Rattle.zy_pcap.specs.Steps.{DueJudged, then_due, due_does, major, minor, ordered_number, file_limit, frame_limit}
+use Rattle.zy_pcap.specs.Steps.{DueJudged, due_does, major, minor, ordered_number, file_limit, frame_limit}
 use Rattle.zy_pcap.specs.Frame.{judge}
 use Rattle.zy_pcap.specs.Packet.{Packet, packet_in}
 use Rattle.zy_pcap.specs.Session.{Session, session_stream}

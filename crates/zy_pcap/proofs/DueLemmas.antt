@@ -1,13 +1,12 @@
 -- The fields of records: the bytes that are kept of each, and a byte where a file has its most bytes.
-use Rattle.std.proofs.Common.{◌≡◌, ℕ, ◌+◌, ◌-◌, ◌<◌, ◌≤◌, List, [], ◌∷◌, ◌++◌, length, length-append, take, refl, ap, ◌∙◌, subst, arith}
-use Rattle.std.specs.Prelude.{None, nat_le, true, false}
+use Rattle.std.proofs.Common.{◌≡◌, ℕ, ◌-◌, ◌<◌, ◌≤◌, List, [], ◌∷◌, ◌++◌, length, length-append, take, refl, ap, ◌∙◌, arith}
+use Rattle.std.specs.Prelude.{None, nat_le, true}
 use Rattle.std.proofs.lemmas.Bool.Decides.{nat_tests}
-use Rattle.zy_read.specs.Fields.{Place, step}
-use Rattle.zy_pcap.specs.declared.pcap_fault.PcapFault.{PcapFault}
+use Rattle.zy_read.specs.Fields.{step}
 use Rattle.zy_pcap.specs.declared.pcap_fault.PcapFault.TheVariants as Faults
 use Rattle.zy_pcap.specs.declared.due.Due.{Due}
 use Rattle.zy_pcap.specs.declared.due.Due.TheVariants as Dues
-use Rattle.zy_pcap.specs.Steps.{FilePlace, due_width, is_begin, file_limit, frames}
+use Rattle.zy_pcap.specs.Steps.{FilePlace, due_width, file_limit, frames}
 use Rattle.zy_pcap.specs.Moves.{field_bytes, IsWord, KeepsField, IsPartOfField, broken}
 
 -- ---- the bytes that are kept

@@ -1,12 +1,9 @@
 -- A file has its header and, for each packet, its headers and its payload; and it is not longer than a file may be.
-use Rattle.std.proofs.Common.{◌≡◌, ℕ, ◌+◌, ◌-◌, ◌<◌, ◌≤◌, List, [], ◌∷◌, ◌++◌, length, length-append, refl, sym, ap, subst, arith}
-use Rattle.std.specs.Prelude.{Option, Some, None, Bool, true, false, nat_lt, nat_le, if◌then◌else◌, ◌==◌, ◌&&◌, ⊤}
-use Rattle.std.specs.List.{concat}
+use Rattle.std.proofs.Common.{◌≡◌, ℕ, ◌+◌, ◌<◌, ◌≤◌, List, [], ◌∷◌, ◌++◌, length, length-append, sym, ap, subst, arith}
+use Rattle.std.specs.Prelude.{Option, Some, None, true, false, nat_lt, nat_le, ◌==◌, ◌&&◌, ⊤}
 use Rattle.std.proofs.lemmas.Bool.Decides.{nat_tests}
-use Rattle.zy_read.specs.Fields.Judged.{Then, Gives, Wrong}
 use Rattle.zy_read.proofs.RunLemmas.{After, any_parts}
 use Rattle.zy_pcap.specs.declared.pcap_fault.PcapFault.{PcapFault}
-use Rattle.zy_pcap.specs.declared.pcap_fault.PcapFault.TheVariants as Faults
 use Rattle.zy_pcap.specs.declared.due.Due.{Due}
 use Rattle.zy_pcap.specs.declared.due.Due.TheVariants as Dues
 use Rattle.zy_pcap.specs.declared.judged.Judged.{Judged}
@@ -14,7 +11,7 @@ use Rattle.zy_pcap.specs.declared.judged.Judged.TheVariants.{Passed, Refused, Ta
 use Rattle.zy_pcap.specs.Steps.{DueJudged, then_due, due_width, magic_does, version_does, link_does, begin_does, captured_does, original_does, due_does, is_begin, major, minor, ordered_number, file_limit, frame_limit}
 use Rattle.zy_pcap.specs.Frame.{judge}
 use Rattle.zy_pcap.specs.Packet.{Packet, packet_in}
-use Rattle.zy_pcap.specs.Packets.{FileState, FieldJudged, frame_fault, packets_with, record_settled, record_ended, file_does, packet_fields, packets}
+use Rattle.zy_pcap.specs.Packets.{FileState, FieldJudged, frame_fault, packets_with, record_settled, record_ended, file_does, packets}
 use Rattle.zy_pcap.specs.Packets.FoundPackets.{Packets}
 use Rattle.zy_pcap.specs.Made.{pcap_capture}
 use Rattle.zy_pcap.specs.Sizes.{file_header, record_bytes}

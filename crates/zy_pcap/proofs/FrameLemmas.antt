@@ -1,12 +1,12 @@
 -- Runs of bytes within a frame: they are fed as one byte after another.
-use Rattle.std.proofs.Common.{◌≡◌, ℕ, ◌+◌, ◌≤◌, ◌<◌, List, [], ◌∷◌, ◌++◌, length, refl, ap, subst, arith}
+use Rattle.std.proofs.Common.{◌≡◌, ℕ, ◌+◌, ◌≤◌, List, [], length, ap, arith}
 use Rattle.std.specs.Prelude.{None}
 use Rattle.zy_read.specs.Fields.{grown_by}
 use Rattle.zy_read.proofs.FieldLemmas as Fields
 use Rattle.zy_read.proofs.Feeding.{fed_none}
 use Rattle.zy_pcap.specs.declared.due.Due.TheVariants as Dues
-use Rattle.zy_pcap.specs.Steps.{FilePlace, due_width, file_limit}
-use Rattle.zy_pcap.specs.Packets.{FoundPackets, found, packet_fields, recorded}
+use Rattle.zy_pcap.specs.Steps.{FilePlace, file_limit}
+use Rattle.zy_pcap.specs.Packets.{found, packet_fields, recorded}
 use Rattle.zy_pcap.specs.Packets.FoundPackets.{Bad}
 use Rattle.zy_pcap.specs.Step.{with_packets, FeedsRecords}
 

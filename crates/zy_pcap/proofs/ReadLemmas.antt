@@ -17,13 +17,13 @@ use Rattle.zy_pcap.specs.declared.judged.Judged.TheVariants.{Taken}
 use Rattle.zy_pcap.specs.declared.judged.Segment.{Segment}
 use Rattle.zy_pcap.specs.declared.kept_flow.KeptFlow.{KeptFlow}
 use Rattle.zy_pcap.specs.Steps.{FilePlace, DueJudged, file_start, frames}
-use Rattle.zy_pcap.specs.Moves.{TakesMove, frame_read, then_record, without_last}
+use Rattle.zy_pcap.specs.Moves.{TakesMove, frame_read, then_record}
 use Rattle.zy_pcap.specs.Frame.{judge}
 use Rattle.zy_pcap.specs.Packet.{Packet, packet_in, packet_with}
 use Rattle.zy_pcap.specs.Flow.{Flows, flows_of, flows_after, flows_with}
 use Rattle.zy_pcap.specs.Kept.{MeetsFlows}
-use Rattle.zy_pcap.specs.Packets.{FileState, frame_fault, packets_with, record_ended, file_does, packet_fields, found, recorded, packets, file_fault_met}
-use Rattle.zy_pcap.specs.Packets.FoundPackets.{Packets, Bad}
+use Rattle.zy_pcap.specs.Packets.{FileState, frame_fault, packets_with, record_ended, file_does, packet_fields, found, recorded, packets}
+use Rattle.zy_pcap.specs.Packets.FoundPackets.{Bad}
 use Rattle.zy_pcap.specs.Standing.{PcapReading, without_packets, IsAtPlace, StandsForFile, FeedsFile, FeedsFileAs, TellsFileFault, TellsLastingFault, FinishesBy}
 use Rattle.zy_pcap.specs.Streams.{kept_streams}
 use Rattle.zy_pcap.specs.Step.{with_packets, FeedsRecords, KeepsPackets, MeetsFrame, PlaceIs, IsAfter, place_after, AnswersByte}

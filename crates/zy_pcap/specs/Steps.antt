@@ -1,5 +1,5 @@
--- The fields of recorded packets, up to the end of each record: docs/FORMATS.md, "Recorded packets", after the pcap file
--- format of tcpdump's pcap-savefile page. How many bytes each has, and what a whole one does.
+-- The fields of recorded packets up to the end of each record, how many bytes each has, and what a whole one does:
+-- docs/FORMATS.md, "Recorded packets", after the pcap file format of tcpdump's pcap-savefile page.
 use Rattle.std.specs.Prelude.{ℕ, ◌+◌, ◌-◌, ◌/◌, ◌%◌, ◌==◌, nat_lt, nat_le, if◌then◌else◌, Bool, true, false, ◌&&◌}
 use Rattle.std.specs.Prelude.{List, []}
 use Rattle.std.specs.Int.{from_be_bytes, from_le_bytes, w32}

@@ -60,7 +60,11 @@ impl PcapState {
     {
         let high = (number / 65_536) as u16;
         let low = (number % 65_536) as u16;
-        match if self.is_big { (high, low) } else { (low, high) } {
+        match if self.is_big {
+            (high, low)
+        } else {
+            (low, high)
+        } {
             (2, 4) => Ok(self.to(Due::Settings)),
             (major, minor) => Err(PcapFault::Version { major, minor }),
         }

@@ -1,4 +1,4 @@
-use Rattle.std.proofs.Common.{◌≡◌, ℕ, List, length, take, true, false, refl, ap, ◌∙◌, subst}
+use Rattle.std.proofs.Common.{◌≡◌, true, false, refl, subst}
 use Rattle.std.specs.Prelude.{Result, Ok, Err, Bool}
 use Rattle.zy_read.specs.declared.not_taken.NotTaken.{NotTaken}
 use Rattle.zy_pcap.specs.declared.pcap_fault.PcapFault.{PcapFault}

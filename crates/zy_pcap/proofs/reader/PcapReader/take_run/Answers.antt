@@ -1,4 +1,4 @@
-use Rattle.std.proofs.Common.{List, ℕ, take, subst}
+use Rattle.std.proofs.Common.{take, subst}
 use Rattle.zy_pcap.specs.Standing.{PcapReading, FeedsFile}
 use Rattle.zy_pcap.proofs.ReadLemmas.{run_stands}
 use Rattle.zy_pcap.proofs.reader.PcapReader.take_run.Goals as goal

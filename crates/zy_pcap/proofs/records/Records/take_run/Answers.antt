@@ -1,4 +1,4 @@
-use Rattle.std.proofs.Common.{rules, take, arith}
+use Rattle.std.proofs.Common.{rules, take}
 use Rattle.zy_pcap.proofs.FrameLemmas.{run_fed}
 use Rattle.zy_pcap.proofs.records.Records.take_run.Goals as goal
 
