@@ -27,15 +27,7 @@ impl Records {
         }
         match self.state.due {
             Due::Frame { others } => Ok(self.take_frame(others, byte)),
-            Due::Magic
-            | Due::Version
-            | Due::Settings
-            | Due::MostCaptured
-            | Due::LinkType
-            | Due::Begin
-            | Due::Time
-            | Due::Captured
-            | Due::Original { .. } => self.take_word(byte),
+            _ => self.take_word(byte),
         }
     }
 
