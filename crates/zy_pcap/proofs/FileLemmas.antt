@@ -8,7 +8,7 @@ use Rattle.zy_pcap.specs.declared.due.Due.{Due}
 use Rattle.zy_pcap.specs.declared.due.Due.TheVariants as Dues
 use Rattle.zy_pcap.specs.declared.judged.Judged.{Judged}
 use Rattle.zy_pcap.specs.declared.judged.Judged.TheVariants.{Passed, Refused, Taken}
-use Rattle.zy_pcap.specs.Steps.{FilePlace, Move, move, move_at, judged_number, major, minor, ordered_number, then_due, then_more, then_record, broken, frame_grown, is_open_file, is_full_file, file_limit, frame_limit}
+use Rattle.zy_pcap.specs.Steps.{FilePlace, Move, move, move_at, number_move, judged_number, major, minor, ordered_number, then_due, then_more, then_record, broken, frame_grown, is_open_file, is_full_file, file_limit, frame_limit}
 use Rattle.zy_pcap.specs.Steps.Move.{Goes, Ends}
 use Rattle.zy_pcap.specs.Frame.{judge}
 use Rattle.zy_pcap.specs.Packet.{Packet, packet_in}
@@ -86,33 +86,29 @@ module _ (p : FilePlace) (given : List Packet) (byte n : ℕ) (counted : (p.at +
       chosen (IsPlace given (n + 1)) (nat_lt frame_limit number) (broken p (Faults.RecordLength p.begun number)) (then_due p (Dues.Original 4 number))
       (λ no. tt) (λ is. (counted, first, omega (arith, long), not_less frame_limit number is))
 
+  -- a byte of a number
+  number_leads : (due : Due) → p.due ≡ due → Within due (then_more p byte) given (n + 1) → ((number : ℕ) → 3 ≤ length p.field → IsPlace given (n + 1) (judged_number due p number)) → Leads p given (n + 1) (number_move due p byte)
+  number_leads due is more judged =
+      let number : ℕ = ordered_number p.is_big (p.field ++ byte ∷ []) in
+      chosen (Leads p given (n + 1)) (nat_lt (length p.field) 3) (Goes (then_more p byte)) (Goes (judged_number due p number))
+      (λ few. subst (λ (d : Due). Within d (then_more p byte) given (n + 1)) (sym is) more)
+      (λ last. judged number (not_less (length p.field) 3 last))
+
   magic_leads : p.due ≡ Dues.Magic → Within Dues.Magic p given n → Leads p given (n + 1) (move_at Dues.Magic p byte)
   magic_leads is within =
-      let number : ℕ = ordered_number p.is_big (p.field ++ byte ∷ []) in
-      chosen (Leads p given (n + 1)) (nat_lt (length p.field) 3) (Goes (then_more p byte)) (Goes (judged_number Dues.Magic p number))
-      (λ more. subst (λ (d : Due). Within d (then_more p byte) given (n + 1)) (sym is) (counted, within.1, omega (arith, within.2, one_more p.field byte)))
-      (λ last. magic_judged number within.1 (omega (arith, within.2, not_less (length p.field) 3 last)))
+      number_leads Dues.Magic is (counted, within.1, omega (arith, within.2, one_more p.field byte)) (λ number long. magic_judged number within.1 (omega (arith, within.2, long)))
 
   version_leads : p.due ≡ Dues.Version → Within Dues.Version p given n → Leads p given (n + 1) (move_at Dues.Version p byte)
   version_leads is within =
-      let number : ℕ = ordered_number p.is_big (p.field ++ byte ∷ []) in
-      chosen (Leads p given (n + 1)) (nat_lt (length p.field) 3) (Goes (then_more p byte)) (Goes (judged_number Dues.Version p number))
-      (λ more. subst (λ (d : Due). Within d (then_more p byte) given (n + 1)) (sym is) (counted, within.1, omega (arith, within.2, one_more p.field byte)))
-      (λ last. version_judged number within.1 (omega (arith, within.2, not_less (length p.field) 3 last)))
+      number_leads Dues.Version is (counted, within.1, omega (arith, within.2, one_more p.field byte)) (λ number long. version_judged number within.1 (omega (arith, within.2, long)))
 
   link_leads : p.due ≡ Dues.LinkType → Within Dues.LinkType p given n → Leads p given (n + 1) (move_at Dues.LinkType p byte)
   link_leads is within =
-      let number : ℕ = ordered_number p.is_big (p.field ++ byte ∷ []) in
-      chosen (Leads p given (n + 1)) (nat_lt (length p.field) 3) (Goes (then_more p byte)) (Goes (judged_number Dues.LinkType p number))
-      (λ more. subst (λ (d : Due). Within d (then_more p byte) given (n + 1)) (sym is) (counted, within.1, omega (arith, within.2, one_more p.field byte)))
-      (λ last. link_judged number within.1 (omega (arith, within.2, not_less (length p.field) 3 last)))
+      number_leads Dues.LinkType is (counted, within.1, omega (arith, within.2, one_more p.field byte)) (λ number long. link_judged number within.1 (omega (arith, within.2, long)))
 
   captured_leads : p.due ≡ Dues.Captured → Within Dues.Captured p given n → Leads p given (n + 1) (move_at Dues.Captured p byte)
   captured_leads is within =
-      let number : ℕ = ordered_number p.is_big (p.field ++ byte ∷ []) in
-      chosen (Leads p given (n + 1)) (nat_lt (length p.field) 3) (Goes (then_more p byte)) (Goes (judged_number Dues.Captured p number))
-      (λ more. subst (λ (d : Due). Within d (then_more p byte) given (n + 1)) (sym is) (counted, within.1, omega (arith, within.2, one_more p.field byte)))
-      (λ last. captured_judged number within.1 (omega (arith, within.2, not_less (length p.field) 3 last)))
+      number_leads Dues.Captured is (counted, within.1, omega (arith, within.2, one_more p.field byte)) (λ number long. captured_judged number within.1 (omega (arith, within.2, long)))
 
   settings_leads : (left : ℕ) → Within (Dues.Settings left) p given n → Leads p given (n + 1) (move_at (Dues.Settings left) p byte)
   settings_leads left within =

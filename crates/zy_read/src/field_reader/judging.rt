@@ -1,5 +1,5 @@
 //! The judgement of a whole field, by its shape.
-ghost use Rattle.std.specs.Prelude.{◌≡◌, ◌+◌, ◌-◌, ◌≤◌, ◌++◌, ◌∷◌, ℕ, List, [], length, take, Err};
+ghost use Rattle.std.specs.Prelude.{◌≡◌, ◌+◌, ◌-◌, ◌≤◌, ◌++◌, ◌∷◌, ℕ, List, [], length, take, is_ok, Err};
 ghost use Rattle.zy_read.specs.FieldReading.{IsPart, IsQuiet, Judges};
 ghost use Rattle.zy_read.specs.Runs.{RunsOver};
 ghost use Rattle.zy_read.specs.declared.not_taken.NotTaken.TheVariants.{NoMemory};
@@ -30,15 +30,15 @@ pub(super) fn judge_whole<S: FieldFormat>(
 {
     match state.shape() {
         Shape::Byte => match bytes.first() {
-            Some(first) if state.judge_byte(alloc, at, *first).is_ok() => 1,
+            Some(first) if is_taken(state.judge_byte(alloc, at, *first)) => 1,
             _ => 0,
         },
         Shape::Four => match bytes.first_chunk::<4>() {
-            Some(first) if state.judge_four(alloc, at, *first).is_ok() => 4,
+            Some(first) if is_taken(state.judge_four(alloc, at, *first)) => 4,
             _ => 0,
         },
         Shape::Eight => match bytes.first_chunk::<8>() {
-            Some(first) if state.judge_eight(alloc, at, *first).is_ok() => 8,
+            Some(first) if is_taken(state.judge_eight(alloc, at, *first)) => 8,
             _ => 0,
         },
         Shape::Run(others) => judge_whole_run(alloc, state, payload, others, at, bytes),
@@ -70,11 +70,18 @@ fn judge_whole_run<S: FieldFormat>(
     if payload.extend_from_slice(&bytes[..size]).is_err() {
         return 0;
     }
-    if state.judge_run(alloc, at, payload).is_ok() {
+    if is_taken(state.judge_run(alloc, at, payload)) {
         size
     } else {
         0
     }
+}
+
+// Whether a field was taken.
+fn is_taken<G: Drop, F: Drop>(judgement: Result<Option<G>, NotTaken<F>>) -> bool
+    ensures value { result ≡ is_ok judgement }
+{
+    judgement.is_ok()
 }
 
 // Judges the field that a byte ends, of which these bytes were read before. A run needs memory for
