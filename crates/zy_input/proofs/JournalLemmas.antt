@@ -21,9 +21,9 @@ use Rattle.zy_journal_reader.specs.declared.due.Due.TheVariants.{Byte, Number, L
 use Rattle.zy_journal_reader.specs.declared.due.ByteField.{ByteField}
 use Rattle.zy_journal_reader.specs.declared.due.ByteField.TheVariants.{Magic, Tag, CallCode, KeyLength, ReplyCode}
 use Rattle.zy_journal_reader.specs.declared.due.NumberField.{NumberField}
-use Rattle.zy_journal_reader.specs.declared.due.NumberField.TheVariants.{Shard, Connection, Part, Flags, ValueLength, FoundFlags, FoundLength, HoldConnection, HoldCore, HoldCount}
+use Rattle.zy_journal_reader.specs.declared.due.NumberField.TheVariants.{Flags, ValueLength, FoundLength}
 use Rattle.zy_journal_reader.specs.declared.due.LongField.{LongField}
-use Rattle.zy_journal_reader.specs.declared.due.LongField.TheVariants.{Stamp, Index, CallNumber, FoundUnique, ReplyNumber, Gets, Sets, Hits, Misses, Items}
+use Rattle.zy_journal_reader.specs.declared.due.LongField.TheVariants.{CallNumber}
 use Rattle.zy_journal_reader.specs.declared.due.BytesField.{BytesField}
 use Rattle.zy_journal_reader.specs.declared.due.BytesField.TheVariants.{Key, Value, FoundValue}
 use Rattle.zy_journal_reader.specs.Fields.{after_call_code, at_flags, at_number, at_value}
@@ -103,25 +103,11 @@ four_ends : (field : NumberField) (s : ReadState) (n : ℕ) → EndsNothing (aft
 four_ends Flags s n = number_goes (fields_of s.draft.kind)
 four_ends ValueLength s n = either EndsNothing (n == 0) _ _ refl refl
 four_ends FoundLength s n = either EndsNothing (n == 0) _ _ refl refl
-four_ends Shard s n = refl
-four_ends Connection s n = refl
-four_ends Part s n = refl
-four_ends FoundFlags s n = refl
-four_ends HoldConnection s n = refl
-four_ends HoldCore s n = refl
-four_ends HoldCount s n = refl
+four_ends field s n = refl
 
 eight_ends : (field : LongField) (s : ReadState) (n : ℕ) → EndsNothing (after_eight field s n)
-eight_ends Stamp s n = refl
-eight_ends Index s n = refl
 eight_ends CallNumber s n = value_goes (fields_of s.draft.kind)
-eight_ends FoundUnique s n = refl
-eight_ends ReplyNumber s n = refl
-eight_ends Gets s n = refl
-eight_ends Sets s n = refl
-eight_ends Hits s n = refl
-eight_ends Misses s n = refl
-eight_ends Items s n = refl
+eight_ends field s n = refl
 
 bytes_end : (field : BytesField) (s : ReadState) (bytes : List ℕ) → EndsNothing (after_bytes field s bytes)
 bytes_end Key s bytes = flags_go (fields_of s.draft.kind)

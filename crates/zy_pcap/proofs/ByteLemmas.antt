@@ -68,11 +68,7 @@ judged_small Dues.Version p number =
 judged_small Dues.LinkType p number = chosen FrameSmall (number == 1) (then_record p) (broken p (Faults.LinkType number)) (λ is. tt) (λ no. tt)
 judged_small Dues.Captured p number =
     chosen FrameSmall (nat_lt frame_limit number) (broken p (Faults.RecordLength p.begun number)) (then_due p (Dues.Original 4 number)) (λ no. tt) (λ is. tt)
-judged_small (Dues.Settings left) p number = tt
-judged_small (Dues.Time left) p number = tt
-judged_small (Dues.Original left size) p number = tt
-judged_small (Dues.Frame size) p number = tt
-judged_small (Dues.Broken fault) p number = tt
+judged_small due p number = tt
 
 number_small : (due : Due) (p : FilePlace) (byte : ℕ) → AreBytes p.frame → HasBytes (number_move due p byte)
 number_small due p byte small =
@@ -136,15 +132,8 @@ time_small left p given true is found small =
     subst AreOfBytes same small
 
 found_small : (due : Due) (p : FileProgress) (given : List Packet) → found_at due p ≡ Packets given → AreOfBytes p.packets → AreOfBytes given
-found_small Dues.Magic p given found small = cc
-found_small Dues.Version p given found small = cc
-found_small (Dues.Settings left) p given found small = cc
-found_small Dues.LinkType p given found small = cc
 found_small (Dues.Time left) p given found small = time_small left p given (left == 8) refl found small
-found_small Dues.Captured p given found small = cc
-found_small (Dues.Original left size) p given found small = cc
-found_small (Dues.Frame size) p given found small = cc
-found_small (Dues.Broken fault) p given found small = cc
+found_small due p given found small = cc
 
 packets_small : (port : ℕ) (bytes : List ℕ) (given : List Packet) → AreBytes bytes → packets port bytes ≡ Packets given → AreOfBytes given
 unfolding packets read

@@ -221,15 +221,8 @@ time_held left p given n true is found within saves =
     subst (λ (l : List Packet). Holds l n) same (record { short = within.0.1; records = omega (arith, within.1, within.2, eight); saves = saves })
 
 held_by : (due : Due) (p : FileProgress) (given : List Packet) (n : ℕ) → found_at due p ≡ Packets given → Within due p.place p.packets n → Saves p.packets → Holds given n
-held_by Dues.Magic p given n found within saves = cc
-held_by Dues.Version p given n found within saves = cc
-held_by (Dues.Settings left) p given n found within saves = cc
-held_by Dues.LinkType p given n found within saves = cc
 held_by (Dues.Time left) p given n found within saves = time_held left p given n (left == 8) refl found within saves
-held_by Dues.Captured p given n found within saves = cc
-held_by (Dues.Original left size) p given n found within saves = cc
-held_by (Dues.Frame size) p given n found within saves = cc
-held_by (Dues.Broken fault) p given n found within saves = cc
+held_by due p given n found within saves = cc
 
 pub file_holds : (port : ℕ) (bytes : List ℕ) (given : List Packet) → packets port bytes ≡ Packets given → Holds given (length bytes)
 unfolding packets

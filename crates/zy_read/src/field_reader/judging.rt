@@ -108,15 +108,31 @@ pub(super) fn judge_last<S: FieldFormat>(
         Shape::Byte => state.judge_byte(alloc, at, byte),
         Shape::Four => state.judge_four(alloc, at - 3, field.four(byte)),
         Shape::Eight => state.judge_eight(alloc, at - 7, field.eight(byte)),
-        Shape::Run(others) => {
-            if payload.push(byte).is_err() {
-                return Err(NotTaken::NoMemory);
-            }
-            let judgement = state.judge_run(alloc, at - others, payload);
-            if let Err(NotTaken::NoMemory) = &judgement {
-                let _ = payload.pop();
-            }
-            judgement
-        }
+        Shape::Run(others) => judge_last_of_run(alloc, state, payload, at - others, byte),
     }
+}
+
+// The same for a run that begins at this place.
+fn judge_last_of_run<S: FieldFormat>(
+    alloc: Global,
+    state: &mut S,
+    payload: &mut Vec<u8>,
+    at: u64,
+    byte: u8,
+) -> Result<Option<S::Gives>, NotTaken<S::Fault>>
+    requires shape { S.shape_of state.old ≡ Kinds.Run (length payload.old.items) }
+    requires fits { S.Fits state.old at }
+    ensures value { Judges S.Fits S.Wants
+        (S.fields.judge state.old at (payload.old.items ++ byte ∷ []))
+        (at + length payload.old.items + 1) state.old state.new result }
+    ensures kept { result ≡ Err NoMemory → payload.new.items ≡ payload.old.items }
+{
+    if payload.push(byte).is_err() {
+        return Err(NotTaken::NoMemory);
+    }
+    let judgement = state.judge_run(alloc, at, payload);
+    if let Err(NotTaken::NoMemory) = &judgement {
+        let _ = payload.pop();
+    }
+    judgement
 }
