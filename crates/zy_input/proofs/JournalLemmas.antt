@@ -28,7 +28,7 @@ use Rattle.zy_journal_reader.specs.declared.due.BytesField.{BytesField}
 use Rattle.zy_journal_reader.specs.declared.due.BytesField.TheVariants.{Key, Value, FoundValue}
 use Rattle.zy_journal_reader.specs.Fields.{after_call_code, at_flags, at_number, at_value}
 use Rattle.zy_journal_reader.specs.Steps.{ReadState, JournalProgress, Done, lawful_byte, after_byte, lawful_number, after_four, lawful_long, after_eight, after_bytes, journal_judged, is_last, journal_fields}
-use Rattle.zy_journal_reader.specs.Laws.{ends, journal_lawful}
+use Rattle.zy_journal_reader.specs.Laws.{none_follows, journal_lawful}
 use Rattle.zy_journal_reader.specs.Standing.{StandsForJournal}
 use Rattle.zy_journal_reader.specs.Verdict.{journals, journal_in, good_journal, is_good_journal}
 use Rattle.zy_journal_reader.specs.Verdict.JournalVerdict.{Good, Bad}
@@ -58,7 +58,7 @@ end_read : (p : JournalProgress) (given : List ⊤) → is_good_journal (journal
 end_read p given is = read_by p.fault p given refl is
 
 closes : (p : JournalProgress) (given : List ⊤) (byte : ℕ) → is_good_journal (journals.ended p given) ≡ true → (fault : FileFault) × ((step journal_fields p byte).next.fault ≡ Some fault)
-closes p given byte is = let read = end_read p given is in end_closes journal_fields journal_lawful p byte read.none read.ends (λ at field. ends p.state.due p.state at field read.ends)
+closes p given byte is = let read = end_read p given is in end_closes journal_fields journal_lawful p byte read.none read.ends (λ at field. none_follows p.state.due p.state at field read.ends)
 
 -- the first fault of a journal counts
 first_counts : IsLasting journals

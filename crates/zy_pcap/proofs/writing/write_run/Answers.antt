@@ -1,5 +1,5 @@
 use Rattle.std.proofs.Common.{◌≡◌, ◌<◌, ◌≤◌, ◌+◌, ◌-◌, ◌++◌, ℕ, List, length, sym, ap, ◌∙◌, arith}
-use Rattle.zy_base.proofs.WritingLemmas.{failed_as, written_as, written_on, writes_as, writes_after, writes_cut}
+use Rattle.zy_base.proofs.WritingLemmas.{written_as, written_on, writes_as, writes_after, writes_cut}
 use Rattle.zy_pcap.specs.Session.{longest_from}
 use Rattle.zy_pcap.specs.Chunk.{byte_held}
 use Rattle.zy_pcap.proofs.RunLemmas.{run_more, some_run, part_of, front_of}
