@@ -74,11 +74,6 @@ module _ {K : Type 0} {holds : K → Option (List ℕ)} {faults finishes : K →
   pub writes_all : {E : Type 0} {u : ⊤} → Written holds faults finishes old new x → Writes {E = E} holds faults finishes old new (Ok u) x
   writes_all {u = tt} written = record { whole = written.grew; part = tt; count = written.count; cause = tt; unfinished = written.unfinished }
 
-  -- a text whose writing failed, with whatever error it is answered
-  pub failed_as : {E : Type 0} {result : Result ⊤ E} {e : E} → IsErr result → Writes holds faults finishes old new (Err e) x → Writes holds faults finishes old new result x
-  failed_as {result = Ok u} refused failed = absurd (cc)
-  failed_as {result = Err other} refused failed = record { whole = tt; part = failed.part; count = failed.count; cause = failed.cause; unfinished = failed.unfinished }
-
   -- the same text, said otherwise
   pub written_as : {y : List ℕ} → x ≡ y → Written holds faults finishes old new x → Written holds faults finishes old new y
   written_as same written = subst (Written holds faults finishes old new) same written

@@ -66,12 +66,7 @@ too_long_bad text all has =
 wrong_has : (text : List ℕ) (fault : CaptureFault) → IsWrongCapture text fault → Faults.HasFaultAsCapture text fault
 wrong_has text (Truncated at) wrong = absurd wrong
 wrong_has text TooLong wrong = absurd wrong
-wrong_has text (BadMagic at) wrong = wrong
-wrong_has text (ConnCount number) wrong = wrong
-wrong_has text (BadTag at byte) wrong = wrong
-wrong_has text (ConnRange at number) wrong = wrong
-wrong_has text (SegmentLength at number) wrong = wrong
-wrong_has text (Trailing at) wrong = wrong
+wrong_has text fault wrong = wrong
 
 had_by : (text : List ℕ) (fault : CaptureFault) (found : Verdict) → AreBytes text → IsOutcome fields good Bad text found → found ≡ Bad fault → Faults.HasFaultAsCapture text fault
 had_by text fault found all (inl whole) is = let none = whole.1.2 in cc

@@ -1,19 +1,13 @@
 -- The bounds of what is expected.
 use Rattle.std.proofs.Common.{◌≡◌, ℕ, ◌<◌, List, [], length, refl, arith}
 use Rattle.zy_capture.specs.declared.due.Due.{Due}
-use Rattle.zy_capture.specs.declared.due.Due.TheVariants.{Magic, Count, Tag, Connection, Length, Payload, Closed, Nothing}
+use Rattle.zy_capture.specs.declared.due.Due.TheVariants.{Magic, Tag, Payload, Nothing}
 use Rattle.zy_capture.specs.Standing.{IsDueInBounds, IsFour, seen_of}
 
 -- bounds that hold where no room was made hold with any room
 pub within_any : (due : Due) (at : ℕ) (payload : List ℕ) (room : ℕ) → IsDueInBounds due at [] [] 0 → IsDueInBounds due at [] payload room
 within_any (Payload conn others) at payload room within = absurd (omega (arith, within.1))
-within_any (Magic part) at payload room within = within
-within_any Count at payload room within = within
-within_any Tag at payload room within = within
-within_any Connection at payload room within = within
-within_any (Length conn) at payload room within = within
-within_any Closed at payload room within = within
-within_any Nothing at payload room within = within
+within_any due at payload room within = within
 
 -- there no byte was seen
 pub none_seen : (due : Due) (at : ℕ) (payload : List ℕ) → IsDueInBounds due at [] [] 0 → seen_of due [] payload ≡ []

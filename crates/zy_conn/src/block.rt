@@ -79,7 +79,8 @@ impl Block {
         requires conn { pass.conn ≡ conn }
         requires empty { pass.calls ≡ [] }
         requires few { cores ≤ 64 }
-        ensures block { IfOk result (λ made. made.0 ≡ blocked (work_of_pass pass made.1.ring [] [] idle 0 0 []) cores []) }
+        ensures block { IfOk result
+            (λ made. made.0 ≡ blocked (work_of_pass pass made.1.ring [] [] idle 0 0 []) cores []) }
         ensures inlet { IfOk result (λ made. made.1 ≡ offering made.1.ring [] 64) }
         ensures returned { IfErr result (λ e. e.0 ≡ pass) }
     {

@@ -92,10 +92,11 @@ impl Intake {
             if let Some(header) = self.header() {
                 return Ok(header);
             }
-            match self.advance(source, 1)? {
-                Came::Nothing => {}
-                Came::Record(_) => unreachable!(),
-                Came::End => unreachable!(),
+            match self.advance(source, 1) {
+                Ok(Came::Nothing) => {}
+                Ok(Came::Record(_)) => unreachable!(),
+                Ok(Came::End) => unreachable!(),
+                Err(stop) => return Err(stop),
             }
         }
         // No capture has this many bytes.

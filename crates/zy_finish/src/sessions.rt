@@ -54,7 +54,8 @@ fn add_parts(
     requires few { conn < connection_limit }
     requires room { length ends.now < 2 ^ 31 }
     ensures version { outputs.new.version ≡ outputs.old.version }
-    ensures ok { OnOk result (outputs.new.sessions ≡ outputs.old.sessions ++ session_texts ends.now output.now.texts ∷ []) }
+    ensures ok { OnOk result (outputs.new.sessions
+        ≡ outputs.old.sessions ++ session_texts ends.now output.now.texts ∷ []) }
 {
     let mut start = 0;
     for end in ends {

@@ -21,14 +21,14 @@ use Rattle.zy_journal_reader.specs.declared.due.Due.TheVariants.{Byte, Number, L
 use Rattle.zy_journal_reader.specs.declared.due.ByteField.{ByteField}
 use Rattle.zy_journal_reader.specs.declared.due.ByteField.TheVariants.{Magic, Tag, CallCode, KeyLength, ReplyCode}
 use Rattle.zy_journal_reader.specs.declared.due.NumberField.{NumberField}
-use Rattle.zy_journal_reader.specs.declared.due.NumberField.TheVariants.{Shard, Connection, Part, Flags, ValueLength, FoundFlags, FoundLength, HoldConnection, HoldCore, HoldCount}
+use Rattle.zy_journal_reader.specs.declared.due.NumberField.TheVariants.{Flags, ValueLength, FoundLength}
 use Rattle.zy_journal_reader.specs.declared.due.LongField.{LongField}
-use Rattle.zy_journal_reader.specs.declared.due.LongField.TheVariants.{Stamp, Index, CallNumber, FoundUnique, ReplyNumber, Gets, Sets, Hits, Misses, Items}
+use Rattle.zy_journal_reader.specs.declared.due.LongField.TheVariants.{CallNumber}
 use Rattle.zy_journal_reader.specs.declared.due.BytesField.{BytesField}
 use Rattle.zy_journal_reader.specs.declared.due.BytesField.TheVariants.{Key, Value, FoundValue}
 use Rattle.zy_journal_reader.specs.Fields.{after_call_code, at_flags, at_number, at_value}
 use Rattle.zy_journal_reader.specs.Steps.{ReadState, JournalProgress, Done, lawful_byte, after_byte, lawful_number, after_four, lawful_long, after_eight, after_bytes, journal_judged, is_last, journal_fields}
-use Rattle.zy_journal_reader.specs.Laws.{ends, journal_lawful}
+use Rattle.zy_journal_reader.specs.Laws.{none_follows, journal_lawful}
 use Rattle.zy_journal_reader.specs.Standing.{StandsForJournal}
 use Rattle.zy_journal_reader.specs.Verdict.{journals, journal_in, good_journal, is_good_journal}
 use Rattle.zy_journal_reader.specs.Verdict.JournalVerdict.{Good, Bad}
@@ -58,7 +58,7 @@ end_read : (p : JournalProgress) (given : List ⊤) → is_good_journal (journal
 end_read p given is = read_by p.fault p given refl is
 
 closes : (p : JournalProgress) (given : List ⊤) (byte : ℕ) → is_good_journal (journals.ended p given) ≡ true → (fault : FileFault) × ((step journal_fields p byte).next.fault ≡ Some fault)
-closes p given byte is = let read = end_read p given is in end_closes journal_fields journal_lawful p byte read.none read.ends (λ at field. ends p.state.due p.state at field read.ends)
+closes p given byte is = let read = end_read p given is in end_closes journal_fields journal_lawful p byte read.none read.ends (λ at field. none_follows p.state.due p.state at field read.ends)
 
 -- the first fault of a journal counts
 first_counts : IsLasting journals
@@ -103,25 +103,11 @@ four_ends : (field : NumberField) (s : ReadState) (n : ℕ) → EndsNothing (aft
 four_ends Flags s n = number_goes (fields_of s.draft.kind)
 four_ends ValueLength s n = either EndsNothing (n == 0) _ _ refl refl
 four_ends FoundLength s n = either EndsNothing (n == 0) _ _ refl refl
-four_ends Shard s n = refl
-four_ends Connection s n = refl
-four_ends Part s n = refl
-four_ends FoundFlags s n = refl
-four_ends HoldConnection s n = refl
-four_ends HoldCore s n = refl
-four_ends HoldCount s n = refl
+four_ends field s n = refl
 
 eight_ends : (field : LongField) (s : ReadState) (n : ℕ) → EndsNothing (after_eight field s n)
-eight_ends Stamp s n = refl
-eight_ends Index s n = refl
 eight_ends CallNumber s n = value_goes (fields_of s.draft.kind)
-eight_ends FoundUnique s n = refl
-eight_ends ReplyNumber s n = refl
-eight_ends Gets s n = refl
-eight_ends Sets s n = refl
-eight_ends Hits s n = refl
-eight_ends Misses s n = refl
-eight_ends Items s n = refl
+eight_ends field s n = refl
 
 bytes_end : (field : BytesField) (s : ReadState) (bytes : List ℕ) → EndsNothing (after_bytes field s bytes)
 bytes_end Key s bytes = flags_go (fields_of s.draft.kind)

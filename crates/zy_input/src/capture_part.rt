@@ -84,18 +84,11 @@ impl Part for CapturePart {
     }
 
     fn end(self) -> Result<Streams, Stop> {
-        let CapturePart {
-            reader,
-            streams,
-            ..
-        } = self;
-        if let Err(fault) = reader.end() {
-            return Err(Stop::Refused(Refusal::Capture(fault)));
-        }
-        match streams {
-            Some(streams) => Ok(streams),
+        match (self.reader.end(), self.streams) {
+            (Ok(()), Some(streams)) => Ok(streams),
             // The count of a capture that is whole was read.
-            None => unreachable!(),
+            (Ok(()), None) => unreachable!(),
+            (Err(fault), _) => Err(Stop::Refused(Refusal::Capture(fault))),
         }
     }
 }

@@ -61,19 +61,14 @@ impl Part for JournalPart {
 
     fn take(&mut self, next: &[u8]) -> Taken {
         let Fed { taken, answer } = self.reader.feed_piece(next);
-        match answer {
-            Ok(_) => Taken {
-                count: taken,
-                answer: Ok(self.is_whole()),
-            },
-            Err(FileFeed::Fault(fault)) => Taken {
-                count: taken,
-                answer: Err(Stop::Refused(Refusal::Journal(fault))),
-            },
-            Err(FileFeed::NoMemory) => Taken {
-                count: taken,
-                answer: Err(Stop::NoMemory),
-            },
+        let answer = match answer {
+            Ok(_) => Ok(self.is_whole()),
+            Err(FileFeed::Fault(fault)) => Err(Stop::Refused(Refusal::Journal(fault))),
+            Err(FileFeed::NoMemory) => Err(Stop::NoMemory),
+        };
+        Taken {
+            count: taken,
+            answer,
         }
     }
 

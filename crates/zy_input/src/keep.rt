@@ -70,26 +70,15 @@ pub(crate) fn keep_taken<K: Keep>(
         taken: count,
         answer,
     } = fed;
-    match answer {
+    let answer = match answer {
         Ok(gave) => match keep_next(alloc, reader, made, gave) {
-            Ok(()) => Taken {
-                count,
-                answer: Ok(done),
-            },
-            Err(NoMemory) => Taken {
-                count,
-                answer: Err(Stop::NoMemory),
-            },
+            Ok(()) => Ok(done),
+            Err(NoMemory) => Err(Stop::NoMemory),
         },
-        Err(NotTaken::Fault(fault)) => Taken {
-            count,
-            answer: Err(Stop::Refused(K::refusal(fault))),
-        },
-        Err(NotTaken::NoMemory) => Taken {
-            count,
-            answer: Err(Stop::NoMemory),
-        },
-    }
+        Err(NotTaken::Fault(fault)) => Err(Stop::Refused(K::refusal(fault))),
+        Err(NotTaken::NoMemory) => Err(Stop::NoMemory),
+    };
+    Taken { count, answer }
 }
 
 // Keeps what the reader gave.

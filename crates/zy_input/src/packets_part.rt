@@ -37,19 +37,14 @@ impl Part for PacketsPart {
     // The file ends with the source.
     fn take(&mut self, next: &[u8]) -> Taken {
         let Fed { taken, answer } = self.reader.feed_piece(next);
-        match answer {
-            Ok(()) => Taken {
-                count: taken,
-                answer: Ok(false),
-            },
-            Err(PcapFeed::Fault(fault)) => Taken {
-                count: taken,
-                answer: Err(Stop::Refused(Refusal::Pcap(fault))),
-            },
-            Err(PcapFeed::NoMemory) => Taken {
-                count: taken,
-                answer: Err(Stop::NoMemory),
-            },
+        let answer = match answer {
+            Ok(()) => Ok(false),
+            Err(PcapFeed::Fault(fault)) => Err(Stop::Refused(Refusal::Pcap(fault))),
+            Err(PcapFeed::NoMemory) => Err(Stop::NoMemory),
+        };
+        Taken {
+            count: taken,
+            answer,
         }
     }
 

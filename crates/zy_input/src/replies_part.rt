@@ -48,18 +48,11 @@ impl Part for RepliesPart {
     }
 
     fn end(self) -> Result<Outputs, Stop> {
-        let RepliesPart {
-            reader,
-            outputs,
-            ..
-        } = self;
-        if let Err(fault) = reader.end() {
-            return Err(Stop::Refused(Refusal::Replies(fault)));
-        }
-        match outputs {
-            Some(outputs) => Ok(outputs),
+        match (self.reader.end(), self.outputs) {
+            (Ok(()), Some(outputs)) => Ok(outputs),
             // The version of a replies file that is whole was read.
-            None => unreachable!(),
+            (Ok(()), None) => unreachable!(),
+            (Err(fault), _) => Err(Stop::Refused(Refusal::Replies(fault))),
         }
     }
 }

@@ -20,17 +20,17 @@ one Dues.Nothing size is = refl
 one due size is = cc
 
 -- after the end each byte is wrong
-pub ends : (due : Due) (s : ReadState) (at : ℕ) (field : List ℕ) → is_last due ≡ true
+pub none_follows : (due : Due) (s : ReadState) (at : ℕ) (field : List ℕ) → is_last due ≡ true
     → IsWrong (journal_judged due s at field)
-ends Dues.Nothing s at field is = tt
-ends due s at field is = cc
+none_follows Dues.Nothing s at field is = tt
+none_follows due s at field is = cc
 
 -- so it is a format of fields
 pub journal_lawful : IsLawful journal_fields
 journal_lawful = record {
   some = λ s. some (journal_shape s.due s.draft.size);
   one = λ s. one s.due s.draft.size;
-  ends = λ s at field is full. ends s.due s at field is;
+  ends = λ s at field is full. none_follows s.due s at field is;
 }
 
 pub journal_widths : (s : ReadState) → journal_fields.width s ≡ width_of (journal_shape s.due s.draft.size)

@@ -63,14 +63,12 @@ does_small Dues.Magic s at field small =
 does_small Dues.Version s at field small =
     let number : ℕ = ordered_number s.is_big field in
     chosen GivesBytes (major s.is_big number == 2 && minor s.is_big number == 4) _ _ (λ is. tt) (λ no. tt)
-does_small Dues.Settings s at field small = tt
-does_small Dues.MostCaptured s at field small = tt
 does_small Dues.LinkType s at field small = chosen GivesBytes (ordered_number s.is_big field == 1) _ _ (λ is. tt) (λ no. tt)
 does_small Dues.Begin s at field small = chosen GivesBytes (nat_le file_limit at) _ _ (λ full. tt) (λ room. tt)
-does_small Dues.Time s at field small = tt
 does_small Dues.Captured s at field small = chosen GivesBytes (nat_lt frame_limit (ordered_number s.is_big field)) _ _ (λ no. tt) (λ is. tt)
 does_small (Dues.Original size) s at field small = chosen GivesBytes (size == 0) _ _ (λ none. tt) (λ some. tt)
 does_small (Dues.Frame others) s at field small = small
+does_small due s at field small = tt
 
 -- ---- a whole file
 

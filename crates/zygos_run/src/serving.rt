@@ -90,7 +90,8 @@ pub fn serve<R: Threads + Wait + Sync, S: Source, K: Sink, E: Sink, G: Gate + Sy
     ensures finished { FinishesOnce result (K.finishes sink.old) (K.finishes sink.new) (K.is_finished sink.new) }
 
     // The line on standard error.
-    ensures said { Said (E.holds says.old) (E.holds says.new) (E.faults says.old) (E.faults says.new) (answer_line result) }
+    ensures said { Said (E.holds says.old) (E.holds says.new) (E.faults says.old) (E.faults says.new)
+        (answer_line result) }
 {
     parts_have_no_fault();
     there_is_one_part_fault();

@@ -49,16 +49,8 @@ impl Reads for Reader {
             Due::Payload { conn, others } => self.feed_payload(conn, others, byte),
             Due::Tag => self.feed_tag(byte),
             Due::Magic(part) => self.feed_magic(part, byte),
-            Due::Count | Due::Connection | Due::Length { .. } | Due::Closed
-                if self.field.len() < 3 => {
-                self.keep(byte);
-                Ok(None)
-            }
-            Due::Connection => self.end_connection(byte),
-            Due::Length { conn } => self.end_length(conn, byte),
-            Due::Closed => self.end_closed(byte),
-            Due::Count => self.end_count(byte),
             Due::Nothing => self.refuse(CaptureFault::Trailing { at: self.at }),
+            _ => self.feed_number(byte),
         }
     }
 
@@ -185,6 +177,26 @@ impl Reader {
             return self.refuse(CaptureFault::BadTag { at: self.at, byte });
         }
         Ok(None)
+    }
+
+    // A byte of a number.
+    fn feed_number(&mut self, byte: u8) -> Result<Option<Record>, FeedFault>
+        requires number { IsFour self.old.state.due }
+        requires none { self.old.fault ≡ None }
+        requires room { self.old.at < capture_limit }
+        ensures value { Takes (field_step fields self.old byte) self.old self.new byte result }
+    {
+        if self.field.len() < 3 {
+            self.keep(byte);
+            return Ok(None);
+        }
+        match self.state.due {
+            Due::Connection => self.end_connection(byte),
+            Due::Length { conn } => self.end_length(conn, byte),
+            Due::Closed => self.end_closed(byte),
+            Due::Count => self.end_count(byte),
+            _ => unreachable!(),
+        }
     }
 
     // The last byte of the connection count.

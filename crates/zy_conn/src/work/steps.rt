@@ -51,8 +51,10 @@ impl Work {
         gate.pass(core, self.pass.conn(), index);
         let frame = self.frames.take_known();
         self.replies.clear();
-        self.begun.read(self.alloc, frame)?;
-        Ok(None)
+        match self.begun.read(self.alloc, frame) {
+            Ok(()) => Ok(None),
+            Err(e) => Err(e),
+        }
     }
 
     // Reads the command of the frame that is begun, for which there was no memory before.

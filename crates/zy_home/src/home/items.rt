@@ -73,14 +73,18 @@ impl Home {
     {
         let cut = self.cut_in(&first, touched);
         drop(first);
-        cut?;
+        if let Err(e) = cut {
+            return Err(e);
+        }
         for count in 1..ITEMS_AT_ONCE {
             let Some(item) = outlet.take() else {
                 return Ok(count);
             };
             let cut = self.cut_in(&item, touched);
             drop(item);
-            cut?;
+            if let Err(e) = cut {
+                return Err(e);
+            }
         }
         Ok(ITEMS_AT_ONCE)
     }
@@ -115,8 +119,13 @@ impl Home {
         ensures err { OnErr result (SameHand self.old self.new) }
         ensures same { SameFor 0 self.old self.new × (self.new.refused ≡ true) }
     {
-        if cut_at(&self.blocks[at], &mut self.links[at], item)? {
-            touched.push(at)?;
+        match cut_at(&self.blocks[at], &mut self.links[at], item) {
+            Ok(true) => {}
+            Ok(false) => return Ok(()),
+            Err(e) => return Err(e),
+        }
+        if let Err(e) = touched.push(at) {
+            return Err(e);
         }
         Ok(())
     }
@@ -134,7 +143,9 @@ impl Home {
         ensures same { SameFor 64 self.old self.new × (self.new.refused ≡ true) }
     {
         for at in 0..touched.items().len() {
-            self.settle_touched(ring, touched, at)?;
+            if let Err(e) = self.settle_touched(ring, touched, at) {
+                return Err(e);
+            }
         }
         Ok(())
     }
@@ -166,7 +177,9 @@ impl Home {
         let Some(block) = mem::replace(slot, None) else {
             return Ok(());
         };
-        settle_at::<WasIdle>(ring, pass, slot, link, place as u32, block)?;
+        if let Err(e) = settle_at::<WasIdle>(ring, pass, slot, link, place as u32, block) {
+            return Err(e);
+        }
         Ok(())
     }
 }

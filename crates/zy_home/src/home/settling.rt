@@ -59,8 +59,10 @@ impl Home {
         let Some((place, block)) = ring.collect(&mut self.pass) else {
             return Ok(false);
         };
-        self.settle(ring, place, block)?;
-        Ok(true)
+        match self.settle(ring, place, block) {
+            Ok(()) => Ok(true),
+            Err(e) => Err(e),
+        }
     }
 
     /// Claims once from the home's own queue. A block that was taken is held by the home's core, and
@@ -87,10 +89,10 @@ impl Home {
         let _places = ring.places();
         match ring.claim_home(&mut self.pass) {
             Claim::Took { place, mut block } => match block.hold(store, gate, self.core) {
-                Ok(held) => {
-                    self.settle(ring, place, block)?;
-                    Ok(Own::Took { held })
-                }
+                Ok(held) => match self.settle(ring, place, block) {
+                    Ok(()) => Ok(Own::Took { held }),
+                    Err(e) => Err(e),
+                },
                 Err(e) => {
                     put(&mut self.blocks[place as usize], Some(block));
                     self.refused = true;

@@ -1,5 +1,5 @@
 //! The judgement of a whole field, by its shape.
-ghost use Rattle.std.specs.Prelude.{◌≡◌, ◌+◌, ◌-◌, ◌≤◌, ◌++◌, ◌∷◌, ℕ, List, [], length, take, Err};
+ghost use Rattle.std.specs.Prelude.{◌≡◌, ◌+◌, ◌-◌, ◌≤◌, ◌++◌, ◌∷◌, ℕ, List, [], length, take, is_ok, Err};
 ghost use Rattle.zy_read.specs.FieldReading.{IsPart, IsQuiet, Judges};
 ghost use Rattle.zy_read.specs.Runs.{RunsOver};
 ghost use Rattle.zy_read.specs.declared.not_taken.NotTaken.TheVariants.{NoMemory};
@@ -30,15 +30,15 @@ pub(super) fn judge_whole<S: FieldFormat>(
 {
     match state.shape() {
         Shape::Byte => match bytes.first() {
-            Some(first) if state.judge_byte(alloc, at, *first).is_ok() => 1,
+            Some(first) if is_taken(state.judge_byte(alloc, at, *first)) => 1,
             _ => 0,
         },
         Shape::Four => match bytes.first_chunk::<4>() {
-            Some(first) if state.judge_four(alloc, at, *first).is_ok() => 4,
+            Some(first) if is_taken(state.judge_four(alloc, at, *first)) => 4,
             _ => 0,
         },
         Shape::Eight => match bytes.first_chunk::<8>() {
-            Some(first) if state.judge_eight(alloc, at, *first).is_ok() => 8,
+            Some(first) if is_taken(state.judge_eight(alloc, at, *first)) => 8,
             _ => 0,
         },
         Shape::Run(others) => judge_whole_run(alloc, state, payload, others, at, bytes),
@@ -70,11 +70,18 @@ fn judge_whole_run<S: FieldFormat>(
     if payload.extend_from_slice(&bytes[..size]).is_err() {
         return 0;
     }
-    if state.judge_run(alloc, at, payload).is_ok() {
+    if is_taken(state.judge_run(alloc, at, payload)) {
         size
     } else {
         0
     }
+}
+
+// Whether a field was taken.
+fn is_taken<G: Drop, F: Drop>(judgement: Result<Option<G>, NotTaken<F>>) -> bool
+    ensures value { result ≡ is_ok judgement }
+{
+    judgement.is_ok()
 }
 
 // Judges the field that a byte ends, of which these bytes were read before. A run needs memory for
@@ -101,15 +108,31 @@ pub(super) fn judge_last<S: FieldFormat>(
         Shape::Byte => state.judge_byte(alloc, at, byte),
         Shape::Four => state.judge_four(alloc, at - 3, field.four(byte)),
         Shape::Eight => state.judge_eight(alloc, at - 7, field.eight(byte)),
-        Shape::Run(others) => {
-            if payload.push(byte).is_err() {
-                return Err(NotTaken::NoMemory);
-            }
-            let judgement = state.judge_run(alloc, at - others, payload);
-            if let Err(NotTaken::NoMemory) = &judgement {
-                let _ = payload.pop();
-            }
-            judgement
-        }
+        Shape::Run(others) => judge_last_of_run(alloc, state, payload, at - others, byte),
     }
+}
+
+// The same for a run that begins at this place.
+fn judge_last_of_run<S: FieldFormat>(
+    alloc: Global,
+    state: &mut S,
+    payload: &mut Vec<u8>,
+    at: u64,
+    byte: u8,
+) -> Result<Option<S::Gives>, NotTaken<S::Fault>>
+    requires shape { S.shape_of state.old ≡ Kinds.Run (length payload.old.items) }
+    requires fits { S.Fits state.old at }
+    ensures value { Judges S.Fits S.Wants
+        (S.fields.judge state.old at (payload.old.items ++ byte ∷ []))
+        (at + length payload.old.items + 1) state.old state.new result }
+    ensures kept { result ≡ Err NoMemory → payload.new.items ≡ payload.old.items }
+{
+    if payload.push(byte).is_err() {
+        return Err(NotTaken::NoMemory);
+    }
+    let judgement = state.judge_run(alloc, at, payload);
+    if let Err(NotTaken::NoMemory) = &judgement {
+        let _ = payload.pop();
+    }
+    judgement
 }

@@ -35,18 +35,7 @@ impl<S: FieldFormat> Reads for FieldReader<S> {
             self.fault = Some(fault);
             return Err(NotTaken::Fault(fault));
         }
-        match self.state.shape() {
-            Shape::Four if self.field.len() < 3 => Ok(self.keep(byte)),
-            Shape::Eight if self.field.len() < 7 => Ok(self.keep(byte)),
-            Shape::Run(others) if (self.payload.len() as u64) < others => {
-                if self.append(others, &[byte]) {
-                    Ok(None)
-                } else {
-                    Err(NotTaken::NoMemory)
-                }
-            }
-            _ => self.end_field(byte),
-        }
+        self.take_byte(byte)
     }
 
     // Takes whole fields, then those that the format takes at once, and then bytes of a run, but not
@@ -61,18 +50,52 @@ impl<S: FieldFormat> Reads for FieldReader<S> {
 }
 
 impl<S: FieldFormat> FieldReader<S> {
+    // A byte of a field.
+    fn take_byte(&mut self, byte: u8) -> Result<Option<S::Gives>, NotTaken<S::Fault>>
+        requires open { self.old.fault ≡ None }
+        requires room { is_full S.fields self.old ≡ false }
+        ensures value { TakesField S.fields S.good S.bad S.Wants
+            (field_step S.fields self.old byte) self.old self.new byte result }
+    {
+        match self.state.shape() {
+            Shape::Four if self.field.len() < 3 => self.keep(byte),
+            Shape::Eight if self.field.len() < 7 => self.keep(byte),
+            Shape::Run(others) if (self.payload.len() as u64) < others => {
+                self.keep_in_run(others, byte)
+            }
+            _ => self.end_field(byte),
+        }
+    }
+
     // Keeps a byte of a number that is not its last one.
-    fn keep(&mut self, byte: u8) -> Option<S::Gives>
+    fn keep(&mut self, byte: u8) -> Result<Option<S::Gives>, NotTaken<S::Fault>>
         requires number { (S.shape_of self.old.state ≡ Kinds.Four)
             ⊎ (S.shape_of self.old.state ≡ Kinds.Eight) }
         requires part { length self.old.seen + 1 < S.fields.width self.old.state }
+        requires open { self.old.fault ≡ None }
         requires room { is_full S.fields self.old ≡ false }
-        ensures value { self.new ≡ grown_by self.old (byte ∷ []) }
-        ensures none { result ≡ None }
+        ensures value { TakesField S.fields S.good S.bad S.Wants
+            (field_step S.fields self.old byte) self.old self.new byte result }
     {
         self.field.push(byte);
         self.at += 1;
-        None
+        Ok(None)
+    }
+
+    // Keeps a byte of a run that is not its last one. It needs memory.
+    fn keep_in_run(&mut self, others: u64, byte: u8) -> Result<Option<S::Gives>, NotTaken<S::Fault>>
+        requires run { S.shape_of self.old.state ≡ Kinds.Run others }
+        requires part { length self.old.seen < others }
+        requires open { self.old.fault ≡ None }
+        requires room { is_full S.fields self.old ≡ false }
+        ensures value { TakesField S.fields S.good S.bad S.Wants
+            (field_step S.fields self.old byte) self.old self.new byte result }
+    {
+        if self.append(others, &[byte]) {
+            Ok(None)
+        } else {
+            Err(NotTaken::NoMemory)
+        }
     }
 
     // Judges the field that a byte ends, and goes on after it, or keeps its fault.

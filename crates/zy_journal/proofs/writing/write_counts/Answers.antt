@@ -1,4 +1,4 @@
-use Rattle.std.proofs.Common.{ℕ, List, sym, ap, ◌∙◌, subst}
+use Rattle.std.proofs.Common.{sym, ap, ◌∙◌}
 use Rattle.std.specs.Int.{to_be_bytes, w64}
 use Rattle.zy_base.proofs.WritingLemmas.{writes_as}
 use Rattle.zy_base.specs.declared.tallied.Tallied.{Tallied}

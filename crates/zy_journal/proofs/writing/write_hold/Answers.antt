@@ -1,4 +1,3 @@
-use Rattle.std.proofs.Common.{ℕ, List, subst}
 use Rattle.std.specs.Int.{to_be_bytes, w32}
 use Rattle.zy_base.proofs.WritingLemmas.{writes_as}
 use Rattle.zy_journal.specs.Journal.{hold_text}

@@ -1,4 +1,4 @@
-use Rattle.std.proofs.Common.{ℕ, List, subst, ◌∙◌, ap, ◌++◌}
+use Rattle.std.proofs.Common.{ℕ, List, ◌∙◌, ap, ◌++◌}
 use Rattle.std.specs.Int.{to_be_bytes, w32, w64}
 use Rattle.zy_base.proofs.WritingLemmas.{writes_as}
 use Rattle.zy_journal.specs.Journal.{field_text}

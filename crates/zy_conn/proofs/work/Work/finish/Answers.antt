@@ -5,8 +5,8 @@ use Rattle.zy_conn.specs.Step.{IsAllMade}
 use Rattle.zy_conn.proofs.StepLemmas.{kept_ends_as}
 use Rattle.zy_conn.proofs.work.Work.finish.Goals as goal
 
-pub invariant_of-self : goal.invariant_of-self
-invariant_of-self c =
+pub invariant_of-self-2 : goal.invariant_of-self-2
+invariant_of-self-2 c =
     let slots = c.self.inside.pass.table.slots in
     let command = c.in-Going.command in
     kept_ends_as c.self.inside.pass _ _ _ _ _ _ c.self.inside.batch c.send-sent.new.batch c.set_finished.new.self c.self.invariant
@@ -14,4 +14,4 @@ invariant_of-self c =
     (ap (λ b. start_of slots b c.clear.new.self.items) c.put.ensures.value)
     (going command (calls_of slots command) c.from_vec-replies.result)
     (ap (λ l. going command (calls_of slots command) l) (c.from_vec-replies.ensures.value ∙ ap (λ v. v.items) c.replace.ensures.value) ∙ sym (ap (λ b. start_of slots b c.self.inside.replies.items) c.in-Going.is))
-    c.in-Ok.ensures.ok _ c.finished-finished.ensures.value c.set_finished.ensures.value
+    c.in_ok-sent.ensures.ok _ c.finished-finished.ensures.value c.set_finished.ensures.value

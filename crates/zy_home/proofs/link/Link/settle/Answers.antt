@@ -9,17 +9,17 @@ use Rattle.zy_home.proofs.IdleLemmas.{settled_idle, met_twice}
 use Rattle.zy_home.proofs.link.Link.settle.Goals as goal
 
 pub returns-clause-met : goal.returns-clause-met
-returns-clause-met c = met_twice c.args.block.now c.send_to.new.self c.meet.new.self c.meet-2.new.self c.in_default.ensures.block c.meet.ensures.block c.meet-2.ensures.block
+returns-clause-met c = met_twice c.args.block.now c.send_to.new.self c.meet.new.self c.meet-2.new.self c.in_ok-send_to.ensures.block c.meet.ensures.block c.meet-2.ensures.block
 
 pub returns-clause-label : goal.returns-clause-label
-returns-clause-label c = ap label_in (met_twice c.args.block.now c.send_to.new.self c.meet.new.self c.meet-2.new.self c.in_default.ensures.block c.meet.ensures.block c.meet-2.ensures.block)
+returns-clause-label c = ap label_in (met_twice c.args.block.now c.send_to.new.self c.meet.new.self c.meet-2.new.self c.in_ok-send_to.ensures.block c.meet.ensures.block c.meet-2.ensures.block)
 
 pub returns-clause-idle : goal.returns-clause-idle
 returns-clause-idle c none =
-    let b0 = c.in_default.ensures.block in
+    let b0 = c.in_ok-send_to.ensures.block in
     let b1 = c.meet.ensures.block in
     let b2 = c.meet-2.ensures.block in
-    let carried = ap (λ (o : Output). o.finished) c.in_default.ensures.output in
+    let carried = ap (λ (o : Output). o.finished) c.in_ok-send_to.ensures.output in
     let kept = ap (λ (o : Output). o.finished) c.offer_waiting.ensures.same.1 in
     let seen = ap (λ (l : Link). l.output.finished) c.self-2.view_is in
     let finished = ap (λ (b : Blocked). b.work.finished) b2 ∙ ap (λ (b : Blocked). b.work.finished) b1 ∙ ap (λ (b : Blocked). b.work.finished) b0 in

@@ -5,8 +5,8 @@ use Rattle.zy_read.proofs.TakenLemmas.{quiet_then}
 use Rattle.zy_read.proofs.OverLemmas.{over_then}
 use Rattle.zy_read.proofs.field_reader.judging.judge_whole_run.Goals as goal
 
-pub returns-then-is_ok-clause-runs : goal.returns-then-is_ok-clause-runs
-returns-then-is_ok-clause-runs g c =
+pub returns-then-is_taken-clause-runs : goal.returns-then-is_taken-clause-runs
+returns-then-is_taken-clause-runs g c =
     let size : ℕ = c.args.others + 1 in
     let field : List ℕ = take size c.args.bytes.now in
     let wide = g.met.S.FieldFormat.widths c.args.state.now ∙ ap (λ k. width_of k) c.requires.shape in
