@@ -65,5 +65,8 @@ fn read_flows<S: Source>(alloc: Global, port: u16, source: &mut S) -> Result<Flo
         (λ stop. HasReadPackets port S.rest S.faults source.old source.new (Err stop)) }
 {
     the_capture_of_a_file_is_good();
-    read_packets(alloc, port, source)
+    match read_packets(alloc, port, source) {
+        Ok(flows) => Ok(flows),
+        Err(stop) => Err(stop),
+    }
 }

@@ -22,6 +22,8 @@ pub(crate) fn finish_written<K: Sink>(
         → Writes K.holds K.faults K.finishes first sink.old written text
         → WritesLast K.holds K.faults K.finishes K.is_finished first sink.new result text }
 {
-    written?;
-    sink.finish()
+    match written {
+        Ok(()) => sink.finish(),
+        Err(failed) => Err(failed),
+    }
 }
