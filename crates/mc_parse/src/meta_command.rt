@@ -78,24 +78,20 @@ fn alone_meta(alloc: Global, ask: MetaAsk<'_>) -> Result<Command, NoMemory>
 fn get_command(alloc: Global, key: &[u8], flags: Letters) -> Result<Command, NoMemory>
     ensures value { IfOk result (λ command. command ≡ Command.Meta (Meta.Get key.now flags)) }
 {
-    match Blob::copy_of(alloc, key) {
-        Ok(key) => Ok(Command::Meta {
-            meta: Meta::Get { key, flags },
-        }),
-        Err(e) => Err(e),
-    }
+    let key = Blob::copy_of(alloc, key)?;
+    Ok(Command::Meta {
+        meta: Meta::Get { key, flags },
+    })
 }
 
 // A deletion.
 fn delete_command(alloc: Global, key: &[u8], flags: Letters) -> Result<Command, NoMemory>
     ensures value { IfOk result (λ command. command ≡ Command.Meta (Meta.Delete key.now flags)) }
 {
-    match Blob::copy_of(alloc, key) {
-        Ok(key) => Ok(Command::Meta {
-            meta: Meta::Delete { key, flags },
-        }),
-        Err(e) => Err(e),
-    }
+    let key = Blob::copy_of(alloc, key)?;
+    Ok(Command::Meta {
+        meta: Meta::Delete { key, flags },
+    })
 }
 
 // The meta command that asks for this, with its block. Its faults are never quiet.

@@ -133,13 +133,11 @@ fn get_at(keys: &[Blob], part: usize, shards: u32) -> Result<Option<ShardCall>, 
         return Ok(None);
     };
     let shard = shard_of(key.bytes(), shards);
-    match key.copy() {
-        Ok(key) => Ok(Some(ShardCall {
-            shard,
-            call: Call::Get { key },
-        })),
-        Err(e) => Err(e),
-    }
+    let key = key.copy()?;
+    Ok(Some(ShardCall {
+        shard,
+        call: Call::Get { key },
+    }))
 }
 
 // The call that is made on all shards, on the shard with this number.

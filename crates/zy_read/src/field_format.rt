@@ -130,7 +130,7 @@ pub trait FieldFormat: Drop {
     /// A run may need memory.
     ghost runs: { (s : Self) (others : ℕ) → shape_of s ≡ Kinds.Run others → Wants s };
 
-    /// A field has a byte; after the end each byte is wrong.
+    /// A field has a byte; where a text may end, the next one is a byte, and wrong after the limit.
     ghost lawful: { IsLawful fields };
 
     /// There is a number after the limit.

@@ -55,15 +55,11 @@ impl Pieces {
         if self.at < self.end {
             return Ok(true);
         }
-        match source.read(self.piece.as_mut_slice()) {
-            Ok(n) => {
-                are_bytes(&self.piece[..n]);
-                self.at = 0;
-                self.end = n;
-                Ok(n > 0)
-            }
-            Err(Failed) => Err(Failed),
-        }
+        let n = source.read(self.piece.as_mut_slice())?;
+        are_bytes(&self.piece[..n]);
+        self.at = 0;
+        self.end = n;
+        Ok(n > 0)
     }
 
     /// The bytes that are left.
