@@ -35,3 +35,47 @@ def below_of(name, needs, seen=None):
             below_of(lower, needs, seen)
             seen.append(lower)
     return seen
+
+
+# ---- what a build takes
+
+
+def shares(names):
+    """The processor seconds of each crate in a build of tools/build, by tools/shares.txt; of an unknown one, those of a middling crate."""
+    with open(f"{TOP}/tools/shares.txt", encoding="utf-8") as file:
+        known = {name: float(seconds) for name, seconds in (line.split() for line in file if not line.startswith("#"))}
+    middling = sorted(known.values())[len(known) // 2]
+    return {name: known.get(name, middling) for name in names}
+
+
+def afters(names, needs, seconds):
+    """The seconds of the longest chain of crates that begins after each crate."""
+    after = dict.fromkeys(names, 0.0)
+    for name in reversed(names):
+        for lower in needs[name]:
+            if lower in after:
+                after[lower] = max(after[lower], seconds[name] + after[name])
+    return after
+
+
+def speed(processors):
+    """How many times as fast a crate is proved on this number of processors, up to four."""
+    return min(processors, 1) + 0.4 * (min(processors, 4) - min(processors, 1))
+
+
+def finishing_times(names, needs, seconds, processors):
+    """When each crate is proved where those with the longest chain after them come first and share all processors."""
+    after = afters(names, needs, seconds)
+    left, clock, ended = dict(seconds), 0.0, {}
+    while left:
+        ready = [name for name in left if not any(lower in left for lower in needs[name])]
+        running = sorted(ready, key=lambda name: -(seconds[name] + after[name]))[:processors]
+        rate = speed(processors / len(running))
+        step = min(left[name] for name in running) / rate
+        clock += step
+        for name in running:
+            left[name] -= step * rate
+            if left[name] < 1e-6:
+                del left[name]
+                ended[name] = clock
+    return ended
