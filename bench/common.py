@@ -183,7 +183,7 @@ def cores(number, threads=None):
 
 
 def generated(program, path, commands, connections=CONNECTIONS):
-    """Writes the capture of generated traffic with so many commands, and gives its path."""
+    """Writes the capture of generated traffic with this number of commands, and gives its path."""
     each = max(1, commands // connections)
     run([program, "gen", "--number", 1, "--conns", connections, "--commands", each], sink=path)
     return path

@@ -114,7 +114,7 @@ def by_formula(shares, load, cores, skewed, part):
 
 
 def queue(servers, load, law, requests, draws):
-    """The times in means that requests take in one queue of so many servers."""
+    """The times in means that requests take in one queue with this number of servers."""
     free, now = [0.0] * servers, 0.0
     for at in range(requests):
         now += draws.expovariate(load * servers)

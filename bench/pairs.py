@@ -18,7 +18,7 @@ SIZES = (100_000, 1_000_000)
 
 
 def sent(pairs):
-    """The stream of so many pairs."""
+    """The stream of a number of pairs."""
     value = b"v" * 100
     return b"".join(b"set key%04d 0 0 100\r\n%s\r\nget key%04d\r\n" % (i % 1024, value, i % 1024) for i in range(pairs))
 

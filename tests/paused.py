@@ -25,7 +25,7 @@ def give(end, pieces, pause):
 
 
 def run(words, pieces, pause, seconds, **how):
-    """The status, standard output and standard error of a run that ends within so many seconds; else it is killed, and
+    """The status, standard output and standard error of a run that ends within these seconds; else it is killed, and
     the exception is that of subprocess."""
     taken, given = os.pipe()
     with subprocess.Popen(words, stdin=taken, stdout=subprocess.PIPE, stderr=subprocess.PIPE, **how) as process:

@@ -88,7 +88,7 @@ def name_of(name):
 
 
 def pieces(name):
-    """A function that reads an input: up to so many of its next bytes, and none at its end. `-` is standard input."""
+    """A function that reads an input: up to `count` of its next bytes, and none at its end. `-` is standard input."""
     if name == "-" and sys.stdin is None:
         stop("standard input is closed")
     file = sys.stdin.buffer if name == "-" else open(name, "rb")
