@@ -22,7 +22,7 @@ use Rattle.zygos_run.specs.declared.answer.Answer.TheVariants.{Served, Checked, 
 use Rattle.zygos_run.specs.Input.{Input, HasInputFault, IsFaultless, IsRefusedFor}
 use Rattle.zygos_run.specs.Input.Input.{CaptureInput, CheckInput, PacketsInput, JournalInput}
 use Rattle.zygos_run.specs.Task.{Task, task_of, input_of}
-use Rattle.zygos_run.specs.Ends.{OfInput, CarriesOut, IsFaultOf, IsSuccess, HasDone, Ends}
+use Rattle.zygos_run.specs.Ends.{OfInput, CarriesOut, IsFaultOf, IsSuccess, DoneHolds, Ends}
 use Rattle.zygos_run.specs.Served.{IsToldGood, IsToldBad, IsDone, IsDoneOr, IsRefusedOr, IsUsageOr}
 
 -- ---- inputs
@@ -99,7 +99,7 @@ told_of None call answer has = has
 told_of (Some asked) call answer has = told_found call (task_of asked) ((task_of asked).found_in answer) has
 
 -- after a success the command was carried out
-pub success_of : (request : Option Request) (call : Seen) (answer : Answer) → IsSuccess answer → Ends request call answer → HasDone request call answer
+pub success_of : (request : Option Request) (call : Seen) (answer : Answer) → IsSuccess answer → Ends request call answer → DoneHolds request call answer
 success_of request call (Served journal) is ends = ends
 success_of request call (Checked verdict) is ends = ends
 success_of request call Made is ends = ends

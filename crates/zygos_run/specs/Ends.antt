@@ -38,8 +38,8 @@ IsSuccess answer = ⊥
 
 -- the command that has this answer was asked for and carried out on the bytes that the source gave, if it reads any,
 -- and all of its text was written
-abbrev pub HasDone : Option Request → Seen → Answer → Type 0
-HasDone request call answer = CarriesOut request answer (OfGiven call.source) (WasWritten call.sink)
+abbrev pub DoneHolds : Option Request → Seen → Answer → Type 0
+DoneHolds request call answer = CarriesOut request answer (OfGiven call.source) (WasWritten call.sink)
 
 -- what was asked for was done of bytes that the source gave, if it reads any, and a prefix of what is expected was
 -- written
@@ -65,10 +65,10 @@ ReadsNothing request = IsNone (input_of request)
 
 -- each answer has its cause
 abbrev pub Ends : Option Request → Seen → Answer → Type 0
-Ends request call (Served journal) = HasDone request call (Served journal)
-Ends request call (Checked verdict) = HasDone request call (Checked verdict)
-Ends request call Made = HasDone request call Made
-Ends request call (Tested journal numbers) = HasDone request call (Tested journal numbers)
+Ends request call (Served journal) = DoneHolds request call (Served journal)
+Ends request call (Checked verdict) = DoneHolds request call (Checked verdict)
+Ends request call Made = DoneHolds request call Made
+Ends request call (Tested journal numbers) = DoneHolds request call (Tested journal numbers)
 Ends request call Usage = request ≡ None
 Ends request call (Refused refusal) = IsFaultOf request call.source.before refusal
 Ends request call ReadFault = ReadsInput request × HasRisen call.source

@@ -4,7 +4,7 @@ ghost use Rattle.zy_base.specs.Outside.{Rose};
 ghost use Rattle.zy_command_line.specs.Request.{request_of};
 ghost use Rattle.zygos_run.specs.Lines.{answer_line};
 ghost use Rattle.zy_serving.specs.Seen.{side, both_sides, NoneRose};
-ghost use Rattle.zygos_run.specs.Ends.{IsSuccess, HasDone, HasPart};
+ghost use Rattle.zygos_run.specs.Ends.{IsSuccess, DoneHolds, HasPart};
 ghost use Rattle.zygos_run.specs.Ends.{IsFaultOf, ReadsInput, ReadsNothing, LeavesSink};
 ghost use Rattle.zygos_run.specs.Served.{HeadlineHolds, IsToldGood, IsToldBad};
 ghost use Rattle.zygos_run.specs.Served.{IsDoneOr, IsRefusedOr, IsUsageOr};
@@ -46,7 +46,7 @@ pub fn serve<R: Threads + Wait + Sync, S: Source, K: Sink, E: Sink, G: Gate + Sy
     // The headline: what was done, for the bytes that the source reported, and for those that it gave.
     ensures headline { IsSuccess result → HeadlineHolds (request_of words.now)
         (both_sides (side S.rest S.faults source.old source.new) (side K.holds K.faults sink.old sink.new)) result }
-    ensures done { IsSuccess result → HasDone (request_of words.now)
+    ensures done { IsSuccess result → DoneHolds (request_of words.now)
         (both_sides (side S.rest S.faults source.old source.new) (side K.holds K.faults sink.old sink.new)) result }
 
     // The other answers, each with its cause.
