@@ -8,25 +8,26 @@ use Rattle.zy_capture.specs.Replies.{replies_bytes, replies_limit, items_of}
 use Rattle.zy_capture.specs.Streams.{no_bytes, with_records}
 use Rattle.zy_capture.proofs.WholeLemmas.{good_spells as capture_spells}
 use Rattle.zy_capture.proofs.RepliesWholeLemmas.{good_spells as replies_spell}
-use Rattle.zy_capture.proofs.RepliesSpelledLemmas.{spells_good as replies_good}
-use Rattle.zy_capture.proofs.AgainLemmas.{written_spells}
+use Rattle.format_laws.proofs.RepliesSpelledLemmas.{spells_good as replies_good}
+use Rattle.format_laws.proofs.RepliesAgainLemmas.{written_spells}
 use Rattle.zy_journal.specs.declared.journal.Journal.{Journal}
 use Rattle.zy_journal.specs.Journal.{journal_bytes}
 use Rattle.zy_journal_reader.specs.Steps.{journal_limit}
 use Rattle.zy_journal_reader.proofs.WholeLemmas.{good_spells as journal_spells}
 use Rattle.zy_journal_reader.proofs.SpelledLemmas.{spells_good as journal_good}
 use Rattle.zy_input.specs.Parts.{IsMadeOfParts}
-use Rattle.zy_input.proofs.DivisionLemmas.{one_streams, one_journal, one_outputs}
+use Rattle.format_laws.proofs.InputDivisionLemmas.{one_streams, one_journal, one_outputs}
 use Rattle.zy_check.specs.declared.verdict.Verdict.{Verdict}
 use Rattle.zy_check.specs.declared.verdict.Verdict.TheVariants.{Yes}
 use Rattle.zy_check.specs.Given.{all_given}
 use Rattle.zy_check.specs.Cause.{HasVerdict}
 use Rattle.zy_check.specs.OfRun.{AreOfRun, given_by_records}
-use Rattle.zy_check.proofs.FileVerdictLemmas.{of_records, of_streams}
+use Rattle.zy_check.proofs.FileVerdictLemmas.{of_records}
+use Rattle.run_laws.proofs.FileVerdictLemmas.{of_streams}
 use Rattle.zy_check.proofs.OneVerdictLemmas.{one_verdict}
 use Rattle.zy_check.proofs.RunVerdictLemmas.{run_is_right}
-use Rattle.zy_check.proofs.SizeLemmas.{journal_short, replies_short}
-use Rattle.zy_check.proofs.SomeVerdictLemmas.{some_verdict}
+use Rattle.run_laws.proofs.SizeLemmas.{journal_short, replies_short}
+use Rattle.run_laws.proofs.SomeVerdictLemmas.{some_verdict}
 use Rattle.zy_command_line.specs.Range.{AreShards, IsRunnable}
 use Rattle.zy_command_line.specs.declared.request.Run.{Run}
 use Rattle.zy_command_line.specs.declared.request.Out.{Out}
