@@ -61,7 +61,6 @@ each_asked P (e ∷ es) each = (each.0, each_asked P es each.1)
 -- ---- the entries of one connection
 
 module _ (count conn : ℕ) (commands : ℕ → List Command) (apart : AreApart count commands) (within : conn < count) where
-
   -- the same is true where it is alone
   alone_told : (shards : ℕ) → 1 ≤ shards → all_told (of_connection conn (alone shards conn (commands conn))) ≡ told_by empty_state (due shards conn (commands conn))
   alone_told shards some =

@@ -8,6 +8,8 @@ mod making;
 mod request;
 mod writing;
 
-pub use laws::{each_run_of_generated_traffic_has_the_summary, generated_traffic_is_a_good_capture};
+pub use laws::{
+    each_run_of_generated_traffic_has_the_summary, generated_traffic_is_a_good_capture,
+};
 pub use making::generate;
 pub use request::{Command, Request};
