@@ -53,7 +53,7 @@ meta_deed (Metas.Delete key flags) = makes_one (DeleteCall key)
 -- what a command does; the version, a verbosity and a fault do nothing
 abbrev pub deed_of : Command → Deed
 deed_of (Store verb key flags value quiet) = makes_one (stored_by verb key flags value)
-deed_of (Cas key flags unique value quiet) = makes_one (CasCall key flags unique value)
+deed_of (Cas key flags unique value quiet) = makes_one (CasCall flags key unique value)
 deed_of (Get keys unique) = gets_each keys
 deed_of (Delete key quiet) = makes_one (DeleteCall key)
 deed_of (Count key up amount quiet) = makes_one (counted_by up key amount)
