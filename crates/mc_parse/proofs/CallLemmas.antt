@@ -12,9 +12,11 @@ use Rattle.zy_base.specs.declared.call.Call.{Call}
 use Rattle.zy_base.specs.declared.entry.Entry.{Entry}
 use Rattle.mc_parse.specs.declared.verb.Verb.{Verb}
 use Rattle.mc_parse.specs.declared.command.Command.{Command}
+use Rattle.mc_parse.specs.declared.meta.Meta.{Meta as MetaCommand}
+use Rattle.mc_parse.specs.declared.meta.Meta.TheVariants as Metas
 use Rattle.mc_parse.specs.declared.shard_call.ShardCall.{ShardCall}
 use Rattle.mc_parse.specs.OnAll.{made_by}
-use Rattle.mc_parse.specs.Deed.{Deed, does_nothing, makes_one, gets_each, makes_on_all, deed_of, IsOnce, stored_by, counted_by}
+use Rattle.mc_parse.specs.Deed.{Deed, does_nothing, makes_one, gets_each, makes_on_all, meta_deed, deed_of, IsOnce, stored_by, counted_by}
 use Rattle.mc_parse.specs.Calls.{calls_of, calls_by, calls_on_all, call_alone, Due, due, due_at, due_from, due_of, dues_of, tag_of, tagged, at_key, get_at, on_shard, IsOnShard, IsDueOn}
 use Rattle.mc_parse.proofs.DeedLemmas.{stored_key, counted_key, no_key}
 
@@ -49,6 +51,10 @@ once_later shards does_nothing part once later = let none : List ShardCall = [] 
 once_later shards (makes_one call) part once later = alone_later shards call (key_of call) part later
 once_later shards (gets_each keys) part once later = absurd once
 once_later shards (makes_on_all made) part once later = absurd once
+
+pub meta_once : (meta : MetaCommand) → IsOnce (meta_deed meta)
+meta_once (Metas.Set key call marks) = tt
+meta_once meta = tt
 
 -- the get of a key
 pub get_there : (shards : ℕ) (keys : List (List ℕ)) (part : ℕ) → slice_get (map (get_at shards) keys) part ≡ option_map (get_at shards) (slice_get keys part)

@@ -1,8 +1,9 @@
 -- What the words of a retrieval mean.
-use Rattle.std.proofs.Common.{◌≡◌, ℕ, Bool, true, false, List, [], ◌∷◌, refl, ap, subst, ◌∙◌}
+use Rattle.std.proofs.Common.{◌≡◌, ℕ, Bool, true, false, List, [], ◌∷◌, length, ◌<◌, refl, ap, subst, ◌∙◌, arith}
 use Rattle.std.specs.List.{list_all}
 use Rattle.mc_parse.specs.declared.command.Command.{Command}
-use Rattle.mc_parse.specs.declared.error_line.ErrorLine.TheVariants.{BadLine}
+use Rattle.mc_parse.specs.declared.command.Command.TheVariants.{Get as GetCommand}
+use Rattle.mc_parse.specs.declared.error_line.ErrorLine.TheVariants.{Unknown, BadLine}
 use Rattle.mc_parse.specs.declared.name.Name.{Name}
 use Rattle.mc_parse.specs.declared.name.Name.TheVariants.{Get}
 use Rattle.mc_parse.specs.declared.need.Need.TheVariants.{Nothing}
@@ -49,3 +50,13 @@ large_few line name ws is large =
 pub more_few : (name : Name) → takes_more name ≡ true → HasFew name
 more_few (Get unique) more = absurd (cc)
 more_few name more = tt
+
+-- ---- keys, if there are any
+
+pub retrieval_none : (keys : List (List ℕ)) (unique : Bool) → length keys ≡ 0 → retrieval keys unique ≡ fault Unknown
+retrieval_none [] unique none = refl
+retrieval_none (key ∷ keys) unique none = absurd (omega arith)
+
+pub retrieval_some : (keys : List (List ℕ)) (unique : Bool) → 0 < length keys → retrieval keys unique ≡ GetCommand keys unique
+retrieval_some [] unique some = absurd (omega arith)
+retrieval_some (key ∷ keys) unique some = refl

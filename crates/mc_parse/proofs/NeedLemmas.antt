@@ -6,12 +6,12 @@ use Rattle.zy_base.specs.Number.{number_of}
 use Rattle.mc_parse.specs.declared.error_line.ErrorLine.{ErrorLine}
 use Rattle.mc_parse.specs.declared.error_line.ErrorLine.TheVariants.{Unknown}
 use Rattle.mc_parse.specs.declared.name.Name.{Name}
-use Rattle.mc_parse.specs.declared.name.Name.TheVariants.{Store, Cas, Get, Delete, Count, Version, Verbosity, Flush, Quit, Stats}
+use Rattle.mc_parse.specs.declared.name.Name.TheVariants.{Store, Cas, Delete, Count, Verbosity, Flush, Quit}
 use Rattle.mc_parse.specs.declared.need.Need.TheVariants.{Nothing}
 use Rattle.mc_parse.specs.Arity.{following_of}
 use Rattle.mc_parse.specs.Name.{arity_of}
 use Rattle.mc_parse.specs.Number.{small_number_of, is_zero}
-use Rattle.mc_parse.specs.Form.{Ask, deletes, counts, sets_verbosity, flushes, asks, Form, check, find, with_zero, ask_of, number_fault, form_with, form_after}
+use Rattle.mc_parse.specs.Form.{Ask, deletes, counts, sets_verbosity, flushes, asks, Form, check, find, with_zero, delete_words, count_words, verbosity_words, ask_of, number_fault, form_with, form_after}
 use Rattle.mc_parse.specs.Need.{ask_need, need_for, takes_more}
 
 -- what is found, or its fault, needs nothing

@@ -13,7 +13,7 @@ use zy_base::{Blob, Call, NoMemory, shard_of};
 
 /// The call of a command on `shards` shards that has this number in the list `calls`; `None` exactly where
 /// the list has no such call. It has copies of key and value.
-#[tactic(auto, using(crate::proofs::CallLemmas::once_later))]
+#[tactic(auto, using(crate::proofs::CallLemmas::once_later, crate::proofs::CallLemmas::meta_once))]
 pub fn call_at(command: &Command, part: usize, shards: u32) -> Result<Option<ShardCall>, NoMemory>
     requires some { 1 ≤ shards }
     requires limit { shards ≤ 256 }

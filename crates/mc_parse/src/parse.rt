@@ -130,6 +130,7 @@ fn get_command(alloc: Global, text: &[u8], unique: bool) -> Result<Command, NoMe
 }
 
 // A retrieval of these keys, if there is one.
+#[tactic(auto, using(crate::proofs::GetLemmas::retrieval_none, crate::proofs::GetLemmas::retrieval_some))]
 fn retrieval(keys: Keys, unique: bool) -> Command
     ensures value { result ≡ retrieval keys unique }
 {
